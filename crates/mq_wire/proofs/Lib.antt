@@ -1,0 +1,6 @@
+pub mod Back
+pub mod Exact
+pub mod Placed
+pub mod Refusals
+pub mod Texts
+pub mod Varint

@@ -1,0 +1,95 @@
+//! Laws of the fields. Each is proved as the contract of a function that does nothing.
+
+ghost use Rattle.mq_wire.specs.Fields.{byte_at, two_bytes_at, four_bytes_at, varint_at, text_at, binary_at, pair_at};
+ghost use Rattle.mq_wire.specs.Refused.{RefusesShort, RefusesVarints, RefusesTexts, RefusesPairs};
+ghost use Rattle.mq_wire.specs.Spellings.{IsExact, IsByte, byte_spelling, IsTwoBytes, two_bytes_spelling, IsFourBytes, four_bytes_spelling, IsVarint, varint_spelling, IsBinary, binary_spelling, IsText, text_spelling, IsPair, pair_spelling};
+
+/// A byte: what is read is spelled so, and what is spelled so is read.
+#[tactic(auto, using(crate::proofs::Exact::byte_exact))]
+pub fn byte_is_exact()
+    ensures { IsExact byte_at IsByte byte_spelling }
+{}
+
+/// A Two Byte Integer: what is read is spelled so, and what is spelled so is read (MQTT 5.0, 1.5.2).
+#[tactic(auto, using(crate::proofs::Exact::two_bytes_exact))]
+pub fn two_bytes_is_exact()
+    ensures { IsExact two_bytes_at IsTwoBytes two_bytes_spelling }
+{}
+
+/// A Four Byte Integer: what is read is spelled so, and what is spelled so is read (MQTT 5.0, 1.5.3).
+#[tactic(auto, using(crate::proofs::Exact::four_bytes_exact))]
+pub fn four_bytes_is_exact()
+    ensures { IsExact four_bytes_at IsFourBytes four_bytes_spelling }
+{}
+
+/// A Variable Byte Integer: what is read is spelled so, and what is spelled so is read (MQTT 5.0,
+/// 1.5.5).
+#[tactic(auto, using(crate::proofs::Varint::varint_exact))]
+pub fn varint_is_exact()
+    ensures { IsExact varint_at IsVarint varint_spelling }
+{}
+
+/// Binary Data: what is read is spelled so, and what is spelled so is read (MQTT 5.0, 1.5.6).
+#[tactic(auto, using(crate::proofs::Exact::binary_exact))]
+pub fn binary_is_exact()
+    ensures { IsExact binary_at IsBinary binary_spelling }
+{}
+
+/// A UTF-8 Encoded String: what is read is spelled so, and what is spelled so is read (MQTT 5.0,
+/// 1.5.4).
+#[tactic(auto, using(crate::proofs::Exact::text_exact))]
+pub fn text_is_exact()
+    ensures { IsExact text_at IsText text_spelling }
+{}
+
+/// A UTF-8 String Pair: what is read is spelled so, and what is spelled so is read (MQTT 5.0, 1.5.7).
+#[tactic(auto, using(crate::proofs::Exact::pair_exact))]
+pub fn pair_is_exact()
+    ensures { IsExact pair_at IsPair pair_spelling }
+{}
+
+/// A byte: refused are exactly the bytes that end before it, as `Short`.
+#[tactic(auto, using(crate::proofs::Refusals::byte_refused))]
+pub fn byte_is_refused()
+    ensures { RefusesShort byte_at IsByte byte_spelling }
+{}
+
+/// A Two Byte Integer: refused are exactly the bytes that end before it does, as `Short` (MQTT 5.0,
+/// 1.5.2).
+#[tactic(auto, using(crate::proofs::Refusals::two_bytes_refused))]
+pub fn two_bytes_is_refused()
+    ensures { RefusesShort two_bytes_at IsTwoBytes two_bytes_spelling }
+{}
+
+/// A Four Byte Integer: refused are exactly the bytes that end before it does, as `Short` (MQTT 5.0,
+/// 1.5.3).
+#[tactic(auto, using(crate::proofs::Refusals::four_bytes_refused))]
+pub fn four_bytes_is_refused()
+    ensures { RefusesShort four_bytes_at IsFourBytes four_bytes_spelling }
+{}
+
+/// A Variable Byte Integer: bytes that end before it does are `Short`, and all others that don't
+/// begin with one are `Overlong` (MQTT 5.0, 1.5.5).
+#[tactic(auto, using(crate::proofs::Refusals::varint_refused))]
+pub fn varint_is_refused()
+    ensures { RefusesVarints }
+{}
+
+/// Binary Data: refused are exactly the bytes that end before it does, as `Short` (MQTT 5.0, 1.5.6).
+#[tactic(auto, using(crate::proofs::Refusals::binary_refused))]
+pub fn binary_is_refused()
+    ensures { RefusesShort binary_at IsBinary binary_spelling }
+{}
+
+/// A UTF-8 Encoded String: bytes that end before it does are `Short`, else those that aren't
+/// well-formed UTF-8 are `NotUtf8`, else those with U+0000 are `Nul` (MQTT 5.0, 1.5.4).
+#[tactic(auto, using(crate::proofs::Refusals::text_refused))]
+pub fn text_is_refused()
+    ensures { RefusesTexts }
+{}
+
+/// A UTF-8 String Pair: refused as its first text is, else as its second (MQTT 5.0, 1.5.7).
+#[tactic(auto, using(crate::proofs::Refusals::pair_refused))]
+pub fn pair_is_refused()
+    ensures { RefusesPairs }
+{}
