@@ -1,0 +1,11 @@
+pub mod Finding
+pub mod SeenLemmas
+pub mod Fields
+pub mod Steps
+pub mod Loop
+pub mod Exact
+pub mod OfType
+pub mod Items
+pub mod Lists
+pub mod Pushes
+pub mod PropLines

@@ -1,0 +1,192 @@
+-- A list that takes a property is a list of its place.
+use Rattle.std.proofs.Common.{◌≡◌, ℕ, ◌+◌, ◌<◌, ◌≤◌, Bool, true, false, not, ◌||◌, cond, eqb, ltb, List, [], ◌∷◌, ◌++◌, length, Option, None, Some, refl, sym, ap, subst, ◌∙◌, append_assoc, length-append, arith}
+use Rattle.std.specs.Prelude.{is_some, Result, Ok, Err, OnOk, OnErr}
+use Rattle.std.specs.Option.{option_map}
+use Rattle.std.specs.List.{find, list_any}
+use Rattle.std.proofs.lemmas.Bool.{ltb-false, lt-ltb}
+use Rattle.std.proofs.lemmas.List.{append-nil}
+use Rattle.std.proofs.lemmas.List.Concat.{flat_map-append, flat_map-cons}
+use Rattle.mq_wire.specs.Spellings.{varint_spelling}
+use Rattle.mq_props.specs.declared.fault.PushFault.{PushFault}
+use Rattle.mq_props.specs.declared.fault.PushFault.TheVariants.{NotAllowed, Repeated, Value as BadValue, TooLong}
+use Rattle.mq_props.specs.declared.table.Place.{Place}
+use Rattle.mq_props.specs.declared.prop.Prop.{Prop}
+use Rattle.mq_props.specs.declared.value.Value.{Value as Held}
+use Rattle.mq_props.specs.Props.{prop_view}
+use Rattle.mq_props.specs.Table.{Line, row_of, is_listed}
+use Rattle.mq_props.specs.Values.{Value, Property, IsValue, type_of, value_spelling, property_spelling, body}
+use Rattle.mq_props.specs.Allowed.{stands_in, is_repeated, in_range, is_wild, first_of, IsAllowed, AllowedBehind, AreAllowed}
+use Rattle.mq_props.specs.Reading.{items_of, items_on}
+use Rattle.mq_props.specs.Listed.{Listed, IsList}
+use Rattle.mq_props.specs.Pushing.{nul_in, is_long, is_large, is_bad, overflows, fault_of}
+use Rattle.mq_props.specs.Views.{value_view}
+use Rattle.mq_props.proofs.Finding.{line_known}
+use Rattle.mq_props.proofs.PropLines.{prop_line}
+use Rattle.mq_props.proofs.Exact.{items_of-body}
+
+some_test : {X : Type 0} (b : Bool) (x : X) (o : Option X) (c : Bool) → is_some o ≡ c → is_some (cond b (Some x) o) ≡ (b || c)
+some_test true x o c e = refl
+some_test false x o c e = e
+
+some_find : {X : Type 0} (p : X → Bool) (xs : List X) → is_some (find p xs) ≡ list_any p xs
+some_find p [] = refl
+some_find p (x ∷ xs) = some_test (p x) x (find p xs) (list_any p xs) (some_find p xs)
+
+some_map : {X Y : Type 0} (f : X → Y) (o : Option X) → is_some (option_map f o) ≡ is_some o
+some_map f None = refl
+some_map f (Some x) = refl
+
+-- the first of an identifier is there exactly where one is
+pub stands_first : (id : ℕ) (ps : List Property) (o : Option Held) → option_map value_view o ≡ first_of id ps → is_some o ≡ stands_in id ps
+stands_first id ps o e =
+    sym (some_map value_view o) ∙ ap (λ (v : Option Value). is_some v) e ∙ some_map (λ (p : Property). p.value) (find (λ (p : Property). eqb p.id id) ps) ∙ some_find (λ (p : Property). eqb p.id id) ps
+
+-- an identifier is spelled in one byte
+pub id_spelled : (id : ℕ) → id < 128 → varint_spelling id ≡ id ∷ []
+unfolding varint_spelling
+id_spelled id lt = rw (lt-ltb id 128 lt) refl
+
+-- ---- what it is to be taken
+
+cond_none : {X : Type 0} (b : Bool) (x : X) (rest : Option X) → cond b (Some x) rest ≡ None → (b ≡ false) × (rest ≡ None)
+cond_none true x rest e = absurd cc
+cond_none false x rest e = (refl, e)
+
+or_false : (a b : Bool) → (a || b) ≡ false → (a ≡ false) × (b ≡ false)
+or_false true b e = absurd cc
+or_false false b e = (refl, e)
+
+not_false : (b : Bool) → not b ≡ false → b ≡ true
+not_false true e = refl
+not_false false e = absurd cc
+
+-- a property that is taken
+pub record Taken (list : Listed) (p : Property) (line : Line) : Type 0 where
+  pub listed : is_listed list.place line ≡ true
+  pub once : is_repeated list.place list.items line.id ≡ false
+  pub ranged : in_range line.range p.value ≡ true
+  pub plain : is_wild list.place line.id p.value ≡ false
+  pub no_nul : nul_in p.value ≡ false
+  pub small : is_large p.value ≡ false
+  pub short : is_long p.value ≡ false
+  pub fits : length (body list.items) + length (property_spelling (record { id = line.id; value = p.value })) ≤ 268435455
+
+taken_by : (list : Listed) (p : Property) (line : Line) → fault_of list p.value (Some line) ≡ None → Taken list p line
+taken_by list p line e =
+    let made : Property = record { id = line.id; value = p.value } in
+    let listed = cond_none (not (is_listed list.place line)) NotAllowed (cond (is_repeated list.place list.items line.id) (Some Repeated) (cond (is_bad list.place line p.value) (Some BadValue) (cond (is_long p.value || overflows list.items made) (Some TooLong) None))) e in
+    let once = cond_none (is_repeated list.place list.items line.id) Repeated (cond (is_bad list.place line p.value) (Some BadValue) (cond (is_long p.value || overflows list.items made) (Some TooLong) None)) listed.1 in
+    let good = cond_none (is_bad list.place line p.value) BadValue (cond (is_long p.value || overflows list.items made) (Some TooLong) None) once.1 in
+    let short = cond_none (is_long p.value || overflows list.items made) TooLong None good.1 in
+    let ranged = or_false (not (in_range line.range p.value)) (is_wild list.place line.id p.value || (nul_in p.value || is_large p.value)) good.0 in
+    let plain = or_false (is_wild list.place line.id p.value) (nul_in p.value || is_large p.value) ranged.1 in
+    let no_nul = or_false (nul_in p.value) (is_large p.value) plain.1 in
+    let within = or_false (is_long p.value) (overflows list.items made) short.0 in
+    record {
+      listed = not_false (is_listed list.place line) listed.0;
+      once = once.0;
+      ranged = not_false (in_range line.range p.value) ranged.0;
+      plain = plain.0;
+      no_nul = no_nul.0;
+      small = no_nul.1;
+      short = within.0;
+      fits = ltb-false 268435455 (length (body list.items) + length (property_spelling made)) within.1;
+    }
+
+-- it has a line
+pub taken : (list : Listed) (p : Property) (line : Line) → row_of p.id ≡ Some line → fault_of list p.value (row_of p.id) ≡ None → Taken list p line
+taken list p line known e = taken_by list p line (sym (ap (fault_of list p.value) known) ∙ e)
+
+-- the value's own conditions, which hold whatever the line
+pub record Writes (v : Value) : Type 0 where
+  pub no_nul : nul_in v ≡ false
+  pub small : is_large v ≡ false
+  pub short : is_long v ≡ false
+
+writes_by : (list : Listed) (p : Property) (o : Option Line) → fault_of list p.value o ≡ None → Writes p.value
+writes_by list p None e = absurd cc
+writes_by list p (Some line) e = let t = taken_by list p line e in record { no_nul = t.no_nul; small = t.small; short = t.short }
+
+pub writes : (list : Listed) (p : Property) → fault_of list p.value (row_of p.id) ≡ None → Writes p.value
+writes list p e = writes_by list p (row_of p.id) e
+
+allowed-push : (place : Place) (before ps : List Property) (p : Property) → AllowedBehind place before ps → IsAllowed place (before ++ ps) p → AllowedBehind place before (ps ++ p ∷ [])
+allowed-push place before [] p allowed is = (subst (λ (all : List Property). IsAllowed place all p) (append-nil before) is, tt)
+allowed-push place before (q ∷ ps) p allowed is =
+    (allowed.0, allowed-push place (before ++ q ∷ []) ps p allowed.1 (subst (λ (all : List Property). IsAllowed place all p) (sym (append_assoc before (q ∷ []) ps)) is))
+
+body-push : (ps : List Property) (p : Property) → body (ps ++ p ∷ []) ≡ body ps ++ property_spelling p
+body-push ps p = flat_map-append property_spelling ps (p ∷ []) ∙ ap (λ (last : List ℕ). body ps ++ last) (flat_map-cons property_spelling p [] ∙ append-nil (property_spelling p))
+
+-- the list with the property at its end
+pub record Pushed (place : Place) (bytes : List ℕ) (p : Property) : Type 0 where
+  pub items : items_of (bytes ++ property_spelling p) ≡ items_of bytes ++ p ∷ []
+  pub is_list : IsList place (bytes ++ property_spelling p)
+
+pub pushed : (place : Place) (bytes : List ℕ) (p : Property) (line : Line) → IsList place bytes → row_of p.id ≡ Some line → type_of p.value ≡ line.kind → IsValue p.value
+    → fault_of (record { place = place; items = items_of bytes }) p.value (row_of p.id) ≡ None → Pushed place bytes p
+pushed place bytes p line is known typed valid e =
+    let list : Listed = record { place = place; items = items_of bytes } in
+    let t = taken list p line known e in
+    let same = line_known p.id line known in
+    let allowed : IsAllowed place (items_of bytes) p = record {
+      line = line;
+      known = known;
+      listed = t.listed;
+      once = subst (λ (id : ℕ). is_repeated place (items_of bytes) id ≡ false) same t.once;
+      typed = typed;
+      valid = valid;
+      ranged = t.ranged;
+      plain = subst (λ (id : ℕ). is_wild place id p.value ≡ false) same t.plain;
+    } in
+    let all : AreAllowed place (items_of bytes ++ p ∷ []) = allowed-push place [] (items_of bytes) p is.allowed allowed in
+    let whole : bytes ++ property_spelling p ≡ body (items_of bytes ++ p ∷ []) = ap (λ (front : List ℕ). front ++ property_spelling p) is.spelled ∙ sym (body-push (items_of bytes) p) in
+    let items : items_of (bytes ++ property_spelling p) ≡ items_of bytes ++ p ∷ [] = ap items_of whole ∙ items_of-body place (items_of bytes ++ p ∷ []) all in
+    let size : length (property_spelling (record { id = line.id; value = p.value })) ≡ length (property_spelling p) = ap (λ (id : ℕ). length (property_spelling (record { id = id; value = p.value }))) same in
+    record {
+      items = items;
+      is_list = record {
+        spelled = whole ∙ ap body (sym items);
+        allowed = subst (λ (ps : List Property). AreAllowed place ps) (sym items) all;
+        bound = omega (arith, t.fits, size, ap length is.spelled, length-append bytes (property_spelling p));
+      };
+    }
+
+-- a list of no properties
+pub empty_list : (place : Place) → IsList place []
+unfolding items_of items_on
+empty_list place = record { spelled = refl; allowed = tt; bound = omega arith }
+
+pub items_of-nil : items_of [] ≡ []
+unfolding items_of items_on
+items_of-nil = refl
+
+-- how long the list gets
+pub overflow_is : (bytes : List ℕ) (id : ℕ) (v : Value) → bytes ≡ body (items_of bytes) → id < 43 → ltb 268435455 (length bytes + (1 + length (value_spelling v))) ≡ overflows (items_of bytes) (record { id = id; value = v })
+overflow_is bytes id v is lt =
+    let size : length (property_spelling (record { id = id; value = v })) ≡ 1 + length (value_spelling v) = omega (arith, ap length (id_spelled id (omega (arith, lt))), length-append (varint_spelling id) (value_spelling v)) in
+    let all : length bytes + (1 + length (value_spelling v)) ≡ length (body (items_of bytes)) + length (property_spelling (record { id = id; value = v })) = omega (arith, size, ap length is) in
+    ap (λ (n : ℕ). ltb 268435455 n) all
+
+-- ---- as the call leaves the list
+
+pub record Leaves (place : Place) (bytes new : List ℕ) (p : Property) (result : Result (Unit {0}) PushFault) : Type 0 where
+  pub is_list : IsList place new
+  pub items : OnOk result (items_of new ≡ items_of bytes ++ p ∷ [])
+
+pub leaves : (place : Place) (bytes new : List ℕ) (prop : Prop) (p : Property) (result : Result (Unit {0}) PushFault) → p ≡ prop_view prop → IsList place bytes → fault_of (record { place = place; items = items_of bytes }) p.value (row_of p.id) ≡ None
+    → OnOk result (new ≡ bytes ++ property_spelling p) → OnOk result (IsValue p.value) → OnErr result (new ≡ bytes) → Leaves place bytes new p result
+leaves place bytes new prop p (Ok u) same is e ok valid err =
+    let line = prop_line prop in
+    let known : row_of p.id ≡ Some line.line = ap (λ (q : Property). row_of q.id) same ∙ line.known in
+    let typed : type_of p.value ≡ line.line.kind = ap (λ (q : Property). type_of q.value) same ∙ line.typed in
+    let done = pushed place bytes p line.line is known typed valid e in
+    record { is_list = subst (λ (all : List ℕ). IsList place all) (sym ok) done.is_list; items = ap items_of ok ∙ done.items }
+leaves place bytes new prop p (Err fault) same is e ok valid err = record { is_list = subst (λ (all : List ℕ). IsList place all) (sym err) is; items = tt }
+
+pub listed_after : (place : Place) (bytes new : List ℕ) (list : Listed) (p q : Property) (result : Result (Unit {0}) PushFault) → (let was : Listed = record { place = place; items = items_of bytes } in was) ≡ list → p ≡ q → OnOk result (items_of new ≡ items_of bytes ++ p ∷ [])
+    → OnOk result ((let now : Listed = record { place = place; items = items_of new } in now) ≡ record { place = list.place; items = list.items ++ q ∷ [] })
+listed_after place bytes new list p q (Ok u) was same e =
+    let first : (let now : Listed = record { place = place; items = items_of new } in now) ≡ record { place = place; items = items_of bytes ++ p ∷ [] } = ap (λ (ps : List Property). record { place = place; items = ps }) e in
+    first ∙ ap (λ (l : Listed). record { place = l.place; items = l.items ++ p ∷ [] }) was ∙ ap (λ (r : Property). record { place = list.place; items = list.items ++ r ∷ [] }) same
+listed_after place bytes new list p q (Err fault) was same e = tt

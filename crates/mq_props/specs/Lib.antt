@@ -1,0 +1,11 @@
+pub mod Faults
+pub mod Table
+pub mod Values
+pub mod Allowed
+pub mod Reading
+pub mod Breaks
+pub mod First
+pub mod Listed
+pub mod Pushing
+pub mod Views
+pub mod Props

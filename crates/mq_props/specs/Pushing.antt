@@ -1,0 +1,69 @@
+-- Which properties a list that is made takes at its end.
+use Rattle.std.specs.Prelude.{◌≡◌, ℕ, ◌+◌, Bool, false, not, ◌||◌, List, ◌++◌, length, Option, Some, None, Result, OnOk, OnErr, IsOkUnless, nat_lt, if◌then◌else◌}
+use Rattle.mq_wire.specs.Spellings.{has_nul}
+use Rattle.mq_props.specs.declared.fault.PushFault.{PushFault}
+use Rattle.mq_props.specs.declared.fault.PushFault.TheVariants.{NotAllowed, Repeated, Value as BadValue, TooLong, Memory}
+use Rattle.mq_props.specs.declared.table.Place.{Place}
+use Rattle.mq_props.specs.Table.{Line, row_of, is_listed}
+use Rattle.mq_props.specs.Values.{Value, byte, two_bytes, four_bytes, varint, text, pair, binary, Property, IsValue, value_spelling, property_spelling, body}
+use Rattle.mq_props.specs.Allowed.{is_repeated, in_range, is_wild}
+use Rattle.mq_props.specs.Listed.{Listed}
+
+-- A text of the value has the character U+0000.
+abbrev pub nul_in : Value → Bool
+nul_in (byte n) = false
+nul_in (two_bytes n) = false
+nul_in (four_bytes n) = false
+nul_in (varint n) = false
+nul_in (text t) = has_nul t
+nul_in (pair name value) = has_nul name || has_nul value
+nul_in (binary bytes) = false
+
+-- A text of the value, or its binary data, has more bytes than two bytes can count.
+abbrev pub is_long : Value → Bool
+is_long (byte n) = false
+is_long (two_bytes n) = false
+is_long (four_bytes n) = false
+is_long (varint n) = false
+is_long (text t) = nat_lt 65535 (length t)
+is_long (pair name value) = nat_lt 65535 (length name) || nat_lt 65535 (length value)
+is_long (binary bytes) = nat_lt 65535 (length bytes)
+
+-- The value is a number above the largest Variable Byte Integer.
+abbrev pub is_large : Value → Bool
+is_large (byte n) = false
+is_large (two_bytes n) = false
+is_large (four_bytes n) = false
+is_large (varint n) = nat_lt 268435455 n
+is_large (text t) = false
+is_large (pair name value) = false
+is_large (binary bytes) = false
+
+-- A property of the line may not have the value in the place.
+abbrev pub is_bad : Place → Line → Value → Bool
+is_bad place line value = not (in_range line.range value) || (is_wild place line.id value || (nul_in value || is_large value))
+
+-- With the property, the list would have more bytes than its length can count.
+abbrev pub overflows : List Property → Property → Bool
+overflows ps p = nat_lt 268435455 (length (body ps) + length (property_spelling p))
+
+-- Why the list doesn't take a property of this line with this value, if so: the lowest reason of the first four that stands.
+abbrev pub fault_of : Listed → Value → Option Line → Option PushFault
+fault_of list value None = Some NotAllowed
+fault_of list value (Some line) =
+    if not (is_listed list.place line) then Some NotAllowed
+    else if is_repeated list.place list.items line.id then Some Repeated
+    else if is_bad list.place line value then Some BadValue
+    else if is_long value || overflows list.items (record { id = line.id; value = value }) then Some TooLong
+    else None
+
+-- Why the list doesn't take the property.
+abbrev pub push_fault : Listed → Property → Option PushFault
+push_fault list p = fault_of list p.value (row_of p.id)
+
+-- The call appends the spelling of a value of its type, or nothing for want of memory.
+pub record Puts (v : Value) (result : Result (Unit {0}) PushFault) (old new : List ℕ) : Type 0 where
+  pub ok : OnOk result (new ≡ old ++ value_spelling v)
+  pub valid : OnOk result (IsValue v)
+  pub err : OnErr result (new ≡ old)
+  pub memory : IsOkUnless result Memory

@@ -1,0 +1,80 @@
+-- The table of properties (MQTT 5.0, 2.2.2.2): the lines of the source's TABLE, as the contracts read them.
+use Rattle.std.specs.Prelude.{ℕ, Bool, ◌&&◌, ◌||◌, List, map, Option, ◌==◌}
+use Rattle.std.specs.List.{find, list_any}
+use Rattle.std.specs.Borrow.{Bor}
+use Rattle.mq_props.specs.declared.table.Place.{Place}
+use Rattle.mq_props.specs.declared.table.Place.TheVariants.{Connect, Will, Connack, Publish, Puback, Pubrec, Pubrel, Pubcomp, Subscribe, Suback, Unsubscribe, Unsuback, Disconnect, Auth}
+use Rattle.mq_props.specs.declared.table.ValueType.{ValueType}
+use Rattle.mq_props.specs.declared.table.ValueType.TheVariants as types
+use Rattle.mq_props.specs.declared.table.Range.{Range}
+use Rattle.mq_props.specs.declared.table.TheConstants.{TABLE}
+use Rattle.mq_props.specs.declared.table.id.TheConstants.{USER_PROPERTY, SUBSCRIPTION_IDENTIFIER}
+
+-- The places in the order of the source.
+abbrev pub place_number : Place → ℕ
+place_number Connect = 0
+place_number Will = 1
+place_number Connack = 2
+place_number Publish = 3
+place_number Puback = 4
+place_number Pubrec = 5
+place_number Pubrel = 6
+place_number Pubcomp = 7
+place_number Subscribe = 8
+place_number Suback = 9
+place_number Unsubscribe = 10
+place_number Unsuback = 11
+place_number Disconnect = 12
+place_number Auth = 13
+
+-- Two names of one place.
+abbrev pub same_place : Place → Place → Bool
+same_place p q = place_number p == place_number q
+
+-- A line of the table.
+pub record Line : Type 0 where
+  -- the Property Identifier
+  pub id : ℕ
+  -- the type of the value
+  pub kind : ValueType
+  -- the values of that type that the property may have
+  pub range : Range
+  -- the lists that it may stand in
+  pub lists : List Place
+
+-- A line as the source has it.
+abbrev pub row_view : ℕ × ValueType × Range × Bor (List Place) → Line
+row_view row = record { id = row.0; kind = row.1; range = row.2; lists = row.3.now }
+
+abbrev pub rows_of : List (ℕ × ValueType × Range × Bor (List Place)) → List Line
+rows_of rows = map row_view rows
+
+-- The lines of the table.
+unfoldable pub rows : List Line
+rows = map (λ row. record { id = row.0; kind = row.1; range = row.2; lists = row.3.now }) TABLE
+
+-- The line of an identifier, if a property has it.
+unfoldable pub row_of : ℕ → Option Line
+row_of id = find (λ row. row.id == id) rows
+
+-- The property may stand in the place's list.
+abbrev pub is_listed : Place → Line → Bool
+is_listed place row = list_any (λ p. same_place p place) row.lists
+
+-- It may stand there more than once: a User Property anywhere, and a Subscription Identifier in PUBLISH.
+abbrev pub may_repeat : Place → ℕ → Bool
+may_repeat place id = (id == USER_PROPERTY) || (id == SUBSCRIPTION_IDENTIFIER) && same_place place Publish
+
+-- The types in the order of the source.
+abbrev pub kind_number : ValueType → ℕ
+kind_number types.Byte = 0
+kind_number types.TwoBytes = 1
+kind_number types.FourBytes = 2
+kind_number types.Varint = 3
+kind_number types.Text = 4
+kind_number types.Pair = 5
+kind_number types.Binary = 6
+
+-- The identifier is that of a property whose values are of the type.
+unfoldable pub has_kind : ValueType → ℕ → Bool
+has_kind kind id = list_any (λ row. (kind_number row.kind == kind_number kind) && (row.id == id)) rows

@@ -1,0 +1,25 @@
+-- What the source's values stand for.
+use Rattle.std.specs.Prelude.{◌≡◌, ℕ, false, List, length, slice_index_or}
+use Rattle.mq_props.specs.declared.value.Value.{Value as Held}
+use Rattle.mq_props.specs.declared.value.Value.TheVariants as held
+use Rattle.mq_props.specs.declared.value.Item.{Item}
+use Rattle.mq_props.specs.declared.seen.Seen.{Seen}
+use Rattle.mq_props.specs.Values.{Value, byte, two_bytes, four_bytes, varint, text, pair, binary, Property}
+use Rattle.mq_props.specs.Allowed.{stands_in}
+
+abbrev pub value_view : Held → Value
+value_view (held.Byte n) = byte n
+value_view (held.TwoBytes n) = two_bytes n
+value_view (held.FourBytes n) = four_bytes n
+value_view (held.Varint n) = varint n
+value_view (held.Text t) = text t.now
+value_view (held.Pair name value) = pair name.now value.now
+value_view (held.Binary bytes) = binary bytes.now
+
+abbrev pub item_view : Item → Property
+item_view item = record { id = item.id; value = value_view item.value }
+
+-- The identifiers that were seen are those of the properties.
+pub record Sees (seen : Seen) (ps : List Property) : Type 0 where
+  pub size : length seen.by_id ≡ 43
+  pub same : (id : ℕ) → slice_index_or seen.by_id id false ≡ stands_in id ps

@@ -1,0 +1,348 @@
+//! A property list that is made property by property.
+
+ghost use Rattle.std.specs.Prelude.{◌≡◌, ◌+◌, ◌<◌, ◌≤◌, ◌||◌, false, [], ◌∷◌, ◌++◌, length, take, OnOk, OnErr, IsOkUnless, MatchOption, Some, Err, nat_lt};
+ghost use Rattle.mq_wire.specs.Spellings.{varint_spelling, has_nul};
+ghost use Rattle.mq_props.specs.Table.{row_view, row_of};
+ghost use Rattle.mq_props.specs.Values.{byte, two_bytes, four_bytes, varint, text, pair, binary, IsValue, value_spelling, property_spelling, body};
+ghost use Rattle.mq_props.specs.Allowed.{stands_in, AreAllowed};
+ghost use Rattle.mq_props.specs.Reading.{items_of};
+ghost use Rattle.mq_props.specs.Pushing.{nul_in, is_long, is_large, is_bad, overflows, fault_of, push_fault, Puts};
+ghost use Rattle.mq_props.specs.Views.{item_view, value_view};
+ghost use Rattle.mq_props.specs.Props.{prop_view};
+
+use crate::fault::PushFault;
+use crate::prop::{Prop, item_of};
+use crate::props::{Props, first_in};
+use crate::table::{Place, Row, find_row, lists_place, may_repeat_in};
+use crate::value::{Item, Value, is_in_range, is_wild_in};
+use mq_wire::{put_binary, put_pair, put_text, put_u8, put_u16, put_u32, put_varint};
+use std::alloc::Global;
+use std::marker::Model;
+
+// The most bytes that a text or binary data can have.
+const MAX_LEN: usize = 65_535;
+
+// The largest Variable Byte Integer, which is the most bytes that a list can have.
+const MAX_VARINT: usize = 268_435_455;
+
+/// A property list that is made for its place, and may stand there at any moment (MQTT 5.0, 2.2.2).
+///
+/// A contract sees its place and its properties, in order.
+#[derive(Debug, Drop)]
+pub struct PropsBuf {
+    place: Place,
+    bytes: Vec<u8>,
+}
+
+impl Model for PropsBuf {
+    ghost use Rattle.mq_props.specs.Listed.{Listed, IsList};
+    ghost use Rattle.mq_props.specs.Reading.{items_of};
+
+    ghost Value = { Listed };
+
+    ghost view = { λ b. record { place = b.place; items = items_of b.bytes.items } };
+
+    ghost invariant = { λ b. IsList b.place b.bytes.items };
+}
+
+fn is_over(bytes: &[u8]) -> bool
+    ensures { result ≡ nat_lt 65535 (length bytes.now) }
+{
+    bytes.len() > MAX_LEN
+}
+
+fn contains_nul(text: &str) -> bool
+    ensures { result ≡ has_nul text.now }
+{
+    text.as_bytes().contains(&0)
+}
+
+fn has_nul_in(value: &Value) -> bool
+    ensures { result ≡ nul_in (value_view value.now) }
+{
+    match *value {
+        Value::Text(text) => contains_nul(text),
+        Value::Pair(name, value) => contains_nul(name) || contains_nul(value),
+        Value::Byte(_) => false,
+        Value::TwoBytes(_) => false,
+        Value::FourBytes(_) => false,
+        Value::Varint(_) => false,
+        Value::Binary(_) => false,
+    }
+}
+
+fn is_long_value(value: &Value) -> bool
+    ensures { result ≡ is_long (value_view value.now) }
+{
+    match *value {
+        Value::Text(text) => is_over(text.as_bytes()),
+        Value::Pair(name, value) => is_over(name.as_bytes()) || is_over(value.as_bytes()),
+        Value::Binary(bytes) => is_over(bytes),
+        Value::Byte(_) => false,
+        Value::TwoBytes(_) => false,
+        Value::FourBytes(_) => false,
+        Value::Varint(_) => false,
+    }
+}
+
+fn is_large_value(value: &Value) -> bool
+    ensures { result ≡ is_large (value_view value.now) }
+{
+    match *value {
+        Value::Varint(number) => number as usize > MAX_VARINT,
+        Value::Byte(_) => false,
+        Value::TwoBytes(_) => false,
+        Value::FourBytes(_) => false,
+        Value::Text(_) => false,
+        Value::Pair(_, _) => false,
+        Value::Binary(_) => false,
+    }
+}
+
+fn is_bad_value(place: Place, row: Row, value: &Value) -> bool
+    ensures { result ≡ is_bad place (row_view row.entry) (value_view value.now) }
+{
+    !is_in_range(row.2, value)
+        || is_wild_in(place, row.0, value)
+        || has_nul_in(value)
+        || is_large_value(value)
+}
+
+#[tactic(auto, unfolding(mq_wire::specs::Spellings::varint_spelling))]
+fn varint_len(number: u32) -> usize
+    ensures len { result ≡ length (varint_spelling number) }
+    ensures bound { result ≤ 4 }
+{
+    match number {
+        0..128 => 1,
+        128..16_384 => 2,
+        16_384..2_097_152 => 3,
+        _ => 4,
+    }
+}
+
+// How many bytes spell the value.
+fn value_len(value: &Value) -> usize
+    requires { is_long (value_view value.now) ≡ false }
+    ensures len { result ≡ length (value_spelling (value_view value.now)) }
+    ensures bound { result ≤ 131074 }
+{
+    match *value {
+        Value::Byte(_) => 1,
+        Value::TwoBytes(_) => 2,
+        Value::FourBytes(_) => 4,
+        Value::Varint(number) => varint_len(number),
+        Value::Text(text) => 2 + text.len(),
+        Value::Pair(name, value) => 4 + name.len() + value.len(),
+        Value::Binary(bytes) => 2 + bytes.len(),
+    }
+}
+
+// Whether the property makes the list, which has so many bytes, longer than its length can count.
+fn is_over_all(len: usize, value: &Value) -> bool
+    requires long { is_long (value_view value.now) ≡ false }
+    requires len { len ≤ 268435455 }
+    ensures { result ≡ nat_lt 268435455 (len + (1 + length (value_spelling (value_view value.now)))) }
+{
+    len + (1 + value_len(value)) > MAX_VARINT
+}
+
+// Whether the list of these bytes would have more than its length can count with the property.
+fn is_over_list(bytes: &[u8], id: u8, value: &Value) -> bool
+    requires spelled { bytes.now ≡ body (items_of bytes.now) }
+    requires bound { length bytes.now ≤ 268435455 }
+    requires known { id < 43 }
+    requires long { is_long (value_view value.now) ≡ false }
+    ensures { result ≡ overflows (items_of bytes.now) (record { id = id; value = value_view value.now }) }
+{
+    is_over_all(bytes.len(), value)
+}
+
+fn is_too_long(bytes: &[u8], id: u8, value: &Value) -> bool
+    requires spelled { bytes.now ≡ body (items_of bytes.now) }
+    requires bound { length bytes.now ≤ 268435455 }
+    requires known { id < 43 }
+    ensures { result ≡ (is_long (value_view value.now) || overflows (items_of bytes.now) (record { id = id; value = value_view value.now })) }
+{
+    is_long_value(value) || is_over_list(bytes, id, value)
+}
+
+#[tactic(auto, using(crate::proofs::Pushes::stands_first))]
+fn has_property(bytes: &[u8], id: u8) -> bool
+    ensures { result ≡ stands_in id (items_of bytes.now) }
+{
+    first_in(bytes, id).is_some()
+}
+
+// Why the list of these bytes doesn't take a property with the value, if so.
+fn fault_with(place: Place, bytes: &[u8], row: Row, value: &Value) -> Option<PushFault>
+    requires spelled { bytes.now ≡ body (items_of bytes.now) }
+    requires bound { length bytes.now ≤ 268435455 }
+    requires known { row.0 < 43 }
+    ensures { result ≡ fault_of (record { place = place; items = items_of bytes.now }) (value_view value.now) (Some (row_view row.entry)) }
+{
+    if !lists_place(row.3, place) {
+        return Some(PushFault::NotAllowed);
+    }
+    if has_property(bytes, row.0) && !may_repeat_in(place, row.0) {
+        return Some(PushFault::Repeated);
+    }
+    if is_bad_value(place, row, value) {
+        return Some(PushFault::Value);
+    }
+    if is_too_long(bytes, row.0, value) {
+        return Some(PushFault::TooLong);
+    }
+    None
+}
+
+fn fault_in(place: Place, bytes: &[u8], item: &Item) -> Option<PushFault>
+    requires spelled { bytes.now ≡ body (items_of bytes.now) }
+    requires bound { length bytes.now ≤ 268435455 }
+    ensures { result ≡ push_fault (record { place = place; items = items_of bytes.now }) (item_view item.now) }
+{
+    match find_row(u32::from(item.id)) {
+        Some(row) => fault_with(place, bytes, row, &item.value),
+        None => Some(PushFault::NotAllowed),
+    }
+}
+
+fn put_byte(out: &mut Vec<u8>, number: u8) -> Result<(), PushFault>
+    ensures { Puts (byte number) result out.old.items out.new.items }
+{
+    put_u8(out, number).map_err(|_| PushFault::Memory)
+}
+
+fn put_two_bytes(out: &mut Vec<u8>, number: u16) -> Result<(), PushFault>
+    ensures { Puts (two_bytes number) result out.old.items out.new.items }
+{
+    put_u16(out, number).map_err(|_| PushFault::Memory)
+}
+
+fn put_four_bytes(out: &mut Vec<u8>, number: u32) -> Result<(), PushFault>
+    ensures { Puts (four_bytes number) result out.old.items out.new.items }
+{
+    put_u32(out, number).map_err(|_| PushFault::Memory)
+}
+
+fn put_number(out: &mut Vec<u8>, number: u32) -> Result<(), PushFault>
+    requires { number ≤ 268435455 }
+    ensures { Puts (varint number) result out.old.items out.new.items }
+{
+    put_varint(out, number).map_err(|_| PushFault::Memory)
+}
+
+fn put_string(out: &mut Vec<u8>, string: &str) -> Result<(), PushFault>
+    requires short { length string.now ≤ 65535 }
+    requires no_nul { has_nul string.now ≡ false }
+    ensures { Puts (text string.now) result out.old.items out.new.items }
+{
+    put_text(out, string).map_err(|_| PushFault::Memory)
+}
+
+fn put_strings(out: &mut Vec<u8>, name: &str, value: &str) -> Result<(), PushFault>
+    requires name_short { length name.now ≤ 65535 }
+    requires value_short { length value.now ≤ 65535 }
+    requires name_no_nul { has_nul name.now ≡ false }
+    requires value_no_nul { has_nul value.now ≡ false }
+    ensures { Puts (pair name.now value.now) result out.old.items out.new.items }
+{
+    put_pair(out, name, value).map_err(|_| PushFault::Memory)
+}
+
+fn put_bytes(out: &mut Vec<u8>, bytes: &[u8]) -> Result<(), PushFault>
+    requires { length bytes.now ≤ 65535 }
+    ensures { Puts (binary bytes.now) result out.old.items out.new.items }
+{
+    put_binary(out, bytes).map_err(|_| PushFault::Memory)
+}
+
+fn put_value(out: &mut Vec<u8>, value: &Value) -> Result<(), PushFault>
+    requires long { is_long (value_view value.now) ≡ false }
+    requires nul { nul_in (value_view value.now) ≡ false }
+    requires large { is_large (value_view value.now) ≡ false }
+    ensures { Puts (value_view value.now) result out.old.items out.new.items }
+{
+    match *value {
+        Value::Byte(number) => put_byte(out, number),
+        Value::TwoBytes(number) => put_two_bytes(out, number),
+        Value::FourBytes(number) => put_four_bytes(out, number),
+        Value::Varint(number) => put_number(out, number),
+        Value::Text(string) => put_string(out, string),
+        Value::Pair(name, value) => put_strings(out, name, value),
+        Value::Binary(bytes) => put_bytes(out, bytes),
+    }
+}
+
+// Appends the property, or a front of it for want of memory.
+#[tactic(auto, using(crate::proofs::Pushes::id_spelled, std::proofs::lemmas::List::append_assoc, std::proofs::lemmas::List::take_at))]
+fn put_item(out: &mut Vec<u8>, item: &Item) -> Result<(), PushFault>
+    requires id { item.now.id < 128 }
+    requires long { is_long (value_view item.now.value) ≡ false }
+    requires nul { nul_in (value_view item.now.value) ≡ false }
+    requires large { is_large (value_view item.now.value) ≡ false }
+    ensures ok { OnOk result (out.new.items ≡ out.old.items ++ property_spelling (item_view item.now)) }
+    ensures valid { OnOk result (IsValue (value_view item.now.value)) }
+    ensures grows { take (length out.old.items) out.new.items ≡ out.old.items }
+    ensures memory { IsOkUnless result PushFault.Memory }
+{
+    put_byte(out, item.id)?;
+    put_value(out, &item.value)
+}
+
+// Appends the property, or nothing for want of memory.
+fn append(out: &mut Vec<u8>, item: &Item) -> Result<(), PushFault>
+    requires id { item.now.id < 128 }
+    requires long { is_long (value_view item.now.value) ≡ false }
+    requires nul { nul_in (value_view item.now.value) ≡ false }
+    requires large { is_large (value_view item.now.value) ≡ false }
+    ensures ok { OnOk result (out.new.items ≡ out.old.items ++ property_spelling (item_view item.now)) }
+    ensures valid { OnOk result (IsValue (value_view item.now.value)) }
+    ensures err { OnErr result (out.new.items ≡ out.old.items) }
+    ensures memory { IsOkUnless result PushFault.Memory }
+{
+    let len = out.len();
+    let written = put_item(out, item);
+    if written.is_err() {
+        out.truncate(len);
+    }
+    written
+}
+
+impl PropsBuf {
+    /// A list of no properties, for the place. It takes no memory.
+    pub fn new(alloc: Global, place: Place) -> PropsBuf
+        ensures place { result.place ≡ place }
+        ensures items { result.items ≡ [] }
+    {
+        PropsBuf {
+            place,
+            bytes: Vec::new(alloc),
+        }
+    }
+
+    /// Takes the property at the list's end.
+    ///
+    /// # Errors
+    ///
+    /// The [`PushFault`] with the lowest number that stands; the list is unchanged then.
+    pub fn push(&mut self, prop: &Prop) -> Result<(), PushFault>
+        ensures ok { OnOk result (self.new ≡ record { place = self.old.place; items = self.old.items ++ prop_view prop.now ∷ [] }) }
+        ensures err { OnErr result (self.new ≡ self.old) }
+        // It is refused for the lowest reason that stands, and else only for want of memory.
+        ensures refused { MatchOption (push_fault self.old (prop_view prop.now)) (IsOkUnless result PushFault.Memory) (λ fault. result ≡ Err fault) }
+    {
+        let item = item_of(*prop);
+        if let Some(fault) = fault_in(self.place, &self.bytes, &item) {
+            return Err(fault);
+        }
+        append(&mut self.bytes, &item)
+    }
+
+    /// The list, borrowed.
+    pub fn as_props(&self) -> Props<'_>
+        ensures { result ≡ self.now }
+    {
+        Props::of(self.place, &self.bytes)
+    }
+}

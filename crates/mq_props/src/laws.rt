@@ -1,0 +1,18 @@
+//! What it is for the reading of property lists to be exact.
+
+ghost use Rattle.std.specs.Prelude.{◌≡◌, ℕ, List, [], Ok};
+ghost use Rattle.mq_wire.specs.Spellings.{AreBytes};
+ghost use Rattle.mq_props.specs.declared.table.Place.{Place};
+ghost use Rattle.mq_props.specs.Values.{Property, body};
+ghost use Rattle.mq_props.specs.Allowed.{AreAllowed};
+ghost use Rattle.mq_props.specs.Reading.{properties_on};
+
+/// The bytes that are read as the properties of a place are those that spell them.
+pub fn properties_are_exact()
+    // What is read is spelled by the bytes, and may make a list in the place.
+    ensures only { (place : Place) (at : ℕ) (bytes : List ℕ) (ps : List Property) → AreBytes bytes
+        → properties_on place [] (record { at = at; rest = bytes }) ≡ Ok ps → (bytes ≡ body ps) × AreAllowed place ps }
+    // What may make a list there is read from its spelling.
+    ensures all { (place : Place) (at : ℕ) (ps : List Property) → AreAllowed place ps
+        → properties_on place [] (record { at = at; rest = body ps }) ≡ Ok ps }
+{}

@@ -1,0 +1,23 @@
+//! Property lists (MQTT 5.0, 2.2.2).
+#![tactic(auto)]
+
+mod buf;
+mod fault;
+mod get;
+mod laws;
+mod list;
+mod prop;
+mod props;
+mod seen;
+mod table;
+mod value;
+
+pub use buf::PropsBuf;
+pub use fault::{PropFault, PropReason, PushFault};
+pub use laws::properties_are_exact;
+pub use prop::Prop;
+pub use props::{Props, PropsIter};
+pub use table::Place;
+
+#[cfg(test)]
+mod tests;

@@ -1,0 +1,83 @@
+//! Reading a property list.
+
+ghost use Rattle.std.specs.Prelude.{◌≡◌, ◌<◌, List, [], Ok, Err, MatchResult, IfOk};
+ghost use Rattle.mq_props.specs.Table.{row_of, row_view};
+ghost use Rattle.mq_props.specs.Values.{Property};
+ghost use Rattle.mq_props.specs.Reading.{judged_at, admitted, valued, property_on, properties_on, Reads, Gives};
+ghost use Rattle.mq_props.specs.Views.{Sees, value_view, item_view};
+
+use crate::fault::{PropFault, PropReason};
+use crate::seen::Seen;
+use crate::table::{Place, Row, find_row, lists_place, may_repeat_in};
+use crate::value::{Item, Value, is_in_range, is_wild_in, read_value};
+use mq_wire::Cursor;
+
+// The line of the identifier at a place, if a property with it may stand in the list behind those seen.
+fn admit(place: Place, seen: &Seen, at: usize, id: u32) -> Result<Row, PropFault>
+    ensures { (before : List Property) → Sees seen.now before → Gives row_view result (judged_at at (admitted place before (row_of id))) }
+{
+    let Some(row) = find_row(id) else {
+        return Err(PropFault {
+            at,
+            reason: PropReason::Unknown,
+        });
+    };
+    if !lists_place(row.3, place) {
+        return Err(PropFault {
+            at,
+            reason: PropReason::NotAllowed,
+        });
+    }
+    if seen.has(row.0) && !may_repeat_in(place, row.0) {
+        return Err(PropFault {
+            at,
+            reason: PropReason::Repeated,
+        });
+    }
+    Ok(row)
+}
+
+// The property of a line with the value at a place, if it may have it there.
+fn judge<'a>(place: Place, row: Row, at: usize, value: Value<'a>) -> Result<Item<'a>, PropFault>
+    ensures { Gives item_view result (judged_at at (valued place (row_view row.entry) (value_view value.entry))) }
+{
+    if !is_in_range(row.2, &value) {
+        return Err(PropFault {
+            at,
+            reason: PropReason::Value,
+        });
+    }
+    if is_wild_in(place, row.0, &value) {
+        return Err(PropFault {
+            at,
+            reason: PropReason::Wildcard,
+        });
+    }
+    Ok(Item { id: row.0, value })
+}
+
+// A property at the front of what is left, behind those seen.
+#[tactic(auto, unfolding(crate::specs::Reading::property_on))]
+fn read_item<'a>(place: Place, seen: &Seen, cursor: &mut Cursor<'a>) -> Result<Item<'a>, PropFault>
+    ensures { (before : List Property) → Sees seen.now before → Reads item_view result (property_on place before cursor.old) cursor.new }
+{
+    let start = cursor.at();
+    let id = cursor.varint()?;
+    let row = admit(place, seen, start, id)?;
+    let behind = cursor.at();
+    let value = read_value(row.1, cursor)?;
+    let item = judge(place, row, behind, value)?;
+    Ok(item)
+}
+
+// Whether all that is left are properties of the place, or the first fault.
+pub fn check_items(place: Place, mut cursor: Cursor) -> Result<(), PropFault>
+    ensures { MatchResult result (λ _. (ps : List Property) × (properties_on place [] cursor.entry ≡ Ok ps)) (λ fault. properties_on place [] cursor.entry ≡ Err fault) }
+{
+    let mut seen = Seen::new();
+    while !cursor.is_empty() {
+        let item = read_item(place, &seen, &mut cursor)?;
+        seen.add(item.id);
+    }
+    Ok(())
+}

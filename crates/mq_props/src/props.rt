@@ -1,0 +1,231 @@
+//! A validated property list.
+
+ghost use Rattle.std.specs.Prelude.{◌≡◌, ℕ, ◌+◌, ◌≤◌, ◌<◌, ◌^◌, List, [], ◌∷◌, ◌++◌, length, IfOk, IfErr, OnErr, IsOkAnd, MatchResult, MatchOption};
+ghost use Rattle.std.specs.Option.{option_map};
+ghost use Rattle.std.specs.Iterator.{YieldsFirstBy, item_count};
+ghost use Rattle.mq_wire.specs.Left.{past};
+ghost use Rattle.mq_wire.specs.Spellings.{AreBytes};
+ghost use Rattle.mq_props.specs.Values.{Property, body};
+ghost use Rattle.mq_props.specs.Allowed.{first_of, AreAllowed, Lists};
+ghost use Rattle.mq_props.specs.Breaks.{Breaks};
+ghost use Rattle.mq_props.specs.Reading.{properties_on, list_on, item_on, items_on, items_of, Reads};
+ghost use Rattle.mq_props.specs.Views.{item_view, value_view};
+ghost use Rattle.mq_props.specs.Props.{prop_view};
+
+use crate::fault::{PropFault, PropReason};
+use crate::list::check_items;
+use crate::prop::{Prop, prop_of};
+use crate::table::{Place, find_row};
+use crate::value::{Item, Value, read_value};
+use mq_wire::{Cursor, Reason};
+use std::marker::Model;
+use std::mem;
+
+/// A property list that may stand in its place (MQTT 5.0, 2.2.2): each property is known, allowed there,
+/// in range, and not repeated where it may stand once.
+///
+/// It borrows the bytes that spell it. A contract sees its place and its properties, in order.
+#[derive(Debug, Drop)]
+pub struct Props<'a> {
+    place: Place,
+    bytes: &'a [u8],
+}
+
+impl<'a> Model for Props<'a> {
+    ghost use Rattle.mq_props.specs.Listed.{Listed, IsList};
+    ghost use Rattle.mq_props.specs.Reading.{items_of};
+
+    ghost Value = { Listed };
+
+    ghost view = { λ p. record { place = p.place; items = items_of p.bytes.now } };
+
+    ghost invariant = { λ p. IsList p.place p.bytes.now };
+}
+
+// The bytes that the cursor has left, which it keeps.
+fn rest_of<'a>(cursor: &mut Cursor<'a>) -> &'a [u8]
+    ensures rest { result.now ≡ cursor.old.rest }
+    ensures same { cursor.new ≡ cursor.old }
+    ensures bytes { AreBytes cursor.old.rest }
+{
+    let at = cursor.at();
+    let rest = mem::replace(cursor, Cursor::new(&[])).rest();
+    *cursor = Cursor::starting_at(rest, at);
+    rest
+}
+
+// The properties that all of the bytes spell, which begin at a place.
+fn all_of<'a>(place: Place, at: usize, bytes: &'a [u8]) -> Result<Props<'a>, PropFault>
+    requires place { at + length bytes.now < 2 ^ 63 }
+    requires bound { length bytes.now ≤ 268435455 }
+    ensures exact { MatchResult result
+        (λ props. properties_on place [] (record { at = at; rest = bytes.entry.now }) ≡ Ok props.items)
+        (λ fault. properties_on place [] (record { at = at; rest = bytes.entry.now }) ≡ Err fault) }
+    ensures place { IfOk result (λ props. props.place ≡ place) }
+{
+    check_items(place, Cursor::starting_at(bytes, at))?;
+    Ok(Props { place, bytes })
+}
+
+// The property list at the front of what is left.
+#[tactic(auto, unfolding(crate::specs::Reading::list_on))]
+fn list_at<'a>(cursor: &mut Cursor<'a>, place: Place) -> Result<Props<'a>, PropFault>
+    ensures exact { Reads (λ props. props.items) result (list_on place cursor.old) cursor.new }
+    ensures place { IfOk result (λ props. props.place ≡ place) }
+    ensures err { OnErr result (cursor.new ≡ cursor.old) }
+    ensures bytes { AreBytes cursor.old.rest }
+{
+    let start = cursor.at();
+    let mut ahead = Cursor::starting_at(rest_of(cursor), start);
+    let len = ahead.varint()? as usize;
+    let inside = ahead.at();
+    let rest = ahead.rest();
+    if rest.len() < len {
+        return Err(PropFault {
+            at: start,
+            reason: PropReason::Wire(Reason::Short),
+        });
+    }
+    let props = all_of(place, inside, &rest[..len])?;
+    *cursor = Cursor::starting_at(&rest[len..], inside + len);
+    Ok(props)
+}
+
+// The next property of any list, if one stands at the front of what is left.
+#[tactic(auto, unfolding(crate::specs::Reading::item_on))]
+fn next_item<'a>(cursor: &mut Cursor<'a>) -> Option<Item<'a>>
+    ensures { MatchOption result (item_on cursor.old ≡ None) (λ item. item_on cursor.old ≡ Some (item_view item, cursor.new)) }
+{
+    let Ok(id) = cursor.varint() else {
+        return None;
+    };
+    let Some(row) = find_row(id) else {
+        return None;
+    };
+    let Ok(value) = read_value(row.1, cursor) else {
+        return None;
+    };
+    Some(Item { id: row.0, value })
+}
+
+/// The value of the first property with the identifier among those that the bytes spell.
+pub fn first_in<'a>(bytes: &'a [u8], id: u8) -> Option<Value<'a>>
+    ensures { option_map value_view result ≡ first_of id (items_of bytes.entry.now) }
+{
+    let mut cursor = Cursor::new(bytes);
+    while let Some(item) = next_item(&mut cursor) {
+        if item.id == id {
+            return Some(item.value);
+        }
+    }
+    None
+}
+
+impl<'a> Props<'a> {
+    ghost use Rattle.mq_props.specs.Listed.{IsList};
+
+    /// Reads the property list of a place at the front of what the cursor has left (MQTT 5.0, 2.2.2): its
+    /// length, and then properties that are all of so many bytes. It allocates nothing, and copies nothing.
+    ///
+    /// # Errors
+    ///
+    /// The first bad field from the left, with its place. For the list's length: `Wire` where it isn't
+    /// spelled, or where it passes the end. For each property, within the list's bytes: `Wire` where
+    /// the identifier isn't spelled, `Unknown`, `NotAllowed`, `Repeated`, these at the identifier; then
+    /// `Wire` where the value isn't spelled, `Value`, `Wildcard`, these at the value. The cursor is
+    /// where it was then.
+    pub fn read(cursor: &mut Cursor<'a>, place: Place) -> Result<Props<'a>, PropFault>
+        // What is read is spelled by the bytes that the cursor goes past, and may stand in the place.
+        ensures found { IfOk result (λ props. (bytes : List ℕ) × Lists place props.items bytes × (cursor.old.rest ≡ bytes ++ cursor.new.rest) × (cursor.new ≡ past cursor.old (length bytes))) }
+        // What may stand there is read, whatever follows it.
+        ensures only { (ps : List Property) (bytes rest : List ℕ) → Lists place ps bytes → cursor.old.rest ≡ bytes ++ rest
+            → IsOkAnd result (λ props. props.items ≡ ps) × (cursor.new ≡ past cursor.old (length bytes)) }
+        // Else the first bad field is named.
+        ensures broken { IfErr result (λ fault. Breaks place cursor.old fault) }
+        ensures exact { Reads (λ props. props.items) result (list_on place cursor.old) cursor.new }
+        ensures place { IfOk result (λ props. props.place ≡ place) }
+        ensures err { OnErr result (cursor.new ≡ cursor.old) }
+    {
+        list_at(cursor, place)
+    }
+
+    // The list that the bytes spell.
+    pub(crate) fn of(place: Place, bytes: &'a [u8]) -> Props<'a>
+        requires { IsList place bytes.now }
+        ensures { result ≡ record { place = place; items = items_of bytes.entry.now } }
+    {
+        Props { place, bytes }
+    }
+
+    /// The place that the list may stand in.
+    pub fn place(&self) -> Place
+        ensures { result ≡ self.now.place }
+    {
+        self.place
+    }
+
+    /// The bytes that spell the properties, without the list's length before them. A list has one
+    /// spelling. There are at most 268,435,455.
+    pub fn as_bytes(&self) -> &'a [u8]
+        ensures spelled { result.now ≡ body self.now.items }
+        ensures allowed { AreAllowed self.now.place self.now.items }
+        ensures bound { length result.now ≤ 268435455 }
+    {
+        self.bytes
+    }
+
+    /// The properties, in order.
+    pub fn iter(&self) -> PropsIter<'a>
+        ensures { result ≡ self.now.items }
+    {
+        PropsIter {
+            cursor: Cursor::new(self.bytes),
+        }
+    }
+
+    /// The value of the first property with the identifier.
+    pub(crate) fn first(&self, id: u8) -> Option<Value<'a>>
+        ensures { option_map value_view result ≡ first_of id self.now.items }
+    {
+        first_in(self.bytes, id)
+    }
+}
+
+/// The properties of a list, in order.
+#[derive(Debug, Drop)]
+pub struct PropsIter<'a> {
+    cursor: Cursor<'a>,
+}
+
+impl<'a> Model for PropsIter<'a> {
+    ghost use Rattle.std.specs.Prelude.{List};
+    ghost use Rattle.mq_props.specs.Values.{Property};
+    ghost use Rattle.mq_props.specs.Reading.{items_on};
+
+    ghost Value = { List Property };
+
+    ghost view = { λ s. items_on s.cursor };
+}
+
+// The next property, if one stands at the front of what is left. With none, nothing is left.
+fn next_prop<'a>(cursor: &mut Cursor<'a>) -> Option<Prop<'a>>
+    ensures { MatchOption result ((items_on cursor.old ≡ []) × (items_on cursor.new ≡ [])) (λ prop. items_on cursor.old ≡ prop_view prop ∷ items_on cursor.new) }
+{
+    let Some(item) = next_item(cursor) else {
+        *cursor = Cursor::new(&[]);
+        return None;
+    };
+    Some(prop_of(item).unwrap())
+}
+
+impl<'a> Iterator for PropsIter<'a> {
+    type Item = Prop<'a>;
+
+    ghost next_gives = { YieldsFirstBy prop_view (λ s. s) };
+
+    ghost remaining = { item_count (λ s. s) };
+
+    fn next(&mut self) -> Option<Prop<'a>> {
+        next_prop(&mut self.cursor)
+    }
+}

@@ -1,0 +1,373 @@
+use super::*;
+use crate::Place::*;
+use mq_wire::{Cursor, Reason, put_varint};
+use std::alloc::Global;
+use std::test::Fail;
+
+const PLACES: [Place; 14] = [
+    Connect,
+    Will,
+    Connack,
+    Publish,
+    Puback,
+    Pubrec,
+    Pubrel,
+    Pubcomp,
+    Subscribe,
+    Suback,
+    Unsubscribe,
+    Unsuback,
+    Disconnect,
+    Auth,
+];
+
+// Each property with a value, and the lists that it may stand in, as the standard's table has them.
+#[rattlefmt::skip]
+const PROPERTIES: [(&[u8], &[Place]); 27] = [
+    (&[0x01, 1], &[Publish, Will]),
+    (&[0x02, 0, 0, 0, 60], &[Publish, Will]),
+    (&[0x03, 0, 1, b'a'], &[Publish, Will]),
+    (&[0x08, 0, 1, b'r'], &[Publish, Will]),
+    (&[0x09, 0, 2, 1, 2], &[Publish, Will]),
+    (&[0x0B, 5], &[Publish, Subscribe]),
+    (&[0x11, 0, 0, 0, 9], &[Connect, Connack, Disconnect]),
+    (&[0x12, 0, 1, b'c'], &[Connack]),
+    (&[0x13, 0, 7], &[Connack]),
+    (&[0x15, 0, 1, b'm'], &[Connect, Connack, Auth]),
+    (&[0x16, 0, 1, 8], &[Connect, Connack, Auth]),
+    (&[0x17, 1], &[Connect]),
+    (&[0x18, 0, 0, 0, 3], &[Will]),
+    (&[0x19, 0], &[Connect]),
+    (&[0x1A, 0, 1, b'i'], &[Connack]),
+    (&[0x1C, 0, 1, b's'], &[Connack, Disconnect]),
+    (&[0x1F, 0, 1, b'w'], &[Connack, Puback, Pubrec, Pubrel, Pubcomp, Suback, Unsuback, Disconnect, Auth]),
+    (&[0x21, 0, 10], &[Connect, Connack]),
+    (&[0x22, 0, 11], &[Connect, Connack]),
+    (&[0x23, 0, 12], &[Publish]),
+    (&[0x24, 1], &[Connack]),
+    (&[0x25, 0], &[Connack]),
+    (&[0x26, 0, 1, b'n', 0, 1, b'v'], &PLACES),
+    (&[0x27, 0, 0, 1, 0], &[Connect, Connack]),
+    (&[0x28, 1], &[Connack]),
+    (&[0x29, 0], &[Connack]),
+    (&[0x2A, 1], &[Connack]),
+];
+
+// A list of these bytes, with its length before them.
+fn spelled(alloc: Global, parts: &[&[u8]]) -> Result<Vec<u8>, Fail> {
+    let mut body = Vec::new(alloc);
+    for part in parts {
+        body.extend_from_slice(part)?;
+    }
+    let mut list = Vec::new(alloc);
+    put_varint(&mut list, u32::try_from(body.len())?)?;
+    list.extend_from_slice(&body)?;
+    Ok(list)
+}
+
+// The fault of a list, if it has one, and how many bytes are left behind it.
+fn read(bytes: &[u8], place: Place) -> (Option<(usize, PropReason)>, usize) {
+    let mut cursor = Cursor::new(bytes);
+    let fault = match Props::read(&mut cursor, place) {
+        Ok(_) => None,
+        Err(fault) => Some((fault.at, fault.reason)),
+    };
+    (fault, cursor.rest().len())
+}
+
+#[test]
+fn every_property_in_every_list(rt: HostRuntime) -> Result<(), Fail> {
+    for (property, places) in PROPERTIES {
+        for place in PLACES {
+            let list = spelled(rt.alloc(), &[property])?;
+            let twice = spelled(rt.alloc(), &[property, property])?;
+            let first = property.first().copied().unwrap_or(0);
+            if !places.contains(&place) {
+                let refused = (Some((1, PropReason::NotAllowed)), list.len());
+                assert_eq!(rt; read(&list, place), refused, "{first} in {place:?}");
+                continue;
+            }
+            assert_eq!(rt; read(&list, place), (None, 0), "{first} in {place:?}");
+            let wanted = if first == 0x26 || first == 0x0B && place == Publish {
+                (None, 0)
+            } else {
+                (Some((list.len(), PropReason::Repeated)), twice.len())
+            };
+            assert_eq!(rt; read(&twice, place), wanted, "two {first} in {place:?}");
+        }
+    }
+    Ok(())
+}
+
+#[test]
+fn unknown_identifiers(rt: HostRuntime) -> Result<(), Fail> {
+    for id in 0..128u8 {
+        let known = PROPERTIES.iter().any(|row| row.0.first() == Some(&id));
+        let list = spelled(rt.alloc(), &[&[id]])?;
+        let fault = read(&list, Connack).0;
+        assert_eq!(rt; fault == Some((1, PropReason::Unknown)), !known, "at {id}");
+    }
+    assert_eq!(rt;
+        read(&[2, 0x80, 0x01], Connack).0,
+        Some((1, PropReason::Unknown))
+    );
+    Ok(())
+}
+
+#[test]
+fn bounds(rt: HostRuntime) -> Result<(), Fail> {
+    let bad = Some(PropReason::Value);
+    let rows: [(Place, &[u8], Option<PropReason>); 34] = [
+        (Publish, &[0x01, 0], None),
+        (Publish, &[0x01, 255], None),
+        (Publish, &[0x02, 0, 0, 0, 0], None),
+        (Publish, &[0x0B, 0], bad),
+        (Publish, &[0x0B, 1], None),
+        (Publish, &[0x0B, 0xFF, 0xFF, 0xFF, 0x7F], None),
+        (Connect, &[0x11, 255, 255, 255, 255], None),
+        (Connack, &[0x13, 0, 0], None),
+        (Connect, &[0x17, 0], None),
+        (Connect, &[0x17, 2], bad),
+        (Connect, &[0x19, 1], None),
+        (Connect, &[0x19, 2], bad),
+        (Connect, &[0x21, 0, 0], bad),
+        (Connect, &[0x21, 0, 1], None),
+        (Connect, &[0x21, 255, 255], None),
+        (Connect, &[0x22, 0, 0], None),
+        (Publish, &[0x23, 0, 0], bad),
+        (Publish, &[0x23, 255, 255], None),
+        (Connack, &[0x24, 0], None),
+        (Connack, &[0x24, 2], bad),
+        (Connack, &[0x25, 1], None),
+        (Connack, &[0x25, 2], bad),
+        (Connect, &[0x27, 0, 0, 0, 0], bad),
+        (Connect, &[0x27, 0, 0, 0, 1], None),
+        (Connack, &[0x28, 0], None),
+        (Connack, &[0x28, 255], bad),
+        (Connack, &[0x29, 1], None),
+        (Connack, &[0x29, 2], bad),
+        (Connack, &[0x2A, 0], None),
+        (Connack, &[0x2A, 2], bad),
+        (Publish, &[0x08, 0, 1, b'+'], Some(PropReason::Wildcard)),
+        (Will, &[0x08, 0, 1, b'#'], None),
+        (Publish, &[0x03, 0, 1, b'#'], None),
+        (Publish, &[0x09, 0, 0], None),
+    ];
+    for (place, property, reason) in rows {
+        let list = spelled(rt.alloc(), &[property])?;
+        let first = property.first().copied().unwrap_or(0);
+        let wanted = reason.map(|reason| (2, reason));
+        assert_eq!(rt; read(&list, place).0, wanted, "{first} in {place:?}");
+    }
+    Ok(())
+}
+
+#[test]
+fn first_bad_field(rt: HostRuntime) {
+    let wire = |reason| PropReason::Wire(reason);
+    let rows: [(&[u8], usize, PropReason); 10] = [
+        (&[], 0, wire(Reason::Short)),
+        (&[0x80, 0x00], 0, wire(Reason::Overlong)),
+        (&[3, 0x01, 1], 0, wire(Reason::Short)),
+        (&[1, 0x01, 1], 2, wire(Reason::Short)),
+        (&[3, 0x01, 1, 0x80, 0x01], 3, wire(Reason::Short)),
+        (&[3, 0x81, 0x00, 1], 1, wire(Reason::Overlong)),
+        (&[4, 0x03, 0, 1, 0xFF], 2, wire(Reason::NotUtf8)),
+        (&[7, 0x26, 0, 1, b'a', 0, 1, 0], 2, wire(Reason::Nul)),
+        (&[5, 0x23, 0, 1, 0x23, 0, 1], 4, PropReason::Repeated),
+        (&[4, 0x0B, 0, 0x24, 9], 2, PropReason::Value),
+    ];
+    for (bytes, at, reason) in rows {
+        assert_eq!(rt;
+            read(bytes, Publish),
+            (Some((at, reason)), bytes.len()),
+            "at {bytes:?}"
+        );
+    }
+    assert_eq!(rt; read(&[2, 0x01, 1, 7, 8], Publish), (None, 2));
+    assert_eq!(rt; read(&[0, 9], Pubrel), (None, 1));
+}
+
+#[test]
+fn what_a_list_takes(rt: HostRuntime) -> Result<(), Fail> {
+    let mut list = PropsBuf::new(rt.alloc(), Publish);
+    let long = vec![in rt.alloc(); b'a'; 65_536]?;
+    let text = str::from_utf8(&long)?;
+    let short = str::from_utf8(&long[1..])?;
+    assert_eq!(rt; list.push(&Prop::TopicAlias(0)), Err(PushFault::Value));
+    assert_eq!(rt;
+        list.push(&Prop::ReceiveMaximum(5)),
+        Err(PushFault::NotAllowed)
+    );
+    assert_eq!(rt;
+        list.push(&Prop::ContentType(text)),
+        Err(PushFault::TooLong)
+    );
+    assert_eq!(rt;
+        list.push(&Prop::UserProperty("a", text)),
+        Err(PushFault::TooLong)
+    );
+    assert_eq!(rt;
+        list.push(&Prop::CorrelationData(&long)),
+        Err(PushFault::TooLong)
+    );
+    assert_eq!(rt;
+        list.push(&Prop::ResponseTopic("a/#")),
+        Err(PushFault::Value)
+    );
+    assert_eq!(rt; list.push(&Prop::ContentType("\0")), Err(PushFault::Value));
+    assert_eq!(rt;
+        list.push(&Prop::UserProperty("a", "\0")),
+        Err(PushFault::Value)
+    );
+    assert_eq!(rt;
+        list.push(&Prop::SubscriptionIdentifier(0)),
+        Err(PushFault::Value)
+    );
+    let over = Prop::SubscriptionIdentifier(268_435_456);
+    assert_eq!(rt; list.push(&over), Err(PushFault::Value));
+    assert_eq!(rt; list.as_props().as_bytes().len(), 0);
+    assert_eq!(rt; list.push(&Prop::TopicAlias(1)), Ok(()));
+    assert_eq!(rt; list.push(&Prop::TopicAlias(1)), Err(PushFault::Repeated));
+    assert_eq!(rt; list.push(&Prop::TopicAlias(0)), Err(PushFault::Repeated));
+    assert_eq!(rt; list.push(&Prop::UserProperty("a", "b")), Ok(()));
+    assert_eq!(rt; list.push(&Prop::UserProperty("a", "b")), Ok(()));
+    assert_eq!(rt;
+        list.push(&Prop::SubscriptionIdentifier(268_435_455)),
+        Ok(())
+    );
+    assert_eq!(rt; list.push(&Prop::SubscriptionIdentifier(300)), Ok(()));
+    let props = list.as_props();
+    let bytes: &[u8] = &[
+        0x23, 0, 1, 0x26, 0, 1, b'a', 0, 1, b'b', 0x26, 0, 1, b'a', 0, 1, b'b', 0x0B, 0xFF, 0xFF,
+        0xFF, 0x7F, 0x0B, 0xAC, 0x02,
+    ];
+    assert_eq!(rt; props.as_bytes(), bytes);
+    assert_eq!(rt; props.place(), Publish);
+    assert_eq!(rt; list.push(&Prop::ContentType(short)), Ok(()));
+    Ok(())
+}
+
+#[test]
+fn in_order(rt: HostRuntime) {
+    let bytes = [6, 0x25, 1, 0x13, 0, 9, 0x24];
+    let mut cursor = Cursor::new(&bytes[..1]);
+    assert!(rt; Props::read(&mut cursor, Connack).is_err());
+    let bytes = [10, 0x25, 1, 0x13, 0, 9, 0x1F, 0, 2, b'n', b'o'];
+    let mut cursor = Cursor::new(&bytes);
+    match Props::read(&mut cursor, Connack) {
+        Ok(props) => {
+            let mut iter = props.iter();
+            assert!(rt; matches!(iter.next(), Some(Prop::RetainAvailable(1))));
+            assert!(rt; matches!(iter.next(), Some(Prop::ServerKeepAlive(9))));
+            assert!(rt; matches!(iter.next(), Some(Prop::ReasonString("no"))));
+            assert!(rt; iter.next().is_none());
+            assert_eq!(rt; props.get_reason_string(), Some("no"));
+            assert_eq!(rt; props.get_maximum_qos(), None);
+        }
+        Err(fault) => assert!(rt; false, "{fault:?}"),
+    }
+}
+
+// The list of these properties.
+fn made(alloc: Global, place: Place, props: &[Prop]) -> Result<PropsBuf, Fail> {
+    let mut list = PropsBuf::new(alloc, place);
+    for prop in props {
+        list.push(prop)?;
+    }
+    Ok(list)
+}
+
+#[test]
+fn first_of_each_in_publish(rt: HostRuntime) -> Result<(), Fail> {
+    let list = made(
+        rt.alloc(),
+        Publish,
+        &[
+            Prop::PayloadFormatIndicator(1),
+            Prop::MessageExpiryInterval(2),
+            Prop::ContentType("c"),
+            Prop::ResponseTopic("r"),
+            Prop::CorrelationData(&[7]),
+            Prop::SubscriptionIdentifier(4),
+            Prop::SubscriptionIdentifier(5),
+            Prop::TopicAlias(6),
+            Prop::UserProperty("n", "v"),
+            Prop::UserProperty("m", "w"),
+        ],
+    )?;
+    let props = list.as_props();
+    assert_eq!(rt; props.get_payload_format_indicator(), Some(1));
+    assert_eq!(rt; props.get_message_expiry_interval(), Some(2));
+    assert_eq!(rt; props.get_content_type(), Some("c"));
+    assert_eq!(rt; props.get_response_topic(), Some("r"));
+    assert_eq!(rt; props.get_correlation_data(), Some([7].as_slice()));
+    assert_eq!(rt; props.get_subscription_identifier(), Some(4));
+    assert_eq!(rt; props.get_topic_alias(), Some(6));
+    assert_eq!(rt; props.get_user_property(), Some(("n", "v")));
+    Ok(())
+}
+
+#[test]
+fn first_of_each_in_connack(rt: HostRuntime) -> Result<(), Fail> {
+    let list = made(
+        rt.alloc(),
+        Connack,
+        &[
+            Prop::SessionExpiryInterval(1),
+            Prop::AssignedClientIdentifier("a"),
+            Prop::ServerKeepAlive(2),
+            Prop::AuthenticationMethod("m"),
+            Prop::AuthenticationData(&[3]),
+            Prop::ResponseInformation("i"),
+            Prop::ServerReference("s"),
+            Prop::ReasonString("r"),
+            Prop::ReceiveMaximum(4),
+            Prop::TopicAliasMaximum(5),
+            Prop::MaximumQos(1),
+            Prop::RetainAvailable(0),
+            Prop::MaximumPacketSize(6),
+            Prop::WildcardSubscriptionAvailable(1),
+            Prop::SubscriptionIdentifierAvailable(0),
+            Prop::SharedSubscriptionAvailable(1),
+        ],
+    )?;
+    let props = list.as_props();
+    assert_eq!(rt; props.get_session_expiry_interval(), Some(1));
+    assert_eq!(rt; props.get_assigned_client_identifier(), Some("a"));
+    assert_eq!(rt; props.get_server_keep_alive(), Some(2));
+    assert_eq!(rt; props.get_authentication_method(), Some("m"));
+    assert_eq!(rt; props.get_authentication_data(), Some([3].as_slice()));
+    assert_eq!(rt; props.get_response_information(), Some("i"));
+    assert_eq!(rt; props.get_server_reference(), Some("s"));
+    assert_eq!(rt; props.get_reason_string(), Some("r"));
+    assert_eq!(rt; props.get_receive_maximum(), Some(4));
+    assert_eq!(rt; props.get_topic_alias_maximum(), Some(5));
+    assert_eq!(rt; props.get_maximum_qos(), Some(1));
+    assert_eq!(rt; props.get_retain_available(), Some(0));
+    assert_eq!(rt; props.get_maximum_packet_size(), Some(6));
+    assert_eq!(rt; props.get_wildcard_subscription_available(), Some(1));
+    assert_eq!(rt; props.get_subscription_identifier_available(), Some(0));
+    assert_eq!(rt; props.get_shared_subscription_available(), Some(1));
+    Ok(())
+}
+
+#[test]
+fn first_of_each_in_connect(rt: HostRuntime) -> Result<(), Fail> {
+    let asked = [
+        Prop::RequestProblemInformation(0),
+        Prop::RequestResponseInformation(1),
+    ];
+    let list = made(rt.alloc(), Connect, &asked)?;
+    let props = list.as_props();
+    assert_eq!(rt; props.get_request_problem_information(), Some(0));
+    assert_eq!(rt; props.get_request_response_information(), Some(1));
+    Ok(())
+}
+
+#[test]
+fn first_of_each_in_will(rt: HostRuntime) -> Result<(), Fail> {
+    let list = made(rt.alloc(), Will, &[Prop::WillDelayInterval(8)])?;
+    assert_eq!(rt; list.as_props().get_will_delay_interval(), Some(8));
+    Ok(())
+}
