@@ -1,0 +1,134 @@
+-- The events that a log gives: each is completed by one byte of the log, and stands in the record of that byte.
+use Rattle.std.specs.Prelude.{ℕ, ◌+◌, ◌==◌, nat_lt, cond, if◌then◌else◌, List, [], ◌∷◌, ◌++◌, length, drop, map, reverse, slice_index, Option, Some, None, option_map, is_some, Result, Ok, Err}
+use Rattle.std.specs.Int.{w16, from_be_bytes}
+use Rattle.mq_judge.specs.declared.packet.kinds.PacketRule.{PacketRule}
+use Rattle.mq_judge.specs.declared.packet.kinds.DecodeFault.{DecodeFault}
+use Rattle.mq_judge.specs.declared.packet.kinds.DecodeFault.TheVariants.{Broken, OtherVersion, Unread}
+use Rattle.mq_judge.specs.declared.trace.kind.RecordKind.{RecordKind}
+use Rattle.mq_judge.specs.declared.trace.kind.RecordKind.TheVariants as kinds
+use Rattle.mq_judge.specs.declared.trace.kind.Way.{Way}
+use Rattle.mq_judge.specs.declared.trace.place.Place3.{Place3}
+use Rattle.mq_judge.specs.declared.rules.note.Note.{Note}
+use Rattle.mq_judge.specs.declared.rules.note.Note.TheVariants as notes
+use Rattle.mq_judge.specs.declared.rules.note.ItemNote.{ItemNote}
+use Rattle.mq_judge.specs.declared.rules.note.ItemNote.TheVariants as item_notes
+use Rattle.mq_judge.specs.declared.rules.note.Seen.{Seen}
+use Rattle.mq_judge.specs.declared.packet.fixed_header.FixedHeader.{FixedHeader}
+use Rattle.mq_judge.specs.declared.packet.fixed_header.FixedHeader.TheVariants as headers
+use Rattle.mq_judge.specs.Stream.{fixed_header_of, frame_size, is_lost}
+use Rattle.mq_judge.specs.Framing.{kind_of, way_of, begun, carried, stream}
+use Rattle.mq_judge.specs.Entries.{Entry, packet_note}
+use Rattle.mq_judge.specs.Decoding.{decoded}
+
+-- what stands in one direction's stream of packets
+pub data Item : Type 0 where
+  packet : Entry → Item
+  bad : ℕ → PacketRule → ℕ → Item
+  lost : Item
+
+pub data Event : Type 0 where
+  opened closed rested : Event
+  released : ℕ → Event
+  sent received : Item → Event
+
+-- an event with its place
+pub record Placed : Type 0 where
+  pub place : Place3
+  pub event : Event
+
+-- what the statements look at of an item, and of an event
+abbrev pub item_note : Item → ItemNote
+item_note (packet entry) = item_notes.Packet (packet_note entry)
+item_note (bad first rule at) = item_notes.Bad first rule at
+item_note lost = item_notes.Lost
+
+abbrev pub note_of : Event → Note
+note_of opened = notes.Open
+note_of closed = notes.Close
+note_of rested = notes.Rest
+note_of (released identifier) = notes.Release identifier
+note_of (sent item) = notes.Sent (item_note item)
+note_of (received item) = notes.Recv (item_note item)
+
+abbrev pub seen : Placed → Seen
+seen placed = record { place = placed.place; note = note_of placed.event }
+
+-- What a whole frame is: a packet, or one whose bytes break a rule. Of another protocol version, or where it isn't read, it is neither.
+abbrev pub item_read : ℕ → Result Entry DecodeFault → Option Item
+item_read first (Ok entry) = Some (packet entry)
+item_read first (Err (Broken fault)) = Some (bad first fault.rule fault.at)
+item_read first (Err (OtherVersion version)) = None
+item_read first (Err Unread) = None
+
+-- what stands behind a packet's fixed header
+abbrev pub behind_header : FixedHeader → List ℕ → List ℕ
+behind_header (headers.Whole header size) frame = drop header frame
+behind_header headers.Short frame = []
+behind_header headers.Lost frame = []
+
+-- what a frame says
+unfoldable pub read_frame : List ℕ → Result Entry DecodeFault
+read_frame frame = decoded (slice_index frame 0) (behind_header (fixed_header_of frame) frame)
+
+-- The item that the last of these bytes completes, where they are those so far of one packet: the packet is whole, or its
+-- Remaining Length turns out to be none.
+unfoldable pub item_at : List ℕ → Option Item
+item_at so_far = cond (is_lost so_far) (Some lost) (cond (is_some (frame_size so_far)) (item_read (slice_index so_far 0) (read_frame so_far)) None)
+
+-- The bytes so far of the packet that a direction's next byte belongs to, that byte included; none where the direction is lost before it.
+abbrev pub packet_with : List ℕ → ℕ → List ℕ
+packet_with before byte = cond (is_lost (stream before).rest) [] ((stream before).rest ++ byte ∷ [])
+
+-- the same for the body byte of a record of this kind, none for one that carries no packets
+abbrev pub packet_by : Option Way → List (List ℕ) → ℕ → List ℕ
+packet_by None parts byte = []
+packet_by (Some way) parts byte = packet_with (carried way parts) byte
+
+-- the newest record, as far as it is there
+abbrev pub newest : List (List ℕ) → List ℕ
+newest [] = []
+newest (part ∷ before) = part
+
+-- the bytes so far of the record that the next byte of a log belongs to, that byte included
+unfoldable pub part_at : List ℕ → ℕ → List ℕ
+part_at before byte = newest (begun (before ++ byte ∷ []))
+
+-- the bytes so far of the packet that the next byte of a log belongs to, that byte included; none where it belongs to no packet, or the direction is lost
+unfoldable pub packet_at : List ℕ → ℕ → List ℕ
+packet_at before byte = cond (nat_lt 5 (length (part_at before byte))) (packet_by (way_of (kind_of (part_at before byte))) (begun before) byte) []
+
+-- The event that the last byte of a part of a record completes, given its packet so far: OPEN, CLOSE and REST have no body, that of RELEASE is a
+-- Packet Identifier, and SENT and RECV give what their packets are.
+abbrev pub event_by : Option RecordKind → List ℕ → List ℕ → Option Event
+event_by (Some kinds.Open) part so_far = if length part == 5 then Some opened else None
+event_by (Some kinds.Close) part so_far = if length part == 5 then Some closed else None
+event_by (Some kinds.Rest) part so_far = if length part == 5 then Some rested else None
+event_by (Some kinds.Release) part so_far = if length part == 7 then Some (released (from_be_bytes w16 (drop 5 part))) else None
+event_by (Some kinds.Sent) part so_far = option_map sent (item_at so_far)
+event_by (Some kinds.Recv) part so_far = option_map received (item_at so_far)
+event_by None part so_far = None
+
+unfoldable pub event_in : List ℕ → List ℕ → Option Event
+event_in part so_far = event_by (kind_of part) part so_far
+
+-- the event that the next byte of a log completes
+unfoldable pub event_at : List ℕ → ℕ → Option Event
+event_at before byte = if nat_lt (length before) 8 then None else event_in (part_at before byte) (packet_at before byte)
+
+-- an event at its place, in front of those before it
+abbrev pub with_event : ℕ → Option Event → List Placed → List Placed
+with_event record_no None earlier = earlier
+with_event record_no (Some event) earlier = record { place = record { position = length earlier + 1; record_no = record_no }; event = event } ∷ earlier
+
+-- the events of a log whose bytes are given the newest first
+unfoldable pub events_back : List ℕ → List Placed
+events_back [] = []
+events_back (byte ∷ earlier) = with_event (length (begun (reverse earlier ++ byte ∷ []))) (event_at (reverse earlier) byte) (events_back earlier)
+
+-- The events of a log, the newest first.
+unfoldable pub events : List ℕ → List Placed
+events bytes = events_back (reverse bytes)
+
+-- what the statements look at of a log, the newest event first
+unfoldable pub seen_in : List ℕ → List Seen
+seen_in bytes = map seen (events bytes)

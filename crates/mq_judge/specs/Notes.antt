@@ -1,0 +1,87 @@
+-- What one event is, by itself.
+use Rattle.std.specs.Prelude.{ℕ, ◌==◌, Bool, true, false, cond, Option, Some, None}
+use Rattle.mq_judge.specs.declared.packet.kinds.Qos.{Qos}
+use Rattle.mq_judge.specs.declared.packet.kinds.Qos.TheVariants as quality
+use Rattle.mq_judge.specs.declared.rules.role.Role.{Role}
+use Rattle.mq_judge.specs.declared.rules.role.Role.TheVariants.{Client, Server}
+use Rattle.mq_judge.specs.declared.rules.note.Note.{Note}
+use Rattle.mq_judge.specs.declared.rules.note.Note.TheVariants.{Open, Close, Sent, Recv}
+use Rattle.mq_judge.specs.declared.rules.note.ItemNote.TheVariants.{Packet}
+use Rattle.mq_judge.specs.declared.rules.note.PacketNote.{PacketNote}
+use Rattle.mq_judge.specs.declared.rules.note.PacketNote.TheVariants.{Connack, Publish, Puback}
+
+-- a network connection begins
+abbrev pub is_open : Note → Bool
+is_open Open = true
+is_open _ = false
+
+-- the network connection ends
+abbrev pub is_close : Note → Bool
+is_close Close = true
+is_close _ = false
+
+-- the packet that the tested end sent, if it is one
+abbrev pub sent_packet : Note → Option PacketNote
+sent_packet (Sent (Packet p)) = Some p
+sent_packet _ = None
+
+-- the packet that the tested end received, if it is one
+abbrev pub received_packet : Note → Option PacketNote
+received_packet (Recv (Packet p)) = Some p
+received_packet _ = None
+
+-- the Reason Code of a CONNACK
+abbrev pub connack_code : Option PacketNote → Option ℕ
+connack_code (Some (Connack session_present code)) = Some code
+connack_code _ = None
+
+-- the Reason Code of a CONNACK from the server: a tested client receives it, a tested server sends it (MQTT 5.0, section 3.2)
+abbrev pub connack_of : Role → Note → Option ℕ
+connack_of Client note = connack_code (received_packet note)
+connack_of Server note = connack_code (sent_packet note)
+
+-- a Quality of Service at which a PUBLISH is acknowledged (MQTT 5.0, section 4.3)
+abbrev pub is_acknowledged : Qos → Bool
+is_acknowledged quality.AtMostOnce = false
+is_acknowledged quality.AtLeastOnce = true
+is_acknowledged quality.ExactlyOnce = true
+
+-- the Packet Identifier of a new PUBLISH of QoS above 0, that is, one with DUP 0
+abbrev pub new_identifier : Option PacketNote → Option ℕ
+new_identifier (Some (Publish identifier qos duplicate)) = cond duplicate None (cond (is_acknowledged qos) identifier None)
+new_identifier _ = None
+
+-- the Packet Identifier of a PUBACK
+abbrev pub settled_identifier : Option PacketNote → Option ℕ
+settled_identifier (Some (Puback identifier code)) = Some identifier
+settled_identifier _ = None
+
+-- the Packet Identifier that this event opens: a new PUBLISH of QoS above 0 is sent (MQTT 5.0, section 2.2.1)
+abbrev pub opener_of : Note → Option ℕ
+opener_of note = new_identifier (sent_packet note)
+
+-- the Packet Identifier that this event closes: a PUBACK is received (MQTT 5.0, section 4.3.2)
+abbrev pub closer_of : Note → Option ℕ
+closer_of note = settled_identifier (received_packet note)
+
+-- there is an identifier, and it is this one
+abbrev pub is_id : ℕ → Option ℕ → Bool
+is_id i None = false
+is_id i (Some j) = i == j
+
+-- there is an identifier, and it passes the test
+abbrev pub any_id : (ℕ → Bool) → Option ℕ → Bool
+any_id test None = false
+any_id test (Some i) = test i
+
+-- PUBLISH and its acknowledgements need a session (MQTT 5.0, section 3.1.2.4)
+abbrev pub is_session_packet : Option PacketNote → Bool
+is_session_packet (Some (Publish identifier qos duplicate)) = true
+is_session_packet (Some (Puback identifier code)) = true
+is_session_packet _ = false
+
+-- a session packet of either direction
+abbrev pub needs_session : Note → Bool
+needs_session (Sent (Packet p)) = is_session_packet (Some p)
+needs_session (Recv (Packet p)) = is_session_packet (Some p)
+needs_session _ = false

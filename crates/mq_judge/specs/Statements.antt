@@ -1,0 +1,107 @@
+-- The chosen statements: whom each binds, where it is judged, and where it is false.
+use Rattle.std.specs.Prelude.{ℕ, Bool, true, false, ◌&&◌, List, [], ◌∷◌, Option, Some, None, option_map}
+use denote.Enum.Bare.{sameb}
+use Rattle.mq_judge.specs.declared.packet.kinds.PacketRule.{PacketRule}
+use Rattle.mq_judge.specs.declared.packet.kinds.PacketRule.TheVariants as packets
+use Rattle.mq_judge.specs.declared.packet.kinds.BodyFault.{BodyFault}
+use Rattle.mq_judge.specs.declared.rules.role.Role.{Role}
+use Rattle.mq_judge.specs.declared.rules.role.Tested.{Tested}
+use Rattle.mq_judge.specs.declared.rules.rule.Rule.{Rule}
+use Rattle.mq_judge.specs.declared.rules.rule.Rule.TheVariants.{W03, W04, W05, W06, W09, S01}
+use Rattle.mq_judge.specs.contracts.rules.rule.Rule.{the_type}
+use Rattle.mq_judge.specs.declared.rules.note.Note.{Note}
+use Rattle.mq_judge.specs.declared.rules.note.Note.TheVariants.{Sent}
+use Rattle.mq_judge.specs.declared.rules.note.ItemNote.TheVariants.{Bad, Lost}
+use Rattle.mq_judge.specs.declared.rules.note.Seen.{Seen}
+use Rattle.mq_judge.specs.Moments.{moment, since}
+use Rattle.mq_judge.specs.Notes.{opener_of, closer_of, is_id, any_id}
+use Rattle.mq_judge.specs.Connections.{session, is_accepted_at}
+
+-- the statements, in the order of reports
+abbrev pub all_rules : List Rule
+all_rules = W03 ∷ W04 ∷ W05 ∷ W06 ∷ W09 ∷ S01 ∷ []
+
+-- a W statement is on the bytes of one packet
+abbrev pub is_on_bytes : Rule → Bool
+is_on_bytes W03 = true
+is_on_bytes W04 = true
+is_on_bytes W05 = true
+is_on_bytes W06 = true
+is_on_bytes W09 = true
+is_on_bytes S01 = false
+
+-- the rule on a packet's bytes, as a statement
+abbrev pub statement_of : PacketRule → Rule
+statement_of packets.W03 = W03
+statement_of packets.W04 = W04
+statement_of packets.W05 = W05
+statement_of packets.W06 = W06
+statement_of packets.W09 = W09
+
+-- the rule that the bytes of what the tested end sent break, and where: a stream that is lost has a Remaining Length that
+-- breaks W03, and that stands at the packet's second byte
+abbrev pub broken : Note → Option BodyFault
+broken (Sent (Bad first rule at)) = Some (record { at = at; rule = rule })
+broken (Sent Lost) = Some (record { at = 1; rule = packets.W03 })
+broken _ = None
+
+-- the rule, as a statement
+abbrev pub broken_rule : Note → Option Rule
+broken_rule note = option_map (λ fault. statement_of fault.rule) (broken note)
+
+-- where in the packet it is broken
+abbrev pub broken_at : Note → Option ℕ
+broken_at note = option_map (λ fault. fault.at) (broken note)
+
+-- whether two statements are one
+abbrev pub same_rule : Rule → Rule → Bool
+same_rule a b = sameb the_type a b
+
+-- the statement is the one that the bytes of this event break
+abbrev pub is_broken_rule : Rule → Option Rule → Bool
+is_broken_rule rule None = false
+is_broken_rule rule (Some other) = same_rule rule other
+
+-- A W statement is false at what the tested end sent where its bytes break that rule.
+unfoldable pub breaks_bytes : Rule → Seen → Bool
+breaks_bytes rule e = is_broken_rule rule (broken_rule e.note)
+
+-- the Packet Identifier is in use: some opener of it is before, in the session, with no closer of it after that (MQTT 5.0, section 2.2.1)
+unfoldable pub is_in_use : ℕ → List Seen → Bool
+is_in_use i past = since (λ note. is_id i (opener_of note)) (λ note. is_id i (closer_of note)) (session past)
+
+-- S01 is false at an opener of an identifier that is in use.
+unfoldable pub breaks_S01 : Seen → List Seen → Bool
+breaks_S01 e past = any_id (λ i. is_in_use i past) (opener_of e.note)
+
+-- Whom a statement binds.
+abbrev pub binds : Rule → Role → Bool
+binds W03 role = true
+binds W04 role = true
+binds W05 role = true
+binds W06 role = true
+binds W09 role = true
+binds S01 role = true
+
+-- Whether a statement is judged at a position of the log: W on every connection, S on accepted connections alone.
+abbrev pub is_judged_at : Role → Rule → ℕ → List Seen → Bool
+is_judged_at role W03 k log = true
+is_judged_at role W04 k log = true
+is_judged_at role W05 k log = true
+is_judged_at role W06 k log = true
+is_judged_at role W09 k log = true
+is_judged_at role S01 k log = is_accepted_at role k log
+
+-- Whether a statement is false at the newest of these events.
+abbrev pub is_false_at : Rule → List Seen → Bool
+is_false_at rule [] = false
+is_false_at W03 (e ∷ past) = breaks_bytes W03 e
+is_false_at W04 (e ∷ past) = breaks_bytes W04 e
+is_false_at W05 (e ∷ past) = breaks_bytes W05 e
+is_false_at W06 (e ∷ past) = breaks_bytes W06 e
+is_false_at W09 (e ∷ past) = breaks_bytes W09 e
+is_false_at S01 (e ∷ past) = breaks_S01 e past
+
+-- The statement binds the tested end, is judged at position k of the log, and is false there.
+unfoldable pub fails : Tested → List Seen → ℕ → Rule → Bool
+fails tested log k rule = binds rule tested.role && (is_judged_at tested.role rule k log && is_false_at rule (moment log k))

@@ -1,0 +1,19 @@
+//! Judges the log of one end of an MQTT 5.0 session: which chosen statements of the protocol that end broke, and where.
+#![tactic(auto)]
+
+mod judge;
+mod laws;
+mod packet;
+mod report;
+mod rules;
+mod running;
+mod trace;
+
+pub use judge::{Judge, Options, Verdict};
+pub use report::{Form, Outcome, RunFault, write_refused, write_text};
+pub use rules::fault::Fault;
+pub use rules::faults::{Faults, Mark, Memory};
+pub use rules::role::{Role, Tested};
+pub use rules::rule::Rule;
+pub use running::run;
+pub use trace::refusal::Refusal;

@@ -1,0 +1,315 @@
+//! Reports: what is written of a verdict, or of a log that is refused.
+ghost use Rattle.std.specs.Prelude.{◌≡◌, Some, IfErr, OnOk};
+ghost use Rattle.std.specs.FinMap as map;
+ghost use Rattle.std.specs.Io.KnownBytes.{Appends};
+ghost use Rattle.mq_judge.specs.Report.{offset_text, fault_text, verdict_text, refused_line, report_on, AppendsBeginning};
+
+pub mod line;
+
+use self::line::write_line;
+use super::judge::Verdict;
+use super::rules::fault::Fault;
+use super::rules::faults::Mark;
+use super::rules::role::Role;
+use super::trace::refusal::Refusal;
+use std::fmt;
+use std::io::Write;
+
+/// The form that a report is written in.
+#[derive(Clone, Copy, Debug, PartialEq, Eq)]
+pub enum Form {
+    /// Lines of words.
+    Text,
+}
+
+/// What a report says in short.
+#[derive(Clone, Copy, Debug, PartialEq, Eq)]
+pub enum Outcome {
+    /// There are no faults.
+    Pass,
+    /// There is a fault, or more.
+    Fail,
+}
+
+/// Why there is no outcome.
+#[derive(Clone, Copy, Debug, PartialEq, Eq)]
+pub enum RunFault {
+    /// The log can't be judged.
+    Refused(Refusal),
+    /// A write failed: the writer answered an error, an interruption too, or it took no byte.
+    Write,
+    /// A growth was refused: there is no memory left.
+    Memory,
+}
+
+impl From<Refusal> for RunFault {
+    ghost use Rattle.mq_judge.specs.declared.report.RunFault.TheVariants.{Refused};
+
+    ghost from_gives = { λ refusal fault. fault ≡ Refused refusal };
+
+    fn from(refusal: Refusal) -> Self {
+        RunFault::Refused(refusal)
+    }
+}
+
+/// Where in a packet a fault is, as reports show it.
+#[derive(Clone, Copy)]
+struct Offset(Option<u32>);
+
+impl fmt::Display for Offset {
+    ghost output = { λ offset. Some (offset_text offset.0) };
+
+    fn fmt<W: fmt::Write>(&self, f: &mut fmt::Formatter<W>) -> fmt::Result {
+        match self.0 {
+            Some(offset) => write!(f, "{offset}"),
+            None => write!(f, "-"),
+        }
+    }
+}
+
+/// A fault of an end in this role, as reports show it.
+#[derive(Clone, Copy)]
+struct Found {
+    role: Role,
+    mark: Mark,
+    fault: Fault,
+}
+
+impl fmt::Display for Found {
+    ghost output = { λ found. Some (fault_text found.role found.mark found.fault) };
+
+    fn fmt<W: fmt::Write>(&self, f: &mut fmt::Formatter<W>) -> fmt::Result {
+        let Mark { position, rule } = self.mark;
+        let Fault {
+            decided,
+            record_no,
+            offset,
+        } = self.fault;
+        let code = rule.code();
+        let citation = rule.citation(self.role);
+        let offset = Offset(offset);
+        write!(
+            f,
+            "fault {position} {code} {citation} decided {decided} record {record_no} offset {offset}"
+        )
+    }
+}
+
+/// How many faults and events there are, as a report's last line shows it.
+#[derive(Clone, Copy)]
+struct Counts {
+    faults: usize,
+    events: u32,
+}
+
+impl fmt::Display for Counts {
+    ghost output = { λ counts. Some (verdict_text counts.faults counts.events) };
+
+    fn fmt<W: fmt::Write>(&self, f: &mut fmt::Formatter<W>) -> fmt::Result {
+        let Counts { faults, events } = *self;
+        if faults == 0 {
+            write!(f, "pass {events} events")
+        } else {
+            write!(f, "fail {faults} faults {events} events")
+        }
+    }
+}
+
+/// Writes the report on a verdict for an end in this role: a line for each fault, ascending by position and then by statement, and a last line.
+/// It takes no memory.
+///
+/// # Errors
+///
+/// `Write` where a write failed: the writer answered an error, an interruption too, or took no byte. A beginning of the report was written then.
+pub fn write_text<W: Write>(verdict: &Verdict, role: Role, writer: &mut W) -> Result<(), RunFault>
+    ensures ok { OnOk result (Appends (W.contents writer.old) (W.contents writer.new)
+        (report_on role (map.entries verdict.now.faults) verdict.now.events)) }
+    ensures write { IfErr result (λ fault. (fault ≡ RunFault.Write) × AppendsBeginning (W.contents writer.old) (W.contents writer.new)
+        (report_on role (map.entries verdict.now.faults) verdict.now.events)) }
+{
+    for (mark, fault) in verdict.faults.iter() {
+        let found = Found {
+            role,
+            mark: *mark,
+            fault: *fault,
+        };
+        write_line(found, writer)?;
+    }
+    let counts = Counts {
+        faults: verdict.faults.len(),
+        events: verdict.events,
+    };
+    write_line(counts, writer)
+}
+
+/// Writes the line that stands in a report's place for a log that is refused. It takes no memory.
+///
+/// # Errors
+///
+/// `Write` where a write failed: the writer answered an error, an interruption too, or took no byte. A beginning of the line was written then.
+pub fn write_refused<W: Write>(
+    refusal: &Refusal,
+    form: Form,
+    writer: &mut W,
+) -> Result<(), RunFault>
+    ensures ok { OnOk result (Appends (W.contents writer.old) (W.contents writer.new) (refused_line refusal.now)) }
+    ensures write { IfErr result (λ fault. (fault ≡ RunFault.Write)
+        × AppendsBeginning (W.contents writer.old) (W.contents writer.new) (refused_line refusal.now)) }
+{
+    match form {
+        Form::Text => write_line(*refusal, writer),
+    }
+}
+
+#[cfg(test)]
+mod tests {
+    use super::super::rules::faults::Faults;
+    use super::super::rules::rule::Rule;
+    use super::*;
+    use std::io;
+    use std::io::ErrorKind;
+    use std::process::Abort;
+
+    const S01_AT_5: (Mark, Fault) = (
+        Mark {
+            position: 5,
+            rule: Rule::S01,
+        },
+        Fault {
+            decided: 5,
+            record_no: 5,
+            offset: None,
+        },
+    );
+
+    const W09_AT_5: (Mark, Fault) = (
+        Mark {
+            position: 5,
+            rule: Rule::W09,
+        },
+        Fault {
+            decided: 5,
+            record_no: 13,
+            offset: Some(5),
+        },
+    );
+
+    const W03_AT_4: (Mark, Fault) = (
+        Mark {
+            position: 4,
+            rule: Rule::W03,
+        },
+        Fault {
+            decided: 4,
+            record_no: 4,
+            offset: Some(1),
+        },
+    );
+
+    const THREE_FAULTS: &str = "fault 4 W03 MQTT-1.5.5-1 decided 4 record 4 offset 1\n\
+        fault 5 W09 sec-2.2.1 decided 5 record 13 offset 5\n\
+        fault 5 S01 MQTT-2.2.1-3 decided 5 record 5 offset -\n\
+        fail 3 faults 6 events\n";
+
+    fn verdict_of(
+        rt: &(impl Abort + AllocGlobal),
+        events: u32,
+        found: &[(Mark, Fault)],
+    ) -> Verdict {
+        let mut faults = Faults::new(rt.alloc());
+        for (mark, fault) in found {
+            assert!(rt; faults.add(*mark, *fault).is_ok());
+        }
+        Verdict { events, faults }
+    }
+
+    /// Takes this many bytes, at most three at a time, and then fails: with an error of this kind, or by taking none.
+    #[derive(Drop)]
+    struct Failing {
+        taken: Vec<u8>,
+        room: usize,
+        error: Option<ErrorKind>,
+    }
+
+    impl Write for Failing {
+        fn write(&mut self, bytes: &[u8]) -> io::Result<usize> {
+            let count = bytes.len().min(self.room).min(3);
+            if count == 0 {
+                return match self.error {
+                    Some(kind) => Err(io::Error::from(kind)),
+                    None => Ok(0),
+                };
+            }
+            self.taken.extend_from_slice(&bytes[..count])?;
+            self.room -= count;
+            Ok(count)
+        }
+
+        fn flush(&mut self) -> io::Result<()> {
+            Ok(())
+        }
+    }
+
+    #[test]
+    fn writes_a_line_for_each_fault_and_a_last_line(rt: HostRuntime) {
+        let found = [S01_AT_5, W09_AT_5, W03_AT_4];
+        for (role, count, text) in [
+            (Role::Client, 0, "pass 6 events\n"),
+            (
+                Role::Client,
+                1,
+                "fault 5 S01 MQTT-2.2.1-3 decided 5 record 5 offset -\nfail 1 faults 6 events\n",
+            ),
+            (
+                Role::Server,
+                1,
+                "fault 5 S01 MQTT-2.2.1-4 decided 5 record 5 offset -\nfail 1 faults 6 events\n",
+            ),
+            (Role::Client, 3, THREE_FAULTS),
+        ] {
+            let mut written = Vec::new(rt.alloc());
+            let verdict = verdict_of(&rt, 6, &found[..count]);
+            assert_eq!(rt; write_text(&verdict, role, &mut written), Ok(()));
+            assert!(rt; written.as_slice() == text.as_bytes(), "{text}");
+        }
+    }
+
+    #[test]
+    fn writes_a_refusal(rt: HostRuntime) {
+        for (refusal, text) in [
+            (Refusal::Cut(7), "refused 10 Cut at 7\n"),
+            (Refusal::Nested(13), "refused 7 Nested at 13\n"),
+            (Refusal::OtherVersion(31), "refused 12 OtherVersion at 31\n"),
+            (Refusal::Early(112), "refused 13 Early at 112\n"),
+            (
+                Refusal::ReleaseUnrecorded(u64::MAX),
+                "refused 9 ReleaseUnrecorded at 18446744073709551615\n",
+            ),
+        ] {
+            let mut written = Vec::new(rt.alloc());
+            assert_eq!(rt; write_refused(&refusal, Form::Text, &mut written), Ok(()));
+            assert!(rt; written.as_slice() == text.as_bytes(), "{text}");
+        }
+    }
+
+    #[test]
+    fn stops_where_the_writer_fails(rt: HostRuntime) {
+        let text = THREE_FAULTS.as_bytes();
+        let verdict = verdict_of(&rt, 6, &[W03_AT_4, W09_AT_5, S01_AT_5]);
+        for error in [None, Some(ErrorKind::Interrupted), Some(ErrorKind::Other)] {
+            for room in 0..text.len() + 1 {
+                let mut writer = Failing {
+                    taken: Vec::new(rt.alloc()),
+                    room,
+                    error,
+                };
+                let written = write_text(&verdict, Role::Client, &mut writer);
+                assert_eq!(rt; written.is_ok(), room == text.len(), "{room}");
+                assert!(rt; writer.taken.as_slice() == &text[..room], "{room}");
+                if let Err(fault) = written {
+                    assert_eq!(rt; fault, RunFault::Write, "{room}");
+                }
+            }
+        }
+    }
+}

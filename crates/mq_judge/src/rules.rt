@@ -1,0 +1,9 @@
+//! The chosen statements of MQTT 5.0, and where one is false.
+
+pub mod fault;
+pub mod faults;
+pub mod laws;
+pub mod note;
+pub mod plain;
+pub mod role;
+pub mod rule;

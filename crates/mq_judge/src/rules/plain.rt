@@ -1,0 +1,217 @@
+//! The plain evaluator, which may look back over the whole list of events.
+ghost use Rattle.std.specs.Prelude.{◌≡◌, ℕ, ◌==◌, ◌&&◌, cond, [], ◌∷◌, Some, None, reverse, OnOk, OnErr};
+ghost use Rattle.mq_judge.specs.declared.rules.rule.Rule.{Rule};
+ghost use Rattle.mq_judge.specs.Moments.{IsPlaced, since, or_else};
+ghost use Rattle.mq_judge.specs.Notes.{is_open as opens_connection, opener_of, closer_of, connack_of, is_id, any_id};
+ghost use Rattle.mq_judge.specs.Connections.{accepts, IsInOrder};
+ghost use Rattle.mq_judge.specs.Statements.{breaks_bytes};
+ghost use Rattle.mq_judge.specs.Faults.{told, fault_in, GrowsWithin};
+ghost use Rattle.mq_judge.specs.Marks.{fault_at};
+
+use super::fault::Fault;
+use super::faults::{Faults, Mark, Memory};
+use super::note::{Note, Seen};
+use super::role::{Role, Tested};
+use super::rule::Rule;
+
+/// Judges each event by what stands before it in the list. A mark that the faults have already keeps its fault. The faults are the right ones where each event
+/// has its place in the list as its position, and each session packet stands after its connection's CONNACK, as in every log that isn't refused.
+///
+/// # Errors
+///
+/// `Memory` where room for a fault was refused. The faults may then have got some of the log's, and no others.
+pub fn judge_all(tested: Tested, seen: &[Seen], faults: &mut Faults) -> Result<(), Memory>
+    ensures ok { IsPlaced (reverse seen.now) → IsInOrder tested.role (reverse seen.now) → OnOk result ((k : ℕ) (rule : Rule) → fault_at faults.new k rule ≡ or_else (fault_at faults.old k rule) (fault_in tested (reverse seen.now) k rule)) }
+    ensures memory { IsPlaced (reverse seen.now) → IsInOrder tested.role (reverse seen.now) → OnErr result (GrowsWithin tested (reverse seen.now) faults.old faults.new) }
+{
+    let mut start = 0;
+    let mut decision = None;
+    for (i, event) in seen.iter().enumerate() {
+        judge_bytes(event, faults)?;
+        let connection = &seen[start..i];
+        let broken = breaks_s01(decision, connection, &event.note);
+        faults.judge(Rule::S01, event.place, broken)?;
+        start = if event.note.is_open() { i } else { start };
+        decision = decision_after(decision, tested.role, &event.note);
+    }
+    Ok(())
+}
+
+/// Judges the W statements at an event: they look at its bytes alone.
+///
+/// # Errors
+///
+/// `Memory` where room for a fault was refused.
+fn judge_bytes(event: &Seen, faults: &mut Faults) -> Result<(), Memory>
+    ensures ok { OnOk result ((k : ℕ) (rule : Rule) → fault_at faults.new k rule ≡ or_else (fault_at faults.old k rule) (cond ((k == event.now.place.position) && breaks_bytes rule event.now) (Some (told (event.now ∷ []) rule k)) None)) }
+    ensures unchanged { OnErr result (faults.new ≡ faults.old) }
+{
+    let Some(broken) = event.note.broken() else {
+        return Ok(());
+    };
+    let mark = Mark {
+        position: event.place.position,
+        rule: Rule::of(broken.rule),
+    };
+    faults.add(mark, Fault::at_once(event.place, Some(broken.at)))?;
+    Ok(())
+}
+
+/// Whether an event breaks S01, on a connection with this decision whose events before it are these.
+fn breaks_s01(decision: Option<u8>, connection: &[Seen], note: &Note) -> bool
+    ensures { result ≡ (accepts decision && any_id (λ i. since (λ n. is_id i (opener_of n)) (λ n. is_id i (closer_of n)) (reverse connection.now)) (opener_of note.now)) }
+{
+    match note.opener() {
+        Some(identifier) => matches!(decision, Some(0)) && is_in_use(identifier, connection),
+        None => false,
+    }
+}
+
+/// Whether some event opens the identifier, and none after it closes it.
+fn is_in_use(identifier: u16, connection: &[Seen]) -> bool
+    ensures { result ≡ since (λ n. is_id identifier (opener_of n)) (λ n. is_id identifier (closer_of n)) (reverse connection.now) }
+{
+    let mut earlier = connection;
+    while let Some((event, rest)) = earlier.split_last() {
+        if event.note.opens(identifier) {
+            return true;
+        }
+        if event.note.closes(identifier) {
+            return false;
+        }
+        earlier = rest;
+    }
+    false
+}
+
+/// The Reason Code of the latest connection's CONNACK, if that has come with this event.
+fn decision_after(decision: Option<u8>, role: Role, note: &Note) -> Option<u8>
+    ensures { result ≡ or_else (cond (opens_connection note.now) None decision) (connack_of role note.now) }
+{
+    let before = if note.is_open() { None } else { decision };
+    before.or(note.connack_code(role))
+}
+
+#[cfg(test)]
+mod tests {
+    use super::super::super::packet::kinds::{PacketRule, Qos};
+    use super::super::super::trace::place::Place3;
+    use super::super::note::{ItemNote, PacketNote};
+    use super::*;
+
+    /// Event number `position`, which each have a record of their own.
+    fn seen(position: u32, note: Note) -> Seen
+        ensures { result ≡ record { place = record { position = position; record_no = position }; note = note } }
+    {
+        Seen {
+            place: Place3 {
+                position,
+                record_no: position,
+            },
+            note,
+        }
+    }
+
+    const CONNECT: Note = Note::Sent(ItemNote::Packet(PacketNote::Connect));
+
+    const CONNACK: Note = Note::Recv(ItemNote::Packet(PacketNote::Connack {
+        session_present: false,
+        code: 0,
+    }));
+
+    const PUBLISH: Note = Note::Sent(ItemNote::Packet(PacketNote::Publish {
+        identifier: Some(1),
+        qos: Qos::AtLeastOnce,
+        duplicate: false,
+    }));
+
+    const PUBACK: Note = Note::Recv(ItemNote::Packet(PacketNote::Puback {
+        identifier: 1,
+        code: 0,
+    }));
+
+    const BAD: ItemNote = ItemNote::Bad {
+        first: 0x32,
+        rule: PacketRule::W04,
+        at: 2,
+    };
+
+    const CLIENT: Tested = Tested {
+        role: Role::Client,
+        releases: false,
+    };
+
+    fn fault_of(position: u32, offset: Option<u32>) -> Fault {
+        Fault {
+            decided: position,
+            record_no: position,
+            offset,
+        }
+    }
+
+    #[test]
+    fn one_opener_breaks_nothing(rt: HostRuntime) {
+        let log = [
+            seen(1, Note::Open),
+            seen(2, CONNECT),
+            seen(3, CONNACK),
+            seen(4, PUBLISH),
+        ];
+        let mut faults = Faults::new(rt.alloc());
+        assert!(rt; judge_all(CLIENT, &log, &mut faults) == Ok(()));
+        assert!(rt; faults.is_empty());
+    }
+
+    #[test]
+    fn second_opener_breaks_s01(rt: HostRuntime) {
+        let log = [
+            seen(1, Note::Open),
+            seen(2, CONNECT),
+            seen(3, CONNACK),
+            seen(4, PUBLISH),
+            seen(5, PUBLISH),
+        ];
+        let mut faults = Faults::new(rt.alloc());
+        assert!(rt; judge_all(CLIENT, &log, &mut faults) == Ok(()));
+        assert_eq!(rt; faults.len(), 1);
+        let mark = Mark {
+            position: 5,
+            rule: Rule::S01,
+        };
+        assert_eq!(rt; faults.get(mark), Some(fault_of(5, None)));
+    }
+
+    #[test]
+    fn closer_frees_the_identifier(rt: HostRuntime) {
+        let log = [
+            seen(1, Note::Open),
+            seen(2, CONNECT),
+            seen(3, CONNACK),
+            seen(4, PUBLISH),
+            seen(5, PUBACK),
+            seen(6, PUBLISH),
+        ];
+        let mut faults = Faults::new(rt.alloc());
+        assert!(rt; judge_all(CLIENT, &log, &mut faults) == Ok(()));
+        assert!(rt; faults.is_empty());
+    }
+
+    #[test]
+    fn sent_bytes_are_judged(rt: HostRuntime) {
+        let log = [
+            seen(1, Note::Open),
+            seen(2, Note::Sent(BAD)),
+            seen(3, Note::Recv(BAD)),
+            seen(4, Note::Recv(ItemNote::Lost)),
+            seen(5, Note::Sent(ItemNote::Lost)),
+        ];
+        let mut faults = Faults::new(rt.alloc());
+        assert!(rt; judge_all(CLIENT, &log, &mut faults) == Ok(()));
+        assert_eq!(rt; faults.len(), 2);
+        let mark = |position, rule| Mark { position, rule };
+        assert_eq!(rt; faults.get(mark(2, Rule::W04)), Some(fault_of(2, Some(2))));
+        assert_eq!(rt; faults.get(mark(5, Rule::W03)), Some(fault_of(5, Some(1))));
+        let first = faults.iter().next().map(|(mark, _)| *mark);
+        assert_eq!(rt; first, Some(mark(2, Rule::W04)));
+    }
+}

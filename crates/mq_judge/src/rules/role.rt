@@ -1,0 +1,19 @@
+//! The end that is judged.
+
+/// An end of an MQTT session.
+#[derive(Clone, Copy, Debug, PartialEq, Eq)]
+pub enum Role {
+    /// The Client (MQTT 5.0, section 1.2).
+    Client,
+    /// The Server (MQTT 5.0, section 1.2).
+    Server,
+}
+
+/// The tested end, as the log's header names it.
+#[derive(Clone, Copy, Debug, PartialEq, Eq)]
+pub struct Tested {
+    /// Which end it is.
+    pub role: Role,
+    /// Whether the log records the releases of QoS 2 messages.
+    pub releases: bool,
+}

@@ -1,0 +1,226 @@
+//! Judges a log from a reader, and writes the report on it.
+ghost use Rattle.std.specs.Prelude.{◌≡◌, ◌==◌, [], IfSome, IfErr, OnOk, Err, if◌then◌else◌};
+ghost use Rattle.std.specs.FinMap as map;
+ghost use Rattle.std.specs.Io.KnownBytes.{Appends};
+ghost use Rattle.mq_judge.specs.declared.report.RunFault.TheVariants as run_faults;
+ghost use Rattle.mq_judge.specs.declared.trace.refusal.Refusal.{Refusal as AnyRefusal};
+ghost use Rattle.mq_judge.specs.Judging.{Follows};
+ghost use Rattle.mq_judge.specs.Report.{report_on, AppendsBeginning};
+ghost use Rattle.mq_judge.specs.Running.{RunsOver, TookAll, StoppedAt};
+
+use super::judge::{Judge, Options, Verdict};
+use super::report::{Form, Outcome, RunFault, write_text};
+use super::rules::role::Role;
+use super::trace::refusal::Refusal;
+use std::alloc::Global;
+use std::io::{ErrorKind, Read, Write};
+
+/// Judges the log that a reader gives, and writes the report on it.
+///
+/// # Errors
+///
+/// `Refused` where the log is refused, where the reader fails, where it hasn't ended after 4,294,967,295 turns, or where the judge is refused memory. Nothing was written then.
+/// `Write` where a write failed. A beginning of the report was written then.
+pub fn run<R: Read, W: Write>(
+    alloc: Global,
+    reader: &mut R,
+    writer: &mut W,
+    form: Form,
+) -> Result<Outcome, RunFault>
+    ensures runs { IfSome (R.remaining reader.old) (λ log. RunsOver log result (W.contents writer.old) (W.contents writer.new)) }
+    ensures unwritten { (refusal : AnyRefusal) → result ≡ Err (run_faults.Refused refusal) → writer.new ≡ writer.old }
+{
+    let mut judge = Judge::new(alloc, Options::default());
+    feed_all(&mut judge, reader)?;
+    let role = judge.role();
+    let verdict = judge.finish()?;
+    write_report(&verdict, role.unwrap(), form, writer)?;
+    Ok(outcome(&verdict))
+}
+
+/// Feeds a judge all that a reader gives, at most 8,192 bytes a turn. An interrupted read is tried again, in a turn of its own.
+///
+/// # Errors
+///
+/// The judge's refusal; `Read`, at how many bytes were fed, where the reader fails or hasn't ended after 4,294,967,295 turns.
+fn feed_all<R: Read>(judge: &mut Judge, reader: &mut R) -> Result<(), Refusal>
+    requires { Follows judge.old [] }
+    ensures all { OnOk result (TookAll (R.remaining reader.old) (R.remaining reader.new) judge.new) }
+    ensures limit { judge.new.limit ≡ judge.old.limit }
+    ensures stopped { IfErr result (StoppedAt (R.remaining reader.old) (R.remaining reader.new) judge.old.limit) }
+{
+    let mut buffer = [0; 8192];
+    let mut fed = 0;
+    for _turn in 0..u32::MAX {
+        match reader.read(&mut buffer) {
+            Ok(0) => return Ok(()),
+            Ok(count) => {
+                judge.feed(&buffer[..count])?;
+                fed += count as u64;
+            }
+            Err(error) => {
+                if error.kind() != ErrorKind::Interrupted {
+                    return Err(Refusal::Read(fed));
+                }
+            }
+        }
+    }
+    Err(Refusal::Read(fed))
+}
+
+/// Writes the report on a verdict in this form.
+///
+/// # Errors
+///
+/// `Write` where a write failed. A beginning of the report was written then.
+fn write_report<W: Write>(
+    verdict: &Verdict,
+    role: Role,
+    form: Form,
+    writer: &mut W,
+) -> Result<(), RunFault>
+    ensures ok { OnOk result (Appends (W.contents writer.old) (W.contents writer.new)
+        (report_on role (map.entries verdict.now.faults) verdict.now.events)) }
+    ensures write { IfErr result (λ fault. (fault ≡ RunFault.Write) × AppendsBeginning (W.contents writer.old) (W.contents writer.new)
+        (report_on role (map.entries verdict.now.faults) verdict.now.events)) }
+{
+    match form {
+        Form::Text => write_text(verdict, role, writer),
+    }
+}
+
+/// What a report on a verdict says in short.
+fn outcome(verdict: &Verdict) -> Outcome
+    ensures { result ≡ (if map.len verdict.now.faults == 0 then Outcome.Pass else Outcome.Fail) }
+{
+    if verdict.faults.is_empty() {
+        Outcome::Pass
+    } else {
+        Outcome::Fail
+    }
+}
+
+#[cfg(test)]
+mod tests {
+    use super::*;
+    use std::io;
+    use std::process::Abort;
+
+    const HEADER: &[u8] = b"MQTR\x01\x00\x01\x00";
+
+    /// Gives these bytes, this many a turn, and then fails or ends. Each read is interrupted once before it gives anything.
+    #[derive(Drop)]
+    struct Halting<'a> {
+        left: &'a [u8],
+        size: usize,
+        fails: bool,
+        interrupted: bool,
+    }
+
+    impl Read for Halting<'_> {
+        fn read(&mut self, buffer: &mut [u8]) -> io::Result<usize> {
+            self.interrupted = !self.interrupted;
+            if self.interrupted {
+                return Err(io::Error::from(ErrorKind::Interrupted));
+            }
+            if self.left.is_empty() && self.fails {
+                return Err(io::Error::from(ErrorKind::Other));
+            }
+            let count = self.left.len().min(self.size).min(buffer.len());
+            buffer[..count].copy_from_slice(&self.left[..count]);
+            self.left = &self.left[count..];
+            Ok(count)
+        }
+    }
+
+    fn reader_of(left: &[u8], size: usize, fails: bool) -> Halting<'_> {
+        Halting {
+            left,
+            size,
+            fails,
+            interrupted: false,
+        }
+    }
+
+    /// The answer to a log and what is written, the same for each size of a turn.
+    fn assert_runs(
+        rt: &(impl Abort + AllocGlobal),
+        log: &[u8],
+        answer: Result<Outcome, RunFault>,
+        text: &str,
+    ) {
+        for size in [1, 7, 8192] {
+            let mut written = Vec::new(rt.alloc());
+            let mut reader = reader_of(log, size, false);
+            let ran = run(rt.alloc(), &mut reader, &mut written, Form::Text);
+            assert_eq!(rt; ran, answer, "in turns of {size}");
+            assert!(rt; written.as_slice() == text.as_bytes(), "in turns of {size}");
+        }
+    }
+
+    /// A log of a connection that is opened, a CONNECT, a CONNACK of code 0 and what follows.
+    fn session(rt: &(impl Abort + AllocGlobal), rest: &[u8]) -> Vec<u8> {
+        let mut log = Vec::new(rt.alloc());
+        for part in [
+            HEADER,
+            b"\x01\x00\x00\x00\x00",
+            b"\x02\x00\x00\x00\x0f\x10\x0d\x00\x04MQTT\x05\x02\x00\x3c\x00\x00\x00",
+            b"\x03\x00\x00\x00\x05\x20\x03\x00\x00\x00",
+            rest,
+        ] {
+            assert!(rt; log.extend_from_slice(part).is_ok());
+        }
+        log
+    }
+
+    #[test]
+    fn passes_a_header_alone(rt: HostRuntime) {
+        assert_runs(&rt, HEADER, Ok(Outcome::Pass), "pass 0 events\n");
+    }
+
+    #[test]
+    fn refuses_a_log_that_is_cut_short(rt: HostRuntime) {
+        let cut = RunFault::Refused(Refusal::Cut(7));
+        assert_runs(&rt, &HEADER[..7], Err(cut), "");
+    }
+
+    #[test]
+    fn reports_an_identifier_of_0(rt: HostRuntime) {
+        let log = session(&rt, b"\x02\x00\x00\x00\x09\x32\x07\x00\x01a\x00\x00\x00x");
+        let text = "fault 4 W09 sec-2.2.1 decided 4 record 4 offset 5\nfail 1 faults 4 events\n";
+        assert_runs(&rt, log.as_slice(), Ok(Outcome::Fail), text);
+    }
+
+    #[test]
+    fn reports_an_identifier_that_is_in_use(rt: HostRuntime) {
+        let log = session(
+            &rt,
+            b"\x02\x00\x00\x00\x09\x32\x07\x00\x01a\x00\x01\x00x\x02\x00\x00\x00\x09\x32\x07\x00\x01a\x00\x01\x00x\x03\x00\x00\x00\x04\x40\x02\x00\x01",
+        );
+        let text = "fault 5 S01 MQTT-2.2.1-3 decided 5 record 5 offset -\nfail 1 faults 6 events\n";
+        assert_runs(&rt, log.as_slice(), Ok(Outcome::Fail), text);
+    }
+
+    #[test]
+    fn refuses_where_the_reader_fails(rt: HostRuntime) {
+        let log = session(&rt, b"\x05\x00\x00\x00\x00");
+        for count in 0..log.len() + 1 {
+            let mut written = Vec::new(rt.alloc());
+            let mut reader = reader_of(&log[..count], 5, true);
+            let ran = run(rt.alloc(), &mut reader, &mut written, Form::Text);
+            let refusal = Refusal::Read(count as u64);
+            assert_eq!(rt; ran, Err(RunFault::Refused(refusal)));
+            assert!(rt; written.is_empty());
+        }
+    }
+
+    #[test]
+    fn stops_where_the_writer_fails(rt: HostRuntime) {
+        let mut room = [0; 10];
+        let mut writer = &mut room[..];
+        let mut reader = reader_of(HEADER, 8, false);
+        let ran = run(rt.alloc(), &mut reader, &mut writer, Form::Text);
+        assert_eq!(rt; ran, Err(RunFault::Write));
+        assert_eq!(rt; &room, b"pass 0 eve");
+    }
+}
