@@ -1,0 +1,35 @@
+-- What a status for a refusal tells of the log.
+use Rattle.std.proofs.Common.{◌≡◌, ℕ, List, length, Option, Some, None, Result, Ok, Err, IfOk, IfSome, OnOk, subst, inl, inr}
+use Rattle.std.specs.Io.KnownBytes.{Appends}
+use Rattle.mq_judge.specs.Report.{refused_line}
+use Rattle.mq_judge.specs.Running.{IsFailureWithin, RefusesLog, RunsOver}
+use Rattle.mq_judge.specs.declared.Refusal.{Refusal}
+use Rattle.mq_judge.specs.declared.Refusal.TheVariants as refusals
+use Rattle.mq_judge.specs.declared.RunFault.TheVariants.{Refused}
+use Rattle.mq_cli.specs.Told.{IsOfLog, IsRefusedBy}
+
+-- what holds of a log holds of what a reader has left, where that is known
+for_log : (remaining : Option (List ℕ)) (P Q : List ℕ → Type 0) → ((log : List ℕ) → P log → Q log) → IfSome remaining P → IfSome remaining Q
+for_log None P Q f h = tt
+for_log (Some log) P Q f h = f log h
+
+-- neither a failure of reading nor want of memory lies in the log
+no_failure : (len : ℕ) (refusal : Refusal) → IsOfLog refusal → IsFailureWithin len refusal → ⊥
+no_failure len (refusals.Read at) own h = own
+no_failure len (refusals.Memory at) own h = own
+no_failure len _ own h = h
+
+-- such a refusal is the log's own
+own_refusal : (log : List ℕ) (refusal : Refusal) → IsOfLog refusal → RefusesLog log refusal → IsRefusedBy log refusal
+own_refusal log refusal own (inl failed) = absurd (no_failure (length log) refusal own failed)
+own_refusal log refusal own (inr h) = h
+
+-- a status for a refusal says which one the log's own is, and that its line was written and nothing else
+pub refusal_is_told : {E : Type 0} (remaining old middle new : Option (List ℕ)) (refusal : Refusal) (status : Result ℕ E)
+    → IfSome remaining (λ log. RunsOver log (Err (Refused refusal)) old middle) → middle ≡ old
+    → OnOk status (IsOfLog refusal) → OnOk status (Appends middle new (refused_line refusal))
+    → IfOk status (λ s. s ≡ 2 → IfSome remaining (λ log. (r : Refusal) × IsRefusedBy log r × Appends old new (refused_line r)))
+refusal_is_told remaining old middle new refusal (Ok s) ran unwritten own written = λ is.
+    for_log remaining (λ log. RunsOver log (Err (Refused refusal)) old middle) (λ log. (r : Refusal) × IsRefusedBy log r × Appends old new (refused_line r))
+    (λ log h. (refusal, own_refusal log refusal own h, subst (λ v. Appends v new (refused_line refusal)) unwritten written)) ran
+refusal_is_told remaining old middle new refusal (Err e) ran unwritten own written = tt

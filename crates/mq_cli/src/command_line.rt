@@ -1,0 +1,105 @@
+//! The words of a command line, read into a task.
+ghost use Rattle.std.specs.Prelude.{◌≡◌, [], Some, IfOk, IfErr, map, option_map};
+ghost use Rattle.clap.specs.Words.{HasKind, Kinds, app_of, subcommand_of, subcommand_rows_of};
+ghost use Rattle.mq_cli.specs.CommandLine.{StopsFor, check_request, faults_of, mqjudge};
+ghost use Rattle.mq_cli.specs.CommandLine.{request_by, request_of};
+
+use clap::error::ErrorKind;
+use clap::{Arg, ArgMatches, Command, Error};
+use std::alloc::{AllocError, Global};
+
+/// What the program is asked to do.
+#[derive(Debug, Drop)]
+pub enum Task {
+    /// Judge the log in `file`, or on standard input where there is none.
+    Check {
+        /// The log's path.
+        file: Option<String>,
+        /// Report as JSON in place of text.
+        json: bool,
+    },
+}
+
+/// Why there is no task to do.
+#[derive(Debug, Drop)]
+pub enum Stop {
+    /// Help or the version was asked for: the text is for standard output, with status 0.
+    Help(String),
+    /// The words aren't a command line of the program: the text says why, and is for standard
+    /// error, with status 3.
+    Usage(String),
+    /// Memory ran out.
+    Memory,
+}
+
+/// Reads the words of a command line, `mqjudge check [FILE]`, of which the first is the program's
+/// name. A request for help or the version comes as a `Stop`, and so do words that are no such
+/// command line.
+pub fn parse(alloc: Global, words: &[&str]) -> Result<Task, Stop>
+    ensures taken { IfOk result (λ _. faults_of (map (λ word. word.now) words.now) ≡ []) }
+    ensures task { IfOk result (λ task.
+        request_of (map (λ word. word.now) words.now) ≡ Some (request_by task)) }
+    ensures stop { IfErr result (StopsFor (faults_of (map (λ word. word.now) words.now))) }
+{
+    match matches_of(alloc, words) {
+        Ok(matches) => match matches.subcommand_matches("check") {
+            Some(check) => check_task(alloc, check.get_str("FILE")),
+            None => unreachable!(),
+        },
+        Err(error) => Err(stop_for(alloc, &error)),
+    }
+}
+
+// What the definition of the command line makes of the words.
+fn matches_of<'a>(alloc: Global, words: &'a [&'a str]) -> Result<ArgMatches<'a>, Error>
+    ensures taken { IfOk result (λ _. faults_of (map (λ word. word.now) words.now) ≡ []) }
+    ensures met { IfOk result (λ matches.
+        subcommand_rows_of matches ≡ subcommand_of mqjudge (map (λ word. word.now) words.now)) }
+    ensures fault { IfErr result (HasKind (faults_of (map (λ word. word.now) words.now))) }
+{
+    command_line(alloc)?.try_get_matches_from(words)
+}
+
+// The definition of the command line.
+fn command_line<'a>(alloc: Global) -> Result<Command<'a>, AllocError>
+    ensures { IfOk result (λ command. app_of command ≡ mqjudge) }
+{
+    let file = Arg::new(alloc, "FILE").help("The log; standard input where it is left out");
+    let check = Command::new(alloc, "check")
+        .about("Judges a log and reports each fault")
+        .arg(file)?;
+    Command::new(alloc, "mqjudge")
+        .about("Judges the log of one end of an MQTT 5.0 session")
+        .version("0.1.0")
+        .subcommand_required(true)
+        .subcommand(check)
+}
+
+// The task of `check` on this operand.
+fn check_task(alloc: Global, file: Option<&str>) -> Result<Task, Stop>
+    ensures task { IfOk result (λ task.
+        request_by task ≡ check_request (option_map (λ path. path.now) file.entry)) }
+    ensures stop { IfErr result (λ stop. stop ≡ Stop.Memory) }
+{
+    let file = match file {
+        Some(path) => match String::from_str(alloc, path) {
+            Ok(path) => Some(path),
+            Err(_) => return Err(Stop::Memory),
+        },
+        None => None,
+    };
+    Ok(Task::Check { file, json: false })
+}
+
+// What the caller is told where the words give no task.
+fn stop_for(alloc: Global, error: &Error) -> Stop
+    ensures { (kinds : Kinds) → HasKind kinds error.now → StopsFor kinds result }
+{
+    match error.kind() {
+        ErrorKind::OutOfMemory => Stop::Memory,
+        ErrorKind::DisplayHelp | ErrorKind::DisplayVersion => {
+            error.to_string(alloc).map_or(Stop::Memory, Stop::Help)
+        }
+        _ => error.to_string(alloc).map_or(Stop::Memory, Stop::Usage),
+    }
+}

@@ -1,0 +1,84 @@
+//! `mqjudge` judges the log of one end of an MQTT 5.0 session.
+#![tactic(auto)]
+
+mod command_line;
+mod failure;
+mod tasks;
+#[cfg(test)]
+mod tests;
+
+use command_line::{Stop, Task, parse};
+use failure::Failure;
+use std::alloc::Global;
+use std::env;
+use std::fs::File;
+use std::io::{self, BufReader, BufWriter, ErrorKind, Write};
+use std::process::ExitCode;
+use std::rt::{Env, Files};
+use tasks::{perform, stop};
+
+fn main(rt: HostRuntime) -> ExitCode {
+    let mut error = rt.stderr();
+    let status = match run(&rt, &mut error) {
+        Ok(status) => status,
+        Err(failure) => failure.report(&mut error),
+    };
+    ExitCode::from(status)
+}
+
+// Does what the program's arguments ask for, and gives the status to exit with.
+fn run<R: AllocGlobal + Env + Files + Input + Print, E: Write>(
+    rt: &R,
+    error: &mut E,
+) -> Result<u8, Failure> {
+    let alloc = rt.alloc();
+    let mut output = BufWriter::new(alloc, io::writer(rt)).map_err(failed_reading)?;
+    match task(rt)? {
+        Ok(task) => perform_on_log(rt, &task, &mut output, error),
+        Err(why) => Ok(stop(&why, &mut output, error)),
+    }
+}
+
+// What the program's arguments ask for.
+fn task<R: AllocGlobal + Env>(rt: &R) -> Result<Result<Task, Stop>, Failure> {
+    let alloc = rt.alloc();
+    let arguments: Vec<String> = env::args(rt)
+        .map_err(failed_reading)?
+        .collect(alloc)
+        .map_err(|_| Failure::Memory)?;
+    let words: Vec<&str> = arguments
+        .iter()
+        .map(|argument| argument.as_str())
+        .collect(alloc)
+        .map_err(|_| Failure::Memory)?;
+    Ok(parse(alloc, words.as_slice()))
+}
+
+// Does the task on the log that it names, or on standard input.
+fn perform_on_log<R: AllocGlobal + Files + Input, W: Write, E: Write>(
+    rt: &R,
+    task: &Task,
+    output: &mut W,
+    error: &mut E,
+) -> Result<u8, Failure> {
+    let alloc: Global = rt.alloc();
+    match task {
+        Task::Check {
+            file: Some(path),
+            ..
+        } => {
+            let file = File::open(rt, path.as_str()).map_err(failed_reading)?;
+            let mut input = BufReader::new(alloc, file).map_err(failed_reading)?;
+            Ok(perform(alloc, task, &mut input, output, error))
+        }
+        Task::Check { file: None, .. } => Ok(perform(alloc, task, &mut rt.reader(), output, error)),
+    }
+}
+
+// Why something couldn't be read.
+fn failed_reading(error: io::Error) -> Failure {
+    match error.kind() {
+        ErrorKind::OutOfMemory => Failure::Memory,
+        _ => Failure::Read,
+    }
+}

@@ -1,0 +1,362 @@
+use crate::command_line::{Stop, Task, parse};
+use crate::failure::{FAILED, FAULTY, MISUSED, PASSED, REFUSED};
+use crate::tasks::{perform, stop};
+use std::alloc::{AllocError, Global};
+use std::io;
+use std::io::{Cursor, ErrorKind, Read, Write};
+use std::test::Fail;
+
+const HEADER: &[u8] = b"MQTR\x01\x00\x01\x00";
+
+const OPEN: &[u8] = b"\x01\x00\x00\x00\x00";
+
+const CLOSE: &[u8] = b"\x04\x00\x00\x00\x00";
+
+const REST: &[u8] = b"\x05\x00\x00\x00\x00";
+
+const SENT_CONNECT: &[u8] = b"\x02\x00\x00\x00\x0f\x10\x0d\x00\x04MQTT\x05\x02\x00\x3c\x00\x00\x00";
+
+const RECV_CONNACK: &[u8] = b"\x03\x00\x00\x00\x05\x20\x03\x00\x00\x00";
+
+const SENT_PUBLISH: &[u8] = b"\x02\x00\x00\x00\x09\x32\x07\x00\x01a\x00\x01\x00x";
+
+const RECV_PUBACK: &[u8] = b"\x03\x00\x00\x00\x04\x40\x02\x00\x01";
+
+// A PUBLISH of QoS 1 under identifier 0.
+const SENT_UNIDENTIFIED: &[u8] = b"\x02\x00\x00\x00\x09\x32\x07\x00\x01a\x00\x00\x00x";
+
+// A CONNECT of MQTT 3.1.1.
+const SENT_OLD_CONNECT: &[u8] = b"\x02\x00\x00\x00\x0e\x10\x0c\x00\x04MQTT\x04\x02\x00\x3c\x00\x00";
+
+// A session of seven events: a message is sent and acknowledged.
+const WHOLE_LOG: &[u8] = b"MQTR\x01\x00\x01\x00\
+    \x01\x00\x00\x00\x00\
+    \x02\x00\x00\x00\x0f\x10\x0d\x00\x04MQTT\x05\x02\x00\x3c\x00\x00\x00\
+    \x03\x00\x00\x00\x05\x20\x03\x00\x00\x00\
+    \x02\x00\x00\x00\x09\x32\x07\x00\x01a\x00\x01\x00x\
+    \x03\x00\x00\x00\x04\x40\x02\x00\x01\
+    \x05\x00\x00\x00\x00\
+    \x04\x00\x00\x00\x00";
+
+// A client takes an identifier that is in use: the list of events and the faults both grow.
+const TAKEN_TWICE: &[u8] = b"MQTR\x01\x00\x01\x00\
+    \x01\x00\x00\x00\x00\
+    \x02\x00\x00\x00\x0f\x10\x0d\x00\x04MQTT\x05\x02\x00\x3c\x00\x00\x00\
+    \x03\x00\x00\x00\x05\x20\x03\x00\x00\x00\
+    \x02\x00\x00\x00\x09\x32\x07\x00\x01a\x00\x01\x00x\
+    \x02\x00\x00\x00\x09\x32\x07\x00\x01a\x00\x01\x00x\
+    \x03\x00\x00\x00\x04\x40\x02\x00\x01";
+
+// A log, in parts, and what is made of it.
+struct Row {
+    log: &'static [&'static [u8]],
+    status: u8,
+    report: &'static str,
+}
+
+static ROWS: [Row; 7] = [
+    Row {
+        log: &[HEADER],
+        status: PASSED,
+        report: "pass 0 events\n",
+    },
+    Row {
+        log: &[b"MQTR\x01\x00\x01"],
+        status: REFUSED,
+        report: "refused 10 Cut at 7\n",
+    },
+    Row {
+        log: &[WHOLE_LOG],
+        status: PASSED,
+        report: "pass 7 events\n",
+    },
+    Row {
+        log: &[
+            HEADER,
+            OPEN,
+            SENT_CONNECT,
+            RECV_CONNACK,
+            SENT_PUBLISH,
+            SENT_PUBLISH,
+            RECV_PUBACK,
+        ],
+        status: FAULTY,
+        report: "fault 5 S01 MQTT-2.2.1-3 decided 5 record 5 offset -\nfail 1 faults 6 events\n",
+    },
+    Row {
+        log: &[HEADER, OPEN, SENT_CONNECT, RECV_CONNACK, SENT_UNIDENTIFIED],
+        status: FAULTY,
+        report: "fault 4 W09 sec-2.2.1 decided 4 record 4 offset 5\nfail 1 faults 4 events\n",
+    },
+    Row {
+        log: &[HEADER, OPEN, OPEN],
+        status: REFUSED,
+        report: "refused 7 Nested at 13\n",
+    },
+    Row {
+        log: &[HEADER, OPEN, SENT_OLD_CONNECT],
+        status: REFUSED,
+        report: "refused 12 OtherVersion at 31\n",
+    },
+];
+
+// Gives one byte a call, and fails where `fails_after` bytes were given.
+#[derive(Drop)]
+struct Trickle<'a> {
+    bytes: &'a [u8],
+    fails_after: Option<usize>,
+}
+
+impl Read for Trickle<'_> {
+    fn read(&mut self, buf: &mut [u8]) -> io::Result<usize> {
+        if self.fails_after == Some(0) {
+            return Err(ErrorKind::Other.into());
+        }
+        self.fails_after = self.fails_after.map(|left| left.saturating_sub(1));
+        if self.bytes.is_empty() || buf.is_empty() {
+            return Ok(0);
+        }
+        buf[0] = self.bytes[0];
+        self.bytes = &self.bytes[1..];
+        Ok(1)
+    }
+}
+
+// Takes `room` bytes and then fails, as does its flush where `stays` says so.
+#[derive(Drop)]
+struct Narrow {
+    room: usize,
+    stays: bool,
+}
+
+impl Write for Narrow {
+    fn write(&mut self, buf: &[u8]) -> io::Result<usize> {
+        let taken = buf.len().min(self.room);
+        if taken == 0 {
+            return Err(ErrorKind::StorageFull.into());
+        }
+        self.room -= taken;
+        Ok(taken)
+    }
+
+    fn flush(&mut self) -> io::Result<()> {
+        if self.stays {
+            return Err(ErrorKind::BrokenPipe.into());
+        }
+        Ok(())
+    }
+}
+
+fn joined(alloc: Global, parts: &[&[u8]]) -> Result<Vec<u8>, AllocError> {
+    let mut whole = Vec::new(alloc);
+    for part in parts {
+        whole.extend_from_slice(part)?;
+    }
+    Ok(whole)
+}
+
+// What comes of a check of this input.
+#[derive(Drop)]
+struct Told {
+    status: u8,
+    output: Vec<u8>,
+    error: Vec<u8>,
+}
+
+fn told_of<R: Read>(alloc: Global, input: &mut R) -> Result<Told, Stop> {
+    let task = parse(alloc, &["mqjudge", "check"])?;
+    let mut output = Vec::new(alloc);
+    let mut error = Vec::new(alloc);
+    let status = perform(alloc, &task, input, &mut output, &mut error);
+    Ok(Told {
+        status,
+        output,
+        error,
+    })
+}
+
+#[test]
+fn judges_whole_logs(rt: HostRuntime) -> Result<(), Fail> {
+    for row in &ROWS {
+        let log = joined(rt.alloc(), row.log)?;
+        let told = told_of(rt.alloc(), &mut log.as_slice())?;
+        assert_eq!(rt; told.output.as_slice(), row.report.as_bytes());
+        assert_eq!(rt; told.status, row.status);
+        assert!(rt; told.error.is_empty());
+    }
+    Ok(())
+}
+
+#[test]
+fn judges_logs_byte_by_byte(rt: HostRuntime) -> Result<(), Fail> {
+    for row in &ROWS {
+        let log = joined(rt.alloc(), row.log)?;
+        let mut input = Trickle {
+            bytes: log.as_slice(),
+            fails_after: None,
+        };
+        let told = told_of(rt.alloc(), &mut input)?;
+        assert_eq!(rt; told.output.as_slice(), row.report.as_bytes());
+        assert_eq!(rt; told.status, row.status);
+        assert!(rt; told.error.is_empty());
+    }
+    Ok(())
+}
+
+#[test]
+fn tells_of_a_failed_read(rt: HostRuntime) -> Result<(), Fail> {
+    for fails_after in [0, 3, 8] {
+        let mut input = Trickle {
+            bytes: HEADER,
+            fails_after: Some(fails_after),
+        };
+        let told = told_of(rt.alloc(), &mut input)?;
+        assert_eq!(rt; told.status, FAILED);
+        assert_eq!(rt; told.error.as_slice(), &b"mqjudge: read failed\n"[..]);
+        assert!(rt; told.output.is_empty());
+    }
+    Ok(())
+}
+
+#[test]
+fn tells_of_a_failed_write(rt: HostRuntime) -> Result<(), Fail> {
+    let task = parse(rt.alloc(), &["mqjudge", "check"])?;
+    let short = &HEADER[..7];
+    for (log, room, stays) in [
+        (HEADER, 0, false),
+        (HEADER, 5, false),
+        (HEADER, 100, true),
+        (short, 0, false),
+        (short, 100, true),
+    ] {
+        let mut output = Narrow { room, stays };
+        let mut error = Vec::new(rt.alloc());
+        let status = perform(rt.alloc(), &task, &mut &log[..], &mut output, &mut error);
+        assert_eq!(rt; status, FAILED);
+        assert_eq!(rt; error.as_slice(), &b"mqjudge: write failed\n"[..]);
+    }
+    Ok(())
+}
+
+// With each allocation failing in turn, the answer is the log's, or that memory ran out, and nothing else.
+#[test]
+fn tells_of_want_of_memory(rt: HostRuntime) {
+    let mut output = Cursor::new([0; 128]);
+    let mut error = Cursor::new([0; 64]);
+    let status = match parse(rt.alloc(), &["mqjudge", "check"]) {
+        Ok(task) => perform(
+            rt.alloc(),
+            &task,
+            &mut &TAKEN_TWICE[..],
+            &mut output,
+            &mut error,
+        ),
+        Err(why) => stop(&why, &mut output, &mut error),
+    };
+    let (report, complaint): (&[u8], &[u8]) = if status == FAULTY {
+        (
+            b"fault 5 S01 MQTT-2.2.1-3 decided 5 record 5 offset -\nfail 1 faults 6 events\n",
+            b"",
+        )
+    } else {
+        assert_eq!(rt; status, FAILED);
+        (b"", b"mqjudge: out of memory\n")
+    };
+    assert_eq!(rt; output.position(), report.len() as u64);
+    assert!(rt; output.get_ref().starts_with(report));
+    assert_eq!(rt; error.position(), complaint.len() as u64);
+    assert!(rt; error.get_ref().starts_with(complaint));
+}
+
+#[test]
+fn reads_the_words_of_a_check(rt: HostRuntime) -> Result<(), Fail> {
+    let Task::Check { file, json } = parse(rt.alloc(), &["mqjudge", "check"])?;
+    assert!(rt; file.is_none() && !json);
+    let Task::Check { file, json } = parse(rt.alloc(), &["mqjudge", "check", "a.log"])?;
+    let path = file.ok_or("no file")?;
+    assert!(rt; path.as_str() == "a.log" && !json);
+    let Task::Check { file, json } = parse(rt.alloc(), &["mqjudge", "check", "--", "--help"])?;
+    let path = file.ok_or("no file")?;
+    assert!(rt; path.as_str() == "--help" && !json);
+    Ok(())
+}
+
+#[test]
+fn shows_help_and_the_version(rt: HostRuntime) -> Result<(), Fail> {
+    let requests: [(&[&str], &str); 7] = [
+        (&["mqjudge", "--help"], "Usage: mqjudge <COMMAND>"),
+        (&["mqjudge", "-h"], "Usage: mqjudge <COMMAND>"),
+        (&["mqjudge", "help"], "Usage: mqjudge <COMMAND>"),
+        (&["mqjudge", "help", "check"], "Usage: mqjudge check [FILE]"),
+        (
+            &["mqjudge", "check", "--help"],
+            "Usage: mqjudge check [FILE]",
+        ),
+        (&["mqjudge", "--version"], "mqjudge 0.1.0\n"),
+        (&["mqjudge", "-V"], "mqjudge 0.1.0\n"),
+    ];
+    for (words, part) in requests {
+        let Err(Stop::Help(text)) = parse(rt.alloc(), words) else {
+            return Err("no help".into());
+        };
+        assert!(rt; text.as_str().contains(part), "{words:?} shows {text}");
+    }
+    Ok(())
+}
+
+#[test]
+fn refuses_other_words(rt: HostRuntime) -> Result<(), Fail> {
+    let misuses: [(&[&str], &str); 7] = [
+        (&[], "requires a subcommand"),
+        (&["mqjudge"], "requires a subcommand"),
+        (&["mqjudge", "chekc"], "unrecognized subcommand 'chekc'"),
+        (
+            &["mqjudge", "help", "chekc"],
+            "unrecognized subcommand 'chekc'",
+        ),
+        (
+            &["mqjudge", "check", "a", "b"],
+            "unexpected argument 'b' found",
+        ),
+        (
+            &["mqjudge", "check", "--json"],
+            "unexpected argument '--json' found",
+        ),
+        (
+            &["mqjudge", "--quick", "check"],
+            "unexpected argument '--quick' found",
+        ),
+    ];
+    for (words, part) in misuses {
+        let Err(Stop::Usage(text)) = parse(rt.alloc(), words) else {
+            return Err("taken".into());
+        };
+        assert!(rt; text.as_str().contains(part), "{words:?} tells {text}");
+    }
+    Ok(())
+}
+
+#[test]
+fn tells_why_there_is_no_task(rt: HostRuntime) -> Result<(), Fail> {
+    let text = String::from_str(rt.alloc(), "mqjudge 0.1.0\n")?;
+    let help = Stop::Help(text.clone()?);
+    for (why, status, shown, told) in [
+        (&help, PASSED, "mqjudge 0.1.0\n", ""),
+        (&Stop::Usage(text), MISUSED, "", "mqjudge 0.1.0\n"),
+        (&Stop::Memory, FAILED, "", "mqjudge: out of memory\n"),
+    ] {
+        let mut output = Vec::new(rt.alloc());
+        let mut error = Vec::new(rt.alloc());
+        assert_eq!(rt; stop(why, &mut output, &mut error), status);
+        assert_eq!(rt; output.as_slice(), shown.as_bytes());
+        assert_eq!(rt; error.as_slice(), told.as_bytes());
+    }
+    let mut error = Vec::new(rt.alloc());
+    let mut output = Narrow {
+        room: 5,
+        stays: false,
+    };
+    assert_eq!(rt; stop(&help, &mut output, &mut error), FAILED);
+    assert_eq!(rt; error.as_slice(), &b"mqjudge: write failed\n"[..]);
+    Ok(())
+}
