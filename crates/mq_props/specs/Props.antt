@@ -4,6 +4,7 @@ use Rattle.mq_props.specs.declared.prop.Prop.TheVariants as props
 use Rattle.mq_props.specs.declared.table.id.TheConstants.{PAYLOAD_FORMAT_INDICATOR, MESSAGE_EXPIRY_INTERVAL, CONTENT_TYPE, RESPONSE_TOPIC, CORRELATION_DATA, SUBSCRIPTION_IDENTIFIER, SESSION_EXPIRY_INTERVAL, ASSIGNED_CLIENT_IDENTIFIER, SERVER_KEEP_ALIVE, AUTHENTICATION_METHOD, AUTHENTICATION_DATA, REQUEST_PROBLEM_INFORMATION, WILL_DELAY_INTERVAL, REQUEST_RESPONSE_INFORMATION, RESPONSE_INFORMATION, SERVER_REFERENCE, REASON_STRING, RECEIVE_MAXIMUM, TOPIC_ALIAS_MAXIMUM, TOPIC_ALIAS, MAXIMUM_QOS, RETAIN_AVAILABLE, USER_PROPERTY, MAXIMUM_PACKET_SIZE, WILDCARD_SUBSCRIPTION_AVAILABLE, SUBSCRIPTION_IDENTIFIER_AVAILABLE, SHARED_SUBSCRIPTION_AVAILABLE}
 use Rattle.mq_props.specs.Values.{Property, byte, two_bytes, four_bytes, varint, text, pair, binary}
 
+-- The identifier and the value of each.
 abbrev pub prop_view : Prop → Property
 prop_view (props.PayloadFormatIndicator n) = record { id = PAYLOAD_FORMAT_INDICATOR; value = byte n }
 prop_view (props.MessageExpiryInterval n) = record { id = MESSAGE_EXPIRY_INTERVAL; value = four_bytes n }

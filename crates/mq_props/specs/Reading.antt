@@ -74,6 +74,7 @@ properties_within zero place before left = Ok before
 properties_within (suc n) place before left =
     if length left.rest == 0 then Ok before else (property_on place before left >>= λ x. properties_within n place (before ++ x.0 ∷ []) x.1)
 
+-- All that is left, as properties behind these.
 unfoldable pub properties_on : Place → List Property → Left → Result (List Property) PropFault
 properties_on place before left = properties_within (length left.rest) place before left
 
@@ -116,6 +117,7 @@ abbrev pub items_within : ℕ → Left → List Property
 items_within zero left = []
 items_within (suc n) left = option_map_or (λ x. x.0 ∷ items_within n x.1) (item_on left) []
 
+-- The same, for all that is left.
 unfoldable pub items_on : Left → List Property
 items_on left = items_within (length left.rest) left
 

@@ -46,6 +46,7 @@ pub record Line : Type 0 where
 abbrev pub row_view : ℕ × ValueType × Range × Bor (List Place) → Line
 row_view row = record { id = row.0; kind = row.1; range = row.2; lists = row.3.now }
 
+-- Several lines as the source has them.
 abbrev pub rows_of : List (ℕ × ValueType × Range × Bor (List Place)) → List Line
 rows_of rows = map row_view rows
 

@@ -7,6 +7,7 @@ use Rattle.mq_props.specs.declared.seen.Seen.{Seen}
 use Rattle.mq_props.specs.Values.{Value, byte, two_bytes, four_bytes, varint, text, pair, binary, Property}
 use Rattle.mq_props.specs.Allowed.{stands_in}
 
+-- A value without where its bytes lie in memory.
 abbrev pub value_view : Held → Value
 value_view (held.Byte n) = byte n
 value_view (held.TwoBytes n) = two_bytes n
@@ -16,6 +17,7 @@ value_view (held.Text t) = text t.now
 value_view (held.Pair name value) = pair name.now value.now
 value_view (held.Binary bytes) = binary bytes.now
 
+-- A property likewise.
 abbrev pub item_view : Item → Property
 item_view item = record { id = item.id; value = value_view item.value }
 

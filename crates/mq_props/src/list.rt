@@ -71,7 +71,7 @@ fn read_item<'a>(place: Place, seen: &Seen, cursor: &mut Cursor<'a>) -> Result<I
 }
 
 // Whether all that is left are properties of the place, or the first fault.
-pub fn check_items(place: Place, mut cursor: Cursor) -> Result<(), PropFault>
+pub(crate) fn check_items(place: Place, mut cursor: Cursor) -> Result<(), PropFault>
     ensures { MatchResult result (λ _. (ps : List Property) × (properties_on place [] cursor.entry ≡ Ok ps)) (λ fault. properties_on place [] cursor.entry ≡ Err fault) }
 {
     let mut seen = Seen::new();
