@@ -149,6 +149,13 @@ impl<'a> Props<'a> {
         list_at(cursor, place)
     }
 
+    /// The list of no properties, for the place.
+    pub fn empty(place: Place) -> Props<'a>
+        ensures { result ≡ record { place = place; items = [] } }
+    {
+        Props { place, bytes: &[] }
+    }
+
     // The list that the bytes spell.
     pub(crate) fn of(place: Place, bytes: &'a [u8]) -> Props<'a>
         requires { IsList place bytes.now }

@@ -269,6 +269,30 @@ fn in_order(rt: HostRuntime) {
     }
 }
 
+#[test]
+fn a_list_of_no_properties(rt: HostRuntime) {
+    for place in PLACES {
+        let props = Props::empty(place);
+        assert_eq!(rt; props.place(), place);
+        assert_eq!(rt; props.as_bytes().len(), 0);
+        assert!(rt; props.iter().next().is_none());
+        assert_eq!(rt; props.get_user_property(), None);
+    }
+}
+
+#[test]
+fn the_bytes_of_a_list(rt: HostRuntime) {
+    let bytes = [5, 0x23, 0, 1, 0x01, 1, 0xFF];
+    let mut cursor = Cursor::new(&bytes);
+    match Props::read(&mut cursor, Publish) {
+        Ok(props) => {
+            assert_eq!(rt; props.place(), Publish);
+            assert_eq!(rt; props.as_bytes(), &bytes[1..6]);
+        }
+        Err(fault) => assert!(rt; false, "{fault:?}"),
+    }
+}
+
 // The list of these properties.
 fn made(alloc: Global, place: Place, props: &[Prop]) -> Result<PropsBuf, Fail> {
     let mut list = PropsBuf::new(alloc, place);
