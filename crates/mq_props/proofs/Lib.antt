@@ -9,3 +9,5 @@ pub mod Items
 pub mod Lists
 pub mod Pushes
 pub mod PropLines
+pub mod Sizes
+pub mod Within

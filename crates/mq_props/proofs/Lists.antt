@@ -52,7 +52,7 @@ pub record Listing (place : Place) (left : Left) (ps : List Property) (new : Lef
   pub parts : left.rest ≡ bytes ++ new.rest
   pub behind : new ≡ past left (length bytes)
 
-counted_ok : (start : Left) (len : ℕ) (left inside : Left) → counted start len left ≡ Ok inside → (len ≤ length left.rest) × (inside ≡ record { at = left.at; rest = take len left.rest })
+pub counted_ok : (start : Left) (len : ℕ) (left inside : Left) → counted start len left ≡ Ok inside → (len ≤ length left.rest) × (inside ≡ record { at = left.at; rest = take len left.rest })
 counted_ok start len left inside e =
     elim (cases_Bool (ltb (length left.rest) len)) [
       | inl short ↦ absurd (let never = rw short at e in cc)

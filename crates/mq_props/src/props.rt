@@ -142,6 +142,8 @@ impl<'a> Props<'a> {
             → IsOkAnd result (λ props. props.items ≡ ps) × (cursor.new ≡ past cursor.old (length bytes)) }
         // Else the first bad field is named.
         ensures broken { IfErr result (λ fault. Breaks place cursor.old fault) }
+        // It begins in what was left, or right behind it.
+        ensures within { IfErr result (λ fault. (cursor.old.at ≤ fault.at) × (fault.at ≤ cursor.old.at + length cursor.old.rest)) }
         ensures exact { Reads (λ props. props.items) result (list_on place cursor.old) cursor.new }
         ensures place { IfOk result (λ props. props.place ≡ place) }
         ensures err { OnErr result (cursor.new ≡ cursor.old) }
