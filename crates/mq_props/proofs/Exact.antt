@@ -134,13 +134,13 @@ id_fits : (place : Place) (before : List Property) (p : Property) → IsAllowed 
 id_fits place before p is = omega (arith, known_below p.id is.line is.known, line_known p.id is.line is.known)
 
 -- what follows a property at a place
-abbrev after : ℕ → Property → List ℕ → Left
+abbrev pub after : ℕ → Property → List ℕ → Left
 after at p rest = left_at (at + length (varint_spelling p.id) + length (value_spelling p.value)) rest
 
 parts : (p : Property) (rest : List ℕ) → property_spelling p ++ rest ≡ varint_spelling p.id ++ (value_spelling p.value ++ rest)
 parts p rest = append_assoc (varint_spelling p.id) (value_spelling p.value) rest
 
-property_read : (place : Place) (before : List Property) (p : Property) (at : ℕ) (rest : List ℕ) → IsAllowed place before p → property_on place before (left_at at (property_spelling p ++ rest)) ≡ done (p, after at p rest)
+pub property_read : (place : Place) (before : List Property) (p : Property) (at : ℕ) (rest : List ℕ) → IsAllowed place before p → property_on place before (left_at at (property_spelling p ++ rest)) ≡ done (p, after at p rest)
 unfolding property_on
 property_read place before p at rest is =
     let inside : List ℕ = value_spelling p.value ++ rest in
@@ -168,7 +168,7 @@ item_read place before p at rest is =
     ∙ ap (λ (id : ℕ). some_item (record { id = id; value = p.value }, after at p rest)) (line_known p.id is.line is.known)
 
 -- a property takes some bytes
-spelling_some : (place : Place) (before : List Property) (p : Property) → IsAllowed place before p → 0 < length (property_spelling p)
+pub spelling_some : (place : Place) (before : List Property) (p : Property) → IsAllowed place before p → 0 < length (property_spelling p)
 spelling_some place before p is =
     let taken = varint_taken (varint_spelling p.id ++ []) (p.id, length (varint_spelling p.id)) (varint_exact.all p.id [] (id_fits place before p is)) in
     omega (arith, taken.0, length-append (varint_spelling p.id) (value_spelling p.value))
@@ -177,7 +177,7 @@ fuel_left : (place : Place) (before : List Property) (p : Property) (ps : List P
 fuel_left place before p ps zero is enough = absurd (omega (arith, enough, spelling_some place before p is, ap length (flat_map-cons property_spelling p ps), length-append (property_spelling p) (body ps)))
 fuel_left place before p ps (suc less) is enough = (less, refl, omega (arith, enough, spelling_some place before p is, ap length (flat_map-cons property_spelling p ps), length-append (property_spelling p) (body ps)))
 
-some_bytes : (bytes : List ℕ) → 0 < length bytes → eqb (length bytes) 0 ≡ false
+pub some_bytes : (bytes : List ℕ) → 0 < length bytes → eqb (length bytes) 0 ≡ false
 some_bytes bytes lt = ne_eqb (length bytes) 0 (λ e. omega (arith, e, lt))
 
 properties_read : (fuel : ℕ) (place : Place) (before ps : List Property) (at : ℕ) → length (body ps) ≤ fuel → AllowedBehind place before ps → properties_within fuel place before (left_at at (body ps)) ≡ done (before ++ ps)

@@ -11,3 +11,4 @@ pub mod Pushes
 pub mod PropLines
 pub mod Sizes
 pub mod Within
+pub mod Broken

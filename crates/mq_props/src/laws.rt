@@ -1,11 +1,14 @@
 //! What it is for the reading of property lists to be exact.
 
-ghost use Rattle.std.specs.Prelude.{◌≡◌, ℕ, List, [], Ok};
+ghost use Rattle.std.specs.Prelude.{◌≡◌, ◌↔◌, ℕ, List, [], Ok, Err};
+ghost use Rattle.mq_wire.specs.Left.{Left};
 ghost use Rattle.mq_wire.specs.Spellings.{AreBytes};
+ghost use Rattle.mq_props.specs.declared.fault.PropFault.{PropFault};
 ghost use Rattle.mq_props.specs.declared.table.Place.{Place};
 ghost use Rattle.mq_props.specs.Values.{Property, body};
 ghost use Rattle.mq_props.specs.Allowed.{AreAllowed};
-ghost use Rattle.mq_props.specs.Reading.{properties_on};
+ghost use Rattle.mq_props.specs.Breaks.{Breaks};
+ghost use Rattle.mq_props.specs.Reading.{properties_on, list_on};
 
 /// The bytes that are read as the properties of a place are those that spell them.
 pub fn properties_are_exact()
@@ -15,4 +18,10 @@ pub fn properties_are_exact()
     // What may make a list there is read from its spelling.
     ensures all { (place : Place) (at : ℕ) (ps : List Property) → AreAllowed place ps
         → properties_on place [] (record { at = at; rest = body ps }) ≡ Ok ps }
+{}
+
+/// A property list is refused for a fault exactly where that is its first one.
+pub fn property_faults_are_exact()
+    ensures breaks { (place : Place) (left : Left) (fault : PropFault) → AreBytes left.rest
+        → (list_on place left ≡ Err fault) ↔ Breaks place left fault }
 {}

@@ -14,7 +14,7 @@ mod value;
 
 pub use buf::PropsBuf;
 pub use fault::{PropFault, PropReason, PushFault};
-pub use laws::properties_are_exact;
+pub use laws::{properties_are_exact, property_faults_are_exact};
 pub use prop::Prop;
 pub use props::{Props, PropsIter};
 pub use table::Place;
