@@ -13,6 +13,7 @@ use Rattle.mq_props.specs.Values.{Property, value_spelling, property_spelling, b
 use Rattle.mq_props.specs.Allowed.{AllowedBehind}
 use Rattle.mq_props.specs.Breaks.{LongLength, BadProperty, Breaks}
 use Rattle.mq_props.specs.Reading.{◌>>=◌, from_wire, counted, property_on, properties_within, properties_on, list_on}
+use Rattle.mq_props.proofs.BadFieldLemmas.{breaks_property}
 use Rattle.mq_props.proofs.Exact.{left_at, after, property_read, spelling_some, some_bytes}
 
 abbrev done : {A : Type 0} → A → Result A PropFault
@@ -73,7 +74,7 @@ bad_list place left fault bad =
     rw (le-ltb (length (drop bad.size left.rest)) bad.len bad.within) (ap (λ (bytes : List ℕ). done (left_at (left.at + bad.size) bytes)) bad.parts) in
     ap (list_of_length place left) bad.spelled
     ∙ ap (list_inside place behind) inside
-    ∙ ap (list_from behind) (refused_all place bad.good (left.at + bad.size) bad.others fault bad.some bad.allowed bad.refused)
+    ∙ ap (list_from behind) (refused_all place bad.good (left.at + bad.size) bad.others fault bad.some bad.allowed (breaks_property place bad.good (left_at (left.at + bad.size + length (body bad.good)) bad.others) fault bad.refused))
 
 pub breaks_list : (place : Place) (left : Left) (fault : PropFault) → Breaks place left fault → list_on place left ≡ Err fault
 unfolding list_on

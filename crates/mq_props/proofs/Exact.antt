@@ -109,7 +109,7 @@ named_read at id rest value =
     ap (placed (left_at at (varint_spelling id ++ rest))) (varint_exact.all id rest value)
     ∙ ap (λ (bytes : List ℕ). read (id, left_at (at + length (varint_spelling id)) bytes)) (drop_at (varint_spelling id) rest (length (varint_spelling id)) refl)
 
-value_read : (at : ℕ) (kind : ValueType) (v : Value) (rest : List ℕ) → IsOf kind v → value_on kind (left_at at (value_spelling v ++ rest)) ≡ read (v, left_at (at + length (value_spelling v)) rest)
+pub value_read : (at : ℕ) (kind : ValueType) (v : Value) (rest : List ℕ) → IsOf kind v → value_on kind (left_at at (value_spelling v ++ rest)) ≡ read (v, left_at (at + length (value_spelling v)) rest)
 value_read at kind v rest is =
     value_on_is kind (left_at at (value_spelling v ++ rest))
     ∙ ap (placed (left_at at (value_spelling v ++ rest))) ((value_exact kind).all v rest is)

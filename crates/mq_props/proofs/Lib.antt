@@ -11,4 +11,5 @@ pub mod Pushes
 pub mod PropLines
 pub mod Sizes
 pub mod Within
+pub mod BadFieldLemmas
 pub mod Broken

@@ -21,6 +21,7 @@ use Rattle.mq_props.specs.Breaks.{Breaks}
 use Rattle.mq_props.specs.Listed.{Listed}
 use Rattle.mq_props.specs.Reading.{◌>>=◌, from_wire, counted, property_on, properties_within, properties_on, list_on, Reads}
 use Rattle.mq_props.proofs.Steps.{property_on_ok, found_shorter, bind_ok, done_is, from_wire_ok}
+use Rattle.mq_props.proofs.BadFieldLemmas.{property_breaks}
 use Rattle.mq_props.proofs.Exact.{AreBytes-drop, found_spells, named_read, properties_only, properties_all}
 
 AreBytes-take : (n : ℕ) (bytes : List ℕ) → AreBytes bytes → AreBytes (take n bytes)
@@ -211,7 +212,10 @@ breaks_behind place left fault len n fits named e =
           let inside : Left = left_at (left.at + n) (take len (drop n left.rest)) in
           let f : properties_on place [] inside ≡ Err fault = last_err (properties_on place [] inside) (λ (qs : List Property). (qs, past (past left n) len)) fault (rw enough at e) in
           let refused = refused_on_all place inside fault (AreBytes-take len (drop n left.rest) (AreBytes-drop n left.rest fits)) f in
-          inr (inr (record { len = len; size = n; spelled = named; within = ltb-false (length (drop n left.rest)) len enough; good = refused.good; allowed = refused.allowed; others = refused.others; some = refused.some; parts = refused.parts; refused = refused.refused }))
+          let others_fit : AreBytes refused.others =
+          subst (λ (bytes : List ℕ). AreBytes bytes) (ap (drop (length (body refused.good))) refused.parts ∙ drop_at (body refused.good) refused.others (length (body refused.good)) refl) (AreBytes-drop (length (body refused.good)) inside.rest (AreBytes-take len (drop n left.rest) (AreBytes-drop n left.rest fits))) in
+          let bad = property_breaks place refused.good (left_at (left.at + n + length (body refused.good)) refused.others) fault others_fit refused.refused in
+          inr (inr (record { len = len; size = n; spelled = named; within = ltb-false (length (drop n left.rest)) len enough; good = refused.good; allowed = refused.allowed; others = refused.others; some = refused.some; parts = refused.parts; refused = bad }))
     ]
 
 breaks_by : (place : Place) (left : Left) (fault : PropFault) (r : Result (ℕ × ℕ) Reason) → AreBytes left.rest → varint_at left.rest ≡ r

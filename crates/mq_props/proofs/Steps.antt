@@ -30,7 +30,7 @@ pub from_wire_ok : {A : Type 0} (r : Result A WireFault) (x : A) → from_wire r
 from_wire_ok (Ok y) x e = let same = done_is y x e in ap (λ z. Ok z) same
 from_wire_ok (Err fault) x e = absurd cc
 
-judged_ok : {A : Type 0} (at : ℕ) (r : Result A PropReason) (x : A) → judged_at at r ≡ Ok x → r ≡ Ok x
+pub judged_ok : {A : Type 0} (at : ℕ) (r : Result A PropReason) (x : A) → judged_at at r ≡ Ok x → r ≡ Ok x
 judged_ok at (Ok y) x e = let same = done_is y x e in ap (λ z. Ok z) same
 judged_ok at (Err reason) x e = absurd cc
 
@@ -51,7 +51,7 @@ choose_ok true true x y low high e = absurd cc
 choose_ok true false x y low high e = (refl, refl, judged_is x y e)
 choose_ok false c x y low high e = absurd cc
 
-admitted_ok : (place : Place) (before : List Property) (o : Option Line) (line : Line) → admitted place before o ≡ Ok line → Admits place before o line
+pub admitted_ok : (place : Place) (before : List Property) (o : Option Line) (line : Line) → admitted place before o ≡ Ok line → Admits place before o line
 admitted_ok place before None line e = absurd cc
 admitted_ok place before (Some found) line e =
     let is = choose_ok (is_listed place found) (is_repeated place before found.id) found line Repeated NotAllowed e in

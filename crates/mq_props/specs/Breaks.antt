@@ -9,7 +9,7 @@ use Rattle.mq_props.specs.declared.fault.PropReason.TheVariants.{Wire}
 use Rattle.mq_props.specs.declared.table.Place.{Place}
 use Rattle.mq_props.specs.Values.{Property, body}
 use Rattle.mq_props.specs.Allowed.{AreAllowed}
-use Rattle.mq_props.specs.Reading.{property_on}
+use Rattle.mq_props.specs.BadFields.{BreaksProperty}
 
 -- The length isn't spelled.
 pub record BadLength (left : Left) (fault : PropFault) : Type 0 where
@@ -26,7 +26,7 @@ pub record LongLength (left : Left) (fault : PropFault) : Type 0 where
   pub is : fault ≡ record { at = left.at; reason = Wire Short }
 
 -- The bytes that the length counts are the spelling of properties that may begin a list of the place, and others, at
--- least one; and the property at the front of the others is refused.
+-- least one; and the property at the front of the others has a bad field.
 pub record BadProperty (place : Place) (left : Left) (fault : PropFault) : Type 0 where
   pub len : ℕ
   pub size : ℕ
@@ -37,7 +37,7 @@ pub record BadProperty (place : Place) (left : Left) (fault : PropFault) : Type 
   pub others : List ℕ
   pub some : 0 < length others
   pub parts : take len (drop size left.rest) ≡ body good ++ others
-  pub refused : property_on place good (record { at = left.at + size + length (body good); rest = others }) ≡ Err fault
+  pub refused : BreaksProperty place good (record { at = left.at + size + length (body good); rest = others }) fault
 
 -- The fault is the first one of the list at the front of what is left.
 abbrev pub Breaks : Place → Left → PropFault → Type 0

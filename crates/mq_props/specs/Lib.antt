@@ -3,6 +3,7 @@ pub mod Table
 pub mod Values
 pub mod Allowed
 pub mod Reading
+pub mod BadFields
 pub mod Breaks
 pub mod First
 pub mod Listed
