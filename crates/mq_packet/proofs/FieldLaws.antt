@@ -1,0 +1,186 @@
+-- The reading of each kind of field is exact: it gives the value that stands spelled at the front, and is refused exactly
+-- where none does.
+use Rattle.std.proofs.Common.{◌≡◌, ℕ, ◌+◌, List, ◌++◌, length, drop, Result, Ok, Err, refl, sym, ap, ◌∙◌}
+use Rattle.std.proofs.lemmas.List.{drop_at}
+use Rattle.mq_wire.specs.declared.fault.Reason.{Reason}
+use Rattle.mq_wire.specs.declared.fault.Reason.TheVariants as reasons
+use Rattle.mq_wire.specs.declared.fault.WireFault.{WireFault}
+use Rattle.mq_wire.specs.Left.{Left, placed}
+use Rattle.mq_wire.specs.Fields.{text_at}
+use Rattle.mq_wire.specs.Refused.{IsCutShort, RefusesShort}
+use Rattle.mq_wire.specs.Spellings.{AreBytes, Stands, IsExact}
+use Rattle.mq_wire.proofs.Placed.{placed_ok, placed_err}
+use Rattle.mq_wire.proofs.Exact.{byte_exact, two_bytes_exact, text_exact, binary_exact}
+use Rattle.mq_wire.proofs.Refusals.{byte_refused, two_bytes_refused, text_refused, binary_refused}
+use Rattle.mq_props.specs.declared.fault.PropFault.{PropFault}
+use Rattle.mq_props.specs.declared.table.Place.{Place}
+use Rattle.mq_props.specs.Values.{Property}
+use Rattle.mq_props.specs.Allowed.{Lists}
+use Rattle.mq_props.specs.Reading.{list_on}
+use Rattle.mq_props.proofs.Lists.{Listing, list_found, list_only, list_breaks}
+use Rattle.mq_props.proofs.Broken.{breaks_list}
+use Rattle.mq_packet.specs.declared.rule.PacketRule.{PacketRule}
+use Rattle.mq_packet.specs.declared.rule.PacketRule.TheVariants as rules
+use Rattle.mq_packet.specs.declared.fault.DecodeFault.{DecodeFault}
+use Rattle.mq_packet.specs.Formats.{Kind, byte, two_bytes, text, binary, properties, Value}
+use Rattle.mq_packet.specs.Decoding.{broken, rule_of, list_rule, spelled, spelled_list, field_on}
+use Rattle.mq_packet.specs.Misspellings.{MisspellsText, cut_short, not_utf8, nul, Misspelled}
+use Rattle.mq_packet.specs.Spelled.{spelling, Begin}
+
+-- What is left: these bytes, from this place on.
+abbrev pub left_from : ℕ → List ℕ → Left
+left_from at bytes = record { at = at; rest = bytes }
+
+-- What stands at the front of these bytes: the value, spelled, and this left behind it.
+pub record Front (kind : Kind) (at : ℕ) (bytes : List ℕ) (value : Value kind) (new : Left) : Type 0 where
+  pub begin : Begin kind bytes value new.rest
+  pub behind : new ≡ left_from (at + length (spelling kind value)) new.rest
+
+-- a field that was read
+abbrev given : {A : Type 0} → A → Result A DecodeFault
+given x = Ok x
+
+-- one that was refused
+abbrev failed : {A : Type 0} → DecodeFault → Result A DecodeFault
+failed fault = Err fault
+
+given_is : {A : Type 0} (x y : A) → given x ≡ given y → x ≡ y
+given_is x y e = cc
+
+failed_is : {A : Type 0} (x y : DecodeFault) → failed {A = A} x ≡ failed y → x ≡ y
+failed_is x y e = cc
+
+spelled_ok : {X : Type 0} (r : Result X WireFault) (y : X) → spelled r ≡ Ok y → r ≡ Ok y
+spelled_ok (Ok x) y e = cc
+spelled_ok (Err fault) y e = absurd cc
+
+spelled_err : {X : Type 0} (r : Result X WireFault) (fault : DecodeFault) → spelled r ≡ Err fault → (first : WireFault) × (r ≡ Err first) × (fault ≡ broken first.at (rule_of first.reason))
+spelled_err (Ok x) fault e = absurd cc
+spelled_err {X} (Err first) fault e = (first, refl, sym (failed_is {A = X} (broken first.at (rule_of first.reason)) fault e))
+
+list_ok : {X : Type 0} (r : Result X PropFault) (y : X) → spelled_list r ≡ Ok y → r ≡ Ok y
+list_ok (Ok x) y e = cc
+list_ok (Err fault) y e = absurd cc
+
+list_err : {X : Type 0} (r : Result X PropFault) (fault : DecodeFault) → spelled_list r ≡ Err fault → (first : PropFault) × (r ≡ Err first) × (fault ≡ broken first.at (list_rule first.reason))
+list_err (Ok x) fault e = absurd cc
+list_err {X} (Err first) fault e = (first, refl, sym (failed_is {A = X} (broken first.at (list_rule first.reason)) fault e))
+
+-- ---- values
+
+-- what an exact reading gives
+wire_front : {X : Type 0} {read : List ℕ → Result (X × ℕ) Reason} {Values : X → Type 0} {spells : X → List ℕ} → IsExact read Values spells → (at : ℕ) (bytes : List ℕ) (value : X) (new : Left) → AreBytes bytes → spelled (placed (left_from at bytes) (read bytes)) ≡ Ok (value, new)
+    → Values value × (bytes ≡ spells value ++ new.rest) × (new ≡ left_from (at + length (spells value)) new.rest)
+wire_front {X} {read} {Values} {spells} exact at bytes value new known e =
+    let size = placed_ok (left_from at bytes) (read bytes) value new (spelled_ok (placed (left_from at bytes) (read bytes)) (value, new) e) in
+    let stands : Stands Values spells bytes value size.0 = exact.only bytes value size.0 known size.1 in
+    let rest : new.rest ≡ drop size.0 bytes = ap (λ (l : Left). l.rest) size.2 in (
+      stands.value,
+      stands.spelled ∙ ap (λ (l : List ℕ). spells value ++ l) (sym rest),
+      size.2 ∙ ap (λ (k : ℕ). left_from (at + k) (drop size.0 bytes)) stands.taken ∙ ap (λ (l : List ℕ). left_from (at + length (spells value)) l) (sym rest),
+    )
+
+-- what it is given
+wire_read : {X : Type 0} {read : List ℕ → Result (X × ℕ) Reason} {Values : X → Type 0} {spells : X → List ℕ} → IsExact read Values spells → (at : ℕ) (bytes : List ℕ) (value : X) (left : List ℕ) → Values value → bytes ≡ spells value ++ left
+    → spelled (placed (left_from at bytes) (read bytes)) ≡ Ok (value, left_from (at + length (spells value)) left)
+wire_read {X} {read} {Values} {spells} exact at bytes value left good is =
+    let behind : drop (length (spells value)) bytes ≡ left = ap (drop (length (spells value))) is ∙ drop_at (spells value) left (length (spells value)) refl in
+    ap (λ (r : Result (X × ℕ) Reason). spelled (placed (left_from at bytes) r)) (ap read is ∙ exact.all value left good)
+    ∙ ap (λ (l : List ℕ). given (value, left_from (at + length (spells value)) l)) behind
+
+list_front : (place : Place) (at : ℕ) (bytes : List ℕ) (value : List Property) (new : Left) → AreBytes bytes → list_on place (left_from at bytes) ≡ Ok (value, new) → Front (properties place) at bytes value new
+list_front place at bytes value new known e =
+    let found : Listing place (left_from at bytes) value new = list_found place (left_from at bytes) value new known e in
+    let parts : bytes ≡ spelling (properties place) value ++ new.rest = found.parts ∙ ap (λ (front : List ℕ). front ++ new.rest) found.lists.spelled in
+    let taken : length found.bytes ≡ length (spelling (properties place) value) = ap (λ (l : List ℕ). length l) found.lists.spelled in
+    let rest : new.rest ≡ drop (length found.bytes) bytes = ap (λ (l : Left). l.rest) found.behind in
+    record {
+      begin = record { is_value = (found.lists.allowed, found.lists.bound); spelled = parts };
+      behind = found.behind ∙ ap (λ (k : ℕ). left_from (at + k) (drop (length found.bytes) bytes)) taken ∙ ap (λ (l : List ℕ). left_from (at + length (spelling (properties place) value)) l) (sym rest);
+    }
+
+list_read : (place : Place) (at : ℕ) (bytes : List ℕ) (value : List Property) (left : List ℕ) → Begin (properties place) bytes value left → list_on place (left_from at bytes) ≡ Ok (value, left_from (at + length (spelling (properties place) value)) left)
+list_read place at bytes value left begin =
+    let lists : Lists place value (spelling (properties place) value) = record { spelled = refl; bound = begin.is_value.1; allowed = begin.is_value.0 } in
+    let size : ℕ = length (spelling (properties place) value) in
+    let behind : drop size bytes ≡ left = ap (drop size) begin.spelled ∙ drop_at (spelling (properties place) value) left size refl in
+    list_only place (left_from at bytes) value (spelling (properties place) value) left lists begin.spelled
+    ∙ ap (λ (l : List ℕ). Ok (value, left_from (at + length (spelling (properties place) value)) l)) behind
+
+-- A field that is read stands spelled at the front.
+pub field_found : (kind : Kind) (at : ℕ) (bytes : List ℕ) (value : Value kind) (new : Left) → AreBytes bytes → field_on kind (left_from at bytes) ≡ Ok (value, new) → Front kind at bytes value new
+field_found byte at bytes value new known e = let h = wire_front byte_exact at bytes value new known e in record { begin = record { is_value = h.0; spelled = h.1 }; behind = h.2 }
+field_found two_bytes at bytes value new known e = let h = wire_front two_bytes_exact at bytes value new known e in record { begin = record { is_value = h.0; spelled = h.1 }; behind = h.2 }
+field_found text at bytes value new known e = let h = wire_front text_exact at bytes value new known e in record { begin = record { is_value = h.0; spelled = h.1 }; behind = h.2 }
+field_found binary at bytes value new known e = let h = wire_front binary_exact at bytes value new known e in record { begin = record { is_value = h.0; spelled = h.1 }; behind = h.2 }
+field_found (properties place) at bytes value new known e = list_front place at bytes value new known (list_ok (list_on place (left_from at bytes)) (value, new) e)
+
+-- A value that stands spelled at the front is read.
+pub field_read : (kind : Kind) (at : ℕ) (bytes : List ℕ) (value : Value kind) (left : List ℕ) → Begin kind bytes value left → field_on kind (left_from at bytes) ≡ Ok (value, left_from (at + length (spelling kind value)) left)
+field_read byte at bytes value left begin = wire_read byte_exact at bytes value left begin.is_value begin.spelled
+field_read two_bytes at bytes value left begin = wire_read two_bytes_exact at bytes value left begin.is_value begin.spelled
+field_read text at bytes value left begin = wire_read text_exact at bytes value left begin.is_value begin.spelled
+field_read binary at bytes value left begin = wire_read binary_exact at bytes value left begin.is_value begin.spelled
+field_read (properties place) at bytes value left begin = ap spelled_list (list_read place at bytes value left begin)
+
+-- ---- faults
+
+-- a reading that refuses only what is cut short
+short_found : {X : Type 0} {read : List ℕ → Result (X × ℕ) Reason} {Values : X → Type 0} {spells : X → List ℕ} → RefusesShort read Values spells → (at : ℕ) (bytes : List ℕ) (fault : DecodeFault) → AreBytes bytes → spelled (placed (left_from at bytes) (read bytes)) ≡ Err fault
+    → IsCutShort Values spells bytes × (fault ≡ broken at rules.W06)
+short_found {X} {read} {Values} {spells} refuses at bytes fault known e =
+    let first = spelled_err (placed (left_from at bytes) (read bytes)) fault e in
+    let why = placed_err (left_from at bytes) (read bytes) first.0 first.1 in
+    let short : first.0.reason ≡ reasons.Short = refuses.only_so bytes first.0.reason why.0 in
+    let is : read bytes ≡ Err reasons.Short = why.0 ∙ ap (λ (reason : Reason). Err reason) short in
+    ((refuses.short bytes known).0 is, first.2 ∙ ap (λ (n : ℕ). broken n (rule_of first.0.reason)) why.1 ∙ ap (λ (reason : Reason). broken at (rule_of reason)) short)
+
+-- bytes that are cut short are refused
+short_refused : {X : Type 0} {read : List ℕ → Result (X × ℕ) Reason} {Values : X → Type 0} {spells : X → List ℕ} → RefusesShort read Values spells → (at : ℕ) (bytes : List ℕ) (fault : DecodeFault) → AreBytes bytes → IsCutShort Values spells bytes × (fault ≡ broken at rules.W06)
+    → spelled (placed (left_from at bytes) (read bytes)) ≡ Err fault
+short_refused {X} {read} refuses at bytes fault known h =
+    ap (λ (r : Result (X × ℕ) Reason). spelled (placed (left_from at bytes) r)) ((refuses.short bytes known).1 h.0) ∙ ap (λ (f : DecodeFault). failed {A = X × Left} f) (sym h.1)
+
+-- why a text is refused
+text_reason : (bytes : List ℕ) (reason : Reason) → AreBytes bytes → text_at bytes ≡ Err reason → MisspellsText bytes (rule_of reason)
+text_reason bytes reasons.Short known e = cut_short ((text_refused.short bytes known).0 e)
+text_reason bytes reasons.NotUtf8 known e = not_utf8 ((text_refused.not_utf8 bytes known).0 e)
+text_reason bytes reasons.Nul known e = nul ((text_refused.nul bytes known).0 e)
+text_reason bytes reasons.Overlong known e = absurd (text_refused.only_so bytes known e)
+
+text_found : (at : ℕ) (bytes : List ℕ) (fault : DecodeFault) → AreBytes bytes → field_on text (left_from at bytes) ≡ Err fault → Misspelled text at bytes fault
+text_found at bytes fault known e =
+    let first = spelled_err (placed (left_from at bytes) (text_at bytes)) fault e in
+    let why = placed_err (left_from at bytes) (text_at bytes) first.0 first.1 in
+    (rule_of first.0.reason, text_reason bytes first.0.reason known why.0, first.2 ∙ ap (λ (n : ℕ). broken n (rule_of first.0.reason)) why.1)
+
+-- a text that is refused for a reason
+text_broken : (at : ℕ) (bytes : List ℕ) (reason : Reason) → text_at bytes ≡ Err reason → field_on text (left_from at bytes) ≡ Err (broken at (rule_of reason))
+text_broken at bytes reason e = ap (λ (r : Result (List ℕ × ℕ) Reason). spelled (placed (left_from at bytes) r)) e
+
+text_misspelled : (at : ℕ) (bytes : List ℕ) (rule : PacketRule) → AreBytes bytes → MisspellsText bytes rule → field_on text (left_from at bytes) ≡ Err (broken at rule)
+text_misspelled at bytes _ known (cut_short h) = text_broken at bytes reasons.Short ((text_refused.short bytes known).1 h)
+text_misspelled at bytes _ known (not_utf8 h) = text_broken at bytes reasons.NotUtf8 ((text_refused.not_utf8 bytes known).1 h)
+text_misspelled at bytes _ known (nul h) = text_broken at bytes reasons.Nul ((text_refused.nul bytes known).1 h)
+
+list_misspelled : (place : Place) (at : ℕ) (bytes : List ℕ) (fault : DecodeFault) → AreBytes bytes → field_on (properties place) (left_from at bytes) ≡ Err fault → Misspelled (properties place) at bytes fault
+list_misspelled place at bytes fault known e =
+    let first = list_err (list_on place (left_from at bytes)) fault e in
+    (first.0, list_breaks place (left_from at bytes) first.0 known first.1, first.2)
+
+-- A field that is refused isn't spelled at the front, and has the fault of that.
+pub field_misspelled : (kind : Kind) (at : ℕ) (bytes : List ℕ) (fault : DecodeFault) → AreBytes bytes → field_on kind (left_from at bytes) ≡ Err fault → Misspelled kind at bytes fault
+field_misspelled byte at bytes fault known e = short_found byte_refused at bytes fault known e
+field_misspelled two_bytes at bytes fault known e = short_found two_bytes_refused at bytes fault known e
+field_misspelled text at bytes fault known e = text_found at bytes fault known e
+field_misspelled binary at bytes fault known e = short_found binary_refused at bytes fault known e
+field_misspelled (properties place) at bytes fault known e = list_misspelled place at bytes fault known e
+
+-- Bytes that don't begin with a field of the kind are refused, for the fault that they have so.
+pub misspelled_field : (kind : Kind) (at : ℕ) (bytes : List ℕ) (fault : DecodeFault) → AreBytes bytes → Misspelled kind at bytes fault → field_on kind (left_from at bytes) ≡ Err fault
+misspelled_field byte at bytes fault known h = short_refused byte_refused at bytes fault known h
+misspelled_field two_bytes at bytes fault known h = short_refused two_bytes_refused at bytes fault known h
+misspelled_field text at bytes fault known h = text_misspelled at bytes h.0 known h.1 ∙ ap (λ (f : DecodeFault). failed {A = List ℕ × Left} f) (sym h.2)
+misspelled_field binary at bytes fault known h = short_refused binary_refused at bytes fault known h
+misspelled_field (properties place) at bytes fault known h =
+    ap spelled_list (breaks_list place (left_from at bytes) h.0 h.1) ∙ ap (λ (f : DecodeFault). failed {A = List Property × Left} f) (sym h.2)

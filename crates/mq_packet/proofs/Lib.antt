@@ -1,0 +1,10 @@
+pub mod FieldLaws
+pub mod FrameLaws
+pub mod Lengths
+pub mod Places
+pub mod Readings
+pub mod StreamLaws
+pub mod AskedLaws
+pub mod FilterLaws
+pub mod CodeLaws
+pub mod ListBodyLaws

@@ -1,0 +1,107 @@
+-- The place of a broken rule lies in the packet, or behind its last byte.
+use Rattle.std.proofs.Common.{◌≡◌, ℕ, ◌+◌, ◌≤◌, true, false, List, [], length, Option, Some, None, Result, Ok, Err, refl, ap, subst, arith}
+use Rattle.std.specs.Prelude.{◌==◌, if◌then◌else◌}
+use Rattle.std.proofs.Common.{length-drop}
+use Rattle.mq_wire.specs.declared.fault.Reason.{Reason}
+use Rattle.mq_wire.specs.Left.{Left, placed, past}
+use Rattle.mq_wire.specs.Fields.{byte_at, two_bytes_at, varint_at, text_at, binary_at}
+use Rattle.mq_wire.proofs.Placed.{placed_ok}
+use Rattle.mq_props.specs.declared.fault.PropFault.{PropFault}
+use Rattle.mq_props.specs.declared.table.Place.{Place}
+use Rattle.mq_props.specs.Values.{Property}
+use Rattle.mq_props.specs.Reading.{◌>>=◌ as ◌>=>◌, from_wire, counted, properties_on, list_on}
+use Rattle.mq_props.proofs.Steps.{bind_ok, done_is, from_wire_ok}
+use Rattle.mq_props.proofs.Lists.{counted_ok}
+use Rattle.mq_props.proofs.Sizes.{taken_by, byte_within, two_bytes_within, varint_within, text_within, binary_within}
+use Rattle.mq_props.proofs.Within.{list_err_within}
+use Rattle.mq_packet.specs.declared.rule.PacketRule.{PacketRule}
+use Rattle.mq_packet.specs.declared.rule.PacketRule.TheVariants as rules
+use Rattle.mq_packet.specs.declared.fault.DecodeFault.{DecodeFault}
+use Rattle.mq_packet.specs.declared.fault.DecodeFault.TheVariants.{Broken, OtherVersion}
+use Rattle.mq_packet.specs.Entries.{Entry}
+use Rattle.mq_packet.specs.Formats.{Kind, byte, two_bytes, text, binary, properties, Value, Objection, breaks, other_version, Format, done, rest, refused, missing, field, at_end, format_of}
+use Rattle.mq_packet.specs.Decoding.{broken, objected, spelled, spelled_list, field_on, read}
+use Rattle.mq_packet.proofs.Readings.{by_field, by_objection}
+
+-- The place behind the last byte that is left.
+abbrev end_of : Left → ℕ
+end_of left = left.at + length left.rest
+
+-- A field that was read leaves no byte behind this place, and a rule that one breaks is broken up to it.
+abbrev Ends : {X : Type 0} → ℕ → Result (X × Left) DecodeFault → Type 0
+Ends last (Ok x) = end_of x.1 ≤ last
+Ends last (Err (Broken fault)) = fault.at ≤ last
+Ends last (Err (OtherVersion version)) = Unit {0}
+
+wire_ends : {X : Type 0} (left : Left) (r : Result (X × ℕ) Reason) → taken_by r ≤ length left.rest → Ends (end_of left) (spelled (placed left r))
+wire_ends left (Ok x) h = omega (arith, h, length-drop x.1 left.rest)
+wire_ends left (Err reason) h = omega arith
+
+-- what is left behind a list
+list_end : (place : Place) (left : Left) (ps : List Property) (new : Left) → list_on place left ≡ Ok (ps, new) → end_of new ≤ end_of left
+unfolding list_on
+list_end place left ps new e =
+    let len = bind_ok (from_wire (placed left (varint_at left.rest))) (λ len. counted left len.0 len.1 >=> λ inside. properties_on place [] inside >=> λ qs. Ok (qs, past len.1 len.0)) (ps, new) e in
+    let inside = bind_ok (counted left len.0.0 len.0.1) (λ inside. properties_on place [] inside >=> λ qs. Ok (qs, past len.0.1 len.0.0)) (ps, new) len.2 in
+    let read = bind_ok (properties_on place [] inside.0) (λ qs. Ok (qs, past len.0.1 len.0.0)) (ps, new) inside.2 in
+    let named = placed_ok left (varint_at left.rest) len.0.0 len.0.1 (from_wire_ok (placed left (varint_at left.rest)) len.0 len.1) in
+    let enough : len.0.0 ≤ length len.0.1.rest = (counted_ok left len.0.0 len.0.1 inside.0 inside.1).0 in
+    let size : named.0 ≤ length left.rest = subst (λ (r : Result (ℕ × ℕ) Reason). taken_by r ≤ length left.rest) named.1 (varint_within left.rest) in
+    let first : end_of len.0.1 ≡ end_of (past left named.0) = ap end_of named.2 in
+    let made : List Property × Left = (read.0, past len.0.1 len.0.0) in
+    let behind : end_of (past len.0.1 len.0.0) ≡ end_of new = ap (λ (x : List Property × Left). end_of x.1) (done_is made (ps, new) read.2) in
+    omega (arith, first, behind, enough, size, length-drop len.0.0 len.0.1.rest, length-drop named.0 left.rest)
+
+list_ends : (place : Place) (left : Left) (r : Result (List Property × Left) PropFault) → list_on place left ≡ r → Ends (end_of left) (spelled_list r)
+list_ends place left (Ok x) e = list_end place left x.0 x.1 e
+list_ends place left (Err fault) e = (list_err_within place left fault e).1
+
+field_ends : (kind : Kind) (left : Left) → Ends (end_of left) (field_on kind left)
+field_ends byte left = wire_ends left (byte_at left.rest) (byte_within left.rest)
+field_ends two_bytes left = wire_ends left (two_bytes_at left.rest) (two_bytes_within left.rest)
+field_ends text left = wire_ends left (text_at left.rest) (text_within left.rest)
+field_ends binary left = wire_ends left (binary_at left.rest) (binary_within left.rest)
+field_ends (properties place) left = list_ends place left (list_on place left) refl
+
+-- The place of a broken rule.
+abbrev place_of : Result Entry DecodeFault → ℕ
+place_of (Err (Broken fault)) = fault.at
+place_of _ = 0
+
+objected_place : (at : ℕ) (why : Objection) → place_of (Err (objected at why)) ≤ at
+objected_place at (breaks rule) = omega arith
+objected_place at (other_version version) = omega arith
+
+-- Reading breaks rules at places up to the one behind the last byte.
+abbrev PlacesFit : Format → Type 0
+PlacesFit format = (left : Left) → place_of (read format left) ≤ end_of left
+
+module _ (kind : Kind) (objection : Value kind → Option Objection) (next : Value kind → Format) (left : Left) where
+  objection_fits : ((value : Value kind) → PlacesFit (next value)) → (x : Value kind × Left) → end_of x.1 ≤ end_of left → (why : Option Objection) → place_of (by_objection kind next left.at x why) ≤ end_of left
+  objection_fits later x h None = omega (arith, later x.0 x.1, h)
+  objection_fits later x h (Some why) = omega (arith, objected_place left.at why)
+
+  found_fits : ((value : Value kind) → PlacesFit (next value)) → (found : Result (Value kind × Left) DecodeFault) → Ends (end_of left) found → place_of (by_field kind objection next left.at found) ≤ end_of left
+  found_fits later (Ok x) h = objection_fits later x h (objection x.0)
+  found_fits later (Err (Broken fault)) h = h
+  found_fits later (Err (OtherVersion version)) h = omega arith
+
+done_fits : (packet : Entry) → PlacesFit (done packet)
+done_fits packet left =
+    elim (length left.rest == 0) as (λ b. place_of (if b then Ok packet else Err (broken left.at rules.W06)) ≤ end_of left) [ true ↦ omega arith | false ↦ omega arith ]
+
+at_end_fits : (whole more : Format) → PlacesFit whole → PlacesFit more → PlacesFit (at_end whole more)
+at_end_fits whole more one two left =
+    elim (length left.rest == 0) as (λ b. place_of (if b then read whole left else read more left) ≤ end_of left) [ true ↦ one left | false ↦ two left ]
+
+places_fit : (format : Format) → PlacesFit format
+places_fit (done packet) left = done_fits packet left
+places_fit (rest packet) left = omega arith
+places_fit (refused rule) left = omega arith
+places_fit (missing rule) left = omega arith
+places_fit (field kind objection next) left = found_fits kind objection next left (λ value. places_fit (next value)) (field_on kind left) (field_ends kind left)
+places_fit (at_end whole more) left = at_end_fits whole more (places_fit whole) (places_fit more) left
+
+-- A place in a packet that may be, of at most 268,435,460 bytes.
+pub place_fits : (first size at : ℕ) (left : Left) (rule : PacketRule) → read (format_of first size) left ≡ Err (broken at rule) → left.at ≤ 5 → length left.rest ≤ 268435455 → at ≤ 268435460
+place_fits first size at left rule e h fits = omega (arith, places_fit (format_of first size) left, ap place_of e, h, fits)

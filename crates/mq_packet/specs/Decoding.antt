@@ -1,0 +1,101 @@
+-- What a packet's bytes come to: the packet, or the first thing that isn't right with them.
+use Rattle.std.specs.Prelude.{ℕ, ◌+◌, ◌==◌, if◌then◌else◌, List, length, Option, Some, None, Result, Ok, Err}
+use Rattle.mq_wire.specs.declared.fault.Reason.{Reason}
+use Rattle.mq_wire.specs.declared.fault.Reason.TheVariants as reasons
+use Rattle.mq_wire.specs.declared.fault.WireFault.{WireFault}
+use Rattle.mq_wire.specs.Left.{Left, placed}
+use Rattle.mq_wire.specs.Fields.{byte_at, two_bytes_at, text_at, binary_at}
+use Rattle.mq_wire.specs.Spellings.{varint_spelling}
+use Rattle.mq_props.specs.declared.fault.PropFault.{PropFault}
+use Rattle.mq_props.specs.declared.fault.PropReason.{PropReason}
+use Rattle.mq_props.specs.declared.fault.PropReason.TheVariants as prop_reasons
+use Rattle.mq_props.specs.Reading.{list_on}
+use Rattle.mq_packet.specs.declared.rule.PacketRule.{PacketRule}
+use Rattle.mq_packet.specs.declared.rule.PacketRule.TheVariants as rules
+use Rattle.mq_packet.specs.declared.fault.DecodeFault.{DecodeFault}
+use Rattle.mq_packet.specs.declared.fault.DecodeFault.TheVariants.{Broken, OtherVersion}
+use Rattle.mq_packet.specs.Entries.{Entry}
+use Rattle.mq_packet.specs.Formats.{Kind, byte, two_bytes, text, binary, properties, Value, Objection, breaks, other_version, Format, done, rest, refused, missing, field, at_end, format_of}
+
+-- A step that is taken only where the one before it succeeded.
+infixl 10 ◌>>=◌
+abbrev pub ◌>>=◌ : {A B : Type 0} → Result A DecodeFault → (A → Result B DecodeFault) → Result B DecodeFault
+(Ok x) >>= f = f x
+(Err fault) >>= f = Err fault
+
+-- A rule is broken at this place.
+abbrev pub broken : ℕ → PacketRule → DecodeFault
+broken at rule = Broken (record { at = at; rule = rule })
+
+-- What an objection to the field at this place comes to.
+abbrev pub objected : ℕ → Objection → DecodeFault
+objected at (breaks rule) = broken at rule
+objected at (other_version version) = OtherVersion version
+
+-- The rule that a field breaks which isn't spelled as its kind asks.
+abbrev pub rule_of : Reason → PacketRule
+rule_of reasons.Short = rules.W06
+rule_of reasons.Overlong = rules.W03
+rule_of reasons.NotUtf8 = rules.W04
+rule_of reasons.Nul = rules.W05
+
+-- The rule that a property list breaks.
+abbrev pub list_rule : PropReason → PacketRule
+list_rule (prop_reasons.Wire reason) = rule_of reason
+list_rule prop_reasons.Unknown = rules.W10
+list_rule prop_reasons.NotAllowed = rules.W10
+list_rule prop_reasons.Repeated = rules.W11
+list_rule prop_reasons.Value = rules.W12
+list_rule prop_reasons.Wildcard = rules.W14
+
+-- What was read, or the rule that is broken where no field of the kind stands.
+abbrev pub spelled : {X : Type 0} → Result X WireFault → Result X DecodeFault
+spelled (Ok x) = Ok x
+spelled (Err fault) = Err (broken fault.at (rule_of fault.reason))
+
+-- The same for a property list, which names the place of its first bad field.
+abbrev pub spelled_list : {X : Type 0} → Result X PropFault → Result X DecodeFault
+spelled_list (Ok x) = Ok x
+spelled_list (Err fault) = Err (broken fault.at (list_rule fault.reason))
+
+-- The field of this kind at the front of what is left, with what is left behind it; or the rule that is broken.
+abbrev pub field_on : (kind : Kind) → Left → Result (Value kind × Left) DecodeFault
+field_on byte left = spelled (placed left (byte_at left.rest))
+field_on two_bytes left = spelled (placed left (two_bytes_at left.rest))
+field_on text left = spelled (placed left (text_at left.rest))
+field_on binary left = spelled (placed left (binary_at left.rest))
+field_on (properties place) left = spelled_list (list_on place left)
+
+-- The value, unless it is objected to.
+abbrev pub unless : {X : Type 0} → ℕ → Option Objection → X → Result X DecodeFault
+unless at None x = Ok x
+unless at (Some objection) x = Err (objected at objection)
+
+-- The field at the front of what is left: first its spelling counts, then its value.
+abbrev pub read_field : (kind : Kind) → (Value kind → Option Objection) → Left → Result (Value kind × Left) DecodeFault
+read_field kind objection left = do
+  x ← field_on kind left
+  unless left.at (objection x.0) x
+
+-- Nothing is left over (2.1.4).
+abbrev pub ended : Entry → Left → Result Entry DecodeFault
+ended packet left = if length left.rest == 0 then Ok packet else Err (broken left.at rules.W06)
+
+-- What is left of a packet, read by its format.
+abbrev pub read : Format → Left → Result Entry DecodeFault
+read (done packet) left = ended packet left
+read (rest packet) left = Ok (packet left.rest)
+read (refused rule) left = Err (broken 0 rule)
+read (missing rule) left = Err (broken left.at rule)
+read (field kind objection next) left = do
+  x ← read_field kind objection left
+  read (next x.0) x.1
+read (at_end whole more) left = if length left.rest == 0 then read whole left else read more left
+
+-- Where a body of this length begins: behind the first byte and the Remaining Length (2.1.4).
+unfoldable pub body_start : ℕ → ℕ
+body_start size = 1 + length (varint_spelling size)
+
+-- The packet with this first byte and body, or the first fault.
+unfoldable pub decoded : ℕ → List ℕ → Result Entry DecodeFault
+decoded first body = read (format_of first (length body)) (record { at = body_start (length body); rest = body })

@@ -1,0 +1,116 @@
+-- The packets by their fields, apart from where their bytes lie in memory (MQTT 5.0, 3.1 to 3.15).
+use Rattle.std.specs.Prelude.{ℕ, Bool, true, false, List, [], Option}
+use Rattle.mq_props.specs.declared.table.Place.{Place}
+use Rattle.mq_props.specs.declared.table.Place.TheVariants as places
+use Rattle.mq_props.specs.Values.{Property}
+use Rattle.mq_props.specs.Listed.{Listed}
+use Rattle.mq_packet.specs.declared.codes.TheConstants.{PUBACK_CODES, PUBREL_CODES, SUBACK_CODES, UNSUBACK_CODES, DISCONNECT_CODES, AUTH_CODES}
+use Rattle.mq_packet.specs.declared.packet.Qos.{Qos}
+use Rattle.mq_packet.specs.declared.packet.AcknowledgementKind.{AcknowledgementKind}
+use Rattle.mq_packet.specs.declared.packet.AcknowledgementKind.TheVariants as acknowledgements
+use Rattle.mq_packet.specs.declared.packet.EndingKind.{EndingKind}
+use Rattle.mq_packet.specs.declared.packet.EndingKind.TheVariants as endings
+use Rattle.mq_packet.specs.declared.packet.RequestKind.{RequestKind}
+use Rattle.mq_packet.specs.declared.packet.RequestKind.TheVariants as requests
+
+-- A property list of a place with these properties.
+abbrev pub listed : Place → List Property → Listed
+listed place items = record { place = place; items = items }
+
+-- The empty property list of a place.
+abbrev pub none_listed : Place → Listed
+none_listed place = listed place []
+
+-- The Will of a CONNECT (3.1.2.5 to 3.1.2.7, 3.1.3.2 to 3.1.3.4).
+pub record WillFields : Type 0 where
+  pub qos : Qos
+  pub retain : Bool
+  pub properties : Listed
+  pub topic : List ℕ
+  pub payload : List ℕ
+
+-- CONNECT (3.1).
+pub record ConnectFields : Type 0 where
+  pub clean_start : Bool
+  pub keep_alive : ℕ
+  pub properties : Listed
+  pub client_identifier : List ℕ
+  pub will : Option WillFields
+  pub user_name : Option (List ℕ)
+  pub password : Option (List ℕ)
+
+-- PUBLISH (3.3).
+pub record PublishFields : Type 0 where
+  pub duplicate : Bool
+  pub qos : Qos
+  pub retain : Bool
+  pub topic : List ℕ
+  pub identifier : Option ℕ
+  pub properties : Listed
+  pub payload : List ℕ
+
+-- A Topic Filter, with its Subscription Options in a SUBSCRIBE (3.8.3), without them in an UNSUBSCRIBE (3.10.3).
+pub record AskedFilter : Type 0 where
+  pub filter : List ℕ
+  pub options : Option ℕ
+
+-- The fifteen Control Packets (2.1.2). PUBACK, PUBREC, PUBREL and PUBCOMP have the same fields, and so have SUBSCRIBE and
+-- UNSUBSCRIBE, and their answers.
+pub data Entry : Type 0 where
+  connect : ConnectFields → Entry
+  connack : (session_present : Bool) (code : ℕ) (properties : Listed) → Entry
+  publish : PublishFields → Entry
+  acknowledgement : (kind : AcknowledgementKind) (identifier code : ℕ) (properties : Listed) → Entry
+  request : (kind : RequestKind) (identifier : ℕ) (properties : Listed) (filters : List AskedFilter) → Entry
+  answer : (kind : RequestKind) (identifier : ℕ) (properties : Listed) (codes : List ℕ) → Entry
+  pingreq : Entry
+  pingresp : Entry
+  disconnect : (code : ℕ) (properties : Listed) → Entry
+  auth : (code : ℕ) (properties : Listed) → Entry
+
+-- Where the property list of an acknowledgement stands.
+abbrev pub acknowledgement_place : AcknowledgementKind → Place
+acknowledgement_place acknowledgements.Puback = places.Puback
+acknowledgement_place acknowledgements.Pubrec = places.Pubrec
+acknowledgement_place acknowledgements.Pubrel = places.Pubrel
+acknowledgement_place acknowledgements.Pubcomp = places.Pubcomp
+
+-- The Reason Codes of an acknowledgement (3.4.2.1, 3.5.2.1, 3.6.2.1, 3.7.2.1).
+abbrev pub acknowledgement_codes : AcknowledgementKind → List ℕ
+acknowledgement_codes acknowledgements.Puback = PUBACK_CODES
+acknowledgement_codes acknowledgements.Pubrec = PUBACK_CODES
+acknowledgement_codes acknowledgements.Pubrel = PUBREL_CODES
+acknowledgement_codes acknowledgements.Pubcomp = PUBREL_CODES
+
+-- Where the property list of a SUBSCRIBE or UNSUBSCRIBE stands, and that of its answer.
+abbrev pub request_place : RequestKind → Place
+request_place requests.Subscribe = places.Subscribe
+request_place requests.Unsubscribe = places.Unsubscribe
+
+abbrev pub answer_place : RequestKind → Place
+answer_place requests.Subscribe = places.Suback
+answer_place requests.Unsubscribe = places.Unsuback
+
+-- The Reason Codes of an answer (3.9.3, 3.11.3).
+abbrev pub answer_codes : RequestKind → List ℕ
+answer_codes requests.Subscribe = SUBACK_CODES
+answer_codes requests.Unsubscribe = UNSUBACK_CODES
+
+-- Each filter of a SUBSCRIBE has options, and none of an UNSUBSCRIBE (3.8.3, 3.10.3).
+abbrev pub has_options : RequestKind → Bool
+has_options requests.Subscribe = true
+has_options requests.Unsubscribe = false
+
+-- DISCONNECT and AUTH, which have the same fields, where their property lists stand, and their Reason Codes (3.14.2.1,
+-- 3.15.2.1).
+abbrev pub ending : EndingKind → ℕ → Listed → Entry
+ending endings.Disconnect code properties = disconnect code properties
+ending endings.Auth code properties = auth code properties
+
+abbrev pub ending_place : EndingKind → Place
+ending_place endings.Disconnect = places.Disconnect
+ending_place endings.Auth = places.Auth
+
+abbrev pub ending_codes : EndingKind → List ℕ
+ending_codes endings.Disconnect = DISCONNECT_CODES
+ending_codes endings.Auth = AUTH_CODES

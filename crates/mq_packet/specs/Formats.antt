@@ -1,0 +1,291 @@
+-- The formats of the packets (MQTT 5.0, 3.1 to 3.15): which fields each has, in their order, and which values of a field
+-- are taken.
+use Rattle.std.specs.Prelude.{ℕ, zero, suc, ◌==◌, nat_lt, Bool, true, false, ◌&&◌, ◌||◌, not, if◌then◌else◌, List, [], ◌∷◌, ◌++◌, length, Option, Some, None, is_some, bit_and, bytes_eq, codes}
+use Rattle.std.specs.List.{list_any}
+use Rattle.mq_topic.specs.Levels.{is_name, filter_fault}
+use Rattle.mq_props.specs.declared.table.Place.{Place}
+use Rattle.mq_props.specs.declared.table.Place.TheVariants as places
+use Rattle.mq_props.specs.declared.table.id.TheConstants.{TOPIC_ALIAS}
+use Rattle.mq_props.specs.Values.{Property}
+use Rattle.mq_props.specs.First.{first_two_bytes}
+use Rattle.mq_props.specs.Listed.{Listed}
+use Rattle.mq_packet.specs.declared.codes.TheConstants.{CONNACK_CODES}
+use Rattle.mq_packet.specs.declared.packet.Qos.{Qos}
+use Rattle.mq_packet.specs.declared.packet.Qos.TheVariants.{AtMostOnce, AtLeastOnce, ExactlyOnce}
+use Rattle.mq_packet.specs.declared.packet.AcknowledgementKind.{AcknowledgementKind}
+use Rattle.mq_packet.specs.declared.packet.AcknowledgementKind.TheVariants as acknowledgements
+use Rattle.mq_packet.specs.declared.packet.EndingKind.{EndingKind}
+use Rattle.mq_packet.specs.declared.packet.EndingKind.TheVariants as endings
+use Rattle.mq_packet.specs.declared.packet.RequestKind.{RequestKind}
+use Rattle.mq_packet.specs.declared.packet.RequestKind.TheVariants as requests
+use Rattle.mq_packet.specs.declared.rule.PacketRule.{PacketRule}
+use Rattle.mq_packet.specs.declared.rule.PacketRule.TheVariants as rules
+use Rattle.mq_packet.specs.Entries.{Entry, connect, connack, publish, acknowledgement, request, answer, pingreq, pingresp, WillFields, AskedFilter, listed, none_listed, acknowledgement_place, acknowledgement_codes, request_place, answer_place, answer_codes, has_options, ending, ending_place, ending_codes}
+
+-- The kinds of field: a byte, a Two Byte Integer (1.5.2), a UTF-8 Encoded String (1.5.4), Binary Data (1.5.6), and the
+-- property list of a place (2.2.2).
+pub data Kind : Type 0 where
+  byte two_bytes text binary : Kind
+  properties : Place → Kind
+
+-- The values of a kind of field.
+abbrev pub Value : Kind → Type 0
+Value byte = ℕ
+Value two_bytes = ℕ
+Value text = List ℕ
+Value binary = List ℕ
+Value (properties place) = List Property
+
+-- Why a value isn't taken: it breaks a rule, or it is the version of another protocol.
+pub data Objection : Type 0 where
+  breaks : PacketRule → Objection
+  other_version : ℕ → Objection
+
+-- The format of what is left of a packet.
+pub data Format : Type 0 where
+  -- nothing: it is this packet
+  done : Entry → Format
+  -- any bytes, of which this packet is made
+  rest : (List ℕ → Entry) → Format
+  -- the first byte breaks this rule
+  refused : PacketRule → Format
+  -- what is missing here breaks this rule
+  missing : PacketRule → Format
+  -- a field, whose value may be objected to, and then what its value decides
+  field : (kind : Kind) → (Value kind → Option Objection) → (Value kind → Format) → Format
+  -- the first format if nothing is left, else the second
+  at_end : Format → Format → Format
+
+-- A value to which nothing is objected where this holds, and which else breaks the rule.
+abbrev pub unless_broken : Bool → PacketRule → Option Objection
+unless_broken good rule = if good then None else Some (breaks rule)
+
+-- Each value is taken.
+abbrev pub any_value : {A : Type 0} → A → Option Objection
+any_value value = None
+
+-- Some of these bits are set in the byte.
+abbrev pub has_bits : ℕ → ℕ → Bool
+has_bits mask bits = not (bit_and bits mask == 0)
+
+-- The protocol's name is `MQTT` (3.1.2.1).
+abbrev pub name_objection : List ℕ → Option Objection
+name_objection name = unless_broken (bytes_eq name (codes "MQTT")) rules.W18
+
+-- Its version is 5 (3.1.2.2).
+abbrev pub version_objection : ℕ → Option Objection
+version_objection version = if version == 5 then None else Some (other_version version)
+
+-- The Connect Flags (3.1.2.3): bit 0 is reserved; bits 4 and 3, the Will QoS, aren't 3; and where bit 2, the Will Flag, isn't
+-- set, neither are they, nor is bit 5, Will Retain.
+abbrev pub are_connect_flags : ℕ → Bool
+are_connect_flags flags =
+    not (has_bits 1 flags) && (not (bit_and flags 24 == 24) && (has_bits 4 flags || not (has_bits 56 flags)))
+
+abbrev pub connect_flags_objection : ℕ → Option Objection
+connect_flags_objection flags = unless_broken (are_connect_flags flags) rules.W19
+
+-- Of the Connect Acknowledge Flags (3.2.2.1) only Session Present, bit 0, may be set.
+abbrev pub connack_flags_objection : ℕ → Option Objection
+connack_flags_objection flags = unless_broken (nat_lt flags 2) rules.W20
+
+-- A Reason Code is one of the packet's (2.4).
+abbrev pub is_code : List ℕ → ℕ → Bool
+is_code table code = list_any (λ c. c == code) table
+
+abbrev pub code_objection : List ℕ → ℕ → Option Objection
+code_objection table code = unless_broken (is_code table code) rules.W13
+
+-- A Packet Identifier isn't 0 (2.2.1).
+abbrev pub identifier_objection : ℕ → Option Objection
+identifier_objection identifier = unless_broken (not (identifier == 0)) rules.W09
+
+-- A Topic Name has no wildcard (3.3.2.1).
+abbrev pub topic_objection : List ℕ → Option Objection
+topic_objection topic = unless_broken (is_name topic) rules.W14
+
+-- Where the Topic Name is empty, the properties have a Topic Alias (3.3.2.1, 3.3.2.3.4).
+abbrev pub names_topic : List ℕ → List Property → Bool
+names_topic topic list = not (length topic == 0) || is_some (first_two_bytes TOPIC_ALIAS list)
+
+abbrev pub alias_objection : List ℕ → List Property → Option Objection
+alias_objection topic list = unless_broken (names_topic topic list) rules.W21
+
+-- A Topic Filter is one that may be (4.7.1).
+abbrev pub is_filter : List ℕ → Bool
+is_filter filter = not (is_some (filter_fault filter))
+
+abbrev pub filter_objection : List ℕ → Option Objection
+filter_objection filter = unless_broken (is_filter filter) rules.W15
+
+-- The Subscription Options (3.8.3.1): bits 1 and 0, the Maximum QoS, aren't 3; bits 5 and 4, Retain Handling, aren't 3; bits
+-- 7 and 6 are reserved.
+abbrev pub are_options : ℕ → Bool
+are_options options = not (bit_and options 3 == 3) && (not (bit_and options 48 == 48) && not (has_bits 192 options))
+
+abbrev pub options_objection : ℕ → Option Objection
+options_objection options = unless_broken (are_options options) rules.W17
+
+-- A field that stands only where the flag for it is set, and then what it decides.
+abbrev pub field_if : Bool → (kind : Kind) → (Option (Value kind) → Format) → Format
+field_if false kind next = next None
+field_if true kind next = field kind any_value (λ value. next (Some value))
+
+-- The QoS that two bits of this weight name, where they aren't both set (3.1.2.6, 3.3.1.2).
+abbrev pub qos_of : ℕ → ℕ → Qos
+qos_of weight bits = if bits == 0 then AtMostOnce else if bits == weight then AtLeastOnce else ExactlyOnce
+
+-- The Will that the Connect Flags announce (3.1.3.2 to 3.1.3.4).
+abbrev pub will_if : Bool → ℕ → (Option WillFields → Format) → Format
+will_if false flags next = next None
+will_if true flags next =
+    field (properties places.Will) any_value (λ list.
+    field text any_value (λ topic.
+    field binary any_value (λ payload.
+    next (Some (record { qos = qos_of 8 (bit_and flags 24); retain = has_bits 32 flags; properties = listed places.Will list; topic = topic; payload = payload })))))
+
+-- The Password, where its flag is set, and the packet with it (3.1.2.9, 3.1.3.6).
+abbrev pub password_from : ℕ → (Option (List ℕ) → Entry) → Format
+password_from flags packet = field_if (has_bits 64 flags) binary (λ password. done (packet password))
+
+-- The User Name, where its flag is set, and the Password (3.1.2.8, 3.1.3.5).
+abbrev pub user_name_from : ℕ → (Option (List ℕ) → Option (List ℕ) → Entry) → Format
+user_name_from flags packet = field_if (has_bits 128 flags) text (λ user_name. password_from flags (packet user_name))
+
+-- The Will, where its flag is set, and what stands behind it.
+abbrev pub will_from : ℕ → (Option WillFields → Option (List ℕ) → Option (List ℕ) → Entry) → Format
+will_from flags packet = will_if (has_bits 4 flags) flags (λ will. user_name_from flags (packet will))
+
+-- What stands behind the Connect Flags (3.1.2.10 to 3.1.3.6).
+abbrev pub connect_from : ℕ → Format
+connect_from flags =
+    field two_bytes any_value (λ keep_alive.
+    field (properties places.Connect) any_value (λ list.
+    field text any_value (λ client_identifier.
+    will_from flags (λ will user_name password.
+    connect (record { clean_start = has_bits 2 flags; keep_alive = keep_alive; properties = listed places.Connect list; client_identifier = client_identifier; will = will; user_name = user_name; password = password })))))
+
+-- CONNECT (3.1).
+abbrev pub connect_format : Format
+connect_format =
+    field text name_objection (λ name.
+    field byte version_objection (λ version.
+    field byte connect_flags_objection (λ flags.
+    connect_from flags)))
+
+-- CONNACK (3.2).
+abbrev pub connack_format : Format
+connack_format =
+    field byte connack_flags_objection (λ flags.
+    field byte (code_objection CONNACK_CODES) (λ code.
+    field (properties places.Connack) any_value (λ list.
+    done (connack (flags == 1) code (listed places.Connack list)))))
+
+-- What stands behind the Packet Identifier of a PUBLISH: properties and the payload (3.3.2.3, 3.3.3).
+abbrev pub publish_from : Bool → Qos → Bool → List ℕ → Option ℕ → Format
+publish_from duplicate qos retain topic identifier =
+    field (properties places.Publish) (alias_objection topic) (λ list.
+    rest (λ payload. publish (record { duplicate = duplicate; qos = qos; retain = retain; topic = topic; identifier = identifier; properties = listed places.Publish list; payload = payload })))
+
+-- PUBLISH of QoS 0 (3.3), which has no Packet Identifier.
+abbrev pub publish_unacknowledged : Bool → Format
+publish_unacknowledged retain =
+    field text topic_objection (λ topic.
+    publish_from false AtMostOnce retain topic None)
+
+-- PUBLISH of a QoS above 0, which has one (3.3.2.2).
+abbrev pub publish_acknowledged : Bool → Qos → Bool → Format
+publish_acknowledged duplicate qos retain =
+    field text topic_objection (λ topic.
+    field two_bytes identifier_objection (λ identifier.
+    publish_from duplicate qos retain topic (Some identifier)))
+
+-- PUBLISH by its flags (3.3.1): bit 3 is DUP, bits 2 and 1 are the QoS, bit 0 is RETAIN.
+abbrev pub publish_format : ℕ → Format
+publish_format first =
+    if bit_and first 6 == 0 then (if has_bits 8 first then refused rules.W08 else publish_unacknowledged (has_bits 1 first)) else
+    if bit_and first 6 == 2 then publish_acknowledged (has_bits 8 first) AtLeastOnce (has_bits 1 first) else
+    if bit_and first 6 == 4 then publish_acknowledged (has_bits 8 first) ExactlyOnce (has_bits 1 first) else
+    refused rules.W07
+
+-- The property list of a place at the end of a packet, which may be left out with all that it has.
+abbrev pub last_properties : Place → (Listed → Entry) → Format
+last_properties place packet =
+    at_end (done (packet (none_listed place)))
+    (field (properties place) any_value (λ list.
+    done (packet (listed place list))))
+
+-- PUBACK, PUBREC, PUBREL and PUBCOMP (3.4 to 3.7): where one ends behind its identifier its Reason Code is 0x00, and where it
+-- ends behind its code it has no properties.
+abbrev pub acknowledgement_format : AcknowledgementKind → Format
+acknowledgement_format kind =
+    field two_bytes identifier_objection (λ identifier.
+    at_end (done (acknowledgement kind identifier 0 (none_listed (acknowledgement_place kind))))
+    (field byte (code_objection (acknowledgement_codes kind)) (λ code.
+    last_properties (acknowledgement_place kind) (acknowledgement kind identifier code))))
+
+-- The options behind a filter, if they are asked for.
+abbrev pub options_if : Bool → (Option ℕ → Format) → Format
+options_if false next = next None
+options_if true next = field byte options_objection (λ options. next (Some options))
+
+-- At most this many filters, with options or without, behind those that were found: at least one in all (3.8.3, 3.10.3).
+abbrev pub filters_format : ℕ → Bool → (List AskedFilter → Entry) → List AskedFilter → Format
+filters_format zero asks packet found = done (packet found)
+filters_format (suc n) asks packet found =
+    at_end (if length found == 0 then missing rules.W16 else done (packet found))
+    (field text filter_objection (λ filter.
+    options_if asks (λ options.
+    filters_format n asks packet (found ++ record { filter = filter; options = options } ∷ []))))
+
+-- SUBSCRIBE and UNSUBSCRIBE (3.8, 3.10) of so many bytes, so of no more filters.
+abbrev pub request_format : ℕ → RequestKind → Format
+request_format size kind =
+    field two_bytes identifier_objection (λ identifier.
+    field (properties (request_place kind)) any_value (λ list.
+    filters_format size (has_options kind) (request kind identifier (listed (request_place kind) list)) []))
+
+-- At most this many Reason Codes of a table behind those that were found.
+abbrev pub codes_format : ℕ → List ℕ → (List ℕ → Entry) → List ℕ → Format
+codes_format zero table packet found = done (packet found)
+codes_format (suc n) table packet found =
+    at_end (done (packet found))
+    (field byte (code_objection table) (λ code.
+    codes_format n table packet (found ++ code ∷ [])))
+
+-- SUBACK and UNSUBACK (3.9, 3.11) of so many bytes, so of no more Reason Codes.
+abbrev pub answer_format : ℕ → RequestKind → Format
+answer_format size kind =
+    field two_bytes identifier_objection (λ identifier.
+    field (properties (answer_place kind)) any_value (λ list.
+    codes_format size (answer_codes kind) (answer kind identifier (listed (answer_place kind) list)) []))
+
+-- DISCONNECT (3.14) and AUTH (3.15): an empty one has the Reason Code 0x00, and where one ends behind its code it has no
+-- properties.
+abbrev pub ending_format : EndingKind → Format
+ending_format kind =
+    at_end (done (ending kind 0 (none_listed (ending_place kind))))
+    (field byte (code_objection (ending_codes kind)) (λ code.
+    last_properties (ending_place kind) (ending kind code)))
+
+-- The format of a body of this size behind a first byte: the packet's type, and the flags that it must have (2.1.2, 2.1.3).
+abbrev pub format_of : ℕ → ℕ → Format
+format_of first size =
+    if nat_lt first 16 then refused rules.W02 else
+    if first == 16 then connect_format else
+    if first == 32 then connack_format else
+    if nat_lt first 48 then refused rules.W01 else
+    if nat_lt first 64 then publish_format first else
+    if first == 64 then acknowledgement_format acknowledgements.Puback else
+    if first == 80 then acknowledgement_format acknowledgements.Pubrec else
+    if first == 98 then acknowledgement_format acknowledgements.Pubrel else
+    if first == 112 then acknowledgement_format acknowledgements.Pubcomp else
+    if first == 130 then request_format size requests.Subscribe else
+    if first == 144 then answer_format size requests.Subscribe else
+    if first == 162 then request_format size requests.Unsubscribe else
+    if first == 176 then answer_format size requests.Unsubscribe else
+    if first == 192 then done pingreq else
+    if first == 208 then done pingresp else
+    if first == 224 then ending_format endings.Disconnect else
+    if first == 240 then ending_format endings.Auth else
+    refused rules.W01

@@ -1,0 +1,10 @@
+pub mod Entries
+pub mod Formats
+pub mod Decoding
+pub mod Misspellings
+pub mod Spelled
+pub mod Reading
+pub mod Asking
+pub mod Elements
+pub mod Stream
+pub mod Frames

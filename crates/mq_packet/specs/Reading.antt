@@ -1,0 +1,104 @@
+-- What the readers of fields and packets answer.
+use Rattle.std.specs.Prelude.{◌≡◌, ℕ, List, Option, Some, None, Result, Ok, Err}
+use Rattle.std.specs.Option.{option_map}
+use Rattle.mq_wire.specs.declared.fault.WireFault.{WireFault}
+use Rattle.mq_wire.specs.Left.{Left}
+use Rattle.mq_props.specs.declared.fault.PropFault.{PropFault}
+use Rattle.mq_packet.specs.declared.fault.DecodeFault.{DecodeFault}
+use Rattle.mq_packet.specs.declared.fault.DecodeFault.TheVariants.{OtherVersion}
+use Rattle.mq_packet.specs.declared.packet.Packet.{Packet}
+use Rattle.mq_packet.specs.declared.packet.Packet.TheVariants as packets
+use Rattle.mq_packet.specs.declared.packet.Will.{Will}
+use Rattle.mq_packet.specs.declared.packet.Connect.{Connect}
+use Rattle.mq_packet.specs.declared.packet.AcknowledgementKind.TheVariants as acknowledgements
+use Rattle.mq_packet.specs.declared.packet.RequestKind.TheVariants as requests
+use Rattle.mq_packet.specs.declared.stop.Stop.{Stop}
+use Rattle.mq_packet.specs.declared.stop.Stop.TheVariants as stops
+use Rattle.mq_packet.specs.Entries.{Entry, WillFields, ConnectFields, connect, connack, publish, acknowledgement, request, answer, pingreq, pingresp, disconnect, auth}
+use Rattle.mq_packet.specs.Decoding.{broken, rule_of, list_rule}
+
+-- The Will of a CONNECT in memory.
+abbrev pub will_view : Will → WillFields
+will_view w = record { qos = w.qos; retain = w.retain; properties = w.properties; topic = w.topic.now; payload = w.payload.now }
+
+-- A CONNECT in memory.
+abbrev pub connect_view : Connect → ConnectFields
+connect_view p = record { clean_start = p.clean_start; keep_alive = p.keep_alive; properties = p.properties; client_identifier = p.client_identifier.now; will = option_map will_view p.will; user_name = option_map (λ t. t.now) p.user_name; password = option_map (λ b. b.now) p.password }
+
+-- The fields of a packet in memory: all but `read_len`, which tells how it was spelled.
+abbrev pub view : Packet → Entry
+view (packets.Connect p) = connect (connect_view p)
+view (packets.Connack p) = connack p.session_present p.code p.properties
+view (packets.Publish p) = publish (record { duplicate = p.duplicate; qos = p.qos; retain = p.retain; topic = p.topic.now; identifier = p.identifier; properties = p.properties; payload = p.payload.now })
+view (packets.Puback p) = acknowledgement acknowledgements.Puback p.identifier p.code p.properties
+view (packets.Pubrec p) = acknowledgement acknowledgements.Pubrec p.identifier p.code p.properties
+view (packets.Pubrel p) = acknowledgement acknowledgements.Pubrel p.identifier p.code p.properties
+view (packets.Pubcomp p) = acknowledgement acknowledgements.Pubcomp p.identifier p.code p.properties
+view (packets.Subscribe p) = request requests.Subscribe p.identifier p.properties p.filters
+view (packets.Suback p) = answer requests.Subscribe p.identifier p.properties p.codes
+view (packets.Unsubscribe p) = request requests.Unsubscribe p.identifier p.properties p.filters
+view (packets.Unsuback p) = answer requests.Unsubscribe p.identifier p.properties p.codes
+view packets.Pingreq = pingreq
+view packets.Pingresp = pingresp
+view (packets.Disconnect p) = disconnect p.code p.properties
+view (packets.Auth p) = auth p.code p.properties
+
+-- The CONNECT with this Password, with this User Name too, and with this Will too.
+abbrev pub with_password : Connect → Option (List ℕ) → Entry
+with_password p password = connect (record { clean_start = p.clean_start; keep_alive = p.keep_alive; properties = p.properties; client_identifier = p.client_identifier.now; will = option_map will_view p.will; user_name = option_map (λ t. t.now) p.user_name; password = password })
+
+abbrev pub with_names : Connect → Option (List ℕ) → Option (List ℕ) → Entry
+with_names p user_name password = connect (record { clean_start = p.clean_start; keep_alive = p.keep_alive; properties = p.properties; client_identifier = p.client_identifier.now; will = option_map will_view p.will; user_name = user_name; password = password })
+
+abbrev pub with_will : Connect → Option WillFields → Option (List ℕ) → Option (List ℕ) → Entry
+with_will p will user_name password = connect (record { clean_start = p.clean_start; keep_alive = p.keep_alive; properties = p.properties; client_identifier = p.client_identifier.now; will = will; user_name = user_name; password = password })
+
+-- The length of the body that a packet was read from, where it keeps one.
+abbrev pub read_len_of : Packet → Option ℕ
+read_len_of (packets.Puback p) = p.read_len
+read_len_of (packets.Pubrec p) = p.read_len
+read_len_of (packets.Pubrel p) = p.read_len
+read_len_of (packets.Pubcomp p) = p.read_len
+read_len_of (packets.Disconnect p) = p.read_len
+read_len_of (packets.Auth p) = p.read_len
+read_len_of _ = None
+
+-- What a packet keeps of the length of the body that it is read from: the acknowledgements, DISCONNECT and AUTH keep it, for
+-- each of them has several spellings (3.4.2.1 to 3.7.2.1, 3.14.2.1, 3.15.2.1).
+abbrev pub kept_len : ℕ → Entry → Option ℕ
+kept_len len (acknowledgement kind identifier code properties) = Some len
+kept_len len (disconnect code properties) = Some len
+kept_len len (auth code properties) = Some len
+kept_len len _ = None
+
+-- The packet keeps so the length of the body that it was read from.
+abbrev pub HasReadLen : ℕ → Packet → Type 0
+HasReadLen len packet = read_len_of packet ≡ kept_len len (view packet)
+
+-- A field that isn't spelled as its kind asks stops the reading.
+abbrev pub misspelled : WireFault → Stop
+misspelled fault = stops.Broken fault.at (rule_of fault.reason)
+
+-- So does a bad field of a property list.
+abbrev pub bad_list : PropFault → Stop
+bad_list fault = stops.Broken fault.at (list_rule fault.reason)
+
+-- The fault of a packet whose reading stops.
+abbrev pub fault_of : Stop → DecodeFault
+fault_of (stops.Broken at rule) = broken at rule
+fault_of (stops.OtherVersion version) = OtherVersion version
+
+-- A reader of a field answers what is read, with the cursor behind it; or where the reading stops.
+abbrev pub Takes : {X Y : Type 0} → (X → Y) → Result X Stop → Result (Y × Left) DecodeFault → Left → Type 0
+Takes see (Ok x) read new = read ≡ Ok (see x, new)
+Takes see (Err stop) read new = read ≡ Err (fault_of stop)
+
+-- A reader of a packet answers the packet, or where the reading stops.
+abbrev pub Reads : {X : Type 0} → (X → Entry) → Result X Stop → Result Entry DecodeFault → Type 0
+Reads see (Ok packet) read = read ≡ Ok (see packet)
+Reads see (Err stop) read = read ≡ Err (fault_of stop)
+
+-- The call answers this packet, or this fault.
+abbrev pub Gives : {E X Y : Type 0} → (X → Y) → Result X E → Result Y E → Type 0
+Gives see (Ok x) read = read ≡ Ok (see x)
+Gives see (Err fault) read = read ≡ Err fault

@@ -1,0 +1,93 @@
+-- Which packet a first byte and a body spell, and which fault they have: relations, apart from any reading.
+use Rattle.std.specs.Prelude.{◌≡◌, ◌≢◌, ℕ, ◌+◌, ◌≤◌, ◌⊎◌, List, [], ◌∷◌, ◌++◌, length, Option, Some, None, Result, Ok, Err}
+use Rattle.mq_wire.specs.Spellings.{IsByte, byte_spelling, IsTwoBytes, two_bytes_spelling, IsText, text_spelling, IsBinary, binary_spelling, varint_spelling}
+use Rattle.mq_props.specs.Values.{body as properties_spelling}
+use Rattle.mq_props.specs.Allowed.{AreAllowed}
+use Rattle.mq_packet.specs.declared.rule.PacketRule.{PacketRule}
+use Rattle.mq_packet.specs.declared.rule.PacketRule.TheVariants as rules
+use Rattle.mq_packet.specs.declared.fault.DecodeFault.{DecodeFault}
+use Rattle.mq_packet.specs.declared.fault.DecodeFault.TheVariants.{Broken, OtherVersion}
+use Rattle.mq_packet.specs.Entries.{Entry}
+use Rattle.mq_packet.specs.Formats.{Kind, byte, two_bytes, text, binary, properties, Value, Objection, Format, done, rest, refused, missing, field, at_end, format_of}
+use Rattle.mq_packet.specs.Decoding.{broken, objected, body_start}
+use Rattle.mq_packet.specs.Misspellings.{Misspelled}
+
+-- The values of a kind of field (1.5, 2.2.2).
+abbrev pub IsValue : (kind : Kind) → Value kind → Type 0
+IsValue byte value = IsByte value
+IsValue two_bytes value = IsTwoBytes value
+IsValue text value = IsText value
+IsValue binary value = IsBinary value
+IsValue (properties place) value = AreAllowed place value × (length (properties_spelling value) ≤ 268435455)
+
+-- The spelling of a value.
+abbrev pub spelling : (kind : Kind) → Value kind → List ℕ
+spelling byte value = byte_spelling value
+spelling two_bytes value = two_bytes_spelling value
+spelling text value = text_spelling value
+spelling binary value = binary_spelling value
+spelling (properties place) value = varint_spelling (length (properties_spelling value)) ++ properties_spelling value
+
+-- The bytes begin with a value of this kind, spelled, and these are left behind it.
+pub record Begin (kind : Kind) (bytes : List ℕ) (value : Value kind) (left : List ℕ) : Type 0 where
+  pub is_value : IsValue kind value
+  pub spelled : bytes ≡ spelling kind value ++ left
+
+-- They begin with a value to which nothing is objected, and then what is said of the value and of what is left behind it.
+abbrev pub Good : (kind : Kind) → (Value kind → Option Objection) → List ℕ → (Value kind → List ℕ → Type 0) → Type 0
+Good kind objection bytes then = (value : Value kind) × (left : List ℕ) × Begin kind bytes value left × (objection value ≡ None) × then value left
+
+-- They begin with a value to which this is objected.
+abbrev pub Objected : (kind : Kind) → (Value kind → Option Objection) → List ℕ → Objection → Type 0
+Objected kind objection bytes why = (value : Value kind) × (left : List ℕ) × Begin kind bytes value left × (objection value ≡ Some why)
+
+-- The bytes are those of this packet by the format: its fields in their order, each of them good, and nothing else.
+abbrev pub Spells : Format → List ℕ → Entry → Type 0
+Spells (done packet) bytes entry = (bytes ≡ []) × (packet ≡ entry)
+Spells (rest packet) bytes entry = packet bytes ≡ entry
+Spells (refused rule) bytes entry = ⊥
+Spells (missing rule) bytes entry = ⊥
+Spells (field kind objection next) bytes entry = Good kind objection bytes (λ value left. Spells (next value) left entry)
+Spells (at_end whole more) [] entry = Spells whole [] entry
+Spells (at_end whole more) (b ∷ bytes) entry = Spells more (b ∷ bytes) entry
+
+-- The bytes, the first of which stands at this place, have this fault by the format: fields in their order, each of them
+-- good, and then what is at fault.
+abbrev pub Fails : Format → ℕ → List ℕ → DecodeFault → Type 0
+Fails (done packet) at bytes fault = (bytes ≢ []) × (fault ≡ broken at rules.W06)
+Fails (rest packet) at bytes fault = ⊥
+Fails (refused rule) at bytes fault = fault ≡ broken 0 rule
+Fails (missing rule) at bytes fault = fault ≡ broken at rule
+Fails (field kind objection next) at bytes fault =
+    Misspelled kind at bytes fault
+    ⊎ (((why : Objection) × Objected kind objection bytes why × (fault ≡ objected at why))
+    ⊎ Good kind objection bytes (λ value left. Fails (next value) (at + length (spelling kind value)) left fault))
+Fails (at_end whole more) at [] fault = Fails whole at [] fault
+Fails (at_end whole more) at (b ∷ bytes) fault = Fails more at (b ∷ bytes) fault
+
+-- What bytes come to by a format: a packet that they spell, or a fault that they have.
+abbrev pub Is : Format → ℕ → List ℕ → Result Entry DecodeFault → Type 0
+Is format at bytes (Ok entry) = Spells format bytes entry
+Is format at bytes (Err fault) = Fails format at bytes fault
+
+-- The first byte and the body spell this packet.
+abbrev pub IsSpelled : ℕ → List ℕ → Entry → Type 0
+IsSpelled first body entry = Spells (format_of first (length body)) body entry
+
+-- They break this rule, by the field at this place, which is counted from the packet's first byte.
+abbrev pub Breaks : ℕ → List ℕ → ℕ → PacketRule → Type 0
+Breaks first body at rule = Fails (format_of first (length body)) (body_start (length body)) body (broken at rule)
+
+-- They are a CONNECT of another protocol version, this one.
+abbrev pub IsOtherVersion : ℕ → List ℕ → ℕ → Type 0
+IsOtherVersion first body version = Fails (format_of first (length body)) (body_start (length body)) body (OtherVersion version)
+
+-- They have this fault.
+abbrev pub HasFault : ℕ → List ℕ → DecodeFault → Type 0
+HasFault first body (Broken fault) = Breaks first body fault.at fault.rule
+HasFault first body (OtherVersion version) = IsOtherVersion first body version
+
+-- Which of the three holds, and of what.
+abbrev pub Comes : ℕ → List ℕ → Result Entry DecodeFault → Type 0
+Comes first body (Ok entry) = IsSpelled first body entry
+Comes first body (Err fault) = HasFault first body fault

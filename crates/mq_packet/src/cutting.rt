@@ -1,0 +1,40 @@
+//! Cutting a stream of bytes into packets.
+
+ghost use Rattle.std.specs.Prelude.{◌≡◌, ◌↔◌, ℕ, true};
+ghost use Rattle.mq_packet.specs.Stream.{is_lost};
+ghost use Rattle.mq_packet.specs.Frames.{BeginsWithFrame, cut_of};
+
+use super::header::{FixedHeader, fixed_header};
+use super::frame::Cut;
+
+/// The packet at the front of the bytes: `Frame` exactly where they begin with a whole one, `Lost` exactly where they aren't
+/// empty and no variable byte integer can stand behind the first of them, else `Need` (MQTT 5.0, section 2.1).
+#[tactic(auto, using(crate::proofs::FrameLaws::lost_exactly))]
+pub fn cut(bytes: &[u8]) -> Cut
+    // A frame is answered exactly where the bytes begin with one.
+    ensures frame { (first start end : ℕ) → (result ≡ Cut.Frame first start end) ↔ BeginsWithFrame bytes.now first start end }
+    ensures lost { (result ≡ Cut.Lost) ↔ (is_lost bytes.now ≡ true) }
+    ensures exact { result ≡ cut_of bytes.now }
+{
+    cut_front(bytes)
+}
+
+#[tactic(auto, using(crate::proofs::StreamLaws::not_empty), unfolding(crate::specs::Frames::cut_of))]
+fn cut_front(bytes: &[u8]) -> Cut
+    ensures { result ≡ cut_of bytes.now }
+{
+    match fixed_header(bytes) {
+        FixedHeader::Short => Cut::Need,
+        FixedHeader::Lost => Cut::Lost,
+        FixedHeader::Whole { length, size } => {
+            if bytes.len() < size {
+                return Cut::Need;
+            }
+            Cut::Frame {
+                first: bytes[0],
+                body_start: length,
+                body_end: size,
+            }
+        }
+    }
+}

@@ -1,0 +1,103 @@
+//! What a packet's bytes say.
+
+ghost use Rattle.std.specs.Prelude.{◌≡◌, ◌≤◌, IfOk, IfErr, Some, Result, length};
+ghost use Rattle.mq_packet.specs.declared.fault.DecodeFault.{DecodeFault};
+ghost use Rattle.mq_packet.specs.Entries.{Entry};
+ghost use Rattle.mq_packet.specs.Decoding.{body_start, decoded};
+ghost use Rattle.mq_packet.specs.Spelled.{IsSpelled, HasFault, Comes};
+ghost use Rattle.mq_packet.specs.Reading.{view, HasReadLen, Gives};
+
+use crate::fault::{BodyFault, DecodeFault};
+use crate::packet::{Acknowledgement, Ending, Packet};
+use crate::reading::read_packet;
+use crate::stop::Stop;
+use mq_wire::Cursor;
+
+/// The packet that has this first byte, which is its type and flags, and this body, which is what stands behind the
+/// Remaining Length (MQTT 5.0, sections 2.1 and 3.1 to 3.15).
+///
+/// The fields are looked at in their order, each of them first for its spelling and then for its value, and the first that
+/// isn't right decides: `Broken` where it breaks a rule on a packet's bytes, with its place, `OtherVersion` where it is the
+/// version of a CONNECT and another than 5. Last, no bytes may be left over. A body has at most 268,435,455 bytes
+/// (MQTT 5.0, section 2.1.4). Nothing is copied, and no memory is taken.
+pub fn decode<'a>(first: u8, body: &'a [u8]) -> Result<Packet<'a>, DecodeFault>
+    requires { length body.now ≤ 268435455 }
+    // A packet is answered only where these bytes spell it, and a fault only where they have it.
+    ensures packet { IfOk result (λ packet. IsSpelled first body.now (view packet)) }
+    ensures fault { IfErr result (λ fault. HasFault first body.now fault) }
+    // A packet that they spell is answered, and so is a fault that they have.
+    ensures only { (outcome : Result Entry DecodeFault) → Comes first body.now outcome → Gives view result outcome }
+    // A packet that has several spellings keeps how long this one is.
+    ensures read_len { IfOk result (λ packet. HasReadLen (length body.now) packet) }
+    ensures exact { Gives view result (decoded first body.now) }
+{
+    read_body(first, body)
+}
+
+#[tactic(auto, unfolding(crate::specs::Decoding::decoded))]
+fn read_body<'a>(first: u8, body: &'a [u8]) -> Result<Packet<'a>, DecodeFault>
+    requires { length body.now ≤ 268435455 }
+    ensures read_len { IfOk result (λ packet. HasReadLen (length body.now) packet) }
+    ensures exact { Gives view result (decoded first body.now) }
+{
+    let cursor = Cursor::starting_at(body, start_of_body(body.len()));
+    match read_packet(first, cursor, body.len()) {
+        Ok(packet) => Ok(with_read_len(packet, body.len() as u32)),
+        Err(Stop::Broken { at, rule }) => Err(DecodeFault::Broken(BodyFault {
+            at: at as u32,
+            rule,
+        })),
+        Err(Stop::OtherVersion(version)) => Err(DecodeFault::OtherVersion(version)),
+    }
+}
+
+// The place of the first byte of a body of this size: behind the first byte and the shortest spelling of the size
+// (MQTT 5.0, sections 1.5.5 and 2.1.4).
+#[tactic(auto, unfolding(crate::specs::Decoding::body_start, mq_wire::specs::Spellings::varint_spelling))]
+fn start_of_body(size: usize) -> usize
+    requires { size ≤ 268435455 }
+    ensures start { result ≡ body_start size }
+    ensures bound { result ≤ 5 }
+{
+    match size {
+        0..128 => 2,
+        128..16_384 => 3,
+        16_384..2_097_152 => 4,
+        _ => 5,
+    }
+}
+
+// The packet, which keeps the length of the body that it was read from if it has several spellings (MQTT 5.0, sections 3.4 to
+// 3.7, 3.14 and 3.15).
+fn with_read_len<'a>(packet: Packet<'a>, len: u32) -> Packet<'a>
+    ensures same { view result ≡ view packet.entry }
+    ensures read_len { HasReadLen len result }
+{
+    match packet {
+        Packet::Puback(p) => Packet::Puback(acknowledgement_of(p, len)),
+        Packet::Pubrec(p) => Packet::Pubrec(acknowledgement_of(p, len)),
+        Packet::Pubrel(p) => Packet::Pubrel(acknowledgement_of(p, len)),
+        Packet::Pubcomp(p) => Packet::Pubcomp(acknowledgement_of(p, len)),
+        Packet::Disconnect(p) => Packet::Disconnect(ending_of(p, len)),
+        Packet::Auth(p) => Packet::Auth(ending_of(p, len)),
+        other => other,
+    }
+}
+
+fn acknowledgement_of<'a>(packet: Acknowledgement<'a>, len: u32) -> Acknowledgement<'a>
+    ensures { result ≡ record { identifier = packet.entry.identifier; code = packet.entry.code; properties = packet.entry.properties; read_len = Some len } }
+{
+    Acknowledgement {
+        read_len: Some(len),
+        ..packet
+    }
+}
+
+fn ending_of<'a>(packet: Ending<'a>, len: u32) -> Ending<'a>
+    ensures { result ≡ record { code = packet.entry.code; properties = packet.entry.properties; read_len = Some len } }
+{
+    Ending {
+        read_len: Some(len),
+        ..packet
+    }
+}

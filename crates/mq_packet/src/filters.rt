@@ -1,0 +1,158 @@
+//! The filters of a SUBSCRIBE or UNSUBSCRIBE.
+
+ghost use Rattle.std.specs.Prelude.{◌≡◌, ◌<◌, ◌^◌, length, Bool, [], ◌∷◌, Some, None, List, IfSome, IsSomeAnd, MatchOption};
+ghost use Rattle.std.specs.Iterator.{YieldsFirstBy, item_count};
+ghost use Rattle.mq_packet.specs.Entries.{AskedFilter};
+ghost use Rattle.mq_packet.specs.Asking.{asked_at, asked_of, filters_spelling, AreAsked};
+ghost use Rattle.mq_packet.specs.Elements.{filter_view};
+
+use crate::reading::check_filters;
+use mq_wire::Cursor;
+use std::marker::Model;
+
+/// The filters of a SUBSCRIBE or UNSUBSCRIBE: one at least, each of which may be (MQTT 5.0, sections 3.8.3, 3.10.3 and 4.7). A
+/// contract sees them as a list.
+#[derive(Debug, Drop)]
+pub struct Filters<'a> {
+    bytes: &'a [u8],
+    options: bool,
+}
+
+/// A Topic Filter as a SUBSCRIBE or UNSUBSCRIBE has it (MQTT 5.0, sections 3.8.3 and 3.10.3).
+#[derive(Clone, Copy, Debug, PartialEq, Eq)]
+pub struct Filter<'a> {
+    /// The Topic Filter.
+    pub filter: &'a str,
+    /// The Subscription Options, which stand in a SUBSCRIBE alone (MQTT 5.0, section 3.8.3.1). Bits 1 and 0 are the Maximum
+    /// QoS, 0 to 2; bit 2 is No Local; bit 3 is Retain As Published; bits 5 and 4 are Retain Handling, 0 to 2; bits 7 and 6 are
+    /// 0.
+    pub options: Option<u8>,
+}
+
+impl<'a> Model for Filters<'a> {
+    ghost use Rattle.std.specs.Prelude.{List};
+    ghost use Rattle.mq_packet.specs.Entries.{AskedFilter};
+    ghost use Rattle.mq_packet.specs.Asking.{asked_of, AreFilters};
+
+    ghost Value = { List AskedFilter };
+
+    ghost view = { λ f. asked_of f.options f.bytes.now };
+
+    ghost invariant = { λ f. AreFilters f.options f.bytes.now };
+}
+
+impl<'a> Filters<'a> {
+    ghost use Rattle.mq_packet.specs.Asking.{AreFilters};
+
+    /// The filters that the bytes spell, one after another: each with its Subscription Options behind it where `options` is
+    /// true, as in a SUBSCRIBE, and without where it is false, as in an UNSUBSCRIBE (MQTT 5.0, sections 3.8.3 and 3.10.3).
+    ///
+    /// None where the bytes spell no such filters: where there are none at all, where one isn't spelled or may not be, where
+    /// options are missing or may not be, or where something is left over.
+    pub fn of(bytes: &'a [u8], options: bool) -> Option<Filters<'a>>
+        ensures some { IfSome result (λ filters. (bytes.entry.now ≡ filters_spelling filters) × AreAsked options filters) }
+        ensures all { (fs : List AskedFilter) → AreAsked options fs → bytes.entry.now ≡ filters_spelling fs → IsSomeAnd result (λ filters. filters ≡ fs) }
+    {
+        match check_filters(Cursor::new(bytes), options) {
+            Ok(()) => Some(Filters { bytes, options }),
+            Err(_) => None,
+        }
+    }
+
+    // The filters of bytes that are those of a body.
+    pub(crate) fn checked(bytes: &'a [u8], options: bool) -> Filters<'a>
+        requires { AreFilters options bytes.now }
+        ensures { result ≡ asked_of options bytes.entry.now }
+    {
+        Filters { bytes, options }
+    }
+
+    /// Whether the filters have Subscription Options: in a SUBSCRIBE each has, in an UNSUBSCRIBE none.
+    pub fn have_options(&self) -> bool
+        ensures { AreAsked result self.now }
+    {
+        self.options
+    }
+
+    /// The bytes that spell the filters, one after another. Filters have one spelling.
+    pub fn as_bytes(&self) -> &'a [u8]
+        ensures spelled { result.now ≡ filters_spelling self.now }
+        ensures asked { (options : Bool) × AreAsked options self.now }
+    {
+        self.bytes
+    }
+
+    /// The filters, in order.
+    pub fn iter(&self) -> FiltersIter<'a>
+        ensures items { result ≡ self.now }
+        ensures bound { length result < 2 ^ 63 }
+    {
+        FiltersIter {
+            cursor: Cursor::new(self.bytes),
+            options: self.options,
+        }
+    }
+}
+
+/// The filters of a SUBSCRIBE or UNSUBSCRIBE, in order.
+#[derive(Debug, Drop)]
+pub struct FiltersIter<'a> {
+    cursor: Cursor<'a>,
+    options: bool,
+}
+
+impl<'a> Model for FiltersIter<'a> {
+    ghost use Rattle.std.specs.Prelude.{List};
+    ghost use Rattle.mq_packet.specs.Entries.{AskedFilter};
+    ghost use Rattle.mq_packet.specs.Asking.{asked_of};
+
+    ghost Value = { List AskedFilter };
+
+    ghost view = { λ s. asked_of s.options s.cursor.rest };
+}
+
+// The filter at the front of what is left, if one stands there.
+#[tactic(auto, unfolding(crate::specs::Asking::asked_at))]
+fn filter_at<'a>(cursor: &mut Cursor<'a>, options: bool) -> Option<Filter<'a>>
+    ensures { MatchOption result (asked_at options cursor.old.rest ≡ None) (λ f. asked_at options cursor.old.rest ≡ Some (filter_view f, cursor.new.rest)) }
+{
+    let Ok(filter) = cursor.text() else {
+        return None;
+    };
+    if !options {
+        return Some(Filter {
+            filter,
+            options: None,
+        });
+    }
+    let Ok(options) = cursor.u8() else {
+        return None;
+    };
+    Some(Filter {
+        filter,
+        options: Some(options),
+    })
+}
+
+// The next filter, if one stands at the front of what is left. With none, nothing is left.
+fn next_filter<'a>(cursor: &mut Cursor<'a>, options: bool) -> Option<Filter<'a>>
+    ensures { MatchOption result ((asked_of options cursor.old.rest ≡ []) × (asked_of options cursor.new.rest ≡ [])) (λ f. asked_of options cursor.old.rest ≡ filter_view f ∷ asked_of options cursor.new.rest) }
+{
+    let Some(filter) = filter_at(cursor, options) else {
+        *cursor = Cursor::new(&[]);
+        return None;
+    };
+    Some(filter)
+}
+
+impl<'a> Iterator for FiltersIter<'a> {
+    type Item = Filter<'a>;
+
+    ghost next_gives = { YieldsFirstBy filter_view (λ s. s) };
+
+    ghost remaining = { item_count (λ s. s) };
+
+    fn next(&mut self) -> Option<Filter<'a>> {
+        next_filter(&mut self.cursor, self.options)
+    }
+}

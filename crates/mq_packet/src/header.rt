@@ -1,0 +1,48 @@
+//! The fixed header of a packet (MQTT 5.0, section 2.1).
+
+ghost use Rattle.std.specs.Prelude.{◌≡◌};
+ghost use Rattle.mq_packet.specs.Stream.{fixed_header_of, HasBounds};
+
+use mq_wire::{Cursor, Reason};
+
+/// What the bytes at the front of a stream of packets say of the first packet's fixed header (MQTT 5.0, section 2.1).
+#[derive(Clone, Copy, Debug, PartialEq, Eq)]
+pub enum FixedHeader {
+    /// The bytes end before the Remaining Length does.
+    Short,
+    /// The Remaining Length is no variable byte integer (MQTT 5.0, section 1.5.5): the stream can't be cut into packets.
+    Lost,
+    /// The fixed header is whole.
+    Whole {
+        /// How many bytes the fixed header has: 2 to 5.
+        length: usize,
+        /// How many bytes the whole packet has: 2 to 268,435,460.
+        size: usize,
+    },
+}
+
+/// The fixed header at the front of the bytes: it is `Short` where the Remaining Length has still to come, and `Lost` where
+/// no further bytes could make it a variable byte integer (MQTT 5.0, section 2.1.4).
+#[tactic(auto, using(crate::proofs::Lengths::number_length), unfolding(crate::specs::Stream::fixed_header_of))]
+pub fn fixed_header(bytes: &[u8]) -> FixedHeader
+    ensures exact { result ≡ fixed_header_of bytes.now }
+    ensures bounds { HasBounds result }
+{
+    let [_, behind @ ..] = bytes else {
+        return FixedHeader::Short;
+    };
+    let mut cursor = Cursor::new(behind);
+    match cursor.varint() {
+        Ok(remaining) => {
+            let length = 1 + cursor.at();
+            FixedHeader::Whole {
+                length,
+                size: length + remaining as usize,
+            }
+        }
+        Err(fault) => match fault.reason {
+            Reason::Overlong => FixedHeader::Lost,
+            _ => FixedHeader::Short,
+        },
+    }
+}

@@ -1,0 +1,65 @@
+//! Readers of packets, each held to its format (MQTT 5.0, sections 3.1 to 3.15).
+
+mod acknowledgement;
+mod answer;
+mod connack;
+mod connect;
+mod ending;
+mod fields;
+mod lists;
+mod publish;
+mod request;
+
+ghost use Rattle.std.specs.Prelude.{◌≡◌, ◌≤◌, length};
+ghost use Rattle.mq_packet.specs.Formats.{format_of};
+ghost use Rattle.mq_packet.specs.Decoding.{read};
+ghost use Rattle.mq_packet.specs.Reading.{view, Reads};
+
+use crate::packet::{AcknowledgementKind, EndingKind, Packet, RequestKind};
+use crate::rule::PacketRule;
+use crate::stop::Stop;
+use acknowledgement::read_acknowledgement;
+pub use answer::read_answer;
+use connack::read_connack;
+use connect::read_connect;
+use ending::read_ending;
+use fields::whole;
+pub use lists::check_filters;
+use mq_wire::Cursor;
+use publish::read_publish;
+pub use request::read_request;
+
+/// The packet with this first byte whose body, of no more than this size, is left in the cursor; or where the reading of it
+/// stops. But for PUBLISH, whose first byte has flags of its own, each type has one first byte (MQTT 5.0, sections 2.1.2 and
+/// 2.1.3).
+pub fn read_packet<'a>(first: u8, cursor: Cursor<'a>, size: usize) -> Result<Packet<'a>, Stop>
+    requires { length cursor.rest ≤ size }
+    ensures { Reads view result (read (format_of first size) cursor.entry) }
+{
+    match first {
+        0x10 => read_connect(cursor),
+        0x20 => read_connack(cursor),
+        0x30..0x40 => read_publish(first, cursor),
+        0x40 => read_acknowledgement(cursor, AcknowledgementKind::Puback).map(Packet::Puback),
+        0x50 => read_acknowledgement(cursor, AcknowledgementKind::Pubrec).map(Packet::Pubrec),
+        0x62 => read_acknowledgement(cursor, AcknowledgementKind::Pubrel).map(Packet::Pubrel),
+        0x70 => read_acknowledgement(cursor, AcknowledgementKind::Pubcomp).map(Packet::Pubcomp),
+        0x82 => read_request(cursor, RequestKind::Subscribe).map(Packet::Subscribe),
+        0x90 => read_answer(cursor, RequestKind::Subscribe).map(Packet::Suback),
+        0xa2 => read_request(cursor, RequestKind::Unsubscribe).map(Packet::Unsubscribe),
+        0xb0 => read_answer(cursor, RequestKind::Unsubscribe).map(Packet::Unsuback),
+        0xc0 => whole(cursor, Packet::Pingreq),
+        0xd0 => whole(cursor, Packet::Pingresp),
+        0xe0 => read_ending(cursor, EndingKind::Disconnect).map(Packet::Disconnect),
+        0xf0 => read_ending(cursor, EndingKind::Auth).map(Packet::Auth),
+        0x00..0x10 => Err(refused(PacketRule::W02)),
+        _ => Err(refused(PacketRule::W01)),
+    }
+}
+
+// The first byte breaks the rule.
+fn refused(rule: PacketRule) -> Stop
+    ensures { result ≡ Stop.Broken 0 rule }
+{
+    Stop::Broken { at: 0, rule }
+}

@@ -1,0 +1,72 @@
+//! The reader of PUBACK, PUBREC, PUBREL and PUBCOMP (MQTT 5.0, sections 3.4 to 3.7).
+
+ghost use Rattle.std.specs.Prelude.{◌≡◌};
+ghost use Rattle.mq_packet.specs.Entries.{acknowledgement, acknowledgement_place, acknowledgement_codes};
+ghost use Rattle.mq_packet.specs.Formats.{acknowledgement_format, last_properties};
+ghost use Rattle.mq_packet.specs.Decoding.{read};
+ghost use Rattle.mq_packet.specs.Reading.{Reads};
+
+use super::fields::{SUCCESS, last_properties, packet_identifier, reason_code};
+use crate::codes::{PUBACK_CODES, PUBREL_CODES};
+use crate::packet::{Acknowledgement, AcknowledgementKind};
+use crate::stop::Stop;
+use mq_props::{Place, Props};
+use mq_wire::Cursor;
+
+fn place_of(kind: AcknowledgementKind) -> Place
+    ensures { result ≡ acknowledgement_place kind }
+{
+    match kind {
+        AcknowledgementKind::Puback => Place::Puback,
+        AcknowledgementKind::Pubrec => Place::Pubrec,
+        AcknowledgementKind::Pubrel => Place::Pubrel,
+        AcknowledgementKind::Pubcomp => Place::Pubcomp,
+    }
+}
+
+fn codes_of(kind: AcknowledgementKind) -> &'static [u8]
+    ensures { result.now ≡ acknowledgement_codes kind }
+{
+    match kind {
+        AcknowledgementKind::Puback | AcknowledgementKind::Pubrec => &PUBACK_CODES,
+        AcknowledgementKind::Pubrel | AcknowledgementKind::Pubcomp => &PUBREL_CODES,
+    }
+}
+
+// Where it ends behind its identifier its Reason Code is 0x00, and where it ends behind its code it has no properties.
+pub fn read_acknowledgement<'a>(
+    mut cursor: Cursor<'a>,
+    kind: AcknowledgementKind,
+) -> Result<Acknowledgement<'a>, Stop>
+    ensures { Reads (λ p. acknowledgement kind p.identifier p.code p.properties) result (read (acknowledgement_format kind) cursor.entry) }
+{
+    let identifier = packet_identifier(&mut cursor)?;
+    if cursor.is_empty() {
+        return Ok(Acknowledgement {
+            identifier,
+            code: SUCCESS,
+            properties: Props::empty(place_of(kind)),
+            read_len: None,
+        });
+    }
+    let code = reason_code(&mut cursor, codes_of(kind))?;
+    read_behind_code(cursor, kind, identifier, code)
+}
+
+// The acknowledgement with this identifier and code, whose properties, if there are any, are left.
+fn read_behind_code<'a>(
+    cursor: Cursor<'a>,
+    kind: AcknowledgementKind,
+    identifier: u16,
+    code: u8,
+) -> Result<Acknowledgement<'a>, Stop>
+    ensures { Reads (λ p. acknowledgement kind p.identifier p.code p.properties) result (read (last_properties (acknowledgement_place kind) (acknowledgement kind identifier code)) cursor.entry) }
+{
+    let properties = last_properties(cursor, place_of(kind))?;
+    Ok(Acknowledgement {
+        identifier,
+        code,
+        properties,
+        read_len: None,
+    })
+}

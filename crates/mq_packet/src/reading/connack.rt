@@ -1,0 +1,48 @@
+//! The reader of CONNACK (MQTT 5.0, section 3.2).
+
+ghost use Rattle.std.specs.Prelude.{◌≡◌};
+ghost use Rattle.mq_packet.specs.Formats.{byte, connack_flags_objection, connack_format};
+ghost use Rattle.mq_packet.specs.Decoding.{read, read_field};
+ghost use Rattle.mq_packet.specs.Reading.{Takes, Reads, view};
+
+use super::fields::{property_list, reason_code, whole};
+use crate::codes::CONNACK_CODES;
+use crate::packet::{Connack, Packet};
+use crate::rule::PacketRule;
+use crate::stop::Stop;
+use mq_props::Place;
+use mq_wire::Cursor;
+
+/// The Connect Acknowledge Flag Session Present (MQTT 5.0, section 3.2.2.1.1).
+const SESSION_PRESENT: u8 = 0x01;
+
+pub fn read_connack<'a>(mut cursor: Cursor<'a>) -> Result<Packet<'a>, Stop>
+    ensures { Reads view result (read connack_format cursor.entry) }
+{
+    let flags = connack_flags(&mut cursor)?;
+    let code = reason_code(&mut cursor, &CONNACK_CODES)?;
+    let properties = property_list(&mut cursor, Place::Connack)?;
+    let session_present = flags == SESSION_PRESENT;
+    whole(
+        cursor,
+        Packet::Connack(Connack {
+            session_present,
+            code,
+            properties,
+        }),
+    )
+}
+
+fn connack_flags(cursor: &mut Cursor<'_>) -> Result<u8, Stop>
+    ensures { Takes (λ n. n) result (read_field byte connack_flags_objection cursor.old) cursor.new }
+{
+    let at = cursor.at();
+    let flags = cursor.u8()?;
+    if flags > SESSION_PRESENT {
+        return Err(Stop::Broken {
+            at,
+            rule: PacketRule::W20,
+        });
+    }
+    Ok(flags)
+}

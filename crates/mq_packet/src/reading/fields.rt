@@ -1,0 +1,161 @@
+//! Readers of fields: first a field's spelling counts, then its value.
+
+ghost use Rattle.std.specs.Prelude.{◌≡◌, IfOk};
+ghost use Rattle.mq_packet.specs.Entries.{Entry, listed};
+ghost use Rattle.mq_props.specs.Listed.{Listed};
+ghost use Rattle.mq_packet.specs.Formats.{last_properties, byte, two_bytes, text, binary, properties, any_value, name_objection, version_objection, code_objection, is_code, identifier_objection, topic_objection, filter_objection, is_filter};
+ghost use Rattle.mq_packet.specs.Decoding.{read, read_field, ended};
+ghost use Rattle.mq_packet.specs.Reading.{Takes, Reads, view};
+
+use crate::packet::Packet;
+use crate::rule::PacketRule;
+use crate::stop::Stop;
+use mq_props::{Place, Props};
+use mq_topic::{check_filter, check_name};
+use mq_wire::Cursor;
+
+/// The Reason Code Success (MQTT 5.0, section 2.4).
+pub const SUCCESS: u8 = 0x00;
+
+/// The protocol's name (MQTT 5.0, section 3.1.2.1).
+const PROTOCOL_NAME: &str = "MQTT";
+
+/// The protocol's version (MQTT 5.0, section 3.1.2.2).
+const PROTOCOL_VERSION: u8 = 5;
+
+// The packet, if nothing is left over (MQTT 5.0, section 2.1.4).
+pub fn whole<'a>(cursor: Cursor<'a>, packet: Packet<'a>) -> Result<Packet<'a>, Stop>
+    ensures { Reads view result (ended (view packet.entry) cursor.entry) }
+{
+    if !cursor.is_empty() {
+        return Err(Stop::Broken {
+            at: cursor.at(),
+            rule: PacketRule::W06,
+        });
+    }
+    Ok(packet)
+}
+
+pub fn protocol_name<'a>(cursor: &mut Cursor<'a>) -> Result<&'a str, Stop>
+    ensures { Takes (λ name. name.now) result (read_field text name_objection cursor.old) cursor.new }
+{
+    let at = cursor.at();
+    let name = cursor.text()?;
+    if name != PROTOCOL_NAME {
+        return Err(Stop::Broken {
+            at,
+            rule: PacketRule::W18,
+        });
+    }
+    Ok(name)
+}
+
+pub fn protocol_version(cursor: &mut Cursor<'_>) -> Result<u8, Stop>
+    ensures { Takes (λ n. n) result (read_field byte version_objection cursor.old) cursor.new }
+{
+    let version = cursor.u8()?;
+    if version != PROTOCOL_VERSION {
+        return Err(Stop::OtherVersion(version));
+    }
+    Ok(version)
+}
+
+// A Packet Identifier (MQTT 5.0, section 2.2.1).
+pub fn packet_identifier(cursor: &mut Cursor<'_>) -> Result<u16, Stop>
+    ensures { Takes (λ n. n) result (read_field two_bytes identifier_objection cursor.old) cursor.new }
+{
+    let at = cursor.at();
+    let identifier = cursor.u16()?;
+    if identifier == 0 {
+        return Err(Stop::Broken {
+            at,
+            rule: PacketRule::W09,
+        });
+    }
+    Ok(identifier)
+}
+
+// Whether a Reason Code is in a packet's table.
+pub fn is_listed(table: &[u8], code: u8) -> bool
+    ensures { result ≡ is_code table.now code }
+{
+    table.contains(&code)
+}
+
+// A Reason Code of a packet's table (MQTT 5.0, section 2.4).
+pub fn reason_code(cursor: &mut Cursor<'_>, table: &[u8]) -> Result<u8, Stop>
+    ensures { Takes (λ n. n) result (read_field byte (code_objection table.now) cursor.old) cursor.new }
+{
+    let at = cursor.at();
+    let code = cursor.u8()?;
+    if !is_listed(table, code) {
+        return Err(Stop::Broken {
+            at,
+            rule: PacketRule::W13,
+        });
+    }
+    Ok(code)
+}
+
+// A property list of a place (MQTT 5.0, section 2.2.2).
+pub fn property_list<'a>(cursor: &mut Cursor<'a>, place: Place) -> Result<Props<'a>, Stop>
+    ensures list { Takes (λ list. list.items) result (read_field (properties place) any_value cursor.old) cursor.new }
+    ensures place { IfOk result (λ list. list ≡ listed place list.items) }
+{
+    let list = Props::read(cursor, place)?;
+    Ok(list)
+}
+
+// The property list of a place, if anything is left, and nothing behind it.
+pub fn last_properties<'a>(mut cursor: Cursor<'a>, place: Place) -> Result<Props<'a>, Stop>
+    ensures { (packet : Listed → Entry) → Reads packet result (read (last_properties place packet) cursor.entry) }
+{
+    if cursor.is_empty() {
+        return Ok(Props::empty(place));
+    }
+    let list = property_list(&mut cursor, place)?;
+    if !cursor.is_empty() {
+        return Err(Stop::Broken {
+            at: cursor.at(),
+            rule: PacketRule::W06,
+        });
+    }
+    Ok(list)
+}
+
+// A Topic Name (MQTT 5.0, section 3.3.2.1).
+pub fn topic_name<'a>(cursor: &mut Cursor<'a>) -> Result<&'a str, Stop>
+    ensures { Takes (λ topic. topic.now) result (read_field text topic_objection cursor.old) cursor.new }
+{
+    let at = cursor.at();
+    let topic = cursor.text()?;
+    if !check_name(topic) {
+        return Err(Stop::Broken {
+            at,
+            rule: PacketRule::W14,
+        });
+    }
+    Ok(topic)
+}
+
+// Whether a filter is one that may be (MQTT 5.0, section 4.7.1).
+pub fn is_topic_filter(filter: &str) -> bool
+    ensures { result ≡ is_filter filter.now }
+{
+    check_filter(filter).is_ok()
+}
+
+// A Topic Filter (MQTT 5.0, section 4.7.1).
+pub fn topic_filter<'a>(cursor: &mut Cursor<'a>) -> Result<&'a str, Stop>
+    ensures { Takes (λ filter. filter.now) result (read_field text filter_objection cursor.old) cursor.new }
+{
+    let at = cursor.at();
+    let filter = cursor.text()?;
+    if !is_topic_filter(filter) {
+        return Err(Stop::Broken {
+            at,
+            rule: PacketRule::W15,
+        });
+    }
+    Ok(filter)
+}

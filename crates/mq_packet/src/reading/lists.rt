@@ -1,0 +1,99 @@
+//! Readers of the lists that end a body: filters, and Reason Codes.
+
+ghost use Rattle.std.specs.Prelude.{◌≡◌, ℕ, ◌≤◌, ◌<◌, List, [], length, MatchResult};
+ghost use Rattle.mq_wire.specs.Spellings.{AreBytes};
+ghost use Rattle.mq_packet.specs.Entries.{Entry, AskedFilter};
+ghost use Rattle.mq_packet.specs.Formats.{byte, options_objection, are_options, filters_format, codes_format};
+ghost use Rattle.mq_packet.specs.Decoding.{read_field, read};
+ghost use Rattle.mq_packet.specs.Reading.{Takes, Reads, fault_of};
+ghost use Rattle.mq_packet.specs.Elements.{options_on, filter_on, filter_view, AreRead, AreRefused};
+
+use crate::filters::{Filter, Filters};
+use crate::reading::fields::{reason_code, topic_filter};
+use crate::reason_codes::Codes;
+use crate::rule::PacketRule;
+use crate::stop::Stop;
+use mq_wire::Cursor;
+
+// Whether these are Subscription Options (MQTT 5.0, section 3.8.3.1): neither the Maximum QoS, bits 1 and 0, nor Retain
+// Handling, bits 5 and 4, is 3, and bits 7 and 6 are 0.
+fn are_subscription_options(options: u8) -> bool
+    ensures { result ≡ are_options options }
+{
+    options & 3 != 3 && options & 48 != 48 && options & 192 == 0
+}
+
+// The Subscription Options of a filter (MQTT 5.0, section 3.8.3.1).
+fn subscription_options(cursor: &mut Cursor<'_>) -> Result<u8, Stop>
+    ensures { Takes (λ n. n) result (read_field byte options_objection cursor.old) cursor.new }
+{
+    let at = cursor.at();
+    let options = cursor.u8()?;
+    if !are_subscription_options(options) {
+        return Err(Stop::Broken {
+            at,
+            rule: PacketRule::W17,
+        });
+    }
+    Ok(options)
+}
+
+// The Subscription Options of a filter, if they are asked for.
+fn asked_options(cursor: &mut Cursor<'_>, asks: bool) -> Result<Option<u8>, Stop>
+    ensures { Takes (λ o. o) result (options_on asks cursor.old) cursor.new }
+{
+    if !asks {
+        return Ok(None);
+    }
+    let options = subscription_options(cursor)?;
+    Ok(Some(options))
+}
+
+// A filter, with its Subscription Options if they are asked for (MQTT 5.0, sections 3.8.3 and 3.10.3).
+fn asked_filter<'a>(cursor: &mut Cursor<'a>, asks: bool) -> Result<Filter<'a>, Stop>
+    ensures { Takes filter_view result (filter_on asks cursor.old) cursor.new }
+{
+    let filter = topic_filter(cursor)?;
+    let options = asked_options(cursor, asks)?;
+    Ok(Filter { filter, options })
+}
+
+// Whether all that is left are the filters of a body: one at least (MQTT 5.0, sections 3.8.3 and 3.10.3).
+pub fn check_filters(mut cursor: Cursor<'_>, asks: bool) -> Result<(), Stop>
+    requires { AreBytes cursor.rest }
+    ensures { MatchResult result (λ _. AreRead asks cursor.entry) (λ stop. AreRefused asks cursor.entry (fault_of stop)) }
+{
+    if cursor.is_empty() {
+        return Err(Stop::Broken {
+            at: cursor.at(),
+            rule: PacketRule::W16,
+        });
+    }
+    while !cursor.is_empty() {
+        asked_filter(&mut cursor, asks)?;
+    }
+    Ok(())
+}
+
+// The filters that are all that is left (MQTT 5.0, sections 3.8.3 and 3.10.3).
+pub fn filter_list<'a>(cursor: Cursor<'a>, asks: bool) -> Result<Filters<'a>, Stop>
+    ensures { (n : ℕ) (packet : List AskedFilter → Entry) → length cursor.entry.rest < n → Reads packet result (read (filters_format n asks packet []) cursor.entry) }
+{
+    let at = cursor.at();
+    let bytes = cursor.rest();
+    check_filters(Cursor::starting_at(bytes, at), asks)?;
+    Ok(Filters::checked(bytes, asks))
+}
+
+// The Reason Codes of a table that are all that is left (MQTT 5.0, sections 3.9.3 and 3.11.3).
+pub fn code_list<'a>(cursor: Cursor<'a>, table: &[u8]) -> Result<Codes<'a>, Stop>
+    ensures { (n : ℕ) (packet : List ℕ → Entry) → length cursor.entry.rest ≤ n → Reads packet result (read (codes_format n table.now packet []) cursor.entry) }
+{
+    let at = cursor.at();
+    let bytes = cursor.rest();
+    let mut rest = Cursor::starting_at(bytes, at);
+    while !rest.is_empty() {
+        reason_code(&mut rest, table)?;
+    }
+    Ok(Codes::of(bytes))
+}

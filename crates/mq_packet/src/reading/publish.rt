@@ -1,0 +1,119 @@
+//! The reader of PUBLISH (MQTT 5.0, section 3.3).
+
+ghost use Rattle.std.specs.Prelude.{◌≡◌, IfOk, if◌then◌else◌};
+ghost use Rattle.mq_props.specs.declared.table.Place.TheVariants as places;
+ghost use Rattle.mq_packet.specs.declared.rule.PacketRule.TheVariants as rules;
+ghost use Rattle.mq_packet.specs.Entries.{Entry, listed};
+ghost use Rattle.mq_packet.specs.Formats.{refused, properties, alias_objection, names_topic, has_bits, qos_of, publish_format, publish_unacknowledged, publish_acknowledged, publish_from};
+ghost use Rattle.mq_packet.specs.Decoding.{read, read_field};
+ghost use Rattle.mq_packet.specs.Reading.{Takes, Reads, view};
+
+use super::fields::{packet_identifier, property_list, topic_name};
+use crate::packet::{Packet, Publish, Qos};
+use crate::rule::PacketRule;
+use crate::stop::Stop;
+use mq_props::{Place, Props};
+use mq_wire::Cursor;
+
+/// The flag DUP (MQTT 5.0, section 3.3.1.1).
+const DUP: u8 = 0x08;
+
+/// The two bits of the QoS (MQTT 5.0, section 3.3.1.2).
+const QOS: u8 = 0x06;
+
+/// The flag RETAIN (MQTT 5.0, section 3.3.1.3).
+const RETAIN: u8 = 0x01;
+
+// PUBLISH with this first byte.
+pub fn read_publish<'a>(first: u8, cursor: Cursor<'a>) -> Result<Packet<'a>, Stop>
+    ensures { Reads view result (read (publish_format first) cursor.entry) }
+{
+    let duplicate = first & DUP != 0;
+    let retain = first & RETAIN != 0;
+    match first & QOS {
+        0 => read_unacknowledged(cursor, duplicate, retain),
+        0x02 => read_acknowledged(cursor, duplicate, Qos::AtLeastOnce, retain),
+        0x04 => read_acknowledged(cursor, duplicate, Qos::ExactlyOnce, retain),
+        _ => Err(Stop::Broken {
+            at: 0,
+            rule: PacketRule::W07,
+        }),
+    }
+}
+
+fn read_unacknowledged<'a>(
+    cursor: Cursor<'a>,
+    duplicate: bool,
+    retain: bool,
+) -> Result<Packet<'a>, Stop>
+    ensures { Reads view result (read (if duplicate then refused rules.W08 else publish_unacknowledged retain) cursor.entry) }
+{
+    if duplicate {
+        return Err(Stop::Broken {
+            at: 0,
+            rule: PacketRule::W08,
+        });
+    }
+    read_at_most_once(cursor, retain)
+}
+
+fn read_at_most_once<'a>(mut cursor: Cursor<'a>, retain: bool) -> Result<Packet<'a>, Stop>
+    ensures { Reads view result (read (publish_unacknowledged retain) cursor.entry) }
+{
+    let topic = topic_name(&mut cursor)?;
+    let properties = properties_for(&mut cursor, topic)?;
+    Ok(Packet::Publish(Publish {
+        duplicate: false,
+        qos: Qos::AtMostOnce,
+        retain,
+        topic,
+        identifier: None,
+        properties,
+        payload: cursor.rest(),
+    }))
+}
+
+fn read_acknowledged<'a>(
+    mut cursor: Cursor<'a>,
+    duplicate: bool,
+    qos: Qos,
+    retain: bool,
+) -> Result<Packet<'a>, Stop>
+    ensures { Reads view result (read (publish_acknowledged duplicate qos retain) cursor.entry) }
+{
+    let topic = topic_name(&mut cursor)?;
+    let identifier = packet_identifier(&mut cursor)?;
+    let properties = properties_for(&mut cursor, topic)?;
+    Ok(Packet::Publish(Publish {
+        duplicate,
+        qos,
+        retain,
+        topic,
+        identifier: Some(identifier),
+        properties,
+        payload: cursor.rest(),
+    }))
+}
+
+// Whether the packet has a Topic Name, or a Topic Alias that stands for it (MQTT 5.0, section 3.3.2.3.4).
+fn has_topic(topic: &str, properties: &Props<'_>) -> bool
+    ensures { result ≡ names_topic topic.now properties.now.items }
+{
+    !topic.is_empty() || properties.get_topic_alias().is_some()
+}
+
+// The property list of a PUBLISH on this topic.
+fn properties_for<'a>(cursor: &mut Cursor<'a>, topic: &str) -> Result<Props<'a>, Stop>
+    ensures list { Takes (λ list. list.items) result (read_field (properties places.Publish) (alias_objection topic.now) cursor.old) cursor.new }
+    ensures place { IfOk result (λ list. list ≡ listed places.Publish list.items) }
+{
+    let at = cursor.at();
+    let properties = property_list(cursor, Place::Publish)?;
+    if !has_topic(topic, &properties) {
+        return Err(Stop::Broken {
+            at,
+            rule: PacketRule::W21,
+        });
+    }
+    Ok(properties)
+}
