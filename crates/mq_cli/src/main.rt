@@ -3,6 +3,8 @@
 
 mod command_line;
 mod failure;
+#[cfg(test)]
+mod log_tests;
 mod tasks;
 #[cfg(test)]
 mod tests;

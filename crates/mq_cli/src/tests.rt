@@ -102,9 +102,9 @@ static ROWS: [Row; 7] = [
 
 // Gives one byte a call, and fails where `fails_after` bytes were given.
 #[derive(Drop)]
-struct Trickle<'a> {
-    bytes: &'a [u8],
-    fails_after: Option<usize>,
+pub struct Trickle<'a> {
+    pub bytes: &'a [u8],
+    pub fails_after: Option<usize>,
 }
 
 impl Read for Trickle<'_> {
@@ -157,13 +157,13 @@ fn joined(alloc: Global, parts: &[&[u8]]) -> Result<Vec<u8>, AllocError> {
 
 // What comes of a check of this input.
 #[derive(Drop)]
-struct Told {
-    status: u8,
-    output: Vec<u8>,
-    error: Vec<u8>,
+pub struct Told {
+    pub status: u8,
+    pub output: Vec<u8>,
+    pub error: Vec<u8>,
 }
 
-fn told_of<R: Read>(alloc: Global, input: &mut R) -> Result<Told, Stop> {
+pub fn told_of<R: Read>(alloc: Global, input: &mut R) -> Result<Told, Stop> {
     let task = parse(alloc, &["mqjudge", "check"])?;
     let mut output = Vec::new(alloc);
     let mut error = Vec::new(alloc);

@@ -1,28 +1,54 @@
 -- Failing pairs and their faults, in a log that grows.
-use Rattle.std.proofs.Common.{◌≡◌, ℕ, ◌+◌, ◌<◌, ◌≤◌, ◌==◌, Bool, true, false, cond, ◌&&◌, ◌||◌, List, [], ◌∷◌, length, Option, Some, None, refl, ap, sym, ◌∙◌, subst, arith}
+use Rattle.std.proofs.Common.{◌≡◌, ℕ, ◌+◌, ◌<◌, ◌≤◌, ◌==◌, Bool, true, false, cond, ◌&&◌, ◌||◌, List, [], ◌∷◌, length, Option, Some, None, refl, ap, sym, ◌∙◌, subst, arith, ◌⊎◌, inl, inr}
 use Rattle.std.specs.Prelude.{is_some, option_map}
 use Rattle.std.proofs.lemmas.Bool.{eqb-true}
-use Rattle.mq_judge.specs.declared.packet.kinds.PacketRule.{PacketRule}
-use Rattle.mq_judge.specs.declared.packet.kinds.PacketRule.TheVariants as packets
-use Rattle.mq_judge.specs.declared.packet.kinds.BodyFault.{BodyFault}
+use Rattle.mq_packet.specs.declared.rule.PacketRule.{PacketRule}
+use Rattle.mq_packet.specs.declared.rule.PacketRule.TheVariants as packets
+use Rattle.mq_packet.specs.declared.fault.BodyFault.{BodyFault}
 use Rattle.mq_judge.specs.declared.rules.role.Role.{Role}
 use Rattle.mq_judge.specs.declared.rules.role.Role.TheVariants.{Client, Server}
 use Rattle.mq_judge.specs.declared.rules.role.Tested.{Tested}
 use Rattle.mq_judge.specs.declared.rules.rule.Rule.{Rule}
-use Rattle.mq_judge.specs.declared.rules.rule.Rule.TheVariants.{W03, W04, W05, W06, W09, S01}
+use Rattle.mq_judge.specs.declared.rules.rule.Rule.TheVariants.{W01, W02, W03, W04, W05, W06, W07, W08, W09, W10, W11, W12, W13, W14, W15, W16, W17, W18, W19, W20, W21, S01}
 use Rattle.mq_judge.specs.declared.rules.note.Note.{Note}
 use Rattle.mq_judge.specs.declared.rules.note.Note.TheVariants.{Open, Close, Rest, Release, Sent, Recv}
 use Rattle.mq_judge.specs.declared.rules.note.ItemNote.TheVariants.{Packet, Bad, Lost}
-use Rattle.mq_judge.specs.declared.rules.note.PacketNote.TheVariants.{Connect, Connack, Publish, Puback}
+use Rattle.mq_judge.specs.declared.rules.packet_note.PacketNote.{PacketNote}
+use Rattle.mq_judge.specs.declared.rules.packet_note.PacketNote.TheVariants.{Connect, Connack, Publish, Puback, Pubrec, Pubrel, Pubcomp, Subscribe, Suback, Unsubscribe, Unsuback, Pingreq, Pingresp, Disconnect, Auth}
 use Rattle.mq_judge.specs.declared.rules.note.Seen.{Seen}
 use Rattle.mq_judge.specs.Moments.{moment, or_else}
-use Rattle.mq_judge.specs.Notes.{is_open, opener_of, any_id, connack_of, needs_session}
-use Rattle.mq_judge.specs.Connections.{connection_no, events_of, connection, decision, accepts, IsInOrder}
-use Rattle.mq_judge.specs.Statements.{fails, binds, is_judged_at, is_false_at, breaks_S01, breaks_bytes, is_broken_rule, same_rule, statement_of, broken}
+use Rattle.mq_judge.specs.Notes.{is_open, opener_of, any_id, connack_code, connack_of, new_identifier, is_session_packet, needs_session}
+use Rattle.mq_judge.specs.Connections.{connection_no, events_of, connection, decision, accepts, is_accepted_at, IsInOrder}
+use Rattle.mq_judge.specs.Statements.{fails, binds, is_on_bytes, is_judged_at, is_false_at, breaks_S01, breaks_session, breaks_bytes, is_broken_rule, same_rule, statement_of, broken}
 use Rattle.mq_judge.specs.Faults.{decided, told, fault_in}
 use Rattle.mq_judge.proofs.BoolLaws.{not_true, both_true, and_true, and_false, or_else-none}
 use Rattle.mq_judge.proofs.MomentLaws.{moment-newest, moment-older, moment-beyond}
 use Rattle.mq_judge.proofs.ConnectionLaws.{decision-kept, decision-later, in_order-at, connection_no-same, connection-step}
+
+-- a statement is on bytes, or it is S01
+family : (rule : Rule) → ((is_on_bytes rule ≡ true) × (same_rule rule S01 ≡ false)) ⊎ (rule ≡ S01)
+family W01 = inl (refl, refl)
+family W02 = inl (refl, refl)
+family W03 = inl (refl, refl)
+family W04 = inl (refl, refl)
+family W05 = inl (refl, refl)
+family W06 = inl (refl, refl)
+family W07 = inl (refl, refl)
+family W08 = inl (refl, refl)
+family W09 = inl (refl, refl)
+family W10 = inl (refl, refl)
+family W11 = inl (refl, refl)
+family W12 = inl (refl, refl)
+family W13 = inl (refl, refl)
+family W14 = inl (refl, refl)
+family W15 = inl (refl, refl)
+family W16 = inl (refl, refl)
+family W17 = inl (refl, refl)
+family W18 = inl (refl, refl)
+family W19 = inl (refl, refl)
+family W20 = inl (refl, refl)
+family W21 = inl (refl, refl)
+family S01 = inr refl
 
 -- nothing is false where there is no event
 nowhere_false : (rule : Rule) → is_false_at rule [] ≡ false
@@ -41,14 +67,13 @@ accepts-kept None new keeps h = absurd (cc)
 accepts-kept (Some code) new keeps h = ap accepts (keeps code refl) ∙ h
 
 judged-kept : (role : Role) (rule : Rule) (k : ℕ) (e : Seen) (past : List Seen) → moment (e ∷ past) k ≡ moment past k → is_judged_at role rule k past ≡ true → is_judged_at role rule k (e ∷ past) ≡ true
-judged-kept role W03 k e past same h = refl
-judged-kept role W04 k e past same h = refl
-judged-kept role W05 k e past same h = refl
-judged-kept role W06 k e past same h = refl
-judged-kept role W09 k e past same h = refl
-judged-kept role S01 k e past same h =
-    ap (λ m. accepts (decision role (events_of (connection_no m) (e ∷ past)))) same
-    ∙ accepts-kept _ _ (λ code. decision-kept role (connection_no (moment past k)) code e past) h
+judged-kept role rule k e past same h = go (is_on_bytes rule) h
+  where
+    go : (b : Bool) → (b || is_accepted_at role k past) ≡ true → (b || is_accepted_at role k (e ∷ past)) ≡ true
+    go true h = refl
+    go false h =
+        ap (λ m. accepts (decision role (events_of (connection_no m) (e ∷ past)))) same
+        ∙ accepts-kept _ _ (λ code. decision-kept role (connection_no (moment past k)) code e past) h
 
 -- a pair that fails has an event, which what comes later leaves where it is
 fails-there : (tested : Tested) (e : Seen) (past : List Seen) (k : ℕ) (rule : Rule) → fails tested past k rule ≡ true → (k == length past + 1) ≡ false
@@ -150,6 +175,24 @@ judged-settled role log k f before code at closed there =
     let early : decision role (events_of (connection_no before) (moment log k)) ≡ Some code = ap (λ m. decision role (events_of (connection_no before) m)) at ∙ decision-kept role (connection_no before) code f before there in
     ap (λ c. decision role (events_of c log)) number ∙ decision-later role (connection_no before) code k log early
 
+-- a new PUBLISH needs a session
+new_needs : (p : PacketNote) (test : ℕ → Bool) → any_id test (new_identifier (Some p)) ≡ true → is_session_packet p ≡ true
+new_needs Connect test h = absurd (cc)
+new_needs (Connack session_present code) test h = absurd (cc)
+new_needs (Publish identifier qos duplicate) test h = refl
+new_needs (Puback identifier code) test h = refl
+new_needs (Pubrec identifier code) test h = refl
+new_needs (Pubrel identifier code) test h = refl
+new_needs (Pubcomp identifier code) test h = refl
+new_needs (Subscribe identifier) test h = refl
+new_needs (Suback identifier) test h = refl
+new_needs (Unsubscribe identifier) test h = refl
+new_needs (Unsuback identifier) test h = refl
+new_needs Pingreq test h = absurd (cc)
+new_needs Pingresp test h = absurd (cc)
+new_needs (Disconnect code) test h = absurd (cc)
+new_needs (Auth code) test h = absurd (cc)
+
 -- an event at which S01 is false is no OPEN, and needs a session
 opener_needs : (note : Note) (test : ℕ → Bool) → any_id test (opener_of note) ≡ true → (is_open note ≡ false) × (needs_session note ≡ true)
 opener_needs Open test h = absurd (cc)
@@ -159,10 +202,7 @@ opener_needs (Release i) test h = absurd (cc)
 opener_needs (Recv item) test h = absurd (cc)
 opener_needs (Sent Lost) test h = absurd (cc)
 opener_needs (Sent (Bad first rule at)) test h = absurd (cc)
-opener_needs (Sent (Packet Connect)) test h = absurd (cc)
-opener_needs (Sent (Packet (Connack session_present code))) test h = absurd (cc)
-opener_needs (Sent (Packet (Publish identifier qos duplicate))) test h = (refl, refl)
-opener_needs (Sent (Packet (Puback identifier code))) test h = absurd (cc)
+opener_needs (Sent (Packet p)) test h = (refl, new_needs p test h)
 
 both_same : (o p : Option ℕ) (b : Bool) → (b ≡ true → (is_some o ≡ true) × (o ≡ p)) → (accepts o && b) ≡ (accepts p && b)
 both_same o p true f = ap (λ x. accepts x && true) (f refl).1
@@ -192,18 +232,22 @@ fails-settled tested e past k rule order apart = ap (λ b. binds rule tested.rol
     same : moment (e ∷ past) k ≡ moment past k
     same = ap (λ b. cond b (e ∷ past) (moment past k)) apart
 
-    by_rule : (rule : Rule) → (is_judged_at tested.role rule k (e ∷ past) && is_false_at rule (moment (e ∷ past) k)) ≡ (is_judged_at tested.role rule k past && is_false_at rule (moment past k))
-    by_rule W03 = ap (is_false_at W03) same
-    by_rule W04 = ap (is_false_at W04) same
-    by_rule W05 = ap (is_false_at W05) same
-    by_rule W06 = ap (is_false_at W06) same
-    by_rule W09 = ap (is_false_at W09) same
-    by_rule S01 =
+    of_session : (is_judged_at tested.role S01 k (e ∷ past) && is_false_at S01 (moment (e ∷ past) k)) ≡ (is_judged_at tested.role S01 k past && is_false_at S01 (moment past k))
+    of_session =
         ap (λ m. accepts (decision tested.role (events_of (connection_no m) (e ∷ past))) && is_false_at S01 m) same
         ∙ both_same (decision tested.role (events_of (connection_no (moment past k)) (e ∷ past))) (decision tested.role (events_of (connection_no (moment past k)) past)) (is_false_at S01 (moment past k)) (λ h.
         let code = accepted_before tested.role past k order h in
         let kept = decision-kept tested.role (connection_no (moment past k)) code.0 e past code.1 in
         (ap is_some kept, kept ∙ sym code.1))
+
+    by_rule : (rule : Rule) → (is_judged_at tested.role rule k (e ∷ past) && is_false_at rule (moment (e ∷ past) k)) ≡ (is_judged_at tested.role rule k past && is_false_at rule (moment past k))
+    by_rule rule = elim (family rule) [
+      | inl w ↦
+          ap (λ b. (b || is_accepted_at tested.role k (e ∷ past)) && is_false_at rule (moment (e ∷ past) k)) w.0
+          ∙ ap (is_false_at rule) same
+          ∙ sym (ap (λ b. (b || is_accepted_at tested.role k past) && is_false_at rule (moment past k)) w.0)
+      | inr is ↦ subst (λ (r : Rule). (is_judged_at tested.role r k (e ∷ past) && is_false_at r (moment (e ∷ past) k)) ≡ (is_judged_at tested.role r k past && is_false_at r (moment past k))) (sym is) of_session
+    ]
 
 -- and the pair's fault is the one that it had
 pub fault_in-older : (tested : Tested) (e : Seen) (past : List Seen) (k : ℕ) (rule : Rule) → IsInOrder tested.role past → (k == length past + 1) ≡ false → fault_in tested (e ∷ past) k rule ≡ fault_in tested past k rule
@@ -241,6 +285,24 @@ fault_in-step tested e past k rule order = go (k == length past + 1) refl
 
 -- ---- what fails at the newest position
 
+-- a new PUBLISH is no CONNACK
+new_decides : (p : PacketNote) (test : ℕ → Bool) → any_id test (new_identifier (Some p)) ≡ true → connack_code (Some p) ≡ None
+new_decides Connect test h = refl
+new_decides (Connack session_present code) test h = absurd (cc)
+new_decides (Publish identifier qos duplicate) test h = refl
+new_decides (Puback identifier code) test h = refl
+new_decides (Pubrec identifier code) test h = refl
+new_decides (Pubrel identifier code) test h = refl
+new_decides (Pubcomp identifier code) test h = refl
+new_decides (Subscribe identifier) test h = refl
+new_decides (Suback identifier) test h = refl
+new_decides (Unsubscribe identifier) test h = refl
+new_decides (Unsuback identifier) test h = refl
+new_decides Pingreq test h = refl
+new_decides Pingresp test h = refl
+new_decides (Disconnect code) test h = refl
+new_decides (Auth code) test h = refl
+
 -- the event after which a position's connection is told: an opener is no CONNACK
 opener_decides : (role : Role) (note : Note) (test : ℕ → Bool) → any_id test (opener_of note) ≡ true → connack_of role note ≡ None
 opener_decides role Open test h = absurd (cc)
@@ -250,11 +312,8 @@ opener_decides role (Release i) test h = absurd (cc)
 opener_decides role (Recv item) test h = absurd (cc)
 opener_decides role (Sent Lost) test h = absurd (cc)
 opener_decides role (Sent (Bad first rule at)) test h = absurd (cc)
-opener_decides role (Sent (Packet Connect)) test h = absurd (cc)
-opener_decides role (Sent (Packet (Connack session_present code))) test h = absurd (cc)
-opener_decides Client (Sent (Packet (Publish identifier qos duplicate))) test h = refl
-opener_decides Server (Sent (Packet (Publish identifier qos duplicate))) test h = refl
-opener_decides role (Sent (Packet (Puback identifier code))) test h = absurd (cc)
+opener_decides Client (Sent (Packet p)) test h = refl
+opener_decides Server (Sent (Packet p)) test h = new_decides p test h
 
 judged_newest : (role : Role) (e : Seen) (past : List Seen) → (is_judged_at role S01 (length past + 1) (e ∷ past) && is_false_at S01 (e ∷ past)) ≡ (accepts (decision role (connection past)) && breaks_S01 e past)
 unfolding breaks_S01
@@ -280,11 +339,27 @@ breaks_S01-bytes e = go (broken e.note)
     go (Some fault) = by_rule fault.rule
       where
         by_rule : (r : PacketRule) → same_rule S01 (statement_of r) ≡ false
+        by_rule packets.W01 = refl
+        by_rule packets.W02 = refl
         by_rule packets.W03 = refl
         by_rule packets.W04 = refl
         by_rule packets.W05 = refl
         by_rule packets.W06 = refl
+        by_rule packets.W07 = refl
+        by_rule packets.W08 = refl
         by_rule packets.W09 = refl
+        by_rule packets.W10 = refl
+        by_rule packets.W11 = refl
+        by_rule packets.W12 = refl
+        by_rule packets.W13 = refl
+        by_rule packets.W14 = refl
+        by_rule packets.W15 = refl
+        by_rule packets.W16 = refl
+        by_rule packets.W17 = refl
+        by_rule packets.W18 = refl
+        by_rule packets.W19 = refl
+        by_rule packets.W20 = refl
+        by_rule packets.W21 = refl
 
 or-false : (b : Bool) → (b || false) ≡ b
 or-false true = refl
@@ -299,12 +374,15 @@ fails-newest tested e past rule =
   where
     by_rule : (rule : Rule) → (binds rule tested.role && (is_judged_at tested.role rule (length past + 1) (e ∷ past) && is_false_at rule (e ∷ past)))
         ≡ (breaks_bytes rule e || (same_rule rule S01 && (accepts (decision tested.role (connection past)) && breaks_S01 e past)))
-    by_rule W03 = sym (or-false (breaks_bytes W03 e))
-    by_rule W04 = sym (or-false (breaks_bytes W04 e))
-    by_rule W05 = sym (or-false (breaks_bytes W05 e))
-    by_rule W06 = sym (or-false (breaks_bytes W06 e))
-    by_rule W09 = sym (or-false (breaks_bytes W09 e))
-    by_rule S01 = judged_newest tested.role e past ∙ ap (λ b. b || (accepts (decision tested.role (connection past)) && breaks_S01 e past)) (sym (breaks_S01-bytes e))
+    by_rule rule = elim (family rule) [
+      | inl w ↦
+          ap (λ b. (b || is_accepted_at tested.role (length past + 1) (e ∷ past)) && cond b (breaks_bytes rule e) (breaks_session rule e past)) w.0
+          ∙ sym (or-false (breaks_bytes rule e))
+          ∙ sym (ap (λ b. breaks_bytes rule e || (b && (accepts (decision tested.role (connection past)) && breaks_S01 e past))) w.1)
+      | inr is ↦
+          subst (λ (r : Rule). (is_judged_at tested.role r (length past + 1) (e ∷ past) && is_false_at r (e ∷ past)) ≡ (breaks_bytes r e || (same_rule r S01 && (accepts (decision tested.role (connection past)) && breaks_S01 e past)))) (sym is)
+          (judged_newest tested.role e past ∙ ap (λ b. b || (accepts (decision tested.role (connection past)) && breaks_S01 e past)) (sym (breaks_S01-bytes e)))
+    ]
 
 -- a log without events has no faults
 pub fault_in-start : (tested : Tested) (k : ℕ) (rule : Rule) → fault_in tested [] k rule ≡ None

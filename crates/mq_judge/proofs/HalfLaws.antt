@@ -4,12 +4,12 @@ use Rattle.std.proofs.lemmas.List.{append-nil}
 use Rattle.mq_judge.specs.declared.trace.kind.Way.{Way}
 use Rattle.mq_judge.specs.declared.trace.kind.Way.TheVariants as ways
 use Rattle.mq_judge.specs.Pieces.{Pieces, pieces}
-use Rattle.mq_judge.specs.Stream.{frame_size, is_lost}
+use Rattle.mq_packet.specs.Stream.{frame_size, is_lost}
 use Rattle.mq_judge.specs.Framing.{kind_of, way_of, opens, if_way, stream, begun, carried, records}
 use Rattle.mq_judge.specs.Events.{packet_with}
 use Rattle.mq_judge.specs.Context.{half_with, half_of, half_after, half_by, half_then, so_far_in}
 use Rattle.mq_judge.proofs.PiecesLaws.{Settles, grown, pieces-grow, nothing_cut}
-use Rattle.mq_judge.proofs.StreamLaws.{frame_bounds, frame_stays, frame_stood, is_lost_stays, lost_no_frame}
+use Rattle.mq_packet.proofs.StreamLaws.{frame_bounds, frame_stays, frame_stood, is_lost_stays, lost_no_frame}
 use Rattle.mq_judge.proofs.FramingLaws.{carried-grow}
 
 pub frame_settles : Settles frame_size

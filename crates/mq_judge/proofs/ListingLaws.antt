@@ -19,7 +19,7 @@ use Rattle.mq_judge.specs.contracts.rules.rule.Rule.{the_type}
 use Rattle.mq_judge.specs.contracts.rules.rule.RuleOrd.TheImpl as rule_ord
 use Rattle.mq_judge.specs.declared.rules.role.Tested.{Tested}
 use Rattle.mq_judge.specs.declared.rules.rule.Rule.{Rule}
-use Rattle.mq_judge.specs.declared.rules.rule.Rule.TheVariants.{W03, W04, W05, W06, W09, S01}
+use Rattle.mq_judge.specs.declared.rules.rule.Rule.TheVariants.{W01, W02, W03, W04, W05, W06, W07, W08, W09, W10, W11, W12, W13, W14, W15, W16, W17, W18, W19, W20, W21, S01}
 use Rattle.mq_judge.specs.declared.rules.note.Seen.{Seen}
 use Rattle.mq_judge.specs.declared.rules.fault.Fault.{Fault}
 use Rattle.mq_judge.specs.declared.rules.faults.Mark.{Mark}
@@ -124,11 +124,27 @@ has r [] = false
 has r (s ∷ ss) = same_rule r s || has r ss
 
 all_has : (r : Rule) → has r all_rules ≡ true
+all_has W01 = refl
+all_has W02 = refl
 all_has W03 = refl
 all_has W04 = refl
 all_has W05 = refl
 all_has W06 = refl
+all_has W07 = refl
+all_has W08 = refl
 all_has W09 = refl
+all_has W10 = refl
+all_has W11 = refl
+all_has W12 = refl
+all_has W13 = refl
+all_has W14 = refl
+all_has W15 = refl
+all_has W16 = refl
+all_has W17 = refl
+all_has W18 = refl
+all_has W19 = refl
+all_has W20 = refl
+all_has W21 = refl
 all_has S01 = refl
 
 find-block : (g : Faulty) (k : ℕ) (q : Mark) (rules : List Rule) (ys : List (Mark × Fault)) → find mark_cmp q (block g k rules ++ ys) ≡ or_else (cond ((q.position == k) && has q.rule rules) (g k q.rule) None) (find mark_cmp q ys)

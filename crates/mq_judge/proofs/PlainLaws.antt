@@ -6,9 +6,9 @@ use Rattle.std.proofs.Common.{add-one, length-drop}
 use Rattle.std.proofs.lemmas.List.{get_or-drop, length-reverse, length-take-le}
 use denote.Enum.Bare.{same_true}
 use Rattle.mq_judge.specs.contracts.rules.rule.Rule.{the_type}
-use Rattle.mq_judge.specs.declared.packet.kinds.PacketRule.{PacketRule}
-use Rattle.mq_judge.specs.declared.packet.kinds.PacketRule.TheVariants as packets
-use Rattle.mq_judge.specs.declared.packet.kinds.BodyFault.{BodyFault}
+use Rattle.mq_packet.specs.declared.rule.PacketRule.{PacketRule}
+use Rattle.mq_packet.specs.declared.rule.PacketRule.TheVariants as packets
+use Rattle.mq_packet.specs.declared.fault.BodyFault.{BodyFault}
 use Rattle.mq_judge.specs.declared.rules.role.Role.{Role}
 use Rattle.mq_judge.specs.declared.rules.role.Tested.{Tested}
 use Rattle.mq_judge.specs.declared.rules.rule.Rule.{Rule}
@@ -38,11 +38,27 @@ bytes-none m e k rule none =
     ∙ ap (λ b. or_else (fault_at m k rule) (cond b (Some (told (e ∷ []) rule k)) None)) (sym (ap (λ o. (k == e.place.position) && is_broken_rule rule (option_map (λ fault. statement_of fault.rule) o)) none ∙ and_false (k == e.place.position)))
 
 on_bytes : (r : PacketRule) → is_on_bytes (statement_of r) ≡ true
+on_bytes packets.W01 = refl
+on_bytes packets.W02 = refl
 on_bytes packets.W03 = refl
 on_bytes packets.W04 = refl
 on_bytes packets.W05 = refl
 on_bytes packets.W06 = refl
+on_bytes packets.W07 = refl
+on_bytes packets.W08 = refl
 on_bytes packets.W09 = refl
+on_bytes packets.W10 = refl
+on_bytes packets.W11 = refl
+on_bytes packets.W12 = refl
+on_bytes packets.W13 = refl
+on_bytes packets.W14 = refl
+on_bytes packets.W15 = refl
+on_bytes packets.W16 = refl
+on_bytes packets.W17 = refl
+on_bytes packets.W18 = refl
+on_bytes packets.W19 = refl
+on_bytes packets.W20 = refl
+on_bytes packets.W21 = refl
 
 -- what is told of a broken packet
 bytes_told : (e : Seen) (b : BodyFault) (rule : Rule) (k : ℕ) (t : Bool) → broken e.note ≡ Some b

@@ -1,33 +1,31 @@
 -- How far a packet is, by its fixed header.
-use Rattle.std.proofs.Common.{◌≡◌, ℕ, ◌-◌, ◌≤◌, Bool, true, false, List, length, take, drop, take_all, Option, Some, None, Result, Ok, Err, refl, sym, ◌∙◌, arith}
+use Rattle.std.proofs.Common.{◌≡◌, ℕ, ◌-◌, ◌≤◌, Bool, true, false, List, length, take, drop, take_all, Option, Some, None, refl, sym, ap, ◌∙◌, arith}
 use Rattle.std.specs.Prelude.{is_some, slice_index}
 use Rattle.std.proofs.lemmas.List.{length-drop}
-use Rattle.mq_wire.specs.declared.fault.Reason.{Reason}
-use Rattle.mq_wire.specs.declared.fault.Reason.TheVariants as reasons
-use Rattle.mq_judge.specs.declared.packet.fixed_header.FixedHeader.{FixedHeader}
-use Rattle.mq_judge.specs.declared.packet.fixed_header.FixedHeader.TheVariants.{Short, Lost, Whole}
-use Rattle.mq_judge.specs.Stream.{remaining_length, header_with, fixed_header_of, frame_size, is_overlong, is_lost}
-use Rattle.mq_judge.specs.Decoding.{decoded}
+use Rattle.mq_packet.specs.declared.header.FixedHeader.{FixedHeader}
+use Rattle.mq_packet.specs.declared.header.FixedHeader.TheVariants.{Short, Lost, Whole}
+use Rattle.mq_packet.specs.Stream.{fixed_header_of, frame_size, is_lost}
+use Rattle.mq_packet.specs.Decoding.{decoded}
 use Rattle.mq_judge.specs.Events.{read_frame}
 use Rattle.mq_judge.specs.Steps.{HasNoMoreThanFrame}
-use Rattle.mq_judge.proofs.StreamLaws.{header_from_frame, size_above}
+use Rattle.mq_packet.proofs.StreamLaws.{header_from_frame, header_lost, lost_header, size_above}
+use Rattle.mq_judge.proofs.BoolLaws.{same_test}
 
 abbrev pub is_lost_header : FixedHeader → Bool
 is_lost_header Short = false
 is_lost_header Lost = true
 is_lost_header (Whole header size) = false
 
+lost_of : (h : FixedHeader) → is_lost_header h ≡ true → h ≡ Lost
+lost_of Short e = absurd (cc)
+lost_of Lost e = refl
+lost_of (Whole header size) e = absurd (cc)
+
 -- Bytes are lost where their fixed header is.
 pub lost_by_header : (bytes : List ℕ) → is_lost bytes ≡ is_lost_header (fixed_header_of bytes)
-unfolding is_lost fixed_header_of
-lost_by_header bytes = told (remaining_length bytes)
-  where
-    told : (r : Result (ℕ × ℕ) Reason) → is_overlong r ≡ is_lost_header (header_with r)
-    told (Ok x) = refl
-    told (Err reasons.Short) = refl
-    told (Err reasons.Overlong) = refl
-    told (Err reasons.NotUtf8) = refl
-    told (Err reasons.Nul) = refl
+lost_by_header bytes =
+    same_test (is_lost bytes) (is_lost_header (fixed_header_of bytes))
+    (λ e. ap is_lost_header (lost_header bytes e)) (λ e. header_lost bytes (lost_of (fixed_header_of bytes) e))
 
 -- What is known of a frame that has all the bytes.
 pub framed : (frame : List ℕ) (header size : ℕ) → HasNoMoreThanFrame frame → is_some (frame_size frame) ≡ true → Whole header size ≡ fixed_header_of frame

@@ -10,7 +10,7 @@ use Rattle.mq_judge.specs.declared.trace.kind.Way.TheVariants as ways
 use Rattle.mq_judge.specs.declared.trace.refusal.Refusal.{Refusal}
 use Rattle.mq_judge.specs.declared.trace.refusal.Refusal.TheVariants as refusals
 use Rattle.mq_judge.specs.declared.rules.note.Note.{Note}
-use Rattle.mq_judge.specs.Stream.{fixed_header_of, frame_size, is_lost}
+use Rattle.mq_packet.specs.Stream.{fixed_header_of, frame_size, is_lost}
 use Rattle.mq_judge.specs.Framing.{kind_of, body_length, record_size, way_of, opens}
 use Rattle.mq_judge.specs.Events.{Event, note_of, event_in, read_frame}
 use Rattle.mq_judge.specs.Refusals.{Situation, is_first, ends_head, allows, is_open_kind, needs_connection, is_release_kind, is_too_large, ends_packet, is_other_version, is_early, is_unread_yet, first_standing, record_refusal, header_refusal}

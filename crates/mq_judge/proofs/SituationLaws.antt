@@ -2,29 +2,28 @@
 use Rattle.std.proofs.Common.{◌≡◌, ℕ, ◌+◌, Bool, true, false, cond, ◌&&◌, List, [], ◌∷◌, length, Option, Some, None, Result, Ok, Err, refl, sym, ap, ◌∙◌}
 use Rattle.std.specs.Prelude.{if◌then◌else◌, not, is_some, is_none, option_map, slice_index, ◌||◌, ◌==◌, nat_lt, nat_le, drop}
 use Rattle.std.specs.Int.{w16, from_be_bytes}
-use Rattle.mq_judge.specs.declared.packet.kinds.DecodeFault.{DecodeFault}
-use Rattle.mq_judge.specs.declared.packet.kinds.DecodeFault.TheVariants.{Broken, OtherVersion, Unread}
+use Rattle.mq_packet.specs.declared.fault.DecodeFault.{DecodeFault}
+use Rattle.mq_packet.specs.declared.fault.DecodeFault.TheVariants.{Broken, OtherVersion}
 use Rattle.mq_judge.specs.declared.trace.kind.RecordKind.{RecordKind}
 use Rattle.mq_judge.specs.declared.trace.kind.RecordKind.TheVariants as kinds
 use Rattle.mq_judge.specs.declared.trace.packets.Progress.TheVariants.{Unfinished, Lost, Whole}
 use Rattle.mq_judge.specs.declared.rules.note.Note.TheVariants as notes
 use Rattle.mq_judge.specs.declared.trace.refusal.Refusal.{Refusal}
 use Rattle.mq_judge.specs.declared.trace.refusal.Refusal.TheVariants as refusals
-use Rattle.mq_judge.specs.Entries.{Entry}
-use Rattle.mq_judge.specs.Stream.{fixed_header_of, frame_size, is_lost}
+use Rattle.mq_packet.specs.Entries.{Entry}
+use Rattle.mq_packet.specs.Stream.{fixed_header_of, frame_size, is_lost}
 use Rattle.mq_judge.specs.Framing.{kind_of, body_length}
 use Rattle.mq_judge.specs.Events.{Event, Item, item_note, note_of, item_read, item_at, read_frame, event_by, event_in, packet, sent, received, released, opened, closed, rested}
 use Rattle.mq_judge.specs.Events as events
-use Rattle.mq_judge.specs.Refusals.{Situation, is_other_version, is_unread, ends_packet, is_early, is_unread_packet, ends_inside_packet, is_unread_kind, is_unread_yet, is_first, ends_head, allows, is_open_kind, needs_connection, is_release_kind, carries_packets, is_too_large, first_standing, record_refusal}
-use Rattle.mq_judge.specs.Steps.{noted, progress_of, item_of, item_in, note_by, has_other_version, has_unread, is_unfinished, is_early_by, is_unread_by, ends_inside_by, lines_by}
-use Rattle.mq_judge.proofs.StreamLaws.{lost_no_frame}
+use Rattle.mq_judge.specs.Refusals.{Situation, is_other_version, ends_packet, is_early, ends_inside_packet, is_unread_kind, is_unread_yet, is_first, ends_head, allows, is_open_kind, needs_connection, is_release_kind, carries_packets, is_too_large, first_standing, record_refusal}
+use Rattle.mq_judge.specs.Steps.{noted, progress_of, item_of, item_in, note_by, has_other_version, is_unfinished, is_early_by, is_unread_by, ends_inside_by, lines_by}
+use Rattle.mq_packet.proofs.StreamLaws.{lost_no_frame}
 
 -- What is noted of an item is the item noted.
 item_noted : (first : ℕ) (r : Result Entry DecodeFault) → item_of first (noted r) ≡ option_map item_note (item_read first r)
 item_noted first (Ok entry) = refl
 item_noted first (Err (Broken fault)) = refl
 item_noted first (Err (OtherVersion version)) = refl
-item_noted first (Err Unread) = refl
 
 if_some : (b : Bool) (event : Event) → (if b then Some (note_of event) else None) ≡ option_map note_of (if b then Some event else None)
 if_some true event = refl
@@ -70,13 +69,6 @@ same_version : (r : Result Entry DecodeFault) → is_other_version (noted r) ≡
 same_version (Ok entry) = refl
 same_version (Err (Broken fault)) = refl
 same_version (Err (OtherVersion version)) = refl
-same_version (Err Unread) = refl
-
-same_unread : (r : Result Entry DecodeFault) → is_unread (noted r) ≡ is_unread r
-same_unread (Ok entry) = refl
-same_unread (Err (Broken fault)) = refl
-same_unread (Err (OtherVersion version)) = refl
-same_unread (Err Unread) = refl
 
 -- a packet is lost or whole or neither, and not both
 lost_not_whole : (so_far : List ℕ) → is_lost so_far ≡ true → is_some (frame_size so_far) ≡ false
@@ -90,18 +82,6 @@ other_version_by so_far =
       | false ↦ λ e.
           (elim (is_some (frame_size so_far)) as (λ f. has_other_version (if f then Whole (noted (read_frame so_far)) else Unfinished) ≡ (f && is_other_version (read_frame so_far))) [
             | true ↦ same_version (read_frame so_far)
-            | false ↦ refl
-          ])
-    ] refl
-
-unread_by : (so_far : List ℕ) → has_unread (progress_of so_far) ≡ (is_some (frame_size so_far) && is_unread (read_frame so_far))
-unfolding progress_of
-unread_by so_far =
-    elim (is_lost so_far) as (λ l. is_lost so_far ≡ l → has_unread (if l then Lost else (if is_some (frame_size so_far) then Whole (noted (read_frame so_far)) else Unfinished)) ≡ (is_some (frame_size so_far) && is_unread (read_frame so_far))) [
-      | true ↦ λ e. ap (λ f. f && is_unread (read_frame so_far)) (sym (lost_not_whole so_far e))
-      | false ↦ λ e.
-          (elim (is_some (frame_size so_far)) as (λ f. has_unread (if f then Whole (noted (read_frame so_far)) else Unfinished) ≡ (f && is_unread (read_frame so_far))) [
-            | true ↦ same_unread (read_frame so_far)
             | false ↦ refl
           ])
     ] refl
@@ -128,9 +108,7 @@ some_note (Some event) = refl
 
 unread_yet_by : (s : Situation) → is_unread_by s (progress_of s.so_far) ≡ is_unread_yet s
 unfolding is_unread_yet
-unread_yet_by s =
-    ap (λ u. u || (ends_inside_by s (progress_of s.so_far) || is_unread_kind s)) (unread_by s.so_far)
-    ∙ ap (λ u. is_unread_packet s || (u || is_unread_kind s)) inside
+unread_yet_by s = ap (λ u. u || is_unread_kind s) inside
   where
     inside : ends_inside_by s (progress_of s.so_far) ≡ ends_inside_packet s
     inside = ap (λ u. carries_packets (kind_of s.part) && (length s.part == 5 + body_length s.part && (nat_lt 0 (length s.so_far) && u))) (unfinished_by s.so_far)

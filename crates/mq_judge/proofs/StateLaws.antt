@@ -9,14 +9,14 @@ use Rattle.mq_judge.specs.declared.trace.kind.Way.{Way}
 use Rattle.mq_judge.specs.declared.trace.kind.Way.TheVariants as ways
 use Rattle.mq_judge.specs.declared.trace.situation.Connections.{Connections}
 use Rattle.mq_judge.specs.declared.rules.note.Note.{Note}
-use Rattle.mq_judge.specs.Stream.{fixed_header_of, frame_size}
+use Rattle.mq_packet.specs.Stream.{fixed_header_of, frame_size}
 use Rattle.mq_judge.specs.Framing.{kind_of, record_size, way_of, opens}
 use Rattle.mq_judge.specs.Events.{Event, note_of, event_in}
 use Rattle.mq_judge.specs.Refusals.{Situation, record_refusal, is_open_kind}
 use Rattle.mq_judge.specs.Context.{Half, Context, so_far_in, so_far_by, so_far_for, situated, refusal_for, event_for, seen_for, seen_with, half_after, half_by, half_then, with_note, after}
 use Rattle.mq_judge.specs.Steps.{HasNoMoreThanFrame, body_way, pushed, packet_in, settled, connections_with}
 use Rattle.mq_judge.specs.States.{IsReachable, half_pushed, half_settled, packet_by, with_byte, situation_in, connections_in, emptied, with_settled, placed}
-use Rattle.mq_judge.proofs.StreamLaws.{frame_stood, frame_bounds}
+use Rattle.mq_packet.proofs.StreamLaws.{frame_stood, frame_bounds}
 
 -- Nothing is no packet.
 pub no_frame : frame_size [] ≡ None

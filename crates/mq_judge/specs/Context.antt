@@ -7,7 +7,7 @@ use Rattle.mq_judge.specs.declared.rules.role.Role.TheVariants.{Client, Server}
 use Rattle.mq_judge.specs.declared.rules.role.Tested.{Tested}
 use Rattle.mq_judge.specs.declared.rules.note.Seen.{Seen}
 use Rattle.mq_judge.specs.Notes.{is_open, is_close, connack_of}
-use Rattle.mq_judge.specs.Stream.{frame_size, is_lost}
+use Rattle.mq_packet.specs.Stream.{frame_size, is_lost}
 use Rattle.mq_judge.specs.Framing.{tested_by, kind_of, way_of, opens, record_size, records, begun, carried, stream}
 use Rattle.mq_judge.specs.Events.{Event, note_of, event_in, seen_in}
 use Rattle.mq_judge.specs.Refusals.{Situation, header_refusal, record_refusal, is_connected, is_answered, was_closed}

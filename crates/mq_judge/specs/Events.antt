@@ -1,9 +1,9 @@
 -- The events that a log gives: each is completed by one byte of the log, and stands in the record of that byte.
 use Rattle.std.specs.Prelude.{ℕ, ◌+◌, ◌==◌, nat_lt, cond, if◌then◌else◌, List, [], ◌∷◌, ◌++◌, length, drop, map, reverse, slice_index, Option, Some, None, option_map, is_some, Result, Ok, Err}
 use Rattle.std.specs.Int.{w16, from_be_bytes}
-use Rattle.mq_judge.specs.declared.packet.kinds.PacketRule.{PacketRule}
-use Rattle.mq_judge.specs.declared.packet.kinds.DecodeFault.{DecodeFault}
-use Rattle.mq_judge.specs.declared.packet.kinds.DecodeFault.TheVariants.{Broken, OtherVersion, Unread}
+use Rattle.mq_packet.specs.declared.rule.PacketRule.{PacketRule}
+use Rattle.mq_packet.specs.declared.fault.DecodeFault.{DecodeFault}
+use Rattle.mq_packet.specs.declared.fault.DecodeFault.TheVariants.{Broken, OtherVersion}
 use Rattle.mq_judge.specs.declared.trace.kind.RecordKind.{RecordKind}
 use Rattle.mq_judge.specs.declared.trace.kind.RecordKind.TheVariants as kinds
 use Rattle.mq_judge.specs.declared.trace.kind.Way.{Way}
@@ -13,12 +13,13 @@ use Rattle.mq_judge.specs.declared.rules.note.Note.TheVariants as notes
 use Rattle.mq_judge.specs.declared.rules.note.ItemNote.{ItemNote}
 use Rattle.mq_judge.specs.declared.rules.note.ItemNote.TheVariants as item_notes
 use Rattle.mq_judge.specs.declared.rules.note.Seen.{Seen}
-use Rattle.mq_judge.specs.declared.packet.fixed_header.FixedHeader.{FixedHeader}
-use Rattle.mq_judge.specs.declared.packet.fixed_header.FixedHeader.TheVariants as headers
-use Rattle.mq_judge.specs.Stream.{fixed_header_of, frame_size, is_lost}
+use Rattle.mq_packet.specs.declared.header.FixedHeader.{FixedHeader}
+use Rattle.mq_packet.specs.declared.header.FixedHeader.TheVariants as headers
+use Rattle.mq_packet.specs.Stream.{fixed_header_of, frame_size, is_lost}
 use Rattle.mq_judge.specs.Framing.{kind_of, way_of, begun, carried, stream}
-use Rattle.mq_judge.specs.Entries.{Entry, packet_note}
-use Rattle.mq_judge.specs.Decoding.{decoded}
+use Rattle.mq_packet.specs.Entries.{Entry}
+use Rattle.mq_packet.specs.Decoding.{decoded}
+use Rattle.mq_judge.specs.Notes.{packet_note}
 
 -- what stands in one direction's stream of packets
 pub data Item : Type 0 where
@@ -53,12 +54,11 @@ note_of (received item) = notes.Recv (item_note item)
 abbrev pub seen : Placed → Seen
 seen placed = record { place = placed.place; note = note_of placed.event }
 
--- What a whole frame is: a packet, or one whose bytes break a rule. Of another protocol version, or where it isn't read, it is neither.
+-- What a whole frame is: a packet, or one whose bytes break a rule. Of another protocol version it is neither.
 abbrev pub item_read : ℕ → Result Entry DecodeFault → Option Item
 item_read first (Ok entry) = Some (packet entry)
 item_read first (Err (Broken fault)) = Some (bad first fault.rule fault.at)
 item_read first (Err (OtherVersion version)) = None
-item_read first (Err Unread) = None
 
 -- what stands behind a packet's fixed header
 abbrev pub behind_header : FixedHeader → List ℕ → List ℕ

@@ -9,7 +9,7 @@ use Rattle.mq_judge.specs.declared.trace.kind.Way.TheVariants as ways
 use Rattle.mq_judge.specs.declared.rules.role.Role.TheVariants.{Client, Server}
 use Rattle.mq_judge.specs.declared.rules.role.Tested.{Tested}
 use Rattle.mq_judge.specs.Pieces.{Pieces, pieces}
-use Rattle.mq_judge.specs.Stream.{frame_size}
+use Rattle.mq_packet.specs.Stream.{frame_size}
 
 -- the end that the header names: byte 5 is 1 for a server, and bit 0 of byte 6 says that releases are recorded
 abbrev pub tested_by : List ℕ → Tested

@@ -1,14 +1,48 @@
 -- What one event is, by itself.
-use Rattle.std.specs.Prelude.{ℕ, ◌==◌, Bool, true, false, cond, Option, Some, None}
-use Rattle.mq_judge.specs.declared.packet.kinds.Qos.{Qos}
-use Rattle.mq_judge.specs.declared.packet.kinds.Qos.TheVariants as quality
+use Rattle.std.specs.Prelude.{ℕ, ◌==◌, nat_le, Bool, true, false, cond, Option, Some, None}
+use Rattle.mq_packet.specs.declared.packet.Qos.{Qos}
+use Rattle.mq_packet.specs.declared.packet.Qos.TheVariants as quality
+use Rattle.mq_packet.specs.declared.packet.AcknowledgementKind.{AcknowledgementKind}
+use Rattle.mq_packet.specs.declared.packet.AcknowledgementKind.TheVariants as acknowledgements
+use Rattle.mq_packet.specs.declared.packet.RequestKind.{RequestKind}
+use Rattle.mq_packet.specs.declared.packet.RequestKind.TheVariants as requests
+use Rattle.mq_packet.specs.Entries.{Entry, connect, connack, publish, acknowledgement, request, answer, pingreq, pingresp, disconnect, auth}
 use Rattle.mq_judge.specs.declared.rules.role.Role.{Role}
 use Rattle.mq_judge.specs.declared.rules.role.Role.TheVariants.{Client, Server}
 use Rattle.mq_judge.specs.declared.rules.note.Note.{Note}
 use Rattle.mq_judge.specs.declared.rules.note.Note.TheVariants.{Open, Close, Sent, Recv}
 use Rattle.mq_judge.specs.declared.rules.note.ItemNote.TheVariants.{Packet}
-use Rattle.mq_judge.specs.declared.rules.note.PacketNote.{PacketNote}
-use Rattle.mq_judge.specs.declared.rules.note.PacketNote.TheVariants.{Connack, Publish, Puback}
+use Rattle.mq_judge.specs.declared.rules.packet_note.PacketNote.{PacketNote}
+use Rattle.mq_judge.specs.declared.rules.packet_note.PacketNote.TheVariants as notes
+use Rattle.mq_judge.specs.declared.rules.packet_note.PacketNote.TheVariants.{Connack, Publish, Puback, Pubrec, Pubrel, Pubcomp, Subscribe, Suback, Unsubscribe, Unsuback}
+
+-- What the statements look at of an acknowledgement, of a SUBSCRIBE or UNSUBSCRIBE, of the answer to one, and of any packet
+-- (MQTT 5.0, sections 3.1 to 3.15).
+abbrev pub acknowledgement_note : AcknowledgementKind → ℕ → ℕ → PacketNote
+acknowledgement_note acknowledgements.Puback identifier code = notes.Puback identifier code
+acknowledgement_note acknowledgements.Pubrec identifier code = notes.Pubrec identifier code
+acknowledgement_note acknowledgements.Pubrel identifier code = notes.Pubrel identifier code
+acknowledgement_note acknowledgements.Pubcomp identifier code = notes.Pubcomp identifier code
+
+abbrev pub request_note : RequestKind → ℕ → PacketNote
+request_note requests.Subscribe identifier = notes.Subscribe identifier
+request_note requests.Unsubscribe identifier = notes.Unsubscribe identifier
+
+abbrev pub answer_note : RequestKind → ℕ → PacketNote
+answer_note requests.Subscribe identifier = notes.Suback identifier
+answer_note requests.Unsubscribe identifier = notes.Unsuback identifier
+
+abbrev pub packet_note : Entry → PacketNote
+packet_note (connect fields) = notes.Connect
+packet_note (connack session_present code properties) = notes.Connack session_present code
+packet_note (publish fields) = notes.Publish fields.identifier fields.qos fields.duplicate
+packet_note (acknowledgement kind identifier code properties) = acknowledgement_note kind identifier code
+packet_note (request kind identifier properties filters) = request_note kind identifier
+packet_note (answer kind identifier properties codes) = answer_note kind identifier
+packet_note pingreq = notes.Pingreq
+packet_note pingresp = notes.Pingresp
+packet_note (disconnect code properties) = notes.Disconnect code
+packet_note (auth code properties) = notes.Auth code
 
 -- a network connection begins
 abbrev pub is_open : Note → Bool
@@ -51,16 +85,22 @@ abbrev pub new_identifier : Option PacketNote → Option ℕ
 new_identifier (Some (Publish identifier qos duplicate)) = cond duplicate None (cond (is_acknowledged qos) identifier None)
 new_identifier _ = None
 
--- the Packet Identifier of a PUBACK
+-- a Reason Code that refuses (MQTT 5.0, section 2.4)
+abbrev pub refuses : ℕ → Bool
+refuses code = nat_le 128 code
+
+-- the Packet Identifier that a PUBACK, a PUBCOMP or a refusing PUBREC sets free (MQTT 5.0, sections 4.3.2 and 4.3.3)
 abbrev pub settled_identifier : Option PacketNote → Option ℕ
 settled_identifier (Some (Puback identifier code)) = Some identifier
+settled_identifier (Some (Pubrec identifier code)) = cond (refuses code) (Some identifier) None
+settled_identifier (Some (Pubcomp identifier code)) = Some identifier
 settled_identifier _ = None
 
 -- the Packet Identifier that this event opens: a new PUBLISH of QoS above 0 is sent (MQTT 5.0, section 2.2.1)
 abbrev pub opener_of : Note → Option ℕ
 opener_of note = new_identifier (sent_packet note)
 
--- the Packet Identifier that this event closes: a PUBACK is received (MQTT 5.0, section 4.3.2)
+-- the Packet Identifier that this event closes: a PUBACK, a PUBCOMP or a refusing PUBREC is received (MQTT 5.0, section 2.2.1)
 abbrev pub closer_of : Note → Option ℕ
 closer_of note = settled_identifier (received_packet note)
 
@@ -74,14 +114,21 @@ abbrev pub any_id : (ℕ → Bool) → Option ℕ → Bool
 any_id test None = false
 any_id test (Some i) = test i
 
--- PUBLISH and its acknowledgements need a session (MQTT 5.0, section 3.1.2.4)
-abbrev pub is_session_packet : Option PacketNote → Bool
-is_session_packet (Some (Publish identifier qos duplicate)) = true
-is_session_packet (Some (Puback identifier code)) = true
+-- PUBLISH, SUBSCRIBE, UNSUBSCRIBE and their acknowledgements need a session (MQTT 5.0, section 4.1)
+abbrev pub is_session_packet : PacketNote → Bool
+is_session_packet (Publish identifier qos duplicate) = true
+is_session_packet (Puback identifier code) = true
+is_session_packet (Pubrec identifier code) = true
+is_session_packet (Pubrel identifier code) = true
+is_session_packet (Pubcomp identifier code) = true
+is_session_packet (Subscribe identifier) = true
+is_session_packet (Suback identifier) = true
+is_session_packet (Unsubscribe identifier) = true
+is_session_packet (Unsuback identifier) = true
 is_session_packet _ = false
 
 -- a session packet of either direction
 abbrev pub needs_session : Note → Bool
-needs_session (Sent (Packet p)) = is_session_packet (Some p)
-needs_session (Recv (Packet p)) = is_session_packet (Some p)
+needs_session (Sent (Packet p)) = is_session_packet p
+needs_session (Recv (Packet p)) = is_session_packet p
 needs_session _ = false

@@ -1,9 +1,9 @@
 -- Which logs are refused: the earliest byte with which a condition stands decides, and at one byte the lowest number.
 use Rattle.std.specs.Prelude.{ℕ, ◌+◌, ◌==◌, nat_lt, nat_le, Bool, true, false, ◌&&◌, ◌||◌, not, cond, if◌then◌else◌, List, [], ◌∷◌, ◌++◌, length, reverse, slice_index, Option, Some, None, is_some, is_none, Result, Ok, Err}
-use Rattle.mq_judge.specs.declared.packet.fixed_header.FixedHeader.{FixedHeader}
-use Rattle.mq_judge.specs.declared.packet.fixed_header.FixedHeader.TheVariants as headers
-use Rattle.mq_judge.specs.declared.packet.kinds.DecodeFault.{DecodeFault}
-use Rattle.mq_judge.specs.declared.packet.kinds.DecodeFault.TheVariants.{Broken, OtherVersion, Unread}
+use Rattle.mq_packet.specs.declared.header.FixedHeader.{FixedHeader}
+use Rattle.mq_packet.specs.declared.header.FixedHeader.TheVariants as headers
+use Rattle.mq_packet.specs.declared.fault.DecodeFault.{DecodeFault}
+use Rattle.mq_packet.specs.declared.fault.DecodeFault.TheVariants.{Broken, OtherVersion}
 use Rattle.mq_judge.specs.declared.trace.kind.RecordKind.{RecordKind}
 use Rattle.mq_judge.specs.declared.trace.kind.RecordKind.TheVariants as kinds
 use Rattle.mq_judge.specs.declared.trace.refusal.Refusal.{Refusal}
@@ -13,7 +13,7 @@ use Rattle.mq_judge.specs.declared.rules.role.Tested.{Tested}
 use Rattle.mq_judge.specs.declared.rules.note.Seen.{Seen}
 use Rattle.mq_judge.specs.Moments.{or_else, since}
 use Rattle.mq_judge.specs.Notes.{is_open, is_close, connack_of, needs_session}
-use Rattle.mq_judge.specs.Stream.{fixed_header_of, frame_size, is_lost}
+use Rattle.mq_packet.specs.Stream.{fixed_header_of, frame_size, is_lost}
 use Rattle.mq_judge.specs.Framing.{tested_by, kind_of, body_length, records, begun}
 use Rattle.mq_judge.specs.Events.{Event, note_of, event_in, read_frame, part_at, packet_at, seen_in}
 
@@ -119,18 +119,11 @@ is_too_large limit so_far (headers.Whole header size) = header == length so_far 
 is_too_large limit so_far headers.Short = false
 is_too_large limit so_far headers.Lost = false
 
--- what reading a frame found
+-- reading a frame found a CONNECT of another protocol version
 abbrev pub is_other_version : {A : Type 0} → Result A DecodeFault → Bool
 is_other_version (Err (OtherVersion version)) = true
 is_other_version (Err (Broken fault)) = false
-is_other_version (Err Unread) = false
 is_other_version (Ok entry) = false
-
-abbrev pub is_unread : {A : Type 0} → Result A DecodeFault → Bool
-is_unread (Err (OtherVersion version)) = false
-is_unread (Err (Broken fault)) = false
-is_unread (Err Unread) = true
-is_unread (Ok entry) = false
 
 -- the packet is whole with this byte
 abbrev pub ends_packet : Situation → Bool
@@ -141,10 +134,7 @@ abbrev pub is_early : Situation → Option Event → Bool
 is_early s None = false
 is_early s (Some event) = needs_session (note_of event) && not s.answered
 
--- What isn't read yet: a packet; a SENT or RECV that ends inside a packet; a second connection; a RELEASE.
-abbrev pub is_unread_packet : Situation → Bool
-is_unread_packet s = ends_packet s && is_unread (read_frame s.so_far)
-
+-- What isn't read yet: a SENT or RECV that ends inside a packet; a second connection; a RELEASE.
 abbrev pub ends_inside_packet : Situation → Bool
 ends_inside_packet s = carries_packets (kind_of s.part) && (length s.part == 5 + body_length s.part && (nat_lt 0 (length s.so_far) && (not (is_lost s.so_far) && not (ends_packet s))))
 
@@ -152,7 +142,7 @@ abbrev pub is_unread_kind : Situation → Bool
 is_unread_kind s = is_first s && ((is_open_kind (kind_of s.part) && s.closed) || is_release_kind (kind_of s.part))
 
 unfoldable pub is_unread_yet : Situation → Bool
-is_unread_yet s = is_unread_packet s || (ends_inside_packet s || is_unread_kind s)
+is_unread_yet s = ends_inside_packet s || is_unread_kind s
 
 -- the refusal of the first line whose condition stands
 abbrev pub first_standing : List (Bool × Refusal) → Option Refusal

@@ -1,13 +1,13 @@
 -- The chosen statements: whom each binds, where it is judged, and where it is false.
-use Rattle.std.specs.Prelude.{ℕ, Bool, true, false, ◌&&◌, List, [], ◌∷◌, Option, Some, None, option_map}
+use Rattle.std.specs.Prelude.{ℕ, Bool, true, false, ◌&&◌, ◌||◌, cond, List, [], ◌∷◌, Option, Some, None, option_map}
 use denote.Enum.Bare.{sameb}
-use Rattle.mq_judge.specs.declared.packet.kinds.PacketRule.{PacketRule}
-use Rattle.mq_judge.specs.declared.packet.kinds.PacketRule.TheVariants as packets
-use Rattle.mq_judge.specs.declared.packet.kinds.BodyFault.{BodyFault}
+use Rattle.mq_packet.specs.declared.rule.PacketRule.{PacketRule}
+use Rattle.mq_packet.specs.declared.rule.PacketRule.TheVariants as packets
+use Rattle.mq_packet.specs.declared.fault.BodyFault.{BodyFault}
 use Rattle.mq_judge.specs.declared.rules.role.Role.{Role}
 use Rattle.mq_judge.specs.declared.rules.role.Tested.{Tested}
 use Rattle.mq_judge.specs.declared.rules.rule.Rule.{Rule}
-use Rattle.mq_judge.specs.declared.rules.rule.Rule.TheVariants.{W03, W04, W05, W06, W09, S01}
+use Rattle.mq_judge.specs.declared.rules.rule.Rule.TheVariants.{W01, W02, W03, W04, W05, W06, W07, W08, W09, W10, W11, W12, W13, W14, W15, W16, W17, W18, W19, W20, W21, S01}
 use Rattle.mq_judge.specs.contracts.rules.rule.Rule.{the_type}
 use Rattle.mq_judge.specs.declared.rules.note.Note.{Note}
 use Rattle.mq_judge.specs.declared.rules.note.Note.TheVariants.{Sent}
@@ -19,24 +19,40 @@ use Rattle.mq_judge.specs.Connections.{session, is_accepted_at}
 
 -- the statements, in the order of reports
 abbrev pub all_rules : List Rule
-all_rules = W03 ∷ W04 ∷ W05 ∷ W06 ∷ W09 ∷ S01 ∷ []
+all_rules =
+    W01 ∷ W02 ∷ W03 ∷ W04 ∷ W05 ∷ W06 ∷ W07 ∷
+    W08 ∷ W09 ∷ W10 ∷ W11 ∷ W12 ∷ W13 ∷ W14 ∷
+    W15 ∷ W16 ∷ W17 ∷ W18 ∷ W19 ∷ W20 ∷ W21 ∷
+    S01 ∷ []
 
 -- a W statement is on the bytes of one packet
 abbrev pub is_on_bytes : Rule → Bool
-is_on_bytes W03 = true
-is_on_bytes W04 = true
-is_on_bytes W05 = true
-is_on_bytes W06 = true
-is_on_bytes W09 = true
 is_on_bytes S01 = false
+is_on_bytes _ = true
 
 -- the rule on a packet's bytes, as a statement
 abbrev pub statement_of : PacketRule → Rule
+statement_of packets.W01 = W01
+statement_of packets.W02 = W02
 statement_of packets.W03 = W03
 statement_of packets.W04 = W04
 statement_of packets.W05 = W05
 statement_of packets.W06 = W06
+statement_of packets.W07 = W07
+statement_of packets.W08 = W08
 statement_of packets.W09 = W09
+statement_of packets.W10 = W10
+statement_of packets.W11 = W11
+statement_of packets.W12 = W12
+statement_of packets.W13 = W13
+statement_of packets.W14 = W14
+statement_of packets.W15 = W15
+statement_of packets.W16 = W16
+statement_of packets.W17 = W17
+statement_of packets.W18 = W18
+statement_of packets.W19 = W19
+statement_of packets.W20 = W20
+statement_of packets.W21 = W21
 
 -- the rule that the bytes of what the tested end sent break, and where: a stream that is lost has a Remaining Length that
 -- breaks W03, and that stands at the packet's second byte
@@ -76,31 +92,21 @@ breaks_S01 e past = any_id (λ i. is_in_use i past) (opener_of e.note)
 
 -- Whom a statement binds.
 abbrev pub binds : Rule → Role → Bool
-binds W03 role = true
-binds W04 role = true
-binds W05 role = true
-binds W06 role = true
-binds W09 role = true
-binds S01 role = true
+binds rule role = true
 
 -- Whether a statement is judged at a position of the log: W on every connection, S on accepted connections alone.
 abbrev pub is_judged_at : Role → Rule → ℕ → List Seen → Bool
-is_judged_at role W03 k log = true
-is_judged_at role W04 k log = true
-is_judged_at role W05 k log = true
-is_judged_at role W06 k log = true
-is_judged_at role W09 k log = true
-is_judged_at role S01 k log = is_accepted_at role k log
+is_judged_at role rule k log = is_on_bytes rule || is_accepted_at role k log
+
+-- Whether a statement on a session is false at an event, with these events before it.
+abbrev pub breaks_session : Rule → Seen → List Seen → Bool
+breaks_session S01 e past = breaks_S01 e past
+breaks_session _ e past = false
 
 -- Whether a statement is false at the newest of these events.
 abbrev pub is_false_at : Rule → List Seen → Bool
 is_false_at rule [] = false
-is_false_at W03 (e ∷ past) = breaks_bytes W03 e
-is_false_at W04 (e ∷ past) = breaks_bytes W04 e
-is_false_at W05 (e ∷ past) = breaks_bytes W05 e
-is_false_at W06 (e ∷ past) = breaks_bytes W06 e
-is_false_at W09 (e ∷ past) = breaks_bytes W09 e
-is_false_at S01 (e ∷ past) = breaks_S01 e past
+is_false_at rule (e ∷ past) = cond (is_on_bytes rule) (breaks_bytes rule e) (breaks_session rule e past)
 
 -- The statement binds the tested end, is judged at position k of the log, and is false there.
 unfoldable pub fails : Tested → List Seen → ℕ → Rule → Bool

@@ -6,7 +6,7 @@ use Rattle.mq_judge.specs.declared.trace.situation.Connections.{Connections}
 use Rattle.mq_judge.specs.declared.trace.state.State.{State}
 use Rattle.mq_judge.specs.declared.rules.note.Note.{Note}
 use Rattle.mq_judge.specs.declared.rules.note.Seen.{Seen}
-use Rattle.mq_judge.specs.Stream.{frame_size}
+use Rattle.mq_packet.specs.Stream.{frame_size}
 use Rattle.mq_judge.specs.Framing.{kind_of, body_length, record_size, opens}
 use Rattle.mq_judge.specs.Refusals.{Situation}
 use Rattle.mq_judge.specs.Context.{Half, Context}

@@ -1,8 +1,8 @@
 -- The steps by which a reader of the log takes in one byte, and what it keeps between them.
 use Rattle.std.specs.Prelude.{◌≡◌, ℕ, ◌+◌, ◌==◌, nat_lt, nat_le, is_none, Bool, true, false, ◌&&◌, ◌||◌, not, if◌then◌else◌, List, [], ◌∷◌, ◌++◌, length, slice_index, Option, Some, None, option_map, is_some, Result, Ok, Err, drop}
 use Rattle.std.specs.Int.{w16, from_be_bytes}
-use Rattle.mq_judge.specs.declared.packet.kinds.DecodeFault.{DecodeFault}
-use Rattle.mq_judge.specs.declared.packet.kinds.DecodeFault.TheVariants.{Broken, OtherVersion, Unread}
+use Rattle.mq_packet.specs.declared.fault.DecodeFault.{DecodeFault}
+use Rattle.mq_packet.specs.declared.fault.DecodeFault.TheVariants.{Broken, OtherVersion}
 use Rattle.mq_judge.specs.declared.trace.kind.RecordKind.{RecordKind}
 use Rattle.mq_judge.specs.declared.trace.kind.RecordKind.TheVariants as kinds
 use Rattle.mq_judge.specs.declared.trace.kind.Way.{Way}
@@ -15,15 +15,15 @@ use Rattle.mq_judge.specs.declared.rules.note.Note.{Note}
 use Rattle.mq_judge.specs.declared.rules.note.Note.TheVariants as notes
 use Rattle.mq_judge.specs.declared.rules.note.ItemNote.{ItemNote}
 use Rattle.mq_judge.specs.declared.rules.note.ItemNote.TheVariants as item_notes
-use Rattle.mq_judge.specs.declared.rules.note.PacketNote.{PacketNote}
-use Rattle.mq_judge.specs.Entries.{Entry, packet_note}
-use Rattle.mq_judge.specs.Stream.{fixed_header_of, frame_size, is_lost}
+use Rattle.mq_judge.specs.declared.rules.packet_note.PacketNote.{PacketNote}
+use Rattle.mq_packet.specs.Entries.{Entry}
+use Rattle.mq_packet.specs.Stream.{fixed_header_of, frame_size, is_lost}
 use Rattle.mq_judge.specs.Framing.{kind_of, way_of, body_length}
 use Rattle.mq_judge.specs.Events.{read_frame}
-use Rattle.mq_judge.specs.Notes.{is_open, is_close, connack_of, needs_session}
+use Rattle.mq_judge.specs.Notes.{packet_note, is_open, is_close, connack_of, needs_session}
 use Rattle.mq_judge.specs.declared.trace.refusal.Refusal.{Refusal}
 use Rattle.mq_judge.specs.declared.trace.refusal.Refusal.TheVariants as refusals
-use Rattle.mq_judge.specs.Refusals.{Situation, is_other_version, is_unread, is_first, ends_head, allows, is_open_kind, needs_connection, is_release_kind, carries_packets, is_too_large, is_unread_kind}
+use Rattle.mq_judge.specs.Refusals.{Situation, is_other_version, is_first, ends_head, allows, is_open_kind, needs_connection, is_release_kind, carries_packets, is_too_large, is_unread_kind}
 use Rattle.mq_judge.specs.Context.{Half}
 
 -- Where there is a frame, it has all the bytes.
@@ -61,7 +61,6 @@ abbrev pub item_of : ℕ → Result PacketNote DecodeFault → Option ItemNote
 item_of first (Ok note) = Some (item_notes.Packet note)
 item_of first (Err (Broken fault)) = Some (item_notes.Bad first fault.rule fault.at)
 item_of first (Err (OtherVersion version)) = None
-item_of first (Err Unread) = None
 
 -- the item that a packet is, this far
 abbrev pub item_in : ℕ → Progress → Option ItemNote
@@ -84,12 +83,6 @@ abbrev pub has_other_version : Progress → Bool
 has_other_version Unfinished = false
 has_other_version Lost = false
 has_other_version (Whole reading) = is_other_version reading
-
--- the packet isn't read
-abbrev pub has_unread : Progress → Bool
-has_unread Unfinished = false
-has_unread Lost = false
-has_unread (Whole reading) = is_unread reading
 
 -- the packet isn't whole
 abbrev pub is_unfinished : Progress → Bool
@@ -132,7 +125,7 @@ ends_inside_by s progress = carries_packets (kind_of s.part) && (length s.part =
 
 -- something comes that isn't read yet
 abbrev pub is_unread_by : Situation → Progress → Bool
-is_unread_by s progress = has_unread progress || (ends_inside_by s progress || is_unread_kind s)
+is_unread_by s progress = ends_inside_by s progress || is_unread_kind s
 
 -- an event comes that needs a session, while its connection's CONNACK hasn't come
 abbrev pub is_early_by : Situation → Option Note → Bool

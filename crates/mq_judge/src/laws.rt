@@ -3,7 +3,7 @@ ghost use Rattle.std.specs.Prelude.{◌≡◌, ℕ, Bool, true, false, take, dro
 ghost use Rattle.mq_judge.specs.declared.trace.refusal.Refusal.{Refusal};
 ghost use Rattle.mq_judge.specs.declared.trace.refusal.Refusal.TheVariants.{Version, Nested, NotOpen, Early};
 ghost use Rattle.mq_judge.specs.Pieces.{Pieces, AreCut};
-ghost use Rattle.mq_judge.specs.Stream.{frame_size};
+ghost use Rattle.mq_packet.specs.Stream.{frame_size};
 ghost use Rattle.mq_judge.specs.Framing.{record_size, records, stream, tested_by};
 ghost use Rattle.mq_judge.specs.Events.{seen_in};
 ghost use Rattle.mq_judge.specs.Refusals.{refused, is_cut_short};

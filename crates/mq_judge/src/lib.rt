@@ -3,7 +3,6 @@
 
 mod judge;
 mod laws;
-mod packet;
 mod report;
 mod rules;
 mod running;

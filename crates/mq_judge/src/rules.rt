@@ -4,6 +4,7 @@ pub mod fault;
 pub mod faults;
 pub mod laws;
 pub mod note;
+pub mod packet_note;
 pub mod plain;
 pub mod role;
 pub mod rule;

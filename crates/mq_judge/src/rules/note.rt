@@ -3,39 +3,10 @@ ghost use Rattle.std.specs.Prelude.{◌≡◌};
 ghost use Rattle.mq_judge.specs.Notes.{is_open as opens_connection, opener_of, closer_of, is_id, connack_of, needs_session as needs_one};
 ghost use Rattle.mq_judge.specs.Statements.{broken as broken_by};
 
-use super::super::packet::kinds::{BodyFault, PacketRule, Qos};
 use super::super::trace::place::Place3;
+use super::packet_note::PacketNote;
 use super::role::Role;
-
-/// What the statements look at of a packet.
-#[derive(Clone, Copy, Debug, PartialEq, Eq)]
-pub enum PacketNote {
-    /// CONNECT.
-    Connect,
-    /// CONNACK, with its flag Session Present and its Reason Code.
-    Connack {
-        /// Whether the server resumed a session that it had.
-        session_present: bool,
-        /// The Reason Code: 0x00 accepts the connection.
-        code: u8,
-    },
-    /// PUBLISH.
-    Publish {
-        /// The Packet Identifier, where the QoS is above 0.
-        identifier: Option<u16>,
-        /// The Quality of Service.
-        qos: Qos,
-        /// The DUP flag.
-        duplicate: bool,
-    },
-    /// PUBACK.
-    Puback {
-        /// The Packet Identifier of the PUBLISH that it answers.
-        identifier: u16,
-        /// The Reason Code.
-        code: u8,
-    },
-}
+use mq_packet::{BodyFault, PacketRule};
 
 /// What the statements look at of an item that was sent or received.
 #[derive(Clone, Copy, Debug, PartialEq, Eq)]
@@ -94,27 +65,18 @@ impl Note {
         ensures { result ≡ opener_of self.now }
     {
         match self {
-            Note::Sent(
-                ItemNote::Packet(
-                    PacketNote::Publish {
-                        identifier,
-                        qos: Qos::AtLeastOnce | Qos::ExactlyOnce,
-                        duplicate: false,
-                    },
-                ),
-            ) => *identifier,
+            Note::Sent(ItemNote::Packet(packet)) => packet.new_identifier(),
             _ => None,
         }
     }
 
-    /// The Packet Identifier that the event closes: a PUBACK is received (MQTT 5.0, section 4.3.2).
+    /// The Packet Identifier that the event closes: a PUBACK, a PUBCOMP or a refusing PUBREC is received
+    /// (MQTT 5.0, section 2.2.1).
     pub fn closer(&self) -> Option<u16>
         ensures { result ≡ closer_of self.now }
     {
         match self {
-            Note::Recv(ItemNote::Packet(PacketNote::Puback { identifier, .. })) => Some(
-                *identifier,
-            ),
+            Note::Recv(ItemNote::Packet(packet)) => packet.settled_identifier(),
             _ => None,
         }
     }
@@ -146,16 +108,13 @@ impl Note {
         }
     }
 
-    /// Whether the event is a session packet, of either direction (MQTT 5.0, section 3.1.2.4).
+    /// Whether the event is a session packet, of either direction (MQTT 5.0, section 4.1).
     pub fn needs_session(&self) -> bool
         ensures { result ≡ needs_one self.now }
     {
         match self {
             Note::Sent(ItemNote::Packet(packet)) | Note::Recv(ItemNote::Packet(packet)) => {
-                matches!(
-                    packet,
-                    PacketNote::Publish { .. } | PacketNote::Puback { .. }
-                )
+                packet.needs_session()
             }
             _ => false,
         }

@@ -94,10 +94,11 @@ fn decision_after(decision: Option<u8>, role: Role, note: &Note) -> Option<u8>
 
 #[cfg(test)]
 mod tests {
-    use super::super::super::packet::kinds::{PacketRule, Qos};
     use super::super::super::trace::place::Place3;
-    use super::super::note::{ItemNote, PacketNote};
+    use super::super::note::ItemNote;
+    use super::super::packet_note::PacketNote;
     use super::*;
+    use mq_packet::{PacketRule, Qos};
 
     /// Event number `position`, which each have a record of their own.
     fn seen(position: u32, note: Note) -> Seen
@@ -123,11 +124,6 @@ mod tests {
         identifier: Some(1),
         qos: Qos::AtLeastOnce,
         duplicate: false,
-    }));
-
-    const PUBACK: Note = Note::Recv(ItemNote::Packet(PacketNote::Puback {
-        identifier: 1,
-        code: 0,
     }));
 
     const BAD: ItemNote = ItemNote::Bad {
@@ -183,17 +179,56 @@ mod tests {
 
     #[test]
     fn closer_frees_the_identifier(rt: HostRuntime) {
-        let log = [
-            seen(1, Note::Open),
-            seen(2, CONNECT),
-            seen(3, CONNACK),
-            seen(4, PUBLISH),
-            seen(5, PUBACK),
-            seen(6, PUBLISH),
-        ];
-        let mut faults = Faults::new(rt.alloc());
-        assert!(rt; judge_all(CLIENT, &log, &mut faults) == Ok(()));
-        assert!(rt; faults.is_empty());
+        for (packet, frees) in [
+            (
+                PacketNote::Puback {
+                    identifier: 1,
+                    code: 0,
+                },
+                true,
+            ),
+            (
+                PacketNote::Pubrec {
+                    identifier: 1,
+                    code: 0x80,
+                },
+                true,
+            ),
+            (
+                PacketNote::Pubrec {
+                    identifier: 1,
+                    code: 0x7f,
+                },
+                false,
+            ),
+            (
+                PacketNote::Pubcomp {
+                    identifier: 1,
+                    code: 0,
+                },
+                true,
+            ),
+            (
+                PacketNote::Pubrel {
+                    identifier: 1,
+                    code: 0,
+                },
+                false,
+            ),
+            (PacketNote::Suback(1), false),
+        ] {
+            let log = [
+                seen(1, Note::Open),
+                seen(2, CONNECT),
+                seen(3, CONNACK),
+                seen(4, PUBLISH),
+                seen(5, Note::Recv(ItemNote::Packet(packet))),
+                seen(6, PUBLISH),
+            ];
+            let mut faults = Faults::new(rt.alloc());
+            assert!(rt; judge_all(CLIENT, &log, &mut faults) == Ok(()));
+            assert_eq!(rt; faults.is_empty(), frees);
+        }
     }
 
     #[test]

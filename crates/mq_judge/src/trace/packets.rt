@@ -1,14 +1,12 @@
 //! The stream of packets of one direction: how far the packet is to which its newest byte belongs.
 
 ghost use Rattle.std.specs.Prelude.{◌≡◌, Some, is_some, length, true};
-ghost use Rattle.mq_judge.specs.Stream.{fixed_header_of, frame_size, is_lost};
+ghost use Rattle.mq_packet.specs.Stream.{fixed_header_of, frame_size, is_lost};
 ghost use Rattle.mq_judge.specs.Events.{read_frame};
 ghost use Rattle.mq_judge.specs.Steps.{HasNoMoreThanFrame, noted, progress_of};
 
-use super::super::packet::decode::decode;
-use super::super::packet::fixed_header::{FixedHeader, fixed_header};
-use super::super::packet::kinds::DecodeFault;
-use super::super::rules::note::PacketNote;
+use super::super::rules::packet_note::PacketNote;
+use mq_packet::{DecodeFault, FixedHeader, decode, fixed_header};
 
 /// How far a packet is, given its bytes so far.
 #[derive(Clone, Copy, Debug, PartialEq, Eq)]
@@ -33,7 +31,7 @@ pub fn is_lost(bytes: &[u8]) -> bool
 }
 
 /// Whether a whole packet stands at the front.
-#[tactic(auto, unfolding(crate::specs::Stream::frame_size))]
+#[tactic(auto, unfolding(mq_packet::specs::Stream::frame_size))]
 pub fn has_frame(bytes: &[u8]) -> bool
     ensures { result ≡ is_some (frame_size bytes.now) }
 {

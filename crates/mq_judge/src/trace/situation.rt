@@ -2,15 +2,13 @@
 
 ghost use Rattle.std.specs.Prelude.{◌≡◌, ◌==◌, ◌&&◌, ◌||◌, ◌<◌, nat_lt, nat_le, not, length, Some, None, is_some, is_none, option_map, IfOk, IfErr, OnOk, false, drop, slice_index, if◌then◌else◌};
 ghost use Rattle.std.specs.Int.{w16, from_be_bytes};
-ghost use Rattle.mq_judge.specs.Stream.{fixed_header_of};
+ghost use Rattle.mq_packet.specs.Stream.{fixed_header_of};
 ghost use Rattle.mq_judge.specs.Framing.{kind_of, body_length};
 ghost use Rattle.mq_judge.specs.Events.{event_in, note_of};
 ghost use Rattle.mq_judge.specs.Notes.{is_open, is_close, connack_of};
 ghost use Rattle.mq_judge.specs.Refusals.{allows, needs_connection, is_open_kind, is_release_kind, carries_packets, is_first, ends_head, is_too_large, first_standing, record_refusal};
 ghost use Rattle.mq_judge.specs.Steps.{HasNoMoreThanFrame, situation_of, note_by, item_in, needs_session_now, has_other_version, is_early_by, is_unread_by, lines_by, connections_with};
 
-use super::super::packet::fixed_header::{FixedHeader, fixed_header};
-use super::super::packet::kinds::DecodeFault;
 use super::super::rules::note::{ItemNote, Note};
 use super::super::rules::role::{Role, Tested};
 use super::kind::RecordKind;
@@ -18,6 +16,7 @@ use super::packets::{Progress, progress_of};
 use super::part::{HEAD_LENGTH, body_length, kind_of};
 use super::refusal::Refusal;
 use super::unread::is_unread_yet;
+use mq_packet::{DecodeFault, FixedHeader, fixed_header};
 
 /// What is kept of the events before a byte.
 #[derive(Clone, Copy, Debug, PartialEq, Eq)]
@@ -107,7 +106,7 @@ fn item_by(so_far: &[u8], progress: Progress) -> Option<ItemNote>
             rule: fault.rule,
             at: fault.at,
         }),
-        Progress::Whole(Err(DecodeFault::OtherVersion(_) | DecodeFault::Unread)) => None,
+        Progress::Whole(Err(DecodeFault::OtherVersion(_))) => None,
     }
 }
 
@@ -296,7 +295,7 @@ fn has_other_version(progress: Progress) -> bool
 {
     match progress {
         Progress::Whole(Err(DecodeFault::OtherVersion(_))) => true,
-        Progress::Whole(Err(DecodeFault::Broken(_) | DecodeFault::Unread) | Ok(_))
+        Progress::Whole(Err(DecodeFault::Broken(_)) | Ok(_))
         | Progress::Unfinished
         | Progress::Lost => false,
     }

@@ -1,11 +1,10 @@
-//! What isn't read yet: some packets, a record that ends inside a packet, a second connection, and a RELEASE.
+//! What isn't read yet: a record that ends inside a packet, a second connection, and a RELEASE.
 
 ghost use Rattle.std.specs.Prelude.{◌≡◌, ◌==◌, ◌&&◌, ◌||◌, ◌+◌, nat_lt, length};
 ghost use Rattle.mq_judge.specs.Framing.{kind_of, body_length};
 ghost use Rattle.mq_judge.specs.Refusals.{carries_packets, is_open_kind, is_release_kind, is_unread_kind};
-ghost use Rattle.mq_judge.specs.Steps.{situation_of, has_unread, is_unfinished, ends_inside_by, is_unread_by};
+ghost use Rattle.mq_judge.specs.Steps.{situation_of, is_unfinished, ends_inside_by, is_unread_by};
 
-use super::super::packet::kinds::DecodeFault;
 use super::kind::RecordKind;
 use super::packets::Progress;
 use super::part::{is_filled, kind_of};
@@ -15,18 +14,7 @@ use super::situation::{Situation, is_open_kind, is_release_kind};
 pub fn is_unread_yet(situation: &Situation<'_>, progress: Progress) -> bool
     ensures { result ≡ is_unread_by (situation_of situation.now) progress }
 {
-    has_unread(progress) || ends_inside(situation, progress) || is_unread_kind(situation)
-}
-
-fn has_unread(progress: Progress) -> bool
-    ensures { result ≡ has_unread progress }
-{
-    match progress {
-        Progress::Whole(Err(DecodeFault::Unread)) => true,
-        Progress::Whole(Err(DecodeFault::Broken(_) | DecodeFault::OtherVersion(_)) | Ok(_))
-        | Progress::Unfinished
-        | Progress::Lost => false,
-    }
+    ends_inside(situation, progress) || is_unread_kind(situation)
 }
 
 /// Whether a record that carries packets ends inside one.

@@ -1,4 +1,4 @@
-use Rattle.mq_judge.specs.Stream.{frame_size}
+use Rattle.mq_packet.specs.Stream.{frame_size}
 use Rattle.mq_judge.specs.Framing.{stream}
 use Rattle.mq_judge.proofs.PiecesLaws.{pieces-cut, pieces-only}
 use Rattle.mq_judge.proofs.HalfLaws.{frame_settles}

@@ -1,0 +1,474 @@
+use crate::failure::{FAULTY, PASSED, REFUSED};
+use crate::tests::{Trickle, told_of};
+use std::alloc::{AllocError, Global};
+use std::test::Fail;
+
+// A record of a log.
+#[derive(Clone, Copy)]
+enum Part {
+    Open,
+    Sent(&'static [u8]),
+    Recv(&'static [u8]),
+    Close,
+    Rest,
+    Release(u8),
+}
+
+use Part::{Close, Open, Recv, Release, Rest, Sent};
+
+// The header's byte for the role of the tested end.
+const CLIENT: u8 = 0;
+
+const SERVER: u8 = 1;
+
+const CONNECT: &[u8] = b"\x10\x0d\x00\x04MQTT\x05\x02\x00\x3c\x00\x00\x00";
+
+const CONNECT_OF_C: &[u8] = b"\x10\x0e\x00\x04MQTT\x05\x02\x00\x3c\x00\x00\x01c";
+
+const CONNACK: &[u8] = b"\x20\x03\x00\x00\x00";
+
+// A CONNACK of code 0x87: the client isn't authorized.
+const REFUSING_CONNACK: &[u8] = b"\x20\x03\x00\x87\x00";
+
+// PUBLISH of QoS 1 and of QoS 2 under identifier 1, and of QoS 1 under identifier 0.
+const PUBLISH_ONCE: &[u8] = b"\x32\x07\x00\x01a\x00\x01\x00x";
+
+const PUBLISH_TWICE: &[u8] = b"\x34\x07\x00\x01a\x00\x01\x00x";
+
+const PUBLISH_UNIDENTIFIED: &[u8] = b"\x32\x07\x00\x01a\x00\x00\x00x";
+
+const PUBACK: &[u8] = b"\x40\x02\x00\x01";
+
+const PUBREC: &[u8] = b"\x50\x02\x00\x01";
+
+// PUBREC of code 0x10, no matching subscribers, and of code 0x80, unspecified error.
+const PUBREC_WITHOUT_READERS: &[u8] = b"\x50\x03\x00\x01\x10";
+
+const REFUSING_PUBREC: &[u8] = b"\x50\x03\x00\x01\x80";
+
+const PUBREL: &[u8] = b"\x62\x02\x00\x01";
+
+const PUBCOMP: &[u8] = b"\x70\x02\x00\x01";
+
+const SUBSCRIBE: &[u8] = b"\x82\x07\x00\x01\x00\x00\x01a\x00";
+
+const SUBACK: &[u8] = b"\x90\x04\x00\x01\x00\x00";
+
+const UNSUBSCRIBE: &[u8] = b"\xa2\x06\x00\x01\x00\x00\x01a";
+
+const UNSUBACK: &[u8] = b"\xb0\x04\x00\x01\x00\x00";
+
+const PINGREQ: &[u8] = b"\xc0\x00";
+
+const PINGRESP: &[u8] = b"\xd0\x00";
+
+const DISCONNECT: &[u8] = b"\xe0\x00";
+
+const AUTH: &[u8] = b"\xf0\x00";
+
+// A log's records, and what is made of it.
+struct Row {
+    role: u8,
+    parts: &'static [Part],
+    status: u8,
+    report: &'static str,
+}
+
+static ROWS: [Row; 16] = [
+    // Each of the fifteen packets.
+    Row {
+        role: CLIENT,
+        parts: &[
+            Open,
+            Sent(CONNECT),
+            Recv(AUTH),
+            Sent(AUTH),
+            Recv(CONNACK),
+            Sent(SUBSCRIBE),
+            Recv(SUBACK),
+            Sent(PUBLISH_ONCE),
+            Recv(PUBACK),
+            Sent(PUBLISH_TWICE),
+            Recv(PUBREC),
+            Sent(PUBREL),
+            Recv(PUBCOMP),
+            Sent(UNSUBSCRIBE),
+            Recv(UNSUBACK),
+            Sent(PINGREQ),
+            Recv(PINGRESP),
+            Sent(DISCONNECT),
+            Close,
+        ],
+        status: PASSED,
+        report: "pass 19 events\n",
+    },
+    // A PUBREC that refuses sets its identifier free, as a PUBCOMP does; another PUBREC doesn't, nor does a PUBREL.
+    Row {
+        role: CLIENT,
+        parts: &[
+            Open,
+            Sent(CONNECT),
+            Recv(CONNACK),
+            Sent(PUBLISH_TWICE),
+            Recv(REFUSING_PUBREC),
+            Sent(PUBLISH_ONCE),
+        ],
+        status: PASSED,
+        report: "pass 6 events\n",
+    },
+    Row {
+        role: CLIENT,
+        parts: &[
+            Open,
+            Sent(CONNECT),
+            Recv(CONNACK),
+            Sent(PUBLISH_TWICE),
+            Recv(PUBREC),
+            Sent(PUBREL),
+            Recv(PUBCOMP),
+            Sent(PUBLISH_ONCE),
+        ],
+        status: PASSED,
+        report: "pass 8 events\n",
+    },
+    Row {
+        role: CLIENT,
+        parts: &[
+            Open,
+            Sent(CONNECT),
+            Recv(CONNACK),
+            Sent(PUBLISH_TWICE),
+            Recv(PUBREC),
+            Sent(PUBLISH_ONCE),
+        ],
+        status: FAULTY,
+        report: "fault 6 S01 MQTT-2.2.1-3 decided 6 record 6 offset -\nfail 1 faults 6 events\n",
+    },
+    Row {
+        role: CLIENT,
+        parts: &[
+            Open,
+            Sent(CONNECT),
+            Recv(CONNACK),
+            Sent(PUBLISH_TWICE),
+            Recv(PUBREC_WITHOUT_READERS),
+            Sent(PUBREL),
+            Recv(PUBREL),
+            Sent(PUBLISH_ONCE),
+        ],
+        status: FAULTY,
+        report: "fault 8 S01 MQTT-2.2.1-3 decided 8 record 8 offset -\nfail 1 faults 8 events\n",
+    },
+    // What the tested end sent sets nothing free.
+    Row {
+        role: SERVER,
+        parts: &[
+            Open,
+            Recv(CONNECT_OF_C),
+            Sent(CONNACK),
+            Sent(PUBLISH_ONCE),
+            Sent(PUBACK),
+            Sent(PUBLISH_ONCE),
+        ],
+        status: FAULTY,
+        report: "fault 6 S01 MQTT-2.2.1-4 decided 6 record 6 offset -\nfail 1 faults 6 events\n",
+    },
+    // On a connection that was refused only the bytes of packets are judged.
+    Row {
+        role: CLIENT,
+        parts: &[
+            Open,
+            Sent(CONNECT),
+            Recv(REFUSING_CONNACK),
+            Sent(PUBLISH_ONCE),
+            Sent(PUBLISH_ONCE),
+        ],
+        status: PASSED,
+        report: "pass 5 events\n",
+    },
+    Row {
+        role: CLIENT,
+        parts: &[
+            Open,
+            Sent(CONNECT),
+            Recv(REFUSING_CONNACK),
+            Sent(PUBLISH_ONCE),
+            Sent(PUBLISH_ONCE),
+            Sent(PUBLISH_UNIDENTIFIED),
+        ],
+        status: FAULTY,
+        report: "fault 6 W09 sec-2.2.1 decided 6 record 6 offset 5\nfail 1 faults 6 events\n",
+    },
+    // Behind a Remaining Length that is none, nothing is a packet.
+    Row {
+        role: CLIENT,
+        parts: &[
+            Open,
+            Sent(CONNECT),
+            Recv(CONNACK),
+            Sent(b"\x30\xff\xff\xff\xff"),
+            Sent(PUBLISH_ONCE),
+            Recv(PUBLISH_ONCE),
+            Rest,
+        ],
+        status: FAULTY,
+        report: "fault 4 W03 MQTT-1.5.5-1 decided 4 record 4 offset 1\nfail 1 faults 6 events\n",
+    },
+    // Only what the tested end sent is judged.
+    Row {
+        role: SERVER,
+        parts: &[
+            Open,
+            Recv(CONNECT_OF_C),
+            Sent(CONNACK),
+            Recv(PUBLISH_UNIDENTIFIED),
+            Sent(b"\x41\x02\x00\x01"),
+        ],
+        status: FAULTY,
+        report: "fault 5 W01 MQTT-2.1.3-1 decided 5 record 5 offset 0\nfail 1 faults 5 events\n",
+    },
+    // Before its CONNACK a connection may have packets that need no session, and no others.
+    Row {
+        role: CLIENT,
+        parts: &[Open, Sent(CONNECT), Sent(PINGREQ), Sent(DISCONNECT)],
+        status: PASSED,
+        report: "pass 4 events\n",
+    },
+    Row {
+        role: CLIENT,
+        parts: &[Open, Sent(CONNECT), Sent(SUBSCRIBE)],
+        status: REFUSED,
+        report: "refused 13 Early at 46\n",
+    },
+    Row {
+        role: CLIENT,
+        parts: &[Open, Sent(CONNECT), Recv(PUBREL)],
+        status: REFUSED,
+        report: "refused 13 Early at 41\n",
+    },
+    // What isn't read yet.
+    Row {
+        role: CLIENT,
+        parts: &[Open, Sent(CONNECT), Recv(CONNACK), Recv(b"\xd0\x00\x00")],
+        status: REFUSED,
+        report: "refused 13 Early at 50\n",
+    },
+    Row {
+        role: CLIENT,
+        parts: &[Open, Close, Open],
+        status: REFUSED,
+        report: "refused 13 Early at 18\n",
+    },
+    Row {
+        role: CLIENT,
+        parts: &[Open, Release(1)],
+        status: REFUSED,
+        report: "refused 13 Early at 13\n",
+    },
+];
+
+// The bytes of one packet that the tested end sends, the rule that they break, and the place where.
+struct Broken {
+    packet: &'static [u8],
+    statement: &'static str,
+    offset: u8,
+}
+
+static BROKEN: [Broken; 23] = [
+    Broken {
+        packet: b"\x41\x02\x00\x01",
+        statement: "W01 MQTT-2.1.3-1",
+        offset: 0,
+    },
+    Broken {
+        packet: b"\x00\x00",
+        statement: "W02 sec-2.1.2",
+        offset: 0,
+    },
+    Broken {
+        packet: b"\x30\x06\x00\x01a\x80\x00x",
+        statement: "W03 MQTT-1.5.5-1",
+        offset: 5,
+    },
+    Broken {
+        packet: b"\x30\x04\x00\x01\xff\x00",
+        statement: "W04 MQTT-1.5.4-1",
+        offset: 2,
+    },
+    Broken {
+        packet: b"\x30\x04\x00\x01\x00\x00",
+        statement: "W05 MQTT-1.5.4-2",
+        offset: 2,
+    },
+    Broken {
+        packet: b"\xc0\x01\x00",
+        statement: "W06 sec-2.1.4",
+        offset: 2,
+    },
+    Broken {
+        packet: b"\x30\x07\x00\x01a\xff\xff\xff\x7f",
+        statement: "W06 sec-2.1.4",
+        offset: 5,
+    },
+    Broken {
+        packet: b"\x36\x07\x00\x01a\x00\x01\x00x",
+        statement: "W07 MQTT-3.3.1-4",
+        offset: 0,
+    },
+    Broken {
+        packet: b"\x38\x05\x00\x01a\x00x",
+        statement: "W08 MQTT-3.3.1-2",
+        offset: 0,
+    },
+    Broken {
+        packet: b"\x40\x02\x00\x00",
+        statement: "W09 sec-2.2.1",
+        offset: 2,
+    },
+    Broken {
+        packet: b"\x30\x08\x00\x01a\x03\x21\x00\x01x",
+        statement: "W10 sec-2.2.2.2",
+        offset: 6,
+    },
+    Broken {
+        packet: b"\x30\x09\x00\x01a\x04\x01\x00\x01\x00x",
+        statement: "W11 sec-2.2.2.2",
+        offset: 8,
+    },
+    Broken {
+        packet: b"\x30\x08\x00\x01a\x03\x23\x00\x00x",
+        statement: "W12 sec-2.2.2.2",
+        offset: 7,
+    },
+    Broken {
+        packet: b"\x40\x03\x00\x01\x01",
+        statement: "W13 sec-2.4",
+        offset: 4,
+    },
+    Broken {
+        packet: b"\x30\x04\x00\x01#\x00",
+        statement: "W14 sec-3.3.2",
+        offset: 2,
+    },
+    Broken {
+        packet: b"\x82\x08\x00\x01\x00\x00\x02a#\x00",
+        statement: "W15 sec-4.7",
+        offset: 5,
+    },
+    Broken {
+        packet: b"\x82\x03\x00\x01\x00",
+        statement: "W16 MQTT-3.8.3-2,MQTT-3.10.3-2",
+        offset: 5,
+    },
+    Broken {
+        packet: b"\x82\x07\x00\x01\x00\x00\x01a\x03",
+        statement: "W17 sec-3.8.3",
+        offset: 8,
+    },
+    Broken {
+        packet: b"\x10\x0d\x00\x04MQTX\x05\x02\x00\x3c\x00\x00\x00",
+        statement: "W18 sec-3.1.2",
+        offset: 2,
+    },
+    Broken {
+        packet: b"\x10\x0d\x00\x04MQTT\x05\x03\x00\x3c\x00\x00\x00",
+        statement: "W19 sec-3.1.2",
+        offset: 9,
+    },
+    Broken {
+        packet: b"\x20\x03\x02\x00\x00",
+        statement: "W20 MQTT-3.2.2-1",
+        offset: 2,
+    },
+    Broken {
+        packet: b"\x30\x04\x00\x00\x00x",
+        statement: "W21 sec-3.3.2",
+        offset: 4,
+    },
+    Broken {
+        packet: b"\x30\xff\xff\xff\xff",
+        statement: "W03 MQTT-1.5.5-1",
+        offset: 1,
+    },
+];
+
+// Puts a record into the log; its body is shorter than 256 bytes.
+fn add_record(log: &mut Vec<u8>, kind: u8, body: &[u8]) -> Result<(), AllocError> {
+    let Ok(length) = u8::try_from(body.len()) else {
+        return Ok(());
+    };
+    log.extend_from_slice(&[kind, 0, 0, 0, length])?;
+    log.extend_from_slice(body)
+}
+
+// The log of an end in this role, in which releases are recorded.
+fn log_of(alloc: Global, role: u8, parts: &[Part]) -> Result<Vec<u8>, AllocError> {
+    let mut log = Vec::new(alloc);
+    log.extend_from_slice(b"MQTR\x01")?;
+    log.extend_from_slice(&[role, 1, 0])?;
+    for part in parts {
+        match part {
+            Open => add_record(&mut log, 1, &[])?,
+            Sent(packet) => add_record(&mut log, 2, packet)?,
+            Recv(packet) => add_record(&mut log, 3, packet)?,
+            Close => add_record(&mut log, 4, &[])?,
+            Rest => add_record(&mut log, 5, &[])?,
+            Release(identifier) => add_record(&mut log, 6, &[0, *identifier])?,
+        }
+    }
+    Ok(log)
+}
+
+#[test]
+fn judges_packets(rt: HostRuntime) -> Result<(), Fail> {
+    for row in &ROWS {
+        let log = log_of(rt.alloc(), row.role, row.parts)?;
+        let told = told_of(rt.alloc(), &mut log.as_slice())?;
+        assert!(rt;
+            told.output.as_slice() == row.report.as_bytes(),
+            "{}",
+            row.report
+        );
+        assert_eq!(rt; told.status, row.status);
+        assert!(rt; told.error.is_empty());
+    }
+    Ok(())
+}
+
+#[test]
+fn judges_packets_byte_by_byte(rt: HostRuntime) -> Result<(), Fail> {
+    for row in &ROWS {
+        let log = log_of(rt.alloc(), row.role, row.parts)?;
+        let mut input = Trickle {
+            bytes: log.as_slice(),
+            fails_after: None,
+        };
+        let told = told_of(rt.alloc(), &mut input)?;
+        assert!(rt;
+            told.output.as_slice() == row.report.as_bytes(),
+            "{}",
+            row.report
+        );
+        assert_eq!(rt; told.status, row.status);
+    }
+    Ok(())
+}
+
+#[test]
+fn names_the_rule_that_bytes_break(rt: HostRuntime) -> Result<(), Fail> {
+    for broken in &BROKEN {
+        let parts = [Open, Sent(CONNECT), Recv(CONNACK), Sent(broken.packet)];
+        let log = log_of(rt.alloc(), CLIENT, &parts)?;
+        let told = told_of(rt.alloc(), &mut log.as_slice())?;
+        let report = format!(in rt.alloc();
+            "fault 4 {} decided 4 record 4 offset {}\nfail 1 faults 4 events\n",
+            broken.statement, broken.offset
+        )?;
+        assert!(rt;
+            told.output.as_slice() == report.as_str().as_bytes(),
+            "{report}"
+        );
+        assert_eq!(rt; told.status, FAULTY);
+    }
+    Ok(())
+}
