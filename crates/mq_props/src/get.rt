@@ -23,12 +23,7 @@ impl<'a> Value<'a> {
     {
         match self {
             Value::Byte(value) => Some(value),
-            Value::TwoBytes(_) => None,
-            Value::FourBytes(_) => None,
-            Value::Varint(_) => None,
-            Value::Text(_) => None,
-            Value::Pair(_, _) => None,
-            Value::Binary(_) => None,
+            _ => None,
         }
     }
 
@@ -36,13 +31,8 @@ impl<'a> Value<'a> {
         ensures { result ≡ two_bytes_of (value_view self.entry) }
     {
         match self {
-            Value::Byte(_) => None,
             Value::TwoBytes(value) => Some(value),
-            Value::FourBytes(_) => None,
-            Value::Varint(_) => None,
-            Value::Text(_) => None,
-            Value::Pair(_, _) => None,
-            Value::Binary(_) => None,
+            _ => None,
         }
     }
 
@@ -50,13 +40,8 @@ impl<'a> Value<'a> {
         ensures { result ≡ four_bytes_of (value_view self.entry) }
     {
         match self {
-            Value::Byte(_) => None,
-            Value::TwoBytes(_) => None,
             Value::FourBytes(value) => Some(value),
-            Value::Varint(_) => None,
-            Value::Text(_) => None,
-            Value::Pair(_, _) => None,
-            Value::Binary(_) => None,
+            _ => None,
         }
     }
 
@@ -64,13 +49,8 @@ impl<'a> Value<'a> {
         ensures { result ≡ varint_of (value_view self.entry) }
     {
         match self {
-            Value::Byte(_) => None,
-            Value::TwoBytes(_) => None,
-            Value::FourBytes(_) => None,
             Value::Varint(value) => Some(value),
-            Value::Text(_) => None,
-            Value::Pair(_, _) => None,
-            Value::Binary(_) => None,
+            _ => None,
         }
     }
 
@@ -78,13 +58,8 @@ impl<'a> Value<'a> {
         ensures { option_map (λ text. text.now) result ≡ text_of (value_view self.entry) }
     {
         match self {
-            Value::Byte(_) => None,
-            Value::TwoBytes(_) => None,
-            Value::FourBytes(_) => None,
-            Value::Varint(_) => None,
             Value::Text(value) => Some(value),
-            Value::Pair(_, _) => None,
-            Value::Binary(_) => None,
+            _ => None,
         }
     }
 
@@ -92,13 +67,8 @@ impl<'a> Value<'a> {
         ensures { option_map (λ texts. (texts.0.now, texts.1.now)) result ≡ pair_of (value_view self.entry) }
     {
         match self {
-            Value::Byte(_) => None,
-            Value::TwoBytes(_) => None,
-            Value::FourBytes(_) => None,
-            Value::Varint(_) => None,
-            Value::Text(_) => None,
             Value::Pair(name, value) => Some((name, value)),
-            Value::Binary(_) => None,
+            _ => None,
         }
     }
 
@@ -106,13 +76,8 @@ impl<'a> Value<'a> {
         ensures { option_map (λ bytes. bytes.now) result ≡ binary_of (value_view self.entry) }
     {
         match self {
-            Value::Byte(_) => None,
-            Value::TwoBytes(_) => None,
-            Value::FourBytes(_) => None,
-            Value::Varint(_) => None,
-            Value::Text(_) => None,
-            Value::Pair(_, _) => None,
             Value::Binary(value) => Some(value),
+            _ => None,
         }
     }
 }

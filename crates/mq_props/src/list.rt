@@ -70,7 +70,11 @@ fn read_item<'a>(place: Place, seen: &Seen, cursor: &mut Cursor<'a>) -> Result<I
     Ok(item)
 }
 
-// Whether all that is left are properties of the place, or the first fault.
+/// Checks that all that the cursor has left are properties that may make a list in the place (MQTT 5.0, 2.2.2).
+///
+/// # Errors
+///
+/// The first bad field from the left, with its place, as `Props::read` gives it within the list's bytes.
 pub(crate) fn check_items(place: Place, mut cursor: Cursor) -> Result<(), PropFault>
     ensures { MatchResult result (λ _. (ps : List Property) × (properties_on place [] cursor.entry ≡ Ok ps)) (λ fault. properties_on place [] cursor.entry ≡ Err fault) }
 {

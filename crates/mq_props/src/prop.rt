@@ -70,123 +70,42 @@ pub enum Prop<'a> {
 }
 
 /// The property as it stands in a list.
+#[rattlefmt::skip]
 pub fn item_of<'a>(prop: Prop<'a>) -> Item<'a>
     ensures { item_view result ≡ prop_view prop.entry }
 {
     match prop {
-        Prop::PayloadFormatIndicator(number) => Item {
-            id: id::PAYLOAD_FORMAT_INDICATOR,
-            value: Value::Byte(number),
-        },
-        Prop::MessageExpiryInterval(number) => Item {
-            id: id::MESSAGE_EXPIRY_INTERVAL,
-            value: Value::FourBytes(number),
-        },
-        Prop::ContentType(text) => Item {
-            id: id::CONTENT_TYPE,
-            value: Value::Text(text),
-        },
-        Prop::ResponseTopic(text) => Item {
-            id: id::RESPONSE_TOPIC,
-            value: Value::Text(text),
-        },
-        Prop::CorrelationData(bytes) => Item {
-            id: id::CORRELATION_DATA,
-            value: Value::Binary(bytes),
-        },
-        Prop::SubscriptionIdentifier(number) => Item {
-            id: id::SUBSCRIPTION_IDENTIFIER,
-            value: Value::Varint(number),
-        },
-        Prop::SessionExpiryInterval(number) => Item {
-            id: id::SESSION_EXPIRY_INTERVAL,
-            value: Value::FourBytes(number),
-        },
-        Prop::AssignedClientIdentifier(text) => Item {
-            id: id::ASSIGNED_CLIENT_IDENTIFIER,
-            value: Value::Text(text),
-        },
-        Prop::ServerKeepAlive(number) => Item {
-            id: id::SERVER_KEEP_ALIVE,
-            value: Value::TwoBytes(number),
-        },
-        Prop::AuthenticationMethod(text) => Item {
-            id: id::AUTHENTICATION_METHOD,
-            value: Value::Text(text),
-        },
-        Prop::AuthenticationData(bytes) => Item {
-            id: id::AUTHENTICATION_DATA,
-            value: Value::Binary(bytes),
-        },
-        Prop::RequestProblemInformation(number) => Item {
-            id: id::REQUEST_PROBLEM_INFORMATION,
-            value: Value::Byte(number),
-        },
-        Prop::WillDelayInterval(number) => Item {
-            id: id::WILL_DELAY_INTERVAL,
-            value: Value::FourBytes(number),
-        },
-        Prop::RequestResponseInformation(number) => Item {
-            id: id::REQUEST_RESPONSE_INFORMATION,
-            value: Value::Byte(number),
-        },
-        Prop::ResponseInformation(text) => Item {
-            id: id::RESPONSE_INFORMATION,
-            value: Value::Text(text),
-        },
-        Prop::ServerReference(text) => Item {
-            id: id::SERVER_REFERENCE,
-            value: Value::Text(text),
-        },
-        Prop::ReasonString(text) => Item {
-            id: id::REASON_STRING,
-            value: Value::Text(text),
-        },
-        Prop::ReceiveMaximum(number) => Item {
-            id: id::RECEIVE_MAXIMUM,
-            value: Value::TwoBytes(number),
-        },
-        Prop::TopicAliasMaximum(number) => Item {
-            id: id::TOPIC_ALIAS_MAXIMUM,
-            value: Value::TwoBytes(number),
-        },
-        Prop::TopicAlias(number) => Item {
-            id: id::TOPIC_ALIAS,
-            value: Value::TwoBytes(number),
-        },
-        Prop::MaximumQos(number) => Item {
-            id: id::MAXIMUM_QOS,
-            value: Value::Byte(number),
-        },
-        Prop::RetainAvailable(number) => Item {
-            id: id::RETAIN_AVAILABLE,
-            value: Value::Byte(number),
-        },
-        Prop::UserProperty(name, value) => Item {
-            id: id::USER_PROPERTY,
-            value: Value::Pair(name, value),
-        },
-        Prop::MaximumPacketSize(number) => Item {
-            id: id::MAXIMUM_PACKET_SIZE,
-            value: Value::FourBytes(number),
-        },
-        Prop::WildcardSubscriptionAvailable(number) => Item {
-            id: id::WILDCARD_SUBSCRIPTION_AVAILABLE,
-            value: Value::Byte(number),
-        },
-        Prop::SubscriptionIdentifierAvailable(number) => Item {
-            id: id::SUBSCRIPTION_IDENTIFIER_AVAILABLE,
-            value: Value::Byte(number),
-        },
-        Prop::SharedSubscriptionAvailable(number) => Item {
-            id: id::SHARED_SUBSCRIPTION_AVAILABLE,
-            value: Value::Byte(number),
-        },
+        Prop::PayloadFormatIndicator(number) => Item { id: id::PAYLOAD_FORMAT_INDICATOR, value: Value::Byte(number) },
+        Prop::MessageExpiryInterval(number) => Item { id: id::MESSAGE_EXPIRY_INTERVAL, value: Value::FourBytes(number) },
+        Prop::ContentType(text) => Item { id: id::CONTENT_TYPE, value: Value::Text(text) },
+        Prop::ResponseTopic(text) => Item { id: id::RESPONSE_TOPIC, value: Value::Text(text) },
+        Prop::CorrelationData(bytes) => Item { id: id::CORRELATION_DATA, value: Value::Binary(bytes) },
+        Prop::SubscriptionIdentifier(number) => Item { id: id::SUBSCRIPTION_IDENTIFIER, value: Value::Varint(number) },
+        Prop::SessionExpiryInterval(number) => Item { id: id::SESSION_EXPIRY_INTERVAL, value: Value::FourBytes(number) },
+        Prop::AssignedClientIdentifier(text) => Item { id: id::ASSIGNED_CLIENT_IDENTIFIER, value: Value::Text(text) },
+        Prop::ServerKeepAlive(number) => Item { id: id::SERVER_KEEP_ALIVE, value: Value::TwoBytes(number) },
+        Prop::AuthenticationMethod(text) => Item { id: id::AUTHENTICATION_METHOD, value: Value::Text(text) },
+        Prop::AuthenticationData(bytes) => Item { id: id::AUTHENTICATION_DATA, value: Value::Binary(bytes) },
+        Prop::RequestProblemInformation(number) => Item { id: id::REQUEST_PROBLEM_INFORMATION, value: Value::Byte(number) },
+        Prop::WillDelayInterval(number) => Item { id: id::WILL_DELAY_INTERVAL, value: Value::FourBytes(number) },
+        Prop::RequestResponseInformation(number) => Item { id: id::REQUEST_RESPONSE_INFORMATION, value: Value::Byte(number) },
+        Prop::ResponseInformation(text) => Item { id: id::RESPONSE_INFORMATION, value: Value::Text(text) },
+        Prop::ServerReference(text) => Item { id: id::SERVER_REFERENCE, value: Value::Text(text) },
+        Prop::ReasonString(text) => Item { id: id::REASON_STRING, value: Value::Text(text) },
+        Prop::ReceiveMaximum(number) => Item { id: id::RECEIVE_MAXIMUM, value: Value::TwoBytes(number) },
+        Prop::TopicAliasMaximum(number) => Item { id: id::TOPIC_ALIAS_MAXIMUM, value: Value::TwoBytes(number) },
+        Prop::TopicAlias(number) => Item { id: id::TOPIC_ALIAS, value: Value::TwoBytes(number) },
+        Prop::MaximumQos(number) => Item { id: id::MAXIMUM_QOS, value: Value::Byte(number) },
+        Prop::RetainAvailable(number) => Item { id: id::RETAIN_AVAILABLE, value: Value::Byte(number) },
+        Prop::UserProperty(name, value) => Item { id: id::USER_PROPERTY, value: Value::Pair(name, value) },
+        Prop::MaximumPacketSize(number) => Item { id: id::MAXIMUM_PACKET_SIZE, value: Value::FourBytes(number) },
+        Prop::WildcardSubscriptionAvailable(number) => Item { id: id::WILDCARD_SUBSCRIPTION_AVAILABLE, value: Value::Byte(number) },
+        Prop::SubscriptionIdentifierAvailable(number) => Item { id: id::SUBSCRIPTION_IDENTIFIER_AVAILABLE, value: Value::Byte(number) },
+        Prop::SharedSubscriptionAvailable(number) => Item { id: id::SHARED_SUBSCRIPTION_AVAILABLE, value: Value::Byte(number) },
     }
 }
 
 // The property of an identifier, whose values are of this type.
-
 fn byte_prop<'a>(id: u8, number: u8) -> Option<Prop<'a>>
     ensures view { IfSome result (λ prop. prop_view prop ≡ record { id = id; value = byte number }) }
     ensures each { has_kind types.Byte id ≡ true → IsSome result }
@@ -207,7 +126,6 @@ fn byte_prop<'a>(id: u8, number: u8) -> Option<Prop<'a>>
 }
 
 // The property of an identifier, whose values are of this type.
-
 fn two_bytes_prop<'a>(id: u8, number: u16) -> Option<Prop<'a>>
     ensures view { IfSome result (λ prop. prop_view prop ≡ record { id = id; value = two_bytes number }) }
     ensures each { has_kind types.TwoBytes id ≡ true → IsSome result }
@@ -222,7 +140,6 @@ fn two_bytes_prop<'a>(id: u8, number: u16) -> Option<Prop<'a>>
 }
 
 // The property of an identifier, whose values are of this type.
-
 fn four_bytes_prop<'a>(id: u8, number: u32) -> Option<Prop<'a>>
     ensures view { IfSome result (λ prop. prop_view prop ≡ record { id = id; value = four_bytes number }) }
     ensures each { has_kind types.FourBytes id ≡ true → IsSome result }
@@ -237,7 +154,6 @@ fn four_bytes_prop<'a>(id: u8, number: u32) -> Option<Prop<'a>>
 }
 
 // The property of an identifier, whose values are of this type.
-
 fn text_prop<'a>(id: u8, string: &'a str) -> Option<Prop<'a>>
     ensures view { IfSome result (λ prop. prop_view prop ≡ record { id = id; value = text string.entry.now }) }
     ensures each { has_kind types.Text id ≡ true → IsSome result }
@@ -255,7 +171,6 @@ fn text_prop<'a>(id: u8, string: &'a str) -> Option<Prop<'a>>
 }
 
 // The property of an identifier, whose values are of this type.
-
 fn binary_prop<'a>(id: u8, bytes: &'a [u8]) -> Option<Prop<'a>>
     ensures view { IfSome result (λ prop. prop_view prop ≡ record { id = id; value = binary bytes.entry.now }) }
     ensures each { has_kind types.Binary id ≡ true → IsSome result }
