@@ -1,8 +1,8 @@
 -- A text that is written piece by piece.
-use Rattle.std.proofs.lemmas.List.{take_all}
+use Rattle.std.proofs.lemmas.List.{take_all, length-append}
 use Rattle.std.specs.Fmt.{WritesText, with_newline}
 use Rattle.std.proofs.lemmas.Fmt.{contents_after_writes}
-use Rattle.std.proofs.Common.{◌≡◌, ℕ, zero, suc, ◌-◌, subst, length-drop, IfSome, IfErr, OnOk, Result, Ok, Err, List, [], ◌∷◌, ◌++◌, length, take, drop, Option, Some, None, refl, sym, ap, ◌∙◌, append_assoc, append-nil, arith}
+use Rattle.std.proofs.Common.{◌≡◌, ℕ, zero, suc, ◌-◌, ◌<◌, subst, length-drop, IfSome, IfErr, OnOk, Result, Ok, Err, List, [], ◌∷◌, ◌++◌, length, take, drop, Option, Some, None, refl, sym, ap, ◌∙◌, append_assoc, append-nil, arith}
 use Rattle.std.specs.Io.KnownBytes.{Appends, Keeps}
 use Rattle.mq_judge.specs.declared.report.RunFault.{RunFault}
 use Rattle.mq_judge.specs.declared.report.RunFault.TheVariants.{Write}
@@ -60,6 +60,7 @@ stopped-in-piece {x} {y} z piece rest so_far part = record {
   whole = so_far.parts ∙ ap (λ (t : List ℕ). so_far.written ++ (t ++ rest)) part.whole
       ∙ ap (λ (t : List ℕ). so_far.written ++ t) (append_assoc part.written part.unwritten rest)
       ∙ sym (append_assoc so_far.written part.written (part.unwritten ++ rest));
+  some = omega (arith, part.some, length-append part.unwritten rest);
   appended = appends-then x y z so_far.written part.written so_far.appended part.appended;
 }
 
@@ -69,15 +70,17 @@ stopped-in-last {x} {y} z piece so_far part = record {
   written = so_far.written ++ part.written;
   unwritten = part.unwritten;
   whole = so_far.parts ∙ ap (λ (t : List ℕ). so_far.written ++ t) part.whole ∙ sym (append_assoc so_far.written part.written part.unwritten);
+  some = part.some;
   appended = appends-then x y z so_far.written part.written so_far.appended part.appended;
 }
 
 -- nothing more was written
-pub stopped-before : {x y z : Option (List ℕ)} {whole rest : List ℕ} → LeavesToWrite x y whole rest → Keeps y z → AppendsBeginning x z whole
-stopped-before {x} {y} {z} {whole} {rest} so_far kept = record {
+pub stopped-before : {x y z : Option (List ℕ)} {whole rest : List ℕ} → LeavesToWrite x y whole rest → 0 < length rest → Keeps y z → AppendsBeginning x z whole
+stopped-before {x} {y} {z} {whole} {rest} so_far some kept = record {
   written = so_far.written ++ [];
   unwritten = rest;
   whole = so_far.parts ∙ ap (λ (t : List ℕ). t ++ rest) (sym (append-nil so_far.written));
+  some = some;
   appended = appends-then x y z so_far.written [] so_far.appended (appends-kept y z kept);
 }
 
@@ -92,8 +95,8 @@ pub none-left : {x y : Option (List ℕ)} {whole : List ℕ} (rest : List ℕ) �
 none-left [] so_far e = rw (so_far.parts ∙ append-nil so_far.written) so_far.appended
 none-left (b ∷ rest) so_far e = absurd (omega arith)
 
-pub begun : {x y : Option (List ℕ)} {whole rest : List ℕ} → LeavesToWrite x y whole rest → AppendsBeginning x y whole
-begun {x} {y} {whole} {rest} so_far = record { written = so_far.written; unwritten = rest; whole = so_far.parts; appended = so_far.appended }
+pub begun : {x y : Option (List ℕ)} {whole rest : List ℕ} → LeavesToWrite x y whole rest → 0 < length rest → AppendsBeginning x y whole
+begun {x} {y} {whole} {rest} so_far some = record { written = so_far.written; unwritten = rest; whole = so_far.parts; some = some; appended = so_far.appended }
 
 -- a line that was made of a value has the value's text
 pub made-line : (text : Option (List ℕ)) (start made : List ℕ)

@@ -1,5 +1,5 @@
 -- The text of a report, and the line that stands in its place for a log that is refused.
-use Rattle.std.specs.Prelude.{◌≡◌, ℕ, ◌==◌, List, [], ◌∷◌, ◌++◌, length, codes, decimal, Option, Some, None, if◌then◌else◌}
+use Rattle.std.specs.Prelude.{◌≡◌, ℕ, ◌<◌, ◌==◌, List, [], ◌∷◌, ◌++◌, length, codes, decimal, Option, Some, None, if◌then◌else◌}
 use Rattle.std.specs.List.{flat_map, join_with_byte}
 use Rattle.std.specs.Io.KnownBytes.{Appends}
 use Rattle.mq_judge.specs.declared.trace.refusal.Refusal.{Refusal}
@@ -112,9 +112,10 @@ refused_text refusal = spaced (codes "refused" ∷ decimal (number_of refusal) �
 abbrev pub refused_line : Refusal → List ℕ
 refused_line refusal = line (refused_text refusal)
 
--- The known bytes grew by a beginning of the text, and by nothing else.
+-- The known bytes grew by a beginning of the text, and by nothing else. It isn't all of the text.
 pub record AppendsBeginning (old new : Option (List ℕ)) (text : List ℕ) : Type 0 where
   pub written : List ℕ
   pub unwritten : List ℕ
   pub whole : text ≡ written ++ unwritten
+  pub some : 0 < length unwritten
   pub appended : Appends old new written

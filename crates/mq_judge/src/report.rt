@@ -120,7 +120,7 @@ impl fmt::Display for Counts {
 ///
 /// # Errors
 ///
-/// `Write` where a write failed: the writer answered an error, an interruption too, or took no byte. A beginning of the report was written then.
+/// `Write` where a write failed: the writer answered an error, an interruption too, or took no byte. A beginning of the report was written then, and not all of it.
 pub fn write_text<W: Write>(verdict: &Verdict, role: Role, writer: &mut W) -> Result<(), RunFault>
     ensures ok { OnOk result (Appends (W.contents writer.old) (W.contents writer.new)
         (report_on role (map.entries verdict.now.faults) verdict.now.events)) }
@@ -146,7 +146,7 @@ pub fn write_text<W: Write>(verdict: &Verdict, role: Role, writer: &mut W) -> Re
 ///
 /// # Errors
 ///
-/// `Write` where a write failed: the writer answered an error, an interruption too, or took no byte. A beginning of the line was written then.
+/// `Write` where a write failed: the writer answered an error, an interruption too, or took no byte. A beginning of the line was written then, and not all of it.
 pub fn write_refused<W: Write>(
     refusal: &Refusal,
     form: Form,

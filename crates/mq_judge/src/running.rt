@@ -20,7 +20,7 @@ use std::io::{ErrorKind, Read, Write};
 /// # Errors
 ///
 /// `Refused` where the log is refused, where the reader fails, where it hasn't ended after 4,294,967,295 turns, or where the judge is refused memory. Nothing was written then.
-/// `Write` where a write failed. A beginning of the report was written then.
+/// `Write` where a write failed. A beginning of the report was written then, and not all of it.
 pub fn run<R: Read, W: Write>(
     alloc: Global,
     reader: &mut R,
@@ -72,7 +72,7 @@ fn feed_all<R: Read>(judge: &mut Judge, reader: &mut R) -> Result<(), Refusal>
 ///
 /// # Errors
 ///
-/// `Write` where a write failed. A beginning of the report was written then.
+/// `Write` where a write failed. A beginning of the report was written then, and not all of it.
 fn write_report<W: Write>(
     verdict: &Verdict,
     role: Role,
