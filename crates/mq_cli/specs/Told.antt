@@ -10,6 +10,8 @@ use Rattle.mq_judge.specs.Refusals.{is_cut_short, refused}
 use Rattle.mq_judge.specs.Running.{default_limit}
 use Rattle.mq_cli.specs.declared.command_line.Stop.{Stop}
 use Rattle.mq_cli.specs.declared.command_line.Stop.TheVariants.{Help, Usage, Memory}
+use Rattle.mq_cli.specs.declared.failure.Failure.{Failure}
+use Rattle.mq_cli.specs.declared.failure.Failure.TheVariants as failures
 
 -- help or the version was asked for, and its text was written
 abbrev pub IsShownOn : Stop → Option (List ℕ) → Option (List ℕ) → Type 0
@@ -39,3 +41,9 @@ abbrev pub IsOfLog : Refusal → Type 0
 IsOfLog (refusals.Read at) = ⊥
 IsOfLog (refusals.Memory at) = ⊥
 IsOfLog _ = ⊤
+
+-- what failed where the line on a refusal can't be given: reading or memory where the refusal is that, else writing it
+abbrev pub failure_of : Refusal → Failure
+failure_of (refusals.Read at) = failures.Read
+failure_of (refusals.Memory at) = failures.Memory
+failure_of _ = failures.Write

@@ -1,6 +1,10 @@
 //! `mqjudge` judges the log of one end of an MQTT 5.0 session.
 #![tactic(auto)]
 
+ghost use Rattle.std.specs.Prelude.{◌≡◌, ◌≢◌, ◌≤◌, IfOk};
+ghost use Rattle.std.specs.IoError.{error_kind};
+ghost use Rattle.mq_cli.specs.declared.failure.TheConstants.{FAILED};
+
 mod command_line;
 mod failure;
 #[cfg(test)]
@@ -32,7 +36,9 @@ fn main(rt: HostRuntime) -> ExitCode {
 fn run<R: AllocGlobal + Env + Files + Input + Print, E: Write>(
     rt: &R,
     error: &mut E,
-) -> Result<u8, Failure> {
+) -> Result<u8, Failure>
+    ensures { IfOk result (λ status. status ≤ FAILED) }
+{
     let alloc = rt.alloc();
     let mut output = BufWriter::new(alloc, io::writer(rt)).map_err(failed_reading)?;
     match task(rt)? {
@@ -62,7 +68,9 @@ fn perform_on_log<R: AllocGlobal + Files + Input, W: Write, E: Write>(
     task: &Task,
     output: &mut W,
     error: &mut E,
-) -> Result<u8, Failure> {
+) -> Result<u8, Failure>
+    ensures { IfOk result (λ status. status ≤ FAILED) }
+{
     let alloc: Global = rt.alloc();
     match task {
         Task::Check {
@@ -78,7 +86,10 @@ fn perform_on_log<R: AllocGlobal + Files + Input, W: Write, E: Write>(
 }
 
 // Why something couldn't be read.
-fn failed_reading(error: io::Error) -> Failure {
+fn failed_reading(error: io::Error) -> Failure
+    ensures memory { error_kind error ≡ ErrorKind.OutOfMemory → result ≡ Failure.Memory }
+    ensures read { error_kind error ≢ ErrorKind.OutOfMemory → result ≡ Failure.Read }
+{
     match error.kind() {
         ErrorKind::OutOfMemory => Failure::Memory,
         _ => Failure::Read,

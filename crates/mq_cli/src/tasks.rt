@@ -1,7 +1,7 @@
 //! Doing what a command line asks for.
-ghost use Rattle.std.specs.Prelude.{◌≡◌, ◌≢◌, ◌≤◌, ◌⊎◌, IfOk, [], IfOk, IfSome, OnOk};
+ghost use Rattle.std.specs.Prelude.{◌≡◌, ◌≢◌, ◌≤◌, ◌⊎◌, [], IfOk, IfErr, IfSome, OnOk};
 ghost use Rattle.std.specs.Io.KnownBytes.{Appends, Keeps};
-ghost use Rattle.mq_cli.specs.Told.{IsFaultless, IsOfLog, IsRefusedBy, IsShownOn, IsToldOn};
+ghost use Rattle.mq_cli.specs.Told.{IsFaultless, IsOfLog, IsRefusedBy, IsShownOn, IsToldOn, failure_of};
 ghost use Rattle.mq_judge.specs.declared.Refusal.{Refusal};
 ghost use Rattle.mq_judge.specs.Report.{refused_line, report};
 ghost use Rattle.mq_judge.specs.Running.{IsJudged};
@@ -73,6 +73,7 @@ fn refuse<W: Write>(refusal: &Refusal, output: &mut W) -> Result<u8, Failure>
     ensures own { OnOk result (IsOfLog refusal.now) }
     ensures written { OnOk result
         (Appends (W.contents output.old) (W.contents output.new) (refused_line refusal.now)) }
+    ensures failed { IfErr result (λ failure. failure ≡ failure_of refusal.now) }
 {
     match refusal {
         Refusal::Read(_) => Err(Failure::Read),
@@ -89,6 +90,7 @@ fn refuse<W: Write>(refusal: &Refusal, output: &mut W) -> Result<u8, Failure>
 fn see_out<W: Write>(status: u8, output: &mut W) -> Result<u8, Failure>
     ensures status { IfOk result (λ given. given ≡ status) }
     ensures kept { Keeps (W.contents output.old) (W.contents output.new) }
+    ensures failed { IfErr result (λ failure. failure ≡ Failure.Write) }
 {
     output.flush().map_err(|_| Failure::Write)?;
     Ok(status)
@@ -116,7 +118,8 @@ pub fn stop<W: Write, E: Write>(stop: &Stop, output: &mut W, error: &mut E) -> u
 
 // Writes the text, and sees it out.
 fn show<W: Write>(text: &str, writer: &mut W) -> Result<(), Failure>
-    ensures { OnOk result (Appends (W.contents writer.old) (W.contents writer.new) text.now) }
+    ensures written { OnOk result (Appends (W.contents writer.old) (W.contents writer.new) text.now) }
+    ensures failed { IfErr result (λ failure. failure ≡ Failure.Write) }
 {
     writer
         .write_all(text.as_bytes())
