@@ -1,6 +1,15 @@
 pub mod FieldLaws
 pub mod FrameLaws
 pub mod Lengths
+pub mod ValueLaws
+pub mod RequestLaws
+pub mod ConnectFlagLaws
+pub mod GrowingLaws
+pub mod CanonicalLaws
+pub mod ReasonLaws
+pub mod SizeLaws
+pub mod ValidLaws
+pub mod WrittenLaws
 pub mod Places
 pub mod Readings
 pub mod StreamLaws

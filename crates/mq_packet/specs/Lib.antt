@@ -8,3 +8,7 @@ pub mod Asking
 pub mod Elements
 pub mod Stream
 pub mod Frames
+pub mod Canonical
+pub mod Valid
+pub mod Growing
+pub mod Sizes

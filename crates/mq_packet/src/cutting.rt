@@ -4,8 +4,8 @@ ghost use Rattle.std.specs.Prelude.{◌≡◌, ◌↔◌, ℕ, true};
 ghost use Rattle.mq_packet.specs.Stream.{is_lost};
 ghost use Rattle.mq_packet.specs.Frames.{BeginsWithFrame, cut_of};
 
-use super::header::{FixedHeader, fixed_header};
 use super::frame::Cut;
+use super::header::{FixedHeader, fixed_header};
 
 /// The packet at the front of the bytes: `Frame` exactly where they begin with a whole one, `Lost` exactly where they aren't
 /// empty and no variable byte integer can stand behind the first of them, else `Need` (MQTT 5.0, section 2.1).

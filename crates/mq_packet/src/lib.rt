@@ -7,6 +7,7 @@
 mod codes;
 mod cutting;
 mod decoding;
+mod facts;
 mod fault;
 mod filters;
 mod frame;
@@ -17,6 +18,8 @@ mod reading;
 mod reason_codes;
 mod rule;
 mod stop;
+mod validity;
+mod writing;
 
 pub use cutting::cut;
 pub use decoding::decode;
@@ -30,6 +33,8 @@ pub use packet::{
 };
 pub use reason_codes::{Codes, CodesIter};
 pub use rule::PacketRule;
+pub use validity::is_valid;
+pub use writing::{EncodeFault, encode};
 
 #[cfg(test)]
 mod tests;

@@ -1,0 +1,502 @@
+-- What is valid is spelled by the bytes that are written of it.
+use Rattle.std.proofs.Common.{◌≡◌, ◌≢◌, ℕ, zero, suc, ◌+◌, ◌<◌, ◌≤◌, Bool, true, false, ◌&&◌, not, List, [], ◌∷◌, ◌++◌, length, Option, Some, None, refl, sym, ◌∙◌, ap, subst, arith, append_assoc, length-append}
+use Rattle.std.specs.Prelude.{nat_lt, ◌==◌, if◌then◌else◌, is_some, IfSome, bit_and, codes}
+use Rattle.std.specs.List.{list_all, AllByRecursion}
+use Rattle.std.specs.Str.{IsUtf8, IsAscii}
+use Rattle.std.proofs.lemmas.Bool.{and_parts, eqb-true, ne_eqb, cond_both}
+use Rattle.std.proofs.lemmas.List.{append-nil}
+use Rattle.std.proofs.lemmas.Str.{IsUtf8-from_ascii}
+use Rattle.mq_wire.specs.Spellings.{IsText, IsBinary, text_spelling, binary_spelling, two_bytes_spelling, varint_spelling}
+use Rattle.mq_topic.specs.Levels.{is_name}
+use Rattle.mq_props.specs.declared.table.Place.{Place}
+use Rattle.mq_props.specs.declared.table.Place.TheVariants as places
+use Rattle.mq_props.specs.Table.{same_place}
+use Rattle.mq_props.specs.Values.{Property, body as properties_spelling}
+use Rattle.mq_props.specs.Listed.{Listed}
+use Rattle.mq_packet.specs.declared.codes.TheConstants.{CONNACK_CODES, DISCONNECT_CODES, AUTH_CODES}
+use Rattle.mq_packet.specs.declared.packet.Qos.{Qos}
+use Rattle.mq_packet.specs.declared.packet.Qos.TheVariants.{AtMostOnce, AtLeastOnce, ExactlyOnce}
+use Rattle.mq_packet.specs.declared.packet.AcknowledgementKind.{AcknowledgementKind}
+use Rattle.mq_packet.specs.declared.packet.AcknowledgementKind.TheVariants as acknowledgements
+use Rattle.mq_packet.specs.declared.packet.EndingKind.TheVariants as endings
+use Rattle.mq_packet.specs.declared.packet.RequestKind.{RequestKind}
+use Rattle.mq_packet.specs.declared.packet.RequestKind.TheVariants as requests
+use Rattle.mq_packet.specs.declared.rule.PacketRule.TheVariants as rules
+use Rattle.mq_packet.specs.Entries.{Entry, connect, connack, publish, acknowledgement, request, answer, pingreq, pingresp, disconnect, auth, WillFields, ConnectFields, PublishFields, AskedFilter, listed, none_listed, acknowledgement_place, acknowledgement_codes, request_place, answer_place, answer_codes, has_options}
+use Rattle.mq_packet.specs.Formats.{byte, text, binary, properties, Format, done, missing, field, at_end, field_if, will_if, is_code, names_topic, is_filter, are_options, are_connect_flags, has_bits, qos_of, options_if, filters_format, codes_format, connect_from, connack_format, publish_from, publish_unacknowledged, publish_acknowledged, acknowledgement_format, request_format, answer_format, ending_format, any_value, code_objection}
+use Rattle.mq_packet.specs.Asking.{options_spelling, asked_spelling, filters_spelling}
+use Rattle.mq_packet.specs.Spelled.{IsValue, Spells, IsSpelled}
+use Rattle.mq_packet.specs.Canonical.{bit, connect_flags, spelling_if, list_spelling, will_spelling, reason_spelling, first_byte, connect_body, connack_body, publish_body, acknowledgement_body, request_body, answer_body, disconnect_body, auth_body, canonical_body}
+use Rattle.mq_packet.specs.Valid.{is_text, is_binary, is_identifier, if_there, fits_qos, fits_request, valid_will, valid_connect, valid_connack, valid_publish, valid_acknowledgement, valid_filter, valid_filters, valid_request, valid_answer, valid_disconnect, valid_auth, valid, IsListed, IsWill, IsConnect, IsPublish, IsIdentified, IsAskedFilter, IsRequest, IsTyped}
+use Rattle.mq_packet.proofs.ValueLaws.{listed_is, list_value, text_value, binary_value, code_value, unobjected, field_if_spelled, if_there_gives, ends_there}
+use Rattle.mq_packet.proofs.ConnectFlagLaws.{FlagsSay, flags_say}
+
+-- ---- what isn't empty
+
+pub varint_some : (n : ℕ) → 1 ≤ length (varint_spelling n)
+unfolding varint_spelling
+varint_some n =
+    cond_both (nat_lt n 128) _ _ (λ (l : List ℕ). 1 ≤ length l) (λ _. omega arith) (λ _.
+    cond_both (nat_lt n 16384) _ _ (λ (l : List ℕ). 1 ≤ length l) (λ _. omega arith) (λ _.
+    cond_both (nat_lt n 2097152) _ _ (λ (l : List ℕ). 1 ≤ length l) (λ _. omega arith) (λ _. omega arith)))
+
+list_some : (items : List Property) → list_spelling items ≢ []
+list_some items e =
+    omega (arith, varint_some (length (properties_spelling items)), length-append (varint_spelling (length (properties_spelling items))) (properties_spelling items), ap (length {A = ℕ}) e)
+
+-- Where something is left, the second format counts.
+more_spelled : (whole more : Format) (bytes : List ℕ) (entry : Entry) → bytes ≢ [] → Spells more bytes entry → Spells (at_end whole more) bytes entry
+more_spelled whole more [] entry some h = absurd (some refl)
+more_spelled whole more (b ∷ bytes) entry some h = h
+
+-- ---- lists and codes at a packet's end
+
+-- A property list that ends a packet, which is made of it.
+list_ends : (place : Place) (items : List Property) (make : Listed → Entry) → IsValue (properties place) items
+    → Spells (field (properties place) any_value (λ list. done (make (listed place list)))) (list_spelling items) (make (listed place items))
+list_ends place items make ok = (items, [], record { is_value = ok; spelled = sym (append-nil (list_spelling items)) }, refl, (refl, refl))
+
+-- The codes of a table are bytes.
+abbrev AreCodes : List ℕ → Type 0
+AreCodes table = list_all (λ c. nat_lt c 256) table ≡ true
+
+-- A Reason Code and a property list, each left out where it may be.
+abbrev behind_code : Place → (ℕ → Listed → Entry) → ℕ → Format
+behind_code place make code =
+    at_end (done (make code (none_listed place)))
+    (field (properties place) any_value (λ list. done (make code (listed place list))))
+
+abbrev coded : List ℕ → Place → (ℕ → Listed → Entry) → Format
+coded table place make =
+    at_end (done (make 0 (none_listed place))) (field byte (code_objection table) (λ code. behind_code place make code))
+
+module _ (table : List ℕ) (bytes : AreCodes table) (place : Place) (make : ℕ → Listed → Entry) where
+  -- with the properties' length
+  whole_spelled : (code : ℕ) (items : List Property) → IsValue (properties place) items → is_code table code ≡ true
+      → Spells (coded table place make) (code ∷ list_spelling items) (make code (listed place items))
+  whole_spelled code items ok known = (
+    code,
+    list_spelling items,
+    record { is_value = code_value table code bytes known; spelled = refl },
+    unobjected (is_code table code) rules.W13 known,
+    more_spelled (done (make code (none_listed place))) (field (properties place) any_value (λ list. done (make code (listed place list)))) (list_spelling items) (make code (listed place items)) (list_some items) (list_ends place items (make code) ok),
+  )
+
+  -- without properties, as short as it may be, or at their length where the code isn't 0x00
+  none_spelled : (code : ℕ) (short : List ℕ) → is_code table code ≡ true → Spells (coded table place make) short (make code (none_listed place)) → Spells (coded table place make) (if code == 0 then [] else short) (make code (none_listed place))
+  none_spelled code short known h =
+      elim (code == 0) as (λ t. (code == 0) ≡ t → Spells (coded table place make) (if t then [] else short) (make code (none_listed place))) [
+        | true ↦ λ is. (refl, ap (λ (c : ℕ). make c (none_listed place)) (sym (eqb-true code 0 is)))
+        | false ↦ λ _. h
+      ] refl
+
+  code_alone : (code : ℕ) → is_code table code ≡ true → Spells (coded table place make) (code ∷ []) (make code (none_listed place))
+  code_alone code known = (code, [], record { is_value = code_value table code bytes known; spelled = refl }, unobjected (is_code table code) rules.W13 known, (refl, refl))
+
+  reason_spelled : (code : ℕ) (items : List Property) → IsValue (properties place) items → is_code table code ≡ true → Spells (coded table place make) (reason_spelling code items) (make code (listed place items))
+  reason_spelled code [] ok known = none_spelled code (code ∷ []) known (code_alone code known)
+  reason_spelled code (p ∷ items) ok known = whole_spelled code (p ∷ items) ok known
+
+-- ---- CONNACK, acknowledgements, DISCONNECT and AUTH
+
+connack_spelled : (session_present : Bool) (code : ℕ) (list : Listed) → IsListed list → valid_connack code list ≡ true → IsSpelled 32 (connack_body session_present code list.items) (connack session_present code list)
+unfolding valid_connack connack_body
+connack_spelled session_present code list ok e =
+    (let parts : (same_place list.place places.Connack ≡ true) × (is_code CONNACK_CODES code ≡ true) = and_parts _ _ e in
+    let value : IsValue (properties places.Connack) list.items = list_value places.Connack list ok parts.0 in
+    subst (λ (l : Listed). Spells connack_format (bit 1 session_present ∷ code ∷ list_spelling list.items) (connack session_present code l)) (listed_is places.Connack list parts.0) (flagged session_present value parts.1))
+  where
+    flagged : (s : Bool) → IsValue (properties places.Connack) list.items → is_code CONNACK_CODES code ≡ true → Spells connack_format (bit 1 s ∷ code ∷ list_spelling list.items) (connack s code (listed places.Connack list.items))
+    flagged true value known = (
+      1,
+      code ∷ list_spelling list.items,
+      record { is_value = omega arith; spelled = refl },
+      refl,
+      (
+        code,
+        list_spelling list.items,
+        record { is_value = code_value CONNACK_CODES code refl known; spelled = refl },
+        unobjected (is_code CONNACK_CODES code) rules.W13 known,
+        list_ends places.Connack list.items (connack true code) value,
+      ),
+    )
+    flagged false value known = (
+      0,
+      code ∷ list_spelling list.items,
+      record { is_value = omega arith; spelled = refl },
+      refl,
+      (
+        code,
+        list_spelling list.items,
+        record { is_value = code_value CONNACK_CODES code refl known; spelled = refl },
+        unobjected (is_code CONNACK_CODES code) rules.W13 known,
+        list_ends places.Connack list.items (connack false code) value,
+      ),
+    )
+
+-- The tables hold bytes.
+acknowledgement_bytes : (kind : AcknowledgementKind) → AreCodes (acknowledgement_codes kind)
+acknowledgement_bytes acknowledgements.Puback = refl
+acknowledgement_bytes acknowledgements.Pubrec = refl
+acknowledgement_bytes acknowledgements.Pubrel = refl
+acknowledgement_bytes acknowledgements.Pubcomp = refl
+
+answer_bytes : (kind : RequestKind) → AreCodes (answer_codes kind)
+answer_bytes requests.Subscribe = refl
+answer_bytes requests.Unsubscribe = refl
+
+acknowledgement_spells : (kind : AcknowledgementKind) (identifier code : ℕ) (list : Listed) → IsIdentified identifier list → valid_acknowledgement kind identifier code list ≡ true
+    → Spells (acknowledgement_format kind) (acknowledgement_body identifier code list.items) (acknowledgement kind identifier code list)
+unfolding valid_acknowledgement acknowledgement_body
+acknowledgement_spells kind identifier code list ok e =
+    (let parts : (same_place list.place (acknowledgement_place kind) ≡ true) × ((is_identifier identifier && is_code (acknowledgement_codes kind) code) ≡ true) = and_parts _ _ e in
+    let known : (is_identifier identifier ≡ true) × (is_code (acknowledgement_codes kind) code ≡ true) = and_parts _ _ parts.1 in
+    let value : IsValue (properties (acknowledgement_place kind)) list.items = list_value (acknowledgement_place kind) list ok.properties parts.0 in
+    subst (λ (l : Listed). Spells (acknowledgement_format kind) (two_bytes_spelling identifier ++ reason_spelling code list.items) (acknowledgement kind identifier code l)) (listed_is (acknowledgement_place kind) list parts.0) (
+      identifier,
+      reason_spelling code list.items,
+      record { is_value = ok.bound; spelled = refl },
+      unobjected (is_identifier identifier) rules.W09 known.0,
+      reason_spelled (acknowledgement_codes kind) (acknowledgement_bytes kind) (acknowledgement_place kind) (acknowledgement kind identifier) code list.items value known.1,
+    ))
+
+acknowledgement_spelled : (kind : AcknowledgementKind) (identifier code : ℕ) (list : Listed) → IsIdentified identifier list → valid_acknowledgement kind identifier code list ≡ true
+    → IsSpelled (first_byte (acknowledgement kind identifier code list)) (acknowledgement_body identifier code list.items) (acknowledgement kind identifier code list)
+acknowledgement_spelled acknowledgements.Puback identifier code list ok e = acknowledgement_spells acknowledgements.Puback identifier code list ok e
+acknowledgement_spelled acknowledgements.Pubrec identifier code list ok e = acknowledgement_spells acknowledgements.Pubrec identifier code list ok e
+acknowledgement_spelled acknowledgements.Pubrel identifier code list ok e = acknowledgement_spells acknowledgements.Pubrel identifier code list ok e
+acknowledgement_spelled acknowledgements.Pubcomp identifier code list ok e = acknowledgement_spells acknowledgements.Pubcomp identifier code list ok e
+
+disconnect_spelled : (code : ℕ) (list : Listed) → IsListed list → valid_disconnect code list ≡ true → IsSpelled 224 (disconnect_body code list.items) (disconnect code list)
+unfolding valid_disconnect disconnect_body
+disconnect_spelled code list ok e =
+    (let parts : (same_place list.place places.Disconnect ≡ true) × (is_code DISCONNECT_CODES code ≡ true) = and_parts _ _ e in
+    subst (λ (l : Listed). Spells (ending_format endings.Disconnect) (reason_spelling code list.items) (disconnect code l)) (listed_is places.Disconnect list parts.0)
+    (reason_spelled DISCONNECT_CODES refl places.Disconnect disconnect code list.items (list_value places.Disconnect list ok parts.0) parts.1))
+
+auth_spells : (code : ℕ) (items : List Property) → IsValue (properties places.Auth) items → is_code AUTH_CODES code ≡ true → Spells (ending_format endings.Auth) (auth_body code items) (auth code (listed places.Auth items))
+unfolding auth_body
+auth_spells code [] ok known = none_spelled AUTH_CODES refl places.Auth auth code (code ∷ list_spelling []) known (whole_spelled AUTH_CODES refl places.Auth auth code [] ok known)
+auth_spells code (p ∷ items) ok known = whole_spelled AUTH_CODES refl places.Auth auth code (p ∷ items) ok known
+
+auth_spelled : (code : ℕ) (list : Listed) → IsListed list → valid_auth code list ≡ true → IsSpelled 240 (auth_body code list.items) (auth code list)
+unfolding valid_auth
+auth_spelled code list ok e =
+    (let parts : (same_place list.place places.Auth ≡ true) × (is_code AUTH_CODES code ≡ true) = and_parts _ _ e in
+    subst (λ (l : Listed). Spells (ending_format endings.Auth) (auth_body code list.items) (auth code l)) (listed_is places.Auth list parts.0)
+    (auth_spells code list.items (list_value places.Auth list ok parts.0) parts.1))
+
+-- ---- PUBLISH
+
+-- A PUBLISH by its fields.
+abbrev published : Bool → Qos → Bool → List ℕ → Option ℕ → Listed → List ℕ → PublishFields
+published duplicate qos retain topic identifier list payload =
+    record { duplicate = duplicate; qos = qos; retain = retain; topic = topic; identifier = identifier; properties = list; payload = payload }
+
+module _ (retain : Bool) (topic : List ℕ) (items : List Property) (payload : List ℕ) (is_topic : IsText topic) (plain : is_name topic ≡ true) (value : IsValue (properties places.Publish) items) (named : names_topic topic items ≡ true) where
+  publish_tail : (duplicate : Bool) (qos : Qos) (identifier : Option ℕ) → Spells (publish_from duplicate qos retain topic identifier) (list_spelling items ++ payload) (publish (published duplicate qos retain topic identifier (listed places.Publish items) payload))
+  publish_tail duplicate qos identifier = (items, payload, record { is_value = value; spelled = refl }, unobjected (names_topic topic items) rules.W21 named, refl)
+
+  unacknowledged : Spells (publish_unacknowledged retain) (text_spelling topic ++ (list_spelling items ++ payload)) (publish (published false AtMostOnce retain topic None (listed places.Publish items) payload))
+  unacknowledged = (topic, list_spelling items ++ payload, record { is_value = is_topic; spelled = refl }, unobjected (is_name topic) rules.W14 plain, publish_tail false AtMostOnce None)
+
+  acknowledged : (duplicate : Bool) (qos : Qos) (identifier : ℕ) → identifier ≤ 65535 → is_identifier identifier ≡ true
+      → Spells (publish_acknowledged duplicate qos retain) (text_spelling topic ++ (two_bytes_spelling identifier ++ (list_spelling items ++ payload))) (publish (published duplicate qos retain topic (Some identifier) (listed places.Publish items) payload))
+  acknowledged duplicate qos identifier small known = (
+    topic,
+    two_bytes_spelling identifier ++ (list_spelling items ++ payload),
+    record { is_value = is_topic; spelled = refl },
+    unobjected (is_name topic) rules.W14 plain,
+    (identifier, list_spelling items ++ payload, record { is_value = small; spelled = refl }, unobjected (is_identifier identifier) rules.W09 known, publish_tail duplicate qos (Some identifier)),
+  )
+
+publish_by : (duplicate : Bool) (qos : Qos) (retain : Bool) (topic : List ℕ) (identifier : Option ℕ) (items : List Property) (payload : List ℕ)
+    → IsText topic → is_name topic ≡ true → IsValue (properties places.Publish) items → names_topic topic items ≡ true
+    → IfSome identifier (λ i. i ≤ 65535) → fits_qos duplicate qos identifier ≡ true
+    → IsSpelled (first_byte (publish (published duplicate qos retain topic identifier (listed places.Publish items) payload))) (publish_body (published duplicate qos retain topic identifier (listed places.Publish items) payload)) (publish (published duplicate qos retain topic identifier (listed places.Publish items) payload))
+unfolding publish_body
+publish_by true AtMostOnce retain topic identifier items payload t n v a i fits = absurd (cc)
+publish_by false AtMostOnce retain topic (Some identifier) items payload t n v a i fits = absurd (cc)
+publish_by false AtMostOnce true topic None items payload t n v a i fits = unacknowledged true topic items payload t n v a
+publish_by false AtMostOnce false topic None items payload t n v a i fits = unacknowledged false topic items payload t n v a
+publish_by duplicate AtLeastOnce retain topic None items payload t n v a i fits = absurd (cc)
+publish_by true AtLeastOnce true topic (Some identifier) items payload t n v a i fits = acknowledged true topic items payload t n v a true AtLeastOnce identifier i fits
+publish_by true AtLeastOnce false topic (Some identifier) items payload t n v a i fits = acknowledged false topic items payload t n v a true AtLeastOnce identifier i fits
+publish_by false AtLeastOnce true topic (Some identifier) items payload t n v a i fits = acknowledged true topic items payload t n v a false AtLeastOnce identifier i fits
+publish_by false AtLeastOnce false topic (Some identifier) items payload t n v a i fits = acknowledged false topic items payload t n v a false AtLeastOnce identifier i fits
+publish_by duplicate ExactlyOnce retain topic None items payload t n v a i fits = absurd (cc)
+publish_by true ExactlyOnce true topic (Some identifier) items payload t n v a i fits = acknowledged true topic items payload t n v a true ExactlyOnce identifier i fits
+publish_by true ExactlyOnce false topic (Some identifier) items payload t n v a i fits = acknowledged false topic items payload t n v a true ExactlyOnce identifier i fits
+publish_by false ExactlyOnce true topic (Some identifier) items payload t n v a i fits = acknowledged true topic items payload t n v a false ExactlyOnce identifier i fits
+publish_by false ExactlyOnce false topic (Some identifier) items payload t n v a i fits = acknowledged false topic items payload t n v a false ExactlyOnce identifier i fits
+
+publish_spelled : (fields : PublishFields) → IsPublish fields → valid_publish fields ≡ true → IsSpelled (first_byte (publish fields)) (publish_body fields) (publish fields)
+unfolding valid_publish
+publish_spelled fields ok e =
+    (let one : (same_place fields.properties.place places.Publish ≡ true) × ((fits_qos fields.duplicate fields.qos fields.identifier && (is_text fields.topic && (is_name fields.topic && names_topic fields.topic fields.properties.items))) ≡ true) = and_parts _ _ e in
+    let two : (fits_qos fields.duplicate fields.qos fields.identifier ≡ true) × ((is_text fields.topic && (is_name fields.topic && names_topic fields.topic fields.properties.items)) ≡ true) = and_parts _ _ one.1 in
+    let three : (is_text fields.topic ≡ true) × ((is_name fields.topic && names_topic fields.topic fields.properties.items) ≡ true) = and_parts _ _ two.1 in
+    let four : (is_name fields.topic ≡ true) × (names_topic fields.topic fields.properties.items ≡ true) = and_parts _ _ three.1 in
+    let P : Listed → Type 0 = λ l. IsSpelled (first_byte (publish (published fields.duplicate fields.qos fields.retain fields.topic fields.identifier l fields.payload))) (publish_body (published fields.duplicate fields.qos fields.retain fields.topic fields.identifier l fields.payload)) (publish (published fields.duplicate fields.qos fields.retain fields.topic fields.identifier l fields.payload)) in
+    subst P (listed_is places.Publish fields.properties one.0)
+    (publish_by fields.duplicate fields.qos fields.retain fields.topic fields.identifier fields.properties.items fields.payload
+    (text_value fields.topic ok.topic three.0) four.0 (list_value places.Publish fields.properties ok.properties one.0) four.1 ok.identifier two.0))
+
+-- ---- SUBSCRIBE, UNSUBSCRIBE and their answers
+
+options_spelled : (asks : Bool) (options : Option ℕ) (next : Option ℕ → Format) (left : List ℕ) (entry : Entry)
+    → IfSome options (λ o. o < 256) → fits_request asks options ≡ true → Spells (next options) left entry → Spells (options_if asks next) (options_spelling options ++ left) entry
+options_spelled false None next left entry small e h = h
+options_spelled false (Some options) next left entry small e h = absurd (cc)
+options_spelled true None next left entry small e h = absurd (cc)
+options_spelled true (Some options) next left entry small e h = (options, left, record { is_value = small; spelled = refl }, unobjected (are_options options) rules.W17 e, h)
+
+filters_spelled : (asks : Bool) (packet : List AskedFilter → Entry) (n : ℕ) (found filters : List AskedFilter) → length filters ≤ n → 0 < length found + length filters
+    → AllByRecursion IsAskedFilter filters → list_all (valid_filter asks) filters ≡ true → Spells (filters_format n asks packet found) (filters_spelling filters) (packet (found ++ filters))
+unfolding valid_filter
+filters_spelled asks packet zero found [] few some ok e = (refl, ap packet (sym (append-nil found)))
+filters_spelled asks packet zero found (asked ∷ filters) few some ok e = absurd (omega arith)
+filters_spelled asks packet (suc n) found [] few some ok e =
+    (let full : (length found == 0) ≡ false = ne_eqb (length found) 0 (λ (z : length found ≡ 0). omega arith) in
+    let ends : Spells (done (packet found)) [] (packet (found ++ [])) = (refl, ap packet (sym (append-nil found))) in
+    subst (λ (t : Bool). Spells (if t then missing rules.W16 else done (packet found)) [] (packet (found ++ []))) (sym full) ends)
+filters_spelled asks packet (suc n) found (asked ∷ filters) few some ok e =
+    (let one : (valid_filter asks asked ≡ true) × (list_all (valid_filter asks) filters ≡ true) = and_parts _ _ e in
+    let two : (is_text asked.filter ≡ true) × ((is_filter asked.filter && fits_request asks asked.options) ≡ true) = and_parts _ _ one.0 in
+    let three : (is_filter asked.filter ≡ true) × (fits_request asks asked.options ≡ true) = and_parts _ _ two.1 in
+    let grown : length (found ++ asked ∷ []) ≡ length found + 1 = simp length-append in
+    let rest : Spells (filters_format n asks packet (found ++ asked ∷ [])) (filters_spelling filters) (packet ((found ++ asked ∷ []) ++ filters)) =
+    filters_spelled asks packet n (found ++ asked ∷ []) filters (omega arith) (omega arith) ok.1 one.1 in
+    let joined : Spells (filters_format n asks packet (found ++ asked ∷ [])) (filters_spelling filters) (packet (found ++ asked ∷ filters)) =
+    subst (λ (l : List AskedFilter). Spells (filters_format n asks packet (found ++ asked ∷ [])) (filters_spelling filters) (packet l)) (append_assoc found (asked ∷ []) filters) rest in (
+      asked.filter,
+      options_spelling asked.options ++ filters_spelling filters,
+      record { is_value = text_value asked.filter ok.0.filter two.0; spelled = append_assoc (text_spelling asked.filter) (options_spelling asked.options) (filters_spelling filters) },
+      unobjected (is_filter asked.filter) rules.W15 three.0,
+      options_spelled asks asked.options (λ options. filters_format n asks packet (found ++ record { filter = asked.filter; options = options } ∷ [])) (filters_spelling filters) (packet (found ++ asked ∷ filters)) ok.0.options three.1 joined,
+    ))
+
+-- There are no more filters than bytes that spell them.
+filters_few : (filters : List AskedFilter) → length filters ≤ length (filters_spelling filters)
+filters_few [] = omega arith
+filters_few (asked ∷ filters) =
+    (let rest : length filters ≤ length (filters_spelling filters) = filters_few filters in
+    let whole : length (asked_spelling asked ++ filters_spelling filters) ≡ length (asked_spelling asked) + length (filters_spelling filters) = length-append (asked_spelling asked) (filters_spelling filters) in
+    let front : length (asked_spelling asked) ≡ length (text_spelling asked.filter) + length (options_spelling asked.options) = length-append (text_spelling asked.filter) (options_spelling asked.options) in
+    omega arith)
+
+request_spells : (kind : RequestKind) (identifier : ℕ) (list : Listed) (filters : List AskedFilter) → IsRequest identifier list filters → valid_request kind identifier list filters ≡ true
+    → Spells (request_format (length (request_body identifier list.items filters)) kind) (request_body identifier list.items filters) (request kind identifier list filters)
+unfolding valid_request valid_filters request_body
+request_spells kind identifier list filters ok e =
+    (let one : (same_place list.place (request_place kind) ≡ true) × ((is_identifier identifier && valid_filters (has_options kind) filters) ≡ true) = and_parts _ _ e in
+    let two : (is_identifier identifier ≡ true) × (valid_filters (has_options kind) filters ≡ true) = and_parts _ _ one.1 in
+    let three : (not (length filters == 0) ≡ true) × (list_all (valid_filter (has_options kind)) filters ≡ true) = and_parts _ _ two.1 in
+    let behind : length (list_spelling list.items ++ filters_spelling filters) ≡ length (list_spelling list.items) + length (filters_spelling filters) = length-append (list_spelling list.items) (filters_spelling filters) in
+    let whole : length (two_bytes_spelling identifier ++ (list_spelling list.items ++ filters_spelling filters)) ≡ length (two_bytes_spelling identifier) + length (list_spelling list.items ++ filters_spelling filters) = length-append (two_bytes_spelling identifier) (list_spelling list.items ++ filters_spelling filters) in
+    let few : length filters ≤ length (two_bytes_spelling identifier ++ (list_spelling list.items ++ filters_spelling filters)) = omega (arith, filters_few filters) in
+    let some : 0 < length filters = nonzero (length filters) three.0 in
+    let found : Spells (filters_format (length (two_bytes_spelling identifier ++ (list_spelling list.items ++ filters_spelling filters))) (has_options kind) (request kind identifier (listed (request_place kind) list.items)) []) (filters_spelling filters) (request kind identifier (listed (request_place kind) list.items) filters) =
+    filters_spelled (has_options kind) (request kind identifier (listed (request_place kind) list.items)) (length (two_bytes_spelling identifier ++ (list_spelling list.items ++ filters_spelling filters))) [] filters few (omega arith) ok.each three.1 in
+    let P : Listed → Type 0 = λ l. Spells (request_format (length (two_bytes_spelling identifier ++ (list_spelling list.items ++ filters_spelling filters))) kind) (two_bytes_spelling identifier ++ (list_spelling list.items ++ filters_spelling filters)) (request kind identifier l filters) in
+    subst P (listed_is (request_place kind) list one.0) (
+      identifier,
+      list_spelling list.items ++ filters_spelling filters,
+      record { is_value = ok.identified.bound; spelled = refl },
+      unobjected (is_identifier identifier) rules.W09 two.0,
+      (list.items, filters_spelling filters, record { is_value = list_value (request_place kind) list ok.identified.properties one.0; spelled = refl }, refl, found),
+    ))
+  where
+    nonzero : (n : ℕ) → not (n == 0) ≡ true → 0 < n
+    nonzero zero e = absurd (cc)
+    nonzero (suc n) e = omega arith
+
+request_spelled : (kind : RequestKind) (identifier : ℕ) (list : Listed) (filters : List AskedFilter) → IsRequest identifier list filters → valid_request kind identifier list filters ≡ true
+    → IsSpelled (first_byte (request kind identifier list filters)) (request_body identifier list.items filters) (request kind identifier list filters)
+request_spelled requests.Subscribe identifier list filters ok e = request_spells requests.Subscribe identifier list filters ok e
+request_spelled requests.Unsubscribe identifier list filters ok e = request_spells requests.Unsubscribe identifier list filters ok e
+
+codes_spelled : (table : List ℕ) → AreCodes table → (packet : List ℕ → Entry) (n : ℕ) (found reasons : List ℕ) → length reasons ≤ n
+    → list_all (is_code table) reasons ≡ true → Spells (codes_format n table packet found) reasons (packet (found ++ reasons))
+codes_spelled table bytes packet zero found [] few e = (refl, ap packet (sym (append-nil found)))
+codes_spelled table bytes packet zero found (code ∷ reasons) few e = absurd (omega arith)
+codes_spelled table bytes packet (suc n) found [] few e = (refl, ap packet (sym (append-nil found)))
+codes_spelled table bytes packet (suc n) found (code ∷ reasons) few e =
+    (let parts : (is_code table code ≡ true) × (list_all (is_code table) reasons ≡ true) = and_parts _ _ e in
+    let rest : Spells (codes_format n table packet (found ++ code ∷ [])) reasons (packet ((found ++ code ∷ []) ++ reasons)) = codes_spelled table bytes packet n (found ++ code ∷ []) reasons (omega arith) parts.1 in (
+      code,
+      reasons,
+      record { is_value = code_value table code bytes parts.0; spelled = refl },
+      unobjected (is_code table code) rules.W13 parts.0,
+      subst (λ (l : List ℕ). Spells (codes_format n table packet (found ++ code ∷ [])) reasons (packet l)) (append_assoc found (code ∷ []) reasons) rest,
+    ))
+
+answer_spells : (kind : RequestKind) (identifier : ℕ) (list : Listed) (reasons : List ℕ) → IsIdentified identifier list → valid_answer kind identifier list reasons ≡ true
+    → Spells (answer_format (length (answer_body identifier list.items reasons)) kind) (answer_body identifier list.items reasons) (answer kind identifier list reasons)
+unfolding valid_answer answer_body
+answer_spells kind identifier list reasons ok e =
+    (let one : (same_place list.place (answer_place kind) ≡ true) × ((is_identifier identifier && list_all (is_code (answer_codes kind)) reasons) ≡ true) = and_parts _ _ e in
+    let two : (is_identifier identifier ≡ true) × (list_all (is_code (answer_codes kind)) reasons ≡ true) = and_parts _ _ one.1 in
+    let behind : length (list_spelling list.items ++ reasons) ≡ length (list_spelling list.items) + length reasons = length-append (list_spelling list.items) reasons in
+    let whole : length (two_bytes_spelling identifier ++ (list_spelling list.items ++ reasons)) ≡ length (two_bytes_spelling identifier) + length (list_spelling list.items ++ reasons) = length-append (two_bytes_spelling identifier) (list_spelling list.items ++ reasons) in
+    let few : length reasons ≤ length (two_bytes_spelling identifier ++ (list_spelling list.items ++ reasons)) = omega arith in
+    let P : Listed → Type 0 = λ l. Spells (answer_format (length (two_bytes_spelling identifier ++ (list_spelling list.items ++ reasons))) kind) (two_bytes_spelling identifier ++ (list_spelling list.items ++ reasons)) (answer kind identifier l reasons) in
+    subst P (listed_is (answer_place kind) list one.0) (
+      identifier,
+      list_spelling list.items ++ reasons,
+      record { is_value = ok.bound; spelled = refl },
+      unobjected (is_identifier identifier) rules.W09 two.0,
+      (
+        list.items,
+        reasons,
+        record { is_value = list_value (answer_place kind) list ok.properties one.0; spelled = refl },
+        refl,
+        codes_spelled (answer_codes kind) (answer_bytes kind) (answer kind identifier (listed (answer_place kind) list.items)) (length (two_bytes_spelling identifier ++ (list_spelling list.items ++ reasons))) [] reasons few two.1,
+      ),
+    ))
+
+answer_spelled : (kind : RequestKind) (identifier : ℕ) (list : Listed) (reasons : List ℕ) → IsIdentified identifier list → valid_answer kind identifier list reasons ≡ true
+    → IsSpelled (first_byte (answer kind identifier list reasons)) (answer_body identifier list.items reasons) (answer kind identifier list reasons)
+answer_spelled requests.Subscribe identifier list reasons ok e = answer_spells requests.Subscribe identifier list reasons ok e
+answer_spelled requests.Unsubscribe identifier list reasons ok e = answer_spells requests.Unsubscribe identifier list reasons ok e
+
+-- ---- CONNECT
+
+-- A Will of these parts.
+abbrev will_of : Qos → Bool → Listed → WillFields → WillFields
+will_of qos retain list w = record { qos = qos; retain = retain; properties = list; topic = w.topic; payload = w.payload }
+
+will_if_spelled : (flag : Bool) (flags : ℕ) (will : Option WillFields) (next : Option WillFields → Format) (left : List ℕ) (entry : Entry)
+    → flag ≡ is_some will → IfSome will (λ w. (qos_of 8 (bit_and flags 24) ≡ w.qos) × (has_bits 32 flags ≡ w.retain)) → IfSome will IsWill → if_there valid_will will ≡ true
+    → Spells (next will) left entry → Spells (will_if flag flags next) (spelling_if will_spelling will ++ left) entry
+unfolding valid_will
+will_if_spelled flag flags None next left entry there says ok e h = subst (λ (t : Bool). Spells (will_if t flags next) left entry) (sym there) h
+will_if_spelled flag flags (Some w) next left entry there says ok e h =
+    (let one : (same_place w.properties.place places.Will ≡ true) × ((is_text w.topic && is_binary w.payload) ≡ true) = and_parts _ _ e in
+    let two : (is_text w.topic ≡ true) × (is_binary w.payload ≡ true) = and_parts _ _ one.1 in
+    let rebuilt : will_of (qos_of 8 (bit_and flags 24)) (has_bits 32 flags) (listed places.Will w.properties.items) w ≡ w =
+    ap (λ (q : Qos). will_of q (has_bits 32 flags) (listed places.Will w.properties.items) w) says.0
+    ∙ (ap (λ (r : Bool). will_of w.qos r (listed places.Will w.properties.items) w) says.1
+    ∙ ap (λ (l : Listed). will_of w.qos w.retain l w) (listed_is places.Will w.properties one.0)) in
+    let said : Spells (next (Some (will_of (qos_of 8 (bit_and flags 24)) (has_bits 32 flags) (listed places.Will w.properties.items) w))) left entry =
+    subst (λ (x : WillFields). Spells (next (Some x)) left entry) (sym rebuilt) h in
+    subst (λ (t : Bool). Spells (will_if t flags next) (will_spelling w ++ left) entry) (sym there) (
+      w.properties.items,
+      (text_spelling w.topic ++ binary_spelling w.payload) ++ left,
+      record { is_value = list_value places.Will w.properties ok.properties one.0; spelled = append_assoc (list_spelling w.properties.items) (text_spelling w.topic ++ binary_spelling w.payload) left },
+      refl,
+      (
+        w.topic,
+        binary_spelling w.payload ++ left,
+        record { is_value = text_value w.topic ok.topic two.0; spelled = append_assoc (text_spelling w.topic) (binary_spelling w.payload) left },
+        refl,
+        (w.payload, left, record { is_value = binary_value w.payload two.1; spelled = refl }, refl, said),
+      ),
+    ))
+
+-- A CONNECT as its body is read, but for what the flags say.
+abbrev connected : Bool → Listed → ConnectFields → ConnectFields
+connected clean_start list fields =
+    record { clean_start = clean_start; keep_alive = fields.keep_alive; properties = list; client_identifier = fields.client_identifier; will = fields.will; user_name = fields.user_name; password = fields.password }
+
+module _ (fields : ConnectFields) (ok : IsConnect fields) (flags : ℕ) (says : FlagsSay flags fields.clean_start fields.will (is_some fields.password) (is_some fields.user_name))
+    (at_place : same_place fields.properties.place places.Connect ≡ true) (client : is_text fields.client_identifier ≡ true)
+    (will : if_there valid_will fields.will ≡ true) (user_name : if_there is_text fields.user_name ≡ true) (password : if_there is_binary fields.password ≡ true) where
+  abbrev with_password : Option WillFields → Option (List ℕ) → Option (List ℕ) → Format
+  with_password w u p = done (connect (record { clean_start = has_bits 2 flags; keep_alive = fields.keep_alive; properties = listed places.Connect fields.properties.items; client_identifier = fields.client_identifier; will = w; user_name = u; password = p }))
+
+  abbrev with_user_name : Option WillFields → Option (List ℕ) → Format
+  with_user_name w u = field_if (has_bits 64 flags) binary (λ p. with_password w u p)
+
+  abbrev with_will : Option WillFields → Format
+  with_will w = field_if (has_bits 128 flags) text (λ u. with_user_name w u)
+
+  ends_so : Spells (with_password fields.will fields.user_name fields.password) [] (connect fields)
+  ends_so = (
+    refl,
+    ap (λ (b : Bool). connect (connected b (listed places.Connect fields.properties.items) fields)) says.clean_start_is
+        ∙ ap (λ (l : Listed). connect (connected fields.clean_start l fields)) (listed_is places.Connect fields.properties at_place),
+  )
+
+  password_spelled : Spells (with_user_name fields.will fields.user_name) (spelling_if binary_spelling fields.password) (connect fields)
+  password_spelled =
+      ends_there (with_user_name fields.will fields.user_name) (spelling_if binary_spelling fields.password) (connect fields)
+      (field_if_spelled (has_bits 64 flags) binary fields.password (λ p. with_password fields.will fields.user_name p) [] (connect fields) says.password_is
+      (if_there_gives (λ p. Unit {0}) IsBinary is_binary fields.password (λ p _ e. binary_value p e) (any fields.password) password) ends_so)
+    where
+      any : (o : Option (List ℕ)) → IfSome o (λ p. Unit {0})
+      any None = tt
+      any (Some p) = tt
+
+  user_name_spelled : Spells (with_will fields.will) (spelling_if text_spelling fields.user_name ++ spelling_if binary_spelling fields.password) (connect fields)
+  user_name_spelled =
+      field_if_spelled (has_bits 128 flags) text fields.user_name (λ u. with_user_name fields.will u) (spelling_if binary_spelling fields.password) (connect fields) says.user_name_is
+      (if_there_gives IsUtf8 IsText is_text fields.user_name text_value ok.user_name user_name) password_spelled
+
+  from_flags : Spells (connect_from flags) (two_bytes_spelling fields.keep_alive ++ (list_spelling fields.properties.items ++ (text_spelling fields.client_identifier ++ (spelling_if will_spelling fields.will ++ (spelling_if text_spelling fields.user_name ++ spelling_if binary_spelling fields.password))))) (connect fields)
+  from_flags = (
+    fields.keep_alive,
+    list_spelling fields.properties.items ++ (text_spelling fields.client_identifier ++ (spelling_if will_spelling fields.will ++ (spelling_if text_spelling fields.user_name ++ spelling_if binary_spelling fields.password))),
+    record { is_value = ok.keep_alive; spelled = refl },
+    refl,
+    (
+      fields.properties.items,
+      text_spelling fields.client_identifier ++ (spelling_if will_spelling fields.will ++ (spelling_if text_spelling fields.user_name ++ spelling_if binary_spelling fields.password)),
+      record { is_value = list_value places.Connect fields.properties ok.properties at_place; spelled = refl },
+      refl,
+      (
+        fields.client_identifier,
+        spelling_if will_spelling fields.will ++ (spelling_if text_spelling fields.user_name ++ spelling_if binary_spelling fields.password),
+        record { is_value = text_value fields.client_identifier ok.client_identifier client; spelled = refl },
+        refl,
+        will_if_spelled (has_bits 4 flags) flags fields.will (λ w. with_will w) (spelling_if text_spelling fields.user_name ++ spelling_if binary_spelling fields.password) (connect fields) says.will_is says.will_says ok.will will user_name_spelled,
+      ),
+    ),
+  )
+
+name_ascii : IsAscii (codes "MQTT")
+name_ascii zero = omega arith
+name_ascii (suc zero) = omega arith
+name_ascii (suc (suc zero)) = omega arith
+name_ascii (suc (suc (suc zero))) = omega arith
+name_ascii (suc (suc (suc (suc i)))) = omega arith
+
+connect_spelled : (fields : ConnectFields) → IsConnect fields → valid_connect fields ≡ true → IsSpelled 16 (connect_body fields) (connect fields)
+unfolding valid_connect connect_body
+connect_spelled fields ok e =
+    (let one : (same_place fields.properties.place places.Connect ≡ true) × ((is_text fields.client_identifier && (if_there valid_will fields.will && (if_there is_text fields.user_name && if_there is_binary fields.password))) ≡ true) = and_parts _ _ e in
+    let two : (is_text fields.client_identifier ≡ true) × ((if_there valid_will fields.will && (if_there is_text fields.user_name && if_there is_binary fields.password)) ≡ true) = and_parts _ _ one.1 in
+    let three : (if_there valid_will fields.will ≡ true) × ((if_there is_text fields.user_name && if_there is_binary fields.password) ≡ true) = and_parts _ _ two.1 in
+    let four : (if_there is_text fields.user_name ≡ true) × (if_there is_binary fields.password ≡ true) = and_parts _ _ three.1 in
+    let says : FlagsSay (connect_flags fields) fields.clean_start fields.will (is_some fields.password) (is_some fields.user_name) = flags_say fields.clean_start fields.will (is_some fields.password) (is_some fields.user_name) in
+    let name : IsText (codes "MQTT") = text_value (codes "MQTT") (IsUtf8-from_ascii (codes "MQTT") name_ascii) refl in (
+      codes "MQTT",
+      _,
+      record { is_value = name; spelled = refl },
+      refl,
+      (
+        5,
+        _,
+        record { is_value = omega arith; spelled = refl },
+        refl,
+        (
+          connect_flags fields,
+          _,
+          record { is_value = says.small; spelled = refl },
+          unobjected (are_connect_flags (connect_flags fields)) rules.W19 says.good,
+          from_flags fields ok (connect_flags fields) says one.0 two.0 three.0 four.0 four.1,
+        ),
+      ),
+    ))
+
+pub canonical_spelled : (entry : Entry) → IsTyped entry → valid entry ≡ true → IsSpelled (first_byte entry) (canonical_body entry) entry
+canonical_spelled (connect fields) typed e = connect_spelled fields typed e
+canonical_spelled (connack session_present code list) typed e = connack_spelled session_present code list typed e
+canonical_spelled (publish fields) typed e = publish_spelled fields typed e
+canonical_spelled (acknowledgement kind identifier code list) typed e = acknowledgement_spelled kind identifier code list typed e
+canonical_spelled (request kind identifier list filters) typed e = request_spelled kind identifier list filters typed e
+canonical_spelled (answer kind identifier list reasons) typed e = answer_spelled kind identifier list reasons typed e
+canonical_spelled pingreq typed e = (refl, refl)
+canonical_spelled pingresp typed e = (refl, refl)
+canonical_spelled (disconnect code list) typed e = disconnect_spelled code list typed e
+canonical_spelled (auth code list) typed e = auth_spelled code list typed e

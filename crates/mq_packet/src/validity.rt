@@ -1,0 +1,272 @@
+//! Whether some bytes spell a packet.
+
+ghost use Rattle.std.specs.Prelude.{◌≡◌, ◌↔◌, ℕ, true, List};
+ghost use Rattle.std.specs.List.{list_all};
+ghost use Rattle.std.specs.Option.{option_map};
+ghost use Rattle.mq_wire.specs.Spellings.{has_nul};
+ghost use Rattle.mq_props.specs.Table.{place_number, same_place};
+ghost use Rattle.mq_packet.specs.Spelled.{IsSpelled};
+ghost use Rattle.mq_packet.specs.Formats.{is_code, names_topic};
+ghost use Rattle.mq_packet.specs.Reading.{view, will_view};
+ghost use Rattle.mq_packet.specs.Entries.{acknowledgement_place, acknowledgement_codes};
+ghost use Rattle.mq_packet.specs.Valid.{is_text, is_binary, if_there, fits_qos, valid_will, valid_acknowledgement, valid_filters, valid_request, valid_answer, valid_disconnect, valid_auth, valid};
+
+use crate::codes::{
+    AUTH_CODES, CONNACK_CODES, DISCONNECT_CODES, PUBACK_CODES, PUBREL_CODES, SUBACK_CODES,
+    UNSUBACK_CODES,
+};
+use crate::facts::packet_facts;
+use crate::filters::Filters;
+use crate::packet::{
+    Acknowledgement, AcknowledgementKind, Answer, Connack, Connect, Ending, Packet, Publish, Qos,
+    Request, RequestKind, Will,
+};
+use mq_props::{Place, Props};
+use mq_topic::check_name;
+
+// The most bytes that a text or binary data can have.
+const MAX_LEN: usize = 65_535;
+
+fn contains_nul(text: &str) -> bool
+    ensures { result ≡ has_nul text.now }
+{
+    text.as_bytes().contains(&0)
+}
+
+fn is_text(text: &str) -> bool
+    ensures { result ≡ is_text text.now }
+{
+    text.len() <= MAX_LEN && !contains_nul(text)
+}
+
+fn is_binary(bytes: &[u8]) -> bool
+    ensures { result ≡ is_binary bytes.now }
+{
+    bytes.len() <= MAX_LEN
+}
+
+fn number(place: Place) -> u8
+    ensures { result ≡ place_number place }
+{
+    place as u8
+}
+
+fn stands_in(list: &Props<'_>, place: Place) -> bool
+    ensures { result ≡ same_place list.now.place place }
+{
+    number(list.place()) == number(place)
+}
+
+fn is_code(table: &[u8], code: u8) -> bool
+    ensures { result ≡ is_code table.now code }
+{
+    table.contains(&code)
+}
+
+fn are_codes(table: &[u8], codes: &[u8]) -> bool
+    ensures { result ≡ list_all (is_code table.now) codes.now }
+{
+    codes.iter().all(|code| is_code(table, *code))
+}
+
+#[tactic(auto, unfolding(crate::specs::Valid::valid_will))]
+fn is_will(will: &Will<'_>) -> bool
+    ensures { result ≡ valid_will (will_view will.now) }
+{
+    stands_in(&will.properties, Place::Will) && is_text(will.topic) && is_binary(will.payload)
+}
+
+fn is_will_if_there(will: &Option<Will<'_>>) -> bool
+    ensures { result ≡ if_there valid_will (option_map will_view will.now) }
+{
+    match will {
+        Some(will) => is_will(will),
+        None => true,
+    }
+}
+
+fn is_text_if_there(text: Option<&str>) -> bool
+    ensures { result ≡ if_there is_text (option_map (λ t. t.now) text.entry) }
+{
+    match text {
+        Some(text) => is_text(text),
+        None => true,
+    }
+}
+
+fn is_binary_if_there(bytes: Option<&[u8]>) -> bool
+    ensures { result ≡ if_there is_binary (option_map (λ b. b.now) bytes.entry) }
+{
+    match bytes {
+        Some(bytes) => is_binary(bytes),
+        None => true,
+    }
+}
+
+#[tactic(auto, unfolding(crate::specs::Valid::valid_connect))]
+fn is_connect(packet: &Connect<'_>) -> bool
+    ensures { result ≡ valid (view (Packet.Connect packet.now)) }
+{
+    stands_in(&packet.properties, Place::Connect)
+        && is_text(packet.client_identifier)
+        && is_will_if_there(&packet.will)
+        && is_text_if_there(packet.user_name)
+        && is_binary_if_there(packet.password)
+}
+
+#[tactic(auto, unfolding(crate::specs::Valid::valid_connack))]
+fn is_connack(packet: &Connack<'_>) -> bool
+    ensures { result ≡ valid (view (Packet.Connack packet.now)) }
+{
+    stands_in(&packet.properties, Place::Connack) && is_code(&CONNACK_CODES, packet.code)
+}
+
+// A Packet Identifier stands exactly where the QoS is above 0, where alone a PUBLISH may be sent again.
+fn fits_qos(duplicate: bool, qos: Qos, identifier: Option<u16>) -> bool
+    ensures { result ≡ fits_qos duplicate qos identifier }
+{
+    match (qos, identifier) {
+        (Qos::AtMostOnce, None) => !duplicate,
+        (Qos::AtMostOnce, Some(_)) => false,
+        (_, None) => false,
+        (_, Some(identifier)) => identifier != 0,
+    }
+}
+
+fn names_topic(topic: &str, list: &Props<'_>) -> bool
+    ensures { result ≡ names_topic topic.now list.now.items }
+{
+    !topic.is_empty() || list.get_topic_alias().is_some()
+}
+
+#[tactic(auto, unfolding(crate::specs::Valid::valid_publish))]
+fn is_publish(packet: &Publish<'_>) -> bool
+    ensures { result ≡ valid (view (Packet.Publish packet.now)) }
+{
+    stands_in(&packet.properties, Place::Publish)
+        && fits_qos(packet.duplicate, packet.qos, packet.identifier)
+        && is_text(packet.topic)
+        && check_name(packet.topic)
+        && names_topic(packet.topic, &packet.properties)
+}
+
+#[tactic(auto, unfolding(crate::specs::Valid::valid_disconnect))]
+fn is_disconnect(packet: &Ending<'_>) -> bool
+    ensures { result ≡ valid (view (Packet.Disconnect packet.now)) }
+{
+    stands_in(&packet.properties, Place::Disconnect) && is_code(&DISCONNECT_CODES, packet.code)
+}
+
+#[tactic(auto, unfolding(crate::specs::Valid::valid_auth))]
+fn is_auth(packet: &Ending<'_>) -> bool
+    ensures { result ≡ valid (view (Packet.Auth packet.now)) }
+{
+    stands_in(&packet.properties, Place::Auth) && is_code(&AUTH_CODES, packet.code)
+}
+
+// Where the property list of an acknowledgement stands.
+fn acknowledgement_place(kind: AcknowledgementKind) -> Place
+    ensures { result ≡ acknowledgement_place kind }
+{
+    match kind {
+        AcknowledgementKind::Puback => Place::Puback,
+        AcknowledgementKind::Pubrec => Place::Pubrec,
+        AcknowledgementKind::Pubrel => Place::Pubrel,
+        AcknowledgementKind::Pubcomp => Place::Pubcomp,
+    }
+}
+
+fn is_acknowledgement_code(kind: AcknowledgementKind, code: u8) -> bool
+    ensures { result ≡ is_code (acknowledgement_codes kind) code }
+{
+    match kind {
+        AcknowledgementKind::Puback | AcknowledgementKind::Pubrec => is_code(&PUBACK_CODES, code),
+        AcknowledgementKind::Pubrel | AcknowledgementKind::Pubcomp => is_code(&PUBREL_CODES, code),
+    }
+}
+
+#[tactic(auto, unfolding(crate::specs::Valid::valid_acknowledgement))]
+fn is_acknowledgement(kind: AcknowledgementKind, packet: &Acknowledgement<'_>) -> bool
+    ensures { result ≡ valid_acknowledgement kind packet.now.identifier packet.now.code packet.now.properties }
+{
+    stands_in(&packet.properties, acknowledgement_place(kind))
+        && packet.identifier != 0
+        && is_acknowledgement_code(kind, packet.code)
+}
+
+// The filters have options exactly where they are asked for.
+#[tactic(auto, using(crate::proofs::RequestLaws::filters_fit))]
+fn are_filters(asks: bool, filters: &Filters<'_>) -> bool
+    ensures { result ≡ valid_filters asks filters.now }
+{
+    filters.have_options() == asks
+}
+
+#[tactic(auto, unfolding(crate::specs::Valid::valid_request))]
+fn is_request(kind: RequestKind, packet: &Request<'_>) -> bool
+    ensures { result ≡ valid_request kind packet.now.identifier packet.now.properties packet.now.filters }
+{
+    match kind {
+        RequestKind::Subscribe => {
+            stands_in(&packet.properties, Place::Subscribe)
+                && packet.identifier != 0
+                && are_filters(true, &packet.filters)
+        }
+        RequestKind::Unsubscribe => {
+            stands_in(&packet.properties, Place::Unsubscribe)
+                && packet.identifier != 0
+                && are_filters(false, &packet.filters)
+        }
+    }
+}
+
+#[tactic(auto, unfolding(crate::specs::Valid::valid_answer))]
+fn is_answer(kind: RequestKind, packet: &Answer<'_>) -> bool
+    ensures { result ≡ valid_answer kind packet.now.identifier packet.now.properties packet.now.codes }
+{
+    match kind {
+        RequestKind::Subscribe => {
+            stands_in(&packet.properties, Place::Suback)
+                && packet.identifier != 0
+                && are_codes(&SUBACK_CODES, packet.codes.as_bytes())
+        }
+        RequestKind::Unsubscribe => {
+            stands_in(&packet.properties, Place::Unsuback)
+                && packet.identifier != 0
+                && are_codes(&UNSUBACK_CODES, packet.codes.as_bytes())
+        }
+    }
+}
+
+fn passes(packet: &Packet<'_>) -> bool
+    ensures { result ≡ valid (view packet.now) }
+{
+    match packet {
+        Packet::Connect(packet) => is_connect(packet),
+        Packet::Connack(packet) => is_connack(packet),
+        Packet::Publish(packet) => is_publish(packet),
+        Packet::Puback(packet) => is_acknowledgement(AcknowledgementKind::Puback, packet),
+        Packet::Pubrec(packet) => is_acknowledgement(AcknowledgementKind::Pubrec, packet),
+        Packet::Pubrel(packet) => is_acknowledgement(AcknowledgementKind::Pubrel, packet),
+        Packet::Pubcomp(packet) => is_acknowledgement(AcknowledgementKind::Pubcomp, packet),
+        Packet::Subscribe(packet) => is_request(RequestKind::Subscribe, packet),
+        Packet::Suback(packet) => is_answer(RequestKind::Subscribe, packet),
+        Packet::Unsubscribe(packet) => is_request(RequestKind::Unsubscribe, packet),
+        Packet::Unsuback(packet) => is_answer(RequestKind::Unsubscribe, packet),
+        Packet::Pingreq | Packet::Pingresp => true,
+        Packet::Disconnect(packet) => is_disconnect(packet),
+        Packet::Auth(packet) => is_auth(packet),
+    }
+}
+
+/// Whether some bytes spell the packet (MQTT 5.0, sections 3.1 to 3.15): its property lists are those of its type, its texts
+/// have at most 65,535 bytes and no U+0000, its binary data has at most 65,535 bytes, its Packet Identifier isn't 0 and is there
+/// where it must be, its Reason Codes are of its type, its Topic Name has no wildcard and isn't missing, and its filters have
+/// options exactly where it is a SUBSCRIBE. `decode` gives only such packets.
+pub fn is_valid(packet: &Packet<'_>) -> bool
+    ensures exact { result ≡ valid (view packet.now) }
+    ensures spelled { (result ≡ true) ↔ ((first : ℕ) × (body : List ℕ) × IsSpelled first body (view packet.now)) }
+{
+    packet_facts(packet);
+    passes(packet)
+}

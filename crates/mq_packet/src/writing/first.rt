@@ -1,0 +1,90 @@
+//! The first byte of a packet, and the flags in it and in a CONNECT.
+
+ghost use Rattle.std.specs.Prelude.{◌≡◌, ◌≤◌, ◌+◌, ◌*◌, is_some};
+ghost use Rattle.std.specs.Option.{option_map};
+ghost use Rattle.mq_packet.specs.Reading.{view, will_view};
+ghost use Rattle.mq_packet.specs.Canonical.{bit, qos_bits, will_flags, first_byte};
+
+use crate::packet::{Connect, Packet, Publish, Qos, Will};
+
+// The flag as the bit of this weight.
+fn bit(weight: u8, flag: bool) -> u8
+    ensures is { result ≡ bit weight flag }
+    ensures bound { result ≤ weight }
+{
+    if flag { weight } else { 0 }
+}
+
+// The QoS as two bits, of which this is the weight of the lower.
+fn qos_bits(weight: u8, qos: Qos) -> u8
+    requires { weight ≤ 8 }
+    ensures is { result ≡ qos_bits weight qos }
+    ensures bound { result ≤ 2 * weight }
+{
+    match qos {
+        Qos::AtMostOnce => 0,
+        Qos::AtLeastOnce => weight,
+        Qos::ExactlyOnce => 2 * weight,
+    }
+}
+
+fn will_flags(will: &Option<Will<'_>>) -> u8
+    ensures is { result ≡ will_flags (option_map will_view will.now) }
+    ensures bound { result ≤ 52 }
+{
+    match will {
+        Some(will) => 4 + qos_bits(8, will.qos) + bit(32, will.retain),
+        None => 0,
+    }
+}
+
+fn is_text(text: Option<&str>) -> bool
+    ensures { result ≡ is_some (option_map (λ t. t.now) text.entry) }
+{
+    text.is_some()
+}
+
+fn is_binary(bytes: Option<&[u8]>) -> bool
+    ensures { result ≡ is_some (option_map (λ b. b.now) bytes.entry) }
+{
+    bytes.is_some()
+}
+
+/// The Connect Flags (MQTT 5.0, section 3.1.2.3).
+pub fn connect_flags(packet: &Connect<'_>) -> u8
+    ensures { result ≡ bit 2 packet.now.clean_start + will_flags (option_map will_view packet.now.will) + bit 64 (is_some (option_map (λ b. b.now) packet.now.password)) + bit 128 (is_some (option_map (λ t. t.now) packet.now.user_name)) }
+{
+    bit(2, packet.clean_start)
+        + will_flags(&packet.will)
+        + bit(64, is_binary(packet.password))
+        + bit(128, is_text(packet.user_name))
+}
+
+fn publish_first(packet: &Publish<'_>) -> u8
+    ensures { result ≡ first_byte (view (Packet.Publish packet.now)) }
+{
+    48 + (bit(8, packet.duplicate) + qos_bits(2, packet.qos) + bit(1, packet.retain))
+}
+
+/// The first byte: the packet's type and its flags (MQTT 5.0, section 2.1.1).
+pub fn first_byte(packet: &Packet<'_>) -> u8
+    ensures { result ≡ first_byte (view packet.now) }
+{
+    match packet {
+        Packet::Connect(_) => 0x10,
+        Packet::Connack(_) => 0x20,
+        Packet::Publish(packet) => publish_first(packet),
+        Packet::Puback(_) => 0x40,
+        Packet::Pubrec(_) => 0x50,
+        Packet::Pubrel(_) => 0x62,
+        Packet::Pubcomp(_) => 0x70,
+        Packet::Subscribe(_) => 0x82,
+        Packet::Suback(_) => 0x90,
+        Packet::Unsubscribe(_) => 0xA2,
+        Packet::Unsuback(_) => 0xB0,
+        Packet::Pingreq => 0xC0,
+        Packet::Pingresp => 0xD0,
+        Packet::Disconnect(_) => 0xE0,
+        Packet::Auth(_) => 0xF0,
+    }
+}
