@@ -1,12 +1,12 @@
 -- Connections and their CONNACKs, in a log that grows.
 use Rattle.std.proofs.Common.{◌≡◌, ℕ, ◌+◌, ◌<◌, ◌==◌, Bool, true, false, cond, List, [], ◌∷◌, length, Some, refl, ap, ◌∙◌, subst, arith, zero-add}
-use Rattle.std.specs.Prelude.{is_some}
+use Rattle.std.specs.Prelude.{is_some, ◌||◌, ◌&&◌}
 use Rattle.std.proofs.lemmas.Bool.{eq-eqb}
 use Rattle.mq_judge.specs.declared.rules.role.Role.{Role}
 use Rattle.mq_judge.specs.declared.rules.note.Seen.{Seen}
 use Rattle.mq_judge.specs.Moments.{moment, or_else}
-use Rattle.mq_judge.specs.Notes.{is_open, connack_of, needs_session}
-use Rattle.mq_judge.specs.Connections.{connection_no, events_of, connection, decision, IsInOrder}
+use Rattle.mq_judge.specs.Notes.{is_open, is_release, connack_of, needs_session}
+use Rattle.mq_judge.specs.Connections.{is_connected, connection_no, events_of, connection, decision, IsInOrder}
 use Rattle.mq_judge.proofs.BoolLaws.{differ}
 
 -- no event is on a connection that has not begun
@@ -60,5 +60,5 @@ in_order-at role (e ∷ past) k f before order at needs = go (k == length past +
     go true at rest =
         let same : e ≡ f = cc in
         let tail : past ≡ before = cc in
-        subst (λ (b : List Seen). is_some (decision role (connection b)) ≡ true) tail (order.0 (ap (λ (g : Seen). needs_session g.note) same ∙ needs))
+        subst (λ (b : List Seen). is_some (decision role (connection b)) ≡ true) tail (order.0 (ap (λ n. n || (is_release e.note && is_connected past)) (ap (λ (g : Seen). needs_session g.note) same ∙ needs)))
     go false at rest = rest at

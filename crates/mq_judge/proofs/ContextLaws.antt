@@ -12,7 +12,8 @@ use Rattle.mq_judge.specs.declared.rules.note.Seen.{Seen}
 use Rattle.mq_judge.specs.Pieces.{Pieces}
 use Rattle.mq_judge.specs.Framing.{tested_by, kind_of, way_of, begun, carried, records, record_size}
 use Rattle.mq_judge.specs.Events.{Event, Placed, note_of, seen, newest, part_at, packet_at, packet_by, event_in, event_at, with_event, events_back, events, seen_in}
-use Rattle.mq_judge.specs.Refusals.{Situation, situation, header_refusal, record_refusal, refusal_at, refused_back, refused, is_connected, is_answered, was_closed}
+use Rattle.mq_judge.specs.Connections.{is_connected}
+use Rattle.mq_judge.specs.Refusals.{Situation, situation, header_refusal, record_refusal, refusal_at, refused_back, refused, is_answered}
 use Rattle.mq_judge.specs.Context.{Half, Context, fresh, half_of, half_then, so_far_by, so_far_for, context, situated, refusal_for, event_for, seen_with, seen_for, put, with_note, after_header, after_part, after}
 use Rattle.mq_judge.specs.Moments.{or_else}
 use Rattle.mq_judge.proofs.FramingLaws.{records-header, begun-header, begun-grow, length-begun-grow, whole-grow, rest-grow}
@@ -83,7 +84,6 @@ situated_with log part record_no so_far = record {
   events = length (seen_in log);
   connected = is_connected (seen_in log);
   answered = is_answered (tested_by log).role (seen_in log);
-  closed = was_closed (seen_in log);
 }
 
 situated_context : (log : List ℕ) (byte : ℕ) → situated_with log ((context log).part ++ byte ∷ []) (length (records log).whole + 1) (so_far_for (context log) byte) ≡ situated (context log) byte
@@ -127,7 +127,7 @@ seen-grow log byte =
     ∙ seen_with_event (length (begun (log ++ byte ∷ []))) (event_at log byte) (events log)
     ∙ ap (seen_more (map seen (events log)) (length (begun (log ++ byte ∷ [])))) (event-kept log byte)
 
--- a context from its parts, of which the last four are told by the events
+-- a context from its parts, of which the last three are told by the events
 abbrev context_with : ℕ → Tested → List ℕ → ℕ → Half → Half → List Seen → Context
 context_with at tested part whole sent recv log = record {
   at = at;
@@ -139,7 +139,6 @@ context_with at tested part whole sent recv log = record {
   events = length log;
   connected = is_connected log;
   answered = is_answered tested.role log;
-  closed = was_closed log;
 }
 
 pub context_is : (log : List ℕ) → context log ≡ context_with (length log) (tested_by log) (records log).rest (length (records log).whole)

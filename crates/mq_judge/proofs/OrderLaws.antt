@@ -1,21 +1,24 @@
--- In a log that isn't refused each event has its place, and each session packet stands after its connection's CONNACK.
-use Rattle.std.proofs.Common.{◌≡◌, ℕ, ◌+◌, ◌≤◌, Bool, true, false, cond, nat_lt, List, [], ◌∷◌, ◌++◌, length, reverse, Option, Some, None, is_some, refl, sym, ◌∙◌, ap, subst, arith, length-append}
-use Rattle.std.specs.Prelude.{◌||◌, ◌&&◌, not, if◌then◌else◌}
+-- In a log that isn't refused each event has its place, and each session packet and each RELEASE on a connection stands after its CONNACK.
+use Rattle.std.proofs.Common.{◌≡◌, ℕ, ◌+◌, ◌<◌, ◌≤◌, Bool, true, false, cond, nat_lt, List, [], ◌∷◌, ◌++◌, length, reverse, Option, Some, None, is_some, refl, sym, ◌∙◌, ap, subst, arith, length-append}
+use Rattle.std.specs.Prelude.{◌||◌, ◌&&◌, ◌==◌, not, if◌then◌else◌, option_map, drop}
+use Rattle.std.specs.Int.{w16, from_be_bytes}
 use Rattle.std.proofs.lemmas.List.{reverse-append, reverse-reverse}
 use Rattle.std.proofs.lemmas.Bool.{ltb-true, ltb-false, le-ltb}
+use Rattle.mq_judge.specs.declared.trace.kind.RecordKind.{RecordKind}
+use Rattle.mq_judge.specs.declared.trace.kind.RecordKind.TheVariants as kinds
 use Rattle.mq_judge.specs.declared.trace.refusal.Refusal.{Refusal}
 use Rattle.mq_judge.specs.declared.rules.role.Role.{Role}
 use Rattle.mq_judge.specs.declared.rules.role.Tested.{Tested}
 use Rattle.mq_judge.specs.declared.rules.note.Seen.{Seen}
 use Rattle.mq_judge.specs.Moments.{or_else, IsPlaced}
-use Rattle.mq_judge.specs.Notes.{is_open, connack_of, needs_session}
-use Rattle.mq_judge.specs.Connections.{connection, decision, IsInOrder}
-use Rattle.mq_judge.specs.Framing.{tested_by}
-use Rattle.mq_judge.specs.Events.{Event, note_of, event_in, seen_in}
-use Rattle.mq_judge.specs.Refusals.{Situation, first_standing, conditions, is_unread_yet, header_refusal, record_refusal, refusal_at, refused, is_answered, is_early}
-use Rattle.mq_judge.specs.Context.{context, situated, refusal_for, event_for, seen_with, seen_for, put, so_far_for}
+use Rattle.mq_judge.specs.Notes.{is_open, is_release, connack_of, needs_session, needs_connack}
+use Rattle.mq_judge.specs.Connections.{is_connected, connection, decision, IsInOrder}
+use Rattle.mq_judge.specs.Framing.{tested_by, kind_of, way_of, record_size}
+use Rattle.mq_judge.specs.Events.{Event, Item, note_of, event_by, event_in, item_at, seen_in, opened, closed, rested, released, sent, received}
+use Rattle.mq_judge.specs.Refusals.{Situation, needs_connection, first_standing, conditions, header_refusal, record_refusal, refusal_at, refused, is_answered, is_early}
+use Rattle.mq_judge.specs.Context.{Context, fresh, context, situated, refusal_for, event_for, seen_with, seen_for, put, so_far_for, with_note, after_header, after_part, after}
 use Rattle.mq_judge.proofs.ConnectionLaws.{connection-step}
-use Rattle.mq_judge.proofs.ContextLaws.{refused-grow, refusal-kept, seen-kept, seen-nothing, seen-header, tested-behind, at_context}
+use Rattle.mq_judge.proofs.ContextLaws.{refused-grow, refusal-kept, seen-kept, seen-nothing, seen-header, tested-behind, at_context, context-grow, context-nothing}
 
 -- what holds of no bytes, and of a log with one byte more if it holds of the log, holds of every log
 pub along : (P : List ℕ → Type 0) → P [] → ((log : List ℕ) (byte : ℕ) → P log → P (log ++ byte ∷ [])) → (log : List ℕ) → P log
@@ -59,10 +62,6 @@ none_stands (line ∷ lines) h = go (none_stands lines) line.0 line.1 refl h
     go others true r is e = absurd (cc)
     go others false r is e = (is, others e)
 
-neither : (a b : Bool) → (a || b) ≡ false → (a ≡ false) × (b ≡ false)
-neither true b h = absurd (cc)
-neither false b h = (refl, h)
-
 implied : (a b : Bool) → (a && not b) ≡ false → a ≡ true → b ≡ true
 implied true true h e = refl
 implied true false h e = absurd (cc)
@@ -70,7 +69,7 @@ implied false b h e = absurd (cc)
 
 pub not-early : (limit : ℕ) (s : Situation) → record_refusal limit s ≡ None → is_early s (event_in s.part s.so_far) ≡ false
 unfolding record_refusal
-not-early limit s h = (neither (is_early s (event_in s.part s.so_far)) (is_unread_yet s) (none_stands (conditions limit s) h).1.1.1.1.1.1.1.0).0
+not-early limit s h = (none_stands (conditions limit s) h).1.1.1.1.1.1.1.0
 
 -- the part of what stands that comes with one byte more
 pub unrefused-grow : (limit : ℕ) (log : List ℕ) (byte : ℕ) → refused limit (log ++ byte ∷ []) ≡ None → (refused limit log ≡ None) × (refusal_at limit log byte ≡ None)
@@ -80,7 +79,109 @@ unrefused-grow limit log byte h = go (refused limit log) (refusal_at limit log b
     go None b e = (refl, e)
     go (Some r) b e = absurd (cc)
 
--- each event has its place, and each session packet stands after its connection's CONNACK
+-- a record that carries packets begins on an open connection
+begins-connected : (limit : ℕ) (s : Situation) → record_refusal limit s ≡ None → ((length s.part == 1) && (needs_connection (kind_of s.part) && not s.connected)) ≡ false
+unfolding record_refusal
+begins-connected limit s h = (none_stands (conditions limit s) h).1.1.1.0
+
+carrying-needs : (kind : Option RecordKind) → is_some (way_of kind) ≡ true → needs_connection kind ≡ true
+carrying-needs None h = absurd (cc)
+carrying-needs (Some kinds.Open) h = absurd (cc)
+carrying-needs (Some kinds.Sent) h = refl
+carrying-needs (Some kinds.Recv) h = refl
+carrying-needs (Some kinds.Close) h = absurd (cc)
+carrying-needs (Some kinds.Rest) h = absurd (cc)
+carrying-needs (Some kinds.Release) h = absurd (cc)
+
+-- what is kept of an unfinished record that carries packets: its connection is open
+abbrev IsOnConnection : Context → Type 0
+IsOnConnection c = 0 < length c.part → is_some (way_of (kind_of c.part)) ≡ true → c.connected ≡ true
+
+connected-more : (part : List ℕ) (byte : ℕ) (connected : Bool) → (0 < length part → is_some (way_of (kind_of part)) ≡ true → connected ≡ true)
+    → ((length (part ++ byte ∷ []) == 1) && (needs_connection (kind_of (part ++ byte ∷ [])) && not connected)) ≡ false
+    → is_some (way_of (kind_of (part ++ byte ∷ []))) ≡ true → connected ≡ true
+unfolding kind_of
+connected-more [] byte connected on begins h = implied _ connected begins (carrying-needs _ h)
+connected-more (first ∷ part) byte connected on begins h = on (omega arith) h
+
+-- with one byte more it is still open
+connected-now : (limit : ℕ) (c : Context) (byte : ℕ) → record_refusal limit (situated c byte) ≡ None → IsOnConnection c
+    → is_some (way_of (kind_of (c.part ++ byte ∷ []))) ≡ true → c.connected ≡ true
+unfolding situated
+connected-now limit c byte unrefused on h = connected-more c.part byte c.connected on (begins-connected limit (situated c byte) unrefused) h
+
+same-part : (c : Context) (o : Option Event) → (with_note c o).part ≡ c.part
+same-part c None = refl
+same-part c (Some event) = refl
+
+sent-connected : (c : Context) (o : Option Item) → (with_note c (option_map sent o)).connected ≡ c.connected
+sent-connected c None = refl
+sent-connected c (Some item) = refl
+
+received-connected : (c : Context) (o : Option Item) → (with_note c (option_map received o)).connected ≡ c.connected
+received-connected c None = refl
+received-connected c (Some item) = refl
+
+-- what packets give opens and closes no connection
+carrying-connected : (c : Context) (kind : Option RecordKind) (part so_far : List ℕ) → is_some (way_of kind) ≡ true → (with_note c (event_by kind part so_far)).connected ≡ c.connected
+carrying-connected c None part so_far h = absurd (cc)
+carrying-connected c (Some kinds.Open) part so_far h = absurd (cc)
+carrying-connected c (Some kinds.Sent) part so_far h = sent-connected c (item_at so_far)
+carrying-connected c (Some kinds.Recv) part so_far h = received-connected c (item_at so_far)
+carrying-connected c (Some kinds.Close) part so_far h = absurd (cc)
+carrying-connected c (Some kinds.Rest) part so_far h = absurd (cc)
+carrying-connected c (Some kinds.Release) part so_far h = absurd (cc)
+
+left-connected : (part : List ℕ) (more : Context) (whole : Bool) → more.part ≡ cond whole [] part → (is_some (way_of (kind_of part)) ≡ true → more.connected ≡ true) → IsOnConnection more
+left-connected part more whole left connected = subst (λ (rest : List ℕ). 0 < length rest → is_some (way_of (kind_of rest)) ≡ true → more.connected ≡ true) (sym left) (go whole)
+  where
+    go : (b : Bool) → 0 < length (cond b [] part) → is_some (way_of (kind_of (cond b [] part))) ≡ true → more.connected ≡ true
+    go true begun h = absurd (omega arith)
+    go false begun h = connected h
+
+on_connection_part : (limit : ℕ) (c : Context) (byte : ℕ) → record_refusal limit (situated c byte) ≡ None → IsOnConnection c
+    → IsOnConnection (with_note (after_part c (c.part ++ byte ∷ []) byte) (event_in (c.part ++ byte ∷ []) (so_far_for c byte)))
+unfolding event_in
+on_connection_part limit c byte unrefused on =
+    let part : List ℕ = c.part ++ byte ∷ [] in
+    left-connected part (with_note (after_part c part byte) (event_by (kind_of part) part (so_far_for c byte))) (is_some (record_size part))
+    (same-part (after_part c part byte) (event_by (kind_of part) part (so_far_for c byte)))
+    (λ h. carrying-connected (after_part c part byte) (kind_of part) part (so_far_for c byte) h ∙ connected-now limit c byte unrefused on h)
+
+on_connection_step : (limit : ℕ) (c : Context) (byte : ℕ) (b : Bool) → (if b then header_refusal c.at byte else record_refusal limit (situated c byte)) ≡ None → IsOnConnection c
+    → IsOnConnection (if b then after_header c byte else with_note (after_part c (c.part ++ byte ∷ []) byte) (if b then None else event_in (c.part ++ byte ∷ []) (so_far_for c byte)))
+on_connection_step limit c byte true unrefused on = on
+on_connection_step limit c byte false unrefused on = on_connection_part limit c byte unrefused on
+
+on_connection_after : (limit : ℕ) (c : Context) (byte : ℕ) → refusal_for limit c byte ≡ None → IsOnConnection c → IsOnConnection (after c byte)
+unfolding refusal_for event_for after
+on_connection_after limit c byte unrefused on = on_connection_step limit c byte (nat_lt c.at 8) unrefused on
+
+-- in a log that isn't refused, packets are carried on open connections alone
+on-connection : (limit : ℕ) (log : List ℕ) → refused limit log ≡ None → IsOnConnection (context log)
+on-connection limit log =
+    along (λ log. refused limit log ≡ None → IsOnConnection (context log))
+    (λ unrefused. subst IsOnConnection (sym context-nothing) (λ begun h. absurd (omega arith)))
+    (λ log byte before unrefused.
+    let parts = unrefused-grow limit log byte unrefused in
+    subst IsOnConnection (sym (context-grow log byte)) (on_connection_after limit (context log) byte (sym (refusal-kept limit log byte) ∙ parts.1) (before parts.0)))
+    log
+
+no_session : (b : Bool) (one event : Event) → needs_session (note_of one) ≡ false → (if b then Some one else None) ≡ Some event → needs_session (note_of event) ≡ true → {X : Type 0} → X
+no_session true one event other is needs = absurd (cc)
+no_session false one event other is needs = absurd (cc)
+
+-- a session packet stands in a record that carries packets
+session-carried : (kind : Option RecordKind) (part so_far : List ℕ) (event : Event) → event_by kind part so_far ≡ Some event → needs_session (note_of event) ≡ true → is_some (way_of kind) ≡ true
+session-carried None part so_far event is needs = absurd (cc)
+session-carried (Some kinds.Open) part so_far event is needs = no_session (length part == 5) opened event refl is needs
+session-carried (Some kinds.Sent) part so_far event is needs = refl
+session-carried (Some kinds.Recv) part so_far event is needs = refl
+session-carried (Some kinds.Close) part so_far event is needs = no_session (length part == 5) closed event refl is needs
+session-carried (Some kinds.Rest) part so_far event is needs = no_session (length part == 5) rested event refl is needs
+session-carried (Some kinds.Release) part so_far event is needs = no_session (length part == 7) (released (from_be_bytes w16 (drop 5 part))) event refl is needs
+
+-- each event has its place, and each session packet and each RELEASE on a connection stands after its CONNACK
 pub record IsOrderly (role : Role) (log : List Seen) : Type 0 where
   pub placed : IsPlaced log
   pub in_order : IsInOrder role log
@@ -88,26 +189,36 @@ pub record IsOrderly (role : Role) (log : List Seen) : Type 0 where
 orderly_nothing : (role : Role) (log : List Seen) → log ≡ [] → IsOrderly role log
 orderly_nothing role log e = subst (IsOrderly role) (sym e) (record { placed = tt; in_order = tt })
 
+settle : (session release connected answered : Bool) → ((session || release) && (connected && not answered)) ≡ false → (session ≡ true → connected ≡ true)
+    → (session || (release && connected)) ≡ true → answered ≡ true
+settle session release connected true early on needs = refl
+settle true release true false early on needs = absurd (cc)
+settle true release false false early on needs = absurd (let there : false ≡ true = on refl in cc)
+settle false true true false early on needs = absurd (cc)
+settle false true false false early on needs = absurd (cc)
+settle false false connected false early on needs = absurd (cc)
+
 -- the event that the next byte completes comes in its order
-early_or_answered : (limit : ℕ) (log : List ℕ) (byte : ℕ) (event : Event) → 8 ≤ length log → refusal_at limit log byte ≡ None → event_for (context log) byte ≡ Some event
-    → is_early (situated (context log) byte) (Some event) ≡ false
-unfolding refusal_for event_for situated
-early_or_answered limit log byte event long unrefused is =
-    let at = at_context log in
-    let behind : nat_lt (context log).at 8 ≡ false = ap (λ n. nat_lt n 8) at ∙ le-ltb (length log) 8 long in
-    let stands : record_refusal limit (situated (context log) byte) ≡ None =
-    sym (ap (λ b. if b then header_refusal (context log).at byte else record_refusal limit (situated (context log) byte)) behind) ∙ sym (refusal-kept limit log byte) ∙ unrefused in
-    let here : event_in ((context log).part ++ byte ∷ []) (so_far_for (context log) byte) ≡ Some event =
-    sym (ap (λ b. if b then None else event_in ((context log).part ++ byte ∷ []) (so_far_for (context log) byte)) behind) ∙ is in
-    ap (is_early (situated (context log) byte)) (sym here) ∙ not-early limit (situated (context log) byte) stands
+early_or_answered : (limit : ℕ) (c : Context) (byte : ℕ) (event : Event) → 8 ≤ c.at → refusal_for limit c byte ≡ None → event_for c byte ≡ Some event → IsOnConnection c
+    → (needs_session (note_of event) || (is_release (note_of event) && c.connected)) ≡ true → c.answered ≡ true
+unfolding refusal_for event_for event_in situated
+early_or_answered limit c byte event long unrefused is on =
+    let behind : nat_lt c.at 8 ≡ false = le-ltb c.at 8 long in
+    let stands : record_refusal limit (situated c byte) ≡ None =
+    sym (ap (λ b. if b then header_refusal c.at byte else record_refusal limit (situated c byte)) behind) ∙ unrefused in
+    let here : event_by (kind_of (c.part ++ byte ∷ [])) (c.part ++ byte ∷ []) (so_far_for c byte) ≡ Some event =
+    sym (ap (λ b. if b then None else event_by (kind_of (c.part ++ byte ∷ [])) (c.part ++ byte ∷ []) (so_far_for c byte)) behind) ∙ is in
+    settle (needs_session (note_of event)) (is_release (note_of event)) c.connected c.answered
+    (ap (is_early (situated c byte)) (sym here) ∙ not-early limit (situated c byte) stands)
+    (λ needs. connected-now limit c byte stands on (session-carried (kind_of (c.part ++ byte ∷ [])) (c.part ++ byte ∷ []) (so_far_for c byte) event here needs))
 
 answered_context : (log : List ℕ) → (context log).answered ≡ is_answered (tested_by log).role (seen_in log)
 unfolding context
 answered_context log = refl
 
-answered_situated : (log : List ℕ) (byte : ℕ) → (situated (context log) byte).answered ≡ (context log).answered
-unfolding situated
-answered_situated log byte = refl
+connected_context : (log : List ℕ) → (context log).connected ≡ is_connected (seen_in log)
+unfolding context
+connected_context log = refl
 
 events_context : (log : List ℕ) → (context log).events ≡ length (seen_in log)
 unfolding context
@@ -117,32 +228,33 @@ seen_for-is : (log : List ℕ) (byte : ℕ) → put (seen_for (context log) byte
 unfolding seen_for
 seen_for-is log byte = refl
 
-orderly_put : (limit : ℕ) (log : List ℕ) (byte : ℕ) (o : Option Event) → 8 ≤ length log → refusal_at limit log byte ≡ None → event_for (context log) byte ≡ o
+orderly_put : (limit : ℕ) (log : List ℕ) (byte : ℕ) (o : Option Event) → 8 ≤ length log → refusal_at limit log byte ≡ None → event_for (context log) byte ≡ o → IsOnConnection (context log)
     → IsOrderly (tested_by log).role (seen_in log) → IsOrderly (tested_by log).role (put (seen_with (context log) o) (seen_in log))
-orderly_put limit log byte None long unrefused is before = before
-orderly_put limit log byte (Some event) long unrefused is before =
-    let early = early_or_answered limit log byte event long unrefused is in
+orderly_put limit log byte None long unrefused is on before = before
+orderly_put limit log byte (Some event) long unrefused is on before =
+    let at : 8 ≤ (context log).at = subst (λ (n : ℕ). 8 ≤ n) (sym (at_context log)) long in
+    let answered = early_or_answered limit (context log) byte event at (sym (refusal-kept limit log byte) ∙ unrefused) is on in
     record {
       placed = (ap (λ n. n + 1) (events_context log), before.placed);
       in_order = (
         λ needs. answered-decided (tested_by log).role (seen_in log)
-            (sym (answered_context log) ∙ sym (answered_situated log byte) ∙ implied (needs_session (note_of event)) (situated (context log) byte).answered early needs),
+            (sym (answered_context log) ∙ answered (ap (λ b. needs_session (note_of event) || (is_release (note_of event) && b)) (connected_context log) ∙ needs)),
         before.in_order,
       );
     }
 
-orderly_step : (limit : ℕ) (log : List ℕ) (byte : ℕ) (b : Bool) → nat_lt (length log) 8 ≡ b → refusal_at limit log byte ≡ None
+orderly_step : (limit : ℕ) (log : List ℕ) (byte : ℕ) (b : Bool) → nat_lt (length log) 8 ≡ b → refusal_at limit log byte ≡ None → IsOnConnection (context log)
     → IsOrderly (tested_by log).role (seen_in log) → IsOrderly (tested_by (log ++ byte ∷ [])).role (seen_in (log ++ byte ∷ []))
-orderly_step limit log byte true is unrefused before =
+orderly_step limit log byte true is unrefused on before =
     let l = length-append log (byte ∷ []) in
     let short = ltb-true (length log) 8 is in
     orderly_nothing (tested_by (log ++ byte ∷ [])).role (seen_in (log ++ byte ∷ [])) (seen-header (log ++ byte ∷ []) (omega arith))
-orderly_step limit log byte false is unrefused before =
+orderly_step limit log byte false is unrefused on before =
     let long = ltb-false (length log) 8 is in
     let P : Tested → Type 0 = λ tested. IsOrderly tested.role (seen_in (log ++ byte ∷ [])) in
     subst P (sym (tested-behind log byte long))
     (subst (IsOrderly (tested_by log).role) (sym (seen-kept log byte ∙ seen_for-is log byte))
-    (orderly_put limit log byte (event_for (context log) byte) long unrefused refl before))
+    (orderly_put limit log byte (event_for (context log) byte) long unrefused refl on before))
 
 -- a log that isn't refused is in order
 pub orderly : (limit : ℕ) (log : List ℕ) → refused limit log ≡ None → IsOrderly (tested_by log).role (seen_in log)
@@ -151,5 +263,5 @@ orderly limit log =
     (λ unrefused. orderly_nothing (tested_by []).role (seen_in []) seen-nothing)
     (λ log byte before unrefused.
     let parts = unrefused-grow limit log byte unrefused in
-    orderly_step limit log byte (nat_lt (length log) 8) refl parts.1 (before parts.0))
+    orderly_step limit log byte (nat_lt (length log) 8) refl parts.1 (on-connection limit log parts.0) (before parts.0))
     log

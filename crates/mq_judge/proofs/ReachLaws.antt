@@ -13,7 +13,7 @@ use Rattle.mq_judge.specs.declared.rules.note.Note.{Note}
 use Rattle.mq_packet.specs.Stream.{fixed_header_of, frame_size, is_lost}
 use Rattle.mq_judge.specs.Framing.{kind_of, body_length, record_size, way_of, opens}
 use Rattle.mq_judge.specs.Events.{Event, note_of, event_in, read_frame}
-use Rattle.mq_judge.specs.Refusals.{Situation, is_first, ends_head, allows, is_open_kind, needs_connection, is_release_kind, is_too_large, ends_packet, is_other_version, is_early, is_unread_yet, first_standing, record_refusal, header_refusal}
+use Rattle.mq_judge.specs.Refusals.{Situation, is_first, ends_head, allows, is_open_kind, needs_connection, is_release_kind, is_too_large, ends_packet, is_other_version, is_early, first_standing, record_refusal, header_refusal}
 use Rattle.mq_judge.specs.Context.{Half, Context, situated, refusal_for, event_for, seen_for, half_after, half_by, half_then, with_note, after_header, after}
 use Rattle.mq_judge.specs.declared.rules.role.Role.{Role}
 use Rattle.mq_judge.specs.declared.rules.role.Role.TheVariants.{Client, Server}
@@ -38,7 +38,7 @@ unfolding record_refusal
 allowed limit s none =
     (let t9 : List (Bool × Refusal) = [] in
     let t8 : List (Bool × Refusal) = ((is_first s && nat_lt 4294967295 s.record_no) || (is_some (event_in s.part s.so_far) && nat_le 4294967295 s.events), refusals.TooLong s.at) ∷ t9 in
-    let t7 : List (Bool × Refusal) = (is_early s (event_in s.part s.so_far) || is_unread_yet s, refusals.Early s.at) ∷ t8 in
+    let t7 : List (Bool × Refusal) = (is_early s (event_in s.part s.so_far), refusals.Early s.at) ∷ t8 in
     let t6 : List (Bool × Refusal) = (ends_packet s && is_other_version (read_frame s.so_far), refusals.OtherVersion s.at) ∷ t7 in
     let t5 : List (Bool × Refusal) = (is_too_large limit s.so_far (fixed_header_of s.so_far), refusals.TooLarge s.at) ∷ t6 in
     let t4 : List (Bool × Refusal) = (is_first s && (is_release_kind (kind_of s.part) && not s.tested.releases), refusals.ReleaseUnrecorded s.at) ∷ t5 in
@@ -52,7 +52,7 @@ allowed limit s none =
     let l5 : ((is_first s && (is_release_kind (kind_of s.part) && not s.tested.releases)) ≡ false) × (first_standing t5 ≡ None) = drop_line (is_first s && (is_release_kind (kind_of s.part) && not s.tested.releases)) (refusals.ReleaseUnrecorded s.at) t5 l4.1 in
     let l6 : ((is_too_large limit s.so_far (fixed_header_of s.so_far)) ≡ false) × (first_standing t6 ≡ None) = drop_line (is_too_large limit s.so_far (fixed_header_of s.so_far)) (refusals.TooLarge s.at) t6 l5.1 in
     let l7 : ((ends_packet s && is_other_version (read_frame s.so_far)) ≡ false) × (first_standing t7 ≡ None) = drop_line (ends_packet s && is_other_version (read_frame s.so_far)) (refusals.OtherVersion s.at) t7 l6.1 in
-    let l8 : ((is_early s (event_in s.part s.so_far) || is_unread_yet s) ≡ false) × (first_standing t8 ≡ None) = drop_line (is_early s (event_in s.part s.so_far) || is_unread_yet s) (refusals.Early s.at) t8 l7.1 in
+    let l8 : ((is_early s (event_in s.part s.so_far)) ≡ false) × (first_standing t8 ≡ None) = drop_line (is_early s (event_in s.part s.so_far)) (refusals.Early s.at) t8 l7.1 in
     let l9 : (((is_first s && nat_lt 4294967295 s.record_no) || (is_some (event_in s.part s.so_far) && nat_le 4294967295 s.events)) ≡ false) × (first_standing t9 ≡ None) = drop_line ((is_first s && nat_lt 4294967295 s.record_no) || (is_some (event_in s.part s.so_far) && nat_le 4294967295 s.events)) (refusals.TooLong s.at) t9 l8.1 in
     record { kind = l1.0; size = l2.0; room = l9.0 })
 

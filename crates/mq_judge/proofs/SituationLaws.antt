@@ -15,8 +15,8 @@ use Rattle.mq_packet.specs.Stream.{fixed_header_of, frame_size, is_lost}
 use Rattle.mq_judge.specs.Framing.{kind_of, body_length}
 use Rattle.mq_judge.specs.Events.{Event, Item, item_note, note_of, item_read, item_at, read_frame, event_by, event_in, packet, sent, received, released, opened, closed, rested}
 use Rattle.mq_judge.specs.Events as events
-use Rattle.mq_judge.specs.Refusals.{Situation, is_other_version, ends_packet, is_early, ends_inside_packet, is_unread_kind, is_unread_yet, is_first, ends_head, allows, is_open_kind, needs_connection, is_release_kind, carries_packets, is_too_large, first_standing, record_refusal}
-use Rattle.mq_judge.specs.Steps.{noted, progress_of, item_of, item_in, note_by, has_other_version, is_unfinished, is_early_by, is_unread_by, ends_inside_by, lines_by}
+use Rattle.mq_judge.specs.Refusals.{Situation, is_other_version, ends_packet, is_early, is_first, ends_head, allows, is_open_kind, needs_connection, is_release_kind, is_too_large, first_standing, record_refusal}
+use Rattle.mq_judge.specs.Steps.{noted, progress_of, item_of, item_in, note_by, has_other_version, is_early_by, lines_by}
 use Rattle.mq_packet.proofs.StreamLaws.{lost_no_frame}
 
 -- What is noted of an item is the item noted.
@@ -86,18 +86,6 @@ other_version_by so_far =
           ])
     ] refl
 
-unfinished_by : (so_far : List ℕ) → is_unfinished (progress_of so_far) ≡ (not (is_lost so_far) && not (is_some (frame_size so_far)))
-unfolding progress_of
-unfinished_by so_far =
-    elim (is_lost so_far) as (λ l. is_unfinished (if l then Lost else (if is_some (frame_size so_far) then Whole (noted (read_frame so_far)) else Unfinished)) ≡ (not l && not (is_some (frame_size so_far)))) [
-      | true ↦ refl
-      | false ↦
-          (elim (is_some (frame_size so_far)) as (λ f. is_unfinished (if f then Whole (noted (read_frame so_far)) else Unfinished) ≡ not f) [
-            | true ↦ refl
-            | false ↦ refl
-          ])
-    ]
-
 early_by : (s : Situation) (event : Option Event) → is_early_by s (option_map note_of event) ≡ is_early s event
 early_by s None = refl
 early_by s (Some event) = refl
@@ -105,13 +93,6 @@ early_by s (Some event) = refl
 some_note : (event : Option Event) → is_some (option_map note_of event) ≡ is_some event
 some_note None = refl
 some_note (Some event) = refl
-
-unread_yet_by : (s : Situation) → is_unread_by s (progress_of s.so_far) ≡ is_unread_yet s
-unfolding is_unread_yet
-unread_yet_by s = ap (λ u. u || is_unread_kind s) inside
-  where
-    inside : ends_inside_by s (progress_of s.so_far) ≡ ends_inside_packet s
-    inside = ap (λ u. carries_packets (kind_of s.part) && (length s.part == 5 + body_length s.part && (nat_lt 0 (length s.so_far) && u))) (unfinished_by s.so_far)
 
 -- the conditions, with those that lean on the packet and the event left open
 table : ℕ → Situation → Bool → Bool → Bool → List (Bool × Refusal)
@@ -136,8 +117,8 @@ unfolding lines_by record_refusal table
 record_refusal_by limit s =
     (let event : Option Event = event_in s.part s.so_far in
     same_table limit s
-    (has_other_version (progress_of s.so_far)) (is_early_by s (option_map note_of event) || is_unread_by s (progress_of s.so_far)) ((is_first s && nat_lt 4294967295 s.record_no) || (is_some (option_map note_of event) && nat_le 4294967295 s.events))
-    (ends_packet s && is_other_version (read_frame s.so_far)) (is_early s event || is_unread_yet s) ((is_first s && nat_lt 4294967295 s.record_no) || (is_some event && nat_le 4294967295 s.events))
+    (has_other_version (progress_of s.so_far)) (is_early_by s (option_map note_of event)) ((is_first s && nat_lt 4294967295 s.record_no) || (is_some (option_map note_of event) && nat_le 4294967295 s.events))
+    (ends_packet s && is_other_version (read_frame s.so_far)) (is_early s event) ((is_first s && nat_lt 4294967295 s.record_no) || (is_some event && nat_le 4294967295 s.events))
     (other_version_by s.so_far)
-    (ap (λ u. u || is_unread_by s (progress_of s.so_far)) (early_by s event) ∙ ap (λ u. is_early s event || u) (unread_yet_by s))
+    (early_by s event)
     (ap (λ u. (is_first s && nat_lt 4294967295 s.record_no) || (u && nat_le 4294967295 s.events)) (some_note event)))

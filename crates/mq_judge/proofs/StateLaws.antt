@@ -93,7 +93,6 @@ situation_with c part so_far = record {
   events = c.events;
   connected = c.connected;
   answered = c.answered;
-  closed = c.closed;
 }
 
 -- The packet so far is that of the situation.
@@ -177,7 +176,6 @@ settled_noted c part sent recv note = record {
   events = (connections_with c.tested.role (connections_in c) note).events;
   connected = (connections_with c.tested.role (connections_in c) note).connected;
   answered = (connections_with c.tested.role (connections_in c) note).answered;
-  closed = (connections_with c.tested.role (connections_in c) note).closed;
 }
 
 noted_same : (c : Context) (part : List ℕ) (sent recv : Half) (event : Option Event) → settled_noted c part sent recv (option_map note_of event) ≡ with_note (settled_part c part sent recv) event
@@ -215,7 +213,6 @@ kept_as c part records sent recv k = record {
   events = k.events;
   connected = k.connected;
   answered = k.answered;
-  closed = k.closed;
 }
 
 kept_same : (c : Context) (p p' : List ℕ) (n n' : ℕ) (s s' r r' : Half) (k k' : Connections) → p ≡ p' → n ≡ n' → s ≡ s' → r ≡ r' → k ≡ k' → kept_as c p n s r k ≡ kept_as c p' n' s' r' k'
@@ -243,7 +240,6 @@ pub settled_as : (c : Context) (way : Option Way) (noted : Option Note) (part : 
       events = k.events;
       connected = k.connected;
       answered = k.answered;
-      closed = k.closed;
     }) ≡ with_settled c way noted
 unfolding with_settled kept_as
 settled_as c way noted part records sent recv k p n s r e = kept_same (record c { at = c.at + 1 }) _ _ _ _ _ _ _ _ _ _ p n s r e

@@ -1,9 +1,13 @@
 -- Network connections and sessions (MQTT 5.0, sections 3.1.2.4, 3.2 and 4.1).
-use Rattle.std.specs.Prelude.{ℕ, ◌≡◌, ◌==◌, Bool, true, false, cond, List, [], ◌∷◌, Option, Some, None, is_some}
+use Rattle.std.specs.Prelude.{ℕ, ◌≡◌, ◌==◌, Bool, true, false, ◌||◌, ◌&&◌, cond, List, [], ◌∷◌, Option, Some, None, is_some}
 use Rattle.mq_judge.specs.declared.rules.role.Role.{Role}
 use Rattle.mq_judge.specs.declared.rules.note.Seen.{Seen}
-use Rattle.mq_judge.specs.Moments.{moment, earliest, count}
-use Rattle.mq_judge.specs.Notes.{is_open, connack_of, needs_session}
+use Rattle.mq_judge.specs.Moments.{moment, since, earliest, count}
+use Rattle.mq_judge.specs.Notes.{is_open, is_close, is_release, connack_of, needs_session}
+
+-- A connection is open: an OPEN came, and no CLOSE after it.
+abbrev pub is_connected : List Seen → Bool
+is_connected log = since is_open is_close log
 
 -- the number of the connection that the newest event is on, counted from 1; 0 before the first OPEN
 abbrev pub connection_no : List Seen → ℕ
@@ -35,7 +39,7 @@ is_accepted_at role k log = accepts (decision role (events_of (connection_no (mo
 abbrev pub session : List Seen → List Seen
 session log = connection log
 
--- each session packet and each RELEASE stands after its connection's CONNACK
+-- Each session packet stands after its connection's CONNACK, and so does each RELEASE on a connection; one between connections is on none.
 abbrev pub IsInOrder : Role → List Seen → Type 0
 IsInOrder role [] = Unit {0}
-IsInOrder role (e ∷ past) = (needs_session e.note ≡ true → is_some (decision role (connection past)) ≡ true) × IsInOrder role past
+IsInOrder role (e ∷ past) = ((needs_session e.note || (is_release e.note && is_connected past)) ≡ true → is_some (decision role (connection past)) ≡ true) × IsInOrder role past

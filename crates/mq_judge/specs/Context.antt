@@ -10,7 +10,8 @@ use Rattle.mq_judge.specs.Notes.{is_open, is_close, connack_of}
 use Rattle.mq_packet.specs.Stream.{frame_size, is_lost}
 use Rattle.mq_judge.specs.Framing.{tested_by, kind_of, way_of, opens, record_size, records, begun, carried, stream}
 use Rattle.mq_judge.specs.Events.{Event, note_of, event_in, seen_in}
-use Rattle.mq_judge.specs.Refusals.{Situation, header_refusal, record_refusal, is_connected, is_answered, was_closed}
+use Rattle.mq_judge.specs.Connections.{is_connected}
+use Rattle.mq_judge.specs.Refusals.{Situation, header_refusal, record_refusal, is_answered}
 
 -- one direction: the bytes of its unfinished packet, none where it is lost
 pub record Half : Type 0 where
@@ -26,11 +27,10 @@ pub record Context : Type 0 where
   pub records : ℕ
   pub sent : Half
   pub recv : Half
-  -- of the events: how many, whether a connection is open, whether its CONNACK came, and whether one was closed
+  -- of the events: how many, whether a connection is open, and whether the latest one's CONNACK came
   pub events : ℕ
   pub connected : Bool
   pub answered : Bool
-  pub closed : Bool
 
 -- what is kept before the first byte
 abbrev pub fresh : Context
@@ -44,7 +44,6 @@ fresh = record {
   events = 0;
   connected = false;
   answered = false;
-  closed = false;
 }
 
 -- what is kept of a direction that carried these bytes
@@ -66,7 +65,6 @@ context log = record {
   events = length (seen_in log);
   connected = is_connected (seen_in log);
   answered = is_answered (tested_by log).role (seen_in log);
-  closed = was_closed (seen_in log);
 }
 
 -- The next byte's packet so far, from what is kept.
@@ -95,7 +93,6 @@ situated c byte = record {
   events = c.events;
   connected = c.connected;
   answered = c.answered;
-  closed = c.closed;
 }
 
 -- the refusal that first stands with the next byte
@@ -142,7 +139,6 @@ with_note c (Some event) = record c {
   events = c.events + 1;
   connected = is_open (note_of event) || (not (is_close (note_of event)) && c.connected);
   answered = is_some (connack_of c.tested.role (note_of event)) || (not (is_open (note_of event)) && c.answered);
-  closed = is_close (note_of event) || c.closed;
 }
 
 -- behind one more byte of the header

@@ -1,5 +1,5 @@
 -- What one event is, by itself.
-use Rattle.std.specs.Prelude.{ℕ, ◌==◌, nat_le, Bool, true, false, cond, Option, Some, None}
+use Rattle.std.specs.Prelude.{ℕ, ◌==◌, nat_le, Bool, true, false, ◌||◌, cond, Option, Some, None}
 use Rattle.mq_packet.specs.declared.packet.Qos.{Qos}
 use Rattle.mq_packet.specs.declared.packet.Qos.TheVariants as quality
 use Rattle.mq_packet.specs.declared.packet.AcknowledgementKind.{AcknowledgementKind}
@@ -10,7 +10,7 @@ use Rattle.mq_packet.specs.Entries.{Entry, connect, connack, publish, acknowledg
 use Rattle.mq_judge.specs.declared.rules.role.Role.{Role}
 use Rattle.mq_judge.specs.declared.rules.role.Role.TheVariants.{Client, Server}
 use Rattle.mq_judge.specs.declared.rules.note.Note.{Note}
-use Rattle.mq_judge.specs.declared.rules.note.Note.TheVariants.{Open, Close, Sent, Recv}
+use Rattle.mq_judge.specs.declared.rules.note.Note.TheVariants.{Open, Close, Release, Sent, Recv}
 use Rattle.mq_judge.specs.declared.rules.note.ItemNote.TheVariants.{Packet}
 use Rattle.mq_judge.specs.declared.rules.packet_note.PacketNote.{PacketNote}
 use Rattle.mq_judge.specs.declared.rules.packet_note.PacketNote.TheVariants as notes
@@ -53,6 +53,11 @@ is_open _ = false
 abbrev pub is_close : Note → Bool
 is_close Close = true
 is_close _ = false
+
+-- the tested end released a QoS 2 message for onward delivery
+abbrev pub is_release : Note → Bool
+is_release (Release identifier) = true
+is_release _ = false
 
 -- the packet that the tested end sent, if it is one
 abbrev pub sent_packet : Note → Option PacketNote
@@ -132,3 +137,7 @@ abbrev pub needs_session : Note → Bool
 needs_session (Sent (Packet p)) = is_session_packet p
 needs_session (Recv (Packet p)) = is_session_packet p
 needs_session _ = false
+
+-- a session packet or a RELEASE: on a connection it stands after the CONNACK
+abbrev pub needs_connack : Note → Bool
+needs_connack note = needs_session note || is_release note

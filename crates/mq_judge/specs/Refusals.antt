@@ -12,8 +12,9 @@ use Rattle.mq_judge.specs.declared.rules.role.Role.{Role}
 use Rattle.mq_judge.specs.declared.rules.role.Tested.{Tested}
 use Rattle.mq_judge.specs.declared.rules.note.Seen.{Seen}
 use Rattle.mq_judge.specs.Moments.{or_else, since}
-use Rattle.mq_judge.specs.Notes.{is_open, is_close, connack_of, needs_session}
-use Rattle.mq_packet.specs.Stream.{fixed_header_of, frame_size, is_lost}
+use Rattle.mq_judge.specs.Notes.{is_open, connack_of, needs_connack}
+use Rattle.mq_judge.specs.Connections.{is_connected}
+use Rattle.mq_packet.specs.Stream.{fixed_header_of, frame_size}
 use Rattle.mq_judge.specs.Framing.{tested_by, kind_of, body_length, records, begun}
 use Rattle.mq_judge.specs.Events.{Event, note_of, event_in, read_frame, part_at, packet_at, seen_in}
 
@@ -31,17 +32,9 @@ header_refusal at byte =
     else (if at == 6 then (if nat_lt byte 2 then None else Some (refusals.Flags at))
     else (if byte == 0 then None else Some (refusals.Flags at)))))
 
--- A connection is open: an OPEN came, and no CLOSE after it.
-abbrev pub is_connected : List Seen → Bool
-is_connected log = since is_open is_close log
-
 -- The CONNACK of the latest connection has come.
 abbrev pub is_answered : Role → List Seen → Bool
 is_answered role log = since (λ note. is_some (connack_of role note)) is_open log
-
--- Some connection was closed.
-abbrev pub was_closed : List Seen → Bool
-was_closed log = since is_close (λ note. false) log
 
 -- Where a byte behind the header stands in its log, and what came before it.
 pub record Situation : Type 0 where
@@ -55,11 +48,10 @@ pub record Situation : Type 0 where
   pub record_no : ℕ
   -- the bytes so far of the byte's packet, the byte included; none where it belongs to no packet, or its direction is lost
   pub so_far : List ℕ
-  -- the events before it: how many, whether a connection is open, whether its CONNACK came, and whether one was closed
+  -- the events before it: how many, whether a connection is open, and whether the latest one's CONNACK came
   pub events : ℕ
   pub connected : Bool
   pub answered : Bool
-  pub closed : Bool
 
 -- the situation of the next byte of a log
 unfoldable pub situation : List ℕ → ℕ → Situation
@@ -72,7 +64,6 @@ situation before byte = record {
   events = length (seen_in before);
   connected = is_connected (seen_in before);
   answered = is_answered (tested_by before).role (seen_in before);
-  closed = was_closed (seen_in before);
 }
 
 -- the byte is its record's first, or the last of its length
@@ -108,11 +99,6 @@ abbrev pub is_release_kind : Option RecordKind → Bool
 is_release_kind (Some kinds.Release) = true
 is_release_kind _ = false
 
-abbrev pub carries_packets : Option RecordKind → Bool
-carries_packets (Some kinds.Sent) = true
-carries_packets (Some kinds.Recv) = true
-carries_packets _ = false
-
 -- the fixed header ends here, and the packet is larger than the limit
 abbrev pub is_too_large : ℕ → List ℕ → FixedHeader → Bool
 is_too_large limit so_far (headers.Whole header size) = header == length so_far && nat_lt limit size
@@ -129,20 +115,10 @@ is_other_version (Ok entry) = false
 abbrev pub ends_packet : Situation → Bool
 ends_packet s = is_some (frame_size s.so_far)
 
--- an event that needs a session while its connection's CONNACK hasn't come
+-- A session packet or a RELEASE comes on an open connection whose CONNACK hasn't come. A RELEASE between connections is on none.
 abbrev pub is_early : Situation → Option Event → Bool
 is_early s None = false
-is_early s (Some event) = needs_session (note_of event) && not s.answered
-
--- What isn't read yet: a SENT or RECV that ends inside a packet; a second connection; a RELEASE.
-abbrev pub ends_inside_packet : Situation → Bool
-ends_inside_packet s = carries_packets (kind_of s.part) && (length s.part == 5 + body_length s.part && (nat_lt 0 (length s.so_far) && (not (is_lost s.so_far) && not (ends_packet s))))
-
-abbrev pub is_unread_kind : Situation → Bool
-is_unread_kind s = is_first s && ((is_open_kind (kind_of s.part) && s.closed) || is_release_kind (kind_of s.part))
-
-unfoldable pub is_unread_yet : Situation → Bool
-is_unread_yet s = ends_inside_packet s || is_unread_kind s
+is_early s (Some event) = needs_connack (note_of event) && (s.connected && not s.answered)
 
 -- the refusal of the first line whose condition stands
 abbrev pub first_standing : List (Bool × Refusal) → Option Refusal
@@ -159,7 +135,7 @@ conditions limit s =
     ∷ (is_first s && (is_release_kind (kind_of s.part) && not s.tested.releases), refusals.ReleaseUnrecorded s.at)
     ∷ (is_too_large limit s.so_far (fixed_header_of s.so_far), refusals.TooLarge s.at)
     ∷ (ends_packet s && is_other_version (read_frame s.so_far), refusals.OtherVersion s.at)
-    ∷ (is_early s (event_in s.part s.so_far) || is_unread_yet s, refusals.Early s.at)
+    ∷ (is_early s (event_in s.part s.so_far), refusals.Early s.at)
     ∷ ((is_first s && nat_lt 4294967295 s.record_no) || (is_some (event_in s.part s.so_far) && nat_le 4294967295 s.events), refusals.TooLong s.at)
     ∷ []
 

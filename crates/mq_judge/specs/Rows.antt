@@ -5,6 +5,10 @@ use Rattle.std.specs.Prelude.{ℕ, List, [], ◌∷◌}
 abbrev pub client_header : List ℕ
 client_header = 77 ∷ 81 ∷ 84 ∷ 82 ∷ 1 ∷ 0 ∷ 1 ∷ 0 ∷ []
 
+-- the header of a log of a tested client that records no releases
+abbrev pub silent_header : List ℕ
+silent_header = 77 ∷ 81 ∷ 84 ∷ 82 ∷ 1 ∷ 0 ∷ 0 ∷ 0 ∷ []
+
 -- an OPEN
 abbrev pub opened : List ℕ
 opened = 1 ∷ 0 ∷ 0 ∷ 0 ∷ 0 ∷ []
@@ -12,3 +16,7 @@ opened = 1 ∷ 0 ∷ 0 ∷ 0 ∷ 0 ∷ []
 -- a CLOSE
 abbrev pub closed : List ℕ
 closed = 4 ∷ 0 ∷ 0 ∷ 0 ∷ 0 ∷ []
+
+-- a RELEASE of identifier 1
+abbrev pub released : List ℕ
+released = 6 ∷ 0 ∷ 0 ∷ 0 ∷ 2 ∷ 0 ∷ 1 ∷ []

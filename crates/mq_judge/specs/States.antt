@@ -24,7 +24,6 @@ context_of s = record {
   events = s.connections.events;
   connected = s.connections.connected;
   answered = s.connections.answered;
-  closed = s.connections.closed;
 }
 
 -- What holds of all that is kept of a log that wasn't refused: its bytes are no more than its records can have, and nothing that is
@@ -75,12 +74,11 @@ situation_in c way = record {
   events = c.events;
   connected = c.connected;
   answered = c.answered;
-  closed = c.closed;
 }
 
 -- what is kept of the events
 abbrev pub connections_in : Context → Connections
-connections_in c = record { events = c.events; connected = c.connected; answered = c.answered; closed = c.closed }
+connections_in c = record { events = c.events; connected = c.connected; answered = c.answered }
 
 -- a direction that begins anew
 abbrev pub emptied : Half
@@ -98,7 +96,6 @@ with_settled c way note = record {
   events = (connections_with c.tested.role (connections_in c) note).events;
   connected = (connections_with c.tested.role (connections_in c) note).connected;
   answered = (connections_with c.tested.role (connections_in c) note).answered;
-  closed = (connections_with c.tested.role (connections_in c) note).closed;
 }
 
 -- an event of this note at its place

@@ -20,10 +20,10 @@ use Rattle.mq_packet.specs.Entries.{Entry}
 use Rattle.mq_packet.specs.Stream.{fixed_header_of, frame_size, is_lost}
 use Rattle.mq_judge.specs.Framing.{kind_of, way_of, body_length}
 use Rattle.mq_judge.specs.Events.{read_frame}
-use Rattle.mq_judge.specs.Notes.{packet_note, is_open, is_close, connack_of, needs_session}
+use Rattle.mq_judge.specs.Notes.{packet_note, is_open, is_close, connack_of, needs_connack}
 use Rattle.mq_judge.specs.declared.trace.refusal.Refusal.{Refusal}
 use Rattle.mq_judge.specs.declared.trace.refusal.Refusal.TheVariants as refusals
-use Rattle.mq_judge.specs.Refusals.{Situation, is_other_version, is_first, ends_head, allows, is_open_kind, needs_connection, is_release_kind, carries_packets, is_too_large, is_unread_kind}
+use Rattle.mq_judge.specs.Refusals.{Situation, is_other_version, is_first, ends_head, allows, is_open_kind, needs_connection, is_release_kind, is_too_large}
 use Rattle.mq_judge.specs.Context.{Half}
 
 -- Where there is a frame, it has all the bytes.
@@ -84,16 +84,10 @@ has_other_version Unfinished = false
 has_other_version Lost = false
 has_other_version (Whole reading) = is_other_version reading
 
--- the packet isn't whole
-abbrev pub is_unfinished : Progress → Bool
-is_unfinished Unfinished = true
-is_unfinished Lost = false
-is_unfinished (Whole reading) = false
-
--- there is a note that needs a session
-abbrev pub needs_session_now : Option Note → Bool
-needs_session_now None = false
-needs_session_now (Some note) = needs_session note
+-- there is a note of a session packet or of a RELEASE
+abbrev pub needs_connack_now : Option Note → Bool
+needs_connack_now None = false
+needs_connack_now (Some note) = needs_connack note
 
 -- a situation in memory
 abbrev pub situation_of : SituationInMemory → Situation
@@ -106,7 +100,6 @@ situation_of s = record {
   events = s.connections.events;
   connected = s.connections.connected;
   answered = s.connections.answered;
-  closed = s.connections.closed;
 }
 
 -- what is kept of the events, behind one more if there is one
@@ -116,20 +109,11 @@ connections_with role c (Some note) = record {
   events = c.events + 1;
   connected = is_open note || (not (is_close note) && c.connected);
   answered = is_some (connack_of role note) || (not (is_open note) && c.answered);
-  closed = is_close note || c.closed;
 }
 
--- a record that carries packets ends inside one
-abbrev pub ends_inside_by : Situation → Progress → Bool
-ends_inside_by s progress = carries_packets (kind_of s.part) && (length s.part == 5 + body_length s.part && (nat_lt 0 (length s.so_far) && is_unfinished progress))
-
--- something comes that isn't read yet
-abbrev pub is_unread_by : Situation → Progress → Bool
-is_unread_by s progress = ends_inside_by s progress || is_unread_kind s
-
--- an event comes that needs a session, while its connection's CONNACK hasn't come
+-- an event comes that needs its connection's CONNACK, while that hasn't come
 abbrev pub is_early_by : Situation → Option Note → Bool
-is_early_by s note = needs_session_now note && not s.answered
+is_early_by s note = needs_connack_now note && (s.connected && not s.answered)
 
 -- the conditions that stand with a byte behind the header, by how far its packet is and the note of its event
 unfoldable pub lines_by : ℕ → Situation → Progress → Option Note → List (Bool × Refusal)
@@ -141,6 +125,6 @@ lines_by limit s progress note =
     ∷ (is_first s && (is_release_kind (kind_of s.part) && not s.tested.releases), refusals.ReleaseUnrecorded s.at)
     ∷ (is_too_large limit s.so_far (fixed_header_of s.so_far), refusals.TooLarge s.at)
     ∷ (has_other_version progress, refusals.OtherVersion s.at)
-    ∷ (is_early_by s note || is_unread_by s progress, refusals.Early s.at)
+    ∷ (is_early_by s note, refusals.Early s.at)
     ∷ ((is_first s && nat_lt 4294967295 s.record_no) || (is_some note && nat_le 4294967295 s.events), refusals.TooLong s.at)
     ∷ []

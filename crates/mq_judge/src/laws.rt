@@ -1,13 +1,13 @@
 //! Laws of the definitions on whole logs, each the contract of a function that does nothing.
 ghost use Rattle.std.specs.Prelude.{◌≡◌, ℕ, Bool, true, false, take, drop, List, [], ◌∷◌, ◌++◌, None, Some};
 ghost use Rattle.mq_judge.specs.declared.trace.refusal.Refusal.{Refusal};
-ghost use Rattle.mq_judge.specs.declared.trace.refusal.Refusal.TheVariants.{Version, Nested, NotOpen, Early};
+ghost use Rattle.mq_judge.specs.declared.trace.refusal.Refusal.TheVariants.{Version, Nested, NotOpen, ReleaseUnrecorded, Early};
 ghost use Rattle.mq_judge.specs.Pieces.{Pieces, AreCut};
 ghost use Rattle.mq_packet.specs.Stream.{frame_size};
 ghost use Rattle.mq_judge.specs.Framing.{record_size, records, stream, tested_by};
 ghost use Rattle.mq_judge.specs.Events.{seen_in};
 ghost use Rattle.mq_judge.specs.Refusals.{refused, is_cut_short};
-ghost use Rattle.mq_judge.specs.Rows.{client_header, opened, closed};
+ghost use Rattle.mq_judge.specs.Rows.{client_header, silent_header, opened, closed, released};
 ghost use Rattle.mq_judge.specs.Moments.{IsPlaced};
 ghost use Rattle.mq_judge.specs.Connections.{IsInOrder};
 ghost use Rattle.mq_judge.specs.Context.{context, after, put, seen_for};
@@ -29,7 +29,7 @@ pub fn refusals_stay()
     ensures { (limit : ℕ) (log more : List ℕ) (refusal : Refusal) → refused limit log ≡ Some refusal → refused limit (log ++ more) ≡ Some refusal }
 {}
 
-/// In a log that isn't refused each event has its place, and each session packet stands after its connection's CONNACK.
+/// In a log that isn't refused each event has its place, and each session packet and each RELEASE on a connection stands after its CONNACK.
 pub fn unrefused_logs_are_in_order()
     ensures placed { (limit : ℕ) (log : List ℕ) → refused limit log ≡ None → IsPlaced (seen_in log) }
     ensures in_order { (limit : ℕ) (log : List ℕ) → refused limit log ≡ None → IsInOrder (tested_by log).role (seen_in log) }
@@ -46,7 +46,10 @@ pub fn worked_logs()
     ensures empty { (seen_in client_header ≡ []) × (refused 16777216 client_header ≡ None) × (is_cut_short client_header ≡ false) }
     ensures cut { is_cut_short (take 7 client_header) ≡ true }
     ensures nested { refused 16777216 (client_header ++ opened ++ opened) ≡ Some (Nested 13) }
-    ensures second { refused 16777216 (client_header ++ opened ++ closed ++ opened) ≡ Some (Early 18) }
+    ensures second { refused 16777216 (client_header ++ opened ++ closed ++ opened) ≡ None }
+    ensures between { refused 16777216 (client_header ++ released) ≡ None }
+    ensures early { refused 16777216 (client_header ++ opened ++ released) ≡ Some (Early 19) }
+    ensures unrecorded { refused 16777216 (silent_header ++ released) ≡ Some (ReleaseUnrecorded 8) }
     ensures unopened { refused 16777216 (client_header ++ closed) ≡ Some (NotOpen 8) }
     ensures version { refused 16777216 (77 ∷ 81 ∷ 84 ∷ 82 ∷ 2 ∷ []) ≡ Some (Version 4) }
 {}

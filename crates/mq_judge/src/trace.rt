@@ -10,4 +10,3 @@ pub mod reader;
 pub mod refusal;
 pub mod situation;
 pub mod state;
-pub mod unread;

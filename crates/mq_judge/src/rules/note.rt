@@ -1,6 +1,6 @@
 //! What the statements look at of an event.
 ghost use Rattle.std.specs.Prelude.{◌≡◌};
-ghost use Rattle.mq_judge.specs.Notes.{is_open as opens_connection, opener_of, closer_of, is_id, connack_of, needs_session as needs_one};
+ghost use Rattle.mq_judge.specs.Notes.{is_open as opens_connection, opener_of, closer_of, is_id, connack_of, needs_session as needs_one, needs_connack as needs_acceptance};
 ghost use Rattle.mq_judge.specs.Statements.{broken as broken_by};
 
 use super::super::trace::place::Place3;
@@ -117,6 +117,16 @@ impl Note {
                 packet.needs_session()
             }
             _ => false,
+        }
+    }
+
+    /// Whether the event is a session packet or a RELEASE, which on a connection stand after its CONNACK (MQTT 5.0, section 4.1).
+    pub fn needs_connack(&self) -> bool
+        ensures { result ≡ needs_acceptance self.now }
+    {
+        match self {
+            Note::Release(_) => true,
+            _ => self.needs_session(),
         }
     }
 

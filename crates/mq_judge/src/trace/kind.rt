@@ -2,7 +2,7 @@
 
 ghost use Rattle.std.specs.Prelude.{◌≡◌, ◌&&◌, Some, List};
 ghost use Rattle.mq_judge.specs.Framing.{kind_named, way_of, opens};
-ghost use Rattle.mq_judge.specs.Refusals.{allows, needs_connection, is_open_kind, is_release_kind, carries_packets};
+ghost use Rattle.mq_judge.specs.Refusals.{allows, needs_connection, is_open_kind, is_release_kind};
 
 /// The kind of a record of the log, which its first byte names.
 #[derive(Clone, Copy, Debug, PartialEq, Eq)]

@@ -32,13 +32,6 @@ pub fn body_length(part: &[u8]) -> u32
     }
 }
 
-/// Whether the record's head is there, and no more bytes than its body's length tells.
-pub fn is_filled(part: &[u8]) -> bool
-    ensures { result ≡ (length part.now == 5 + body_length part.now) }
-{
-    part.len() >= HEAD_LENGTH && part.len() == HEAD_LENGTH + body_length(part) as usize
-}
-
 /// Whether the record is whole.
 #[tactic(auto, unfolding(crate::specs::Framing::record_size))]
 pub fn is_whole(part: &[u8]) -> bool
@@ -80,6 +73,5 @@ mod tests {
         assert!(rt; !is_whole(&[4, 0, 0, 0]));
         assert!(rt; is_whole(&[4, 0, 0, 0, 0]));
         assert!(rt; !is_whole(&[6, 0, 0, 0, 2, 1]));
-        assert!(rt; is_filled(&[6, 0, 0, 0, 2, 1, 0]));
     }
 }

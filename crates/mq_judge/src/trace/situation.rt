@@ -6,8 +6,8 @@ ghost use Rattle.mq_packet.specs.Stream.{fixed_header_of};
 ghost use Rattle.mq_judge.specs.Framing.{kind_of, body_length};
 ghost use Rattle.mq_judge.specs.Events.{event_in, note_of};
 ghost use Rattle.mq_judge.specs.Notes.{is_open, is_close, connack_of};
-ghost use Rattle.mq_judge.specs.Refusals.{allows, needs_connection, is_open_kind, is_release_kind, carries_packets, is_first, ends_head, is_too_large, first_standing, record_refusal};
-ghost use Rattle.mq_judge.specs.Steps.{HasNoMoreThanFrame, situation_of, note_by, item_in, needs_session_now, has_other_version, is_early_by, is_unread_by, lines_by, connections_with};
+ghost use Rattle.mq_judge.specs.Refusals.{allows, needs_connection, is_open_kind, is_release_kind, is_first, ends_head, is_too_large, first_standing, record_refusal};
+ghost use Rattle.mq_judge.specs.Steps.{HasNoMoreThanFrame, situation_of, note_by, item_in, needs_connack_now, has_other_version, is_early_by, lines_by, connections_with};
 
 use super::super::rules::note::{ItemNote, Note};
 use super::super::rules::role::{Role, Tested};
@@ -15,7 +15,6 @@ use super::kind::RecordKind;
 use super::packets::{Progress, progress_of};
 use super::part::{HEAD_LENGTH, body_length, kind_of};
 use super::refusal::Refusal;
-use super::unread::is_unread_yet;
 use mq_packet::{DecodeFault, FixedHeader, fixed_header};
 
 /// What is kept of the events before a byte.
@@ -27,8 +26,6 @@ pub struct Connections {
     pub connected: bool,
     /// Whether the latest connection's CONNACK came.
     pub answered: bool,
-    /// Whether some connection was closed.
-    pub closed: bool,
 }
 
 /// Where a byte behind the header stands in its log, and what came before it.
@@ -138,7 +135,7 @@ fn refusal_by(
         (situation.is_unrecorded(), Refusal::ReleaseUnrecorded(at)),
         (is_too_large(limit, situation.so_far), Refusal::TooLarge(at)),
         (has_other_version(progress), Refusal::OtherVersion(at)),
-        (situation.is_early(progress, note), Refusal::Early(at)),
+        (situation.is_early(note), Refusal::Early(at)),
         (situation.is_too_long(note), Refusal::TooLong(at)),
     ])
 }
@@ -204,17 +201,11 @@ impl Situation<'_> {
         self.is_first() && is_release_kind(kind_of(self.part)) && !self.tested.releases
     }
 
-    /// Whether an event comes that needs a session before its connection's CONNACK, or something that isn't read yet.
-    fn is_early(&self, progress: Progress, note: Option<Note>) -> bool
-        ensures { result ≡ (is_early_by (situation_of self.now) note || is_unread_by (situation_of self.now) progress) }
-    {
-        self.lacks_session(note) || is_unread_yet(self, progress)
-    }
-
-    fn lacks_session(&self, note: Option<Note>) -> bool
+    /// Whether a session packet or a RELEASE comes on a connection whose CONNACK hasn't come (MQTT 5.0, section 4.1).
+    fn is_early(&self, note: Option<Note>) -> bool
         ensures { result ≡ is_early_by (situation_of self.now) note }
     {
-        needs_session_now(note) && !self.connections.answered
+        needs_connack_now(note) && self.connections.connected && !self.connections.answered
     }
 
     /// Whether there are more records or events than can be counted.
@@ -301,12 +292,12 @@ fn has_other_version(progress: Progress) -> bool
     }
 }
 
-/// Whether there is a note of a session packet.
-fn needs_session_now(note: Option<Note>) -> bool
-    ensures { result ≡ needs_session_now note }
+/// Whether there is a note of a session packet or of a RELEASE.
+fn needs_connack_now(note: Option<Note>) -> bool
+    ensures { result ≡ needs_connack_now note }
 {
     match note {
-        Some(note) => note.needs_session(),
+        Some(note) => note.needs_connack(),
         None => false,
     }
 }
@@ -317,7 +308,6 @@ impl Connections {
         events: 0,
         connected: false,
         answered: false,
-        closed: false,
     };
 
     /// What is kept behind one more event, if there is one. A CONNACK counts only from the server (MQTT 5.0, section 3.2).
@@ -334,7 +324,6 @@ impl Connections {
             events: self.events + 1,
             connected: opens || (!closes && self.connected),
             answered: note.connack_code(role).is_some() || (!opens && self.answered),
-            closed: closes || self.closed,
         }
     }
 }

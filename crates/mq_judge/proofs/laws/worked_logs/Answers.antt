@@ -3,32 +3,44 @@ use Rattle.mq_judge.specs.Events.{read_frame, item_at, part_at, packet_at, event
 use Rattle.mq_judge.specs.Faults.{fault_in, listed}
 use Rattle.mq_judge.specs.Framing.{kind_of, body_length, record_size, records, begun, carried, stream}
 use Rattle.mq_judge.specs.Pieces.{pieces}
-use Rattle.mq_judge.specs.Refusals.{header_refusal, situation, is_unread_yet, record_refusal, refusal_at, refused_back, refused, is_cut_short}
+use Rattle.mq_judge.specs.Refusals.{header_refusal, situation, record_refusal, refusal_at, refused_back, refused, is_cut_short}
 use Rattle.mq_judge.specs.Report.{report_on, report}
 use Rattle.mq_judge.specs.Statements.{breaks_bytes, is_in_use, breaks_S01, fails}
 use Rattle.mq_packet.specs.Stream.{fixed_header_of, frame_size, is_lost}
 use Rattle.mq_judge.proofs.laws.worked_logs.Goals as goal
 
 pub returns-clause-empty : goal.returns-clause-empty
-unfolding read_frame item_at part_at packet_at event_in event_at events_back events seen_in fault_in listed kind_of body_length record_size records begun carried stream pieces header_refusal situation is_unread_yet record_refusal refusal_at refused_back refused is_cut_short report_on report breaks_bytes is_in_use breaks_S01 fails fixed_header_of frame_size is_lost
+unfolding read_frame item_at part_at packet_at event_in event_at events_back events seen_in fault_in listed kind_of body_length record_size records begun carried stream pieces header_refusal situation record_refusal refusal_at refused_back refused is_cut_short report_on report breaks_bytes is_in_use breaks_S01 fails fixed_header_of frame_size is_lost
 returns-clause-empty c = (refl, refl, refl)
 
 pub returns-clause-cut : goal.returns-clause-cut
-unfolding read_frame item_at part_at packet_at event_in event_at events_back events seen_in fault_in listed kind_of body_length record_size records begun carried stream pieces header_refusal situation is_unread_yet record_refusal refusal_at refused_back refused is_cut_short report_on report breaks_bytes is_in_use breaks_S01 fails fixed_header_of frame_size is_lost
+unfolding read_frame item_at part_at packet_at event_in event_at events_back events seen_in fault_in listed kind_of body_length record_size records begun carried stream pieces header_refusal situation record_refusal refusal_at refused_back refused is_cut_short report_on report breaks_bytes is_in_use breaks_S01 fails fixed_header_of frame_size is_lost
 returns-clause-cut c = refl
 
 pub returns-clause-nested : goal.returns-clause-nested
-unfolding read_frame item_at part_at packet_at event_in event_at events_back events seen_in fault_in listed kind_of body_length record_size records begun carried stream pieces header_refusal situation is_unread_yet record_refusal refusal_at refused_back refused is_cut_short report_on report breaks_bytes is_in_use breaks_S01 fails fixed_header_of frame_size is_lost
+unfolding read_frame item_at part_at packet_at event_in event_at events_back events seen_in fault_in listed kind_of body_length record_size records begun carried stream pieces header_refusal situation record_refusal refusal_at refused_back refused is_cut_short report_on report breaks_bytes is_in_use breaks_S01 fails fixed_header_of frame_size is_lost
 returns-clause-nested c = refl
 
 pub returns-clause-second : goal.returns-clause-second
-unfolding read_frame item_at part_at packet_at event_in event_at events_back events seen_in fault_in listed kind_of body_length record_size records begun carried stream pieces header_refusal situation is_unread_yet record_refusal refusal_at refused_back refused is_cut_short report_on report breaks_bytes is_in_use breaks_S01 fails fixed_header_of frame_size is_lost
+unfolding read_frame item_at part_at packet_at event_in event_at events_back events seen_in fault_in listed kind_of body_length record_size records begun carried stream pieces header_refusal situation record_refusal refusal_at refused_back refused is_cut_short report_on report breaks_bytes is_in_use breaks_S01 fails fixed_header_of frame_size is_lost
 returns-clause-second c = refl
 
+pub returns-clause-between : goal.returns-clause-between
+unfolding read_frame item_at part_at packet_at event_in event_at events_back events seen_in fault_in listed kind_of body_length record_size records begun carried stream pieces header_refusal situation record_refusal refusal_at refused_back refused is_cut_short report_on report breaks_bytes is_in_use breaks_S01 fails fixed_header_of frame_size is_lost
+returns-clause-between c = refl
+
+pub returns-clause-early : goal.returns-clause-early
+unfolding read_frame item_at part_at packet_at event_in event_at events_back events seen_in fault_in listed kind_of body_length record_size records begun carried stream pieces header_refusal situation record_refusal refusal_at refused_back refused is_cut_short report_on report breaks_bytes is_in_use breaks_S01 fails fixed_header_of frame_size is_lost
+returns-clause-early c = refl
+
+pub returns-clause-unrecorded : goal.returns-clause-unrecorded
+unfolding read_frame item_at part_at packet_at event_in event_at events_back events seen_in fault_in listed kind_of body_length record_size records begun carried stream pieces header_refusal situation record_refusal refusal_at refused_back refused is_cut_short report_on report breaks_bytes is_in_use breaks_S01 fails fixed_header_of frame_size is_lost
+returns-clause-unrecorded c = refl
+
 pub returns-clause-unopened : goal.returns-clause-unopened
-unfolding read_frame item_at part_at packet_at event_in event_at events_back events seen_in fault_in listed kind_of body_length record_size records begun carried stream pieces header_refusal situation is_unread_yet record_refusal refusal_at refused_back refused is_cut_short report_on report breaks_bytes is_in_use breaks_S01 fails fixed_header_of frame_size is_lost
+unfolding read_frame item_at part_at packet_at event_in event_at events_back events seen_in fault_in listed kind_of body_length record_size records begun carried stream pieces header_refusal situation record_refusal refusal_at refused_back refused is_cut_short report_on report breaks_bytes is_in_use breaks_S01 fails fixed_header_of frame_size is_lost
 returns-clause-unopened c = refl
 
 pub returns-clause-version : goal.returns-clause-version
-unfolding read_frame item_at part_at packet_at event_in event_at events_back events seen_in fault_in listed kind_of body_length record_size records begun carried stream pieces header_refusal situation is_unread_yet record_refusal refusal_at refused_back refused is_cut_short report_on report breaks_bytes is_in_use breaks_S01 fails fixed_header_of frame_size is_lost
+unfolding read_frame item_at part_at packet_at event_in event_at events_back events seen_in fault_in listed kind_of body_length record_size records begun carried stream pieces header_refusal situation record_refusal refusal_at refused_back refused is_cut_short report_on report breaks_bytes is_in_use breaks_S01 fails fixed_header_of frame_size is_lost
 returns-clause-version c = refl
