@@ -74,7 +74,7 @@ struct Row {
     report: &'static str,
 }
 
-static ROWS: [Row; 16] = [
+static ROWS: [Row; 23] = [
     // Each of the fifteen packets.
     Row {
         role: CLIENT,
@@ -246,24 +246,160 @@ static ROWS: [Row; 16] = [
         status: REFUSED,
         report: "refused 13 Early at 41\n",
     },
-    // What isn't read yet.
+    // A packet may be cut over any records: it belongs to the one that has its last byte.
     Row {
         role: CLIENT,
-        parts: &[Open, Sent(CONNECT), Recv(CONNACK), Recv(b"\xd0\x00\x00")],
+        parts: &[
+            Open,
+            Sent(CONNECT),
+            Recv(CONNACK),
+            Sent(b"\x32"),
+            Sent(b"\x07"),
+            Sent(b"\x00"),
+            Sent(b"\x01"),
+            Sent(b"a"),
+            Sent(b"\x00"),
+            Sent(b"\x00"),
+            Sent(b"\x00"),
+            Recv(PINGRESP),
+            Sent(b"x"),
+        ],
+        status: FAULTY,
+        report: "fault 5 W09 sec-2.2.1 decided 5 record 13 offset 5\nfail 1 faults 5 events\n",
+    },
+    // One record may end a packet and begin another; what the log's end leaves unfinished is no event.
+    Row {
+        role: CLIENT,
+        parts: &[
+            Open,
+            Sent(CONNECT),
+            Recv(b"\x20\x03\x00"),
+            Recv(b"\x00\x00\xd0"),
+            Recv(b"\x00\xd0\x00\xd0"),
+        ],
+        status: PASSED,
+        report: "pass 5 events\n",
+    },
+    // A CLOSE drops the unfinished packet of each direction; the next connection begins with whole ones.
+    Row {
+        role: CLIENT,
+        parts: &[
+            Open,
+            Sent(CONNECT),
+            Recv(CONNACK),
+            Sent(b"\x32\x07\x00\x01a\x00\x00\x00"),
+            Recv(b"\xd0"),
+            Close,
+            Open,
+            Sent(CONNECT),
+            Recv(CONNACK),
+            Sent(PINGREQ),
+            Recv(PINGRESP),
+            Close,
+        ],
+        status: PASSED,
+        report: "pass 10 events\n",
+    },
+    // A direction is lost for its connection alone.
+    Row {
+        role: CLIENT,
+        parts: &[
+            Open,
+            Sent(CONNECT),
+            Recv(CONNACK),
+            Sent(b"\x30\xff\xff\xff\xff"),
+            Sent(PINGREQ),
+            Close,
+            Open,
+            Sent(CONNECT),
+            Recv(CONNACK),
+            Sent(PUBLISH_UNIDENTIFIED),
+        ],
+        status: FAULTY,
+        report: "fault 4 W03 MQTT-1.5.5-1 decided 4 record 4 offset 1\n\
+            fault 9 W09 sec-2.2.1 decided 9 record 10 offset 5\nfail 2 faults 9 events\n",
+    },
+    // Each connection waits for a CONNACK of its own, of any code.
+    Row {
+        role: CLIENT,
+        parts: &[
+            Open,
+            Sent(CONNECT),
+            Recv(CONNACK),
+            Close,
+            Open,
+            Sent(PUBLISH_ONCE),
+        ],
         status: REFUSED,
-        report: "refused 13 Early at 50\n",
+        report: "refused 13 Early at 66\n",
     },
     Row {
         role: CLIENT,
-        parts: &[Open, Close, Open],
-        status: REFUSED,
-        report: "refused 13 Early at 18\n",
+        parts: &[
+            Open,
+            Sent(CONNECT),
+            Recv(REFUSING_CONNACK),
+            Sent(PUBLISH_ONCE),
+            Close,
+            Open,
+            Sent(CONNECT),
+            Recv(CONNACK),
+            Sent(PUBLISH_ONCE),
+        ],
+        status: PASSED,
+        report: "pass 9 events\n",
+    },
+    // A message is released between its PUBREL and its PUBCOMP, or between two connections.
+    Row {
+        role: CLIENT,
+        parts: &[
+            Open,
+            Sent(CONNECT),
+            Recv(CONNACK),
+            Recv(PUBLISH_TWICE),
+            Sent(PUBREC),
+            Recv(PUBREL),
+            Release(1),
+            Sent(PUBCOMP),
+            Close,
+        ],
+        status: PASSED,
+        report: "pass 9 events\n",
     },
     Row {
         role: CLIENT,
-        parts: &[Open, Release(1)],
+        parts: &[
+            Open,
+            Sent(CONNECT),
+            Recv(CONNACK),
+            Recv(PUBLISH_TWICE),
+            Close,
+            Release(1),
+            Open,
+            Sent(CONNECT),
+        ],
+        status: PASSED,
+        report: "pass 8 events\n",
+    },
+    // On a connection it isn't released before the CONNACK.
+    Row {
+        role: CLIENT,
+        parts: &[Open, Sent(CONNECT), Release(1)],
         status: REFUSED,
-        report: "refused 13 Early at 13\n",
+        report: "refused 13 Early at 39\n",
+    },
+    Row {
+        role: CLIENT,
+        parts: &[
+            Open,
+            Sent(CONNECT),
+            Recv(CONNACK),
+            Close,
+            Open,
+            Release(1),
+        ],
+        status: REFUSED,
+        report: "refused 13 Early at 59\n",
     },
 ];
 

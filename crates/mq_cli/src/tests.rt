@@ -1,6 +1,7 @@
 use crate::command_line::{Stop, Task, parse};
 use crate::failure::{FAILED, FAULTY, MISUSED, PASSED, REFUSED};
 use crate::tasks::{perform, stop};
+use mq_judge::{Judge, Options, Refusal};
 use std::alloc::{AllocError, Global};
 use std::io;
 use std::io::{Cursor, ErrorKind, Read, Write};
@@ -14,6 +15,9 @@ const CLOSE: &[u8] = b"\x04\x00\x00\x00\x00";
 
 const REST: &[u8] = b"\x05\x00\x00\x00\x00";
 
+// Under identifier 1.
+const RELEASE: &[u8] = b"\x06\x00\x00\x00\x02\x00\x01";
+
 const SENT_CONNECT: &[u8] = b"\x02\x00\x00\x00\x0f\x10\x0d\x00\x04MQTT\x05\x02\x00\x3c\x00\x00\x00";
 
 const RECV_CONNACK: &[u8] = b"\x03\x00\x00\x00\x05\x20\x03\x00\x00\x00";
@@ -24,6 +28,9 @@ const RECV_PUBACK: &[u8] = b"\x03\x00\x00\x00\x04\x40\x02\x00\x01";
 
 // A PUBLISH of QoS 1 under identifier 0.
 const SENT_UNIDENTIFIED: &[u8] = b"\x02\x00\x00\x00\x09\x32\x07\x00\x01a\x00\x00\x00x";
+
+// The fixed header of a PUBLISH of the largest size, 268,435,460 bytes.
+const SENT_LARGEST: &[u8] = b"\x02\x00\x00\x00\x05\x30\xff\xff\xff\x7f";
 
 // A CONNECT of MQTT 3.1.1.
 const SENT_OLD_CONNECT: &[u8] = b"\x02\x00\x00\x00\x0e\x10\x0c\x00\x04MQTT\x04\x02\x00\x3c\x00\x00";
@@ -54,7 +61,7 @@ struct Row {
     report: &'static str,
 }
 
-static ROWS: [Row; 7] = [
+static ROWS: [Row; 10] = [
     Row {
         log: &[HEADER],
         status: PASSED,
@@ -97,6 +104,21 @@ static ROWS: [Row; 7] = [
         log: &[HEADER, OPEN, SENT_OLD_CONNECT],
         status: REFUSED,
         report: "refused 12 OtherVersion at 31\n",
+    },
+    Row {
+        log: &[HEADER, OPEN, SENT_CONNECT, RECV_CONNACK, SENT_LARGEST],
+        status: REFUSED,
+        report: "refused 11 TooLarge at 52\n",
+    },
+    Row {
+        log: &[HEADER, OPEN, b"\x02\x00\x10\x00\x01"],
+        status: REFUSED,
+        report: "refused 6 Length at 17\n",
+    },
+    Row {
+        log: &[b"MQTR\x01\x00\x00\x00", RELEASE],
+        status: REFUSED,
+        report: "refused 9 ReleaseUnrecorded at 8\n",
     },
 ];
 
@@ -199,6 +221,32 @@ fn judges_logs_byte_by_byte(rt: HostRuntime) -> Result<(), Fail> {
         assert_eq!(rt; told.output.as_slice(), row.report.as_bytes());
         assert_eq!(rt; told.status, row.status);
         assert!(rt; told.error.is_empty());
+    }
+    Ok(())
+}
+
+#[test]
+fn reads_packets_up_to_the_limit(rt: HostRuntime) -> Result<(), Fail> {
+    let log = joined(
+        rt.alloc(),
+        &[HEADER, OPEN, SENT_CONNECT, RECV_CONNACK, SENT_LARGEST],
+    )?;
+    let rows = [
+        (268_435_460, Ok(())),
+        (268_435_459, Err(Refusal::TooLarge(52))),
+        (15, Err(Refusal::TooLarge(52))),
+        (14, Err(Refusal::TooLarge(19))),
+    ];
+    for (limit, answer) in rows {
+        let mut judge = Judge::new(rt.alloc(), Options { limit });
+        assert_eq!(rt; judge.feed(log.as_slice()), answer);
+        match judge.finish() {
+            Ok(verdict) => {
+                assert!(rt; answer.is_ok() && verdict.faults.is_empty());
+                assert_eq!(rt; verdict.events, 3);
+            }
+            Err(refusal) => assert_eq!(rt; Err(refusal), answer),
+        }
     }
     Ok(())
 }
