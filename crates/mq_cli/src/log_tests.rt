@@ -390,14 +390,7 @@ static ROWS: [Row; 23] = [
     },
     Row {
         role: CLIENT,
-        parts: &[
-            Open,
-            Sent(CONNECT),
-            Recv(CONNACK),
-            Close,
-            Open,
-            Release(1),
-        ],
+        parts: &[Open, Sent(CONNECT), Recv(CONNACK), Close, Open, Release(1)],
         status: REFUSED,
         report: "refused 13 Early at 59\n",
     },

@@ -11,12 +11,12 @@ use Rattle.mq_judge.specs.declared.rules.role.Role.{Role}
 use Rattle.mq_judge.specs.declared.rules.role.Tested.{Tested}
 use Rattle.mq_judge.specs.declared.rules.note.Seen.{Seen}
 use Rattle.mq_judge.specs.Moments.{or_else, IsPlaced}
-use Rattle.mq_judge.specs.Notes.{is_open, is_release, connack_of, needs_session, needs_connack}
+use Rattle.mq_judge.specs.Notes.{is_open, is_release, connack_of, needs_session}
 use Rattle.mq_judge.specs.Connections.{is_connected, connection, decision, IsInOrder}
 use Rattle.mq_judge.specs.Framing.{tested_by, kind_of, way_of, record_size}
 use Rattle.mq_judge.specs.Events.{Event, Item, note_of, event_by, event_in, item_at, seen_in, opened, closed, rested, released, sent, received}
 use Rattle.mq_judge.specs.Refusals.{Situation, needs_connection, first_standing, conditions, header_refusal, record_refusal, refusal_at, refused, is_answered, is_early}
-use Rattle.mq_judge.specs.Context.{Context, fresh, context, situated, refusal_for, event_for, seen_with, seen_for, put, so_far_for, with_note, after_header, after_part, after}
+use Rattle.mq_judge.specs.Context.{Context, context, situated, refusal_for, event_for, seen_with, seen_for, put, so_far_for, with_note, after_header, after_part, after}
 use Rattle.mq_judge.proofs.ConnectionLaws.{connection-step}
 use Rattle.mq_judge.proofs.ContextLaws.{refused-grow, refusal-kept, seen-kept, seen-nothing, seen-header, tested-behind, at_context, context-grow, context-nothing}
 

@@ -1,5 +1,5 @@
 -- What is found with a byte, by how far its packet is, is what stands in its situation.
-use Rattle.std.proofs.Common.{◌≡◌, ℕ, ◌+◌, Bool, true, false, cond, ◌&&◌, List, [], ◌∷◌, length, Option, Some, None, Result, Ok, Err, refl, sym, ap, ◌∙◌}
+use Rattle.std.proofs.Common.{◌≡◌, ℕ, Bool, true, false, cond, ◌&&◌, List, [], ◌∷◌, length, Option, Some, None, Result, Ok, Err, refl, sym, ap, ◌∙◌}
 use Rattle.std.specs.Prelude.{if◌then◌else◌, not, is_some, is_none, option_map, slice_index, ◌||◌, ◌==◌, nat_lt, nat_le, drop}
 use Rattle.std.specs.Int.{w16, from_be_bytes}
 use Rattle.mq_packet.specs.declared.fault.DecodeFault.{DecodeFault}

@@ -48,6 +48,7 @@ pub fn worked_logs()
     ensures nested { refused 16777216 (client_header ++ opened ++ opened) ≡ Some (Nested 13) }
     ensures second { refused 16777216 (client_header ++ opened ++ closed ++ opened) ≡ None }
     ensures between { refused 16777216 (client_header ++ released) ≡ None }
+    ensures after_closed { refused 16777216 (client_header ++ opened ++ closed ++ released) ≡ None }
     ensures early { refused 16777216 (client_header ++ opened ++ released) ≡ Some (Early 19) }
     ensures unrecorded { refused 16777216 (silent_header ++ released) ≡ Some (ReleaseUnrecorded 8) }
     ensures unopened { refused 16777216 (client_header ++ closed) ≡ Some (NotOpen 8) }

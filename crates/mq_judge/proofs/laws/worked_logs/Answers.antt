@@ -29,6 +29,10 @@ pub returns-clause-between : goal.returns-clause-between
 unfolding read_frame item_at part_at packet_at event_in event_at events_back events seen_in fault_in listed kind_of body_length record_size records begun carried stream pieces header_refusal situation record_refusal refusal_at refused_back refused is_cut_short report_on report breaks_bytes is_in_use breaks_S01 fails fixed_header_of frame_size is_lost
 returns-clause-between c = refl
 
+pub returns-clause-after_closed : goal.returns-clause-after_closed
+unfolding read_frame item_at part_at packet_at event_in event_at events_back events seen_in fault_in listed kind_of body_length record_size records begun carried stream pieces header_refusal situation record_refusal refusal_at refused_back refused is_cut_short report_on report breaks_bytes is_in_use breaks_S01 fails fixed_header_of frame_size is_lost
+returns-clause-after_closed c = refl
+
 pub returns-clause-early : goal.returns-clause-early
 unfolding read_frame item_at part_at packet_at event_in event_at events_back events seen_in fault_in listed kind_of body_length record_size records begun carried stream pieces header_refusal situation record_refusal refusal_at refused_back refused is_cut_short report_on report breaks_bytes is_in_use breaks_S01 fails fixed_header_of frame_size is_lost
 returns-clause-early c = refl
