@@ -25,6 +25,13 @@ const CONNECT: &[u8] = b"\x10\x0d\x00\x04MQTT\x05\x02\x00\x3c\x00\x00\x00";
 
 const CONNECT_OF_C: &[u8] = b"\x10\x0e\x00\x04MQTT\x05\x02\x00\x3c\x00\x00\x01c";
 
+// A client whose session is kept for a minute: it begins one, and goes on with it.
+const CONNECT_ANEW: &[u8] =
+    b"\x10\x13\x00\x04MQTT\x05\x02\x00\x3c\x05\x11\x00\x00\x00\x3c\x00\x01c";
+
+const CONNECT_AGAIN: &[u8] =
+    b"\x10\x13\x00\x04MQTT\x05\x00\x00\x3c\x05\x11\x00\x00\x00\x3c\x00\x01c";
+
 const CONNACK: &[u8] = b"\x20\x03\x00\x00\x00";
 
 // A CONNACK of code 0x87: the client isn't authorized.
@@ -74,7 +81,7 @@ struct Row {
     report: &'static str,
 }
 
-static ROWS: [Row; 23] = [
+static ROWS: [Row; 24] = [
     // Each of the fifteen packets.
     Row {
         role: CLIENT,
@@ -348,6 +355,22 @@ static ROWS: [Row; 23] = [
         ],
         status: PASSED,
         report: "pass 9 events\n",
+    },
+    Row {
+        role: CLIENT,
+        parts: &[
+            Open,
+            Sent(CONNECT_ANEW),
+            Recv(CONNACK),
+            Sent(PUBLISH_ONCE),
+            Close,
+            Open,
+            Sent(CONNECT_AGAIN),
+            Sent(PUBLISH_ONCE),
+            Recv(CONNACK),
+        ],
+        status: REFUSED,
+        report: "refused 13 Early at 112\n",
     },
     // A message is released between its PUBREL and its PUBCOMP, or between two connections.
     Row {
