@@ -1,5 +1,5 @@
 -- Failing pairs and their faults, in a log that grows.
-use Rattle.std.proofs.Common.{◌≡◌, ℕ, ◌+◌, ◌<◌, ◌≤◌, ◌==◌, Bool, true, false, cond, ◌&&◌, ◌||◌, List, [], ◌∷◌, length, Option, Some, None, refl, ap, sym, ◌∙◌, subst, arith, ◌⊎◌, inl, inr}
+use Rattle.std.proofs.Common.{◌≡◌, ℕ, ◌+◌, ◌<◌, ◌≤◌, ◌==◌, Bool, true, false, cond, ◌&&◌, ◌||◌, not, List, [], ◌∷◌, length, Option, Some, None, refl, ap, sym, ◌∙◌, subst, arith, ◌⊎◌, inl, inr}
 use Rattle.std.specs.Prelude.{is_some, option_map}
 use Rattle.std.proofs.lemmas.Bool.{eqb-true}
 use Rattle.mq_packet.specs.declared.rule.PacketRule.{PacketRule}
@@ -16,14 +16,15 @@ use Rattle.mq_judge.specs.declared.rules.note.ItemNote.TheVariants.{Packet, Bad,
 use Rattle.mq_judge.specs.declared.rules.packet_note.PacketNote.{PacketNote}
 use Rattle.mq_judge.specs.declared.rules.packet_note.PacketNote.TheVariants.{Connect, Connack, Publish, Puback, Pubrec, Pubrel, Pubcomp, Subscribe, Suback, Unsubscribe, Unsuback, Pingreq, Pingresp, Disconnect, Auth}
 use Rattle.mq_judge.specs.declared.rules.note.Seen.{Seen}
-use Rattle.mq_judge.specs.Moments.{moment, or_else}
-use Rattle.mq_judge.specs.Notes.{is_open, opener_of, any_id, connack_code, connack_of, new_identifier, is_session_packet, needs_session}
-use Rattle.mq_judge.specs.Connections.{connection_no, events_of, connection, decision, accepts, is_accepted_at, IsInOrder}
-use Rattle.mq_judge.specs.Statements.{fails, binds, is_on_bytes, is_judged_at, is_false_at, breaks_S01, breaks_session, breaks_bytes, is_broken_rule, same_rule, statement_of, broken}
+use Rattle.mq_judge.specs.Moments.{moment, before, since, or_else, earliest}
+use Rattle.mq_judge.specs.Notes.{is_open, is_close, opener_of, closer_of, is_id, any_id, new_identifier, is_session_packet, needs_session}
+use Rattle.mq_judge.specs.declared.rules.admission.Admission.{Admission}
+use Rattle.mq_judge.specs.Connections.{connection_no, events_of, connection, decision, admitted_by, admission_of, admission, accepts, is_accepted, is_accepted_at, session_start, accepted_from, session, is_resumed, IsInOrder}
+use Rattle.mq_judge.specs.Statements.{fails, binds, is_on_bytes, is_judged_at, is_false_at, is_in_use, breaks_S01, breaks_session, breaks_bytes, is_broken_rule, same_rule, statement_of, broken}
 use Rattle.mq_judge.specs.Faults.{decided, told, fault_in}
 use Rattle.mq_judge.proofs.BoolLaws.{not_true, both_true, and_true, and_false, or_else-none}
 use Rattle.mq_judge.proofs.MomentLaws.{moment-newest, moment-older, moment-beyond}
-use Rattle.mq_judge.proofs.ConnectionLaws.{decision-kept, decision-later, in_order-at, connection_no-same, connection-step}
+use Rattle.mq_judge.proofs.ConnectionLaws.{admission-kept, admission-later, admission-undecided, admissions-kept, decision-admission, moment-number, session_start-alike, accepted_from-alike, session-kept, in_order-at, connection_no-same}
 
 -- a statement is on bytes, or it is S01
 family : (rule : Rule) → ((is_on_bytes rule ≡ true) × (same_rule rule S01 ≡ false)) ⊎ (rule ≡ S01)
@@ -50,30 +51,56 @@ family W20 = inl (refl, refl)
 family W21 = inl (refl, refl)
 family S01 = inr refl
 
--- nothing is false where there is no event
-nowhere_false : (rule : Rule) → is_false_at rule [] ≡ false
-nowhere_false rule = refl
-
 fails-nowhere : (tested : Tested) (log : List Seen) (k : ℕ) (rule : Rule) → moment log k ≡ [] → fails tested log k rule ≡ false
 unfolding fails
 fails-nowhere tested log k rule none =
-    ap (λ m. binds rule tested.role && (is_judged_at tested.role rule k log && is_false_at rule m)) none
+    ap (λ m. binds rule tested.role && (is_judged_at tested.role rule k log && is_false_at tested.role rule log k m)) none
     ∙ ap (λ b. binds rule tested.role && b) (and_false (is_judged_at tested.role rule k log)) ∙ and_false (binds rule tested.role)
 
 -- ---- permanence
 
-accepts-kept : (old new : Option ℕ) → ((code : ℕ) → old ≡ Some code → new ≡ Some code) → accepts old ≡ true → accepts new ≡ true
-accepts-kept None new keeps h = absurd (cc)
-accepts-kept (Some code) new keeps h = ap accepts (keeps code refl) ∙ h
+-- the statement is judged at position k of the log, and is false there
+abbrev is_broken : Role → List Seen → ℕ → Rule → Bool
+is_broken role log k rule = is_judged_at role rule k log && is_false_at role rule log k (moment log k)
 
-judged-kept : (role : Role) (rule : Rule) (k : ℕ) (e : Seen) (past : List Seen) → moment (e ∷ past) k ≡ moment past k → is_judged_at role rule k past ≡ true → is_judged_at role rule k (e ∷ past) ≡ true
-judged-kept role rule k e past same h = go (is_on_bytes rule) h
-  where
-    go : (b : Bool) → (b || is_accepted_at role k past) ≡ true → (b || is_accepted_at role k (e ∷ past)) ≡ true
-    go true h = refl
-    go false h =
-        ap (λ m. accepts (decision role (events_of (connection_no m) (e ∷ past)))) same
-        ∙ accepts-kept _ _ (λ code. decision-kept role (connection_no (moment past k)) code e past) h
+-- a statement on bytes looks at its event alone
+false_bytes : (role : Role) (rule : Rule) (log other : List Seen) (k : ℕ) (m : List Seen) → is_on_bytes rule ≡ true → is_false_at role rule log k m ≡ is_false_at role rule other k m
+false_bytes role rule log other k [] w = refl
+false_bytes role rule log other k (e ∷ past) w =
+    ap (λ b. cond b (breaks_bytes rule e) (breaks_session role rule log k e)) w
+    ∙ sym (ap (λ b. cond b (breaks_bytes rule e) (breaks_session role rule other k e)) w)
+
+bytes-same : (role : Role) (e : Seen) (past : List Seen) (k : ℕ) (rule : Rule) → is_on_bytes rule ≡ true → moment (e ∷ past) k ≡ moment past k → is_broken role (e ∷ past) k rule ≡ is_broken role past k rule
+bytes-same role e past k rule w same =
+    ap (λ b. (b || is_accepted_at role k (e ∷ past)) && is_false_at role rule (e ∷ past) k (moment (e ∷ past) k)) w
+    ∙ ap (is_false_at role rule (e ∷ past) k) same ∙ false_bytes role rule (e ∷ past) past k (moment past k) w
+    ∙ sym (ap (λ b. (b || is_accepted_at role k past) && is_false_at role rule past k (moment past k)) w)
+
+-- S01 looks at its event and its session
+false_S01 : (role : Role) (log other : List Seen) (k : ℕ) (m : List Seen) → session role log k ≡ session role other k → is_false_at role S01 log k m ≡ is_false_at role S01 other k m
+unfolding breaks_S01 is_in_use
+false_S01 role log other k [] same = refl
+false_S01 role log other k (e ∷ past) same = ap (λ es. any_id (λ i. since (λ note. is_id i (opener_of note)) (λ note. is_id i (closer_of note)) es) (opener_of e.note)) same
+
+-- where a position's connection is decided, S01 there is what it is in every longer log
+S01-same : (role : Role) (e : Seen) (past : List Seen) (k : ℕ) → moment (e ∷ past) k ≡ moment past k → is_some (admission role (connection_no (moment past k)) past) ≡ true → is_broken role (e ∷ past) k S01 ≡ is_broken role past k S01
+S01-same role e past k same decided =
+    let n = connection_no (moment past k) in
+    let le : n ≤ n = omega arith in
+    ap (λ m. is_accepted role (connection_no m) (e ∷ past) && is_false_at role S01 (e ∷ past) k m) same
+    ∙ ap (λ o. accepts o && is_false_at role S01 (e ∷ past) k (moment past k)) (admissions-kept role n e past (moment-number past k) decided n le)
+    ∙ ap (λ b. is_accepted role n past && b) (false_S01 role (e ∷ past) past k (moment past k) (session-kept role e past k same decided))
+
+accepts-some : (o : Option Admission) → accepts o ≡ true → is_some o ≡ true
+accepts-some None h = absurd (cc)
+accepts-some (Some a) h = refl
+
+broken-kept : (role : Role) (e : Seen) (past : List Seen) (k : ℕ) (rule : Rule) → moment (e ∷ past) k ≡ moment past k → is_broken role past k rule ≡ true → is_broken role (e ∷ past) k rule ≡ true
+broken-kept role e past k rule same h = elim (family rule) [
+  | inl w ↦ bytes-same role e past k rule w.0 same ∙ h
+  | inr is ↦ subst (λ (r : Rule). is_broken role past k r ≡ true → is_broken role (e ∷ past) k r ≡ true) (sym is)
+      (λ h. S01-same role e past k same (accepts-some (admission role (connection_no (moment past k)) past) (both_true (is_accepted_at role k past) (is_false_at role S01 past k (moment past k)) h).0) ∙ h) h
+]
 
 -- a pair that fails has an event, which what comes later leaves where it is
 fails-there : (tested : Tested) (e : Seen) (past : List Seen) (k : ℕ) (rule : Rule) → fails tested past k rule ≡ true → (k == length past + 1) ≡ false
@@ -87,9 +114,8 @@ unfolding fails
 fails-kept tested past e k rule h =
     let apart : (k == length past + 1) ≡ false = fails-there tested e past k rule h in
     let same : moment (e ∷ past) k ≡ moment past k = ap (λ b. cond b (e ∷ past) (moment past k)) apart in
-    let bound = both_true (binds rule tested.role) (is_judged_at tested.role rule k past && is_false_at rule (moment past k)) h in
-    let there = both_true (is_judged_at tested.role rule k past) (is_false_at rule (moment past k)) bound.1 in
-    and_true (binds rule tested.role) _ bound.0 (and_true (is_judged_at tested.role rule k (e ∷ past)) _ (judged-kept tested.role rule k e past same there.0) (ap (is_false_at rule) same ∙ there.1))
+    let bound = both_true (binds rule tested.role) (is_broken tested.role past k rule) h in
+    and_true (binds rule tested.role) (is_broken tested.role (e ∷ past) k rule) bound.0 (broken-kept tested.role e past k rule same bound.1)
 
 -- what fails in a beginning of the log fails in the log
 pub fails-later : (tested : Tested) (log : List Seen) (n k : ℕ) (rule : Rule) → fails tested (moment log n) k rule ≡ true → fails tested log k rule ≡ true
@@ -167,14 +193,6 @@ fault_in-newest tested e past rule = go (decided tested past (length past + 1) r
     go None h true = refl
     go None h false = refl
 
--- the statements that are judged at a position of a log in order are those in every longer log
-judged-settled : (role : Role) (log : List Seen) (k : ℕ) (f : Seen) (before : List Seen) (code : ℕ) → moment log k ≡ f ∷ before → is_open f.note ≡ false
-    → decision role (connection before) ≡ Some code → decision role (events_of (connection_no (moment log k)) log) ≡ Some code
-judged-settled role log k f before code at closed there =
-    let number : connection_no (moment log k) ≡ connection_no before = ap connection_no at ∙ connection_no-same f before closed in
-    let early : decision role (events_of (connection_no before) (moment log k)) ≡ Some code = ap (λ m. decision role (events_of (connection_no before) m)) at ∙ decision-kept role (connection_no before) code f before there in
-    ap (λ c. decision role (events_of c log)) number ∙ decision-later role (connection_no before) code k log early
-
 -- a new PUBLISH needs a session
 new_needs : (p : PacketNote) (test : ℕ → Bool) → any_id test (new_identifier (Some p)) ≡ true → is_session_packet p ≡ true
 new_needs Connect test h = absurd (cc)
@@ -204,25 +222,44 @@ opener_needs (Sent Lost) test h = absurd (cc)
 opener_needs (Sent (Bad first rule at)) test h = absurd (cc)
 opener_needs (Sent (Packet p)) test h = (refl, new_needs p test h)
 
-both_same : (o p : Option ℕ) (b : Bool) → (b ≡ true → (is_some o ≡ true) × (o ≡ p)) → (accepts o && b) ≡ (accepts p && b)
-both_same o p true f = ap (λ x. accepts x && true) (f refl).1
-both_same o p false f = and_false (accepts o) ∙ sym (and_false (accepts p))
+some_admission : (o : Option Admission) → is_some o ≡ true → (a : Admission) × (o ≡ Some a)
+some_admission None h = absurd (cc)
+some_admission (Some a) h = (a, refl)
 
-some_code : (o : Option ℕ) → is_some o ≡ true → (code : ℕ) × (o ≡ Some code)
-some_code None h = absurd (cc)
-some_code (Some code) h = (code, refl)
+some_is : (o : Option Admission) (a : Admission) → o ≡ Some a → is_some o ≡ true
+some_is o a h = ap is_some h
 
--- where S01 is false at a position of a log in order, its connection's CONNACK has come before
-accepted_before : (role : Role) (log : List Seen) (k : ℕ) → IsInOrder role log → is_false_at S01 (moment log k) ≡ true → (code : ℕ) × (decision role (events_of (connection_no (moment log k)) log) ≡ Some code)
+-- at an opener of a log in order, its connection is decided before
+decided_before : (role : Role) (log : List Seen) (k : ℕ) (f : Seen) (before : List Seen) → IsInOrder role log → moment log k ≡ f ∷ before → is_open f.note ≡ false → needs_session f.note ≡ true
+    → is_some (admission role (connection_no (moment log k)) log) ≡ true
+decided_before role log k f before order at closed needs =
+    let a = some_admission (admission role (connection_no before) before) (decision-admission role (connection before) (in_order-at role log k f before order at needs)) in
+    let number : connection_no (moment log k) ≡ connection_no before = ap connection_no at ∙ connection_no-same f before closed in
+    let early : admission role (connection_no before) (moment log k) ≡ Some a.0 = ap (admission role (connection_no before)) at ∙ admission-kept role (connection_no before) a.0 f before a.1 in
+    some_is (admission role (connection_no (moment log k)) log) a.0 (ap (λ c. admission role c log) number ∙ admission-later role (connection_no before) a.0 k log early)
+
+-- an event that opens nothing breaks no S01
+no_opener : (role : Role) (log : List Seen) (k : ℕ) (f : Seen) → opener_of f.note ≡ None → breaks_S01 role log k f ≡ false
 unfolding breaks_S01
-accepted_before role log k order h = go (moment log k) refl h
+no_opener role log k f none = ap (any_id (is_in_use role log k)) none
+
+S01-settled : (role : Role) (e : Seen) (past : List Seen) (k : ℕ) → IsInOrder role past → moment (e ∷ past) k ≡ moment past k → is_broken role (e ∷ past) k S01 ≡ is_broken role past k S01
+S01-settled role e past k order same = go (moment past k) refl
   where
-    go : (m : List Seen) → moment log k ≡ m → is_false_at S01 m ≡ true → (code : ℕ) × (decision role (events_of (connection_no (moment log k)) log) ≡ Some code)
-    go [] at h = absurd (cc)
-    go (f ∷ before) at h =
-        let needs = opener_needs f.note _ h in
-        let code = some_code (decision role (connection before)) (in_order-at role log k f before order at needs.1) in
-        (code.0, judged-settled role log k f before code.0 at needs.0 code.1)
+    nothing : (m : List Seen) → moment past k ≡ m → is_false_at role S01 (e ∷ past) k m ≡ false → is_false_at role S01 past k m ≡ false → is_broken role (e ∷ past) k S01 ≡ is_broken role past k S01
+    nothing m at now then_too =
+        ap (λ n. is_accepted_at role k (e ∷ past) && is_false_at role S01 (e ∷ past) k n) (same ∙ at) ∙ ap (λ b. is_accepted_at role k (e ∷ past) && b) now ∙ and_false (is_accepted_at role k (e ∷ past))
+        ∙ sym (ap (λ n. is_accepted_at role k past && is_false_at role S01 past k n) at ∙ ap (λ b. is_accepted_at role k past && b) then_too ∙ and_false (is_accepted_at role k past))
+
+    go : (m : List Seen) → moment past k ≡ m → is_broken role (e ∷ past) k S01 ≡ is_broken role past k S01
+    go [] at = nothing [] at refl refl
+    go (f ∷ before) at = by_opener (opener_of f.note) refl
+      where
+        by_opener : (o : Option ℕ) → opener_of f.note ≡ o → is_broken role (e ∷ past) k S01 ≡ is_broken role past k S01
+        by_opener None is = nothing (f ∷ before) at (no_opener role (e ∷ past) k f is) (no_opener role past k f is)
+        by_opener (Some i) is =
+            let needs = opener_needs f.note (λ i. true) (ap (any_id (λ i. true)) is) in
+            S01-same role e past k same (decided_before role past k f before order at needs.0 needs.1)
 
 -- in a log in order, what comes later changes nothing at a position
 fails-settled : (tested : Tested) (e : Seen) (past : List Seen) (k : ℕ) (rule : Rule) → IsInOrder tested.role past → (k == length past + 1) ≡ false → fails tested (e ∷ past) k rule ≡ fails tested past k rule
@@ -232,21 +269,10 @@ fails-settled tested e past k rule order apart = ap (λ b. binds rule tested.rol
     same : moment (e ∷ past) k ≡ moment past k
     same = ap (λ b. cond b (e ∷ past) (moment past k)) apart
 
-    of_session : (is_judged_at tested.role S01 k (e ∷ past) && is_false_at S01 (moment (e ∷ past) k)) ≡ (is_judged_at tested.role S01 k past && is_false_at S01 (moment past k))
-    of_session =
-        ap (λ m. accepts (decision tested.role (events_of (connection_no m) (e ∷ past))) && is_false_at S01 m) same
-        ∙ both_same (decision tested.role (events_of (connection_no (moment past k)) (e ∷ past))) (decision tested.role (events_of (connection_no (moment past k)) past)) (is_false_at S01 (moment past k)) (λ h.
-        let code = accepted_before tested.role past k order h in
-        let kept = decision-kept tested.role (connection_no (moment past k)) code.0 e past code.1 in
-        (ap is_some kept, kept ∙ sym code.1))
-
-    by_rule : (rule : Rule) → (is_judged_at tested.role rule k (e ∷ past) && is_false_at rule (moment (e ∷ past) k)) ≡ (is_judged_at tested.role rule k past && is_false_at rule (moment past k))
+    by_rule : (rule : Rule) → is_broken tested.role (e ∷ past) k rule ≡ is_broken tested.role past k rule
     by_rule rule = elim (family rule) [
-      | inl w ↦
-          ap (λ b. (b || is_accepted_at tested.role k (e ∷ past)) && is_false_at rule (moment (e ∷ past) k)) w.0
-          ∙ ap (is_false_at rule) same
-          ∙ sym (ap (λ b. (b || is_accepted_at tested.role k past) && is_false_at rule (moment past k)) w.0)
-      | inr is ↦ subst (λ (r : Rule). (is_judged_at tested.role r k (e ∷ past) && is_false_at r (moment (e ∷ past) k)) ≡ (is_judged_at tested.role r k past && is_false_at r (moment past k))) (sym is) of_session
+      | inl w ↦ bytes-same tested.role e past k rule w.0 same
+      | inr is ↦ subst (λ (r : Rule). is_broken tested.role (e ∷ past) k r ≡ is_broken tested.role past k r) (sym is) (S01-settled tested.role e past k order same)
     ]
 
 -- and the pair's fault is the one that it had
@@ -286,7 +312,7 @@ fault_in-step tested e past k rule order = go (k == length past + 1) refl
 -- ---- what fails at the newest position
 
 -- a new PUBLISH is no CONNACK
-new_decides : (p : PacketNote) (test : ℕ → Bool) → any_id test (new_identifier (Some p)) ≡ true → connack_code (Some p) ≡ None
+new_decides : (p : PacketNote) (test : ℕ → Bool) → any_id test (new_identifier (Some p)) ≡ true → admitted_by (Some p) ≡ None
 new_decides Connect test h = refl
 new_decides (Connack session_present code) test h = absurd (cc)
 new_decides (Publish identifier qos duplicate) test h = refl
@@ -303,8 +329,8 @@ new_decides Pingresp test h = refl
 new_decides (Disconnect code) test h = refl
 new_decides (Auth code) test h = refl
 
--- the event after which a position's connection is told: an opener is no CONNACK
-opener_decides : (role : Role) (note : Note) (test : ℕ → Bool) → any_id test (opener_of note) ≡ true → connack_of role note ≡ None
+-- an opener decides no connection
+opener_decides : (role : Role) (note : Note) (test : ℕ → Bool) → any_id test (opener_of note) ≡ true → admission_of role note ≡ None
 opener_decides role Open test h = absurd (cc)
 opener_decides role Close test h = absurd (cc)
 opener_decides role Rest test h = absurd (cc)
@@ -315,20 +341,61 @@ opener_decides role (Sent (Bad first rule at)) test h = absurd (cc)
 opener_decides Client (Sent (Packet p)) test h = refl
 opener_decides Server (Sent (Packet p)) test h = new_decides p test h
 
-judged_newest : (role : Role) (e : Seen) (past : List Seen) → (is_judged_at role S01 (length past + 1) (e ∷ past) && is_false_at S01 (e ∷ past)) ≡ (accepts (decision role (connection past)) && breaks_S01 e past)
-unfolding breaks_S01
-judged_newest role e past =
-    ap (λ m. accepts (decision role (events_of (connection_no m) (e ∷ past))) && breaks_S01 e past) (moment-newest e past)
-    ∙ both_other (breaks_S01 e past) refl
+-- the newest event breaks S01, by what stands before it
+abbrev pub is_broken_newest : Role → Seen → List Seen → Bool
+is_broken_newest role e past = accepts (admission role (connection_no past) past)
+    && any_id (λ i. since (λ n. is_id i (opener_of n)) (λ n. is_id i (closer_of n)) (accepted_from role past (session_start role past past) past)) (opener_of e.note)
+
+within : (a b : Bool) (test : List Seen → Bool) (es other : List Seen) → a ≡ b → es ≡ other → test [] ≡ false → (a && test (cond a es [])) ≡ (b && test other)
+within a b test es other same is none = ap (λ a. a && test (cond a es [])) same ∙ go b
   where
-    both_other : (b : Bool) → breaks_S01 e past ≡ b → (accepts (decision role (connection (e ∷ past))) && b) ≡ (accepts (decision role (connection past)) && b)
-    both_other false h = and_false (accepts (decision role (connection (e ∷ past)))) ∙ sym (and_false (accepts (decision role (connection past))))
-    both_other true h =
-        let closed = (opener_needs e.note _ h).0 in
-        ap (λ c. accepts (decision role c) && true) (connection-step e past)
-        ∙ ap (λ b. accepts (decision role (cond b (e ∷ []) (e ∷ connection past))) && true) closed
-        ∙ ap (λ o. accepts (or_else (decision role (connection past)) o) && true) (opener_decides role e.note _ h)
-        ∙ ap (λ o. accepts o && true) (or_else-none (decision role (connection past)))
+    go : (b : Bool) → (b && test (cond b es [])) ≡ (b && test other)
+    go true = ap test is
+    go false = refl
+
+judged_newest : (role : Role) (e : Seen) (past : List Seen) → (is_judged_at role S01 (length past + 1) (e ∷ past) && is_false_at role S01 (e ∷ past) (length past + 1) (e ∷ past)) ≡ is_broken_newest role e past
+unfolding breaks_S01 is_in_use
+judged_newest role e past = by_opener (opener_of e.note) refl
+  where
+    k : ℕ
+    k = length past + 1
+
+    log : List Seen
+    log = e ∷ past
+
+    used_in : ℕ → List Seen → Bool
+    used_in i es = since (λ n. is_id i (opener_of n)) (λ n. is_id i (closer_of n)) es
+
+    by_opener : (o : Option ℕ) → opener_of e.note ≡ o → (is_accepted_at role k log && any_id (λ i. used_in i (session role log k)) (opener_of e.note))
+        ≡ (accepts (admission role (connection_no past) past) && any_id (λ i. used_in i (accepted_from role past (session_start role past past) past)) (opener_of e.note))
+    by_opener None is =
+        ap (λ o. is_accepted_at role k log && any_id (λ i. used_in i (session role log k)) o) is ∙ and_false (is_accepted_at role k log)
+        ∙ sym (ap (λ o. accepts (admission role (connection_no past) past) && any_id (λ i. used_in i (accepted_from role past (session_start role past past) past)) o) is ∙ and_false (accepts (admission role (connection_no past) past)))
+    by_opener (Some i) is =
+        ap (λ o. is_accepted_at role k log && any_id (λ i. used_in i (session role log k)) o) is
+        ∙ ap (λ m. is_accepted role (connection_no m) log && used_in i (cond (is_accepted role (connection_no m) log) (accepted_from role log (session_start role log m) (before m)) [])) (moment-newest e past)
+        ∙ within (is_accepted role (connection_no log) log) (accepts (admission role (connection_no past) past)) (used_in i) (accepted_from role log (session_start role log log) past) (accepted_from role past (session_start role past past) past) accepted parts refl
+        ∙ sym (ap (λ o. accepts (admission role (connection_no past) past) && any_id (λ i. used_in i (accepted_from role past (session_start role past past) past)) o) is)
+      where
+        one : any_id (λ i. true) (opener_of e.note) ≡ true
+        one = ap (any_id (λ i. true)) is
+
+        closed : is_open e.note ≡ false
+        closed = (opener_needs e.note (λ i. true) one).0
+
+        alike : (c : ℕ) → admission role c log ≡ admission role c past
+        alike c = admission-undecided role c e past (opener_decides role e.note (λ i. true) one)
+
+        accepted : is_accepted role (connection_no log) log ≡ accepts (admission role (connection_no past) past)
+        accepted = ap (λ c. is_accepted role c log) (connection_no-same e past closed) ∙ ap accepts (alike (connection_no past))
+
+        start : session_start role log log ≡ session_start role past past
+        start =
+            ap (λ b. cond (b && (is_accepted role (connection_no log) log && not (is_resumed role (connection_no log) log))) (connection_no log) (session_start role log past)) closed
+            ∙ session_start-alike role log past past (connection_no past) (λ c le. alike c) (omega arith)
+
+        parts : accepted_from role log (session_start role log log) past ≡ accepted_from role past (session_start role past past) past
+        parts = ap (λ s. accepted_from role log s past) start ∙ accepted_from-alike role log past (session_start role past past) past (connection_no past) (λ c le. alike c) (omega arith)
 
 breaks_S01-bytes : (e : Seen) → breaks_bytes S01 e ≡ false
 unfolding breaks_bytes
@@ -365,23 +432,22 @@ or-false : (b : Bool) → (b || false) ≡ b
 or-false true = refl
 or-false false = refl
 
--- at its own position an event fails a W statement by its bytes, or S01 by what stands before it on its connection
-pub fails-newest : (tested : Tested) (e : Seen) (past : List Seen) (rule : Rule) → fails tested (e ∷ past) (length past + 1) rule
-    ≡ (breaks_bytes rule e || (same_rule rule S01 && (accepts (decision tested.role (connection past)) && breaks_S01 e past)))
+-- at its own position an event fails a W statement by its bytes, or S01 by what stands before it in its session
+pub fails-newest : (tested : Tested) (e : Seen) (past : List Seen) (rule : Rule) → fails tested (e ∷ past) (length past + 1) rule ≡ (breaks_bytes rule e || (same_rule rule S01 && is_broken_newest tested.role e past))
 unfolding fails
 fails-newest tested e past rule =
-    ap (λ m. binds rule tested.role && (is_judged_at tested.role rule (length past + 1) (e ∷ past) && is_false_at rule m)) (moment-newest e past) ∙ by_rule rule
+    ap (λ m. binds rule tested.role && (is_judged_at tested.role rule (length past + 1) (e ∷ past) && is_false_at tested.role rule (e ∷ past) (length past + 1) m)) (moment-newest e past) ∙ by_rule rule
   where
-    by_rule : (rule : Rule) → (binds rule tested.role && (is_judged_at tested.role rule (length past + 1) (e ∷ past) && is_false_at rule (e ∷ past)))
-        ≡ (breaks_bytes rule e || (same_rule rule S01 && (accepts (decision tested.role (connection past)) && breaks_S01 e past)))
+    by_rule : (rule : Rule) → (binds rule tested.role && (is_judged_at tested.role rule (length past + 1) (e ∷ past) && is_false_at tested.role rule (e ∷ past) (length past + 1) (e ∷ past)))
+        ≡ (breaks_bytes rule e || (same_rule rule S01 && is_broken_newest tested.role e past))
     by_rule rule = elim (family rule) [
       | inl w ↦
-          ap (λ b. (b || is_accepted_at tested.role (length past + 1) (e ∷ past)) && cond b (breaks_bytes rule e) (breaks_session rule e past)) w.0
+          ap (λ b. (b || is_accepted_at tested.role (length past + 1) (e ∷ past)) && cond b (breaks_bytes rule e) (breaks_session tested.role rule (e ∷ past) (length past + 1) e)) w.0
           ∙ sym (or-false (breaks_bytes rule e))
-          ∙ sym (ap (λ b. breaks_bytes rule e || (b && (accepts (decision tested.role (connection past)) && breaks_S01 e past))) w.1)
+          ∙ sym (ap (λ b. breaks_bytes rule e || (b && is_broken_newest tested.role e past)) w.1)
       | inr is ↦
-          subst (λ (r : Rule). (is_judged_at tested.role r (length past + 1) (e ∷ past) && is_false_at r (e ∷ past)) ≡ (breaks_bytes r e || (same_rule r S01 && (accepts (decision tested.role (connection past)) && breaks_S01 e past)))) (sym is)
-          (judged_newest tested.role e past ∙ ap (λ b. b || (accepts (decision tested.role (connection past)) && breaks_S01 e past)) (sym (breaks_S01-bytes e)))
+          subst (λ (r : Rule). (is_judged_at tested.role r (length past + 1) (e ∷ past) && is_false_at tested.role r (e ∷ past) (length past + 1) (e ∷ past)) ≡ (breaks_bytes r e || (same_rule r S01 && is_broken_newest tested.role e past))) (sym is)
+          (judged_newest tested.role e past ∙ ap (λ b. b || is_broken_newest tested.role e past) (sym (breaks_S01-bytes e)))
     ]
 
 -- a log without events has no faults

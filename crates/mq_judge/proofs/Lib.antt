@@ -6,6 +6,7 @@ pub mod FramingLaws
 pub mod HalfLaws
 pub mod JudgeLaws
 pub mod ListingLaws
+pub mod LookbackLaws
 pub mod MarkLaws
 pub mod MomentLaws
 pub mod OrderLaws

@@ -16,17 +16,19 @@ use Rattle.mq_judge.specs.declared.rules.rule.Rule.TheVariants.{S01}
 use Rattle.mq_judge.specs.declared.rules.note.Note.TheVariants.{Open}
 use Rattle.mq_judge.specs.declared.rules.note.Seen.{Seen}
 use Rattle.mq_judge.specs.declared.rules.fault.Fault.{Fault}
-use Rattle.mq_judge.specs.Moments.{moment, since, or_else, IsPlaced}
-use Rattle.mq_judge.specs.Notes.{is_open, opener_of, closer_of, is_id, any_id, connack_of}
-use Rattle.mq_judge.specs.Connections.{connection, decision, accepts, IsInOrder}
-use Rattle.mq_judge.specs.Statements.{fails, breaks_S01, breaks_bytes, is_in_use, is_broken_rule, same_rule, statement_of, broken, broken_at, is_on_bytes}
+use Rattle.mq_judge.specs.Moments.{moment, or_else, earliest, IsPlaced}
+use Rattle.mq_judge.specs.Notes.{is_open, opener_of, any_id}
+use Rattle.mq_judge.specs.declared.rules.admission.Admission.{Admission}
+use Rattle.mq_judge.specs.Connections.{connection_no, connection, admission_of, admission, accepts, IsInOrder}
+use Rattle.mq_judge.specs.Statements.{fails, breaks_bytes, is_broken_rule, same_rule, statement_of, broken, broken_at, is_on_bytes}
 use Rattle.mq_judge.specs.Faults.{told, fault_in, GrowsWithin}
 use Rattle.mq_judge.specs.Marks.{FaultMap, fault_at, with_fault, judged}
 use Rattle.mq_judge.proofs.BoolLaws.{and_false, or_else-none}
 use Rattle.mq_judge.proofs.MarkLaws.{fault_at-with_fault, fault_at-judged, same_told}
 use Rattle.mq_judge.proofs.MomentLaws.{moment-newest, moment-older}
 use Rattle.mq_judge.proofs.ConnectionLaws.{connection-step}
-use Rattle.mq_judge.proofs.FaultLaws.{fault_in-step, fault_in-start, fails-newest}
+use Rattle.mq_judge.proofs.FaultLaws.{fault_in-step, fault_in-start, fails-newest, is_broken_newest}
+use Rattle.mq_judge.proofs.LookbackLaws.{is_used}
 
 -- ---- the W statements
 
@@ -106,10 +108,10 @@ S01_told e k rule true b = go (same_rule rule S01) refl
 pub event-step : (tested : Tested) (e : Seen) (past : List Seen) (k : ℕ) (rule : Rule) (first old mid new : Option Fault) → IsInOrder tested.role past → e.place.position ≡ length past + 1
     → old ≡ or_else first (fault_in tested past k rule)
     → mid ≡ or_else old (cond ((k == e.place.position) && breaks_bytes rule e) (Some (told (e ∷ []) rule k)) None)
-    → new ≡ or_else mid (cond ((k == e.place.position) && (same_rule rule S01 && (accepts (decision tested.role (connection past)) && breaks_S01 e past))) (Some (record { decided = k; record_no = e.place.record_no; offset = None })) None)
+    → new ≡ or_else mid (cond ((k == e.place.position) && (same_rule rule S01 && is_broken_newest tested.role e past)) (Some (record { decided = k; record_no = e.place.record_no; offset = None })) None)
     → new ≡ or_else first (fault_in tested (e ∷ past) k rule)
 event-step tested e past k rule first old mid new order placed was then now =
-    now ∙ ap (or_else mid) (S01_told e k rule (k == e.place.position) (accepts (decision tested.role (connection past)) && breaks_S01 e past))
+    now ∙ ap (or_else mid) (S01_told e k rule (k == e.place.position) (is_broken_newest tested.role e past))
     ∙ ap (λ o. or_else o (cond ((k == e.place.position) && taken) (Some (told (e ∷ []) rule k)) None)) (then ∙ ap (λ o. or_else o (cond ((k == e.place.position) && breaks_bytes rule e) (Some (told (e ∷ []) rule k)) None)) was)
     ∙ in_turn first (fault_in tested past k rule) (k == e.place.position) (breaks_bytes rule e) taken (told (e ∷ []) rule k)
     ∙ ap (λ p. or_else first (or_else (fault_in tested past k rule) (cond ((k == p) && (breaks_bytes rule e || taken)) (Some (told (e ∷ []) rule k)) None))) placed
@@ -117,7 +119,7 @@ event-step tested e past k rule first old mid new order placed was then now =
     ∙ ap (or_else first) (sym (fault_in-step tested e past k rule order))
   where
     taken : Bool
-    taken = same_rule rule S01 && (accepts (decision tested.role (connection past)) && breaks_S01 e past)
+    taken = same_rule rule S01 && is_broken_newest tested.role e past
 
 -- ---- a list that is read from its front
 
@@ -157,57 +159,32 @@ unset = record { place = record { position = 0; record_no = 0 }; note = Open }
 
 -- ---- the loop
 
--- a part of the list that grows by an event
-grown : (seen : List Seen) (i s : ℕ) → s ≤ i → i < length seen → reverse (take (i + 1 - s) (drop s seen)) ≡ get_or seen i unset ∷ reverse (take (i - s) (drop s seen))
-grown seen i s h lt =
-    let count : i + 1 - s ≡ i - s + 1 = omega arith in
-    let within : i - s < length (drop s seen) = omega (arith, length-drop s seen) in
-    let place : s + (i - s) ≡ i = omega arith in
-    ap (λ n. reverse (take n (drop s seen))) count ∙ newest-first (drop s seen) (i - s) unset within
-    ∙ ap (λ e. e ∷ reverse (take (i - s) (drop s seen))) (get_or-drop s seen (i - s) unset ∙ ap (λ n. get_or seen n unset) place)
-
--- where the connection begins that the events so far end on
-pub start-step : (seen past : List Seen) (i s : ℕ) → s ≤ i → i < length seen → reverse (take (i - s) (drop s seen)) ≡ connection past → (b : Bool) → is_open (get_or seen i unset).note ≡ b
-    → reverse (take (i + 1 - cond b i s) (drop (cond b i s) seen)) ≡ connection (get_or seen i unset ∷ past)
-start-step seen past i s h lt so true is =
-    let none : i - i ≡ 0 = omega arith in
-    let le : i ≤ i = omega arith in
-    grown seen i i le lt ∙ ap (λ n. get_or seen i unset ∷ reverse (take n (drop i seen))) none
-    ∙ ap (λ b. cond b (get_or seen i unset ∷ []) (get_or seen i unset ∷ connection past)) (sym is) ∙ sym (connection-step (get_or seen i unset) past)
-start-step seen past i s h lt so false is =
-    grown seen i s h lt ∙ ap (λ es. get_or seen i unset ∷ es) so
-    ∙ ap (λ b. cond b (get_or seen i unset ∷ []) (get_or seen i unset ∷ connection past)) (sym is) ∙ sym (connection-step (get_or seen i unset) past)
-
--- the decision that the events so far leave
-pub decision-step : (role : Role) (e : Seen) (past : List Seen) (o : Option ℕ) → o ≡ decision role (connection past) → or_else (cond (is_open e.note) None o) (connack_of role e.note) ≡ decision role (connection (e ∷ past))
-decision-step role e past o is =
-    ap (λ o. or_else (cond (is_open e.note) None o) (connack_of role e.note)) is
-    ∙ go (is_open e.note) ∙ ap (decision role) (sym (connection-step e past))
+-- what has become of the latest connection with one event more
+pub admission-step : (role : Role) (e : Seen) (past : List Seen) (o : Option Admission) → o ≡ admission role (connection_no past) past → or_else (cond (is_open e.note) None o) (admission_of role e.note) ≡ admission role (connection_no (e ∷ past)) (e ∷ past)
+admission-step role e past o is =
+    ap (λ o. or_else (cond (is_open e.note) None o) (admission_of role e.note)) is
+    ∙ go (is_open e.note) ∙ ap (earliest (admission_of role)) (sym (connection-step e past))
   where
-    go : (b : Bool) → or_else (cond b None (decision role (connection past))) (connack_of role e.note) ≡ decision role (cond b (e ∷ []) (e ∷ connection past))
+    go : (b : Bool) → or_else (cond b None (admission role (connection_no past) past)) (admission_of role e.note) ≡ earliest (admission_of role) (cond b (e ∷ []) (e ∷ connection past))
     go true = refl
     go false = refl
 
 -- the faults of one event more
-pub told-step : (tested : Tested) (seen : List Seen) (i : ℕ) (first : ℕ → Rule → Option Fault) (old mid new : FaultMap) (decided : Option ℕ) (before : List Seen) (taken : Bool)
+pub told-step : (tested : Tested) (seen : List Seen) (i : ℕ) (first : ℕ → Rule → Option Fault) (old mid new : FaultMap) (decided : Option Admission) (taken : Bool)
     → IsPlaced (reverse seen) → IsInOrder tested.role (reverse seen) → i < length seen
     → ((k : ℕ) (rule : Rule) → fault_at old k rule ≡ or_else (first k rule) (fault_in tested (reverse (take i seen)) k rule))
-    → decided ≡ decision tested.role (connection (reverse (take i seen)))
-    → reverse before ≡ connection (reverse (take i seen))
+    → decided ≡ admission tested.role (connection_no (reverse (take i seen))) (reverse (take i seen))
     → ((k : ℕ) (rule : Rule) → fault_at mid k rule ≡ or_else (fault_at old k rule) (cond ((k == (get_or seen i unset).place.position) && breaks_bytes rule (get_or seen i unset)) (Some (told (get_or seen i unset ∷ []) rule k)) None))
-    → taken ≡ (accepts decided && any_id (λ i. since (λ n. is_id i (opener_of n)) (λ n. is_id i (closer_of n)) (reverse before)) (opener_of (get_or seen i unset).note))
+    → taken ≡ (accepts decided && any_id (λ j. is_used tested.role j (reverse (take i seen)) (reverse (take i seen))) (opener_of (get_or seen i unset).note))
     → new ≡ judged taken S01 (get_or seen i unset).place mid
     → (k : ℕ) (rule : Rule) → fault_at new k rule ≡ or_else (first k rule) (fault_in tested (reverse (take (i + 1) seen)) k rule)
-unfolding breaks_S01 is_in_use
-told-step tested seen i first old mid new decided before taken placed order lt was is so then here now k rule =
+told-step tested seen i first old mid new decided taken placed order lt was is then here now k rule =
     let e = get_or seen i unset in
     let past = reverse (take i seen) in
     let front : reverse (take (i + 1) seen) ≡ e ∷ past = newest-first seen i unset lt in
     let spot : IsPlaced (e ∷ past) = subst IsPlaced front (placed-beginning seen (i + 1) placed) in
-    let broken : taken ≡ (accepts (decision tested.role (connection past)) && breaks_S01 e past) =
-    here ∙ ap (λ o. accepts o && any_id (λ i. since (λ n. is_id i (opener_of n)) (λ n. is_id i (closer_of n)) (reverse before)) (opener_of e.note)) is
-    ∙ ap (λ es. accepts (decision tested.role (connection past)) && any_id (λ i. since (λ n. is_id i (opener_of n)) (λ n. is_id i (closer_of n)) es) (opener_of e.note)) so in
-    let after : fault_at new k rule ≡ or_else (fault_at mid k rule) (cond ((k == e.place.position) && (same_rule rule S01 && (accepts (decision tested.role (connection past)) && breaks_S01 e past))) (Some (record { decided = k; record_no = e.place.record_no; offset = None })) None) =
+    let broken : taken ≡ is_broken_newest tested.role e past = here ∙ ap (λ o. accepts o && any_id (λ j. is_used tested.role j past past) (opener_of e.note)) is in
+    let after : fault_at new k rule ≡ or_else (fault_at mid k rule) (cond ((k == e.place.position) && (same_rule rule S01 && is_broken_newest tested.role e past)) (Some (record { decided = k; record_no = e.place.record_no; offset = None })) None) =
     ap (λ m. fault_at m k rule) now ∙ fault_at-judged mid taken S01 rule e.place k
     ∙ ap (λ b. or_else (fault_at mid k rule) (cond ((k == e.place.position) && (same_rule rule S01 && b)) (Some (record { decided = k; record_no = e.place.record_no; offset = None })) None)) broken in
     event-step tested e past k rule (first k rule) (fault_at old k rule) (fault_at mid k rule) (fault_at new k rule) (in_order-beginning tested.role seen i order) spot.0 (was k rule) (then k rule) after
@@ -215,10 +192,6 @@ told-step tested seen i first old mid new decided before taken placed order lt w
 
 pub told-start : (tested : Tested) (k : ℕ) (rule : Rule) (o : Option Fault) → o ≡ or_else o (fault_in tested [] k rule)
 told-start tested k rule o = sym (ap (or_else o) (fault_in-start tested k rule) ∙ or_else-none o)
-
-pub begun-step : (b : Bool) (i s : ℕ) → s ≤ i → cond b i s ≤ i + 1
-begun-step true i s h = omega arith
-begun-step false i s h = omega arith
 
 moment-later : (ys past : List Seen) (k : ℕ) → k ≤ length past → moment (reverse_aux ys past) k ≡ moment past k
 moment-later [] past k h = refl
@@ -293,7 +266,7 @@ within-event tested seen i first old mid placed order lt was then = record { eac
 
     each : (k : ℕ) (rule : Rule) → (fault_at mid k rule ≡ fault_at first k rule) ⊎ (fault_at mid k rule ≡ or_else (fault_at first k rule) (fault_in tested (reverse seen) k rule))
     each k rule =
-        let taken : Bool = same_rule rule S01 && (accepts (decision tested.role (connection past)) && breaks_S01 e past) in
+        let taken : Bool = same_rule rule S01 && is_broken_newest tested.role e past in
         let x : Fault = told (e ∷ []) rule k in
         let here = fault_in tested past k rule in
         let now : fault_at mid k rule ≡ or_else (or_else (fault_at first k rule) here) (cond ((k == e.place.position) && breaks_bytes rule e) (Some x) None) =

@@ -14,6 +14,11 @@ abbrev pub moment : List Seen → ℕ → List Seen
 moment [] k = []
 moment (e ∷ past) k = cond (k == length past + 1) (e ∷ past) (moment past k)
 
+-- what stands before the newest event
+abbrev pub before : List Seen → List Seen
+before [] = []
+before (e ∷ past) = past
+
 -- this is the beginning of the log that has this length
 pub record IsBeginning (log : List Seen) (k : ℕ) (part : List Seen) : Type 0 where
   pub later : List Seen

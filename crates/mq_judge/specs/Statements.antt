@@ -82,13 +82,13 @@ is_broken_rule rule (Some other) = same_rule rule other
 unfoldable pub breaks_bytes : Rule → Seen → Bool
 breaks_bytes rule e = is_broken_rule rule (broken_rule e.note)
 
--- the Packet Identifier is in use: some opener of it is before, in the session, with no closer of it after that (MQTT 5.0, section 2.2.1)
-unfoldable pub is_in_use : ℕ → List Seen → Bool
-is_in_use i past = since (λ note. is_id i (opener_of note)) (λ note. is_id i (closer_of note)) (session past)
+-- the Packet Identifier is in use at position k: some opener of it is before k in k's session, with no closer of it between (MQTT 5.0, section 2.2.1)
+unfoldable pub is_in_use : Role → List Seen → ℕ → ℕ → Bool
+is_in_use role log k i = since (λ note. is_id i (opener_of note)) (λ note. is_id i (closer_of note)) (session role log k)
 
--- S01 is false at an opener of an identifier that is in use.
-unfoldable pub breaks_S01 : Seen → List Seen → Bool
-breaks_S01 e past = any_id (λ i. is_in_use i past) (opener_of e.note)
+-- S01 is false at position k, where this event stands, if it opens an identifier that is in use.
+unfoldable pub breaks_S01 : Role → List Seen → ℕ → Seen → Bool
+breaks_S01 role log k e = any_id (is_in_use role log k) (opener_of e.note)
 
 -- Whom a statement binds.
 abbrev pub binds : Rule → Role → Bool
@@ -98,16 +98,16 @@ binds rule role = true
 abbrev pub is_judged_at : Role → Rule → ℕ → List Seen → Bool
 is_judged_at role rule k log = is_on_bytes rule || is_accepted_at role k log
 
--- Whether a statement on a session is false at an event, with these events before it.
-abbrev pub breaks_session : Rule → Seen → List Seen → Bool
-breaks_session S01 e past = breaks_S01 e past
-breaks_session _ e past = false
+-- Whether a statement on a session is false at position k, where this event stands.
+abbrev pub breaks_session : Role → Rule → List Seen → ℕ → Seen → Bool
+breaks_session role S01 log k e = breaks_S01 role log k e
+breaks_session role _ log k e = false
 
--- Whether a statement is false at the newest of these events.
-abbrev pub is_false_at : Rule → List Seen → Bool
-is_false_at rule [] = false
-is_false_at rule (e ∷ past) = cond (is_on_bytes rule) (breaks_bytes rule e) (breaks_session rule e past)
+-- Whether a statement is false at position k, whose moment this is.
+abbrev pub is_false_at : Role → Rule → List Seen → ℕ → List Seen → Bool
+is_false_at role rule log k [] = false
+is_false_at role rule log k (e ∷ past) = cond (is_on_bytes rule) (breaks_bytes rule e) (breaks_session role rule log k e)
 
 -- The statement binds the tested end, is judged at position k of the log, and is false there.
 unfoldable pub fails : Tested → List Seen → ℕ → Rule → Bool
-fails tested log k rule = binds rule tested.role && (is_judged_at tested.role rule k log && is_false_at rule (moment log k))
+fails tested log k rule = binds rule tested.role && (is_judged_at tested.role rule k log && is_false_at tested.role rule log k (moment log k))

@@ -1,5 +1,6 @@
 //! The chosen statements of MQTT 5.0, and where one is false.
 
+pub mod admission;
 pub mod fault;
 pub mod faults;
 pub mod laws;

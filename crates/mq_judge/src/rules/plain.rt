@@ -1,13 +1,13 @@
 //! The plain evaluator, which may look back over the whole list of events.
-ghost use Rattle.std.specs.Prelude.{◌≡◌, ℕ, ◌==◌, ◌&&◌, cond, [], ◌∷◌, Some, None, reverse, OnOk, OnErr};
-ghost use Rattle.mq_judge.specs.declared.rules.rule.Rule.{Rule};
+ghost use Rattle.std.specs.Prelude.{◌≡◌, ℕ, ◌==◌, ◌&&◌, true, false, cond, [], ◌∷◌, Some, None, unwrap_or, reverse, OnOk, OnErr};
 ghost use Rattle.mq_judge.specs.Moments.{IsPlaced, since, or_else};
-ghost use Rattle.mq_judge.specs.Notes.{is_open as opens_connection, opener_of, closer_of, connack_of, is_id, any_id};
-ghost use Rattle.mq_judge.specs.Connections.{accepts, IsInOrder};
+ghost use Rattle.mq_judge.specs.Notes.{is_open as opens_connection, opener_of, closer_of, is_id, any_id};
+ghost use Rattle.mq_judge.specs.Connections.{accepts, resumes, admission_of, session_start, accepted_from, IsInOrder};
 ghost use Rattle.mq_judge.specs.Statements.{breaks_bytes};
 ghost use Rattle.mq_judge.specs.Faults.{told, fault_in, GrowsWithin};
 ghost use Rattle.mq_judge.specs.Marks.{fault_at};
 
+use super::admission::Admission;
 use super::fault::Fault;
 use super::faults::{Faults, Mark, Memory};
 use super::note::{Note, Seen};
@@ -24,15 +24,13 @@ pub fn judge_all(tested: Tested, seen: &[Seen], faults: &mut Faults) -> Result<(
     ensures ok { IsPlaced (reverse seen.now) → IsInOrder tested.role (reverse seen.now) → OnOk result ((k : ℕ) (rule : Rule) → fault_at faults.new k rule ≡ or_else (fault_at faults.old k rule) (fault_in tested (reverse seen.now) k rule)) }
     ensures memory { IsPlaced (reverse seen.now) → IsInOrder tested.role (reverse seen.now) → OnErr result (GrowsWithin tested (reverse seen.now) faults.old faults.new) }
 {
-    let mut start = 0;
-    let mut decision = None;
+    let mut admission = None;
     for (i, event) in seen.iter().enumerate() {
         judge_bytes(event, faults)?;
-        let connection = &seen[start..i];
-        let broken = breaks_s01(decision, connection, &event.note);
+        let before = &seen[..i];
+        let broken = breaks_s01(tested.role, admission, before, &event.note);
         faults.judge(Rule::S01, event.place, broken)?;
-        start = if event.note.is_open() { i } else { start };
-        decision = decision_after(decision, tested.role, &event.note);
+        admission = admission_after(admission, tested.role, &event.note);
     }
     Ok(())
 }
@@ -57,39 +55,77 @@ fn judge_bytes(event: &Seen, faults: &mut Faults) -> Result<(), Memory>
     Ok(())
 }
 
-/// Whether an event breaks S01, on a connection with this decision whose events before it are these.
-fn breaks_s01(decision: Option<u8>, connection: &[Seen], note: &Note) -> bool
-    ensures { result ≡ (accepts decision && any_id (λ i. since (λ n. is_id i (opener_of n)) (λ n. is_id i (closer_of n)) (reverse connection.now)) (opener_of note.now)) }
+/// Whether an event breaks S01, of whose connection this has become, and which has these events before it.
+fn breaks_s01(role: Role, admission: Option<Admission>, before: &[Seen], note: &Note) -> bool
+    ensures { result ≡ (accepts admission && any_id (λ i. since (λ n. is_id i (opener_of n)) (λ n. is_id i (closer_of n)) (accepted_from role (reverse before.now) (session_start role (reverse before.now) (reverse before.now)) (reverse before.now))) (opener_of note.now)) }
 {
     match note.opener() {
-        Some(identifier) => matches!(decision, Some(0)) && is_in_use(identifier, connection),
+        Some(identifier) => is_accepted(admission) && is_in_use(role, identifier, before),
         None => false,
     }
 }
 
-/// Whether some event opens the identifier, and none after it closes it.
-fn is_in_use(identifier: u16, connection: &[Seen]) -> bool
-    ensures { result ≡ since (λ n. is_id identifier (opener_of n)) (λ n. is_id identifier (closer_of n)) (reverse connection.now) }
+/// Whether the connection is accepted of which this has become.
+fn is_accepted(admission: Option<Admission>) -> bool
+    ensures { result ≡ accepts admission }
 {
-    let mut earlier = connection;
+    matches!(admission, Some(Admission::New | Admission::Resumed))
+}
+
+/// Whether some event of the latest session in these events opens the identifier, and none after it in the session closes it.
+///
+/// It looks back, and of each connection it keeps the last use of the identifier until it knows what became of the connection, that is, until it comes to the OPEN.
+fn is_in_use(role: Role, identifier: u16, before: &[Seen]) -> bool
+    ensures { result ≡ since (λ n. is_id identifier (opener_of n)) (λ n. is_id identifier (closer_of n)) (accepted_from role (reverse before.now) (session_start role (reverse before.now) (reverse before.now)) (reverse before.now)) }
+{
+    let mut earlier = before;
+    let mut used = None;
+    let mut admission = None;
     while let Some((event, rest)) = earlier.split_last() {
-        if event.note.opens(identifier) {
-            return true;
+        let used_from_here = used.or(use_after(identifier, &event.note));
+        let admission_from_here = Admission::of(&event.note, role).or(admission);
+        let opens = event.note.is_open();
+        if let Some(told) = use_told(opens, admission_from_here, used_from_here) {
+            return told;
         }
-        if event.note.closes(identifier) {
-            return false;
-        }
+        used = if opens { None } else { used_from_here };
+        admission = if opens { None } else { admission_from_here };
         earlier = rest;
     }
     false
 }
 
-/// The Reason Code of the latest connection's CONNACK, if that has come with this event.
-fn decision_after(decision: Option<u8>, role: Role, note: &Note) -> Option<u8>
-    ensures { result ≡ or_else (cond (opens_connection note.now) None decision) (connack_of role note.now) }
+/// Whether the identifier is in use after this event, if the event alone tells it.
+fn use_after(identifier: u16, note: &Note) -> Option<bool>
+    ensures { result ≡ cond (is_id identifier (opener_of note.now)) (Some true) (cond (is_id identifier (closer_of note.now)) (Some false) None) }
 {
-    let before = if note.is_open() { None } else { decision };
-    before.or(note.connack_code(role))
+    if note.opens(identifier) {
+        return Some(true);
+    }
+    if note.closes(identifier) {
+        return Some(false);
+    }
+    None
+}
+
+/// Whether the identifier is in use, if a whole connection tells it: the connection that a session begins with always does, a resumed one where it uses
+/// the identifier, and a void one never.
+fn use_told(opens: bool, admission: Option<Admission>, used: Option<bool>) -> Option<bool>
+    ensures { result ≡ cond (opens && accepts admission) (cond (resumes admission) used (Some (unwrap_or used false))) None }
+{
+    match (opens, admission) {
+        (true, Some(Admission::New)) => Some(used.unwrap_or(false)),
+        (true, Some(Admission::Resumed)) => used,
+        _ => None,
+    }
+}
+
+/// What has become of the latest connection with this event.
+fn admission_after(admission: Option<Admission>, role: Role, note: &Note) -> Option<Admission>
+    ensures { result ≡ or_else (cond (opens_connection note.now) None admission) (admission_of role note.now) }
+{
+    let before = if note.is_open() { None } else { admission };
+    before.or(Admission::of(note, role))
 }
 
 #[cfg(test)]
