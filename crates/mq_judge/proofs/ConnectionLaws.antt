@@ -5,7 +5,7 @@ use Rattle.std.proofs.lemmas.Bool.{eq-eqb, eqb-true}
 use Rattle.mq_judge.specs.declared.rules.role.Role.{Role}
 use Rattle.mq_judge.specs.declared.rules.role.Role.TheVariants.{Client, Server}
 use Rattle.mq_judge.specs.declared.rules.admission.Admission.{Admission}
-use Rattle.mq_judge.specs.declared.rules.admission.Admission.TheVariants.{New, Resumed, Void}
+use Rattle.mq_judge.specs.declared.rules.admission.Admission.TheVariants.{Void}
 use Rattle.mq_judge.specs.declared.rules.note.Note.{Note}
 use Rattle.mq_judge.specs.declared.rules.packet_note.PacketNote.{PacketNote}
 use Rattle.mq_judge.specs.declared.rules.packet_note.PacketNote.TheVariants.{Connect, Connack, Publish, Puback, Pubrec, Pubrel, Pubcomp, Subscribe, Suback, Unsubscribe, Unsuback, Pingreq, Pingresp, Disconnect, Auth}

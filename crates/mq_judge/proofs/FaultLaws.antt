@@ -16,10 +16,10 @@ use Rattle.mq_judge.specs.declared.rules.note.ItemNote.TheVariants.{Packet, Bad,
 use Rattle.mq_judge.specs.declared.rules.packet_note.PacketNote.{PacketNote}
 use Rattle.mq_judge.specs.declared.rules.packet_note.PacketNote.TheVariants.{Connect, Connack, Publish, Puback, Pubrec, Pubrel, Pubcomp, Subscribe, Suback, Unsubscribe, Unsuback, Pingreq, Pingresp, Disconnect, Auth}
 use Rattle.mq_judge.specs.declared.rules.note.Seen.{Seen}
-use Rattle.mq_judge.specs.Moments.{moment, before, since, or_else, earliest}
-use Rattle.mq_judge.specs.Notes.{is_open, is_close, opener_of, closer_of, is_id, any_id, new_identifier, is_session_packet, needs_session}
+use Rattle.mq_judge.specs.Moments.{moment, before, since, or_else}
+use Rattle.mq_judge.specs.Notes.{is_open, opener_of, closer_of, is_id, any_id, new_identifier, is_session_packet, needs_session}
 use Rattle.mq_judge.specs.declared.rules.admission.Admission.{Admission}
-use Rattle.mq_judge.specs.Connections.{connection_no, events_of, connection, decision, admitted_by, admission_of, admission, accepts, is_accepted, is_accepted_at, session_start, accepted_from, session, is_resumed, IsInOrder}
+use Rattle.mq_judge.specs.Connections.{connection_no, connection, admitted_by, admission_of, admission, accepts, is_accepted, is_accepted_at, session_start, accepted_from, session, is_resumed, IsInOrder}
 use Rattle.mq_judge.specs.Statements.{fails, binds, is_on_bytes, is_judged_at, is_false_at, is_in_use, breaks_S01, breaks_session, breaks_bytes, is_broken_rule, same_rule, statement_of, broken}
 use Rattle.mq_judge.specs.Faults.{decided, told, fault_in}
 use Rattle.mq_judge.proofs.BoolLaws.{not_true, both_true, and_true, and_false, or_else-none}

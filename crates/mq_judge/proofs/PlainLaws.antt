@@ -1,9 +1,9 @@
 -- The plain evaluator, event by event.
-use Rattle.std.proofs.Common.{◌≡◌, ℕ, ◌+◌, ◌-◌, ◌<◌, ◌≤◌, ◌==◌, Bool, true, false, cond, ◌&&◌, ◌||◌, List, [], ◌∷◌, length, take, drop, get_or, Option, Some, None, refl, ap, sym, ◌∙◌, subst, arith, zero, suc, ◌⊎◌, inl, inr}
+use Rattle.std.proofs.Common.{◌≡◌, ℕ, ◌+◌, ◌<◌, ◌≤◌, ◌==◌, Bool, true, false, cond, ◌&&◌, ◌||◌, List, [], ◌∷◌, length, take, drop, get_or, Option, Some, None, refl, ap, sym, ◌∙◌, subst, arith, zero, suc, ◌⊎◌, inl, inr}
 use Rattle.std.specs.Prelude.{option_map, reverse}
 use mathlib.Core.List.{reverse_aux}
-use Rattle.std.proofs.Common.{add-one, length-drop}
-use Rattle.std.proofs.lemmas.List.{get_or-drop, length-reverse, length-take-le}
+use Rattle.std.proofs.Common.{add-one}
+use Rattle.std.proofs.lemmas.List.{length-reverse, length-take-le}
 use denote.Enum.Bare.{same_true}
 use Rattle.mq_judge.specs.contracts.rules.rule.Rule.{the_type}
 use Rattle.mq_packet.specs.declared.rule.PacketRule.{PacketRule}

@@ -2,7 +2,6 @@ use Rattle.std.proofs.Common.{rules, ◌≡◌, [], ◌∷◌, ◌++◌, Some, s
 use Rattle.std.specs.Prelude.{reverse}
 use Rattle.std.proofs.lemmas.List.{reverse-append}
 use Rattle.mq_judge.specs.Moments.{or_else}
-use Rattle.mq_judge.specs.Notes.{is_open}
 use Rattle.mq_judge.specs.Connections.{admission_of}
 use Rattle.mq_judge.proofs.LookbackLaws.{no_events, looked_back, looked_back-used, told-here, told_by, use_by}
 use Rattle.mq_judge.proofs.rules.plain.is_in_use.Goals as goal

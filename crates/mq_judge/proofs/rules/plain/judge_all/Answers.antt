@@ -1,4 +1,4 @@
-use Rattle.std.proofs.Common.{◌≡◌, ℕ, ◌+◌, ◌<◌, ◌∷◌, sym, ap, subst, ◌∙◌, length, get_or, take, refl}
+use Rattle.std.proofs.Common.{◌≡◌, ◌+◌, ◌<◌, ◌∷◌, sym, ap, subst, ◌∙◌, length, get_or, take, refl}
 use Rattle.std.specs.Prelude.{reverse}
 use Rattle.mq_judge.specs.Connections.{connection_no, admission}
 use Rattle.mq_judge.specs.Marks.{fault_at}
