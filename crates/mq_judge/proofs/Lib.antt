@@ -16,6 +16,7 @@ pub mod ProgressLaws
 pub mod ReachLaws
 pub mod ReportLaws
 pub mod RunningLaws
+pub mod SessionLaws
 pub mod SituationLaws
 pub mod StateLaws
 pub mod Writes

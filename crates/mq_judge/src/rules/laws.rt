@@ -3,9 +3,10 @@ ghost use Rattle.std.specs.Prelude.{◌≡◌, ◌∷◌, [], ◌↔◌, ◌<◌
 ghost use Rattle.mq_judge.specs.declared.rules.role.Role.{Role};
 ghost use Rattle.mq_judge.specs.declared.rules.note.Seen.{Seen};
 ghost use Rattle.mq_judge.specs.Notes.{is_open};
-ghost use Rattle.mq_judge.specs.Moments.{moment, since, IsBeginning, IsPlaced, Stands};
+ghost use Rattle.mq_judge.specs.Moments.{moment, before, since, IsBeginning, IsPlaced, Stands};
 ghost use Rattle.mq_judge.specs.declared.rules.note.Note.{Note};
-ghost use Rattle.mq_judge.specs.Connections.{connection, decision, events_of, connection_no};
+ghost use Rattle.mq_judge.specs.declared.rules.admission.Admission.{Admission};
+ghost use Rattle.mq_judge.specs.Connections.{connection, decision, events_of, connection_no, admission, is_accepted_at, is_resumed, is_void, session};
 ghost use Rattle.mq_judge.specs.declared.rules.role.Tested.{Tested};
 ghost use Rattle.mq_judge.specs.declared.rules.rule.Rule.{Rule};
 ghost use Rattle.mq_judge.specs.Statements.{fails};
@@ -46,6 +47,28 @@ pub fn connection_stays()
 /// A connection's CONNACK, once it has come, is the same in every longer log.
 pub fn decision_stays()
     ensures { (role : Role) (c code : ℕ) (e : Seen) (past : List Seen) → decision role (events_of c past) ≡ Some code → decision role (events_of c (e ∷ past)) ≡ Some code }
+{}
+
+/// What has become of a connection, once it is decided, is the same in every longer log. So it is with a connection that another has followed.
+pub fn admission_stays()
+    ensures decided { (role : Role) (c : ℕ) (a : Admission) (e : Seen) (past : List Seen) → admission role c past ≡ Some a → admission role c (e ∷ past) ≡ Some a }
+    ensures followed { (role : Role) (c : ℕ) (e : Seen) (past : List Seen) → c < connection_no past → admission role c (e ∷ past) ≡ admission role c past }
+{}
+
+/// A position's session, once its connection is decided, is the same in every longer log.
+pub fn session_stays()
+    ensures { (role : Role) (e : Seen) (past : List Seen) (k : ℕ) → k ≤ length past → is_some (admission role (connection_no (moment past k)) past) ≡ true → session role (e ∷ past) k ≡ session role past k }
+{}
+
+/// A position on a void connection is in no session.
+pub fn void_is_in_no_session()
+    ensures { (role : Role) (log : List Seen) (k : ℕ) → is_void role (connection_no (moment log k)) log ≡ true → session role log k ≡ [] }
+{}
+
+/// The session of a connection that is accepted and not resumed is that connection, and so is that of the first connection where it is accepted.
+pub fn session_begins()
+    ensures new { (role : Role) (log : List Seen) (k : ℕ) → is_accepted_at role k log ≡ true → 1 ≤ connection_no (moment log k) → is_resumed role (connection_no (moment log k)) log ≡ false → session role log k ≡ events_of (connection_no (moment log k)) (before (moment log k)) }
+    ensures first { (role : Role) (log : List Seen) (k : ℕ) → is_accepted_at role k log ≡ true → connection_no (moment log k) ≡ 1 → session role log k ≡ events_of 1 (before (moment log k)) }
 {}
 
 /// What fails in a beginning of the log fails in the log.

@@ -135,6 +135,7 @@ mod tests {
     use super::super::packet_note::PacketNote;
     use super::*;
     use mq_packet::{PacketRule, Qos};
+    use std::alloc::Global;
 
     /// Event number `position`, which each have a record of their own.
     fn seen(position: u32, note: Note) -> Seen
@@ -153,6 +154,21 @@ mod tests {
 
     const CONNACK: Note = Note::Recv(ItemNote::Packet(PacketNote::Connack {
         session_present: false,
+        code: 0,
+    }));
+
+    const RESUMED: Note = Note::Recv(ItemNote::Packet(PacketNote::Connack {
+        session_present: true,
+        code: 0,
+    }));
+
+    const REFUSED: Note = Note::Recv(ItemNote::Packet(PacketNote::Connack {
+        session_present: false,
+        code: 0x87,
+    }));
+
+    const PUBACK: Note = Note::Recv(ItemNote::Packet(PacketNote::Puback {
+        identifier: 1,
         code: 0,
     }));
 
@@ -265,6 +281,177 @@ mod tests {
             assert!(rt; judge_all(CLIENT, &log, &mut faults) == Ok(()));
             assert_eq!(rt; faults.is_empty(), frees);
         }
+    }
+
+    /// The position of the first fault in a log of these events, if there is one.
+    fn first_fault(alloc: Global, notes: &[Note]) -> Result<Option<u32>, Memory> {
+        let mut log = Vec::new(alloc);
+        let mut position: u32 = 0;
+        for note in notes {
+            position = position.saturating_add(1);
+            log.push(seen(position, *note))?;
+        }
+        let mut faults = Faults::new(alloc);
+        judge_all(CLIENT, &log, &mut faults)?;
+        Ok(faults.iter().next().map(|(mark, _)| mark.position))
+    }
+
+    #[test]
+    fn resumed_session_keeps_its_identifiers(rt: HostRuntime) {
+        let log = [
+            Note::Open,
+            CONNECT,
+            CONNACK,
+            PUBLISH,
+            Note::Close,
+            Note::Open,
+            CONNECT,
+            RESUMED,
+            PUBLISH,
+        ];
+        assert_eq!(rt; first_fault(rt.alloc(), &log), Ok(Some(9)));
+    }
+
+    #[test]
+    fn new_session_has_its_own_identifiers(rt: HostRuntime) {
+        let log = [
+            Note::Open,
+            CONNECT,
+            CONNACK,
+            PUBLISH,
+            Note::Close,
+            Note::Open,
+            CONNECT,
+            CONNACK,
+            PUBLISH,
+            Note::Close,
+            Note::Open,
+            CONNECT,
+            RESUMED,
+            PUBACK,
+            PUBLISH,
+        ];
+        assert_eq!(rt; first_fault(rt.alloc(), &log), Ok(None));
+    }
+
+    #[test]
+    fn session_runs_over_resumed_connections(rt: HostRuntime) {
+        let log = [
+            Note::Open,
+            CONNECT,
+            CONNACK,
+            PUBLISH,
+            Note::Close,
+            Note::Open,
+            CONNECT,
+            RESUMED,
+            Note::Close,
+            Note::Open,
+            CONNECT,
+            RESUMED,
+            PUBLISH,
+        ];
+        assert_eq!(rt; first_fault(rt.alloc(), &log), Ok(Some(13)));
+    }
+
+    #[test]
+    fn first_connection_may_be_resumed(rt: HostRuntime) {
+        let log = [
+            Note::Open,
+            CONNECT,
+            RESUMED,
+            PUBLISH,
+            Note::Close,
+            Note::Open,
+            CONNECT,
+            RESUMED,
+            PUBLISH,
+        ];
+        assert_eq!(rt; first_fault(rt.alloc(), &log), Ok(Some(9)));
+    }
+
+    #[test]
+    fn closer_on_a_resumed_connection_frees(rt: HostRuntime) {
+        let log = [
+            Note::Open,
+            CONNECT,
+            CONNACK,
+            PUBLISH,
+            Note::Close,
+            Note::Open,
+            CONNECT,
+            RESUMED,
+            PUBACK,
+            PUBLISH,
+        ];
+        assert_eq!(rt; first_fault(rt.alloc(), &log), Ok(None));
+    }
+
+    #[test]
+    fn refused_connection_changes_nothing(rt: HostRuntime) {
+        let log = [
+            Note::Open,
+            CONNECT,
+            CONNACK,
+            PUBLISH,
+            Note::Close,
+            Note::Open,
+            CONNECT,
+            REFUSED,
+            PUBACK,
+            Note::Close,
+            Note::Open,
+            CONNECT,
+            RESUMED,
+            PUBLISH,
+        ];
+        assert_eq!(rt; first_fault(rt.alloc(), &log), Ok(Some(14)));
+    }
+
+    #[test]
+    fn refused_connection_opens_nothing(rt: HostRuntime) {
+        let log = [
+            Note::Open,
+            CONNECT,
+            CONNACK,
+            Note::Close,
+            Note::Open,
+            CONNECT,
+            REFUSED,
+            PUBLISH,
+            PUBLISH,
+            Note::Close,
+            Note::Open,
+            CONNECT,
+            RESUMED,
+            PUBLISH,
+        ];
+        assert_eq!(rt; first_fault(rt.alloc(), &log), Ok(None));
+    }
+
+    #[test]
+    fn unanswered_connection_changes_nothing(rt: HostRuntime) {
+        let log = [
+            Note::Open,
+            CONNECT,
+            CONNACK,
+            PUBLISH,
+            Note::Close,
+            Note::Open,
+            CONNECT,
+            Note::Close,
+            Note::Open,
+            CONNECT,
+            RESUMED,
+            PUBLISH,
+        ];
+        assert_eq!(rt; first_fault(rt.alloc(), &log), Ok(Some(12)));
+    }
+
+    #[test]
+    fn first_connack_decides(rt: HostRuntime) {
+        let log = [Note::Open, CONNECT, REFUSED, CONNACK, PUBLISH, PUBLISH];
+        assert_eq!(rt; first_fault(rt.alloc(), &log), Ok(None));
     }
 
     #[test]
