@@ -202,3 +202,12 @@ pub carried-grow : (way : Way) (log : List ℕ) (byte : ℕ) → 8 ≤ length lo
 unfolding begun
 carried-grow way log byte h =
     ap (carried way) (begun-grow log byte h) ∙ carried_grown way (records log).rest byte (reverse (records log).whole)
+
+-- what a direction carried doesn't depend on what stands before an OPEN
+pub carried-own : (way : Way) (later before : List (List ℕ)) (first : List ℕ) → opens (kind_of first) ≡ true → carried way (later ++ first ∷ before) ≡ carried way (later ++ first ∷ [])
+unfolding carried
+carried-own way [] before first h =
+    ap (λ o. cond o [] (carried way before ++ if_way way (way_of (kind_of first)) (drop 5 first))) h
+    ∙ sym (ap (λ o. cond o [] (carried way [] ++ if_way way (way_of (kind_of first)) (drop 5 first))) h)
+carried-own way (part ∷ later) before first h =
+    ap (λ bytes. cond (opens (kind_of part)) [] (bytes ++ if_way way (way_of (kind_of part)) (drop 5 part))) (carried-own way later before first h)

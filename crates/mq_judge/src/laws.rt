@@ -2,9 +2,10 @@
 ghost use Rattle.std.specs.Prelude.{◌≡◌, ℕ, Bool, true, false, take, drop, List, [], ◌∷◌, ◌++◌, None, Some};
 ghost use Rattle.mq_judge.specs.declared.trace.refusal.Refusal.{Refusal};
 ghost use Rattle.mq_judge.specs.declared.trace.refusal.Refusal.TheVariants.{Version, Nested, NotOpen, ReleaseUnrecorded, Early};
+ghost use Rattle.mq_judge.specs.declared.trace.kind.Way.{Way};
 ghost use Rattle.mq_judge.specs.Pieces.{Pieces, AreCut};
 ghost use Rattle.mq_packet.specs.Stream.{frame_size};
-ghost use Rattle.mq_judge.specs.Framing.{record_size, records, stream, tested_by};
+ghost use Rattle.mq_judge.specs.Framing.{record_size, records, stream, tested_by, kind_of, opens, carried};
 ghost use Rattle.mq_judge.specs.Events.{seen_in};
 ghost use Rattle.mq_judge.specs.Refusals.{refused, is_cut_short};
 ghost use Rattle.mq_judge.specs.Rows.{client_header, silent_header, opened, closed, released};
@@ -22,6 +23,12 @@ pub fn log_is_its_records()
 pub fn stream_is_its_frames()
     ensures cut { (bytes : List ℕ) → AreCut frame_size bytes (stream bytes) }
     ensures only { (bytes : List ℕ) (cut : Pieces) → AreCut frame_size bytes cut → cut ≡ stream bytes }
+{}
+
+/// What a direction carried on a connection doesn't depend on what stands before its OPEN: a packet that was unfinished there is dropped, and a
+/// direction that was lost there is read again. Records are given the newest first.
+pub fn connections_carry_their_own()
+    ensures { (way : Way) (later before : List (List ℕ)) (first : List ℕ) → opens (kind_of first) ≡ true → carried way (later ++ first ∷ before) ≡ carried way (later ++ first ∷ []) }
 {}
 
 /// A refusal stays, whatever follows: the earliest byte decides.
