@@ -1,5 +1,6 @@
 //! Packets by their bytes, as MQTT 5.0 spells them.
 
+mod changed;
 mod cuts;
 mod encoding;
 mod lists;
