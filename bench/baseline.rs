@@ -1,0 +1,150 @@
+//! The yardstick of `mqjudge`: it shows a log as `mqjudge show` does, and a packet as `mqjudge packet` does.
+//! Plain Rust that shares nothing with it: beside speed, an independent check of what it shows.
+//!
+//! usage: baseline [FILE]
+//!        baseline packet HEX
+//!
+//! Build: rustc -O --edition 2021 -o baseline bench/baseline.rs
+//! Test:  rustc --test -O --edition 2021 -o baseline-tests bench/baseline.rs && ./baseline-tests
+
+#[path = "baseline/cursor.rs"]
+mod cursor;
+#[path = "baseline/log.rs"]
+mod log;
+#[path = "baseline/packet.rs"]
+mod packet;
+#[path = "baseline/properties.rs"]
+mod properties;
+#[cfg(test)]
+#[path = "baseline/tests.rs"]
+mod tests;
+#[path = "baseline/text.rs"]
+mod text;
+
+use log::{Event, Item, Log, Sink, Stop};
+use packet::{Fault, Front};
+use std::env;
+use std::fs::File;
+use std::io::{self, ErrorKind, Read, Write};
+use std::process::ExitCode;
+
+const PIECE: usize = 65_536;
+const MISUSE: u8 = 3;
+const FAILED: u8 = 4;
+
+/// Writes a line for each event, many at a time.
+struct Show<W> {
+    output: W,
+    text: Vec<u8>,
+}
+
+impl<W: Write> Show<W> {
+    fn flush(&mut self) -> io::Result<()> {
+        self.output.write_all(&self.text)?;
+        self.text.clear();
+        self.output.flush()
+    }
+}
+
+impl<W: Write> Sink for Show<W> {
+    fn event(&mut self, position: u32, record: u32, event: &Event) -> io::Result<()> {
+        text::put_event(&mut self.text, position, record, event);
+        if self.text.len() >= PIECE { self.flush() } else { Ok(()) }
+    }
+}
+
+fn main() -> ExitCode {
+    let words: Vec<String> = env::args().skip(1).collect();
+    let words: Vec<&str> = words.iter().map(String::as_str).collect();
+    let status = match words[..] {
+        ["packet", hex] => show_packet(hex),
+        [] => show(io::stdin().lock()),
+        [file] => match File::open(file) {
+            Ok(file) => show(file),
+            Err(_) => fail("read failed"),
+        },
+        _ => {
+            eprintln!("usage: baseline [FILE]\n       baseline packet HEX");
+            MISUSE
+        }
+    };
+    ExitCode::from(status)
+}
+
+fn fail(why: &str) -> u8 {
+    eprintln!("baseline: {why}");
+    FAILED
+}
+
+fn show(mut input: impl Read) -> u8 {
+    let mut log = Log::new(Show { output: io::stdout().lock(), text: Vec::new() });
+    let mut piece = vec![0; PIECE];
+    let stop = loop {
+        let result = match input.read(&mut piece) {
+            Ok(0) => break log.finish(),
+            Ok(count) => log.feed(&piece[..count]),
+            Err(error) if error.kind() == ErrorKind::Interrupted => continue,
+            Err(_) => return fail("read failed"),
+        };
+        if result.is_err() {
+            break result;
+        }
+    };
+    let mut show = log.into_sink();
+    let status = match stop {
+        Ok(()) => 0,
+        Err(Stop::Refused(refusal)) => {
+            show.text.extend_from_slice(format!("{refusal}\n").as_bytes());
+            2
+        }
+        Err(Stop::Write) => return fail("write failed"),
+    };
+    match show.flush() {
+        Ok(()) => status,
+        Err(_) => fail("write failed"),
+    }
+}
+
+fn show_packet(hex: &str) -> u8 {
+    let Some(bytes) = from_hex(hex) else {
+        eprintln!("baseline: not hex");
+        return MISUSE;
+    };
+    let (text, status) = describe(&bytes);
+    match writeln!(io::stdout(), "{text}") {
+        Ok(()) => status,
+        Err(_) => fail("write failed"),
+    }
+}
+
+fn from_hex(hex: &str) -> Option<Vec<u8>> {
+    let digits: Option<Vec<u32>> = hex.chars().map(|digit| digit.to_digit(16)).collect();
+    let digits = digits.filter(|digits| digits.len() % 2 == 0)?;
+    Some(digits.chunks(2).map(|pair| (pair[0] << 4 | pair[1]) as u8).collect())
+}
+
+// What is said of some bytes taken as one packet, and the status.
+fn describe(bytes: &[u8]) -> (String, u8) {
+    let (body, size) = match packet::front(bytes) {
+        Front::Need => return ("need more bytes".into(), 1),
+        Front::Lost { .. } => return (item_text(&Item::Lost), 1),
+        Front::Header { body, size } => (body, size),
+    };
+    if bytes.len() < size {
+        return ("need more bytes".into(), 1);
+    }
+    if bytes.len() > size {
+        return (format!("left over {} bytes", bytes.len() - size), 1);
+    }
+    match packet::decode(bytes, body) {
+        Ok(packet) => (item_text(&Item::Packet(packet)), 0),
+        Err(Fault::Broken { rule, at }) => (item_text(&Item::Bad { rule, at }), 1),
+        Err(Fault::OtherVersion(version)) => (format!("other version {version}"), 1),
+    }
+}
+
+fn item_text(item: &Item) -> String {
+    let mut text = Vec::new();
+    text::put_item(&mut text, "", item);
+    String::from_utf8_lossy(&text).into_owned()
+}
