@@ -49,7 +49,11 @@ impl<W: Write> Show<W> {
 impl<W: Write> Sink for Show<W> {
     fn event(&mut self, position: u32, record: u32, event: &Event) -> io::Result<()> {
         text::put_event(&mut self.text, position, record, event);
-        if self.text.len() >= PIECE { self.flush() } else { Ok(()) }
+        if self.text.len() >= PIECE {
+            self.flush()
+        } else {
+            Ok(())
+        }
     }
 }
 
@@ -77,7 +81,10 @@ fn fail(why: &str) -> u8 {
 }
 
 fn show(mut input: impl Read) -> u8 {
-    let mut log = Log::new(Show { output: io::stdout().lock(), text: Vec::new() });
+    let mut log = Log::new(Show {
+        output: io::stdout().lock(),
+        text: Vec::new(),
+    });
     let mut piece = vec![0; PIECE];
     let stop = loop {
         let result = match input.read(&mut piece) {
@@ -94,7 +101,8 @@ fn show(mut input: impl Read) -> u8 {
     let status = match stop {
         Ok(()) => 0,
         Err(Stop::Refused(refusal)) => {
-            show.text.extend_from_slice(format!("{refusal}\n").as_bytes());
+            show.text
+                .extend_from_slice(format!("{refusal}\n").as_bytes());
             2
         }
         Err(Stop::Write) => return fail("write failed"),
@@ -120,7 +128,12 @@ fn show_packet(hex: &str) -> u8 {
 fn from_hex(hex: &str) -> Option<Vec<u8>> {
     let digits: Option<Vec<u32>> = hex.chars().map(|digit| digit.to_digit(16)).collect();
     let digits = digits.filter(|digits| digits.len() % 2 == 0)?;
-    Some(digits.chunks(2).map(|pair| (pair[0] << 4 | pair[1]) as u8).collect())
+    Some(
+        digits
+            .chunks(2)
+            .map(|pair| (pair[0] << 4 | pair[1]) as u8)
+            .collect(),
+    )
 }
 
 // What is said of some bytes taken as one packet, and the status.

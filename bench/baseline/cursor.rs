@@ -107,9 +107,16 @@ pub fn varint(bytes: &[u8]) -> Varint {
             return if byte == 0 && index > 0 {
                 Varint::Overlong
             } else {
-                Varint::Value { value, length: index + 1 }
+                Varint::Value {
+                    value,
+                    length: index + 1,
+                }
             };
         }
     }
-    if bytes.len() < 4 { Varint::Short } else { Varint::Overlong }
+    if bytes.len() < 4 {
+        Varint::Short
+    } else {
+        Varint::Overlong
+    }
 }

@@ -19,10 +19,29 @@ pub struct Refusal {
 impl Display for Refusal {
     fn fmt(&self, out: &mut Formatter) -> fmt::Result {
         const NAMES: [&str; 15] = [
-            "", "Header", "Version", "Role", "Flags", "Kind", "Length", "Nested", "NotOpen",
-            "ReleaseUnrecorded", "Cut", "TooLarge", "OtherVersion", "Early", "TooLong",
+            "",
+            "Header",
+            "Version",
+            "Role",
+            "Flags",
+            "Kind",
+            "Length",
+            "Nested",
+            "NotOpen",
+            "ReleaseUnrecorded",
+            "Cut",
+            "TooLarge",
+            "OtherVersion",
+            "Early",
+            "TooLong",
         ];
-        write!(out, "refused {} {} at {}", self.number, NAMES[usize::from(self.number)], self.byte)
+        write!(
+            out,
+            "refused {} {} at {}",
+            self.number,
+            NAMES[usize::from(self.number)],
+            self.byte
+        )
     }
 }
 
@@ -137,11 +156,19 @@ impl<S: Sink> Log<S> {
     pub fn feed(&mut self, mut piece: &[u8]) -> Result<(), Stop> {
         while let Some((&byte, rest)) = piece.split_first() {
             match self.state {
-                State::Body { kind: kind @ (Kind::Sent | Kind::Received), left, .. } => {
+                State::Body {
+                    kind: kind @ (Kind::Sent | Kind::Received),
+                    left,
+                    ..
+                } => {
                     let (body, after) = piece.split_at(piece.len().min(left as usize));
                     self.state = match left - body.len() as u32 {
                         0 => State::Kind,
-                        left => State::Body { kind, left, value: 0 },
+                        left => State::Body {
+                            kind,
+                            left,
+                            value: 0,
+                        },
                     };
                     self.stream(kind, body)?;
                     self.offset += body.len() as u64;
@@ -150,8 +177,12 @@ impl<S: Sink> Log<S> {
                 }
                 State::Header => self.header(byte)?,
                 State::Kind => self.kind(byte)?,
-                State::Length { kind, have, value } => self.length(kind, have + 1, value << 8 | u32::from(byte))?,
-                State::Body { left, value, .. } => self.release(left - 1, value << 8 | u16::from(byte))?,
+                State::Length { kind, have, value } => {
+                    self.length(kind, have + 1, value << 8 | u32::from(byte))?
+                }
+                State::Body { left, value, .. } => {
+                    self.release(left - 1, value << 8 | u16::from(byte))?
+                }
             }
             self.offset += 1;
             piece = rest;
@@ -206,7 +237,11 @@ impl<S: Sink> Log<S> {
             return refuse(14, self.offset);
         };
         self.records = records;
-        self.state = State::Length { kind, have: 0, value: 0 };
+        self.state = State::Length {
+            kind,
+            have: 0,
+            value: 0,
+        };
         Ok(())
     }
 
@@ -225,7 +260,11 @@ impl<S: Sink> Log<S> {
         }
         self.state = match value {
             0 => State::Kind,
-            left => State::Body { kind, left, value: 0 },
+            left => State::Body {
+                kind,
+                left,
+                value: 0,
+            },
         };
         match kind {
             Kind::Open => self.connect(true, &Event::Open),
@@ -246,7 +285,11 @@ impl<S: Sink> Log<S> {
 
     fn release(&mut self, left: u32, value: u16) -> Result<(), Stop> {
         if left > 0 {
-            self.state = State::Body { kind: Kind::Release, left, value };
+            self.state = State::Body {
+                kind: Kind::Release,
+                left,
+                value,
+            };
             return Ok(());
         }
         self.state = State::Kind;
@@ -265,7 +308,11 @@ impl<S: Sink> Log<S> {
     }
 
     fn direction(&mut self, kind: Kind) -> &mut Direction {
-        if kind == Kind::Sent { &mut self.sent } else { &mut self.received }
+        if kind == Kind::Sent {
+            &mut self.sent
+        } else {
+            &mut self.received
+        }
     }
 
     // The next bytes of a direction; the first of them stands at `self.offset`.
@@ -306,7 +353,9 @@ impl<S: Sink> Log<S> {
     // Goes on with an unfinished packet: by one byte until its size is known. Tells how many bytes it took.
     fn rest_of_packet(&mut self, kind: Kind, bytes: &[u8], start: u64) -> Result<usize, Stop> {
         let direction = self.direction(kind);
-        let missing = direction.size.map_or(1, |size| size - direction.pending.len());
+        let missing = direction
+            .size
+            .map_or(1, |size| size - direction.pending.len());
         let count = missing.min(bytes.len());
         direction.pending.extend_from_slice(&bytes[..count]);
         let last = start + count as u64 - 1;

@@ -1,6 +1,6 @@
 //! The fifteen Control Packets (MQTT 5.0, section 3), checked field by field.
 
-use crate::cursor::{Cursor, Varint, varint};
+use crate::cursor::{varint, Cursor, Varint};
 use crate::properties::{self, WILL};
 
 /// Why some bytes are no packet.
@@ -39,8 +39,14 @@ pub fn front(bytes: &[u8]) -> Front {
         Varint::Short => Front::Need,
         // The first byte without bit 7, or else the fourth one, shows it.
         Varint::Overlong => {
-            let continued = rest.iter().take(3).take_while(|&&byte| byte & 0x80 != 0).count();
-            Front::Lost { length: 2 + continued }
+            let continued = rest
+                .iter()
+                .take(3)
+                .take_while(|&&byte| byte & 0x80 != 0)
+                .count();
+            Front::Lost {
+                length: 2 + continued,
+            }
         }
         Varint::Value { value, length } => Front::Header {
             body: 1 + length,
@@ -79,7 +85,11 @@ pub fn decode(packet: &[u8], body: usize) -> Result<Summary, Fault> {
     if !cursor.is_at_end() {
         return Err(Fault::broken(6, cursor.at()));
     }
-    Ok(Summary { first, size: packet.len(), identifier })
+    Ok(Summary {
+        first,
+        size: packet.len(),
+        identifier,
+    })
 }
 
 fn check_flags(first: u8) -> Result<(), Fault> {
@@ -223,7 +233,10 @@ fn reason_codes(kind: u8, cursor: &mut Cursor) -> Result<(), Fault> {
 fn has_reason_code(kind: u8, code: u8) -> bool {
     match kind {
         CONNACK => matches!(code, 0 | 0x80..=0x8A | 0x8C | 0x90 | 0x95 | 0x97 | 0x99..=0x9D | 0x9F),
-        4 | 5 => matches!(code, 0 | 0x10 | 0x80 | 0x83 | 0x87 | 0x90 | 0x91 | 0x97 | 0x99),
+        4 | 5 => matches!(
+            code,
+            0 | 0x10 | 0x80 | 0x83 | 0x87 | 0x90 | 0x91 | 0x97 | 0x99
+        ),
         6 | 7 => matches!(code, 0 | 0x92),
         9 => matches!(
             code,

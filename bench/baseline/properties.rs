@@ -49,7 +49,10 @@ fn property(identifier: u32) -> Option<(Kind, List)> {
         0x17 | 0x19 => (Kind::Flag, CONNECT),
         0x18 => (Kind::Four, WILL),
         0x1C => (Kind::Text, CONNACK | DISCONNECT),
-        0x1F => (Kind::Text, CONNACK | ACKNOWLEDGEMENTS | SUBACK | UNSUBACK | DISCONNECT | AUTH),
+        0x1F => (
+            Kind::Text,
+            CONNACK | ACKNOWLEDGEMENTS | SUBACK | UNSUBACK | DISCONNECT | AUTH,
+        ),
         0x21 => (Kind::TwoNotZero, CONNECT | CONNACK),
         0x22 => (Kind::Two, CONNECT | CONNACK),
         0x23 => (Kind::TwoNotZero, PUBLISH),
@@ -114,5 +117,9 @@ fn value(part: &mut Cursor, kind: Kind, list: List) -> Result<(), Fault> {
             true
         }
     };
-    if is_in_range { Ok(()) } else { Err(Fault::broken(12, at)) }
+    if is_in_range {
+        Ok(())
+    } else {
+        Err(Fault::broken(12, at))
+    }
 }

@@ -1,5 +1,5 @@
 use crate::log::{Log, Stop};
-use crate::{Show, describe, from_hex};
+use crate::{describe, from_hex, Show};
 use std::panic::catch_unwind;
 
 const HEADER: &str = "4D51545201000100";
@@ -35,7 +35,10 @@ fn accepted(records: &[String]) -> Vec<u8> {
 
 // What is shown of a log that is fed in pieces of `size` bytes.
 fn shown(log: &[u8], size: usize) -> String {
-    let mut reader = Log::new(Show { output: Vec::new(), text: Vec::new() });
+    let mut reader = Log::new(Show {
+        output: Vec::new(),
+        text: Vec::new(),
+    });
     let fed = log.chunks(size).try_for_each(|piece| reader.feed(piece));
     let stop = fed.and_then(|()| reader.finish());
     let mut show = reader.into_sink();
@@ -67,11 +70,17 @@ fn tells_what_a_packet_is() {
         ("40 02 00 00 D0 00", "left over 2 bytes"),
         ("30 FF FF FF FF", "LOST"),
         ("30 80 00", "LOST"),
-        ("10 0C 00 04 4D 51 54 54 04 02 00 3C 00 00", "other version 4"),
+        (
+            "10 0C 00 04 4D 51 54 54 04 02 00 3C 00 00",
+            "other version 4",
+        ),
         (CONNECT, "CONNECT size 15"),
         (CONNACK, "CONNACK size 5"),
         (PUBLISH, "PUBLISH size 9 qos 1 dup 0 id 1"),
-        ("3D 07 00 01 61 FF FF 00 78", "PUBLISH size 9 qos 2 dup 1 id 65535"),
+        (
+            "3D 07 00 01 61 FF FF 00 78",
+            "PUBLISH size 9 qos 2 dup 1 id 65535",
+        ),
         ("30 05 00 01 61 00 78", "PUBLISH size 7 qos 0 dup 0"),
         ("40020001", "PUBACK size 4 id 1"),
         ("40 03 00 01 10", "PUBACK size 5 id 1"),
@@ -113,8 +122,14 @@ fn names_the_rule_and_its_place() {
         ("82 08 00 01 00 00 02 61 23 00", "W15 offset 5"),
         ("82 03 00 01 00", "W16 offset 5"),
         ("82 07 00 01 00 00 01 61 03", "W17 offset 8"),
-        ("10 0D 00 04 4D 51 54 58 05 02 00 3C 00 00 00", "W18 offset 2"),
-        ("10 0D 00 04 4D 51 54 54 05 03 00 3C 00 00 00", "W19 offset 9"),
+        (
+            "10 0D 00 04 4D 51 54 58 05 02 00 3C 00 00 00",
+            "W18 offset 2",
+        ),
+        (
+            "10 0D 00 04 4D 51 54 54 05 03 00 3C 00 00 00",
+            "W19 offset 9",
+        ),
         ("20 03 02 00 00", "W20 offset 2"),
         ("30 04 00 00 00 78", "W21 offset 4"),
     ] {
@@ -124,7 +139,12 @@ fn names_the_rule_and_its_place() {
 
 #[test]
 fn shows_a_log() {
-    let log = accepted(&[sent(PUBLISH), received("40020001"), REST.into(), CLOSE.into()]);
+    let log = accepted(&[
+        sent(PUBLISH),
+        received("40020001"),
+        REST.into(),
+        CLOSE.into(),
+    ]);
     assert_eq!(log.len(), 76);
     let text = "1 record 1 OPEN\n2 record 2 SENT CONNECT size 15\n3 record 3 RECV CONNACK size 5\n\
         4 record 4 SENT PUBLISH size 9 qos 1 dup 0 id 1\n5 record 5 RECV PUBACK size 4 id 1\n\
@@ -132,11 +152,16 @@ fn shows_a_log() {
     assert_eq!(shown(&log, usize::MAX), text);
     assert_eq!(last_line(&log), "7 record 7 CLOSE");
     for end in 0..log.len() {
-        let whole = [8, 13, 33, 43, 57, 66, 71].iter().position(|&place| place == end);
+        let whole = [8, 13, 33, 43, 57, 66, 71]
+            .iter()
+            .position(|&place| place == end);
         let text = shown(&log[..end], usize::MAX);
         match whole {
             Some(events) => assert_eq!(text.lines().count(), events),
-            None => assert_eq!(text.lines().last(), Some(&*format!("refused 10 Cut at {end}"))),
+            None => assert_eq!(
+                text.lines().last(),
+                Some(&*format!("refused 10 Cut at {end}"))
+            ),
         }
     }
 }
@@ -144,7 +169,14 @@ fn shows_a_log() {
 #[test]
 fn refuses_at_the_first_byte_that_shows_it() {
     let open = [HEADER, OPEN].concat();
-    let accepted_once = [open.clone(), sent(CONNECT), received(CONNACK), sent(PUBLISH), CLOSE.into()].concat();
+    let accepted_once = [
+        open.clone(),
+        sent(CONNECT),
+        received(CONNACK),
+        sent(PUBLISH),
+        CLOSE.into(),
+    ]
+    .concat();
     for (hex, text) in [
         ("00".to_string(), "1 Header at 0"),
         ("4D51545202".into(), "2 Version at 4"),
@@ -158,10 +190,25 @@ fn refuses_at_the_first_byte_that_shows_it() {
         ("4D5154520100000006".into(), "9 ReleaseUnrecorded at 8"),
         ("4D515452010001".into(), "10 Cut at 7"),
         ("".into(), "10 Cut at 0"),
-        ([open.clone(), sent(CONNECT), received(CONNACK), sent("30FFFFFF7F")].concat(), "11 TooLarge at 52"),
-        (open.clone() + &sent("100C00044D51545404020 03C0000"), "12 OtherVersion at 31"),
+        (
+            [
+                open.clone(),
+                sent(CONNECT),
+                received(CONNACK),
+                sent("30FFFFFF7F"),
+            ]
+            .concat(),
+            "11 TooLarge at 52",
+        ),
+        (
+            open.clone() + &sent("100C00044D51545404020 03C0000"),
+            "12 OtherVersion at 31",
+        ),
         (open.clone() + &record(6, "0001"), "13 Early at 19"),
-        ([accepted_once, OPEN.into(), sent(CONNECT), sent(PUBLISH)].concat(), "13 Early at 100"),
+        (
+            [accepted_once, OPEN.into(), sent(CONNECT), sent(PUBLISH)].concat(),
+            "13 Early at 100",
+        ),
     ] {
         assert_eq!(last_line(&bytes(&hex)), format!("refused {text}"), "{hex}");
     }
@@ -171,14 +218,27 @@ fn refuses_at_the_first_byte_that_shows_it() {
 fn finds_packets_that_are_cut_or_lost() {
     let mut records: Vec<String> = "32 07 00 01 61 00 00 00".split(' ').map(sent).collect();
     records.extend([received("D000"), sent("78")]);
-    assert_eq!(last_line(&accepted(&records)), "5 record 13 SENT BAD W09 offset 5");
-    let lost = [sent("30FFFFFFFF"), sent(PUBLISH), received(PUBLISH), CLOSE.into(), OPEN.into(), sent("C000")];
+    assert_eq!(
+        last_line(&accepted(&records)),
+        "5 record 13 SENT BAD W09 offset 5"
+    );
+    let lost = [
+        sent("30FFFFFFFF"),
+        sent(PUBLISH),
+        received(PUBLISH),
+        CLOSE.into(),
+        OPEN.into(),
+        sent("C000"),
+    ];
     let text = shown(&accepted(&lost), 5);
     assert!(text.ends_with(
         "\n4 record 4 SENT LOST\n5 record 6 RECV PUBLISH size 9 qos 1 dup 0 id 1\n6 record 7 CLOSE\n\
         7 record 8 OPEN\n8 record 9 SENT PINGREQ size 2\n"
     ));
-    assert_eq!(last_line(&accepted(&[CLOSE.into(), record(6, "0102")])), "5 record 5 RELEASE 258");
+    assert_eq!(
+        last_line(&accepted(&[CLOSE.into(), record(6, "0102")])),
+        "5 record 5 RELEASE 258"
+    );
 }
 
 // Numbers that look drawn by lot, and are the same each time.
@@ -255,7 +315,11 @@ fn stays_whole_on_changed_packets() {
 #[test]
 fn shows_the_same_in_any_pieces() {
     let mut draws = Draws(2);
-    let packets: Vec<String> = PACKETS.iter().enumerate().map(|(n, hex)| record(2 + (n % 2) as u8, hex)).collect();
+    let packets: Vec<String> = PACKETS
+        .iter()
+        .enumerate()
+        .map(|(n, hex)| record(2 + (n % 2) as u8, hex))
+        .collect();
     let log = accepted(&packets);
     for _ in 0..3_000 {
         let mut log = log.clone();

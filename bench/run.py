@@ -1,0 +1,154 @@
+#!/usr/bin/env python3
+"""Measures `mqjudge show` and `mqjudge check` beside a plain Rust program and sha256sum, over logs of three kinds.
+
+The logs and the plain program are made in a temporary folder. Output goes to /dev/null, but for the report of `check`. MB/s
+(1,000,000 bytes) and events/s are by processor time, user and system, so that a busy machine spoils them less; `ratio` is that
+time over the plain program's; `peak` is the most memory that was resident, as GNU time tells it.
+
+usage: bench/run.py [--mqjudge PATH] [--megabytes 200] [--rounds 1]
+"""
+import argparse
+import os
+import resource
+import shutil
+import signal
+import subprocess
+import sys
+import tempfile
+import time
+from dataclasses import dataclass
+from pathlib import Path
+
+sys.dont_write_bytecode = True  # the repository stays as it is
+import make_log
+
+HERE = Path(__file__).resolve().parent
+MISUSE = 3
+GNU_TIME = "/usr/bin/time"
+COLUMNS = "{:<6} {:<15} {:>9} {:>9} {:>8} {:>12} {:>7} {:>9}  {}"
+
+
+@dataclass
+class Measure:
+    status: str
+    wall: float
+    processor: float
+    peak_kib: int
+    report: str
+
+
+def measure(command: list[str], folder: Path, seconds: int, gigabytes: int) -> Measure:
+    """Runs a command once; it is stopped after `seconds`, and gets `gigabytes` of memory at most."""
+    peak, report, errors = folder / "peak", folder / "report", folder / "errors"
+
+    def limit_memory() -> None:
+        resource.setrlimit(resource.RLIMIT_AS, (gigabytes << 30, gigabytes << 30))
+
+    keeps_report = "check" in command
+    with open(report if keeps_report else os.devnull, "wb") as output, open(errors, "wb") as error:
+        start = time.monotonic()
+        process = subprocess.Popen(
+            [GNU_TIME, "-q", "-f", "%M", "-o", str(peak), *command],
+            stdin=subprocess.DEVNULL,
+            stdout=output,
+            stderr=error,
+            start_new_session=True,
+            preexec_fn=limit_memory,
+        )
+        signal.signal(signal.SIGALRM, lambda *_: os.killpg(process.pid, signal.SIGKILL))
+        signal.alarm(seconds)
+        _, status, usage = os.wait4(process.pid, 0)
+        signal.alarm(0)
+        wall = time.monotonic() - start
+    process.returncode = os.waitstatus_to_exitcode(status)
+    if process.returncode < 0:
+        return Measure(f"stopped after {seconds} s", wall, 0, 0, "")
+    text = report.read_text().splitlines()[-1:] if keeps_report else []
+    text = text or errors.read_text().splitlines()[-1:]
+    processor = usage.ru_utime + usage.ru_stime
+    return Measure(f"status {process.returncode}", wall, processor, int(peak.read_text()), "".join(text))
+
+
+def build_baseline(folder: Path) -> Path:
+    program = folder / "baseline"
+    source = HERE / "baseline.rs"
+    subprocess.run(["rustc", "-O", "--edition", "2021", "-o", str(program), str(source)], check=True)
+    return program
+
+
+def make(kind: str, megabytes: float, folder: Path) -> tuple[Path, int]:
+    """A log, and how many events it has."""
+    path = folder / f"{kind}.log"
+    with open(path, "wb") as log:
+        words = [sys.executable, str(HERE / "make_log.py"), "--kind", kind, "--megabytes", str(megabytes)]
+        subprocess.run(words, stdout=log, check=True)
+    # OPEN, CONNECT, CONNACK, REST and CLOSE, and two for each message.
+    return path, 5 + 2 * make_log.messages_for(kind, int(megabytes * 1_000_000))
+
+
+def mqjudge_tasks(mqjudge: Path) -> list[str]:
+    """Which tasks to measure; says what can't be."""
+    if not shutil.which(mqjudge):
+        print(f"no program at {mqjudge}: build it (see README.md), or name it with --mqjudge")
+        return []
+    words = [str(mqjudge), "show", str(HERE.parent / "examples" / "pass.log")]
+    if subprocess.run(words, capture_output=True).returncode == MISUSE:
+        print(f"{mqjudge} has no `show` yet: it is left out")
+        return ["check"]
+    return ["show", "check"]
+
+
+def print_measure(kind: str, name: str, size: int, events: int, found: Measure, baseline: float) -> None:
+    if found.status != "status 0":
+        print(COLUMNS.format(kind, name, *["-"] * 6, f"{found.status} {found.report}"), flush=True)
+        return
+    processor = max(found.processor, 1e-6)
+    print(
+        COLUMNS.format(
+            kind,
+            name,
+            f"{found.wall:.2f} s",
+            f"{processor:.2f} s",
+            f"{size / processor / 1e6:.0f}",
+            f"{events / processor:,.0f}",
+            f"{processor / baseline:.2f}",
+            f"{found.peak_kib / 1024:.1f} MiB",
+            found.report,
+        ),
+        flush=True,
+    )
+
+
+def main() -> None:
+    words = argparse.ArgumentParser(description="Measures mqjudge beside a plain program and sha256sum.")
+    words.add_argument("--mqjudge", type=Path, default=HERE.parent / "crates/mq_cli/out/mq_cli")
+    words.add_argument("--megabytes", type=float, default=200, help="of each log (default 200)")
+    words.add_argument("--kinds", nargs="+", choices=make_log.KINDS, default=list(make_log.KINDS))
+    words.add_argument("--rounds", type=int, default=1, help="the quickest of so many counts")
+    words.add_argument("--seconds", type=int, default=600, help="after which a program is stopped")
+    words.add_argument("--gigabytes", type=int, default=8, help="of memory that a program may have")
+    given = words.parse_args()
+    tasks = mqjudge_tasks(given.mqjudge.absolute())
+    with tempfile.TemporaryDirectory(prefix="mqjudge-bench-") as name:
+        folder = Path(name)
+        baseline = build_baseline(folder)
+        print(COLUMNS.format("log", "program", "wall", "processor", "MB/s", "events/s", "ratio", "peak", ""), flush=True)
+        for kind in given.kinds:
+            log, events = make(kind, given.megabytes, folder)
+            size = log.stat().st_size
+            commands = {"baseline": [str(baseline), str(log)]}
+            for task in tasks:
+                commands[f"mqjudge {task}"] = [str(given.mqjudge.absolute()), task, str(log)]
+            commands["sha256sum"] = ["sha256sum", str(log)]
+            quickest = 1.0
+            for program, command in commands.items():
+                rounds = [measure(command, folder, given.seconds, given.gigabytes) for _ in range(given.rounds)]
+                found = min(rounds, key=lambda one: one.processor)
+                if program == "baseline":
+                    quickest = max(found.processor, 1e-6)
+                print_measure(kind, program, size, events, found, quickest)
+            log.unlink()
+
+
+if __name__ == "__main__":
+    main()
