@@ -270,35 +270,25 @@ impl Draws {
     }
 }
 
-const PACKETS: [&str; 16] = [
-    "10 43 00 04 4D 51 54 54 05 EE 00 3C 14 11 00 00 00 05 21 00 0A 22 00 05 27 00 00 10 00 17 01 19 00 00 01 63 \
-     13 18 00 00 00 01 01 01 03 00 01 74 08 00 01 72 09 00 01 00 00 01 77 00 02 00 FF 00 01 75 00 01 70",
-    "20 1C 01 00 19 12 00 01 63 13 00 3C 24 01 25 00 28 01 29 01 2A 01 1A 00 01 69 1C 00 01 73",
-    "3B 1C 00 01 61 00 01 13 01 01 02 00 00 00 01 0B 05 0B 80 01 23 00 01 08 00 01 72 68 69 21",
-    "32 0C 00 02 C3 A9 00 01 05 03 00 02 C3 A9",
-    "40 0A 00 01 10 06 1F 00 03 6E 6F 6E",
-    "50 0B 00 01 00 07 26 00 01 6B 00 01 76",
-    "62 03 00 01 92",
-    "70 04 00 01 00 00",
-    "82 11 00 01 02 0B 01 00 03 61 2F 23 21 00 03 2B 2F 62 02",
-    "90 05 00 01 00 00 80",
-    "A2 0B 00 01 00 00 01 61 00 03 62 2F 63",
-    "B0 05 00 01 00 00 11",
-    "C0 00",
-    "D0 00",
-    "E0 07 04 05 11 00 00 00 05",
-    "F0 0A 18 08 15 00 01 6D 16 00 01 6E",
-];
+// Valid packets, of all types.
+fn packets() -> Vec<Vec<u8>> {
+    let lines = include_str!("../packets.txt").lines();
+    lines
+        .filter(|line| !line.starts_with('#'))
+        .map(bytes)
+        .collect()
+}
 
 #[test]
 fn stays_whole_on_changed_packets() {
-    for hex in PACKETS {
-        assert_eq!(describe(&bytes(hex)).1, 0, "{hex}");
+    let packets = packets();
+    for packet in &packets {
+        assert_eq!(describe(packet).1, 0, "{packet:02X?}");
     }
     let mut draws = Draws(1);
     let mut valid = 0;
     for round in 0..200_000 {
-        let mut packet = bytes(PACKETS[round % PACKETS.len()]);
+        let mut packet = packets[round % packets.len()].clone();
         for _ in 0..draws.below(4) {
             draws.change(&mut packet);
         }
@@ -315,12 +305,11 @@ fn stays_whole_on_changed_packets() {
 #[test]
 fn shows_the_same_in_any_pieces() {
     let mut draws = Draws(2);
-    let packets: Vec<String> = PACKETS
-        .iter()
-        .enumerate()
-        .map(|(n, hex)| record(2 + (n % 2) as u8, hex))
-        .collect();
-    let log = accepted(&packets);
+    let mut log = accepted(&[]);
+    for (n, packet) in packets().iter().enumerate() {
+        log.extend([2 + (n % 2) as u8, 0, 0, 0, packet.len() as u8]);
+        log.extend(packet);
+    }
     for _ in 0..3_000 {
         let mut log = log.clone();
         for _ in 0..draws.below(4) {
