@@ -8,6 +8,7 @@ pub mod JudgeLaws
 pub mod ListingLaws
 pub mod LookbackLaws
 pub mod MarkLaws
+pub mod MembershipLaws
 pub mod MomentLaws
 pub mod OrderLaws
 pub mod PiecesLaws

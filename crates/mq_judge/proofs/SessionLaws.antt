@@ -23,7 +23,7 @@ pub session-void : (role : Role) (log : List Seen) (k : ℕ) → is_void role (c
 session-void role log k h = ap (λ b. cond b (accepted_from role log (session_start role log (moment log k)) (before (moment log k))) []) (void_refuses (admission role (connection_no (moment log k)) log) h)
 
 -- the connection of this number begins a session
-abbrev begins : Role → List Seen → ℕ → Bool
+abbrev pub begins : Role → List Seen → ℕ → Bool
 begins role log c = is_accepted role c log && not (is_resumed role c log)
 
 -- from an accepted connection on there is that connection alone, in a part that ends on it

@@ -1,5 +1,5 @@
 -- Network connections and sessions (MQTT 5.0, sections 3.1.2.4, 3.2 and 4.1).
-use Rattle.std.specs.Prelude.{ℕ, ◌≡◌, ◌==◌, nat_le, Bool, true, false, ◌&&◌, not, cond, List, [], ◌∷◌, Option, Some, None, is_some, ◌||◌}
+use Rattle.std.specs.Prelude.{ℕ, ◌≡◌, ◌<◌, ◌≤◌, ◌==◌, nat_le, Bool, true, false, ◌&&◌, ◌||◌, not, cond, List, [], ◌∷◌, Option, Some, None, is_some}
 use Rattle.mq_judge.specs.declared.rules.role.Role.{Role}
 use Rattle.mq_judge.specs.declared.rules.role.Role.TheVariants.{Client, Server}
 use Rattle.mq_judge.specs.declared.rules.admission.Admission.{Admission}
@@ -102,6 +102,16 @@ accepted_from role log start (e ∷ past) =
 -- isn't accepted is in no session.
 abbrev pub session : Role → List Seen → ℕ → List Seen
 session role log k = cond (is_accepted_at role k log) (accepted_from role log (session_start role log (moment log k)) (before (moment log k))) []
+
+-- This event stands before position k, in k's session: it is on an accepted connection, and each accepted connection from the next one to k's is resumed.
+pub record IsInSession (role : Role) (log : List Seen) (k : ℕ) (event : Seen) : Type 0 where
+  pub at : ℕ
+  pub earlier : List Seen
+  pub there : moment log at ≡ event ∷ earlier
+  pub before_it : at < k
+  pub begun : 1 ≤ connection_no (moment log at)
+  pub accepted : is_accepted_at role at log ≡ true
+  pub resumed : (c : ℕ) → connection_no (moment log at) < c → c ≤ connection_no (moment log k) → is_accepted role c log ≡ true → is_resumed role c log ≡ true
 
 -- Each session packet stands after its connection's CONNACK, and so does each RELEASE on a connection; one between connections is on none.
 abbrev pub IsInOrder : Role → List Seen → Type 0

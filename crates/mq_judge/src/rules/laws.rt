@@ -6,7 +6,7 @@ ghost use Rattle.mq_judge.specs.Notes.{is_open};
 ghost use Rattle.mq_judge.specs.Moments.{moment, before, since, IsBeginning, IsPlaced, Stands};
 ghost use Rattle.mq_judge.specs.declared.rules.note.Note.{Note};
 ghost use Rattle.mq_judge.specs.declared.rules.admission.Admission.{Admission};
-ghost use Rattle.mq_judge.specs.Connections.{connection, decision, events_of, connection_no, admission, is_accepted_at, is_resumed, is_void, session};
+ghost use Rattle.mq_judge.specs.Connections.{connection, decision, events_of, connection_no, admission, is_accepted_at, is_resumed, is_void, session, IsInSession};
 ghost use Rattle.mq_judge.specs.declared.rules.role.Tested.{Tested};
 ghost use Rattle.mq_judge.specs.declared.rules.rule.Rule.{Rule};
 ghost use Rattle.mq_judge.specs.Statements.{fails};
@@ -58,6 +58,11 @@ pub fn admission_stays()
 /// A position's session, once its connection is decided, is the same in every longer log.
 pub fn session_stays()
     ensures { (role : Role) (e : Seen) (past : List Seen) (k : ℕ) → k ≤ length past → is_some (admission role (connection_no (moment past k)) past) ≡ true → session role (e ∷ past) k ≡ session role past k }
+{}
+
+/// The events of a position's session are exactly those before it on accepted connections between which and the position's no connection begins a session.
+pub fn session_by_positions()
+    ensures { (role : Role) (log : List Seen) (k : ℕ) (e : Seen) (past : List Seen) (event : Seen) → moment log k ≡ e ∷ past → is_accepted_at role k log ≡ true → Contains (session role log k) event ↔ IsInSession role log k event }
 {}
 
 /// A position on a void connection is in no session.
