@@ -1,14 +1,13 @@
 -- What a session is, by connections and by positions.
-use Rattle.std.proofs.Common.{◌≡◌, ℕ, ◌+◌, ◌<◌, ◌≤◌, ◌==◌, nat_le, Bool, true, false, cond, ◌&&◌, ◌||◌, not, List, [], ◌∷◌, length, Option, Some, None, refl, ap, sym, ◌∙◌, subst, arith, ◌⊎◌, inl, inr}
-use Rattle.std.proofs.lemmas.Bool.{le-leb, lt-leb, leb-true, eq-eqb, eqb-true}
+use Rattle.std.proofs.Common.{◌≡◌, ℕ, ◌<◌, ◌≤◌, ◌==◌, nat_le, Bool, true, false, cond, ◌&&◌, not, List, [], ◌∷◌, Option, Some, None, refl, ap, sym, ◌∙◌, arith}
+use Rattle.std.proofs.lemmas.Bool.{le-leb, lt-leb, eq-eqb, eqb-true}
 use Rattle.mq_judge.specs.declared.rules.role.Role.{Role}
 use Rattle.mq_judge.specs.declared.rules.admission.Admission.{Admission}
 use Rattle.mq_judge.specs.declared.rules.admission.Admission.TheVariants.{New, Resumed, Void}
 use Rattle.mq_judge.specs.declared.rules.note.Seen.{Seen}
 use Rattle.mq_judge.specs.Moments.{moment, before}
 use Rattle.mq_judge.specs.Notes.{is_open}
-use Rattle.mq_judge.specs.Connections.{connection_no, events_of, admission, accepts, resumes, voids, is_accepted, is_accepted_at, is_resumed, is_void, session_start, accepted_from, session}
-use Rattle.mq_judge.proofs.BoolLaws.{and_false, differ}
+use Rattle.mq_judge.specs.Connections.{connection_no, events_of, admission, accepts, voids, is_accepted, is_accepted_at, is_resumed, is_void, session_start, accepted_from, session}
 use Rattle.mq_judge.proofs.ConnectionLaws.{connection_no-same, fewer}
 use Rattle.mq_judge.proofs.LookbackLaws.{session_start-most, session_start-least}
 
