@@ -10,6 +10,7 @@ pub mod LookbackLaws
 pub mod MarkLaws
 pub mod MembershipLaws
 pub mod MomentLaws
+pub mod OnePacketLaws
 pub mod OrderLaws
 pub mod PiecesLaws
 pub mod PlainLaws

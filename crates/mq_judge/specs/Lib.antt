@@ -3,10 +3,12 @@ pub mod Context
 pub mod Events
 pub mod Faults
 pub mod Framing
+pub mod ItemText
 pub mod Judging
 pub mod Marks
 pub mod Moments
 pub mod Notes
+pub mod OnePacket
 pub mod Pieces
 pub mod Refusals
 pub mod Report

@@ -3,12 +3,14 @@
 
 mod judge;
 mod laws;
+mod packet_line;
 mod report;
 mod rules;
 mod running;
 mod trace;
 
 pub use judge::{Judge, Options, Verdict};
+pub use packet_line::write_packet;
 pub use report::{Form, Outcome, RunFault, write_refused, write_text};
 pub use rules::fault::Fault;
 pub use rules::faults::{Faults, Mark, Memory};

@@ -4,6 +4,7 @@ ghost use Rattle.std.specs.FinMap as map;
 ghost use Rattle.std.specs.Io.KnownBytes.{Appends};
 ghost use Rattle.mq_judge.specs.Report.{offset_text, fault_text, verdict_text, refused_line, report_on, AppendsBeginning};
 
+pub mod item;
 pub mod line;
 
 use self::line::write_line;

@@ -1,0 +1,124 @@
+//! The line that says what bytes are that are to be one packet.
+ghost use Rattle.std.specs.Prelude.{◌≡◌, ◌≤◌, ◌↔◌, true, Some, IfOk, IfErr, OnOk, length};
+ghost use Rattle.std.specs.Io.KnownBytes.{Appends};
+ghost use Rattle.mq_judge.specs.OnePacket.{IsOnePacket, finding, finding_text, finds_packet, frame_finding, is_packet, packet_report};
+ghost use Rattle.mq_judge.specs.Report.{AppendsBeginning};
+ghost use Rattle.mq_packet.specs.Decoding.{decoded};
+ghost use Rattle.mq_packet.specs.Entries.{Entry};
+ghost use Rattle.mq_packet.specs.Spelled.{IsSpelled};
+
+use super::report::RunFault;
+use super::report::item::ShownItem;
+use super::report::line::write_line;
+use super::rules::note::ItemNote;
+use super::rules::packet_note::PacketNote;
+use mq_packet::{Cut, DecodeFault, cut, decode};
+use std::fmt;
+use std::io::Write;
+
+/// What bytes are that are to be one packet.
+#[derive(Clone, Copy, Debug, PartialEq, Eq)]
+enum Finding {
+    /// They begin with no whole frame yet.
+    NeedMore,
+    /// This many bytes follow a whole frame.
+    LeftOver(usize),
+    /// One frame, or bytes that are no frame's beginning.
+    Item(ShownItem),
+    /// The frame of a CONNECT of another protocol version (MQTT 5.0, section 3.1.2.2).
+    OtherVersion(u8),
+}
+
+impl fmt::Display for Finding {
+    ghost output = { λ found. Some (finding_text found) };
+
+    fn fmt<W: fmt::Write>(&self, f: &mut fmt::Formatter<W>) -> fmt::Result {
+        match self {
+            Finding::NeedMore => write!(f, "need more bytes"),
+            Finding::LeftOver(count) => write!(f, "left over {count} bytes"),
+            Finding::Item(item) => write!(f, "{item}"),
+            Finding::OtherVersion(version) => write!(f, "other version {version}"),
+        }
+    }
+}
+
+impl Finding {
+    // What these bytes are.
+    #[tactic(auto, unfolding(crate::specs::OnePacket::finding))]
+    fn of(bytes: &[u8]) -> Finding
+        ensures exact { result ≡ finding bytes.now }
+        ensures one_packet { (finds_packet result ≡ true) ↔ IsOnePacket bytes.now }
+    {
+        match cut(bytes) {
+            Cut::Need => Finding::NeedMore,
+            Cut::Lost => Finding::Item(ShownItem {
+                item: ItemNote::Lost,
+                size: bytes.len(),
+            }),
+            Cut::Frame {
+                first,
+                body_start,
+                body_end,
+            } => {
+                if body_end < bytes.len() {
+                    return Finding::LeftOver(bytes.len() - body_end);
+                }
+                Finding::of_frame(first, &bytes[body_start..], body_end)
+            }
+        }
+    }
+
+    // What a frame is that has this first byte, this body and this size.
+    fn of_frame(first: u8, body: &[u8], size: usize) -> Finding
+        requires { length body.now ≤ 268435455 }
+        ensures exact { result ≡ frame_finding first size (decoded first body.now) }
+        ensures spells { (finds_packet result ≡ true) ↔ ((packet : Entry) × IsSpelled first body.now packet) }
+    {
+        let item = match decode(first, body) {
+            Ok(packet) => ItemNote::Packet(PacketNote::of(&packet)),
+            Err(DecodeFault::Broken(fault)) => ItemNote::Bad {
+                first,
+                rule: fault.rule,
+                at: fault.at,
+            },
+            Err(DecodeFault::OtherVersion(version)) => return Finding::OtherVersion(version),
+        };
+        Finding::Item(ShownItem { item, size })
+    }
+
+    fn is_packet(&self) -> bool
+        ensures { result ≡ finds_packet self.now }
+    {
+        matches!(
+            self,
+            Finding::Item(ShownItem {
+                item: ItemNote::Packet(_),
+                ..
+            })
+        )
+    }
+}
+
+/// Writes the line that says what these bytes are, which are to be one Control Packet (MQTT 5.0, section 2.1), and answers
+/// whether they are: one frame, with nothing before or behind it, that spells a packet. It takes no memory.
+///
+/// The line is `<TYPE> size <n>` for a packet, with ` qos <q> dup <d>` for a PUBLISH and ` id <i>` where there is a Packet
+/// Identifier; `BAD <code> offset <n>` for a frame that breaks a rule, with the field's place; `other version <n>` for a
+/// CONNECT of another protocol version; `left over <n> bytes` where bytes follow a whole frame, whatever it holds; `LOST`
+/// where the Remaining Length is no variable byte integer; and `need more bytes` where it or the frame isn't whole.
+///
+/// # Errors
+///
+/// `Write` where a write failed: the writer answered an error, an interruption too, or took no byte. A beginning of the line was written then.
+#[tactic(auto, unfolding(crate::specs::OnePacket::packet_report, crate::specs::OnePacket::is_packet))]
+pub fn write_packet<W: Write>(bytes: &[u8], writer: &mut W) -> Result<bool, RunFault>
+    ensures ok { OnOk result (Appends (W.contents writer.old) (W.contents writer.new) (packet_report bytes.now)) }
+    ensures answer { IfOk result (λ told. told ≡ is_packet bytes.now) }
+    ensures one_packet { IfOk result (λ told. (told ≡ true) ↔ IsOnePacket bytes.now) }
+    ensures write { IfErr result (λ fault. (fault ≡ RunFault.Write)
+        × AppendsBeginning (W.contents writer.old) (W.contents writer.new) (packet_report bytes.now)) }
+{
+    let found = Finding::of(bytes);
+    write_line(found, writer)?;
+    Ok(found.is_packet())
+}
