@@ -1,5 +1,5 @@
--- Words in which the definition finds no fault name the subcommand `check`.
-use Rattle.std.proofs.Common.{◌≡◌, ◌∙◌, ◌&&◌, ◌||◌, Bool, true, false, true≢false, not, cond, refl, sym, ap, subst, ℕ, suc, arith, inl, inr, Result, Ok, Err, MatchResult, List, [], ◌∷◌, fold, Option, Some, None, is_some, codes, option_map}
+-- Words in which the definition finds no fault name a subcommand.
+use Rattle.std.proofs.Common.{◌≡◌, ◌∙◌, ◌&&◌, ◌||◌, Bool, true, false, true≢false, not, cond, refl, sym, ap, ap₂, subst, ◌⊎◌, ℕ, suc, arith, inl, inr, Result, Ok, Err, MatchResult, List, [], ◌∷◌, fold, Option, Some, None, is_some, codes, option_map, unwrap_or}
 use Rattle.std.specs.Str.{bytes_eq}
 use Rattle.std.specs.List.{Any}
 use Rattle.std.proofs.lemmas.Slice.Eq.{bytes_eq-Decides}
@@ -21,7 +21,7 @@ use Rattle.mq_cli.specs.declared.command_line.Stop.{Stop}
 use Rattle.mq_cli.specs.declared.command_line.Stop.TheVariants.{Help, Memory, Usage}
 use Rattle.clap.specs.Kinds.{HasKind, IsAmong, Kinds, or_else}
 use Rattle.clap.specs.Faults.{defaults_fault, turn_fault, walk_fault, word_fault, step_fault, entered_fault, settle_fault, check_fault, other_fault}
-use Rattle.mq_cli.specs.CommandLine.{IsShown, StopsFor, check_request, faults_of, mqjudge, request_in, request_of}
+use Rattle.mq_cli.specs.CommandLine.{IsShown, StopsFor, check_request, faults_of, mqjudge, packet_request, request_in, request_of}
 
 -- ---- lists of kinds
 
@@ -140,23 +140,33 @@ subcommand_is_there rows false e = cc
 is_symmetric : (xs ys : List ℕ) → bytes_eq xs ys ≡ false → bytes_eq ys xs ≡ false
 is_symmetric xs ys e = false_from_ne_true _ (λ same. true≢false (sym ((bytes_eq-Decides xs ys).1 (sym ((bytes_eq-Decides ys xs).0 same))) ∙ e))
 
--- of `check` and `help`, the one that was entered
-the_first : {X Y : Type 0} (f : X → Y) (b d : Bool) (x y : X) → d ≡ false → is_some (option_map f (cond b (Some x) (cond d (Some y) None))) ≡ true
-    → option_map f (cond b (Some x) (cond d (Some y) None)) ≡ Some (f x)
-the_first f true d x y other some = refl
-the_first f false true x y other some = absurd (true≢false other)
-the_first f false false x y other some = absurd (true≢false (sym some))
+-- of `check`, `packet` and `help`, the one that was entered
+the_first : {X Y : Type 0} (f : X → Y) (b c d : Bool) (x y z : X) → d ≡ false
+    → is_some (option_map f (cond b (Some x) (cond c (Some y) (cond d (Some z) None)))) ≡ true
+    → (option_map f (cond b (Some x) (cond c (Some y) (cond d (Some z) None))) ≡ Some (f x))
+    ⊎ (option_map f (cond b (Some x) (cond c (Some y) (cond d (Some z) None))) ≡ Some (f y))
+the_first f true c d x y z other some = inl refl
+the_first f false true d x y z other some = inr refl
+the_first f false false true x y z other some = absurd (true≢false other)
+the_first f false false false x y z other some = absurd (true≢false (sym some))
 
-entered_check : (stop : Option (Text × List Text)) → StoppedElsewhere stop → is_some (entered (built mqjudge) stop) ≡ true
-    → (rows : List Row) × (entered (built mqjudge) stop ≡ Some (codes "check", rows))
-entered_check None e some = absurd (true≢false (sym some))
-entered_check (Some p) e some =
+-- a subcommand that asks for something was met
+abbrev NamesTask : Option (Text × List Row) → Type 0
+NamesTask met = ((rows : List Row) × (met ≡ Some (codes "check", rows))) ⊎ ((rows : List Row) × (met ≡ Some (codes "packet", rows)))
+
+entered_names : (stop : Option (Text × List Text)) → StoppedElsewhere stop → is_some (entered (built mqjudge) stop) ≡ true
+    → NamesTask (entered (built mqjudge) stop)
+entered_names None e some = absurd (true≢false (sym some))
+entered_names (Some p) e some =
     let other : answers_to p.0 (codes "help", []) ≡ false = ap (λ (b : Bool). b || false) (is_symmetric p.0 (codes "help") e) in
-    (_, the_first (λ s. rows_at s p.1) (answers_to p.0 (codes "check", [])) (answers_to p.0 (codes "help", [])) _ _ other some)
+    elim (the_first (λ s. rows_at s p.1) (answers_to p.0 (codes "check", [])) (answers_to p.0 (codes "packet", [])) (answers_to p.0 (codes "help", [])) _ _ _ other some) [
+      | inl h ↦ inl (_, h)
+      | inr h ↦ inr (_, h)
+    ]
 
--- words in which the definition finds no fault name `check`
-pub check_is_met : (words : List Text) → faults_of words ≡ [] → (rows : List Row) × (subcommand_of mqjudge words ≡ Some (codes "check", rows))
-check_is_met words none =
+-- words in which the definition finds no fault name `check` or `packet`
+subcommand_is_met : (words : List Text) → faults_of words ≡ [] → NamesTask (subcommand_of mqjudge words)
+subcommand_is_met words none =
     let a = built mqjudge in
     let arguments = argument_words mqjudge words in
     let end = walk a.top.rules (names_of a) nothing_held arguments in
@@ -167,7 +177,7 @@ check_is_met words none =
     let step_5 : check_fault a.top (finished a.top.rules end.held) (is_some (entered a end.stopped)) ≡ [] =
     or_else-second (defaults_fault (settled a.top.rules end.held).rows a.top.rules) _ step_4 in
     let elsewhere = walk-elsewhere a.top (names_of a) (walk_from nothing_held) arguments refl tt step_1 in
-    entered_check end.stopped elsewhere (subcommand_is_there (finished a.top.rules end.held) (is_some (entered a end.stopped)) step_5)
+    entered_names end.stopped elsewhere (subcommand_is_there (finished a.top.rules end.held) (is_some (entered a end.stopped)) step_5)
 
 -- ---- the matches
 
@@ -175,20 +185,41 @@ name_met : {Z : Type 0} (o : Option (Box SubCommand Z)) → option_map (λ p. p.
 name_met None = refl
 name_met (Some b) = refl
 
--- matches of such words are those of `check`
-pub check_is_named : (words : List Text) (m : ArgMatches) → faults_of words ≡ [] → subcommand_rows_of m ≡ subcommand_of mqjudge words → subcommand_name_of m ≡ Some (codes "check")
-check_is_named words m none same =
-    sym (name_met (out-ArgMatches m).subcommand) ∙ ap (option_map (λ (p : Text × List Row). p.0)) (same ∙ (check_is_met words none).1)
+-- matches of such words are those of `check` or of `packet`
+pub subcommand_is_named : (words : List Text) (m : ArgMatches) → faults_of words ≡ [] → subcommand_rows_of m ≡ subcommand_of mqjudge words
+    → (subcommand_name_of m ≡ Some (codes "check")) ⊎ (subcommand_name_of m ≡ Some (codes "packet"))
+subcommand_is_named words m none same =
+    let named = sym (name_met (out-ArgMatches m).subcommand) ∙ ap (option_map (λ (p : Text × List Row). p.0)) same in
+    elim (subcommand_is_met words none) [
+      | inl h ↦ inl (named ∙ ap (option_map (λ (p : Text × List Row). p.0)) h.1)
+      | inr h ↦ inr (named ∙ ap (option_map (λ (p : Text × List Row). p.0)) h.1)
+    ]
 
--- and have its file
-pub request_is_check : (words : List Text) (m check : ArgMatches) → faults_of words ≡ [] → subcommand_rows_of m ≡ subcommand_of mqjudge words
+-- a name and rows are what was met
+both_met : (met : Option (Text × List Row)) (name : Text) (rows : List Row) → option_map (λ p. p.0) met ≡ Some name → option_map (λ p. p.1) met ≡ Some rows → met ≡ Some (name, rows)
+both_met None name rows e h = cc
+both_met (Some p) name rows e h =
+    let names : p.0 ≡ name = ap (λ (o : Option Text). unwrap_or o name) e in
+    let same : p.1 ≡ rows = ap (λ (o : Option (List Row)). unwrap_or o rows) h in
+    ap₂ (λ (a : Text) (b : List Row). Some (a, b)) names same
+
+-- and have what that subcommand was given
+met_by : (words : List Text) (m sub : ArgMatches) (name : Text) → subcommand_rows_of m ≡ subcommand_of mqjudge words → subcommand_name_of m ≡ Some name
+    → option_map (λ p. p.1) (subcommand_rows_of m) ≡ Some (rows_of (found_of sub)) → subcommand_of mqjudge words ≡ Some (name, rows_of (found_of sub))
+met_by words m sub name same named rows =
+    sym same ∙ both_met (subcommand_rows_of m) name (rows_of (found_of sub)) (name_met (out-ArgMatches m).subcommand ∙ named) rows
+
+pub request_is_check : (words : List Text) (m check : ArgMatches) → subcommand_rows_of m ≡ subcommand_of mqjudge words → subcommand_name_of m ≡ Some (codes "check")
     → option_map (λ p. p.1) (subcommand_rows_of m) ≡ Some (rows_of (found_of check)) → request_of words ≡ Some (check_request (first_value (found_of check) (codes "FILE")))
-request_is_check words m check none same rows =
-    let met = check_is_met words none in
-    let rows_are : Some met.0 ≡ Some (rows_of (found_of check)) = sym (ap (option_map (λ (p : Text × List Row). p.1)) (same ∙ met.1)) ∙ rows in
-    ap (option_map request_in) met.1
-    ∙ ap (option_map (λ (r : List Row). check_request (first_of (codes "FILE") r))) rows_are
+request_is_check words m check same named rows =
+    ap (option_map request_in) (met_by words m check (codes "check") same named rows)
     ∙ ap (λ (f : Option Text). Some (check_request f)) (sym (first_value-rows (found_of check) (codes "FILE")))
+
+pub request_is_packet : (words : List Text) (m packet : ArgMatches) → subcommand_rows_of m ≡ subcommand_of mqjudge words → subcommand_name_of m ≡ Some (codes "packet")
+    → option_map (λ p. p.1) (subcommand_rows_of m) ≡ Some (rows_of (found_of packet)) → request_of words ≡ Some (packet_request (first_value (found_of packet) (codes "HEX")))
+request_is_packet words m packet same named rows =
+    ap (option_map request_in) (met_by words m packet (codes "packet") same named rows)
+    ∙ ap (λ (f : Option Text). Some (packet_request f)) (sym (first_value-rows (found_of packet) (codes "HEX")))
 
 -- ---- kinds of error
 

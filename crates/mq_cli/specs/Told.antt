@@ -1,13 +1,18 @@
 -- What the caller is told, and where.
-use Rattle.std.specs.Prelude.{◌≡◌, ◌⊎◌, ⊤, List, ℕ, Option, Some, [], true, length, string_bytes}
+use Rattle.std.specs.Prelude.{◌≡◌, ◌⊎◌, ⊤, List, ℕ, Option, Some, [], ◌∷◌, ◌++◌, true, length, codes, string_bytes, IfSome, IsErr, Result, Ok}
 use Rattle.std.specs.Io.KnownBytes.{Appends}
+use Rattle.hex.specs.Hex.{decode_of}
 use Rattle.mq_judge.specs.declared.Refusal.{Refusal}
 use Rattle.mq_judge.specs.declared.Refusal.TheVariants as refusals
 use Rattle.mq_judge.specs.Events.{seen_in}
 use Rattle.mq_judge.specs.Faults.{listed}
 use Rattle.mq_judge.specs.Framing.{tested_by}
 use Rattle.mq_judge.specs.Refusals.{is_cut_short, refused}
-use Rattle.mq_judge.specs.Running.{default_limit}
+use Rattle.mq_judge.specs.OnePacket.{IsOnePacket, packet_report}
+use Rattle.mq_judge.specs.Report.{refused_line, report}
+use Rattle.mq_judge.specs.Running.{IsJudged, default_limit}
+use Rattle.mq_cli.specs.declared.command_line.Task.{Task}
+use Rattle.mq_cli.specs.declared.command_line.Task.TheVariants.{Check, Packet}
 use Rattle.mq_cli.specs.declared.command_line.Stop.{Stop}
 use Rattle.mq_cli.specs.declared.command_line.Stop.TheVariants.{Help, Usage, Memory}
 use Rattle.mq_cli.specs.declared.failure.Failure.{Failure}
@@ -47,3 +52,49 @@ abbrev pub failure_of : Refusal → Failure
 failure_of (refusals.Read at) = failures.Read
 failure_of (refusals.Memory at) = failures.Memory
 failure_of _ = failures.Write
+
+-- ---- the bytes of one packet
+
+-- the digits spell bytes that are one packet
+abbrev pub SpellsPacket : List ℕ → Type 0
+SpellsPacket hex = (bytes : List ℕ) × (decode_of hex ≡ Ok bytes) × IsOnePacket bytes
+
+-- they spell bytes that aren't
+abbrev pub SpellsNoPacket : List ℕ → Type 0
+SpellsNoPacket hex = (bytes : List ℕ) × (decode_of hex ≡ Ok bytes) × (¬ IsOnePacket bytes)
+
+-- they spell bytes, and the line on these was written and nothing else
+abbrev pub AppendsLineOf : List ℕ → Option (List ℕ) → Option (List ℕ) → Type 0
+AppendsLineOf hex old new = (bytes : List ℕ) × (decode_of hex ≡ Ok bytes) × Appends old new (packet_report bytes)
+
+-- what is told where they spell none
+abbrev pub not_hex_line : List ℕ
+not_hex_line = codes "mqjudge: not hex" ++ 10 ∷ []
+
+-- ---- what a status tells of a task, whose input has these bytes left, where that is known
+
+-- 0: the log is judged and has no fault; the bytes are one packet
+abbrev pub HasPassed : Task → Option (List ℕ) → Type 0
+HasPassed (Check file json) input = IfSome input (λ log. IsJudged log × IsFaultless log)
+HasPassed (Packet hex) input = SpellsPacket (string_bytes hex)
+
+-- 1: the log is judged and has faults; the bytes are no packet, or not one alone
+abbrev pub HasFailed : Task → Option (List ℕ) → Type 0
+HasFailed (Check file json) input = IfSome input (λ log. IsJudged log × (¬ IsFaultless log))
+HasFailed (Packet hex) input = SpellsNoPacket (string_bytes hex)
+
+-- 0 and 1: the report was written, or the line on the packet, and nothing else
+abbrev pub IsReportedOn : Task → Option (List ℕ) → Option (List ℕ) → Option (List ℕ) → Type 0
+IsReportedOn (Check file json) input old new = IfSome input (λ log. Appends old new (report log))
+IsReportedOn (Packet hex) input old new = AppendsLineOf (string_bytes hex) old new
+
+-- 2: the log is refused, and the line that says so was written and nothing else
+abbrev pub IsRefusedOn : Task → Option (List ℕ) → Option (List ℕ) → Option (List ℕ) → Type 0
+IsRefusedOn (Check file json) input old new = IfSome input (λ log.
+    (refusal : Refusal) × IsRefusedBy log refusal × Appends old new (refused_line refusal))
+IsRefusedOn (Packet hex) input old new = ⊥
+
+-- 3: the digits of a packet are none
+abbrev pub IsNotHex : Task → Type 0
+IsNotHex (Check file json) = ⊥
+IsNotHex (Packet hex) = IsErr (decode_of (string_bytes hex))

@@ -1,7 +1,9 @@
 //! The words of a command line, read into a task.
-ghost use Rattle.std.specs.Prelude.{◌≡◌, [], Some, IfOk, IfErr, map, option_map};
+ghost use Rattle.std.specs.Prelude.{◌≡◌, [], Some, false, IfOk, IfErr, map, option_map};
 ghost use Rattle.clap.specs.Words.{HasKind, Kinds, app_of, subcommand_of, subcommand_rows_of};
-ghost use Rattle.mq_cli.specs.CommandLine.{StopsFor, check_request, faults_of, mqjudge};
+ghost use Rattle.clap.specs.declared.builder.command.Command.TheViews.{out-Command};
+ghost use Rattle.mq_cli.specs.CommandLine.{StopsFor, check_command, check_request, faults_of};
+ghost use Rattle.mq_cli.specs.CommandLine.{mqjudge, packet_command, packet_request};
 ghost use Rattle.mq_cli.specs.CommandLine.{request_by, request_of};
 
 use clap::error::ErrorKind;
@@ -18,6 +20,11 @@ pub enum Task {
         /// Report as JSON in place of text.
         json: bool,
     },
+    /// Say what the bytes are that `hex` spells, which are to be one packet.
+    Packet {
+        /// Two hexadecimal digits for each byte.
+        hex: String,
+    },
 }
 
 /// Why there is no task to do.
@@ -32,9 +39,9 @@ pub enum Stop {
     Memory,
 }
 
-/// Reads the words of a command line, `mqjudge check [FILE]`, of which the first is the program's
-/// name. A request for help or the version comes as a `Stop`, and so do words that are no such
-/// command line.
+/// Reads the words of a command line, `mqjudge check [FILE]` or `mqjudge packet HEX`, of which the
+/// first is the program's name. A request for help or the version comes as a `Stop`, and so do
+/// words that are no such command line.
 pub fn parse(alloc: Global, words: &[&str]) -> Result<Task, Stop>
     ensures taken { IfOk result (λ _. faults_of (map (λ word. word.now) words.now) ≡ []) }
     ensures task { IfOk result (λ task.
@@ -44,7 +51,10 @@ pub fn parse(alloc: Global, words: &[&str]) -> Result<Task, Stop>
     match matches_of(alloc, words) {
         Ok(matches) => match matches.subcommand_matches("check") {
             Some(check) => check_task(alloc, check.get_str("FILE")),
-            None => unreachable!(),
+            None => match matches.subcommand_matches("packet") {
+                Some(packet) => packet_task(alloc, packet.get_str("HEX")),
+                None => unreachable!(),
+            },
         },
         Err(error) => Err(stop_for(alloc, &error)),
     }
@@ -64,15 +74,38 @@ fn matches_of<'a>(alloc: Global, words: &'a [&'a str]) -> Result<ArgMatches<'a>,
 fn command_line<'a>(alloc: Global) -> Result<Command<'a>, AllocError>
     ensures { IfOk result (λ command. app_of command ≡ mqjudge) }
 {
-    let file = Arg::new(alloc, "FILE").help("The log; standard input where it is left out");
-    let check = Command::new(alloc, "check")
-        .about("Judges a log and reports each fault")
-        .arg(file)?;
-    Command::new(alloc, "mqjudge")
+    let check = check_command(alloc)?;
+    let packet = packet_command(alloc)?;
+    let with_check = Command::new(alloc, "mqjudge")
         .about("Judges the log of one end of an MQTT 5.0 session")
         .version("0.1.0")
         .subcommand_required(true)
-        .subcommand(check)
+        .subcommand(check)?;
+    with_check.subcommand(packet)
+}
+
+// The definition of `check`.
+fn check_command<'a>(alloc: Global) -> Result<Command<'a>, AllocError>
+    ensures app { IfOk result (λ command. app_of command ≡ check_command) }
+    ensures local { IfOk result (λ command. (out-Command command).has_globals ≡ false) }
+{
+    let file = Arg::new(alloc, "FILE").help("The log; standard input where it is left out");
+    Command::new(alloc, "check")
+        .about("Judges a log and reports each fault")
+        .arg(file)
+}
+
+// The definition of `packet`.
+fn packet_command<'a>(alloc: Global) -> Result<Command<'a>, AllocError>
+    ensures app { IfOk result (λ command. app_of command ≡ packet_command) }
+    ensures local { IfOk result (λ command. (out-Command command).has_globals ≡ false) }
+{
+    let hex = Arg::new(alloc, "HEX")
+        .help("The packet's bytes, two hexadecimal digits each")
+        .required(true);
+    Command::new(alloc, "packet")
+        .about("Says which packet some bytes are")
+        .arg(hex)
 }
 
 // The task of `check` on this operand.
@@ -89,6 +122,18 @@ fn check_task(alloc: Global, file: Option<&str>) -> Result<Task, Stop>
         None => None,
     };
     Ok(Task::Check { file, json: false })
+}
+
+// The task of `packet` on this operand; an operand that is left out counts as an empty one.
+fn packet_task(alloc: Global, hex: Option<&str>) -> Result<Task, Stop>
+    ensures task { IfOk result (λ task.
+        request_by task ≡ packet_request (option_map (λ text. text.now) hex.entry)) }
+    ensures stop { IfErr result (λ stop. stop ≡ Stop.Memory) }
+{
+    match String::from_str(alloc, hex.unwrap_or("")) {
+        Ok(hex) => Ok(Task::Packet { hex }),
+        Err(_) => Err(Stop::Memory),
+    }
 }
 
 // What the caller is told where the words give no task.

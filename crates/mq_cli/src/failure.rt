@@ -4,16 +4,17 @@ ghost use Rattle.std.specs.Prelude.{◌≡◌};
 use std::fmt;
 use std::io::Write;
 
-/// The status where a log was judged and no fault was found.
+/// The status where a log was judged and no fault was found, or where bytes are one packet.
 pub const PASSED: u8 = 0;
 
-/// The status where a log was judged and has faults.
+/// The status where a log was judged and has faults, or where bytes aren't one packet.
 pub const FAULTY: u8 = 1;
 
 /// The status where the log was refused.
 pub const REFUSED: u8 = 2;
 
-/// The status where the words aren't a command line of the program.
+/// The status where the words aren't a command line of the program, or a packet's digits aren't
+/// hexadecimal.
 pub const MISUSED: u8 = 3;
 
 /// The status where reading or writing failed, or memory ran out.

@@ -9,6 +9,8 @@ mod command_line;
 mod failure;
 #[cfg(test)]
 mod log_tests;
+#[cfg(test)]
+mod packet_tests;
 mod tasks;
 #[cfg(test)]
 mod tests;
@@ -42,7 +44,7 @@ fn run<R: AllocGlobal + Env + Files + Input + Print, E: Write>(
     let alloc = rt.alloc();
     let mut output = BufWriter::new(alloc, io::writer(rt)).map_err(failed_reading)?;
     match task(rt)? {
-        Ok(task) => perform_on_log(rt, &task, &mut output, error),
+        Ok(task) => perform_task(rt, &task, &mut output, error),
         Err(why) => Ok(stop(&why, &mut output, error)),
     }
 }
@@ -62,8 +64,8 @@ fn task<R: AllocGlobal + Env>(rt: &R) -> Result<Result<Task, Stop>, Failure> {
     Ok(parse(alloc, words.as_slice()))
 }
 
-// Does the task on the log that it names, or on standard input.
-fn perform_on_log<R: AllocGlobal + Files + Input, W: Write, E: Write>(
+// Does the task, on the log that it names or on standard input where it names none.
+fn perform_task<R: AllocGlobal + Files + Input, W: Write, E: Write>(
     rt: &R,
     task: &Task,
     output: &mut W,
@@ -81,7 +83,9 @@ fn perform_on_log<R: AllocGlobal + Files + Input, W: Write, E: Write>(
             let mut input = BufReader::new(alloc, file).map_err(failed_reading)?;
             Ok(perform(alloc, task, &mut input, output, error))
         }
-        Task::Check { file: None, .. } => Ok(perform(alloc, task, &mut rt.reader(), output, error)),
+        Task::Check { file: None, .. } | Task::Packet { .. } => {
+            Ok(perform(alloc, task, &mut rt.reader(), output, error))
+        }
     }
 }
 

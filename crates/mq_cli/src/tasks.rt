@@ -1,21 +1,29 @@
 //! Doing what a command line asks for.
-ghost use Rattle.std.specs.Prelude.{◌≡◌, ◌≢◌, ◌≤◌, ◌⊎◌, [], IfOk, IfErr, IfSome, OnOk};
+ghost use Rattle.std.specs.Prelude.{◌≡◌, ◌≢◌, ◌≤◌, ◌⊎◌, [], IfOk, IfErr, IfSome, IsErr, OnOk};
 ghost use Rattle.std.specs.Io.KnownBytes.{Appends, Keeps};
-ghost use Rattle.mq_cli.specs.Told.{IsFaultless, IsOfLog, IsRefusedBy, IsShownOn, IsToldOn, failure_of};
+ghost use Rattle.hex.specs.Hex.{decode_of};
+ghost use Rattle.mq_cli.specs.Told.{AppendsLineOf, HasFailed, HasPassed, IsFaultless, IsNotHex};
+ghost use Rattle.mq_cli.specs.Told.{IsOfLog, IsRefusedBy, IsRefusedOn, IsReportedOn, IsShownOn};
+ghost use Rattle.mq_cli.specs.Told.{IsToldOn, SpellsNoPacket, SpellsPacket, failure_of, not_hex_line};
 ghost use Rattle.mq_judge.specs.declared.Refusal.{Refusal};
+ghost use Rattle.mq_judge.specs.OnePacket.{IsOnePacket, packet_report};
 ghost use Rattle.mq_judge.specs.Report.{refused_line, report};
 ghost use Rattle.mq_judge.specs.Running.{IsJudged};
 
 use crate::command_line::{Stop, Task};
 use crate::failure::{FAILED, FAULTY, Failure, MISUSED, PASSED, REFUSED};
-use mq_judge::{Form, Outcome, Refusal, RunFault, run, write_refused};
+use hex::{FromHexError, decode};
+use mq_judge::{Form, Outcome, Refusal, RunFault, run, write_packet, write_refused};
 use std::alloc::Global;
 use std::io::{Read, Write};
 
-/// Does the task: judges the log that `input` gives, and writes the report, or the line on a
-/// refused log, to `output`. What fails is told on `error`. Gives the status to exit with: 0 for
-/// no fault, 1 for faults, 2 for a refused log, and 4 where reading or writing failed or memory ran
-/// out.
+/// Does the task, and gives the status to exit with.
+///
+/// A check judges the log that `input` gives, and writes the report, or the line on a refused log,
+/// to `output`: 0 for no fault, 1 for faults, 2 for a refused log. A packet's line is written to
+/// `output`: 0 where the bytes are one packet, else 1; where `hex` spells no bytes the status is 3,
+/// which is told on `error`. Where reading or writing failed or memory ran out the status is 4, and
+/// what failed is told on `error`.
 pub fn perform<R: Read, W: Write, E: Write>(
     alloc: Global,
     task: &Task,
@@ -23,25 +31,25 @@ pub fn perform<R: Read, W: Write, E: Write>(
     output: &mut W,
     error: &mut E,
 ) -> u8
-    ensures passed { result ≡ PASSED → IfSome (R.remaining input.old) (λ log.
-        IsJudged log × IsFaultless log) }
-    ensures faulty { result ≡ FAULTY → IfSome (R.remaining input.old) (λ log.
-        IsJudged log × (¬ IsFaultless log)) }
-    ensures reported { result ≤ FAULTY → IfSome (R.remaining input.old) (λ log.
-        Appends (W.contents output.old) (W.contents output.new) (report log)) }
-    ensures refused { result ≡ REFUSED → IfSome (R.remaining input.old) (λ log.
-        (refusal : Refusal) × IsRefusedBy log refusal
-        × Appends (W.contents output.old) (W.contents output.new) (refused_line refusal)) }
+    ensures passed { result ≡ PASSED → HasPassed task.now (R.remaining input.old) }
+    ensures faulty { result ≡ FAULTY → HasFailed task.now (R.remaining input.old) }
+    ensures reported { result ≤ FAULTY → IsReportedOn task.now (R.remaining input.old)
+        (W.contents output.old) (W.contents output.new) }
+    ensures refused { result ≡ REFUSED → IsRefusedOn task.now (R.remaining input.old)
+        (W.contents output.old) (W.contents output.new) }
+    ensures misused { result ≡ MISUSED → IsNotHex task.now
+        × Appends (E.contents error.old) (E.contents error.new) not_hex_line }
+    ensures statuses { result ≤ FAILED }
 
     // Nothing goes to `error` but what failed.
-    ensures statuses { (result ≤ REFUSED) ⊎ (result ≡ FAILED) }
-    ensures quiet { result ≢ FAILED → Keeps (E.contents error.old) (E.contents error.new) }
+    ensures quiet { result ≤ REFUSED → Keeps (E.contents error.old) (E.contents error.new) }
 {
     match task {
         Task::Check { .. } => match check(alloc, input, output) {
             Ok(status) => status,
             Err(failure) => failure.report(error),
         },
+        Task::Packet { hex } => packet(alloc, hex.as_str(), output, error),
     }
 }
 
@@ -84,6 +92,54 @@ fn refuse<W: Write>(refusal: &Refusal, output: &mut W) -> Result<u8, Failure>
             Err(_) => Err(Failure::Write),
         },
     }
+}
+
+// Says which packet the bytes are that these digits spell.
+fn packet<W: Write, E: Write>(alloc: Global, hex: &str, output: &mut W, error: &mut E) -> u8
+    ensures passed { result ≡ PASSED → SpellsPacket hex.now }
+    ensures faulty { result ≡ FAULTY → SpellsNoPacket hex.now }
+    ensures reported { result ≤ FAULTY
+        → AppendsLineOf hex.now (W.contents output.old) (W.contents output.new) }
+    ensures misused { result ≡ MISUSED → IsErr (decode_of hex.now)
+        × Appends (E.contents error.old) (E.contents error.new) not_hex_line }
+    ensures statuses { (result ≤ FAULTY) ⊎ ((result ≡ MISUSED) ⊎ (result ≡ FAILED)) }
+    ensures quiet { result ≤ FAULTY → Keeps (E.contents error.old) (E.contents error.new) }
+{
+    match decode(alloc, hex) {
+        Ok(bytes) => match tell_packet(bytes.as_slice(), output) {
+            Ok(told) => told,
+            Err(failure) => failure.report(error),
+        },
+        Err(FromHexError::OutOfMemory) => Failure::Memory.report(error),
+        Err(_) => refuse_hex(error),
+    }
+}
+
+// Writes the line that says which packet these bytes are.
+fn tell_packet<W: Write>(bytes: &[u8], output: &mut W) -> Result<u8, Failure>
+    ensures passed { IfOk result (λ status. status ≡ PASSED → IsOnePacket bytes.now) }
+    ensures faulty { IfOk result (λ status. status ≡ FAULTY → ¬ IsOnePacket bytes.now) }
+    ensures statuses { IfOk result (λ status. status ≤ FAULTY) }
+    ensures written { OnOk result
+        (Appends (W.contents output.old) (W.contents output.new) (packet_report bytes.now)) }
+{
+    match write_packet(bytes, output) {
+        Ok(true) => see_out(PASSED, output),
+        Ok(false) => see_out(FAULTY, output),
+        Err(_) => Err(Failure::Write),
+    }
+}
+
+// Tells that the digits of a packet are none, and gives the status.
+fn refuse_hex<E: Write>(error: &mut E) -> u8
+    ensures told { result ≡ MISUSED
+        → Appends (E.contents error.old) (E.contents error.new) not_hex_line }
+    ensures statuses { (result ≡ MISUSED) ⊎ (result ≡ FAILED) }
+{
+    let Ok(()) = show("mqjudge: not hex\n", error) else {
+        return FAILED;
+    };
+    MISUSED
 }
 
 // Sees to it that what was written goes out, and gives the status.

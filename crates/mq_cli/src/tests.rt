@@ -146,9 +146,9 @@ impl Read for Trickle<'_> {
 
 // Takes `room` bytes and then fails, as does its flush where `stays` says so.
 #[derive(Drop)]
-struct Narrow {
-    room: usize,
-    stays: bool,
+pub struct Narrow {
+    pub room: usize,
+    pub stays: bool,
 }
 
 impl Write for Narrow {
@@ -318,12 +318,19 @@ fn tells_of_want_of_memory(rt: HostRuntime) {
 
 #[test]
 fn reads_the_words_of_a_check(rt: HostRuntime) -> Result<(), Fail> {
-    let Task::Check { file, json } = parse(rt.alloc(), &["mqjudge", "check"])?;
+    let Task::Check { file, json } = parse(rt.alloc(), &["mqjudge", "check"])? else {
+        return Err("no check".into());
+    };
     assert!(rt; file.is_none() && !json);
-    let Task::Check { file, json } = parse(rt.alloc(), &["mqjudge", "check", "a.log"])?;
+    let Task::Check { file, json } = parse(rt.alloc(), &["mqjudge", "check", "a.log"])? else {
+        return Err("no check".into());
+    };
     let path = file.ok_or("no file")?;
     assert!(rt; path.as_str() == "a.log" && !json);
-    let Task::Check { file, json } = parse(rt.alloc(), &["mqjudge", "check", "--", "--help"])?;
+    let Task::Check { file, json } = parse(rt.alloc(), &["mqjudge", "check", "--", "--help"])?
+    else {
+        return Err("no check".into());
+    };
     let path = file.ok_or("no file")?;
     assert!(rt; path.as_str() == "--help" && !json);
     Ok(())
@@ -331,7 +338,7 @@ fn reads_the_words_of_a_check(rt: HostRuntime) -> Result<(), Fail> {
 
 #[test]
 fn shows_help_and_the_version(rt: HostRuntime) -> Result<(), Fail> {
-    let requests: [(&[&str], &str); 7] = [
+    let requests: [(&[&str], &str); 8] = [
         (&["mqjudge", "--help"], "Usage: mqjudge <COMMAND>"),
         (&["mqjudge", "-h"], "Usage: mqjudge <COMMAND>"),
         (&["mqjudge", "help"], "Usage: mqjudge <COMMAND>"),
@@ -339,6 +346,10 @@ fn shows_help_and_the_version(rt: HostRuntime) -> Result<(), Fail> {
         (
             &["mqjudge", "check", "--help"],
             "Usage: mqjudge check [FILE]",
+        ),
+        (
+            &["mqjudge", "packet", "--help"],
+            "Usage: mqjudge packet <HEX>",
         ),
         (&["mqjudge", "--version"], "mqjudge 0.1.0\n"),
         (&["mqjudge", "-V"], "mqjudge 0.1.0\n"),

@@ -1,16 +1,28 @@
-use Rattle.std.proofs.Common.{ap, map, sym, true≢false, Some, Option, ◌∙◌}
+use Rattle.std.proofs.Common.{ap, map, refl, sym, true≢false, Some, Option, ◌∙◌, inl, inr}
 use Rattle.std.proofs.lemmas.Result.{IfOk-weaker}
 use Rattle.clap.specs.Words.{Text}
-use Rattle.mq_cli.specs.CommandLine.{check_request}
-use Rattle.mq_cli.proofs.CommandLineLemmas.{check_is_named, request_is_check}
+use Rattle.mq_cli.specs.CommandLine.{check_request, packet_request}
+use Rattle.mq_cli.proofs.CommandLineLemmas.{subcommand_is_named, request_is_check, request_is_packet}
 use Rattle.mq_cli.proofs.command_line.parse.Goals as goal
 
 pub unreachable-requires : goal.unreachable-requires
 unreachable-requires c =
-    let named = check_is_named (map (λ word. word.now) c.args.words.now) c.in-Ok.matches c.in-Ok.ensures.taken c.in-Ok.ensures.met in
-    true≢false (sym (c.in-None.ensures.found.1 named))
+    let named = subcommand_is_named (map (λ word. word.now) c.args.words.now) c.in-Ok.matches c.in-Ok.ensures.taken c.in-Ok.ensures.met in
+    elim named [
+      | inl h ↦ true≢false (sym (c.in-None.ensures.found.1 h))
+      | inr h ↦ true≢false (sym (c.in-None-subcommand_matches.ensures.found.1 h))
+    ]
 
 pub returns-in-Some-clause-task : goal.returns-in-Some-clause-task
 returns-in-Some-clause-task c =
-    let asked = request_is_check (map (λ word. word.now) c.args.words.now) c.in-Ok.matches c.in-Some.check.now c.in-Ok.ensures.taken c.in-Ok.ensures.met c.in-Some.ensures.rows in
+    let words = map (λ word. word.now) c.args.words.now in
+    let asked = request_is_check words c.in-Ok.matches c.in-Some.check.now c.in-Ok.ensures.met (c.in-Some.ensures.found.0 refl) c.in-Some.ensures.rows in
     IfOk-weaker c.check_task.result _ _ (λ task h. asked ∙ ap (λ (f : Option Text). Some (check_request f)) (sym c.get_str.ensures) ∙ ap Some (sym h)) c.check_task.ensures.task
+
+pub returns-in-Some-subcommand_matches-clause-task : goal.returns-in-Some-subcommand_matches-clause-task
+returns-in-Some-subcommand_matches-clause-task c =
+    let words = map (λ word. word.now) c.args.words.now in
+    let met = c.in-Some-subcommand_matches in
+    let given = c.get_str-in-Some-subcommand_matches.ensures in
+    let asked = request_is_packet words c.in-Ok.matches met.packet.now c.in-Ok.ensures.met (met.ensures.found.0 refl) met.ensures.rows in
+    IfOk-weaker c.packet_task.result _ _ (λ task h. asked ∙ ap (λ (f : Option Text). Some (packet_request f)) (sym given) ∙ ap Some (sym h)) c.packet_task.ensures.task

@@ -1,8 +1,6 @@
 -- Where the write of the line fails, a beginning of it was written.
-use Rattle.std.proofs.Common.{List, ap, subst}
 use Rattle.std.proofs.lemmas.Result.{err_from_is_err_and}
-use Rattle.mq_judge.specs.OnePacket.{finding_text, packet_report}
-use Rattle.mq_judge.specs.Report.{AppendsBeginning, line}
+use Rattle.mq_judge.specs.OnePacket.{packet_report}
 use Rattle.mq_judge.proofs.packet_line.write_packet.Goals as goal
 
 pub returns-in_err-write_line-clause-write : goal.returns-in_err-write_line-clause-write

@@ -1,5 +1,5 @@
 -- The bytes are one packet exactly where they are one frame whose body spells one.
-use Rattle.std.proofs.Common.{arith, rules, ◌≤◌, length, length-take, length-drop}
+use Rattle.std.proofs.Common.{arith, rules, ◌≤◌, length}
 use Rattle.mq_judge.proofs.OnePacketLaws.{no_packet, needs_more, is_lost, ends_early, spelled_by_body, taken_is_small, starts_inside}
 use Rattle.mq_judge.proofs.packet_line.Finding.of.Goals as goal
 

@@ -1,5 +1,5 @@
 -- A body that isn't decoded as a packet spells none.
-use Rattle.std.proofs.Common.{Ok, true≢false, sym, refl}
+use Rattle.std.proofs.Common.{Ok, true≢false, sym}
 use Rattle.mq_judge.proofs.OnePacketLaws.{no_spelling}
 use Rattle.mq_judge.proofs.packet_line.Finding.of_frame.Goals as goal
 

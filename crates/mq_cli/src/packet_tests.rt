@@ -1,0 +1,359 @@
+use crate::command_line::{Stop, Task, parse};
+use crate::failure::{FAILED, FAULTY, MISUSED, PASSED};
+use crate::tasks::{perform, stop};
+use crate::tests::{Narrow, Told};
+use std::alloc::Global;
+use std::io;
+use std::io::Cursor;
+use std::test::Fail;
+
+// The digits of some bytes, and what is said of these.
+struct Row {
+    hex: &'static str,
+    line: &'static str,
+    status: u8,
+}
+
+static ROWS: [Row; 48] = [
+    Row {
+        hex: "320700016100010078",
+        line: "PUBLISH size 9 qos 1 dup 0 id 1\n",
+        status: PASSED,
+    },
+    Row {
+        hex: "41020001",
+        line: "BAD W01 offset 0\n",
+        status: FAULTY,
+    },
+    Row {
+        hex: "0000",
+        line: "BAD W02 offset 0\n",
+        status: FAULTY,
+    },
+    Row {
+        hex: "3006000161800078",
+        line: "BAD W03 offset 5\n",
+        status: FAULTY,
+    },
+    Row {
+        hex: "30040001FF00",
+        line: "BAD W04 offset 2\n",
+        status: FAULTY,
+    },
+    Row {
+        hex: "300400010000",
+        line: "BAD W05 offset 2\n",
+        status: FAULTY,
+    },
+    Row {
+        hex: "C00100",
+        line: "BAD W06 offset 2\n",
+        status: FAULTY,
+    },
+    Row {
+        hex: "360700016100010078",
+        line: "BAD W07 offset 0\n",
+        status: FAULTY,
+    },
+    Row {
+        hex: "38050001610078",
+        line: "BAD W08 offset 0\n",
+        status: FAULTY,
+    },
+    Row {
+        hex: "30080001610321000178",
+        line: "BAD W10 offset 6\n",
+        status: FAULTY,
+    },
+    Row {
+        hex: "3009000161040100010078",
+        line: "BAD W11 offset 8\n",
+        status: FAULTY,
+    },
+    Row {
+        hex: "30080001610323000078",
+        line: "BAD W12 offset 7\n",
+        status: FAULTY,
+    },
+    Row {
+        hex: "4003000101",
+        line: "BAD W13 offset 4\n",
+        status: FAULTY,
+    },
+    Row {
+        hex: "300400012300",
+        line: "BAD W14 offset 2\n",
+        status: FAULTY,
+    },
+    Row {
+        hex: "82080001000002612300",
+        line: "BAD W15 offset 5\n",
+        status: FAULTY,
+    },
+    Row {
+        hex: "8203000100",
+        line: "BAD W16 offset 5\n",
+        status: FAULTY,
+    },
+    Row {
+        hex: "820700010000016103",
+        line: "BAD W17 offset 8\n",
+        status: FAULTY,
+    },
+    Row {
+        hex: "100D00044D5154580502003C000000",
+        line: "BAD W18 offset 2\n",
+        status: FAULTY,
+    },
+    Row {
+        hex: "100D00044D5154540503003C000000",
+        line: "BAD W19 offset 9\n",
+        status: FAULTY,
+    },
+    Row {
+        hex: "2003020000",
+        line: "BAD W20 offset 2\n",
+        status: FAULTY,
+    },
+    Row {
+        hex: "300400000078",
+        line: "BAD W21 offset 4\n",
+        status: FAULTY,
+    },
+    Row {
+        hex: "100C00044D5154540402003C0000",
+        line: "other version 4\n",
+        status: FAULTY,
+    },
+    Row {
+        hex: "30FFFFFFFF",
+        line: "LOST\n",
+        status: FAULTY,
+    },
+    Row {
+        hex: "D00000",
+        line: "left over 1 bytes\n",
+        status: FAULTY,
+    },
+    Row {
+        hex: "",
+        line: "need more bytes\n",
+        status: FAULTY,
+    },
+    Row {
+        hex: "4002",
+        line: "need more bytes\n",
+        status: FAULTY,
+    },
+    Row {
+        hex: "40020001",
+        line: "PUBACK size 4 id 1\n",
+        status: PASSED,
+    },
+    Row {
+        hex: "40020000",
+        line: "BAD W09 offset 2\n",
+        status: FAULTY,
+    },
+    // What follows a frame counts, whatever the frame holds; a frame may have any size; and each of the fifteen packets.
+    Row {
+        hex: "41020001FFFF",
+        line: "left over 2 bytes\n",
+        status: FAULTY,
+    },
+    Row {
+        hex: "100C00044D5154540402003C000000",
+        line: "left over 1 bytes\n",
+        status: FAULTY,
+    },
+    Row {
+        hex: "30FFFFFF7F",
+        line: "need more bytes\n",
+        status: FAULTY,
+    },
+    Row {
+        hex: "30",
+        line: "need more bytes\n",
+        status: FAULTY,
+    },
+    Row {
+        hex: "3080",
+        line: "need more bytes\n",
+        status: FAULTY,
+    },
+    Row {
+        hex: "100D00044D5154540502003C000000",
+        line: "CONNECT size 15\n",
+        status: PASSED,
+    },
+    Row {
+        hex: "2003000000",
+        line: "CONNACK size 5\n",
+        status: PASSED,
+    },
+    Row {
+        hex: "30050001610078",
+        line: "PUBLISH size 7 qos 0 dup 0\n",
+        status: PASSED,
+    },
+    Row {
+        hex: "3C07000161FFFF0078",
+        line: "PUBLISH size 9 qos 2 dup 1 id 65535\n",
+        status: PASSED,
+    },
+    Row {
+        hex: "50020001",
+        line: "PUBREC size 4 id 1\n",
+        status: PASSED,
+    },
+    Row {
+        hex: "62020001",
+        line: "PUBREL size 4 id 1\n",
+        status: PASSED,
+    },
+    Row {
+        hex: "70020001",
+        line: "PUBCOMP size 4 id 1\n",
+        status: PASSED,
+    },
+    Row {
+        hex: "820700010000016100",
+        line: "SUBSCRIBE size 9 id 1\n",
+        status: PASSED,
+    },
+    Row {
+        hex: "900400010000",
+        line: "SUBACK size 6 id 1\n",
+        status: PASSED,
+    },
+    Row {
+        hex: "A206000100000161",
+        line: "UNSUBSCRIBE size 8 id 1\n",
+        status: PASSED,
+    },
+    Row {
+        hex: "B00400010000",
+        line: "UNSUBACK size 6 id 1\n",
+        status: PASSED,
+    },
+    Row {
+        hex: "c000",
+        line: "PINGREQ size 2\n",
+        status: PASSED,
+    },
+    Row {
+        hex: "d000",
+        line: "PINGRESP size 2\n",
+        status: PASSED,
+    },
+    Row {
+        hex: "e000",
+        line: "DISCONNECT size 2\n",
+        status: PASSED,
+    },
+    Row {
+        hex: "F0021800",
+        line: "AUTH size 4\n",
+        status: PASSED,
+    },
+];
+
+fn told_of_packet(alloc: Global, hex: &str) -> Result<Told, Stop> {
+    let task = parse(alloc, &["mqjudge", "packet", hex])?;
+    let mut output = Vec::new(alloc);
+    let mut error = Vec::new(alloc);
+    let status = perform(alloc, &task, &mut io::empty(), &mut output, &mut error);
+    Ok(Told {
+        status,
+        output,
+        error,
+    })
+}
+
+#[test]
+fn says_which_packet_bytes_are(rt: HostRuntime) -> Result<(), Fail> {
+    for row in &ROWS {
+        let told = told_of_packet(rt.alloc(), row.hex)?;
+        assert!(rt; told.output.as_slice() == row.line.as_bytes(), "{}", row.hex);
+        assert_eq!(rt; told.status, row.status);
+        assert!(rt; told.error.is_empty());
+    }
+    Ok(())
+}
+
+#[test]
+fn refuses_digits_that_are_none(rt: HostRuntime) -> Result<(), Fail> {
+    for hex in ["4", "400", "4g", "40 02", "0x40", "é"] {
+        let told = told_of_packet(rt.alloc(), hex)?;
+        assert_eq!(rt; told.status, MISUSED);
+        assert_eq!(rt; told.error.as_slice(), &b"mqjudge: not hex\n"[..]);
+        assert!(rt; told.output.is_empty());
+    }
+    Ok(())
+}
+
+#[test]
+fn tells_of_a_packet_line_that_fails(rt: HostRuntime) -> Result<(), Fail> {
+    let task = parse(rt.alloc(), &["mqjudge", "packet", "40020001"])?;
+    for (room, stays) in [(0, false), (18, false), (19, true)] {
+        let mut output = Narrow { room, stays };
+        let mut error = Vec::new(rt.alloc());
+        let status = perform(rt.alloc(), &task, &mut io::empty(), &mut output, &mut error);
+        assert_eq!(rt; status, FAILED);
+        assert_eq!(rt; error.as_slice(), &b"mqjudge: write failed\n"[..]);
+    }
+    Ok(())
+}
+
+// With each allocation failing in turn, the answer is the packet's, or that memory ran out, and nothing else.
+#[test]
+fn tells_of_a_packet_without_memory(rt: HostRuntime) {
+    let mut output = Cursor::new([0; 64]);
+    let mut error = Cursor::new([0; 64]);
+    let status = match parse(rt.alloc(), &["mqjudge", "packet", "40020001"]) {
+        Ok(task) => perform(
+            rt.alloc(),
+            &task,
+            &mut io::empty(),
+            &mut output,
+            &mut error,
+        ),
+        Err(why) => stop(&why, &mut output, &mut error),
+    };
+    let (line, complaint): (&[u8], &[u8]) = if status == PASSED {
+        (b"PUBACK size 4 id 1\n", b"")
+    } else {
+        assert_eq!(rt; status, FAILED);
+        (b"", b"mqjudge: out of memory\n")
+    };
+    assert_eq!(rt; output.position(), line.len() as u64);
+    assert!(rt; output.get_ref().starts_with(line));
+    assert_eq!(rt; error.position(), complaint.len() as u64);
+    assert!(rt; error.get_ref().starts_with(complaint));
+}
+
+#[test]
+fn reads_the_words_of_a_packet(rt: HostRuntime) -> Result<(), Fail> {
+    let Task::Packet { hex } = parse(rt.alloc(), &["mqjudge", "packet", "c000"])? else {
+        return Err("no packet".into());
+    };
+    assert!(rt; hex.as_str() == "c000");
+    let misuses: [(&[&str], &str); 3] = [
+        (&["mqjudge", "packet"], "<HEX>"),
+        (
+            &["mqjudge", "packet", "c0", "00"],
+            "unexpected argument '00' found",
+        ),
+        (
+            &["mqjudge", "packet", "--json", "c000"],
+            "unexpected argument '--json' found",
+        ),
+    ];
+    for (words, part) in misuses {
+        let Err(Stop::Usage(text)) = parse(rt.alloc(), words) else {
+            return Err("taken".into());
+        };
+        assert!(rt; text.as_str().contains(part), "{words:?} tells {text}");
+    }
+    Ok(())
+}
