@@ -274,7 +274,11 @@ fn told_of_packet(alloc: Global, hex: &str) -> Result<Told, Stop> {
 fn says_which_packet_bytes_are(rt: HostRuntime) -> Result<(), Fail> {
     for row in &ROWS {
         let told = told_of_packet(rt.alloc(), row.hex)?;
-        assert!(rt; told.output.as_slice() == row.line.as_bytes(), "{}", row.hex);
+        assert!(rt;
+            told.output.as_slice() == row.line.as_bytes(),
+            "{}",
+            row.hex
+        );
         assert_eq!(rt; told.status, row.status);
         assert!(rt; told.error.is_empty());
     }
@@ -311,13 +315,7 @@ fn tells_of_a_packet_without_memory(rt: HostRuntime) {
     let mut output = Cursor::new([0; 64]);
     let mut error = Cursor::new([0; 64]);
     let status = match parse(rt.alloc(), &["mqjudge", "packet", "40020001"]) {
-        Ok(task) => perform(
-            rt.alloc(),
-            &task,
-            &mut io::empty(),
-            &mut output,
-            &mut error,
-        ),
+        Ok(task) => perform(rt.alloc(), &task, &mut io::empty(), &mut output, &mut error),
         Err(why) => stop(&why, &mut output, &mut error),
     };
     let (line, complaint): (&[u8], &[u8]) = if status == PASSED {

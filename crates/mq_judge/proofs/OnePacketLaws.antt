@@ -111,6 +111,7 @@ spelled_by_body bytes first start end told frames all spells = (there, back)
           frame = whole;
           spelled = subst Q (body_taken bytes start ∙ frame_body bytes first start (length bytes) whole (omega arith)) found.1;
         })
+
     back : IsOnePacket bytes → told ≡ true
     back one =
         (let same : Frame first start end ≡ Frame one.first one.start (length bytes) = (frames one.first one.start (length bytes)).1 one.frame in
