@@ -88,7 +88,7 @@ admission-undecided role c e past none = go (connection_no (e ∷ past) == c)
     go true = ap (or_else (admission role c past)) none ∙ or_else-none (admission role c past)
     go false = refl
 
-some_admission : (o : Option Admission) → is_some o ≡ true → (a : Admission) × (o ≡ Some a)
+pub some_admission : (o : Option Admission) → is_some o ≡ true → (a : Admission) × (o ≡ Some a)
 some_admission None h = absurd (cc)
 some_admission (Some a) h = (a, refl)
 

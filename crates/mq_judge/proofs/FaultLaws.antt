@@ -24,7 +24,7 @@ use Rattle.mq_judge.specs.Statements.{fails, binds, is_on_bytes, is_judged_at, i
 use Rattle.mq_judge.specs.Faults.{decided, told, fault_in}
 use Rattle.mq_judge.proofs.BoolLaws.{not_true, both_true, and_true, and_false, or_else-none}
 use Rattle.mq_judge.proofs.MomentLaws.{moment-newest, moment-older, moment-beyond}
-use Rattle.mq_judge.proofs.ConnectionLaws.{admission-kept, admission-later, admission-undecided, admissions-kept, decision-admission, moment-number, session_start-alike, accepted_from-alike, session-kept, in_order-at, connection_no-same}
+use Rattle.mq_judge.proofs.ConnectionLaws.{some_admission, admission-kept, admission-later, admission-undecided, admissions-kept, decision-admission, moment-number, session_start-alike, accepted_from-alike, session-kept, in_order-at, connection_no-same}
 
 -- a statement is on bytes, or it is S01
 family : (rule : Rule) → ((is_on_bytes rule ≡ true) × (same_rule rule S01 ≡ false)) ⊎ (rule ≡ S01)
@@ -221,10 +221,6 @@ opener_needs (Recv item) test h = absurd (cc)
 opener_needs (Sent Lost) test h = absurd (cc)
 opener_needs (Sent (Bad first rule at)) test h = absurd (cc)
 opener_needs (Sent (Packet p)) test h = (refl, new_needs p test h)
-
-some_admission : (o : Option Admission) → is_some o ≡ true → (a : Admission) × (o ≡ Some a)
-some_admission None h = absurd (cc)
-some_admission (Some a) h = (a, refl)
 
 some_is : (o : Option Admission) (a : Admission) → o ≡ Some a → is_some o ≡ true
 some_is o a h = ap is_some h
