@@ -34,6 +34,9 @@ const CONNECT_AGAIN: &[u8] =
 
 const CONNACK: &[u8] = b"\x20\x03\x00\x00\x00";
 
+// A CONNACK with Session Present 1.
+const CONNACK_RESUMED: &[u8] = b"\x20\x03\x01\x00\x00";
+
 // A CONNACK of code 0x87: the client isn't authorized.
 const REFUSING_CONNACK: &[u8] = b"\x20\x03\x00\x87\x00";
 
@@ -81,7 +84,62 @@ struct Row {
     report: &'static str,
 }
 
-static ROWS: [Row; 24] = [
+static ROWS: [Row; 27] = [
+    // On a connection that resumes the session an identifier is still in use; on one that begins a session it isn't; a
+    // connection that the server refuses is in no session, so what stands on both its sides is in one.
+    Row {
+        role: CLIENT,
+        parts: &[
+            Open,
+            Sent(CONNECT_ANEW),
+            Recv(CONNACK),
+            Sent(PUBLISH_ONCE),
+            Close,
+            Open,
+            Sent(CONNECT_AGAIN),
+            Recv(CONNACK_RESUMED),
+            Sent(PUBLISH_ONCE),
+        ],
+        status: FAULTY,
+        report: "fault 9 S01 MQTT-2.2.1-3 decided 9 record 9 offset -\nfail 1 faults 9 events\n",
+    },
+    Row {
+        role: SERVER,
+        parts: &[
+            Open,
+            Recv(CONNECT_ANEW),
+            Sent(CONNACK),
+            Sent(PUBLISH_ONCE),
+            Close,
+            Open,
+            Recv(CONNECT_AGAIN),
+            Sent(CONNACK),
+            Sent(PUBLISH_ONCE),
+        ],
+        status: PASSED,
+        report: "pass 9 events\n",
+    },
+    Row {
+        role: SERVER,
+        parts: &[
+            Open,
+            Recv(CONNECT_ANEW),
+            Sent(CONNACK),
+            Sent(PUBLISH_ONCE),
+            Close,
+            Open,
+            Recv(CONNECT_AGAIN),
+            Sent(REFUSING_CONNACK),
+            Recv(PUBACK),
+            Close,
+            Open,
+            Recv(CONNECT_AGAIN),
+            Sent(CONNACK_RESUMED),
+            Sent(PUBLISH_ONCE),
+        ],
+        status: FAULTY,
+        report: "fault 14 S01 MQTT-2.2.1-4 decided 14 record 14 offset -\nfail 1 faults 14 events\n",
+    },
     // Each of the fifteen packets.
     Row {
         role: CLIENT,
