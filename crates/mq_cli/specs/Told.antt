@@ -1,5 +1,5 @@
 -- What the caller is told, and where.
-use Rattle.std.specs.Prelude.{◌≡◌, ◌⊎◌, ⊤, List, ℕ, Option, Some, [], ◌∷◌, ◌++◌, true, length, codes, string_bytes, IfSome, IsErr, Result, Ok}
+use Rattle.std.specs.Prelude.{◌≡◌, ◌⊎◌, ⊤, List, ℕ, Option, Some, [], ◌∷◌, ◌++◌, true, length, codes, string_bytes, IfSome, IsErr, Ok}
 use Rattle.std.specs.Io.KnownBytes.{Appends}
 use Rattle.hex.specs.Hex.{decode_of}
 use Rattle.mq_judge.specs.declared.Refusal.{Refusal}

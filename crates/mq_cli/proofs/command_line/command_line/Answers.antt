@@ -1,10 +1,8 @@
-use Rattle.std.proofs.Common.{rules, ap, ap₂, codes, true, false, ◌≡◌, ◌∙◌, ◌||◌}
+use Rattle.std.proofs.Common.{ap, ap₂, codes, true, ◌≡◌, ◌∙◌}
 use Rattle.std.proofs.lemmas.Result.{IfOk-weaker}
 use Rattle.clap.specs.Words.{App, Shape, app_of, new_app, with_subcommand}
 use Rattle.clap.specs.Simple.{app_of_fields, on_top}
-use Rattle.clap.specs.declared.builder.command.Command.{Command}
-use Rattle.clap.specs.declared.builder.command.Command.TheOpen.{Command-F}
-use Rattle.mq_cli.specs.CommandLine.{check_command, packet_command}
+use Rattle.mq_cli.specs.CommandLine.{check_command}
 use Rattle.mq_cli.proofs.command_line.command_line.Goals as goal
 
 abbrev versioned : Shape → Shape
