@@ -1,4 +1,4 @@
--- What one event is, by itself.
+-- What one packet and one event are to the statements, each by itself.
 use Rattle.std.specs.Prelude.{ℕ, ◌==◌, nat_le, Bool, true, false, ◌||◌, cond, Option, Some, None}
 use Rattle.mq_packet.specs.declared.packet.Qos.{Qos}
 use Rattle.mq_packet.specs.declared.packet.Qos.TheVariants as quality
@@ -16,22 +16,24 @@ use Rattle.mq_judge.specs.declared.rules.packet_note.PacketNote.{PacketNote}
 use Rattle.mq_judge.specs.declared.rules.packet_note.PacketNote.TheVariants as notes
 use Rattle.mq_judge.specs.declared.rules.packet_note.PacketNote.TheVariants.{Connack, Publish, Puback, Pubrec, Pubrel, Pubcomp, Subscribe, Suback, Unsubscribe, Unsuback}
 
--- What the statements look at of an acknowledgement, of a SUBSCRIBE or UNSUBSCRIBE, of the answer to one, and of any packet
--- (MQTT 5.0, sections 3.1 to 3.15).
+-- what the statements look at of an acknowledgement (MQTT 5.0, sections 3.4 to 3.7)
 abbrev pub acknowledgement_note : AcknowledgementKind → ℕ → ℕ → PacketNote
 acknowledgement_note acknowledgements.Puback identifier code = notes.Puback identifier code
 acknowledgement_note acknowledgements.Pubrec identifier code = notes.Pubrec identifier code
 acknowledgement_note acknowledgements.Pubrel identifier code = notes.Pubrel identifier code
 acknowledgement_note acknowledgements.Pubcomp identifier code = notes.Pubcomp identifier code
 
+-- of a SUBSCRIBE or UNSUBSCRIBE (MQTT 5.0, sections 3.8 and 3.10)
 abbrev pub request_note : RequestKind → ℕ → PacketNote
 request_note requests.Subscribe identifier = notes.Subscribe identifier
 request_note requests.Unsubscribe identifier = notes.Unsubscribe identifier
 
+-- of the answer to one (MQTT 5.0, sections 3.9 and 3.11)
 abbrev pub answer_note : RequestKind → ℕ → PacketNote
 answer_note requests.Subscribe identifier = notes.Suback identifier
 answer_note requests.Unsubscribe identifier = notes.Unsuback identifier
 
+-- of any packet (MQTT 5.0, section 2.1.2)
 abbrev pub packet_note : Entry → PacketNote
 packet_note (connect fields) = notes.Connect
 packet_note (connack session_present code properties) = notes.Connack session_present code

@@ -33,7 +33,12 @@ fn codes_of(kind: AcknowledgementKind) -> &'static [u8]
     }
 }
 
-// Where it ends behind its identifier its Reason Code is 0x00, and where it ends behind its code it has no properties.
+/// Reads a PUBACK, PUBREC, PUBREL or PUBCOMP (MQTT 5.0, sections 3.4 to 3.7) from all that is left. Where it ends behind its
+/// identifier its Reason Code is 0x00, and where it ends behind its code it has no properties.
+///
+/// # Errors
+///
+/// The first rule that a field breaks: W06, W09, W13, or one of its property list.
 pub fn read_acknowledgement<'a>(
     mut cursor: Cursor<'a>,
     kind: AcknowledgementKind,

@@ -34,7 +34,11 @@ fn table(kind: RequestKind) -> &'static [u8]
     }
 }
 
-// A SUBACK or UNSUBACK that is all that is left, in a body of any size that is no less.
+/// Reads a SUBACK or UNSUBACK (MQTT 5.0, sections 3.9 and 3.11) from all that is left, in a body of any size that is no less.
+///
+/// # Errors
+///
+/// The first rule that a field breaks: W06, W09, W13, or one of its property list.
 pub fn read_answer<'a>(mut cursor: Cursor<'a>, kind: RequestKind) -> Result<Answer<'a>, Stop>
     ensures { (size : ℕ) → length cursor.entry.rest ≤ size → Reads (λ p. answer kind p.identifier p.properties p.codes) result (read (answer_format size kind) cursor.entry) }
 {

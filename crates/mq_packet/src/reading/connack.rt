@@ -16,6 +16,11 @@ use mq_wire::Cursor;
 /// The Connect Acknowledge Flag Session Present (MQTT 5.0, section 3.2.2.1.1).
 const SESSION_PRESENT: u8 = 0x01;
 
+/// Reads a CONNACK (MQTT 5.0, section 3.2) from all that is left.
+///
+/// # Errors
+///
+/// The first rule that a field breaks: W06, W20, W13, or one of its property list.
 pub fn read_connack<'a>(mut cursor: Cursor<'a>) -> Result<Packet<'a>, Stop>
     ensures { Reads view result (read connack_format cursor.entry) }
 {

@@ -67,6 +67,11 @@ fn will_qos(flags: u8) -> Qos
     }
 }
 
+/// Reads a CONNECT (MQTT 5.0, section 3.1) from all that is left.
+///
+/// # Errors
+///
+/// The first rule that a field breaks: W06, W18, W19, one of a text or of a property list; or the version, where it isn't 5.
 pub fn read_connect<'a>(mut cursor: Cursor<'a>) -> Result<Packet<'a>, Stop>
     ensures { Reads view result (read connect_format cursor.entry) }
 {

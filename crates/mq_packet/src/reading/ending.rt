@@ -31,7 +31,12 @@ fn codes_of(kind: EndingKind) -> &'static [u8]
     }
 }
 
-// An empty one has the Reason Code 0x00, and where one ends behind its code it has no properties.
+/// Reads a DISCONNECT or AUTH (MQTT 5.0, sections 3.14 and 3.15) from all that is left. An empty one has the Reason Code 0x00, and
+/// where one ends behind its code it has no properties.
+///
+/// # Errors
+///
+/// The first rule that a field breaks: W06, W13, or one of its property list.
 pub fn read_ending<'a>(mut cursor: Cursor<'a>, kind: EndingKind) -> Result<Ending<'a>, Stop>
     ensures { Reads (λ p. ending kind p.code p.properties) result (read (ending_format kind) cursor.entry) }
 {

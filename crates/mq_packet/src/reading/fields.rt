@@ -23,7 +23,11 @@ const PROTOCOL_NAME: &str = "MQTT";
 /// The protocol's version (MQTT 5.0, section 3.1.2.2).
 const PROTOCOL_VERSION: u8 = 5;
 
-// The packet, if nothing is left over (MQTT 5.0, section 2.1.4).
+/// The packet, if nothing is left over (MQTT 5.0, section 2.1.4).
+///
+/// # Errors
+///
+/// W06 at the first byte that is left.
 pub fn whole<'a>(cursor: Cursor<'a>, packet: Packet<'a>) -> Result<Packet<'a>, Stop>
     ensures { Reads view result (ended (view packet.entry) cursor.entry) }
 {
@@ -36,6 +40,11 @@ pub fn whole<'a>(cursor: Cursor<'a>, packet: Packet<'a>) -> Result<Packet<'a>, S
     Ok(packet)
 }
 
+/// Reads the protocol's name, `MQTT` (MQTT 5.0, section 3.1.2.1).
+///
+/// # Errors
+///
+/// A rule of texts, and W18 where it is another name.
 pub fn protocol_name<'a>(cursor: &mut Cursor<'a>) -> Result<&'a str, Stop>
     ensures { Takes (λ name. name.now) result (read_field text name_objection cursor.old) cursor.new }
 {
@@ -50,6 +59,11 @@ pub fn protocol_name<'a>(cursor: &mut Cursor<'a>) -> Result<&'a str, Stop>
     Ok(name)
 }
 
+/// Reads the protocol's version, 5 (MQTT 5.0, section 3.1.2.2).
+///
+/// # Errors
+///
+/// W06 where none is left, and the version where it is another.
 pub fn protocol_version(cursor: &mut Cursor<'_>) -> Result<u8, Stop>
     ensures { Takes (λ n. n) result (read_field byte version_objection cursor.old) cursor.new }
 {
@@ -60,7 +74,11 @@ pub fn protocol_version(cursor: &mut Cursor<'_>) -> Result<u8, Stop>
     Ok(version)
 }
 
-// A Packet Identifier (MQTT 5.0, section 2.2.1).
+/// Reads a Packet Identifier: 1 to 65,535 (MQTT 5.0, section 2.2.1).
+///
+/// # Errors
+///
+/// W06 where less than two bytes are left, and W09 where it is 0.
 pub fn packet_identifier(cursor: &mut Cursor<'_>) -> Result<u16, Stop>
     ensures { Takes (λ n. n) result (read_field two_bytes identifier_objection cursor.old) cursor.new }
 {
@@ -75,14 +93,18 @@ pub fn packet_identifier(cursor: &mut Cursor<'_>) -> Result<u16, Stop>
     Ok(identifier)
 }
 
-// Whether a Reason Code is in a packet's table.
+/// Whether a Reason Code is in a packet's table.
 pub fn is_listed(table: &[u8], code: u8) -> bool
     ensures { result ≡ is_code table.now code }
 {
     table.contains(&code)
 }
 
-// A Reason Code of a packet's table (MQTT 5.0, section 2.4).
+/// Reads a Reason Code of a packet's table (MQTT 5.0, section 2.4).
+///
+/// # Errors
+///
+/// W06 where none is left, and W13 where it isn't in the table.
 pub fn reason_code(cursor: &mut Cursor<'_>, table: &[u8]) -> Result<u8, Stop>
     ensures { Takes (λ n. n) result (read_field byte (code_objection table.now) cursor.old) cursor.new }
 {
@@ -97,7 +119,11 @@ pub fn reason_code(cursor: &mut Cursor<'_>, table: &[u8]) -> Result<u8, Stop>
     Ok(code)
 }
 
-// A property list of a place (MQTT 5.0, section 2.2.2).
+/// Reads the property list of a place (MQTT 5.0, section 2.2.2).
+///
+/// # Errors
+///
+/// The rule that its first bad field breaks, there: W03 to W06, W10 to W12, W14.
 pub fn property_list<'a>(cursor: &mut Cursor<'a>, place: Place) -> Result<Props<'a>, Stop>
     ensures list { Takes (λ list. list.items) result (read_field (properties place) any_value cursor.old) cursor.new }
     ensures place { IfOk result (λ list. list ≡ listed place list.items) }
@@ -106,7 +132,11 @@ pub fn property_list<'a>(cursor: &mut Cursor<'a>, place: Place) -> Result<Props<
     Ok(list)
 }
 
-// The property list of a place, if anything is left, and nothing behind it.
+/// Reads the property list of a place, if anything is left, and nothing behind it (MQTT 5.0, sections 3.4.2 and 3.14.2).
+///
+/// # Errors
+///
+/// The rule that its first bad field breaks, there, and W06 at a byte behind the list.
 pub fn last_properties<'a>(mut cursor: Cursor<'a>, place: Place) -> Result<Props<'a>, Stop>
     ensures { (packet : Listed → Entry) → Reads packet result (read (last_properties place packet) cursor.entry) }
 {
@@ -123,7 +153,11 @@ pub fn last_properties<'a>(mut cursor: Cursor<'a>, place: Place) -> Result<Props
     Ok(list)
 }
 
-// A Topic Name (MQTT 5.0, section 3.3.2.1).
+/// Reads a Topic Name (MQTT 5.0, section 3.3.2.1), which may be empty.
+///
+/// # Errors
+///
+/// A rule of texts, and W14 where it has a wildcard.
 pub fn topic_name<'a>(cursor: &mut Cursor<'a>) -> Result<&'a str, Stop>
     ensures { Takes (λ topic. topic.now) result (read_field text topic_objection cursor.old) cursor.new }
 {
@@ -138,14 +172,18 @@ pub fn topic_name<'a>(cursor: &mut Cursor<'a>) -> Result<&'a str, Stop>
     Ok(topic)
 }
 
-// Whether a filter is one that may be (MQTT 5.0, section 4.7.1).
+/// Whether a filter is one that may be (MQTT 5.0, section 4.7.1).
 pub fn is_topic_filter(filter: &str) -> bool
     ensures { result ≡ is_filter filter.now }
 {
     check_filter(filter).is_ok()
 }
 
-// A Topic Filter (MQTT 5.0, section 4.7.1).
+/// Reads a Topic Filter (MQTT 5.0, section 4.7.1).
+///
+/// # Errors
+///
+/// A rule of texts, and W15 where it may not be.
 pub fn topic_filter<'a>(cursor: &mut Cursor<'a>) -> Result<&'a str, Stop>
     ensures { Takes (λ filter. filter.now) result (read_field text filter_objection cursor.old) cursor.new }
 {

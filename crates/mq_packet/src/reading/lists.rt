@@ -58,7 +58,12 @@ fn asked_filter<'a>(cursor: &mut Cursor<'a>, asks: bool) -> Result<Filter<'a>, S
     Ok(Filter { filter, options })
 }
 
-// Whether all that is left are the filters of a body: one at least (MQTT 5.0, sections 3.8.3 and 3.10.3).
+/// Whether all that is left are the filters of a body, one at least, each with options if they are asked for (MQTT 5.0, sections
+/// 3.8.3 and 3.10.3).
+///
+/// # Errors
+///
+/// The first rule that a field breaks: one of texts, W06, W15, W17; and W16 where there is no filter.
 pub fn check_filters(mut cursor: Cursor<'_>, asks: bool) -> Result<(), Stop>
     requires { AreBytes cursor.rest }
     ensures { MatchResult result (λ _. AreRead asks cursor.entry) (λ stop. AreRefused asks cursor.entry (fault_of stop)) }
@@ -75,7 +80,11 @@ pub fn check_filters(mut cursor: Cursor<'_>, asks: bool) -> Result<(), Stop>
     Ok(())
 }
 
-// The filters that are all that is left (MQTT 5.0, sections 3.8.3 and 3.10.3).
+/// Reads the filters that are all that is left, each with options if they are asked for (MQTT 5.0, sections 3.8.3 and 3.10.3).
+///
+/// # Errors
+///
+/// Those of `check_filters`.
 pub fn filter_list<'a>(cursor: Cursor<'a>, asks: bool) -> Result<Filters<'a>, Stop>
     ensures { (n : ℕ) (packet : List AskedFilter → Entry) → length cursor.entry.rest < n → Reads packet result (read (filters_format n asks packet []) cursor.entry) }
 {
@@ -85,7 +94,11 @@ pub fn filter_list<'a>(cursor: Cursor<'a>, asks: bool) -> Result<Filters<'a>, St
     Ok(Filters::checked(bytes, asks))
 }
 
-// The Reason Codes of a table that are all that is left (MQTT 5.0, sections 3.9.3 and 3.11.3).
+/// Reads the Reason Codes of a table that are all that is left (MQTT 5.0, sections 3.9.3 and 3.11.3).
+///
+/// # Errors
+///
+/// W13 at the first that isn't in the table.
 pub fn code_list<'a>(cursor: Cursor<'a>, table: &[u8]) -> Result<Codes<'a>, Stop>
     ensures { (n : ℕ) (packet : List ℕ → Entry) → length cursor.entry.rest ≤ n → Reads packet result (read (codes_format n table.now packet []) cursor.entry) }
 {

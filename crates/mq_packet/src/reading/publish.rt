@@ -24,7 +24,12 @@ const QOS: u8 = 0x06;
 /// The flag RETAIN (MQTT 5.0, section 3.3.1.3).
 const RETAIN: u8 = 0x01;
 
-// PUBLISH with this first byte.
+/// Reads a PUBLISH with this first byte (MQTT 5.0, section 3.3) from all that is left.
+///
+/// # Errors
+///
+/// W07 or W08 where the first byte breaks it; else the first rule that a field breaks: a rule of texts, W06, W09, W14, W21, or one
+/// of its property list.
 pub fn read_publish<'a>(first: u8, cursor: Cursor<'a>) -> Result<Packet<'a>, Stop>
     ensures { Reads view result (read (publish_format first) cursor.entry) }
 {

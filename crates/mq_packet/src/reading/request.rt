@@ -33,7 +33,12 @@ fn asks_options(kind: RequestKind) -> bool
     }
 }
 
-// A SUBSCRIBE or UNSUBSCRIBE that is all that is left, in a body of any size that is no less.
+/// Reads a SUBSCRIBE or UNSUBSCRIBE (MQTT 5.0, sections 3.8 and 3.10) from all that is left, in a body of any size that is no less.
+///
+/// # Errors
+///
+/// The first rule that a field breaks: a rule of texts, W06, W09, W15, W17, one of its property list; and W16 where it has no
+/// filter.
 pub fn read_request<'a>(mut cursor: Cursor<'a>, kind: RequestKind) -> Result<Request<'a>, Stop>
     ensures { (size : ℕ) → length cursor.entry.rest ≤ size → Reads (λ p. request kind p.identifier p.properties p.filters) result (read (request_format size kind) cursor.entry) }
 {
