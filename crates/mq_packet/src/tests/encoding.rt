@@ -1,4 +1,4 @@
-//! Which of its spellings a packet is written by, which packets are refused, and their sizes.
+//! Which of its spellings a packet is written by, and its size.
 
 use crate::*;
 use mq_props::{Place, Prop, Props, PropsBuf};
@@ -91,6 +91,33 @@ fn shortest_spellings(rt: HostRuntime) -> Result<(), Fail> {
     Ok(())
 }
 
+// What was read in a longer spelling, or in one without the properties' length, is written as the others are.
+#[test]
+fn spellings_that_were_read(rt: HostRuntime) -> Result<(), Fail> {
+    match decode(0x40, &[0x00, 0x01, 0x00, 0x00]) {
+        Ok(packet) => {
+            let out = behind(rt.alloc(), &[], &packet)?.ok_or("not valid")?;
+            assert_eq!(rt; &out[..], &[0x40, 0x02, 0x00, 0x01][..]);
+        }
+        Err(_) => panic!(rt; "no PUBACK"),
+    }
+    match decode(0xE0, &[0x00, 0x00]) {
+        Ok(packet) => {
+            let out = behind(rt.alloc(), &[], &packet)?.ok_or("not valid")?;
+            assert_eq!(rt; &out[..], &[0xE0, 0x00][..]);
+        }
+        Err(_) => panic!(rt; "no DISCONNECT"),
+    }
+    match decode(0xF0, &[0x18]) {
+        Ok(packet) => {
+            let out = behind(rt.alloc(), &[], &packet)?.ok_or("not valid")?;
+            assert_eq!(rt; &out[..], &[0xF0, 0x02, 0x18, 0x00][..]);
+        }
+        Err(_) => panic!(rt; "no AUTH"),
+    }
+    Ok(())
+}
+
 // With properties, a Reason Code of 0x00 is written too.
 #[test]
 fn whole_spellings(rt: HostRuntime) -> Result<(), Fail> {
@@ -132,37 +159,6 @@ fn least_connect(rt: HostRuntime) -> Result<(), Fail> {
         &out[..],
         &[0x10, 13, 0, 4, b'M', b'Q', b'T', b'T', 5, 0, 0, 0, 0, 0, 0][..]
     );
-    Ok(())
-}
-
-// A PUBLISH of QoS 0 with the payload.
-fn publish<'a>(topic: &'a str, payload: &'a [u8]) -> Packet<'a> {
-    Packet::Publish(Publish {
-        duplicate: false,
-        qos: Qos::AtMostOnce,
-        retain: false,
-        topic,
-        identifier: None,
-        properties: Props::empty(Place::Publish),
-        payload,
-    })
-}
-
-#[test]
-fn longest_packet(rt: HostRuntime) -> Result<(), Fail> {
-    let block = vec![in rt.alloc(); 0u8; 65_536]?;
-    let mut bytes = Vec::new(rt.alloc());
-    for _ in 0..4_096 {
-        bytes.extend_from_slice(&block)?;
-    }
-    let most = publish("a", bytes.get(5..).ok_or("short")?);
-    assert_eq!(rt; most.size(), Some(268_435_460));
-    let over = publish("a", bytes.get(4..).ok_or("short")?);
-    assert_eq!(rt; over.size(), None);
-    assert!(rt; is_valid(&over));
-    let mut out = vec![in rt.alloc(); 1u8, 2, 3]?;
-    assert_eq!(rt; encode(&over, &mut out), Err(EncodeFault::TooLong));
-    assert_eq!(rt; &out[..], &[1u8, 2, 3][..]);
     Ok(())
 }
 
