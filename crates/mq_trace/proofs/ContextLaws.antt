@@ -1,0 +1,319 @@
+-- What is kept of a log is enough to tell what its next byte does.
+use Rattle.std.proofs.Common.{◌≡◌, ℕ, ◌+◌, ◌-◌, ◌<◌, ◌≤◌, Bool, true, false, cond, nat_lt, List, [], ◌∷◌, ◌++◌, length, reverse, Option, Some, None, is_some, refl, sym, ◌∙◌, ap, arith, length-append}
+use Rattle.std.specs.Prelude.{◌==◌, if◌then◌else◌, slice_index}
+use Rattle.std.proofs.lemmas.List.{reverse-append, reverse-reverse, length-reverse, get_or_append_left, get_or_past, get_or-append_right}
+use Rattle.std.proofs.lemmas.Bool.{ltb-true, ltb-false, lt-ltb, eqb-true, eqb-false}
+use Rattle.mq_trace.specs.declared.kind.Way.{Way}
+use Rattle.mq_trace.specs.declared.kind.Way.TheVariants as ways
+use Rattle.mq_trace.specs.declared.refusal.Refusal.{Refusal}
+use Rattle.mq_trace.specs.declared.header.Header.{Header}
+use Rattle.mq_trace.specs.Pieces.{Pieces}
+use Rattle.mq_trace.specs.Framing.{header_by, kind_of, way_of, begun, carried, records, record_size}
+use Rattle.mq_trace.specs.Events.{Event, Placed, newest, part_at, packet_at, packet_by, event_in, event_at, with_event, events_back, events}
+use Rattle.mq_trace.specs.Connections.{is_connected, is_answered}
+use Rattle.mq_trace.specs.Refusals.{Situation, situation, header_refusal, record_refusal, refusal_at, refused_back, refused, or_else}
+use Rattle.mq_trace.specs.Context.{Half, Context, fresh, half_of, half_then, so_far_by, so_far_for, context, situated, refusal_for, event_for, placed_with, placed_for, put, with_heard, after_header, after_part, after}
+use Rattle.mq_trace.proofs.FramingLaws.{records-header, begun-header, begun-grow, length-begun-grow, whole-grow, rest-grow}
+use Rattle.mq_trace.proofs.HalfLaws.{half-nothing, half-then, so_far-kept}
+
+-- the events with one byte more
+events-grow : (log : List ℕ) (byte : ℕ) → events (log ++ byte ∷ []) ≡ with_event (length (begun (log ++ byte ∷ []))) (event_at log byte) (events log)
+unfolding events events_back
+events-grow log byte =
+    ap events_back (reverse-append log (byte ∷ []))
+    ∙ ap (λ earlier. with_event (length (begun (earlier ++ byte ∷ []))) (event_at earlier byte) (events_back (reverse log))) (reverse-reverse log)
+
+-- the refusal with one byte more
+pub refused-grow : (limit : ℕ) (log : List ℕ) (byte : ℕ) → refused limit (log ++ byte ∷ []) ≡ or_else (refused limit log) (refusal_at limit log byte)
+unfolding refused refused_back
+refused-grow limit log byte =
+    ap (refused_back limit) (reverse-append log (byte ∷ []))
+    ∙ ap (λ earlier. or_else (refused_back limit (reverse log)) (refusal_at limit earlier byte)) (reverse-reverse log)
+
+-- the record and the packet of a byte behind the header
+part-kept : (log : List ℕ) (byte : ℕ) → 8 ≤ length log → part_at log byte ≡ (records log).rest ++ byte ∷ []
+unfolding part_at
+part-kept log byte h = ap newest (begun-grow log byte h)
+
+so_far_kept_by : (carries : Option Way) (log : List ℕ) (byte : ℕ) → packet_by carries (begun log) byte ≡ so_far_by carries (context log) byte
+unfolding context
+so_far_kept_by None log byte = refl
+so_far_kept_by (Some ways.Sent) log byte = so_far-kept (carried ways.Sent (begun log)) byte
+so_far_kept_by (Some ways.Recv) log byte = so_far-kept (carried ways.Recv (begun log)) byte
+
+pub part_context : (log : List ℕ) → (context log).part ≡ (records log).rest
+unfolding context
+part_context log = refl
+
+packet-kept : (log : List ℕ) (byte : ℕ) → 8 ≤ length log → packet_at log byte ≡ so_far_for (context log) byte
+unfolding packet_at so_far_for
+packet-kept log byte h =
+    ap (λ part. cond (nat_lt 5 (length part)) (packet_by (way_of (kind_of part)) (begun log) byte) []) (part-kept log byte h ∙ ap (λ part. part ++ byte ∷ []) (sym (part_context log)))
+    ∙ ap (λ so_far. cond (nat_lt 5 (length ((context log).part ++ byte ∷ []))) so_far []) (so_far_kept_by (way_of (kind_of ((context log).part ++ byte ∷ []))) log byte)
+
+pub at_context : (log : List ℕ) → (context log).at ≡ length log
+unfolding context
+at_context log = refl
+
+event_by_length : (log : List ℕ) (byte : ℕ) (b : Bool) → nat_lt (length log) 8 ≡ b
+    → (if b then None else event_in (part_at log byte) (packet_at log byte)) ≡ (if b then None else event_in ((context log).part ++ byte ∷ []) (so_far_for (context log) byte))
+event_by_length log byte true is = refl
+event_by_length log byte false is =
+    let long = ltb-false (length log) 8 is in
+    ap (λ part. event_in part (packet_at log byte)) (part-kept log byte long ∙ ap (λ part. part ++ byte ∷ []) (sym (part_context log)))
+    ∙ ap (event_in ((context log).part ++ byte ∷ [])) (packet-kept log byte long)
+
+-- the event of the next byte, from what is kept
+pub event-kept : (log : List ℕ) (byte : ℕ) → event_at log byte ≡ event_for (context log) byte
+unfolding event_at event_for
+event-kept log byte =
+    event_by_length log byte (nat_lt (length log) 8) refl
+    ∙ ap (λ n. if nat_lt n 8 then None else event_in ((context log).part ++ byte ∷ []) (so_far_for (context log) byte)) (sym (at_context log))
+
+-- the situation of a byte, from the three of its parts that framing tells
+abbrev situated_with : List ℕ → List ℕ → ℕ → List ℕ → Situation
+situated_with log part record_no so_far = record {
+  at = length log;
+  header = header_by log;
+  part = part;
+  record_no = record_no;
+  so_far = so_far;
+  events = length (events log);
+  connected = is_connected (events log);
+  answered = is_answered (header_by log).server (events log);
+}
+
+situated_context : (log : List ℕ) (byte : ℕ) → situated_with log ((context log).part ++ byte ∷ []) (length (records log).whole + 1) (so_far_for (context log) byte) ≡ situated (context log) byte
+unfolding situated context
+situated_context log byte = refl
+
+pub situation-kept : (log : List ℕ) (byte : ℕ) → 8 ≤ length log → situation log byte ≡ situated (context log) byte
+unfolding situation
+situation-kept log byte h =
+    ap (λ part. situated_with log part (length (begun (log ++ byte ∷ []))) (packet_at log byte)) (part-kept log byte h ∙ ap (λ part. part ++ byte ∷ []) (sym (part_context log)))
+    ∙ ap (λ n. situated_with log ((context log).part ++ byte ∷ []) n (packet_at log byte)) (length-begun-grow log byte h)
+    ∙ ap (λ so_far. situated_with log ((context log).part ++ byte ∷ []) (length (records log).whole + 1) so_far) (packet-kept log byte h)
+    ∙ situated_context log byte
+
+refusal_by_length : (limit : ℕ) (log : List ℕ) (byte : ℕ) (b : Bool) → nat_lt (length log) 8 ≡ b
+    → (if b then header_refusal (length log) byte else record_refusal limit (situation log byte)) ≡ (if b then header_refusal (length log) byte else record_refusal limit (situated (context log) byte))
+refusal_by_length limit log byte true is = refl
+refusal_by_length limit log byte false is = ap (record_refusal limit) (situation-kept log byte (ltb-false (length log) 8 is))
+
+-- the refusal that stands with the next byte, from what is kept
+pub refusal-kept : (limit : ℕ) (log : List ℕ) (byte : ℕ) → refusal_at limit log byte ≡ refusal_for limit (context log) byte
+unfolding refusal_at refusal_for
+refusal-kept limit log byte =
+    refusal_by_length limit log byte (nat_lt (length log) 8) refl
+    ∙ ap (λ n. if nat_lt n 8 then header_refusal n byte else record_refusal limit (situated (context log) byte)) (sym (at_context log))
+
+-- the events with one byte more, from what is kept
+pub events-more : (log : List ℕ) (byte : ℕ) → events (log ++ byte ∷ []) ≡ with_event (length (begun (log ++ byte ∷ []))) (event_for (context log) byte) (events log)
+events-more log byte =
+    events-grow log byte ∙ ap (λ o. with_event (length (begun (log ++ byte ∷ []))) o (events log)) (event-kept log byte)
+
+-- a context from its parts, of which the last three are told by the events
+abbrev context_with : ℕ → Header → List ℕ → ℕ → Half → Half → List Placed → Context
+context_with at header part whole sent recv log = record {
+  at = at;
+  header = header;
+  part = part;
+  records = whole;
+  sent = sent;
+  recv = recv;
+  events = length log;
+  connected = is_connected log;
+  answered = is_answered header.server log;
+}
+
+pub context_is : (log : List ℕ) → context log ≡ context_with (length log) (header_by log) (records log).rest (length (records log).whole)
+    (half_of (carried ways.Sent (begun log))) (half_of (carried ways.Recv (begun log))) (events log)
+unfolding context
+context_is log = refl
+
+pub header-behind : (log : List ℕ) (byte : ℕ) → 8 ≤ length log → header_by (log ++ byte ∷ []) ≡ header_by log
+header-behind log byte h =
+    ap (λ n. record { server = n == 1; releases = slice_index (log ++ byte ∷ []) 6 == 1 }) (get_or_append_left log (byte ∷ []) 0 5 (omega arith))
+    ∙ ap (λ n. record { server = slice_index log 5 == 1; releases = n == 1 }) (get_or_append_left log (byte ∷ []) 0 6 (omega arith))
+
+noted : (log : List ℕ) (byte : ℕ) (o : Option Event)
+    → context_with (length log + 1) (header_by log) (cond (is_some (record_size ((records log).rest ++ byte ∷ []))) [] ((records log).rest ++ byte ∷ []))
+    (cond (is_some (record_size ((records log).rest ++ byte ∷ []))) (length (records log).whole + 1) (length (records log).whole))
+    (half_then ways.Sent (half_of (carried ways.Sent (begun log))) ((records log).rest ++ byte ∷ []) byte)
+    (half_then ways.Recv (half_of (carried ways.Recv (begun log))) ((records log).rest ++ byte ∷ []) byte)
+    (with_event (length (records log).whole + 1) o (events log))
+    ≡ with_heard (after_part (context log) ((records log).rest ++ byte ∷ []) byte) o
+unfolding context
+noted log byte None = refl
+noted log byte (Some event) =
+    let part = (records log).rest ++ byte ∷ [] in
+    let c = context_with (length log + 1) (header_by log) (cond (is_some (record_size part)) [] part)
+    (cond (is_some (record_size part)) (length (records log).whole + 1) (length (records log).whole))
+    (half_then ways.Sent (half_of (carried ways.Sent (begun log))) part byte)
+    (half_then ways.Recv (half_of (carried ways.Recv (begun log))) part byte)
+    (record { place = record { position = length (events log) + 1; record_no = length (records log).whole + 1 }; event = event } ∷ events log) in
+    let one_more : length (record { place = record { position = length (events log) + 1; record_no = length (records log).whole + 1 }; event = event } ∷ events log) ≡ length (events log) + 1 = omega arith in
+    ap (λ n. record c { events = n }) one_more
+
+pub context-behind : (log : List ℕ) (byte : ℕ) → 8 ≤ length log → context (log ++ byte ∷ []) ≡ with_heard (after_part (context log) ((records log).rest ++ byte ∷ []) byte) (event_for (context log) byte)
+context-behind log byte h =
+    let more = log ++ byte ∷ [] in
+    let part = (records log).rest ++ byte ∷ [] in
+    let b = is_some (record_size part) in
+    let sent = half_of (carried ways.Sent (begun more)) in
+    let recv = half_of (carried ways.Recv (begun more)) in
+    let sent' = half_then ways.Sent (half_of (carried ways.Sent (begun log))) part byte in
+    let recv' = half_then ways.Recv (half_of (carried ways.Recv (begun log))) part byte in
+    let rest' = cond b [] part in
+    let whole' = cond b (length (records log).whole + 1) (length (records log).whole) in
+    let n' = length (records log).whole + 1 in
+    context_is more
+    ∙ ap (λ n. context_with n (header_by more) (records more).rest (length (records more).whole) sent recv (events more)) (length-append log (byte ∷ []))
+    ∙ ap (λ t. context_with (length log + 1) t (records more).rest (length (records more).whole) sent recv (events more)) (header-behind log byte h)
+    ∙ ap (λ r. context_with (length log + 1) (header_by log) r (length (records more).whole) sent recv (events more)) (rest-grow log byte h)
+    ∙ ap (λ n. context_with (length log + 1) (header_by log) rest' n sent recv (events more)) (whole-grow log byte h)
+    ∙ ap (λ x. context_with (length log + 1) (header_by log) rest' whole' x recv (events more)) (half-then ways.Sent log byte h)
+    ∙ ap (λ x. context_with (length log + 1) (header_by log) rest' whole' sent' x (events more)) (half-then ways.Recv log byte h)
+    ∙ ap (context_with (length log + 1) (header_by log) rest' whole' sent' recv') (events-more log byte ∙ ap (λ n. with_event n (event_for (context log) byte) (events log)) (length-begun-grow log byte h))
+    ∙ noted log byte (event_for (context log) byte)
+
+no_event : (log : List ℕ) (byte : ℕ) → length log < 8 → event_at log byte ≡ None
+unfolding event_at
+no_event log byte h = ap (λ b. if b then None else event_in (part_at log byte) (packet_at log byte)) (lt-ltb (length log) 8 h)
+
+-- a header has no events
+events_back-header : (back : List ℕ) → length back ≤ 8 → events_back back ≡ []
+unfolding events_back
+events_back-header [] h = refl
+events_back-header (byte ∷ earlier) h =
+    let l = length-reverse earlier in
+    let short : length (reverse earlier) < 8 = omega arith in
+    ap (λ o. with_event (length (begun (reverse earlier ++ byte ∷ []))) o (events_back earlier)) (no_event (reverse earlier) byte short) ∙ events_back-header earlier (omega arith)
+
+pub events-header : (log : List ℕ) → length log ≤ 8 → events log ≡ []
+unfolding events
+events-header log h = let l = length-reverse log in events_back-header (reverse log) (omega arith)
+
+-- what is kept of a header
+context-header : (log : List ℕ) → length log ≤ 8 → context log ≡ record fresh { at = length log; header = header_by log }
+unfolding carried
+context-header log h =
+    let none : List Placed = [] in
+    let half : Half = record { unfinished = []; lost = false } in
+    context_is log
+    ∙ ap (λ (p : Pieces). context_with (length log) (header_by log) p.rest (length p.whole) (half_of (carried ways.Sent (begun log))) (half_of (carried ways.Recv (begun log))) (events log)) (records-header log h)
+    ∙ ap (λ b. context_with (length log) (header_by log) [] 0 (half_of (carried ways.Sent b)) (half_of (carried ways.Recv b)) (events log)) (begun-header log h)
+    ∙ ap (λ half. context_with (length log) (header_by log) [] 0 half half (events log)) (nothing_carried)
+    ∙ ap (context_with (length log) (header_by log) [] 0 half half) (events-header log h)
+  where
+    nothing_carried : half_of [] ≡ record { unfinished = []; lost = false }
+    nothing_carried = half-nothing
+
+-- the byte at an offset of a log, with one byte more
+byte-grow : (i : ℕ) (log : List ℕ) (byte : ℕ) (b : Bool) → (length log == i) ≡ b → slice_index (log ++ byte ∷ []) i ≡ (if b then byte else slice_index log i)
+byte-grow i log byte true is =
+    let same = eqb-true (length log) i is in
+    get_or-append_right log (byte ∷ []) i i 0 same (omega arith) ∙ ap (λ k. slice_index (byte ∷ []) k) (let e : i - i ≡ 0 = omega arith in e)
+byte-grow i log byte false is = before (nat_lt i (length log)) refl
+  where
+    before : (b : Bool) → nat_lt i (length log) ≡ b → slice_index (log ++ byte ∷ []) i ≡ slice_index log i
+    before true lt = get_or_append_left log (byte ∷ []) 0 i (ltb-true i (length log) lt)
+    before false ge =
+        let other = eqb-false (length log) i is in
+        let le = ltb-false i (length log) ge in
+        let l = length-append log (byte ∷ []) in
+        let short : length log < i = strictly (nat_lt (length log) i) refl other le in
+        get_or_past (log ++ byte ∷ []) i 0 (omega arith) ∙ sym (get_or_past log i 0 le)
+      where
+        strictly : (b : Bool) → nat_lt (length log) i ≡ b → (length log ≡ i → ⊥) → length log ≤ i → length log < i
+        strictly true lt other le = ltb-true (length log) i lt
+        strictly false ge other le = let g = ltb-false (length log) i ge in let same : length log ≡ i = omega arith in absurd (other same)
+
+flag_grow : (b : Bool) (byte n : ℕ) → ((if b then byte else n) == 1) ≡ (if b then byte == 1 else n == 1)
+flag_grow true byte n = refl
+flag_grow false byte n = refl
+
+header-grow : (log : List ℕ) (byte : ℕ) → header_by (log ++ byte ∷ []) ≡ record {
+  server = if length log == 5 then byte == 1 else (header_by log).server;
+  releases = if length log == 6 then byte == 1 else (header_by log).releases;
+}
+header-grow log byte =
+    ap (λ s. record { server = s; releases = slice_index (log ++ byte ∷ []) 6 == 1 }) (ap (λ n. n == 1) (byte-grow 5 log byte (length log == 5) refl) ∙ flag_grow (length log == 5) byte (slice_index log 5))
+    ∙ ap (λ f. record { server = if length log == 5 then byte == 1 else (header_by log).server; releases = f }) (ap (λ n. n == 1) (byte-grow 6 log byte (length log == 6) refl) ∙ flag_grow (length log == 6) byte (slice_index log 6))
+
+header-kept : (log : List ℕ) (byte : ℕ) → length log < 8 → context (log ++ byte ∷ []) ≡ after_header (context log) byte
+header-kept log byte h =
+    let l = length-append log (byte ∷ []) in
+    let one : length (log ++ byte ∷ []) ≡ length log + 1 = omega arith in
+    context-header (log ++ byte ∷ []) (omega arith)
+    ∙ ap (λ n. record fresh { at = n; header = header_by (log ++ byte ∷ []) }) one
+    ∙ ap (λ t. record fresh { at = length log + 1; header = t }) (header-grow log byte)
+    ∙ sym (ap (λ c. after_header c byte) (context-header log (omega arith)))
+
+event_for-header : (log : List ℕ) (byte : ℕ) → event_for (context log) byte ≡ (if nat_lt (length log) 8 then None else event_in ((context log).part ++ byte ∷ []) (so_far_for (context log) byte))
+unfolding event_for
+event_for-header log byte = ap (λ n. if nat_lt n 8 then None else event_in ((context log).part ++ byte ∷ []) (so_far_for (context log) byte)) (at_context log)
+
+kept_by : (log : List ℕ) (byte : ℕ) (b : Bool) → nat_lt (length log) 8 ≡ b
+    → context (log ++ byte ∷ []) ≡ (if b then after_header (context log) byte else with_heard (after_part (context log) ((context log).part ++ byte ∷ []) byte) (event_for (context log) byte))
+kept_by log byte true is = header-kept log byte (ltb-true (length log) 8 is)
+kept_by log byte false is =
+    context-behind log byte (ltb-false (length log) 8 is)
+    ∙ ap (λ part. with_heard (after_part (context log) (part ++ byte ∷ []) byte) (event_for (context log) byte)) (sym (part_context log))
+
+-- What is kept of a log with one byte more is what that byte makes of what was kept.
+pub context-grow : (log : List ℕ) (byte : ℕ) → context (log ++ byte ∷ []) ≡ after (context log) byte
+unfolding after
+context-grow log byte =
+    kept_by log byte (nat_lt (length log) 8) refl
+    ∙ ap (λ n. if nat_lt n 8 then after_header (context log) byte else with_heard (after_part (context log) ((context log).part ++ byte ∷ []) byte) (event_for (context log) byte)) (sym (at_context log))
+
+-- what is kept of no bytes
+pub context-nothing : context [] ≡ fresh
+context-nothing = context-header [] (omega arith)
+
+placed_kept : (log : List ℕ) (byte : ℕ) (o : Option Event) (n : ℕ) → n ≡ (context log).records + 1
+    → with_event n o (events log) ≡ put (placed_with (context log) o) (events log)
+unfolding context
+placed_kept log byte None n e = refl
+placed_kept log byte (Some event) n e = ap (λ k. record { place = record { position = length (events log) + 1; record_no = k }; event = event } ∷ events log) e
+
+records_context : (log : List ℕ) → (context log).records ≡ length (records log).whole
+unfolding context
+records_context log = refl
+
+pub event-in-header : (log : List ℕ) (byte : ℕ) → nat_lt (length log) 8 ≡ true → event_for (context log) byte ≡ None
+event-in-header log byte is = event_for-header log byte ∙ ap (λ b. if b then None else event_in ((context log).part ++ byte ∷ []) (so_far_for (context log) byte)) is
+
+placed_by_length : (log : List ℕ) (byte : ℕ) (b : Bool) → nat_lt (length log) 8 ≡ b
+    → with_event (length (begun (log ++ byte ∷ []))) (event_for (context log) byte) (events log) ≡ put (placed_with (context log) (event_for (context log) byte)) (events log)
+placed_by_length log byte true is =
+    let none = event-in-header log byte is in
+    ap (λ o. with_event (length (begun (log ++ byte ∷ []))) o (events log)) none ∙ sym (ap (λ o. put (placed_with (context log) o) (events log)) none)
+placed_by_length log byte false is =
+    placed_kept log byte (event_for (context log) byte) (length (begun (log ++ byte ∷ [])))
+    (length-begun-grow log byte (ltb-false (length log) 8 is) ∙ ap (λ n. n + 1) (sym (records_context log)))
+
+-- the events of a log with one byte more, from what is kept
+pub events-kept : (log : List ℕ) (byte : ℕ) → events (log ++ byte ∷ []) ≡ put (placed_for (context log) byte) (events log)
+unfolding placed_for
+events-kept log byte = events-more log byte ∙ placed_by_length log byte (nat_lt (length log) 8) refl
+
+-- a refusal stays, whatever follows
+refused_back-stays : (limit : ℕ) (more back : List ℕ) (r : Refusal) → refused_back limit back ≡ Some r → refused_back limit (more ++ back) ≡ Some r
+unfolding refused_back
+refused_back-stays limit [] back r h = h
+refused_back-stays limit (byte ∷ more) back r h =
+    ap (λ o. or_else o (refusal_at limit (reverse (more ++ back)) byte)) (refused_back-stays limit more back r h)
+
+pub refused-stays : (limit : ℕ) (log more : List ℕ) (r : Refusal) → refused limit log ≡ Some r → refused limit (log ++ more) ≡ Some r
+unfolding refused
+refused-stays limit log more r h = ap (refused_back limit) (reverse-append log more) ∙ refused_back-stays limit (reverse more) (reverse log) r h
+
+-- nothing is refused of no bytes
+pub refused-nothing : (limit : ℕ) → refused limit [] ≡ None
+unfolding refused refused_back
+refused-nothing limit = refl
+
+pub events-nothing : events [] ≡ []
+events-nothing = events-header [] (omega arith)

@@ -1,0 +1,213 @@
+-- What one byte more does to the records of a log, and to what its directions carried.
+use Rattle.std.proofs.Common.{◌≡◌, ℕ, ◌+◌, ◌<◌, ◌≤◌, Bool, true, false, cond, nat_lt, List, [], ◌∷◌, ◌++◌, length, drop, reverse, Option, Some, None, refl, sym, ◌∙◌, ap, arith, append_assoc, length-append, length-drop, is_some}
+use Rattle.std.specs.Prelude.{nat_le, if◌then◌else◌}
+use Rattle.std.proofs.lemmas.List.{take-append-le, drop-append-le, reverse-append, length-reverse, drop_all}
+use Rattle.std.proofs.lemmas.Bool.{ltb-true, ltb-false, le-ltb, leb-true, le-leb}
+use Rattle.mq_trace.specs.declared.kind.Way.{Way}
+use Rattle.mq_trace.specs.declared.kind.Way.TheVariants as ways
+use Rattle.mq_trace.specs.Pieces.{Pieces, pieces}
+use Rattle.mq_trace.specs.Framing.{kind_of, body_length, record_size, records, begun, begun_with, way_of, opens, if_way, carried}
+use Rattle.mq_trace.proofs.PiecesLaws.{Settles, grown, rest_none, pieces-grow, nothing_cut}
+
+-- a record's length depends on no byte behind its head
+pub body_length-append : (a c : List ℕ) → 5 ≤ length a → body_length (a ++ c) ≡ body_length a
+unfolding body_length
+body_length-append a c h =
+    let one : 1 ≤ length a = omega arith in
+    let l = length-drop 1 a in
+    let four : 4 ≤ length (drop 1 a) = omega arith in
+    rw (drop-append-le 1 a c one, take-append-le 4 (drop 1 a) c four) refl
+
+-- a record of this size, told by the tests
+abbrev size_if : Bool → Bool → ℕ → Option ℕ
+size_if headless whole n = if headless then None else (if whole then Some n else None)
+
+pub record_size-from : (a : List ℕ) → 5 + body_length a ≤ length a → record_size a ≡ Some (5 + body_length a)
+unfolding record_size
+record_size-from a h =
+    let five : 5 ≤ length a = omega arith in
+    ap (λ b. size_if b (nat_le (5 + body_length a) (length a)) (5 + body_length a)) (le-ltb (length a) 5 five)
+    ∙ ap (λ b. size_if false b (5 + body_length a)) (le-leb (5 + body_length a) (length a) h)
+
+-- what a whole record tells of itself
+pub record IsRecord (a : List ℕ) (n : ℕ) : Type 0 where
+  pub size : n ≡ 5 + body_length a
+  pub within : 5 + body_length a ≤ length a
+
+pub record_size-is : (a : List ℕ) (n : ℕ) → record_size a ≡ Some n → IsRecord a n
+unfolding record_size
+record_size-is a n h = go (nat_lt (length a) 5) (nat_le (5 + body_length a) (length a)) refl h
+  where
+    go : (b w : Bool) → nat_le (5 + body_length a) (length a) ≡ w → size_if b w (5 + body_length a) ≡ Some n → IsRecord a n
+    go true w is e = absurd (cc)
+    go false false is e = absurd (cc)
+    go false true is e = let same : n ≡ 5 + body_length a = cc in record { size = same; within = leb-true (5 + body_length a) (length a) is }
+
+record_stood : (a c : List ℕ) (n : ℕ) → record_size (a ++ c) ≡ Some n → n ≤ length a → record_size a ≡ Some n
+record_stood a c n h fits =
+    let r = record_size-is (a ++ c) n h in
+    let s = r.size in
+    let five : 5 ≤ length a = omega arith in
+    let same = body_length-append a c five in
+    let within : 5 + body_length a ≤ length a = omega arith in
+    record_size-from a within ∙ ap Some (ap (λ k. 5 + k) (sym same) ∙ sym s)
+
+record_stays : (a c : List ℕ) (n : ℕ) → record_size a ≡ Some n → record_size (a ++ c) ≡ Some n
+record_stays a c n h =
+    let r = record_size-is a n h in
+    let s = r.size in
+    let w = r.within in
+    let five : 5 ≤ length a = omega arith in
+    let same = body_length-append a c five in
+    let l = length-append a c in
+    let within : 5 + body_length (a ++ c) ≤ length (a ++ c) = omega arith in
+    record_size-from (a ++ c) within ∙ ap Some (ap (λ k. 5 + k) same ∙ sym s)
+
+record_bound : (a : List ℕ) (n : ℕ) → record_size a ≡ Some n → (0 < n) × (n ≤ length a)
+record_bound a n h = let r = record_size-is a n h in let s = r.size in let w = r.within in (omega arith, omega arith)
+
+pub record_settles : Settles record_size
+record_settles = record { bound = record_bound; stays = record_stays; back = record_stood }
+
+-- no whole record is unfinished
+pub part_unfinished : (log : List ℕ) → record_size (records log).rest ≡ None
+unfolding records
+part_unfinished log = rest_none record_size record_settles (drop 8 log)
+
+pub records-grow : (log : List ℕ) (byte : ℕ) → 8 ≤ length log → records (log ++ byte ∷ []) ≡ grown (record_size ((records log).rest ++ byte ∷ [])) (records log) byte
+unfolding records
+records-grow log byte h = ap (pieces record_size) (drop-append-le 8 log (byte ∷ []) h) ∙ pieces-grow record_size record_settles (drop 8 log) byte
+
+-- there are no records in a header
+pub records-header : (log : List ℕ) → length log ≤ 8 → records log ≡ record { whole = []; rest = [] }
+unfolding records
+records-header log h = ap (pieces record_size) (drop_all 8 log h) ∙ nothing_cut record_size record_settles
+
+pub begun-header : (log : List ℕ) → length log ≤ 8 → begun log ≡ []
+unfolding begun
+begun-header log h = rw (records-header log h) refl
+
+put_in_front : (rest : List ℕ) (byte : ℕ) (whole : List (List ℕ)) → begun_with (rest ++ byte ∷ []) whole ≡ (rest ++ byte ∷ []) ∷ whole
+put_in_front [] byte whole = refl
+put_in_front (r ∷ rest) byte whole = refl
+
+begun_grown : (o : Option ℕ) (p : Pieces) (byte : ℕ) → begun_with (grown o p byte).rest (reverse (grown o p byte).whole) ≡ (p.rest ++ byte ∷ []) ∷ reverse p.whole
+begun_grown None p byte = put_in_front p.rest byte (reverse p.whole)
+begun_grown (Some size) p byte = reverse-append p.whole ((p.rest ++ byte ∷ []) ∷ [])
+
+-- the record that a byte belongs to is in front of the whole ones
+pub begun-grow : (log : List ℕ) (byte : ℕ) → 8 ≤ length log → begun (log ++ byte ∷ []) ≡ ((records log).rest ++ byte ∷ []) ∷ reverse (records log).whole
+unfolding begun
+begun-grow log byte h =
+    ap (λ (p : Pieces). begun_with p.rest (reverse p.whole)) (records-grow log byte h)
+    ∙ begun_grown (record_size ((records log).rest ++ byte ∷ [])) (records log) byte
+
+pub length-begun-grow : (log : List ℕ) (byte : ℕ) → 8 ≤ length log → length (begun (log ++ byte ∷ [])) ≡ length (records log).whole + 1
+length-begun-grow log byte h = ap length (begun-grow log byte h) ∙ (let l = length-reverse (records log).whole in omega arith)
+
+-- how many whole records there are then
+whole_grown : (o : Option ℕ) (p : Pieces) (byte : ℕ) → length (grown o p byte).whole ≡ cond (is_some o) (length p.whole + 1) (length p.whole)
+whole_grown None p byte = refl
+whole_grown (Some size) p byte = length-append p.whole ((p.rest ++ byte ∷ []) ∷ [])
+
+pub whole-grow : (log : List ℕ) (byte : ℕ) → 8 ≤ length log
+    → length (records (log ++ byte ∷ [])).whole ≡ cond (is_some (record_size ((records log).rest ++ byte ∷ []))) (length (records log).whole + 1) (length (records log).whole)
+whole-grow log byte h = ap (λ (p : Pieces). length p.whole) (records-grow log byte h) ∙ whole_grown (record_size ((records log).rest ++ byte ∷ [])) (records log) byte
+
+rest_grown : (o : Option ℕ) (p : Pieces) (byte : ℕ) → (grown o p byte).rest ≡ cond (is_some o) [] (p.rest ++ byte ∷ [])
+rest_grown None p byte = refl
+rest_grown (Some size) p byte = refl
+
+pub rest-grow : (log : List ℕ) (byte : ℕ) → 8 ≤ length log
+    → (records (log ++ byte ∷ [])).rest ≡ cond (is_some (record_size ((records log).rest ++ byte ∷ []))) [] ((records log).rest ++ byte ∷ [])
+rest-grow log byte h = ap (λ (p : Pieces). p.rest) (records-grow log byte h) ∙ rest_grown (record_size ((records log).rest ++ byte ∷ [])) (records log) byte
+
+-- the kind of a record is told by its first byte
+pub kind_of-append : (a c : List ℕ) → 0 < length a → kind_of (a ++ c) ≡ kind_of a
+unfolding kind_of
+kind_of-append [] c h = absurd (omega arith)
+kind_of-append (byte ∷ a) c h = refl
+
+if_way-nothing : (way : Way) (carries : Option Way) → if_way way carries [] ≡ []
+if_way-nothing ways.Sent None = refl
+if_way-nothing ways.Sent (Some ways.Sent) = refl
+if_way-nothing ways.Sent (Some ways.Recv) = refl
+if_way-nothing ways.Recv None = refl
+if_way-nothing ways.Recv (Some ways.Sent) = refl
+if_way-nothing ways.Recv (Some ways.Recv) = refl
+
+if_way-append : (way : Way) (carries : Option Way) (a c : List ℕ) → if_way way carries (a ++ c) ≡ if_way way carries a ++ if_way way carries c
+if_way-append ways.Sent None a c = refl
+if_way-append ways.Sent (Some ways.Sent) a c = refl
+if_way-append ways.Sent (Some ways.Recv) a c = refl
+if_way-append ways.Recv None a c = refl
+if_way-append ways.Recv (Some ways.Sent) a c = refl
+if_way-append ways.Recv (Some ways.Recv) a c = refl
+
+-- the body byte of a record, if it goes this way
+abbrev pub body_byte : Way → List ℕ → ℕ → List ℕ
+body_byte way part byte = cond (nat_lt 5 (length part)) (if_way way (way_of (kind_of part)) (byte ∷ [])) []
+
+-- what one direction carried, with one byte more
+abbrev pub carried_then : Way → List ℕ → List ℕ → ℕ → List ℕ
+carried_then way carried_before part byte = cond (opens (kind_of part)) [] (carried_before ++ body_byte way part byte)
+
+-- One record in front of the whole ones: what a direction carried, with the record's bytes so far and one more.
+carried_grown : (way : Way) (rest : List ℕ) (byte : ℕ) (whole : List (List ℕ))
+    → carried way ((rest ++ byte ∷ []) ∷ whole) ≡ carried_then way (carried way (begun_with rest whole)) (rest ++ byte ∷ []) byte
+unfolding carried
+carried_grown way [] byte whole =
+    ap (λ bytes. cond (opens (kind_of (byte ∷ []))) [] (carried way whole ++ bytes)) (if_way-nothing way (way_of (kind_of (byte ∷ []))))
+carried_grown way (r ∷ rest) byte whole =
+    let part = (r ∷ rest) ++ byte ∷ [] in
+    let some : 0 < length (r ∷ rest) = omega arith in
+    let kind = kind_of-append (r ∷ rest) (byte ∷ []) some in
+    let c = carried way whole in
+    let way_before = way_of (kind_of (r ∷ rest)) in
+    go (nat_lt 5 (length part)) refl (opens (kind_of part)) refl
+  where
+    -- the body so far, with the byte if it is a body byte
+    body : (b : Bool) → nat_lt 5 (length ((r ∷ rest) ++ byte ∷ [])) ≡ b → drop 5 ((r ∷ rest) ++ byte ∷ []) ≡ drop 5 (r ∷ rest) ++ cond b (byte ∷ []) []
+    body true is =
+        let l = length-append (r ∷ rest) (byte ∷ []) in
+        let long = ltb-true 5 (length ((r ∷ rest) ++ byte ∷ [])) is in
+        drop-append-le 5 (r ∷ rest) (byte ∷ []) (omega arith)
+    body false is =
+        let l = length-append (r ∷ rest) (byte ∷ []) in
+        let short = ltb-false 5 (length ((r ∷ rest) ++ byte ∷ [])) is in
+        drop_all 5 ((r ∷ rest) ++ byte ∷ []) short ∙ sym (ap (λ bytes. bytes ++ []) (drop_all 5 (r ∷ rest) (omega arith)))
+
+    sent_on : (carries : Option Way) (b : Bool) → if_way way carries (cond b (byte ∷ []) []) ≡ cond b (if_way way carries (byte ∷ [])) []
+    sent_on carries true = refl
+    sent_on carries false = if_way-nothing way carries
+
+    go : (b : Bool) → nat_lt 5 (length ((r ∷ rest) ++ byte ∷ [])) ≡ b → (o : Bool) → opens (kind_of ((r ∷ rest) ++ byte ∷ [])) ≡ o
+        → cond o [] (carried way whole ++ if_way way (way_of (kind_of ((r ∷ rest) ++ byte ∷ []))) (drop 5 ((r ∷ rest) ++ byte ∷ [])))
+        ≡ cond o [] (cond (opens (kind_of (r ∷ rest))) [] (carried way whole ++ if_way way (way_of (kind_of (r ∷ rest))) (drop 5 (r ∷ rest)))
+        ++ cond b (if_way way (way_of (kind_of ((r ∷ rest) ++ byte ∷ []))) (byte ∷ [])) [])
+    go b is true opened = refl
+    go b is false opened =
+        let same = kind_of-append (r ∷ rest) (byte ∷ []) (omega arith) in
+        let k = kind_of ((r ∷ rest) ++ byte ∷ []) in
+        let closed : opens (kind_of (r ∷ rest)) ≡ false = ap opens (sym same) ∙ opened in
+        ap (λ bytes. carried way whole ++ if_way way (way_of k) bytes) (body b is)
+        ∙ ap (λ bytes. carried way whole ++ bytes) (if_way-append way (way_of k) (drop 5 (r ∷ rest)) (cond b (byte ∷ []) []) ∙ ap (λ bytes. if_way way (way_of k) (drop 5 (r ∷ rest)) ++ bytes) (sent_on (way_of k) b))
+        ∙ sym (append_assoc (carried way whole) (if_way way (way_of k) (drop 5 (r ∷ rest))) (cond b (if_way way (way_of k) (byte ∷ [])) []))
+        ∙ ap (λ kind. (carried way whole ++ if_way way (way_of kind) (drop 5 (r ∷ rest))) ++ cond b (if_way way (way_of k) (byte ∷ [])) []) same
+        ∙ ap (λ o. cond o [] (carried way whole ++ if_way way (way_of (kind_of (r ∷ rest))) (drop 5 (r ∷ rest))) ++ cond b (if_way way (way_of k) (byte ∷ [])) []) (sym closed)
+
+-- what a direction carried, with one byte of the log more
+pub carried-grow : (way : Way) (log : List ℕ) (byte : ℕ) → 8 ≤ length log
+    → carried way (begun (log ++ byte ∷ [])) ≡ carried_then way (carried way (begun log)) ((records log).rest ++ byte ∷ []) byte
+unfolding begun
+carried-grow way log byte h =
+    ap (carried way) (begun-grow log byte h) ∙ carried_grown way (records log).rest byte (reverse (records log).whole)
+
+-- what a direction carried doesn't depend on what stands before an OPEN
+pub carried-own : (way : Way) (later before : List (List ℕ)) (first : List ℕ) → opens (kind_of first) ≡ true → carried way (later ++ first ∷ before) ≡ carried way (later ++ first ∷ [])
+unfolding carried
+carried-own way [] before first h =
+    ap (λ o. cond o [] (carried way before ++ if_way way (way_of (kind_of first)) (drop 5 first))) h
+    ∙ sym (ap (λ o. cond o [] (carried way [] ++ if_way way (way_of (kind_of first)) (drop 5 first))) h)
+carried-own way (part ∷ later) before first h =
+    ap (λ bytes. cond (opens (kind_of part)) [] (bytes ++ if_way way (way_of (kind_of part)) (drop 5 part))) (carried-own way later before first h)

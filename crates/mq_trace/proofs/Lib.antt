@@ -1,0 +1,4 @@
+pub mod ContextLaws
+pub mod FramingLaws
+pub mod HalfLaws
+pub mod PiecesLaws

@@ -1,0 +1,58 @@
+-- What events make of a connection.
+use Rattle.std.specs.Prelude.{ℕ, Bool, true, false, ◌||◌, ◌&&◌, not, List, [], ◌∷◌}
+use Rattle.mq_packet.specs.Entries.{Entry, connack, publish, acknowledgement, request, answer}
+use Rattle.mq_trace.specs.Events.{Item, Event, Placed, packet, bad, lost, opened, closed, rested, released, sent, received}
+
+-- a connection begins, and ends
+abbrev pub begins : Event → Bool
+begins opened = true
+begins _ = false
+
+abbrev pub ends : Event → Bool
+ends closed = true
+ends _ = false
+
+-- a packet is a CONNACK (MQTT 5.0, section 3.2)
+abbrev pub is_connack : Entry → Bool
+is_connack (connack session_present code properties) = true
+is_connack _ = false
+
+-- a packet that needs a session: a PUBLISH, a SUBSCRIBE, an UNSUBSCRIBE, or what acknowledges one (MQTT 5.0, section 4.1)
+abbrev pub needs_session : Entry → Bool
+needs_session (publish fields) = true
+needs_session (acknowledgement kind identifier code properties) = true
+needs_session (request kind identifier properties filters) = true
+needs_session (answer kind identifier properties codes) = true
+needs_session _ = false
+
+-- the item is a packet that passes the test
+abbrev pub is_packet : (Entry → Bool) → Item → Bool
+is_packet test (packet size entry) = test entry
+is_packet test (bad first rule at) = false
+is_packet test lost = false
+
+-- A CONNACK from the server, which a tested client receives and a tested server sends.
+abbrev pub is_answer : Bool → Event → Bool
+is_answer true (sent item) = is_packet is_connack item
+is_answer false (received item) = is_packet is_connack item
+is_answer _ _ = false
+
+-- A session packet, of either direction, or a RELEASE: on a connection they stand after its CONNACK.
+abbrev pub needs_answer : Event → Bool
+needs_answer (released identifier) = true
+needs_answer (sent item) = is_packet needs_session item
+needs_answer (received item) = is_packet needs_session item
+needs_answer _ = false
+
+-- some event passes the first test, and no event after it passes the second; the newest event comes first
+abbrev pub since : (Event → Bool) → (Event → Bool) → List Placed → Bool
+since starts stops [] = false
+since starts stops (e ∷ past) = starts e.event || (not (stops e.event) && since starts stops past)
+
+-- a connection is open
+abbrev pub is_connected : List Placed → Bool
+is_connected log = since begins ends log
+
+-- The CONNACK of the latest connection has come; the tested end is a server, or not.
+abbrev pub is_answered : Bool → List Placed → Bool
+is_answered server log = since (is_answer server) begins log

@@ -1,0 +1,163 @@
+-- What a reader of the log keeps from one byte to the next, as a function of all bytes before: no more is looked at of them.
+use Rattle.std.specs.Prelude.{ℕ, ◌+◌, ◌==◌, nat_lt, Bool, true, false, ◌&&◌, ◌||◌, not, cond, if◌then◌else◌, List, [], ◌∷◌, ◌++◌, length, Option, Some, None, is_some}
+use Rattle.mq_trace.specs.declared.kind.Way.{Way}
+use Rattle.mq_trace.specs.declared.kind.Way.TheVariants as ways
+use Rattle.mq_trace.specs.declared.refusal.Refusal.{Refusal}
+use Rattle.mq_trace.specs.declared.header.Header.{Header}
+use Rattle.mq_trace.specs.Connections.{begins, ends, is_answer, is_connected, is_answered}
+use Rattle.mq_packet.specs.Stream.{frame_size, is_lost}
+use Rattle.mq_trace.specs.Framing.{header_by, kind_of, way_of, opens, record_size, records, begun, carried, stream}
+use Rattle.mq_trace.specs.Events.{Event, Placed, event_in, events}
+use Rattle.mq_trace.specs.Refusals.{Situation, header_refusal, record_refusal}
+
+-- one direction: the bytes of its unfinished packet, none where it is lost
+pub record Half : Type 0 where
+  pub unfinished : List ℕ
+  pub lost : Bool
+
+pub record Context : Type 0 where
+  -- how many bytes came
+  pub at : ℕ
+  pub header : Header
+  -- the bytes of the unfinished record, and how many whole ones stand before it
+  pub part : List ℕ
+  pub records : ℕ
+  pub sent : Half
+  pub recv : Half
+  -- of the events: how many, whether a connection is open, and whether the latest one's CONNACK came
+  pub events : ℕ
+  pub connected : Bool
+  pub answered : Bool
+
+-- what is kept before the first byte
+abbrev pub fresh : Context
+fresh = record {
+  at = 0;
+  header = record { server = false; releases = false };
+  part = [];
+  records = 0;
+  sent = record { unfinished = []; lost = false };
+  recv = record { unfinished = []; lost = false };
+  events = 0;
+  connected = false;
+  answered = false;
+}
+
+-- what is kept of a direction that carried these bytes
+abbrev pub half_with : List ℕ → Half
+half_with rest = record { unfinished = cond (is_lost rest) [] rest; lost = is_lost rest }
+
+unfoldable pub half_of : List ℕ → Half
+half_of bytes = half_with (stream bytes).rest
+
+-- what is kept of a log
+unfoldable pub context : List ℕ → Context
+context log = record {
+  at = length log;
+  header = header_by log;
+  part = (records log).rest;
+  records = length (records log).whole;
+  sent = half_of (carried ways.Sent (begun log));
+  recv = half_of (carried ways.Recv (begun log));
+  events = length (events log);
+  connected = is_connected (events log);
+  answered = is_answered (header_by log).server (events log);
+}
+
+-- The next byte's packet so far, from what is kept.
+abbrev pub half_for : Context → Way → Half
+half_for c ways.Sent = c.sent
+half_for c ways.Recv = c.recv
+
+abbrev pub so_far_in : Half → ℕ → List ℕ
+so_far_in half byte = cond half.lost [] (half.unfinished ++ byte ∷ [])
+
+abbrev pub so_far_by : Option Way → Context → ℕ → List ℕ
+so_far_by None c byte = []
+so_far_by (Some way) c byte = so_far_in (half_for c way) byte
+
+unfoldable pub so_far_for : Context → ℕ → List ℕ
+so_far_for c byte = cond (nat_lt 5 (length (c.part ++ byte ∷ []))) (so_far_by (way_of (kind_of (c.part ++ byte ∷ []))) c byte) []
+
+-- the next byte's situation, from what is kept
+unfoldable pub situated : Context → ℕ → Situation
+situated c byte = record {
+  at = c.at;
+  header = c.header;
+  part = c.part ++ byte ∷ [];
+  record_no = c.records + 1;
+  so_far = so_far_for c byte;
+  events = c.events;
+  connected = c.connected;
+  answered = c.answered;
+}
+
+-- the refusal that first stands with the next byte
+unfoldable pub refusal_for : ℕ → Context → ℕ → Option Refusal
+refusal_for limit c byte = if nat_lt c.at 8 then header_refusal c.at byte else record_refusal limit (situated c byte)
+
+-- the event that the next byte completes
+unfoldable pub event_for : Context → ℕ → Option Event
+event_for c byte = if nat_lt c.at 8 then None else event_in (c.part ++ byte ∷ []) (so_far_for c byte)
+
+-- that event, at its place
+abbrev pub placed_with : Context → Option Event → Option Placed
+placed_with c None = None
+placed_with c (Some event) = Some (record { place = record { position = c.events + 1; record_no = c.records + 1 }; event = event })
+
+unfoldable pub placed_for : Context → ℕ → Option Placed
+placed_for c byte = placed_with c (event_for c byte)
+
+-- an event in front of the others, if there is one
+abbrev pub put : Option Placed → List Placed → List Placed
+put None log = log
+put (Some e) log = e ∷ log
+
+-- a direction after one byte of its own more
+unfoldable pub half_after : Half → ℕ → Half
+half_after half byte = cond half.lost half (cond (is_lost (half.unfinished ++ byte ∷ [])) (record { unfinished = []; lost = true })
+    (cond (is_some (frame_size (half.unfinished ++ byte ∷ []))) (record { unfinished = []; lost = false }) (record { unfinished = half.unfinished ++ byte ∷ []; lost = false })))
+
+-- a direction after one byte that goes this way
+abbrev pub half_by : Way → Option Way → Half → ℕ → Half
+half_by ways.Sent (Some ways.Sent) half byte = half_after half byte
+half_by ways.Recv (Some ways.Recv) half byte = half_after half byte
+half_by _ _ half byte = half
+
+-- A direction after one byte of a record: the first byte of an OPEN empties it, and a body byte that goes its way is added.
+unfoldable pub half_then : Way → Half → List ℕ → ℕ → Half
+half_then way half part byte = cond (opens (kind_of part)) (record { unfinished = []; lost = false })
+    (cond (nat_lt 5 (length part)) (half_by way (way_of (kind_of part)) half byte) half)
+
+-- the events after one more, if there is one
+abbrev pub with_heard : Context → Option Event → Context
+with_heard c None = c
+with_heard c (Some event) = record c {
+  events = c.events + 1;
+  connected = begins event || (not (ends event) && c.connected);
+  answered = is_answer c.header.server event || (not (begins event) && c.answered);
+}
+
+-- behind one more byte of the header
+abbrev pub after_header : Context → ℕ → Context
+after_header c byte = record c {
+  at = c.at + 1;
+  header = record {
+    server = if c.at == 5 then byte == 1 else c.header.server;
+    releases = if c.at == 6 then byte == 1 else c.header.releases;
+  };
+}
+
+-- behind one more byte of a record, whose bytes so far are these
+abbrev pub after_part : Context → List ℕ → ℕ → Context
+after_part c part byte = record c {
+  at = c.at + 1;
+  part = cond (is_some (record_size part)) [] part;
+  records = cond (is_some (record_size part)) (c.records + 1) c.records;
+  sent = half_then ways.Sent c.sent part byte;
+  recv = half_then ways.Recv c.recv part byte;
+}
+
+-- what is kept behind the next byte
+unfoldable pub after : Context → ℕ → Context
+after c byte = if nat_lt c.at 8 then after_header c byte else with_heard (after_part c (c.part ++ byte ∷ []) byte) (event_for c byte)

@@ -1,0 +1,108 @@
+-- The events that a log gives: each is completed by one byte of the log, and stands in the record of that byte.
+use Rattle.std.specs.Prelude.{ℕ, ◌+◌, ◌==◌, nat_lt, cond, if◌then◌else◌, List, [], ◌∷◌, ◌++◌, length, drop, map, reverse, slice_index, Option, Some, None, option_map, is_some, Result, Ok, Err}
+use Rattle.std.specs.Int.{w16, from_be_bytes}
+use Rattle.mq_packet.specs.declared.rule.PacketRule.{PacketRule}
+use Rattle.mq_packet.specs.declared.fault.DecodeFault.{DecodeFault}
+use Rattle.mq_packet.specs.declared.fault.DecodeFault.TheVariants.{Broken, OtherVersion}
+use Rattle.mq_trace.specs.declared.kind.RecordKind.{RecordKind}
+use Rattle.mq_trace.specs.declared.kind.RecordKind.TheVariants as kinds
+use Rattle.mq_trace.specs.declared.kind.Way.{Way}
+use Rattle.mq_trace.specs.declared.place.Place3.{Place3}
+use Rattle.mq_packet.specs.declared.header.FixedHeader.{FixedHeader}
+use Rattle.mq_packet.specs.declared.header.FixedHeader.TheVariants as headers
+use Rattle.mq_packet.specs.Stream.{fixed_header_of, frame_size, is_lost}
+use Rattle.mq_trace.specs.Framing.{kind_of, way_of, begun, carried, stream}
+use Rattle.mq_packet.specs.Entries.{Entry}
+use Rattle.mq_packet.specs.Decoding.{decoded}
+
+-- What stands in one direction's stream of packets: a packet, with its size in bytes; bytes that break a rule, with the first of them, the rule
+-- and where it is broken; or the end of what can be cut into packets.
+pub data Item : Type 0 where
+  packet : ℕ → Entry → Item
+  bad : ℕ → PacketRule → ℕ → Item
+  lost : Item
+
+pub data Event : Type 0 where
+  opened closed rested : Event
+  released : ℕ → Event
+  sent received : Item → Event
+
+-- an event with its place
+pub record Placed : Type 0 where
+  pub place : Place3
+  pub event : Event
+
+-- What a whole frame of this size and this first byte is: a packet, or one whose bytes break a rule. Of another protocol version it is neither.
+abbrev pub item_read : ℕ → ℕ → Result Entry DecodeFault → Option Item
+item_read size first (Ok entry) = Some (packet size entry)
+item_read size first (Err (Broken fault)) = Some (bad first fault.rule fault.at)
+item_read size first (Err (OtherVersion version)) = None
+
+-- what stands behind a packet's fixed header
+abbrev pub behind_header : FixedHeader → List ℕ → List ℕ
+behind_header (headers.Whole header size) frame = drop header frame
+behind_header headers.Short frame = []
+behind_header headers.Lost frame = []
+
+-- what a frame says
+unfoldable pub read_frame : List ℕ → Result Entry DecodeFault
+read_frame frame = decoded (slice_index frame 0) (behind_header (fixed_header_of frame) frame)
+
+-- The item that the last of these bytes completes, where they are those so far of one packet: the packet is whole, or its
+-- Remaining Length turns out to be none.
+unfoldable pub item_at : List ℕ → Option Item
+item_at so_far = cond (is_lost so_far) (Some lost) (cond (is_some (frame_size so_far)) (item_read (length so_far) (slice_index so_far 0) (read_frame so_far)) None)
+
+-- The bytes so far of the packet that a direction's next byte belongs to, that byte included; none where the direction is lost before it.
+abbrev pub packet_with : List ℕ → ℕ → List ℕ
+packet_with before byte = cond (is_lost (stream before).rest) [] ((stream before).rest ++ byte ∷ [])
+
+-- the same for the body byte of a record of this kind, none for one that carries no packets
+abbrev pub packet_by : Option Way → List (List ℕ) → ℕ → List ℕ
+packet_by None parts byte = []
+packet_by (Some way) parts byte = packet_with (carried way parts) byte
+
+-- the newest record, as far as it is there
+abbrev pub newest : List (List ℕ) → List ℕ
+newest [] = []
+newest (part ∷ before) = part
+
+-- the bytes so far of the record that the next byte of a log belongs to, that byte included
+unfoldable pub part_at : List ℕ → ℕ → List ℕ
+part_at before byte = newest (begun (before ++ byte ∷ []))
+
+-- the bytes so far of the packet that the next byte of a log belongs to, that byte included; none where it belongs to no packet, or the direction is lost
+unfoldable pub packet_at : List ℕ → ℕ → List ℕ
+packet_at before byte = cond (nat_lt 5 (length (part_at before byte))) (packet_by (way_of (kind_of (part_at before byte))) (begun before) byte) []
+
+-- The event that the last byte of a part of a record completes, given its packet so far: OPEN, CLOSE and REST have no body, that of RELEASE is a
+-- Packet Identifier, and SENT and RECV give what their packets are.
+abbrev pub event_by : Option RecordKind → List ℕ → List ℕ → Option Event
+event_by (Some kinds.Open) part so_far = if length part == 5 then Some opened else None
+event_by (Some kinds.Close) part so_far = if length part == 5 then Some closed else None
+event_by (Some kinds.Rest) part so_far = if length part == 5 then Some rested else None
+event_by (Some kinds.Release) part so_far = if length part == 7 then Some (released (from_be_bytes w16 (drop 5 part))) else None
+event_by (Some kinds.Sent) part so_far = option_map sent (item_at so_far)
+event_by (Some kinds.Recv) part so_far = option_map received (item_at so_far)
+event_by None part so_far = None
+
+unfoldable pub event_in : List ℕ → List ℕ → Option Event
+event_in part so_far = event_by (kind_of part) part so_far
+
+-- the event that the next byte of a log completes
+unfoldable pub event_at : List ℕ → ℕ → Option Event
+event_at before byte = if nat_lt (length before) 8 then None else event_in (part_at before byte) (packet_at before byte)
+
+-- an event at its place, in front of those before it
+abbrev pub with_event : ℕ → Option Event → List Placed → List Placed
+with_event record_no None earlier = earlier
+with_event record_no (Some event) earlier = record { place = record { position = length earlier + 1; record_no = record_no }; event = event } ∷ earlier
+
+-- the events of a log whose bytes are given the newest first
+unfoldable pub events_back : List ℕ → List Placed
+events_back [] = []
+events_back (byte ∷ earlier) = with_event (length (begun (reverse earlier ++ byte ∷ []))) (event_at (reverse earlier) byte) (events_back earlier)
+
+-- The events of a log, the newest first.
+unfoldable pub events : List ℕ → List Placed
+events bytes = events_back (reverse bytes)

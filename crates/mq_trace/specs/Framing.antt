@@ -1,0 +1,71 @@
+-- How a log is laid out, in version 1: a header of eight bytes, and records. A record is a byte that names its kind, four bytes
+-- that tell the length of its body, the most significant first, and the body.
+use Rattle.std.specs.Prelude.{ℕ, ◌+◌, ◌==◌, nat_lt, nat_le, Bool, true, false, cond, if◌then◌else◌, List, [], ◌∷◌, ◌++◌, length, take, drop, reverse, slice_index, Option, Some, None}
+use Rattle.std.specs.Int.{w32, from_be_bytes}
+use Rattle.mq_trace.specs.declared.kind.RecordKind.{RecordKind}
+use Rattle.mq_trace.specs.declared.kind.RecordKind.TheVariants as kinds
+use Rattle.mq_trace.specs.declared.kind.Way.{Way}
+use Rattle.mq_trace.specs.declared.kind.Way.TheVariants as ways
+use Rattle.mq_trace.specs.declared.header.Header.{Header}
+use Rattle.mq_trace.specs.Pieces.{Pieces, pieces}
+use Rattle.mq_packet.specs.Stream.{frame_size}
+
+-- what the header says: byte 5 is 1 where the tested end is a server, and bit 0 of byte 6 says that releases are recorded
+abbrev pub header_by : List ℕ → Header
+header_by bytes = record { server = slice_index bytes 5 == 1; releases = slice_index bytes 6 == 1 }
+
+-- the kind that a record's first byte names
+abbrev pub kind_named : ℕ → Option RecordKind
+kind_named byte = if byte == 1 then Some kinds.Open else (if byte == 2 then Some kinds.Sent else (if byte == 3 then Some kinds.Recv
+    else (if byte == 4 then Some kinds.Close else (if byte == 5 then Some kinds.Rest else (if byte == 6 then Some kinds.Release else None)))))
+
+-- the kind of a record of which at least one byte is there
+unfoldable pub kind_of : List ℕ → Option RecordKind
+kind_of part = kind_named (slice_index part 0)
+
+-- the length that the four bytes behind a record's first one tell
+unfoldable pub body_length : List ℕ → ℕ
+body_length part = from_be_bytes w32 (take 4 (drop 1 part))
+
+-- the size of the record at the front, if a whole one is there
+unfoldable pub record_size : List ℕ → Option ℕ
+record_size bytes = if nat_lt (length bytes) 5 then None else (if nat_le (5 + body_length bytes) (length bytes) then Some (5 + body_length bytes) else None)
+
+-- the records of a log, and what is there of one that isn't whole
+unfoldable pub records : List ℕ → Pieces
+records bytes = pieces record_size (drop 8 bytes)
+
+-- the unfinished record, if any of it is there, in front of the whole ones
+abbrev pub begun_with : List ℕ → List (List ℕ) → List (List ℕ)
+begun_with [] whole = whole
+begun_with (byte ∷ rest) whole = (byte ∷ rest) ∷ whole
+
+-- the records begun, the newest first
+unfoldable pub begun : List ℕ → List (List ℕ)
+begun bytes = begun_with (records bytes).rest (reverse (records bytes).whole)
+
+-- the direction whose bytes a record of this kind carries
+abbrev pub way_of : Option RecordKind → Option Way
+way_of (Some kinds.Sent) = Some ways.Sent
+way_of (Some kinds.Recv) = Some ways.Recv
+way_of _ = None
+
+-- a connection begins with a record of this kind
+abbrev pub opens : Option RecordKind → Bool
+opens (Some kinds.Open) = true
+opens _ = false
+
+-- the bytes, if they go this way
+abbrev pub if_way : Way → Option Way → List ℕ → List ℕ
+if_way ways.Sent (Some ways.Sent) bytes = bytes
+if_way ways.Recv (Some ways.Recv) bytes = bytes
+if_way _ _ bytes = []
+
+-- what one direction carried on the connection so far, given the records begun, the newest first
+unfoldable pub carried : Way → List (List ℕ) → List ℕ
+carried way [] = []
+carried way (part ∷ before) = cond (opens (kind_of part)) [] (carried way before ++ if_way way (way_of (kind_of part)) (drop 5 part))
+
+-- one direction's stream of packets: whole frames, and what is there of one that isn't whole
+unfoldable pub stream : List ℕ → Pieces
+stream bytes = pieces frame_size bytes

@@ -1,0 +1,157 @@
+-- Which logs are refused: the earliest byte with which a condition stands decides, and at one byte the lowest number.
+use Rattle.std.specs.Prelude.{ℕ, ◌==◌, nat_lt, nat_le, Bool, true, false, ◌&&◌, ◌||◌, not, cond, if◌then◌else◌, List, [], ◌∷◌, ◌++◌, length, reverse, slice_index, Option, Some, None, is_some, is_none, Result, Ok, Err}
+use Rattle.mq_packet.specs.declared.header.FixedHeader.{FixedHeader}
+use Rattle.mq_packet.specs.declared.header.FixedHeader.TheVariants as headers
+use Rattle.mq_packet.specs.declared.fault.DecodeFault.{DecodeFault}
+use Rattle.mq_packet.specs.declared.fault.DecodeFault.TheVariants.{Broken, OtherVersion}
+use Rattle.mq_trace.specs.declared.kind.RecordKind.{RecordKind}
+use Rattle.mq_trace.specs.declared.kind.RecordKind.TheVariants as kinds
+use Rattle.mq_trace.specs.declared.refusal.Refusal.{Refusal}
+use Rattle.mq_trace.specs.declared.refusal.Refusal.TheVariants as refusals
+use Rattle.mq_trace.specs.declared.header.Header.{Header}
+use Rattle.mq_trace.specs.Connections.{needs_answer, is_connected, is_answered}
+use Rattle.mq_packet.specs.Stream.{fixed_header_of, frame_size}
+use Rattle.mq_trace.specs.Framing.{header_by, kind_of, body_length, records, begun}
+use Rattle.mq_trace.specs.Events.{Event, event_in, read_frame, part_at, packet_at, events}
+
+-- the first four bytes of a log, `MQTR`, and its version
+abbrev pub magic : List ℕ
+magic = 77 ∷ 81 ∷ 84 ∷ 82 ∷ []
+
+-- a byte of the header, at this offset, that can't stand there: bytes 0 to 3 are `MQTR`, byte 4 is the version, 1, byte 5 the role, 0 or 1,
+-- byte 6 flags, of which only bit 0 is used, and byte 7 is 0
+unfoldable pub header_refusal : ℕ → ℕ → Option Refusal
+header_refusal at byte =
+    if nat_lt at 4 then (if byte == slice_index magic at then None else Some (refusals.Header at))
+    else (if at == 4 then (if byte == 1 then None else Some (refusals.Version at))
+    else (if at == 5 then (if nat_lt byte 2 then None else Some (refusals.Role at))
+    else (if at == 6 then (if nat_lt byte 2 then None else Some (refusals.Flags at))
+    else (if byte == 0 then None else Some (refusals.Flags at)))))
+
+-- the first if there is one, else the second
+abbrev pub or_else : {A : Type 0} → Option A → Option A → Option A
+or_else (Some a) other = Some a
+or_else None other = other
+
+-- Where a byte behind the header stands in its log, and what came before it.
+pub record Situation : Type 0 where
+  -- the byte's offset in the log
+  pub at : ℕ
+  -- what the log's header says
+  pub header : Header
+  -- the bytes so far of the byte's record, the byte included
+  pub part : List ℕ
+  -- the number of that record
+  pub record_no : ℕ
+  -- the bytes so far of the byte's packet, the byte included; none where it belongs to no packet, or its direction is lost
+  pub so_far : List ℕ
+  -- the events before it: how many, whether a connection is open, and whether the latest one's CONNACK came
+  pub events : ℕ
+  pub connected : Bool
+  pub answered : Bool
+
+-- the situation of the next byte of a log
+unfoldable pub situation : List ℕ → ℕ → Situation
+situation before byte = record {
+  at = length before;
+  header = header_by before;
+  part = part_at before byte;
+  record_no = length (begun (before ++ byte ∷ []));
+  so_far = packet_at before byte;
+  events = length (events before);
+  connected = is_connected (events before);
+  answered = is_answered (header_by before).server (events before);
+}
+
+-- the byte is its record's first, or the last of its length
+abbrev pub is_first : Situation → Bool
+is_first s = length s.part == 1
+
+abbrev pub ends_head : Situation → Bool
+ends_head s = length s.part == 5
+
+-- a length that a record of this kind may have
+abbrev pub allows : Option RecordKind → ℕ → Bool
+allows None n = true
+allows (Some kinds.Sent) n = nat_le n 1048576
+allows (Some kinds.Recv) n = nat_le n 1048576
+allows (Some kinds.Release) n = n == 2
+allows (Some kinds.Open) n = n == 0
+allows (Some kinds.Close) n = n == 0
+allows (Some kinds.Rest) n = n == 0
+
+-- a record of this kind stands on a connection
+abbrev pub needs_connection : Option RecordKind → Bool
+needs_connection (Some kinds.Sent) = true
+needs_connection (Some kinds.Recv) = true
+needs_connection (Some kinds.Close) = true
+needs_connection (Some kinds.Rest) = true
+needs_connection _ = false
+
+abbrev pub is_open_kind : Option RecordKind → Bool
+is_open_kind (Some kinds.Open) = true
+is_open_kind _ = false
+
+abbrev pub is_release_kind : Option RecordKind → Bool
+is_release_kind (Some kinds.Release) = true
+is_release_kind _ = false
+
+-- the fixed header ends here, and the packet is larger than the limit
+abbrev pub is_too_large : ℕ → List ℕ → FixedHeader → Bool
+is_too_large limit so_far (headers.Whole header size) = header == length so_far && nat_lt limit size
+is_too_large limit so_far headers.Short = false
+is_too_large limit so_far headers.Lost = false
+
+-- reading a frame found a CONNECT of another protocol version
+abbrev pub is_other_version : {A : Type 0} → Result A DecodeFault → Bool
+is_other_version (Err (OtherVersion version)) = true
+is_other_version (Err (Broken fault)) = false
+is_other_version (Ok entry) = false
+
+-- the packet is whole with this byte
+abbrev pub ends_packet : Situation → Bool
+ends_packet s = is_some (frame_size s.so_far)
+
+-- A session packet or a RELEASE comes on an open connection whose CONNACK hasn't come. A RELEASE between connections is on none.
+abbrev pub is_early : Situation → Option Event → Bool
+is_early s None = false
+is_early s (Some event) = needs_answer event && (s.connected && not s.answered)
+
+-- the refusal of the first line whose condition stands
+abbrev pub first_standing : List (Bool × Refusal) → Option Refusal
+first_standing [] = None
+first_standing (line ∷ lines) = cond line.0 (Some line.1) (first_standing lines)
+
+-- The conditions that stand with a byte behind the header, in the order of their numbers.
+abbrev pub conditions : ℕ → Situation → List (Bool × Refusal)
+conditions limit s =
+    (is_first s && is_none (kind_of s.part), refusals.Kind s.at)
+    ∷ (ends_head s && not (allows (kind_of s.part) (body_length s.part)), refusals.Length s.at)
+    ∷ (is_first s && (is_open_kind (kind_of s.part) && s.connected), refusals.Nested s.at)
+    ∷ (is_first s && (needs_connection (kind_of s.part) && not s.connected), refusals.NotOpen s.at)
+    ∷ (is_first s && (is_release_kind (kind_of s.part) && not s.header.releases), refusals.ReleaseUnrecorded s.at)
+    ∷ (is_too_large limit s.so_far (fixed_header_of s.so_far), refusals.TooLarge s.at)
+    ∷ (ends_packet s && is_other_version (read_frame s.so_far), refusals.OtherVersion s.at)
+    ∷ (is_early s (event_in s.part s.so_far), refusals.Early s.at)
+    ∷ ((is_first s && nat_lt 4294967295 s.record_no) || (is_some (event_in s.part s.so_far) && nat_le 4294967295 s.events), refusals.TooLong s.at)
+    ∷ []
+
+unfoldable pub record_refusal : ℕ → Situation → Option Refusal
+record_refusal limit s = first_standing (conditions limit s)
+
+-- the refusal that first stands with the next byte of a log
+unfoldable pub refusal_at : ℕ → List ℕ → ℕ → Option Refusal
+refusal_at limit before byte = if nat_lt (length before) 8 then header_refusal (length before) byte else record_refusal limit (situation before byte)
+
+-- the refusal of a log whose bytes are given the newest first
+unfoldable pub refused_back : ℕ → List ℕ → Option Refusal
+refused_back limit [] = None
+refused_back limit (byte ∷ earlier) = or_else (refused_back limit earlier) (refusal_at limit (reverse earlier) byte)
+
+-- The refusal of a log, if a condition stands at one of its bytes.
+unfoldable pub refused : ℕ → List ℕ → Option Refusal
+refused limit bytes = refused_back limit (reverse bytes)
+
+-- The log ends inside its header or a record.
+unfoldable pub is_cut_short : List ℕ → Bool
+is_cut_short bytes = nat_lt (length bytes) 8 || nat_lt 0 (length (records bytes).rest)

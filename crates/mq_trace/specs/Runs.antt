@@ -1,0 +1,21 @@
+-- What bytes do that stand behind a log, as functions of what is kept of the log.
+use Rattle.std.specs.Prelude.{ℕ, List, [], ◌∷◌, ◌++◌, Option, Some, None}
+use Rattle.mq_trace.specs.declared.refusal.Refusal.{Refusal}
+use Rattle.mq_trace.specs.Events.{Placed}
+use Rattle.mq_trace.specs.Refusals.{or_else}
+use Rattle.mq_trace.specs.Context.{Context, refusal_for, placed_for, put, after}
+
+-- what is kept behind these bytes
+abbrev pub behind : Context → List ℕ → Context
+behind c [] = c
+behind c (byte ∷ bytes) = behind (after c byte) bytes
+
+-- the refusal that first stands at one of these bytes
+abbrev pub refused_in : ℕ → Context → List ℕ → Option Refusal
+refused_in limit c [] = None
+refused_in limit c (byte ∷ bytes) = or_else (refusal_for limit c byte) (refused_in limit (after c byte) bytes)
+
+-- the events that these bytes complete, the newest first
+abbrev pub heard_in : Context → List ℕ → List Placed
+heard_in c [] = []
+heard_in c (byte ∷ bytes) = heard_in (after c byte) bytes ++ put (placed_for c byte) []

@@ -1,0 +1,40 @@
+//! What a log's bytes complete: an event at a time.
+
+use mq_packet::{Packet, PacketRule};
+
+/// What stands in one direction's stream of packets.
+#[derive(Drop)]
+pub enum Item<'a> {
+    /// A packet, whose texts and payloads lie in the bytes that are being read.
+    Packet(Packet<'a>),
+    /// A packet whose bytes break a rule.
+    Bad {
+        /// The packet's first byte.
+        first: u8,
+        /// The first rule that it breaks.
+        rule: PacketRule,
+        /// Where the field begins that breaks it, from the packet's first byte.
+        at: u32,
+    },
+    /// The Remaining Length is no variable byte integer (MQTT 5.0, section 1.5.5): the direction can't be cut into packets
+    /// from here on.
+    Lost,
+}
+
+/// An event of a log.
+#[derive(Drop)]
+pub enum Event<'a> {
+    /// A network connection begins.
+    Open,
+    /// The network connection ends.
+    Close,
+    /// The tested end is at rest: what it owes on this connection is done.
+    Rest,
+    /// The tested end took the QoS 2 message received under this Packet Identifier out of its delivery handshake, for onward
+    /// delivery (MQTT 5.0, section 4.3.3).
+    Release(u16),
+    /// The tested end sent this.
+    Sent(Item<'a>),
+    /// The tested end received this.
+    Recv(Item<'a>),
+}

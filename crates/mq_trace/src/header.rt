@@ -1,0 +1,86 @@
+//! The log's header: eight bytes.
+
+ghost use Rattle.std.specs.Prelude.{◌≡◌, ◌<◌, ◌==◌, if◌then◌else◌};
+ghost use Rattle.mq_trace.specs.Refusals.{header_refusal};
+
+use super::refusal::Refusal;
+
+/// What a log's header says.
+#[derive(Clone, Copy, Debug, PartialEq, Eq)]
+pub struct Header {
+    /// Whether the tested end is a server.
+    pub server: bool,
+    /// Whether the log records the releases of QoS 2 messages.
+    pub releases: bool,
+}
+
+/// The header's length, in bytes.
+pub const HEADER_LENGTH: u64 = 8;
+
+/// The offset of the byte that names the tested end's role.
+const ROLE_AT: u64 = 5;
+
+/// The offset of the header's flags.
+const FLAGS_AT: u64 = 6;
+
+/// The refusal that a byte of the header at this offset gives, if it can't stand there.
+#[tactic(auto, unfolding(crate::specs::Refusals::header_refusal))]
+pub fn header_refusal(at: u64, byte: u8) -> Option<Refusal>
+    requires { at < 8 }
+    ensures { result ≡ header_refusal at byte }
+{
+    match at {
+        0 => refused_unless(byte == b'M', Refusal::Header(at)),
+        1 => refused_unless(byte == b'Q', Refusal::Header(at)),
+        2 => refused_unless(byte == b'T', Refusal::Header(at)),
+        3 => refused_unless(byte == b'R', Refusal::Header(at)),
+        4 => refused_unless(byte == 1, Refusal::Version(at)),
+        5 => refused_unless(byte < 2, Refusal::Role(at)),
+        6 => refused_unless(byte < 2, Refusal::Flags(at)),
+        _ => refused_unless(byte == 0, Refusal::Flags(at)),
+    }
+}
+
+fn refused_unless(fits: bool, refusal: Refusal) -> Option<Refusal>
+    ensures { result ≡ (if fits then None else Some refusal) }
+{
+    if fits { None } else { Some(refusal) }
+}
+
+/// The header, as known behind a byte of it at this offset: byte 5 names the tested end's role, and bit 0 of byte 6 says whether
+/// releases are recorded.
+pub fn header_after(header: Header, at: u64, byte: u8) -> Header
+    ensures server { result.server ≡ (if at == 5 then byte == 1 else header.server) }
+    ensures releases { result.releases ≡ (if at == 6 then byte == 1 else header.releases) }
+{
+    match at {
+        ROLE_AT => Header {
+            server: byte == 1,
+            releases: header.releases,
+        },
+        FLAGS_AT => Header {
+            server: header.server,
+            releases: byte == 1,
+        },
+        _ => header,
+    }
+}
+
+#[cfg(test)]
+mod tests {
+    use super::*;
+
+    #[test]
+    fn each_byte_is_refused_as_what_it_is(rt: HostRuntime) {
+        let good = [b'M', b'Q', b'T', b'R', 1, 1, 1, 0];
+        for (at, byte) in good.iter().enumerate() {
+            assert_eq!(rt; header_refusal(at as u64, *byte), None, "at {at}");
+        }
+        assert_eq!(rt; header_refusal(0, b'N'), Some(Refusal::Header(0)));
+        assert_eq!(rt; header_refusal(3, b'r'), Some(Refusal::Header(3)));
+        assert_eq!(rt; header_refusal(4, 0), Some(Refusal::Version(4)));
+        assert_eq!(rt; header_refusal(5, 2), Some(Refusal::Role(5)));
+        assert_eq!(rt; header_refusal(6, 3), Some(Refusal::Flags(6)));
+        assert_eq!(rt; header_refusal(7, 1), Some(Refusal::Flags(7)));
+    }
+}

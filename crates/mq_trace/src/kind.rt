@@ -1,0 +1,101 @@
+//! The kinds of records, and the two directions of a connection.
+
+ghost use Rattle.std.specs.Prelude.{◌≡◌, ◌&&◌, Some, List};
+ghost use Rattle.mq_trace.specs.Framing.{kind_named, way_of, opens};
+ghost use Rattle.mq_trace.specs.Refusals.{allows, needs_connection, is_open_kind, is_release_kind};
+
+/// The kind of a record of the log, which its first byte names.
+#[derive(Clone, Copy, Debug, PartialEq, Eq)]
+pub enum RecordKind {
+    /// 1: a network connection begins.
+    Open,
+    /// 2: bytes that the tested end sent.
+    Sent,
+    /// 3: bytes that the tested end received.
+    Recv,
+    /// 4: the network connection ends.
+    Close,
+    /// 5: the tested end is at rest.
+    Rest,
+    /// 6: the tested end released a QoS 2 message for onward delivery.
+    Release,
+}
+
+/// A direction of a connection, as the tested end sees it.
+#[derive(Clone, Copy, Debug, PartialEq, Eq)]
+pub enum Way {
+    /// From the tested end to its peer.
+    Sent,
+    /// From the peer to the tested end.
+    Recv,
+}
+
+/// The longest body that a SENT or RECV record may have, in bytes.
+const LONGEST_BODY: u32 = 1_048_576;
+
+/// The length of a RELEASE record's body: a Packet Identifier.
+const RELEASE_BODY: u32 = 2;
+
+impl RecordKind {
+    /// The kind that a record's first byte names, if it names one.
+    pub fn named(byte: u8) -> Option<RecordKind>
+        ensures { result ≡ kind_named byte }
+    {
+        match byte {
+            1 => Some(RecordKind::Open),
+            2 => Some(RecordKind::Sent),
+            3 => Some(RecordKind::Recv),
+            4 => Some(RecordKind::Close),
+            5 => Some(RecordKind::Rest),
+            6 => Some(RecordKind::Release),
+            _ => None,
+        }
+    }
+
+    /// The direction whose bytes a record of this kind carries, if it carries any.
+    pub fn way(self) -> Option<Way>
+        ensures { result ≡ way_of (Some self) }
+    {
+        match self {
+            RecordKind::Sent => Some(Way::Sent),
+            RecordKind::Recv => Some(Way::Recv),
+            RecordKind::Open | RecordKind::Close | RecordKind::Rest | RecordKind::Release => None,
+        }
+    }
+
+    /// Whether a record of this kind may have a body of this length.
+    pub fn allows(self, length: u32) -> bool
+        ensures { result ≡ allows (Some self) length }
+    {
+        match self {
+            RecordKind::Sent | RecordKind::Recv => length <= LONGEST_BODY,
+            RecordKind::Release => length == RELEASE_BODY,
+            RecordKind::Open | RecordKind::Close | RecordKind::Rest => length == 0,
+        }
+    }
+
+    /// Whether a record of this kind stands only on an open connection.
+    pub fn needs_connection(self) -> bool
+        ensures { result ≡ needs_connection (Some self) }
+    {
+        match self {
+            RecordKind::Sent | RecordKind::Recv | RecordKind::Close | RecordKind::Rest => true,
+            RecordKind::Open | RecordKind::Release => false,
+        }
+    }
+}
+
+#[cfg(test)]
+mod tests {
+    use super::*;
+
+    #[test]
+    fn a_kind_allows_its_lengths(rt: HostRuntime) {
+        assert_eq!(rt; RecordKind::named(6), Some(RecordKind::Release));
+        assert!(rt; RecordKind::Recv.allows(1_048_576));
+        assert!(rt; !RecordKind::Recv.allows(1_048_577));
+        assert!(rt; !RecordKind::Release.allows(1));
+        assert!(rt; !RecordKind::Rest.allows(1));
+        assert!(rt; !RecordKind::Release.needs_connection());
+    }
+}
