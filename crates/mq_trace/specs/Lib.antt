@@ -3,7 +3,10 @@ pub mod Context
 pub mod Events
 pub mod Flows
 pub mod Framing
+pub mod Hearing
+pub mod Keeping
 pub mod Pieces
 pub mod Refusals
 pub mod Refusing
 pub mod Runs
+pub mod Tracing

@@ -68,3 +68,22 @@ byte_of (Memory at) = at
 -- a refusal: its number, its name, and where it stands
 abbrev pub refused_text : Refusal → List ℕ
 refused_text refusal = spaced (codes "refused" ∷ decimal (number_of refusal) ∷ name_of refusal ∷ codes "at" ∷ decimal (byte_of refusal) ∷ [])
+
+-- the same refusal at another byte
+abbrev pub moved : Refusal → ℕ → Refusal
+moved (Header _) at = Header at
+moved (Version _) at = Version at
+moved (Role _) at = Role at
+moved (Flags _) at = Flags at
+moved (Kind _) at = Kind at
+moved (Length _) at = Length at
+moved (Nested _) at = Nested at
+moved (NotOpen _) at = NotOpen at
+moved (ReleaseUnrecorded _) at = ReleaseUnrecorded at
+moved (Cut _) at = Cut at
+moved (TooLarge _) at = TooLarge at
+moved (OtherVersion _) at = OtherVersion at
+moved (Early _) at = Early at
+moved (TooLong _) at = TooLong at
+moved (Read _) at = Read at
+moved (Memory _) at = Memory at

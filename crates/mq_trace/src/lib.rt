@@ -1,13 +1,21 @@
 //! The recorded log of an MQTT 5.0 session, in version 1: its header, its records, and the events that they give.
 #![tactic(auto)]
 
+mod connections;
+mod direction;
 mod event;
 mod header;
 mod kind;
 mod place;
+mod reading;
 mod refusal;
+mod sink;
+mod stage;
+mod tracer;
 
 pub use event::{Event, Item};
 pub use header::Header;
 pub use place::Place3;
 pub use refusal::Refusal;
+pub use sink::Sink;
+pub use tracer::Tracer;

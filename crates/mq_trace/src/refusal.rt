@@ -1,6 +1,6 @@
 //! Why a log can't be judged.
 ghost use Rattle.std.specs.Prelude.{◌≡◌, Some};
-ghost use Rattle.mq_trace.specs.Refusing.{number_of, name_of, byte_of, refused_text};
+ghost use Rattle.mq_trace.specs.Refusing.{number_of, name_of, byte_of, refused_text, moved};
 
 use std::fmt;
 
@@ -112,6 +112,32 @@ impl Refusal {
             | Refusal::TooLong(at)
             | Refusal::Read(at)
             | Refusal::Memory(at) => at,
+        }
+    }
+}
+
+impl Refusal {
+    /// The same refusal at another byte.
+    pub fn moved(self, at: u64) -> Refusal
+        ensures { result ≡ moved self at }
+    {
+        match self {
+            Refusal::Header(_) => Refusal::Header(at),
+            Refusal::Version(_) => Refusal::Version(at),
+            Refusal::Role(_) => Refusal::Role(at),
+            Refusal::Flags(_) => Refusal::Flags(at),
+            Refusal::Kind(_) => Refusal::Kind(at),
+            Refusal::Length(_) => Refusal::Length(at),
+            Refusal::Nested(_) => Refusal::Nested(at),
+            Refusal::NotOpen(_) => Refusal::NotOpen(at),
+            Refusal::ReleaseUnrecorded(_) => Refusal::ReleaseUnrecorded(at),
+            Refusal::Cut(_) => Refusal::Cut(at),
+            Refusal::TooLarge(_) => Refusal::TooLarge(at),
+            Refusal::OtherVersion(_) => Refusal::OtherVersion(at),
+            Refusal::Early(_) => Refusal::Early(at),
+            Refusal::TooLong(_) => Refusal::TooLong(at),
+            Refusal::Read(_) => Refusal::Read(at),
+            Refusal::Memory(_) => Refusal::Memory(at),
         }
     }
 }

@@ -1,0 +1,36 @@
+-- What a sink hears of a log.
+use Rattle.std.specs.Prelude.{◌≡◌, ℕ, List, Option, None, unwrap_or}
+use Rattle.mq_packet.specs.Reading.{view}
+use Rattle.mq_packet.specs.Sizes.{size_with, remaining_length}
+use Rattle.mq_trace.specs.declared.place.Place3.{Place3}
+use Rattle.mq_trace.specs.declared.event.Item.{Item as HeardItem}
+use Rattle.mq_trace.specs.declared.event.Item.TheVariants as items
+use Rattle.mq_trace.specs.declared.event.Event.{Event as HeardEvent}
+use Rattle.mq_trace.specs.declared.event.Event.TheVariants as heard
+use Rattle.mq_trace.specs.Events.{Item, Event, Placed, packet, bad, lost, opened, closed, rested, released, sent, received, events}
+use Rattle.mq_trace.specs.Refusals.{refused}
+
+-- an item and an event apart from where their bytes lie in memory
+abbrev pub item_of : HeardItem → Item
+item_of (items.Packet p) = packet (unwrap_or (size_with (remaining_length p)) 0) (view p)
+item_of (items.Bad first rule at) = bad first rule at
+item_of items.Lost = lost
+
+abbrev pub event_of : HeardEvent → Event
+event_of heard.Open = opened
+event_of heard.Close = closed
+event_of heard.Rest = rested
+event_of (heard.Release identifier) = released identifier
+event_of (heard.Sent item) = sent (item_of item)
+event_of (heard.Recv item) = received (item_of item)
+
+-- the event at its place
+abbrev pub placed_at : Place3 → HeardEvent → Placed
+placed_at place event = record { place = place; event = event_of event }
+
+-- These are the events of some log that isn't refused, the newest first.
+pub record AreEvents (heard : List Placed) : Type 0 where
+  pub limit : ℕ
+  pub log : List ℕ
+  pub unrefused : refused limit log ≡ None
+  pub are : heard ≡ events log

@@ -1,0 +1,90 @@
+-- What a reader of a log keeps in memory, and what it stands for.
+use Rattle.std.specs.Prelude.{◌≡◌, ℕ, ◌+◌, ◌*◌, ◌<◌, ◌≤◌, ◌⊎◌, Bool, true, false, List, [], ◌∷◌, ◌++◌, length, slice_index, Option, Some, None}
+use Rattle.mq_trace.specs.declared.kind.RecordKind.{RecordKind}
+use Rattle.mq_trace.specs.declared.kind.RecordKind.TheVariants as kinds
+use Rattle.mq_trace.specs.declared.direction.Direction.{Direction}
+use Rattle.mq_trace.specs.declared.connections.Connections.{Connections}
+use Rattle.mq_trace.specs.declared.stage.Stage.{Stage}
+use Rattle.mq_trace.specs.declared.stage.Stage.TheVariants as stages
+use Rattle.mq_trace.specs.declared.reading.Reading.{Reading}
+use Rattle.mq_packet.specs.declared.header.FixedHeader.{FixedHeader}
+use Rattle.mq_packet.specs.declared.header.FixedHeader.TheVariants as headers
+use Rattle.mq_packet.specs.Stream.{fixed_header_of}
+use Rattle.mq_trace.specs.Framing.{kind_of, way_of, body_length}
+use Rattle.mq_trace.specs.Events.{Placed}
+use Rattle.mq_trace.specs.Context.{Half, Context}
+use Rattle.mq_trace.specs.Runs.{behind, refused_in, heard_in}
+
+-- a direction, apart from where its bytes lie
+abbrev pub half_in : Direction → Half
+half_in d = record { unfinished = d.unfinished.items; lost = d.lost }
+
+-- the number that bytes spell, the most significant first
+abbrev pub spelled_from : ℕ → List ℕ → ℕ
+spelled_from number [] = number
+spelled_from number (byte ∷ bytes) = spelled_from (number * 256 + byte) bytes
+
+-- This part of a record is where the stage says.
+abbrev pub IsAt : Stage → List ℕ → Type 0
+IsAt stages.Between part = part ≡ []
+IsAt (stages.Head kind count length_so_far) part = (first : ℕ) × (bytes : List ℕ) × (part ≡ first ∷ bytes)
+    × (kind_of part ≡ Some kind) × (length bytes ≡ count) × (length_so_far ≡ spelled_from 0 bytes)
+IsAt (stages.Body way left) part = (kind : RecordKind) × (kind_of part ≡ Some kind) × (way_of (Some kind) ≡ Some way) × (5 ≤ length part) × (length part + left ≡ 5 + body_length part)
+IsAt (stages.Release None) part = (kind_of part ≡ Some kinds.Release) × (length part ≡ 5) × (body_length part ≡ 2)
+IsAt (stages.Release (Some high)) part = (kind_of part ≡ Some kinds.Release) × (length part ≡ 6) × (body_length part ≡ 2) × (slice_index part 5 ≡ high)
+
+-- what a reader keeps of a log whose unfinished record has this part
+abbrev pub context_of : Reading → List ℕ → Context
+context_of r part = record {
+  at = r.at;
+  header = r.header;
+  part = part;
+  records = r.records;
+  sent = half_in r.sent;
+  recv = half_in r.recv;
+  events = r.connections.events;
+  connected = r.connections.connected;
+  answered = r.connections.answered;
+}
+
+-- How many bytes of the unfinished record came, at most.
+abbrev pub begun_in : Stage → ℕ
+begun_in stages.Between = 0
+begun_in (stages.Head kind count length_so_far) = 1 + count
+begun_in (stages.Body way left) = 1048581
+begun_in (stages.Release first) = 6
+
+-- the stage's numbers are within their bounds
+abbrev pub IsWithin : Stage → Type 0
+IsWithin stages.Between = Unit {0}
+IsWithin (stages.Head kind count length_so_far) = (count ≤ 3) × ((count ≡ 0 → length_so_far ≡ 0) × (count ≡ 1 → length_so_far < 256) × (count ≡ 2 → length_so_far < 65536) × (length_so_far < 16777216))
+IsWithin (stages.Body way left) = (1 ≤ left) × (left ≤ 1048576)
+IsWithin (stages.Release first) = Unit {0}
+
+-- A packet whose fixed header is whole is no larger than the limit, and isn't whole.
+abbrev pub IsShort : ℕ → List ℕ → FixedHeader → Type 0
+IsShort limit bytes headers.Short = length bytes ≤ 4
+IsShort limit bytes headers.Lost = ⊥
+IsShort limit bytes (headers.Whole header size) = (length bytes < size) × (size ≤ limit)
+
+-- the bytes of an unfinished packet
+abbrev pub IsUnfinished : ℕ → Half → Type 0
+IsUnfinished limit half = IsShort limit half.unfinished (fixed_header_of half.unfinished) × (half.lost ≡ true → half.unfinished ≡ [])
+
+-- What holds of all that is kept of a log that wasn't refused.
+pub record IsSound (r : Reading) : Type 0 where
+  pub counted : r.at ≤ 8 + 1048581 * r.records + begun_in r.stage
+  pub begun : 0 < begun_in r.stage → r.records < 4294967295
+  pub within : IsWithin r.stage
+  pub behind_header : 0 < begun_in r.stage → 8 ≤ r.at
+  pub header_first : r.at < 8 → (r.stage ≡ stages.Between) × (r.records ≡ 0)
+  pub emptied : (count length_so_far : ℕ) → r.stage ≡ stages.Head kinds.Open count length_so_far
+      → (half_in r.sent ≡ record { unfinished = []; lost = false }) × (half_in r.recv ≡ record { unfinished = []; lost = false })
+  pub sent : IsUnfinished r.limit (half_in r.sent)
+  pub recv : IsUnfinished r.limit (half_in r.recv)
+
+-- With these bytes a reader comes from one state to another: none of them is refused, and they complete these events, the newest first.
+pub record Advances (r r' : Reading) (bytes : List ℕ) (heard : List Placed) : Type 0 where
+  pub limit : r'.limit ≡ r.limit
+  pub each : (part : List ℕ) → IsAt r.stage part → (part' : List ℕ) × IsAt r'.stage part' × (refused_in r.limit (context_of r part) bytes ≡ None)
+      × (behind (context_of r part) bytes ≡ context_of r' part') × (heard_in (context_of r part) bytes ≡ heard)

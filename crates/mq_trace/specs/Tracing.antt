@@ -1,0 +1,58 @@
+-- What a tracer has come to, and what its calls answer.
+use Rattle.std.specs.Prelude.{◌≡◌, ℕ, ◌⊎◌, Bool, true, List, [], ◌∷◌, ◌++◌, length, Option, Some, None, is_some, Result, Ok, Err}
+use Rattle.mq_trace.specs.declared.refusal.Refusal.{Refusal}
+use Rattle.mq_trace.specs.declared.refusal.Refusal.TheVariants as refusals
+use Rattle.mq_trace.specs.declared.reading.Reading.{Reading}
+use Rattle.mq_trace.specs.Events.{Placed, events, event_at}
+use Rattle.mq_trace.specs.Refusals.{refused, refusal_at, is_cut_short}
+use Rattle.mq_trace.specs.Refusing.{moved}
+use Rattle.mq_trace.specs.Context.{context}
+use Rattle.mq_trace.specs.Keeping.{IsAt, context_of}
+
+-- a tracer: the refusal that it came to, and what it keeps of the log
+pub record Traced : Type 0 where
+  pub refusal : Option Refusal
+  pub reading : Reading
+
+-- This is what is kept of the log, and the log isn't refused.
+pub record Keeps (r : Reading) (log : List ℕ) : Type 0 where
+  pub unrefused : refused r.limit log ≡ None
+  pub part : List ℕ
+  pub stands : IsAt r.stage part
+  pub kept : context log ≡ context_of r part
+
+-- The tracer has taken in this log, and refused none of it.
+pub record Follows (tracer : Traced) (log : List ℕ) : Type 0 where
+  pub open_yet : tracer.refusal ≡ None
+  pub keeps : Keeps tracer.reading log
+
+-- A sink that had heard the events of the log has heard those of the log with these bytes behind it.
+abbrev pub HasHeard : {S : Type 0} → (S → List Placed → Type 0) → List ℕ → List ℕ → S → S → Type 0
+HasHeard agrees log bytes old new = agrees old (events log) → agrees new (events (log ++ bytes))
+
+-- Why a byte isn't taken in, behind this log: a condition of the refusals first stands with it, or memory was refused, and the sink has heard all events
+-- before it; or the sink refused the event that it completes.
+abbrev pub Why : {S : Type 0} → (S → List Placed → Type 0) → (S → Refusal → Type 0) → ℕ → List ℕ → List ℕ → ℕ → S → S → Refusal → Type 0
+Why {S} agrees refuses limit log bytes byte old new refusal =
+    ((refusal_at limit (log ++ bytes) byte ≡ Some refusal) × HasHeard agrees log bytes old new)
+    ⊎ ((refusal ≡ refusals.Memory (length (log ++ bytes))) × HasHeard agrees log bytes old new)
+    ⊎ ((own : Refusal) × refuses new own × (refusal ≡ moved own (length (log ++ bytes))) × (is_some (event_at (log ++ bytes) byte) ≡ true))
+
+-- A piece behind a log isn't taken in: some byte of it isn't, and all before it are.
+pub record Stops {S : Type 0} (agrees : S → List Placed → Type 0) (refuses : S → Refusal → Type 0) (limit : ℕ) (log piece : List ℕ) (old new : S) (refusal : Refusal) : Type 0 where
+  pub taken : List ℕ
+  pub byte : ℕ
+  pub later : List ℕ
+  pub is : piece ≡ taken ++ byte ∷ later
+  pub unrefused : refused limit (log ++ taken) ≡ None
+  pub why : Why agrees refuses limit log taken byte old new refusal
+
+-- What feeding a piece behind a log answers.
+abbrev pub Takes : {S : Type 0} → (S → List Placed → Type 0) → (S → Refusal → Type 0) → ℕ → List ℕ → List ℕ → S → S → Result (Unit {0}) Refusal → Type 0
+Takes agrees refuses limit log piece old new (Ok _) = (refused limit (log ++ piece) ≡ None) × HasHeard agrees log piece old new
+Takes agrees refuses limit log piece old new (Err refusal) = Stops agrees refuses limit log piece old new refusal
+
+-- What ending a log that wasn't refused answers.
+abbrev pub Ends : List ℕ → Result (Unit {0}) Refusal → Type 0
+Ends log (Ok _) = is_cut_short log ≡ false
+Ends log (Err refusal) = (refusal ≡ refusals.Cut (length log)) × (is_cut_short log ≡ true)

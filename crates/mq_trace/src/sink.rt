@@ -1,0 +1,27 @@
+//! Who hears the events of a log.
+
+ghost use Rattle.std.specs.Prelude.{List, ◌∷◌, OnOk, IfErr};
+ghost use Rattle.mq_trace.specs.Events.{Placed};
+ghost use Rattle.mq_trace.specs.Hearing.{AreEvents, placed_at};
+
+use super::event::Event;
+use super::place::Place3;
+use super::refusal::Refusal;
+
+/// Who hears the events of a log, one after another.
+pub trait Sink {
+    // The sink has heard these events, the newest first.
+    ghost agrees: { Self → List Placed → Type 0 };
+    // The sink has refused an event so.
+    ghost refuses: { Self → Refusal → Type 0 };
+
+    /// Hears the next event, which stands at this place.
+    ///
+    /// # Errors
+    ///
+    /// The sink's own refusal. Its byte doesn't matter: whoever reads the log puts the one there that completed the event.
+    fn event(&mut self, place: Place3, event: Event<'_>) -> Result<(), Refusal>
+        ensures heard { (earlier : List Placed) → agrees self.old earlier → AreEvents (placed_at place event.entry ∷ earlier)
+            → OnOk result (agrees self.new (placed_at place event.entry ∷ earlier)) }
+        ensures refused { IfErr result (λ refusal. refuses self.new refusal) };
+}

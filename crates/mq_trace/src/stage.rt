@@ -1,0 +1,28 @@
+//! Where a reader of a log stands among the log's records.
+
+use super::kind::{RecordKind, Way};
+
+/// Where a reader stands among the records of a log.
+#[derive(Clone, Copy, Debug, PartialEq, Eq)]
+pub enum Stage {
+    /// Between two records.
+    Between,
+    /// Inside a record's head: its kind came, and of the four bytes of its body's length so many, which spell this number.
+    Head {
+        /// The kind that the record's first byte names.
+        kind: RecordKind,
+        /// How many bytes of the length came: 0 to 3.
+        count: u8,
+        /// The number that they spell, the most significant byte first.
+        length: u32,
+    },
+    /// Inside the body of a SENT or RECV.
+    Body {
+        /// The direction whose bytes it carries.
+        way: Way,
+        /// How many of its bytes are still to come: 1 to 1,048,576.
+        left: u32,
+    },
+    /// Inside the body of a RELEASE: its first byte, if that came.
+    Release(Option<u8>),
+}

@@ -1,0 +1,127 @@
+//! Reads a log that is fed in pieces, and tells a sink of its events.
+
+ghost use Rattle.std.specs.Prelude.{◌≡◌, ℕ, ◌+◌, ◌*◌, ◌≤◌, List, [], ◌++◌, nat_lt, length, Some, None, Err, IfErr, IfSome, OnOk, if◌then◌else◌};
+ghost use Rattle.mq_trace.specs.Framing.{header_by};
+ghost use Rattle.mq_trace.specs.Keeping.{IsSound};
+ghost use Rattle.mq_trace.specs.Tracing.{Follows, Takes, Ends, Keeps, HasHeard, Stops};
+
+use super::header::{HEADER_LENGTH, Header};
+use super::reading::Reading;
+use super::refusal::Refusal;
+use super::sink::Sink;
+use super::stage::Stage;
+use std::alloc::Global;
+use std::marker::Model;
+
+/// Reads a log that is fed in pieces, however it is cut, and tells a sink of its events as their last bytes come.
+#[derive(Drop)]
+pub struct Tracer {
+    refusal: Option<Refusal>,
+    reading: Reading,
+}
+
+impl Model for Tracer {
+    ghost use Rattle.std.specs.Prelude.{◌≡◌, None};
+    ghost use Rattle.mq_trace.specs.Keeping.{IsSound};
+    ghost use Rattle.mq_trace.specs.Tracing.{Traced};
+
+    ghost Value = { Traced };
+
+    ghost view = { λ t. record { refusal = t.refusal; reading = t.reading } };
+
+    ghost invariant = { λ t. t.refusal ≡ None → IsSound t.reading };
+}
+
+impl Tracer {
+    /// A tracer that has been fed nothing, and reads packets of at most so many bytes: 5 to 268,435,460.
+    pub fn new(alloc: Global, limit: u32) -> Self
+        ensures follows { Follows result [] }
+        ensures limit { result.reading.limit ≡ limit }
+    {
+        Tracer {
+            refusal: None,
+            reading: Reading::new(alloc, limit),
+        }
+    }
+
+    /// What the log's header says, once it is whole.
+    pub fn header(&self) -> Option<Header>
+        ensures { (log : List ℕ) → Follows self.now log → result ≡ (if nat_lt (length log) 8 then None else Some (header_by log)) }
+    {
+        if self.reading.at < HEADER_LENGTH {
+            return None;
+        }
+        Some(self.reading.header)
+    }
+
+    /// Takes in the next piece of the log, and tells the sink of the events whose last bytes are in it. It doesn't matter how the
+    /// log is cut into pieces.
+    ///
+    /// # Errors
+    ///
+    /// The refusal whose condition stands at the earliest byte; the sink's own refusal, with the byte that completed the event;
+    /// or `Memory`, at the byte that was being taken in. From then on each call answers the same refusal.
+    pub fn feed<S: Sink>(&mut self, piece: &[u8], sink: &mut S) -> Result<(), Refusal>
+        ensures answers { (log : List ℕ) → Follows self.old log → Takes S.agrees S.refuses self.old.reading.limit log piece.now sink.old sink.new result }
+        ensures follows { (log : List ℕ) → Follows self.old log → OnOk result (Follows self.new (log ++ piece.now)) }
+        ensures limit { OnOk result (self.new.reading.limit ≡ self.old.reading.limit) }
+        ensures refuses { IfErr result (λ refusal. self.new.refusal ≡ Some refusal) }
+        ensures for_ever { IfSome self.old.refusal (λ refusal. (result ≡ Err refusal) × (self.new ≡ self.old) × (sink.new ≡ sink.old)) }
+    {
+        if let Some(refusal) = self.refusal {
+            return Err(refusal);
+        }
+        let taken = take_in(&mut self.reading, piece, sink);
+        if let Err(refusal) = taken {
+            self.refusal = Some(refusal);
+        }
+        taken
+    }
+
+    /// Ends the log.
+    ///
+    /// # Errors
+    ///
+    /// The refusal that an earlier call answered; `Cut`, at the log's length, where it ends inside its header or a record.
+    pub fn finish(&mut self) -> Result<(), Refusal>
+        ensures ends { (log : List ℕ) → Follows self.old log → Ends log result }
+        ensures same { OnOk result (self.new ≡ self.old) }
+        ensures refuses { IfErr result (λ refusal. self.new.refusal ≡ Some refusal) }
+        ensures for_ever { IfSome self.old.refusal (λ refusal. (result ≡ Err refusal) × (self.new ≡ self.old)) }
+    {
+        if let Some(refusal) = self.refusal {
+            return Err(refusal);
+        }
+        let at = self.reading.at;
+        if at < HEADER_LENGTH || self.reading.stage != Stage::Between {
+            self.refusal = Some(Refusal::Cut(at));
+            return Err(Refusal::Cut(at));
+        }
+        Ok(())
+    }
+
+    /// How many bytes of unfinished packets are kept.
+    pub fn pending(&self) -> usize
+        ensures lengths { result ≡ length self.now.reading.sent.unfinished.items + length self.now.reading.recv.unfinished.items }
+        ensures bound { (log : List ℕ) → Follows self.now log → 5 ≤ self.now.reading.limit → result ≤ 2 * self.now.reading.limit }
+    {
+        self.reading.sent.unfinished.len() + self.reading.recv.unfinished.len()
+    }
+}
+
+/// Takes in a piece of a log.
+fn take_in<S: Sink>(reading: &mut Reading, piece: &[u8], sink: &mut S) -> Result<(), Refusal>
+    requires { IsSound reading.old }
+    ensures sound { OnOk result (IsSound reading.new) }
+    ensures limit { OnOk result (reading.new.limit ≡ reading.old.limit) }
+    ensures keeps { (log : List ℕ) → Keeps reading.old log → OnOk result (Keeps reading.new (log ++ piece.now)) }
+    ensures heard { (log : List ℕ) → Keeps reading.old log → OnOk result (HasHeard S.agrees log piece.now sink.old sink.new) }
+    ensures stops { (log : List ℕ) → Keeps reading.old log → IfErr result (λ refusal. Stops S.agrees S.refuses reading.old.limit log piece.now sink.old sink.new refusal) }
+{
+    let mut rest = piece;
+    while !rest.is_empty() {
+        let count = reading.take(rest, sink)?;
+        rest = &rest[count..];
+    }
+    Ok(())
+}
