@@ -9,4 +9,5 @@ pub mod Pieces
 pub mod Refusals
 pub mod Refusing
 pub mod Runs
+pub mod Telling
 pub mod Tracing

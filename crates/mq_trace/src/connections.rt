@@ -1,5 +1,11 @@
 //! What is kept of the events of a log, and telling a sink of the next one.
 
+ghost use Rattle.std.specs.Prelude.{◌≡◌, ◌+◌, ◌∷◌, ◌<◌, ◌&&◌, not, List, Some, None, OnOk, IfErr};
+ghost use Rattle.mq_trace.specs.Events.{Placed};
+ghost use Rattle.mq_trace.specs.Connections.{begins, ends, is_answer, needs_answer, is_packet, is_connack, needs_session};
+ghost use Rattle.mq_trace.specs.Hearing.{AreEvents, event_of, item_of};
+ghost use Rattle.mq_trace.specs.Telling.{met_by, connections_with, next_placed, Untold, RefusedBySink};
+
 use super::event::{Event, Item};
 use super::place::Place3;
 use super::refusal::Refusal;
@@ -30,26 +36,77 @@ pub fn tell<S: Sink>(
     record_no: u32,
     event: Event<'_>,
     sink: &mut S,
-) -> Result<(), Refusal> {
-    if needs_answer(&event) && connections.connected && !connections.answered {
-        return Err(Refusal::Early(at));
+) -> Result<(), Refusal>
+    ensures ok { OnOk result ((met_by at connections.old (event_of event.entry) ≡ None) × (connections.new ≡ connections_with server connections.old (event_of event.entry))) }
+    ensures heard { (earlier : List Placed) → S.agrees sink.old earlier → AreEvents (next_placed connections.old record_no (event_of event.entry) ∷ earlier)
+        → OnOk result (S.agrees sink.new (next_placed connections.old record_no (event_of event.entry) ∷ earlier)) }
+    ensures err { IfErr result (λ refusal. Untold S.refuses at (met_by at connections.old (event_of event.entry)) sink.old sink.new refusal) }
+{
+    match met_by(*connections, at, &event) {
+        Some(refusal) => Err(refusal),
+        None => tell_next(connections, server, at, record_no, event, sink),
     }
-    if connections.events == u32::MAX {
-        return Err(Refusal::TooLong(at));
+}
+
+/// The refusal that an event meets which the byte at this offset completes.
+fn met_by(connections: Connections, at: u64, event: &Event<'_>) -> Option<Refusal>
+    ensures met { result ≡ met_by at connections (event_of event.now) }
+    ensures room { result ≡ None → connections.events < 4294967295 }
+{
+    if is_early(connections, event) {
+        Some(Refusal::Early(at))
+    } else if connections.events == u32::MAX {
+        Some(Refusal::TooLong(at))
+    } else {
+        None
     }
+}
+
+/// Whether the event needs its connection's CONNACK, while that hasn't come.
+fn is_early(connections: Connections, event: &Event<'_>) -> bool
+    ensures { result ≡ (needs_answer (event_of event.now) && (connections.connected && not connections.answered)) }
+{
+    needs_answer(event) && connections.connected && !connections.answered
+}
+
+/// Tells a sink of the next event, which meets no refusal.
+///
+/// # Errors
+///
+/// The sink's own refusal, at this byte.
+fn tell_next<S: Sink>(
+    connections: &mut Connections,
+    server: bool,
+    at: u64,
+    record_no: u32,
+    event: Event<'_>,
+    sink: &mut S,
+) -> Result<(), Refusal>
+    requires { connections.old.events < 4294967295 }
+    ensures ok { OnOk result (connections.new ≡ connections_with server connections.old (event_of event.entry)) }
+    ensures heard { (earlier : List Placed) → S.agrees sink.old earlier → AreEvents (next_placed connections.old record_no (event_of event.entry) ∷ earlier)
+        → OnOk result (S.agrees sink.new (next_placed connections.old record_no (event_of event.entry) ∷ earlier)) }
+    ensures err { IfErr result (λ refusal. RefusedBySink S.refuses at sink.new refusal) }
+{
     let place = Place3 {
         position: connections.events + 1,
         record_no,
     };
     let next = connections_with(*connections, server, &event);
-    sink.event(place, event)
-        .map_err(|refusal| refusal.moved(at))?;
-    *connections = next;
-    Ok(())
+    match sink.event(place, event) {
+        Ok(()) => {
+            *connections = next;
+            Ok(())
+        }
+        Err(refusal) => Err(refusal.moved(at)),
+    }
 }
 
 /// What is kept behind one event more.
-fn connections_with(connections: Connections, server: bool, event: &Event<'_>) -> Connections {
+fn connections_with(connections: Connections, server: bool, event: &Event<'_>) -> Connections
+    requires { connections.events < 4294967295 }
+    ensures { result ≡ connections_with server connections (event_of event.now) }
+{
     Connections {
         events: connections.events + 1,
         connected: begins(event) || (!ends(event) && connections.connected),
@@ -58,7 +115,9 @@ fn connections_with(connections: Connections, server: bool, event: &Event<'_>) -
 }
 
 /// Whether a connection begins.
-fn begins(event: &Event<'_>) -> bool {
+fn begins(event: &Event<'_>) -> bool
+    ensures { result ≡ begins (event_of event.now) }
+{
     match event {
         Event::Open => true,
         Event::Close | Event::Rest | Event::Release(_) | Event::Sent(_) | Event::Recv(_) => false,
@@ -66,7 +125,9 @@ fn begins(event: &Event<'_>) -> bool {
 }
 
 /// Whether the connection ends.
-fn ends(event: &Event<'_>) -> bool {
+fn ends(event: &Event<'_>) -> bool
+    ensures { result ≡ ends (event_of event.now) }
+{
     match event {
         Event::Close => true,
         Event::Open | Event::Rest | Event::Release(_) | Event::Sent(_) | Event::Recv(_) => false,
@@ -75,7 +136,9 @@ fn ends(event: &Event<'_>) -> bool {
 
 /// Whether the event is a CONNACK from the server, which a tested server sends and a tested client receives
 /// (MQTT 5.0, section 3.2).
-fn is_answer(server: bool, event: &Event<'_>) -> bool {
+fn is_answer(server: bool, event: &Event<'_>) -> bool
+    ensures { result ≡ is_answer server (event_of event.now) }
+{
     match event {
         Event::Sent(item) => server && is_connack(item),
         Event::Recv(item) => !server && is_connack(item),
@@ -84,7 +147,9 @@ fn is_answer(server: bool, event: &Event<'_>) -> bool {
 }
 
 /// Whether the event is a session packet or a RELEASE, which on a connection stand after its CONNACK (MQTT 5.0, section 4.1).
-fn needs_answer(event: &Event<'_>) -> bool {
+fn needs_answer(event: &Event<'_>) -> bool
+    ensures { result ≡ needs_answer (event_of event.now) }
+{
     match event {
         Event::Release(_) => true,
         Event::Sent(item) | Event::Recv(item) => needs_session(item),
@@ -92,7 +157,9 @@ fn needs_answer(event: &Event<'_>) -> bool {
     }
 }
 
-fn is_connack(item: &Item<'_>) -> bool {
+fn is_connack(item: &Item<'_>) -> bool
+    ensures { result ≡ is_packet is_connack (item_of item.now) }
+{
     match item {
         Item::Packet(Packet::Connack(_)) => true,
         _ => false,
@@ -100,7 +167,9 @@ fn is_connack(item: &Item<'_>) -> bool {
 }
 
 /// Whether the item is a PUBLISH, a SUBSCRIBE, an UNSUBSCRIBE, or what acknowledges one (MQTT 5.0, section 4.1).
-fn needs_session(item: &Item<'_>) -> bool {
+fn needs_session(item: &Item<'_>) -> bool
+    ensures { result ≡ is_packet needs_session (item_of item.now) }
+{
     match item {
         Item::Packet(packet) => match packet {
             Packet::Publish(_)

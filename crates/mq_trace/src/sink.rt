@@ -10,6 +10,8 @@ use super::refusal::Refusal;
 
 /// Who hears the events of a log, one after another.
 pub trait Sink {
+    ghost use Rattle.mq_trace.specs.declared.refusal.Refusal.{Refusal};
+
     // The sink has heard these events, the newest first.
     ghost agrees: { Self → List Placed → Type 0 };
     // The sink has refused an event so.

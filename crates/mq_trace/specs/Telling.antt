@@ -1,0 +1,38 @@
+-- Telling a sink of an event: what can stand against it, and what is kept behind it.
+use Rattle.std.specs.Prelude.{◌≡◌, ℕ, ◌+◌, ◌⊎◌, nat_le, Bool, ◌&&◌, ◌||◌, not, List, [], ◌∷◌, Option, Some, None}
+use Rattle.mq_trace.specs.declared.refusal.Refusal.{Refusal}
+use Rattle.mq_trace.specs.declared.refusal.Refusal.TheVariants as refusals
+use Rattle.mq_trace.specs.declared.connections.Connections.{Connections}
+use Rattle.mq_trace.specs.Events.{Event, Placed}
+use Rattle.mq_trace.specs.Connections.{begins, ends, is_answer, needs_answer}
+use Rattle.mq_trace.specs.Refusals.{first_standing}
+use Rattle.mq_trace.specs.Refusing.{moved}
+
+-- the refusal that an event meets which this byte completes
+abbrev pub met_by : ℕ → Connections → Event → Option Refusal
+met_by at connections event = first_standing (
+    (needs_answer event && (connections.connected && not connections.answered), refusals.Early at)
+    ∷ (nat_le 4294967295 connections.events, refusals.TooLong at)
+    ∷ [])
+
+-- what is kept of the events, behind one more
+abbrev pub connections_with : Bool → Connections → Event → Connections
+connections_with server connections event = record {
+  events = connections.events + 1;
+  connected = begins event || (not (ends event) && connections.connected);
+  answered = is_answer server event || (not (begins event) && connections.answered);
+}
+
+-- the event at the next place
+abbrev pub next_placed : Connections → ℕ → Event → Placed
+next_placed connections record_no event = record { place = record { position = connections.events + 1; record_no = record_no }; event = event }
+
+-- The sink refused the event that this byte completed.
+pub record RefusedBySink {S : Type 0} (refuses : S → Refusal → Type 0) (at : ℕ) (new : S) (refusal : Refusal) : Type 0 where
+  pub own : Refusal
+  pub refused : refuses new own
+  pub is : refusal ≡ moved own at
+
+-- Why an event wasn't told: a refusal stands at its byte, and the sink didn't hear of it, or the sink refused it.
+abbrev pub Untold : {S : Type 0} → (S → Refusal → Type 0) → ℕ → Option Refusal → S → S → Refusal → Type 0
+Untold refuses at met old new refusal = ((met ≡ Some refusal) × (new ≡ old)) ⊎ ((met ≡ None) × RefusedBySink refuses at new refusal)
