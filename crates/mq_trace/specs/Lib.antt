@@ -1,5 +1,6 @@
 pub mod Connections
 pub mod Context
+pub mod Directing
 pub mod Events
 pub mod Flows
 pub mod Framing

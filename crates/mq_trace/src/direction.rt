@@ -1,5 +1,16 @@
 //! One direction of a connection: its stream of packets, which the bodies of records carry in any cutting.
 
+ghost use Rattle.std.specs.Prelude.{◌≡◌, ◌+◌, ◌<◌, ◌≤◌, ◌^◌, ◌++◌, ◌⊎◌, [], List, Some, None, OnOk, IfOk, IfErr, length, take, true, false};
+ghost use Rattle.mq_packet.specs.Stream.{frame_size, fixed_header_of};
+ghost use Rattle.mq_packet.specs.declared.header.FixedHeader.TheVariants as headers;
+ghost use Rattle.mq_trace.specs.Events.{Placed};
+ghost use Rattle.mq_trace.specs.Context.{put};
+ghost use Rattle.mq_trace.specs.Hearing.{AreEvents, event_of, item_of};
+ghost use Rattle.mq_trace.specs.Telling.{Untold};
+ghost use Rattle.mq_trace.specs.Keeping.{half_in, IsUnfinished};
+ghost use Rattle.mq_trace.specs.Flows.{going, flow_placed_with, flow_refused, flow_heard, flow_behind};
+ghost use Rattle.mq_trace.specs.Directing.{bed_of, flow_of, frame_event, frame_met, connections_then, FlowStops};
+
 use super::connections::{Connections, tell};
 use super::event::{Event, Item};
 use super::kind::Way;
@@ -31,7 +42,9 @@ pub struct Bed {
 
 impl Direction {
     /// A direction in which nothing came.
-    pub fn new(alloc: Global) -> Self {
+    pub fn new(alloc: Global) -> Self
+        ensures { half_in result ≡ record { unfinished = []; lost = false } }
+    {
         Direction {
             unfinished: BytesMut::new(alloc),
             lost: false,
@@ -39,7 +52,9 @@ impl Direction {
     }
 
     /// Begins anew, as each connection does.
-    pub fn clear(&mut self) {
+    pub fn clear(&mut self)
+        ensures { half_in self.new ≡ record { unfinished = []; lost = false } }
+    {
         self.unfinished.clear();
         self.lost = false;
     }
@@ -57,7 +72,19 @@ impl Direction {
         at: u64,
         bytes: &[u8],
         sink: &mut S,
-    ) -> Result<usize, Refusal> {
+    ) -> Result<usize, Refusal>
+        requires some { 1 ≤ length bytes.now }
+        requires room { at + length bytes.now < 2 ^ 64 }
+        requires unfinished { IsUnfinished bed.limit (half_in self.old) }
+        ensures count { IfOk result (λ n. (1 ≤ n) × (n ≤ length bytes.now)) }
+        ensures unrefused { IfOk result (λ n. flow_refused bed.limit (bed_of bed) (flow_of at (half_in self.old) connections.old) (take n bytes.now) ≡ None) }
+        ensures kept { IfOk result (λ n. flow_behind (bed_of bed) (flow_of at (half_in self.old) connections.old) (take n bytes.now) ≡ flow_of (at + n) (half_in self.new) connections.new) }
+        ensures heard { (earlier : List Placed) → S.agrees sink.old earlier → IfOk result (λ n.
+            AreEvents (flow_heard (bed_of bed) (flow_of at (half_in self.old) connections.old) (take n bytes.now) ++ earlier)
+            → S.agrees sink.new (flow_heard (bed_of bed) (flow_of at (half_in self.old) connections.old) (take n bytes.now) ++ earlier)) }
+        ensures sound { OnOk result (IsUnfinished bed.limit (half_in self.new)) }
+        ensures stops { IfErr result (λ refusal. FlowStops S.refuses bed.limit (bed_of bed) (flow_of at (half_in self.old) connections.old) bytes.now sink.old sink.new refusal) }
+    {
         if self.lost {
             return Ok(bytes.len());
         }
@@ -85,7 +112,21 @@ impl Direction {
         size: usize,
         bytes: &[u8],
         sink: &mut S,
-    ) -> Result<usize, Refusal> {
+    ) -> Result<usize, Refusal>
+        requires some { 1 ≤ length bytes.now }
+        requires room { at + length bytes.now < 2 ^ 64 }
+        requires unfinished { IsUnfinished bed.limit (half_in self.old) }
+        requires kept { self.old.lost ≡ false }
+        requires begun { (header : ℕ) × (fixed_header_of self.old.unfinished.items ≡ headers.Whole header size) }
+        ensures count { IfOk result (λ n. (1 ≤ n) × (n ≤ length bytes.now)) }
+        ensures unrefused { IfOk result (λ n. flow_refused bed.limit (bed_of bed) (flow_of at (half_in self.old) connections.old) (take n bytes.now) ≡ None) }
+        ensures kept { IfOk result (λ n. flow_behind (bed_of bed) (flow_of at (half_in self.old) connections.old) (take n bytes.now) ≡ flow_of (at + n) (half_in self.new) connections.new) }
+        ensures heard { (earlier : List Placed) → S.agrees sink.old earlier → IfOk result (λ n.
+            AreEvents (flow_heard (bed_of bed) (flow_of at (half_in self.old) connections.old) (take n bytes.now) ++ earlier)
+            → S.agrees sink.new (flow_heard (bed_of bed) (flow_of at (half_in self.old) connections.old) (take n bytes.now) ++ earlier)) }
+        ensures sound { OnOk result (IsUnfinished bed.limit (half_in self.new)) }
+        ensures stops { IfErr result (λ refusal. FlowStops S.refuses bed.limit (bed_of bed) (flow_of at (half_in self.old) connections.old) bytes.now sink.old sink.new refusal) }
+    {
         let lacks = size - self.unfinished.len();
         let count = lacks.min(bytes.len());
         self.unfinished
@@ -107,7 +148,17 @@ impl Direction {
         at: u64,
         byte: u8,
         sink: &mut S,
-    ) -> Result<(), Refusal> {
+    ) -> Result<(), Refusal>
+        requires unfinished { IsUnfinished bed.limit (half_in self.old) }
+        requires kept { self.old.lost ≡ false }
+        requires room { at + 1 < 2 ^ 64 }
+        ensures unrefused { OnOk result (flow_refused bed.limit (bed_of bed) (flow_of at (half_in self.old) connections.old) (byte ∷ []) ≡ None) }
+        ensures kept { OnOk result (flow_behind (bed_of bed) (flow_of at (half_in self.old) connections.old) (byte ∷ []) ≡ flow_of (at + 1) (half_in self.new) connections.new) }
+        ensures heard { (earlier : List Placed) → S.agrees sink.old earlier → AreEvents (flow_heard (bed_of bed) (flow_of at (half_in self.old) connections.old) (byte ∷ []) ++ earlier)
+            → OnOk result (S.agrees sink.new (flow_heard (bed_of bed) (flow_of at (half_in self.old) connections.old) (byte ∷ []) ++ earlier)) }
+        ensures sound { OnOk result (IsUnfinished bed.limit (half_in self.new)) }
+        ensures stops { IfErr result (λ refusal. FlowStops S.refuses bed.limit (bed_of bed) (flow_of at (half_in self.old) connections.old) (byte ∷ []) sink.old sink.new refusal) }
+    {
         self.unfinished
             .extend_from_slice(&[byte])
             .map_err(|_| Refusal::Memory(at))?;
@@ -147,7 +198,15 @@ fn tell_frame<S: Sink>(
     at: u64,
     frame: &[u8],
     sink: &mut S,
-) -> Result<(), Refusal> {
+) -> Result<(), Refusal>
+    requires whole { frame_size frame.now ≡ Some (length frame.now) }
+    ensures met { OnOk result (frame_met at (flow_of at (record { unfinished = []; lost = false }) connections.old) bed.way frame.now ≡ None) }
+    ensures kept { OnOk result (connections.new ≡ connections_then bed.server connections.old (frame_event bed.way frame.now)) }
+    ensures heard { (earlier : List Placed) → S.agrees sink.old earlier
+        → AreEvents (put (flow_placed_with (bed_of bed) (flow_of at (record { unfinished = []; lost = false }) connections.old) (frame_event bed.way frame.now)) earlier)
+        → OnOk result (S.agrees sink.new (put (flow_placed_with (bed_of bed) (flow_of at (record { unfinished = []; lost = false }) connections.old) (frame_event bed.way frame.now)) earlier)) }
+    ensures err { IfErr result (λ refusal. Untold S.refuses at (frame_met at (flow_of at (record { unfinished = []; lost = false }) connections.old) bed.way frame.now) sink.old sink.new refusal) }
+{
     let FixedHeader::Whole { length, .. } = fixed_header(frame) else {
         unreachable!()
     };
@@ -172,7 +231,9 @@ fn tell_frame<S: Sink>(
 }
 
 /// An item that goes this way.
-fn going(way: Way, item: Item<'_>) -> Event<'_> {
+fn going(way: Way, item: Item<'_>) -> Event<'_>
+    ensures { event_of result ≡ going way (item_of item.entry) }
+{
     match way {
         Way::Sent => Event::Sent(item),
         Way::Recv => Event::Recv(item),

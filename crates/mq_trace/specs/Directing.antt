@@ -1,0 +1,53 @@
+-- One direction in memory: what a step takes in, and what stops it.
+use Rattle.std.specs.Prelude.{◌≡◌, ℕ, ◌+◌, ◌⊎◌, nat_le, Bool, true, ◌&&◌, List, [], ◌∷◌, ◌++◌, length, slice_index, Option, Some, None, option_map, is_some}
+use Rattle.mq_trace.specs.declared.kind.Way.{Way}
+use Rattle.mq_trace.specs.declared.refusal.Refusal.{Refusal}
+use Rattle.mq_trace.specs.declared.refusal.Refusal.TheVariants as refusals
+use Rattle.mq_trace.specs.declared.connections.Connections.{Connections}
+use Rattle.mq_trace.specs.declared.direction.Bed.{Bed as BedInMemory}
+use Rattle.mq_trace.specs.Events.{Event, Placed, item_read, read_frame}
+use Rattle.mq_trace.specs.Refusals.{first_standing, is_other_version}
+use Rattle.mq_trace.specs.Context.{Half}
+use Rattle.mq_trace.specs.Flows.{Bed, Flow, going, comes_early, flow_placed_with, flow_refused, flow_heard}
+use Rattle.mq_trace.specs.Telling.{connections_with, RefusedBySink}
+
+abbrev pub bed_of : BedInMemory → Bed
+bed_of bed = record { way = bed.way; server = bed.server; record_no = bed.record_no }
+
+abbrev pub flow_of : ℕ → Half → Connections → Flow
+flow_of at half c = record { at = at; half = half; events = c.events; connected = c.connected; answered = c.answered }
+
+-- the event of a whole packet
+abbrev pub frame_event : Way → List ℕ → Option Event
+frame_event way frame = option_map (going way) (item_read (length frame) (slice_index frame 0) (read_frame frame))
+
+-- the refusal that stands with the last byte of a whole packet
+abbrev pub frame_met : ℕ → Flow → Way → List ℕ → Option Refusal
+frame_met at f way frame = first_standing (
+    (is_other_version (read_frame frame), refusals.OtherVersion at)
+    ∷ (comes_early f (frame_event way frame), refusals.Early at)
+    ∷ (is_some (frame_event way frame) && nat_le 4294967295 f.events, refusals.TooLong at)
+    ∷ [])
+
+-- what is kept of the events, behind one more if there is one
+abbrev pub connections_then : Bool → Connections → Option Event → Connections
+connections_then server c None = c
+connections_then server c (Some event) = connections_with server c event
+
+-- Why a byte of a direction isn't taken in, with which these events would be heard: it is refused, or memory was, and the sink heard nothing; or the sink
+-- refused what it completes.
+abbrev pub FlowWhy : {S : Type 0} → (S → Refusal → Type 0) → ℕ → Option Refusal → List Placed → S → S → Refusal → Type 0
+FlowWhy refuses at met heard old new refusal =
+    ((met ≡ Some refusal) × (new ≡ old))
+    ⊎ ((refusal ≡ refusals.Memory at) × (new ≡ old))
+    ⊎ ((met ≡ None) × (length heard ≡ 1) × RefusedBySink refuses at new refusal)
+
+-- Bytes of a direction aren't taken in: none before one of them is refused or completes anything, and that one isn't taken in.
+pub record FlowStops {S : Type 0} (refuses : S → Refusal → Type 0) (limit : ℕ) (bed : Bed) (f : Flow) (bytes : List ℕ) (old new : S) (refusal : Refusal) : Type 0 where
+  pub taken : List ℕ
+  pub byte : ℕ
+  pub later : List ℕ
+  pub is : bytes ≡ taken ++ byte ∷ later
+  pub unrefused : flow_refused limit bed f taken ≡ None
+  pub unheard : flow_heard bed f taken ≡ []
+  pub why : FlowWhy refuses (f.at + length taken) (flow_refused limit bed f (taken ++ byte ∷ [])) (flow_heard bed f (taken ++ byte ∷ [])) old new refusal
