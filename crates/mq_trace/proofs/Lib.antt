@@ -2,3 +2,4 @@ pub mod ContextLaws
 pub mod FramingLaws
 pub mod HalfLaws
 pub mod PiecesLaws
+pub mod RunLaws
