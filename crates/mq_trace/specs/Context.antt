@@ -29,6 +29,10 @@ pub record Context : Type 0 where
   pub connected : Bool
   pub answered : Bool
 
+-- what is kept of a direction that carried nothing
+abbrev pub emptied : Half
+emptied = record { unfinished = []; lost = false }
+
 -- what is kept before the first byte
 abbrev pub fresh : Context
 fresh = record {

@@ -86,6 +86,15 @@ event_by (Some kinds.Sent) part so_far = option_map sent (item_at so_far)
 event_by (Some kinds.Recv) part so_far = option_map received (item_at so_far)
 event_by None part so_far = None
 
+-- the event that the head of a record completes: that of a kind that has no body
+abbrev pub event_of_head : RecordKind → Option Event
+event_of_head kinds.Open = Some opened
+event_of_head kinds.Close = Some closed
+event_of_head kinds.Rest = Some rested
+event_of_head kinds.Release = None
+event_of_head kinds.Sent = None
+event_of_head kinds.Recv = None
+
 unfoldable pub event_in : List ℕ → List ℕ → Option Event
 event_in part so_far = event_by (kind_of part) part so_far
 
