@@ -3,3 +3,4 @@ pub mod FramingLaws
 pub mod HalfLaws
 pub mod PiecesLaws
 pub mod RunLaws
+pub mod StepLaws
