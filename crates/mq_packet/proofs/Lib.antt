@@ -8,6 +8,7 @@ pub mod GrowingLaws
 pub mod CanonicalLaws
 pub mod ReasonLaws
 pub mod SizeLaws
+pub mod BodyLaws
 pub mod ValidLaws
 pub mod WrittenLaws
 pub mod Places

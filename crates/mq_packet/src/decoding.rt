@@ -6,6 +6,7 @@ ghost use Rattle.mq_packet.specs.Entries.{Entry};
 ghost use Rattle.mq_packet.specs.Decoding.{body_start, decoded};
 ghost use Rattle.mq_packet.specs.Spelled.{IsSpelled, HasFault, Comes};
 ghost use Rattle.mq_packet.specs.Reading.{view, HasReadLen, Gives};
+ghost use Rattle.mq_packet.specs.Sizes.{remaining_length};
 
 use crate::fault::{BodyFault, DecodeFault};
 use crate::packet::{Acknowledgement, Ending, Packet};
@@ -29,6 +30,8 @@ pub fn decode<'a>(first: u8, body: &'a [u8]) -> Result<Packet<'a>, DecodeFault>
     ensures only { (outcome : Result Entry DecodeFault) → Comes first body.now outcome → Gives view result outcome }
     // A packet that has several spellings keeps how long this one is.
     ensures read_len { IfOk result (λ packet. HasReadLen (length body.now) packet) }
+    // Its size is that of what it was read from: its Remaining Length is the length of this body.
+    ensures size { IfOk result (λ packet. remaining_length packet ≡ length body.now) }
     ensures exact { Gives view result (decoded first body.now) }
 {
     read_body(first, body)

@@ -1,0 +1,281 @@
+-- A packet that keeps no length of its body has only one: that of the body that is written of it.
+use Rattle.std.proofs.Common.{◌≡◌, ℕ, zero, suc, ◌+◌, Bool, true, false, List, [], ◌∷◌, ◌++◌, length, drop, Option, Some, None, Result, Ok, Err, refl, sym, ◌∙◌, ap, subst, arith, length-append, length-drop}
+use Rattle.std.specs.Prelude.{nat_lt, ◌==◌, if◌then◌else◌, sum, IfOk, unwrap_or, bit_and, bytes_eq, codes}
+use Rattle.std.proofs.lemmas.Bool.{le-leb}
+use Rattle.std.proofs.lemmas.Slice.Eq.{bytes_eq-Decides}
+use Rattle.std.proofs.lemmas.Grind.{flat_map-append}
+use Rattle.mq_wire.specs.declared.fault.Reason.{Reason}
+use Rattle.mq_wire.specs.declared.fault.Reason.TheVariants as reasons
+use Rattle.mq_wire.specs.Fields.{varint_at}
+use Rattle.mq_wire.specs.Spellings.{AreBytes, IsVarint, Stands, text_spelling, binary_spelling, two_bytes_spelling, varint_spelling}
+use Rattle.mq_wire.proofs.Varint.{varint_exact}
+use Rattle.mq_props.specs.declared.table.Place.TheVariants as places
+use Rattle.mq_packet.specs.declared.packet.Packet.{Packet}
+use Rattle.mq_packet.specs.declared.packet.Packet.TheVariants as packets
+use Rattle.mq_packet.specs.declared.packet.Qos.{Qos}
+use Rattle.mq_packet.specs.declared.packet.Qos.TheVariants.{AtMostOnce, AtLeastOnce, ExactlyOnce}
+use Rattle.mq_packet.specs.declared.packet.AcknowledgementKind.{AcknowledgementKind}
+use Rattle.mq_packet.specs.declared.packet.AcknowledgementKind.TheVariants as acknowledgements
+use Rattle.mq_packet.specs.declared.packet.EndingKind.{EndingKind}
+use Rattle.mq_packet.specs.declared.packet.EndingKind.TheVariants as endings
+use Rattle.mq_packet.specs.declared.packet.RequestKind.{RequestKind}
+use Rattle.mq_packet.specs.declared.packet.RequestKind.TheVariants as requests
+use Rattle.mq_packet.specs.declared.rule.PacketRule.TheVariants as rules
+use Rattle.mq_packet.specs.declared.fault.DecodeFault.{DecodeFault}
+use Rattle.mq_packet.specs.declared.header.FixedHeader.{FixedHeader}
+use Rattle.mq_packet.specs.declared.header.FixedHeader.TheVariants.{Whole}
+use Rattle.mq_packet.specs.Entries.{Entry, connect, connack, publish, acknowledgement, request, answer, pingreq, pingresp, disconnect, auth, WillFields, ConnectFields, PublishFields, AskedFilter, listed, request_place, answer_place, answer_codes, has_options}
+use Rattle.mq_packet.specs.Formats.{Kind, text, binary, Value, Format, done, rest, refused, missing, field, at_end, field_if, will_if, has_bits, qos_of, options_if, filters_format, codes_format, connect_format, connack_format, publish_from, publish_unacknowledged, publish_acknowledged, publish_format, acknowledgement_format, request_format, answer_format, ending_format, format_of}
+use Rattle.mq_packet.specs.Asking.{options_spelling, asked_spelling, filters_spelling}
+use Rattle.mq_packet.specs.Canonical.{list_spelling, spelling_if, will_spelling, connect_body, connack_body, publish_body, request_body, answer_body}
+use Rattle.mq_packet.specs.Spelled.{spelling, Spells, IsSpelled}
+use Rattle.mq_packet.specs.Stream.{header_with, fixed_header_of}
+use Rattle.mq_packet.specs.Reading.{view, HasReadLen, Gives}
+use Rattle.mq_packet.specs.Decoding.{decoded}
+use Rattle.mq_packet.specs.Sizes.{remaining_length, size_with}
+use Rattle.mq_packet.proofs.SizeLaws.{will_length, connect_length, connack_length, publish_length, request_length, answer_length}
+use Rattle.mq_packet.proofs.ValueLaws.{not_objected}
+use Rattle.mq_packet.proofs.Readings.{packet_given}
+
+-- A body of this packet that has n bytes has as many as the one that is written of it, where the packet doesn't keep how many
+-- it had.
+abbrev HasLength : ℕ → Entry → Type 0
+HasLength n (connect fields) = n ≡ length (connect_body fields)
+HasLength n (connack session_present code list) = n ≡ length (connack_body session_present code list.items)
+HasLength n (publish fields) = n ≡ length (publish_body fields)
+HasLength n (acknowledgement kind identifier code list) = Unit {0}
+HasLength n (request kind identifier list filters) = n ≡ length (request_body identifier list.items filters)
+HasLength n (answer kind identifier list reasons) = n ≡ length (answer_body identifier list.items reasons)
+HasLength n pingreq = n ≡ 0
+HasLength n pingresp = n ≡ 0
+HasLength n (disconnect code list) = Unit {0}
+HasLength n (auth code list) = Unit {0}
+
+-- Behind n bytes of a body, the fields of the format make it that long, whatever their values are.
+abbrev Measures : Format → ℕ → Type 0
+Measures (done packet) n = HasLength n packet
+Measures (rest packet) n = (bytes : List ℕ) → HasLength (n + length bytes) (packet bytes)
+Measures (refused rule) n = Unit {0}
+Measures (missing rule) n = Unit {0}
+Measures (field kind objection next) n = (value : Value kind) → objection value ≡ None → Measures (next value) (n + length (spelling kind value))
+Measures (at_end whole more) n = Measures whole n × Measures more n
+
+-- The same behind as many bytes.
+measured_at : (format : Format) (m n : ℕ) → m ≡ n → Measures format m → Measures format n
+measured_at format m n e h = subst (λ (k : ℕ). Measures format k) e h
+
+length_at : (entry : Entry) (m n : ℕ) → m ≡ n → HasLength m entry → HasLength n entry
+length_at entry m n e h = subst (λ (k : ℕ). HasLength k entry) e h
+
+-- What is spelled by such a format has that length.
+measured : (format : Format) (n : ℕ) (bytes : List ℕ) (entry : Entry) → Measures format n → Spells format bytes entry → HasLength (n + length bytes) entry
+measured (done packet) n bytes entry h spelled =
+    length_at entry n (n + length bytes) (omega (arith, ap (length {A = ℕ}) spelled.0)) (subst (λ (p : Entry). HasLength n p) spelled.1 h)
+measured (rest packet) n bytes entry h spelled = subst (λ (p : Entry). HasLength (n + length bytes) p) spelled (h bytes)
+measured (refused rule) n bytes entry h spelled = absurd spelled
+measured (missing rule) n bytes entry h spelled = absurd spelled
+measured (field kind objection next) n bytes entry h spelled =
+    (let whole : length bytes ≡ length (spelling kind spelled.0) + length spelled.1 = ap (length {A = ℕ}) spelled.2.spelled ∙ length-append (spelling kind spelled.0) spelled.1 in
+    length_at entry (n + length (spelling kind spelled.0) + length spelled.1) (n + length bytes) (omega (arith, whole))
+    (measured (next spelled.0) (n + length (spelling kind spelled.0)) spelled.1 entry (h spelled.0 spelled.3) spelled.4))
+measured (at_end whole more) n [] entry h spelled = measured whole n [] entry h.0 spelled
+measured (at_end whole more) n (b ∷ bytes) entry h spelled = measured more n (b ∷ bytes) entry h.1 spelled
+
+-- ---- fields that may be missing
+
+field_if_measured : (flag : Bool) (kind : Kind) (next : Option (Value kind) → Format) (n : ℕ) → ((value : Option (Value kind)) → Measures (next value) (n + length (spelling_if (spelling kind) value)))
+    → Measures (field_if flag kind next) n
+field_if_measured false kind next n h = measured_at (next None) (n + 0) n (omega arith) (h None)
+field_if_measured true kind next n h = λ value _. h (Some value)
+
+will_if_measured : (flag : Bool) (flags : ℕ) (next : Option WillFields → Format) (n : ℕ) → ((will : Option WillFields) → Measures (next will) (n + length (spelling_if will_spelling will)))
+    → Measures (will_if flag flags next) n
+will_if_measured false flags next n h = measured_at (next None) (n + 0) n (omega arith) (h None)
+will_if_measured true flags next n h = λ list _ topic _ payload _.
+    (let will : WillFields = record { qos = qos_of 8 (bit_and flags 24); retain = has_bits 32 flags; properties = listed places.Will list; topic = topic; payload = payload } in
+    measured_at (next (Some will)) (n + length (will_spelling will)) (n + length (list_spelling list) + length (text_spelling topic) + length (binary_spelling payload)) (omega (arith, will_length will)) (h (Some will)))
+
+options_if_measured : (asks : Bool) (next : Option ℕ → Format) (n : ℕ) → ((options : Option ℕ) → Measures (next options) (n + length (options_spelling options))) → Measures (options_if asks next) n
+options_if_measured false next n h = measured_at (next None) (n + 0) n (omega arith) (h None)
+options_if_measured true next n h = λ options _. h (Some options)
+
+-- ---- CONNECT, CONNACK and PUBLISH
+
+connect_measured : Measures connect_format 0
+connect_measured = λ name is_name version _ flags _ keep_alive _ list _ client _.
+    (let four : length name ≡ 4 = ap (length {A = ℕ}) ((bytes_eq-Decides name (codes "MQTT")).0 (not_objected (bytes_eq name (codes "MQTT")) rules.W18 is_name)) in
+    will_if_measured (has_bits 4 flags) flags _ _ (λ will.
+    field_if_measured (has_bits 128 flags) text _ _ (λ user_name.
+    field_if_measured (has_bits 64 flags) binary _ _ (λ password.
+    (let fields : ConnectFields = record { clean_start = has_bits 2 flags; keep_alive = keep_alive; properties = listed places.Connect list; client_identifier = client; will = will; user_name = user_name; password = password } in
+    let whole : sum (10 ∷ length (list_spelling list) ∷ length (text_spelling client) ∷ length (spelling_if will_spelling will) ∷ 0 ∷ 0 ∷ length (spelling_if text_spelling user_name) ∷ length (spelling_if binary_spelling password) ∷ []) ≡ length (connect_body fields) =
+    connect_length fields (length (list_spelling list)) (length (text_spelling client)) (length (spelling_if will_spelling will)) 0 0 (length (spelling_if text_spelling user_name)) (length (spelling_if binary_spelling password)) refl refl (omega arith) refl refl in
+    omega (arith, four, whole))))))
+
+connack_measured : Measures connack_format 0
+connack_measured = λ flags _ code _ list _. connack_length (flags == 1) code list (length (list_spelling list)) refl
+
+publish_from_measured : (duplicate : Bool) (qos : Qos) (retain : Bool) (topic : List ℕ) (identifier : Option ℕ) (n : ℕ) → n ≡ length (text_spelling topic) + length (spelling_if two_bytes_spelling identifier)
+    → Measures (publish_from duplicate qos retain topic identifier) n
+publish_from_measured duplicate qos retain topic identifier n is = λ list _ payload.
+    (let fields : PublishFields = record { duplicate = duplicate; qos = qos; retain = retain; topic = topic; identifier = identifier; properties = listed places.Publish list; payload = payload } in
+    let whole : sum (length (text_spelling topic) ∷ length (spelling_if two_bytes_spelling identifier) ∷ length (list_spelling list) ∷ length payload ∷ []) ≡ length (publish_body fields) =
+    publish_length fields (length (text_spelling topic)) (length (spelling_if two_bytes_spelling identifier)) (length (list_spelling list)) (length payload) refl refl refl refl in
+    omega (arith, is, whole))
+
+unacknowledged_measured : (retain : Bool) → Measures (publish_unacknowledged retain) 0
+unacknowledged_measured retain = λ topic _. publish_from_measured false AtMostOnce retain topic None _ (omega arith)
+
+acknowledged_measured : (duplicate : Bool) (qos : Qos) (retain : Bool) → Measures (publish_acknowledged duplicate qos retain) 0
+acknowledged_measured duplicate qos retain = λ topic _ identifier _. publish_from_measured duplicate qos retain topic (Some identifier) _ (omega arith)
+
+-- One choice by the first byte.
+or_next : (b : Bool) (one two : Format) → Measures one 0 → Measures two 0 → Measures (if b then one else two) 0
+or_next true one two h k = h
+or_next false one two h k = k
+
+publish_measured : (first : ℕ) → Measures (publish_format first) 0
+publish_measured first =
+    or_next (bit_and first 6 == 0) _ _ (or_next (has_bits 8 first) (refused rules.W08) (publish_unacknowledged (has_bits 1 first)) tt (unacknowledged_measured (has_bits 1 first))) (
+    or_next (bit_and first 6 == 2) _ _ (acknowledged_measured (has_bits 8 first) AtLeastOnce (has_bits 1 first)) (
+    or_next (bit_and first 6 == 4) (publish_acknowledged (has_bits 8 first) ExactlyOnce (has_bits 1 first)) (refused rules.W07) (acknowledged_measured (has_bits 8 first) ExactlyOnce (has_bits 1 first)) tt))
+
+-- ---- SUBSCRIBE, UNSUBSCRIBE and their answers
+
+-- One more filter.
+grown : (found : List AskedFilter) (asked : AskedFilter) → length (filters_spelling (found ++ asked ∷ [])) ≡ length (filters_spelling found) + length (text_spelling asked.filter) + length (options_spelling asked.options)
+grown found asked =
+    (let all : length (filters_spelling (found ++ asked ∷ [])) ≡ length (filters_spelling found) + length (filters_spelling (asked ∷ [])) =
+    ap (length {A = ℕ}) (flat_map-append asked_spelling found (asked ∷ [])) ∙ length-append (filters_spelling found) (filters_spelling (asked ∷ [])) in
+    let last : length (filters_spelling (asked ∷ [])) ≡ length (asked_spelling asked) + length (filters_spelling []) = length-append (asked_spelling asked) (filters_spelling []) in
+    let parts : length (asked_spelling asked) ≡ length (text_spelling asked.filter) + length (options_spelling asked.options) = length-append (text_spelling asked.filter) (options_spelling asked.options) in
+    omega (arith, all, last, parts))
+
+filters_measured : (asks : Bool) (packet : List AskedFilter → Entry) (before : ℕ) → ((filters : List AskedFilter) → HasLength (before + length (filters_spelling filters)) (packet filters))
+    → (n : ℕ) (found : List AskedFilter) → Measures (filters_format n asks packet found) (before + length (filters_spelling found))
+filters_measured asks packet before good zero found = good found
+filters_measured asks packet before good (suc n) found = (
+  elim (length found == 0) as (λ t. Measures (if t then missing rules.W16 else done (packet found)) (before + length (filters_spelling found))) [ true ↦ tt | false ↦ good found ],
+  λ filter _. options_if_measured asks _ _ (λ options.
+      (let asked : AskedFilter = record { filter = filter; options = options } in
+      measured_at (filters_format n asks packet (found ++ asked ∷ [])) (before + length (filters_spelling (found ++ asked ∷ []))) (before + length (filters_spelling found) + length (text_spelling filter) + length (options_spelling options)) (omega (arith, grown found asked))
+      (filters_measured asks packet before good n (found ++ asked ∷ [])))),
+)
+
+request_measured : (size : ℕ) (kind : RequestKind) → Measures (request_format size kind) 0
+request_measured size kind = λ identifier _ list _.
+    measured_at (filters_format size (has_options kind) (request kind identifier (listed (request_place kind) list)) []) (2 + length (list_spelling list) + 0) _ (omega arith)
+    (filters_measured (has_options kind) (request kind identifier (listed (request_place kind) list)) (2 + length (list_spelling list))
+    (λ filters. (let whole : sum (2 ∷ length (list_spelling list) ∷ length (filters_spelling filters) ∷ []) ≡ length (request_body identifier list filters) = request_length identifier list filters (length (list_spelling list)) (length (filters_spelling filters)) refl refl in
+    omega (arith, whole))) size [])
+
+codes_measured : (table : List ℕ) (packet : List ℕ → Entry) (before : ℕ) → ((reasons : List ℕ) → HasLength (before + length reasons) (packet reasons))
+    → (n : ℕ) (found : List ℕ) → Measures (codes_format n table packet found) (before + length found)
+codes_measured table packet before good zero found = good found
+codes_measured table packet before good (suc n) found = (
+  good found,
+  λ code _. measured_at (codes_format n table packet (found ++ code ∷ [])) (before + length (found ++ code ∷ [])) (before + length found + 1) (omega (arith, length-append found (code ∷ [])))
+      (codes_measured table packet before good n (found ++ code ∷ [])),
+)
+
+answer_measured : (size : ℕ) (kind : RequestKind) → Measures (answer_format size kind) 0
+answer_measured size kind = λ identifier _ list _.
+    measured_at (codes_format size (answer_codes kind) (answer kind identifier (listed (answer_place kind) list)) []) (2 + length (list_spelling list) + 0) _ (omega arith)
+    (codes_measured (answer_codes kind) (answer kind identifier (listed (answer_place kind) list)) (2 + length (list_spelling list))
+    (λ reasons. (let whole : sum (2 ∷ length (list_spelling list) ∷ length reasons ∷ []) ≡ length (answer_body identifier list reasons) = answer_length identifier list reasons (length (list_spelling list)) (length reasons) refl refl in
+    omega (arith, whole))) size [])
+
+-- ---- packets that keep the length of their body
+
+acknowledgement_measured : (kind : AcknowledgementKind) → Measures (acknowledgement_format kind) 0
+acknowledgement_measured kind = λ identifier _. (tt, λ code _. (tt, λ list _. tt))
+
+ending_measured : (kind : EndingKind) → Measures (ending_format kind) 0
+ending_measured endings.Disconnect = (tt, λ code _. (tt, λ list _. tt))
+ending_measured endings.Auth = (tt, λ code _. (tt, λ list _. tt))
+
+-- ---- any first byte
+
+format_measured : (first size : ℕ) → Measures (format_of first size) 0
+format_measured first size =
+    or_next (nat_lt first 16) (refused rules.W02) _ tt (
+    or_next (first == 16) connect_format _ connect_measured (
+    or_next (first == 32) connack_format _ connack_measured (
+    or_next (nat_lt first 48) (refused rules.W01) _ tt (
+    or_next (nat_lt first 64) (publish_format first) _ (publish_measured first) (
+    or_next (first == 64) (acknowledgement_format acknowledgements.Puback) _ (acknowledgement_measured acknowledgements.Puback) (
+    or_next (first == 80) (acknowledgement_format acknowledgements.Pubrec) _ (acknowledgement_measured acknowledgements.Pubrec) (
+    or_next (first == 98) (acknowledgement_format acknowledgements.Pubrel) _ (acknowledgement_measured acknowledgements.Pubrel) (
+    or_next (first == 112) (acknowledgement_format acknowledgements.Pubcomp) _ (acknowledgement_measured acknowledgements.Pubcomp) (
+    or_next (first == 130) (request_format size requests.Subscribe) _ (request_measured size requests.Subscribe) (
+    or_next (first == 144) (answer_format size requests.Subscribe) _ (answer_measured size requests.Subscribe) (
+    or_next (first == 162) (request_format size requests.Unsubscribe) _ (request_measured size requests.Unsubscribe) (
+    or_next (first == 176) (answer_format size requests.Unsubscribe) _ (answer_measured size requests.Unsubscribe) (
+    or_next (first == 192) (done pingreq) _ refl (
+    or_next (first == 208) (done pingresp) _ refl (
+    or_next (first == 224) (ending_format endings.Disconnect) _ (ending_measured endings.Disconnect) (
+    or_next (first == 240) (ending_format endings.Auth) (refused rules.W01) (ending_measured endings.Auth) tt))))))))))))))))
+
+-- A body that spells a packet has the length that the packet tells.
+spelled_length : (first : ℕ) (body : List ℕ) (entry : Entry) → IsSpelled first body entry → HasLength (length body) entry
+spelled_length first body entry spelled =
+    length_at entry (0 + length body) (length body) (omega arith) (measured (format_of first (length body)) 0 body entry (format_measured first (length body)) spelled)
+
+-- A packet that keeps the length of its body.
+kept : (o : Option ℕ) (n other : ℕ) → o ≡ Some n → unwrap_or o other ≡ n
+kept o n other e = ap (λ (x : Option ℕ). unwrap_or x other) e
+
+remaining_read : (packet : Packet) (first : ℕ) (body : List ℕ) → IsSpelled first body (view packet) → HasReadLen (length body) packet → remaining_length packet ≡ length body
+remaining_read (packets.Connect p) first body spelled is = sym (spelled_length first body (view (packets.Connect p)) spelled)
+remaining_read (packets.Connack p) first body spelled is = sym (spelled_length first body (view (packets.Connack p)) spelled)
+remaining_read (packets.Publish p) first body spelled is = sym (spelled_length first body (view (packets.Publish p)) spelled)
+remaining_read (packets.Puback p) first body spelled is = kept p.read_len (length body) _ is
+remaining_read (packets.Pubrec p) first body spelled is = kept p.read_len (length body) _ is
+remaining_read (packets.Pubrel p) first body spelled is = kept p.read_len (length body) _ is
+remaining_read (packets.Pubcomp p) first body spelled is = kept p.read_len (length body) _ is
+remaining_read (packets.Subscribe p) first body spelled is = sym (spelled_length first body (view (packets.Subscribe p)) spelled)
+remaining_read (packets.Suback p) first body spelled is = sym (spelled_length first body (view (packets.Suback p)) spelled)
+remaining_read (packets.Unsubscribe p) first body spelled is = sym (spelled_length first body (view (packets.Unsubscribe p)) spelled)
+remaining_read (packets.Unsuback p) first body spelled is = sym (spelled_length first body (view (packets.Unsuback p)) spelled)
+remaining_read packets.Pingreq first body spelled is = sym (spelled_length first body pingreq spelled)
+remaining_read packets.Pingresp first body spelled is = sym (spelled_length first body pingresp spelled)
+remaining_read (packets.Disconnect p) first body spelled is = kept p.read_len (length body) _ is
+remaining_read (packets.Auth p) first body spelled is = kept p.read_len (length body) _ is
+
+-- A call that gives what is decoded, with the length of the body where a packet keeps it, answers a packet whose Remaining
+-- Length is the body's.
+pub remaining_given : (result : Result Packet DecodeFault) (first : ℕ) (body : List ℕ) → AreBytes body → Gives view result (decoded first body) → IfOk result (λ packet. HasReadLen (length body) packet)
+    → IfOk result (λ packet. remaining_length packet ≡ length body)
+remaining_given (Ok packet) first body known given is = remaining_read packet first body (packet_given (Ok packet) first body known given) is
+remaining_given (Err fault) first body known given is = tt
+
+-- The parts of a fixed header.
+abbrev header_in : FixedHeader → ℕ
+header_in (Whole header size) = header
+header_in _ = 0
+
+abbrev size_in : FixedHeader → ℕ
+size_in (Whole header size) = size
+size_in _ = 0
+
+-- A packet with the Remaining Length of a frame's body has the frame's size.
+pub size_of_frame : (frame : List ℕ) (header size : ℕ) (packet : Packet) → AreBytes frame → fixed_header_of frame ≡ Whole header size → length frame ≡ size
+    → remaining_length packet ≡ length (drop header frame) → size_with (remaining_length packet) ≡ Some (length frame)
+unfolding fixed_header_of
+size_of_frame [] header size packet known e exact is = cc
+size_of_frame (b ∷ behind) header size packet known e exact is = told (varint_at behind) refl e
+  where
+    told : (read : Result (ℕ × ℕ) Reason) → varint_at behind ≡ read → header_with read ≡ Whole header size → size_with (remaining_length packet) ≡ Some (length (b ∷ behind))
+    told (Ok x) found h =
+        (let stands : Stands IsVarint varint_spelling behind x.0 x.1 = varint_exact.only behind x.0 x.1 (λ i. known (suc i)) found in
+        let header_is : 1 + x.1 ≡ header = ap header_in h in
+        let size_is : 1 + x.1 + x.0 ≡ size = ap size_in h in
+        let remaining : remaining_length packet ≡ x.0 = is ∙ omega (arith, length-drop header (b ∷ behind), header_is, size_is, exact) in
+        let whole : 1 + length (varint_spelling x.0) + x.0 ≡ length (b ∷ behind) = omega (arith, stands.taken, size_is, exact) in
+        ap size_with remaining
+        ∙ ap (λ (t : Bool). if t then Some (1 + length (varint_spelling x.0) + x.0) else None) (le-leb x.0 268435455 stands.value)
+        ∙ ap (λ (k : ℕ). Some k) whole)
+    told (Err reasons.Short) found h = cc
+    told (Err reasons.Overlong) found h = cc
+    told (Err reasons.NotUtf8) found h = cc
+    told (Err reasons.Nul) found h = cc
