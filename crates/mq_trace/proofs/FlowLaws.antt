@@ -1,15 +1,20 @@
 -- What several bytes of one direction do, within the body of a record: byte by byte, and a whole packet at a time.
-use Rattle.std.proofs.Common.{◌≡◌, ℕ, ◌+◌, ◌<◌, ◌≤◌, Bool, true, false, cond, ◌&&◌, ◌⊎◌, inl, inr, List, [], ◌∷◌, ◌++◌, length, Option, Some, None, refl, sym, ◌∙◌, ap, arith, append_assoc, length-append}
+use Rattle.std.proofs.Common.{◌≡◌, ℕ, ◌+◌, ◌<◌, ◌≤◌, Bool, true, false, cond, ◌&&◌, ◌⊎◌, inl, inr, List, [], ◌∷◌, ◌++◌, length, Option, Some, None, refl, sym, ◌∙◌, ap, subst, arith, append_assoc, length-append}
+use Rattle.std.specs.Prelude.{◌==◌, is_some, nat_lt, nat_le, option_map, slice_index}
 use Rattle.std.proofs.lemmas.List.{append-nil}
-use Rattle.std.specs.Prelude.{is_some, nat_lt, nat_le, option_map}
+use Rattle.std.proofs.lemmas.Bool.{le-ltb, lt-ltb, ne_eqb, eq-eqb}
+use Rattle.mq_packet.specs.declared.header.FixedHeader.{FixedHeader}
+use Rattle.mq_packet.specs.declared.header.FixedHeader.TheVariants as headers
+use Rattle.mq_packet.specs.Stream.{fixed_header_of, frame_size, is_lost}
+use Rattle.mq_packet.proofs.StreamLaws.{whole_stays, lost_stays, short_before, lost_header, header_lost, lost_no_frame, short_no_frame, no_frame_yet}
 use Rattle.mq_trace.specs.declared.kind.Way.{Way}
 use Rattle.mq_trace.specs.declared.kind.Way.TheVariants as ways
 use Rattle.mq_trace.specs.declared.refusal.Refusal.{Refusal}
 use Rattle.mq_trace.specs.declared.refusal.Refusal.TheVariants as refusals
-use Rattle.mq_trace.specs.Events.{Item, Event, Placed}
-use Rattle.mq_trace.specs.Refusals.{or_else}
-use Rattle.mq_trace.specs.Context.{Half, put}
-use Rattle.mq_trace.specs.Flows.{Bed, Flow, flow_placed, flow_refusal, flow_after, flow_behind, flow_refused, flow_heard}
+use Rattle.mq_trace.specs.Events.{lost, Item, Event, Placed, item_at, item_read, read_frame}
+use Rattle.mq_trace.specs.Refusals.{or_else, first_standing, is_too_large, is_other_version}
+use Rattle.mq_trace.specs.Context.{Half, so_far_in, half_after, put}
+use Rattle.mq_trace.specs.Flows.{Bed, Flow, going, comes_early, flow_event, flow_refusal, flow_placed, flow_placed_with, flow_with, flow_after, flow_behind, flow_refused, flow_heard}
 
 -- What bytes leave behind them, refuse and complete is told by any two parts of them.
 pub behind-append : (bed : Bed) (f : Flow) (a b : List ℕ) → flow_behind bed f (a ++ b) ≡ flow_behind bed (flow_behind bed f a) b
@@ -31,3 +36,272 @@ heard-append bed f [] b = sym (append-nil (flow_heard bed f b))
 heard-append bed f (byte ∷ a) b =
     ap (λ heard. heard ++ put (flow_placed bed f byte) []) (heard-append bed (flow_after bed f byte) a b)
     ∙ append_assoc (flow_heard bed (flow_behind bed (flow_after bed f byte) a) b) (flow_heard bed (flow_after bed f byte) a) (put (flow_placed bed f byte) [])
+
+-- the refusal of a byte, from its packet so far and its event
+abbrev refusal_with : ℕ → Flow → List ℕ → Option Event → Option Refusal
+refusal_with limit f so_far event = first_standing (
+    (is_too_large limit so_far (fixed_header_of so_far), refusals.TooLarge f.at)
+    ∷ (is_some (frame_size so_far) && is_other_version (read_frame so_far), refusals.OtherVersion f.at)
+    ∷ (comes_early f event, refusals.Early f.at)
+    ∷ (is_some event && nat_le 4294967295 f.events, refusals.TooLong f.at)
+    ∷ [])
+
+event_is : (bed : Bed) (f : Flow) (byte : ℕ) (so_far : List ℕ) (item : Option Item) → so_far_in f.half byte ≡ so_far → item_at so_far ≡ item → flow_event bed f byte ≡ option_map (going bed.way) item
+unfolding flow_event
+event_is bed f byte so_far item e i = ap (λ t. option_map (going bed.way) (item_at t)) e ∙ ap (option_map (going bed.way)) i
+
+refusal_is : (limit : ℕ) (bed : Bed) (f : Flow) (byte : ℕ) (so_far : List ℕ) (event : Option Event) → so_far_in f.half byte ≡ so_far → flow_event bed f byte ≡ event
+    → flow_refusal limit bed f byte ≡ refusal_with limit f so_far event
+unfolding flow_refusal
+refusal_is limit bed f byte so_far event e i = ap (λ t. refusal_with limit f t (flow_event bed f byte)) e ∙ ap (refusal_with limit f so_far) i
+
+after_is : (bed : Bed) (f : Flow) (byte : ℕ) (half : Half) (event : Option Event) → half_after f.half byte ≡ half → flow_event bed f byte ≡ event
+    → flow_after bed f byte ≡ flow_with bed (record f { at = f.at + 1; half = half }) event
+unfolding flow_after
+after_is bed f byte half event h i =
+    ap (λ x. flow_with bed (record f { at = f.at + 1; half = x }) (flow_event bed f byte)) h ∙ ap (flow_with bed (record f { at = f.at + 1; half = half })) i
+
+placed_is : (bed : Bed) (f : Flow) (byte : ℕ) (event : Option Event) → flow_event bed f byte ≡ event → flow_placed bed f byte ≡ flow_placed_with bed f event
+unfolding flow_placed
+placed_is bed f byte event i = ap (flow_placed_with bed f) i
+
+-- What bytes do that complete nothing and aren't refused.
+record IsQuiet (limit : ℕ) (bed : Bed) (f : Flow) (bytes : List ℕ) (half : Half) : Type 0 where
+  refused : flow_refused limit bed f bytes ≡ None
+  heard : flow_heard bed f bytes ≡ []
+  behind : flow_behind bed f bytes ≡ record f { at = f.at + length bytes; half = half }
+
+-- the same of one byte
+record IsQuietByte (limit : ℕ) (bed : Bed) (f : Flow) (byte : ℕ) (half : Half) : Type 0 where
+  refused : flow_refusal limit bed f byte ≡ None
+  placed : flow_placed bed f byte ≡ None
+  behind : flow_after bed f byte ≡ record f { at = f.at + 1; half = half }
+
+quiet_none : (limit : ℕ) (bed : Bed) (f : Flow) (half : Half) → f.half ≡ half → IsQuiet limit bed f [] half
+quiet_none limit bed f half e = record { refused = refl; heard = refl; behind = ap (λ x. record f { half = x }) e ∙ ap (λ n. record f { at = n; half = half }) (let same : f.at ≡ f.at + length {A = ℕ} [] = omega arith in same) }
+
+quiet_more : (limit : ℕ) (bed : Bed) (f : Flow) (byte : ℕ) (bytes : List ℕ) (between half : Half)
+    → IsQuietByte limit bed f byte between → IsQuiet limit bed (record f { at = f.at + 1; half = between }) bytes half → IsQuiet limit bed f (byte ∷ bytes) half
+quiet_more limit bed f byte bytes between half one more =
+    let g : Flow = record f { at = f.at + 1; half = between } in
+    let counted : f.at + 1 + length bytes ≡ f.at + length (byte ∷ bytes) = omega arith in
+    record {
+      refused = ap (λ o. or_else o (flow_refused limit bed (flow_after bed f byte) bytes)) one.refused ∙ ap (λ g. flow_refused limit bed g bytes) one.behind ∙ more.refused;
+      heard = ap (λ g. flow_heard bed g bytes ++ put (flow_placed bed f byte) []) one.behind
+          ∙ ap (λ placed. flow_heard bed (record f { at = f.at + 1; half = between }) bytes ++ put placed []) one.placed
+          ∙ append-nil (flow_heard bed (record f { at = f.at + 1; half = between }) bytes) ∙ more.heard;
+      behind = ap (λ g. flow_behind bed g bytes) one.behind ∙ more.behind ∙ ap (λ n. record f { at = n; half = half }) counted;
+    }
+
+nothing_item : item_at [] ≡ None
+unfolding item_at is_lost frame_size fixed_header_of
+nothing_item = refl
+
+nothing_refused : (limit : ℕ) (f : Flow) → refusal_with limit f [] None ≡ None
+unfolding fixed_header_of frame_size
+nothing_refused limit f = refl
+
+lost_after : (half : Half) (byte : ℕ) → half.lost ≡ true → half_after half byte ≡ half
+unfolding half_after
+lost_after half byte e = ap (λ lost. cond lost half (cond (is_lost (half.unfinished ++ byte ∷ [])) (record { unfinished = []; lost = true })
+    (cond (is_some (frame_size (half.unfinished ++ byte ∷ []))) (record { unfinished = []; lost = false }) (record { unfinished = half.unfinished ++ byte ∷ []; lost = false })))) e
+
+lost_byte : (limit : ℕ) (bed : Bed) (f : Flow) (byte : ℕ) → f.half.lost ≡ true → IsQuietByte limit bed f byte f.half
+lost_byte limit bed f byte e =
+    let nothing : so_far_in f.half byte ≡ [] = ap (λ lost. cond lost [] (f.half.unfinished ++ byte ∷ [])) e in
+    let none : flow_event bed f byte ≡ None = event_is bed f byte [] None nothing nothing_item in
+    record {
+      refused = refusal_is limit bed f byte [] None nothing none ∙ nothing_refused limit f;
+      placed = placed_is bed f byte None none;
+      behind = after_is bed f byte f.half None (lost_after f.half byte e) none;
+    }
+
+lost_quiet : (limit : ℕ) (bed : Bed) (f : Flow) (bytes : List ℕ) → f.half.lost ≡ true → IsQuiet limit bed f bytes f.half
+lost_quiet limit bed f [] e = quiet_none limit bed f f.half refl
+lost_quiet limit bed f (byte ∷ bytes) e = quiet_more limit bed f byte bytes f.half f.half (lost_byte limit bed f byte e) (lost_quiet limit bed (record f { at = f.at + 1 }) bytes e)
+
+-- Bytes of a direction that is lost do nothing.
+pub lost-refused : (limit : ℕ) (bed : Bed) (f : Flow) (bytes : List ℕ) → f.half.lost ≡ true → flow_refused limit bed f bytes ≡ None
+lost-refused limit bed f bytes e = (lost_quiet limit bed f bytes e).refused
+
+pub lost-heard : (bed : Bed) (f : Flow) (bytes : List ℕ) → f.half.lost ≡ true → flow_heard bed f bytes ≡ []
+lost-heard bed f bytes e = (lost_quiet 0 bed f bytes e).heard
+
+pub lost-behind : (bed : Bed) (f : Flow) (bytes : List ℕ) → f.half.lost ≡ true → flow_behind bed f bytes ≡ record f { at = f.at + length bytes }
+lost-behind bed f bytes e = (lost_quiet 0 bed f bytes e).behind
+
+-- a direction that isn't lost, with these bytes of an unfinished packet
+abbrev going_on : List ℕ → Half
+going_on unfinished = record { unfinished = unfinished; lost = false }
+
+-- what the bytes so far of a packet complete, and what they leave of their direction, by what stands at their front
+item_by : (so_far : List ℕ) (l : Bool) (size : Option ℕ) → is_lost so_far ≡ l → frame_size so_far ≡ size
+    → item_at so_far ≡ cond l (Some lost) (cond (is_some size) (item_read (length so_far) (slice_index so_far 0) (read_frame so_far)) None)
+unfolding item_at
+item_by so_far l size e s =
+    ap (λ b. cond b (Some lost) (cond (is_some (frame_size so_far)) (item_read (length so_far) (slice_index so_far 0) (read_frame so_far)) None)) e
+    ∙ ap (λ o. cond l (Some lost) (cond (is_some o) (item_read (length so_far) (slice_index so_far 0) (read_frame so_far)) None)) s
+
+half_by_front : (u : List ℕ) (byte : ℕ) (l : Bool) (size : Option ℕ) → is_lost (u ++ byte ∷ []) ≡ l → frame_size (u ++ byte ∷ []) ≡ size
+    → half_after (going_on u) byte ≡ cond l (record { unfinished = []; lost = true }) (cond (is_some size) (going_on []) (going_on (u ++ byte ∷ [])))
+unfolding half_after
+half_by_front u byte l size e s =
+    ap (λ b. cond {A = Half} b (record { unfinished = []; lost = true }) (cond (is_some (frame_size (u ++ byte ∷ []))) (going_on []) (going_on (u ++ byte ∷ [])))) e
+    ∙ ap (λ o. cond {A = Half} l (record { unfinished = []; lost = true }) (cond (is_some o) (going_on []) (going_on (u ++ byte ∷ [])))) s
+
+open_refused : (limit : ℕ) (f : Flow) (so_far : List ℕ) → frame_size so_far ≡ None → is_too_large limit so_far (fixed_header_of so_far) ≡ false → refusal_with limit f so_far None ≡ None
+open_refused limit f so_far s large = rw (s, large) refl
+
+open_byte : (limit : ℕ) (bed : Bed) (f : Flow) (u : List ℕ) (byte : ℕ) → f.half ≡ going_on u
+    → is_lost (u ++ byte ∷ []) ≡ false → frame_size (u ++ byte ∷ []) ≡ None → is_too_large limit (u ++ byte ∷ []) (fixed_header_of (u ++ byte ∷ [])) ≡ false
+    → IsQuietByte limit bed f byte (going_on (u ++ byte ∷ []))
+open_byte limit bed f u byte e l s large =
+    let so_far : so_far_in f.half byte ≡ u ++ byte ∷ [] = ap (λ half. so_far_in half byte) e in
+    let none : flow_event bed f byte ≡ None = event_is bed f byte (u ++ byte ∷ []) None so_far (item_by (u ++ byte ∷ []) false None l s) in
+    record {
+      refused = refusal_is limit bed f byte (u ++ byte ∷ []) None so_far none ∙ open_refused limit f (u ++ byte ∷ []) s large;
+      placed = placed_is bed f byte None none;
+      behind = after_is bed f byte (going_on (u ++ byte ∷ [])) None (ap (λ half. half_after half byte) e ∙ half_by_front u byte false None l s) none;
+    }
+
+not_lost : (a : List ℕ) (header : FixedHeader) → fixed_header_of a ≡ header → (header ≡ headers.Lost → ⊥) → is_lost a ≡ false
+not_lost a header e other =
+    elim (is_lost a) as (λ l. is_lost a ≡ l → l ≡ false) [
+      | true ↦ λ l. absurd (other (sym e ∙ lost_header a l))
+      | false ↦ λ l. refl
+    ] refl
+
+short_byte : (limit : ℕ) (bed : Bed) (f : Flow) (u : List ℕ) (byte : ℕ) → f.half ≡ going_on u → fixed_header_of (u ++ byte ∷ []) ≡ headers.Short
+    → IsQuietByte limit bed f byte (going_on (u ++ byte ∷ []))
+short_byte limit bed f u byte e short =
+    open_byte limit bed f u byte e (not_lost (u ++ byte ∷ []) headers.Short short (λ same. (cc))) (short_no_frame (u ++ byte ∷ []) short) (ap (is_too_large limit (u ++ byte ∷ [])) short)
+
+-- The header ended before these bytes, or the size is within the limit.
+small : (limit : ℕ) (u : List ℕ) (byte header size : ℕ) → (size ≤ limit) ⊎ (header ≤ length u) → is_too_large limit (u ++ byte ∷ []) (headers.Whole header size) ≡ false
+small limit u byte header size (inl within) = rw (le-ltb limit size within) (and_false (header == length (u ++ byte ∷ [])))
+  where
+    and_false : (b : Bool) → (b && false) ≡ false
+    and_false true = refl
+    and_false false = refl
+small limit u byte header size (inr before) =
+    let more : length (u ++ byte ∷ []) ≡ length u + 1 = length-append u (byte ∷ []) in
+    rw (ne_eqb header (length (u ++ byte ∷ [])) (λ same. (omega arith))) refl
+
+header_byte : (limit : ℕ) (bed : Bed) (f : Flow) (u : List ℕ) (byte header size : ℕ) → f.half ≡ going_on u → fixed_header_of (u ++ byte ∷ []) ≡ headers.Whole header size
+    → length (u ++ byte ∷ []) < size → (size ≤ limit) ⊎ (header ≤ length u) → IsQuietByte limit bed f byte (going_on (u ++ byte ∷ []))
+header_byte limit bed f u byte header size e whole less may =
+    open_byte limit bed f u byte e
+    (not_lost (u ++ byte ∷ []) (headers.Whole header size) whole (λ same. (cc)))
+    (no_frame_yet (u ++ byte ∷ []) header size whole less)
+    (ap (is_too_large limit (u ++ byte ∷ [])) whole ∙ small limit u byte header size may)
+
+-- a byte of a packet whose header may be whole, where more bytes are behind it
+unfinished_byte : (limit : ℕ) (bed : Bed) (f : Flow) (u : List ℕ) (byte : ℕ) (more : List ℕ) (header size : ℕ) → f.half ≡ going_on u
+    → fixed_header_of ((u ++ byte ∷ []) ++ more) ≡ headers.Whole header size → length ((u ++ byte ∷ []) ++ more) < size → (size ≤ limit) ⊎ (header ≤ length u)
+    → IsQuietByte limit bed f byte (going_on (u ++ byte ∷ []))
+unfinished_byte limit bed f u byte more header size e whole less may = told (fixed_header_of (u ++ byte ∷ [])) refl
+  where
+    told : (front : FixedHeader) → fixed_header_of (u ++ byte ∷ []) ≡ front → IsQuietByte limit bed f byte (going_on (u ++ byte ∷ []))
+    told headers.Short short = short_byte limit bed f u byte e short
+    told headers.Lost gone = let stays : fixed_header_of ((u ++ byte ∷ []) ++ more) ≡ headers.Lost = lost_stays (u ++ byte ∷ []) more gone in absurd (cc)
+    told (headers.Whole header' size') known =
+        let stays : fixed_header_of ((u ++ byte ∷ []) ++ more) ≡ headers.Whole header' size' = whole_stays (u ++ byte ∷ []) more header' size' known in
+        let same : headers.Whole header' size' ≡ headers.Whole header size = sym stays ∙ whole in
+        let longer : length ((u ++ byte ∷ []) ++ more) ≡ length (u ++ byte ∷ []) + length more = length-append (u ++ byte ∷ []) more in
+        header_byte limit bed f u byte header size e (known ∙ same) (omega arith) may
+
+at_end : (f : Flow) (u : List ℕ) → f.half ≡ going_on u → f.half ≡ going_on (u ++ [])
+at_end f u e = e ∙ ap going_on (sym (append-nil u))
+
+moved : (limit : ℕ) (bed : Bed) (f : Flow) (u : List ℕ) (byte : ℕ) (bytes : List ℕ) → IsQuiet limit bed f (byte ∷ bytes) (going_on ((u ++ byte ∷ []) ++ bytes)) → IsQuiet limit bed f (byte ∷ bytes) (going_on (u ++ byte ∷ bytes))
+moved limit bed f u byte bytes quiet = subst (λ t. IsQuiet limit bed f (byte ∷ bytes) (going_on t)) (append_assoc u (byte ∷ []) bytes) quiet
+
+weaker : (limit size header : ℕ) (u : List ℕ) (byte : ℕ) → (size ≤ limit) ⊎ (header ≤ length u) → (size ≤ limit) ⊎ (header ≤ length (u ++ byte ∷ []))
+weaker limit size header u byte (inl within) = inl within
+weaker limit size header u byte (inr before) = inr (let more : length (u ++ byte ∷ []) ≡ length u + 1 = length-append u (byte ∷ []) in omega arith)
+
+unfinished_quiet : (limit : ℕ) (bed : Bed) (f : Flow) (u bytes : List ℕ) (header size : ℕ) → f.half ≡ going_on u
+    → fixed_header_of (u ++ bytes) ≡ headers.Whole header size → length (u ++ bytes) < size → (size ≤ limit) ⊎ (header ≤ length u)
+    → IsQuiet limit bed f bytes (going_on (u ++ bytes))
+unfinished_quiet limit bed f u [] header size e whole less may = quiet_none limit bed f (going_on (u ++ [])) (at_end f u e)
+unfinished_quiet limit bed f u (byte ∷ bytes) header size e whole less may =
+    let t : List ℕ = u ++ byte ∷ [] in
+    let joined : (u ++ byte ∷ []) ++ bytes ≡ u ++ byte ∷ bytes = append_assoc u (byte ∷ []) bytes in
+    let whole' : fixed_header_of ((u ++ byte ∷ []) ++ bytes) ≡ headers.Whole header size = ap fixed_header_of joined ∙ whole in
+    let counted : length ((u ++ byte ∷ []) ++ bytes) ≡ length (u ++ byte ∷ bytes) = ap length joined in
+    let less' : length ((u ++ byte ∷ []) ++ bytes) < size = omega arith in
+    moved limit bed f u byte bytes
+    (quiet_more limit bed f byte bytes (going_on (u ++ byte ∷ [])) (going_on ((u ++ byte ∷ []) ++ bytes))
+    (unfinished_byte limit bed f u byte bytes header size e whole' less' may)
+    (unfinished_quiet limit bed (record f { at = f.at + 1; half = going_on (u ++ byte ∷ []) }) (u ++ byte ∷ []) bytes header size refl whole' less' (weaker limit size header u byte may)))
+
+short_quiet : (limit : ℕ) (bed : Bed) (f : Flow) (u bytes : List ℕ) → f.half ≡ going_on u → fixed_header_of (u ++ bytes) ≡ headers.Short → IsQuiet limit bed f bytes (going_on (u ++ bytes))
+short_quiet limit bed f u [] e short = quiet_none limit bed f (going_on (u ++ [])) (at_end f u e)
+short_quiet limit bed f u (byte ∷ bytes) e short =
+    let short' : fixed_header_of ((u ++ byte ∷ []) ++ bytes) ≡ headers.Short = ap fixed_header_of (append_assoc u (byte ∷ []) bytes) ∙ short in
+    moved limit bed f u byte bytes
+    (quiet_more limit bed f byte bytes (going_on (u ++ byte ∷ [])) (going_on ((u ++ byte ∷ []) ++ bytes))
+    (short_byte limit bed f u byte e (short_before (u ++ byte ∷ []) bytes short'))
+    (short_quiet limit bed (record f { at = f.at + 1; half = going_on (u ++ byte ∷ []) }) (u ++ byte ∷ []) bytes refl short'))
+
+-- Bytes of a packet that isn't whole with them do nothing but stay, unless its size, told by one of them, is over the limit.
+pub quiet-refused : (limit : ℕ) (bed : Bed) (f : Flow) (u bytes : List ℕ) (header size : ℕ) → f.half ≡ record { unfinished = u; lost = false }
+    → fixed_header_of (u ++ bytes) ≡ headers.Whole header size → length (u ++ bytes) < size → (size ≤ limit) ⊎ (header ≤ length u)
+    → flow_refused limit bed f bytes ≡ None
+quiet-refused limit bed f u bytes header size e whole less may = (unfinished_quiet limit bed f u bytes header size e whole less may).refused
+
+pub quiet-heard : (bed : Bed) (f : Flow) (u bytes : List ℕ) (header size : ℕ) → f.half ≡ record { unfinished = u; lost = false }
+    → fixed_header_of (u ++ bytes) ≡ headers.Whole header size → length (u ++ bytes) < size
+    → flow_heard bed f bytes ≡ []
+quiet-heard bed f u bytes header size e whole less = (unfinished_quiet size bed f u bytes header size e whole less (inl (omega arith))).heard
+
+pub quiet-behind : (bed : Bed) (f : Flow) (u bytes : List ℕ) (header size : ℕ) → f.half ≡ record { unfinished = u; lost = false }
+    → fixed_header_of (u ++ bytes) ≡ headers.Whole header size → length (u ++ bytes) < size
+    → flow_behind bed f bytes ≡ record f { at = f.at + length bytes; half = record { unfinished = u ++ bytes; lost = false } }
+quiet-behind bed f u bytes header size e whole less = (unfinished_quiet size bed f u bytes header size e whole less (inl (omega arith))).behind
+
+-- The same where they don't tell its size.
+pub short-refused : (limit : ℕ) (bed : Bed) (f : Flow) (u bytes : List ℕ) → f.half ≡ record { unfinished = u; lost = false } → fixed_header_of (u ++ bytes) ≡ headers.Short
+    → flow_refused limit bed f bytes ≡ None
+short-refused limit bed f u bytes e short = (short_quiet limit bed f u bytes e short).refused
+
+pub short-heard : (bed : Bed) (f : Flow) (u bytes : List ℕ) → f.half ≡ record { unfinished = u; lost = false } → fixed_header_of (u ++ bytes) ≡ headers.Short
+    → flow_heard bed f bytes ≡ []
+short-heard bed f u bytes e short = (short_quiet 0 bed f u bytes e short).heard
+
+pub short-behind : (bed : Bed) (f : Flow) (u bytes : List ℕ) → f.half ≡ record { unfinished = u; lost = false } → fixed_header_of (u ++ bytes) ≡ headers.Short
+    → flow_behind bed f bytes ≡ record f { at = f.at + length bytes; half = record { unfinished = u ++ bytes; lost = false } }
+short-behind bed f u bytes e short = (short_quiet 0 bed f u bytes e short).behind
+
+lost_event : (bed : Bed) (f : Flow) (u : List ℕ) (byte : ℕ) → f.half ≡ going_on u → is_lost (u ++ byte ∷ []) ≡ true → flow_event bed f byte ≡ Some (going bed.way lost)
+lost_event bed f u byte e l =
+    event_is bed f byte (u ++ byte ∷ []) (Some lost) (ap (λ half. so_far_in half byte) e) (item_by (u ++ byte ∷ []) true None l (lost_no_frame (u ++ byte ∷ []) l))
+
+lost_in_time : (way : Way) (f : Flow) → comes_early f (Some (going way lost)) ≡ false
+lost_in_time ways.Sent f = refl
+lost_in_time ways.Recv f = refl
+
+-- Where it turns out with a byte that its packet has no size, the direction is lost.
+pub loses-event : (bed : Bed) (f : Flow) (u : List ℕ) (byte : ℕ) → f.half ≡ record { unfinished = u; lost = false } → is_lost (u ++ byte ∷ []) ≡ true
+    → flow_event bed f byte ≡ Some (going bed.way lost)
+loses-event bed f u byte e l = lost_event bed f u byte e l
+
+pub loses-refusal : (limit : ℕ) (bed : Bed) (f : Flow) (u : List ℕ) (byte : ℕ) → f.half ≡ record { unfinished = u; lost = false } → is_lost (u ++ byte ∷ []) ≡ true
+    → flow_refusal limit bed f byte ≡ first_standing ((nat_le 4294967295 f.events, refusals.TooLong f.at) ∷ [])
+loses-refusal limit bed f u byte e l =
+    refusal_is limit bed f byte (u ++ byte ∷ []) (Some (going bed.way lost)) (ap (λ half. so_far_in half byte) e) (lost_event bed f u byte e l)
+    ∙ rw (lost_header (u ++ byte ∷ []) l, lost_no_frame (u ++ byte ∷ []) l, lost_in_time bed.way f) refl
+
+pub loses-after : (bed : Bed) (f : Flow) (u : List ℕ) (byte : ℕ) → f.half ≡ record { unfinished = u; lost = false } → is_lost (u ++ byte ∷ []) ≡ true
+    → flow_after bed f byte ≡ flow_with bed (record f { at = f.at + 1; half = record { unfinished = []; lost = true } }) (Some (going bed.way lost))
+loses-after bed f u byte e l =
+    after_is bed f byte (record { unfinished = []; lost = true }) (Some (going bed.way lost))
+    (ap (λ half. half_after half byte) e ∙ half_by_front u byte true None l (lost_no_frame (u ++ byte ∷ []) l)) (lost_event bed f u byte e l)
+
+-- The byte that tells a size over the limit is refused.
+pub large-refusal : (limit : ℕ) (bed : Bed) (f : Flow) (u : List ℕ) (byte header size : ℕ) → f.half ≡ record { unfinished = u; lost = false }
+    → fixed_header_of (u ++ byte ∷ []) ≡ headers.Whole header size → header ≡ length (u ++ byte ∷ []) → limit < size
+    → flow_refusal limit bed f byte ≡ Some (refusals.TooLarge f.at)
+large-refusal limit bed f u byte header size e whole ends over =
+    refusal_is limit bed f byte (u ++ byte ∷ []) (flow_event bed f byte) (ap (λ half. so_far_in half byte) e) refl
+    ∙ rw (whole, eq-eqb header (length (u ++ byte ∷ [])) ends, lt-ltb limit size over) refl
