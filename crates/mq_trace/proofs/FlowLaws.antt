@@ -6,7 +6,7 @@ use Rattle.std.proofs.lemmas.Bool.{le-ltb, lt-ltb, ne_eqb, eq-eqb}
 use Rattle.mq_packet.specs.declared.header.FixedHeader.{FixedHeader}
 use Rattle.mq_packet.specs.declared.header.FixedHeader.TheVariants as headers
 use Rattle.mq_packet.specs.Stream.{fixed_header_of, frame_size, is_lost}
-use Rattle.mq_packet.proofs.StreamLaws.{whole_stays, lost_stays, short_before, lost_header, header_lost, lost_no_frame, short_no_frame, no_frame_yet}
+use Rattle.mq_packet.proofs.StreamLaws.{whole_stays, lost_stays, short_before, lost_header, header_lost, lost_no_frame, short_no_frame, no_frame_yet, frame_from_header, header_from_frame, frame_stood}
 use Rattle.mq_trace.specs.declared.kind.Way.{Way}
 use Rattle.mq_trace.specs.declared.kind.Way.TheVariants as ways
 use Rattle.mq_trace.specs.declared.refusal.Refusal.{Refusal}
@@ -305,3 +305,217 @@ pub large-refusal : (limit : ℕ) (bed : Bed) (f : Flow) (u : List ℕ) (byte he
 large-refusal limit bed f u byte header size e whole ends over =
     refusal_is limit bed f byte (u ++ byte ∷ []) (flow_event bed f byte) (ap (λ half. so_far_in half byte) e) refl
     ∙ rw (whole, eq-eqb header (length (u ++ byte ∷ [])) ends, lt-ltb limit size over) refl
+
+pub loses-placed : (bed : Bed) (f : Flow) (u : List ℕ) (byte : ℕ) → f.half ≡ record { unfinished = u; lost = false } → is_lost (u ++ byte ∷ []) ≡ true
+    → flow_placed bed f byte ≡ flow_placed_with bed f (Some (going bed.way lost))
+loses-placed bed f u byte e l = placed_is bed f byte (Some (going bed.way lost)) (lost_event bed f u byte e l)
+
+-- One byte is refused as the only one of its list.
+pub refused-one : (limit : ℕ) (bed : Bed) (f : Flow) (byte : ℕ) → flow_refused limit bed f (byte ∷ []) ≡ flow_refusal limit bed f byte
+refused-one limit bed f byte = or_none (flow_refusal limit bed f byte)
+  where
+    or_none : (o : Option Refusal) → or_else o None ≡ o
+    or_none (Some refusal) = refl
+    or_none None = refl
+
+-- A header that is told by more bytes than its packet has is told by its packet.
+pub header_stood : (a c : List ℕ) (header size : ℕ) → fixed_header_of (a ++ c) ≡ headers.Whole header size → size ≤ length a → fixed_header_of a ≡ headers.Whole header size
+header_stood a c header size e fit =
+    let longer : length (a ++ c) ≡ length a + length c = length-append a c in
+    let whole : frame_size (a ++ c) ≡ Some size = frame_from_header (a ++ c) header size e (omega arith) in
+    let found : (header' : ℕ) × (fixed_header_of a ≡ headers.Whole header' size) × (size ≤ length a) = header_from_frame a size (frame_stood a c size whole fit) in
+    let stays : fixed_header_of (a ++ c) ≡ headers.Whole found.0 size = whole_stays a c found.0 size found.1 in
+    found.1 ∙ sym stays ∙ e
+
+-- the event that a whole frame is
+abbrev frame_event : Bed → List ℕ → Option Event
+frame_event bed frame = option_map (going bed.way) (item_read (length frame) (slice_index frame 0) (read_frame frame))
+
+-- the lines for a byte that completes a packet
+abbrev frame_lines : Flow → List ℕ → Option Event → ℕ → Option Refusal
+frame_lines f frame event at = first_standing (
+    (is_other_version (read_frame frame), refusals.OtherVersion at)
+    ∷ (comes_early f event, refusals.Early at)
+    ∷ (is_some event && nat_le 4294967295 f.events, refusals.TooLong at)
+    ∷ [])
+
+-- the last byte of a packet, of which these bytes came before it
+module _ (bed : Bed) (f : Flow) (t : List ℕ) (byte : ℕ) (e : f.half ≡ going_on t) (whole : frame_size (t ++ byte ∷ []) ≡ Some (length (t ++ byte ∷ []))) where
+  last_lost : is_lost (t ++ byte ∷ []) ≡ false
+  last_lost =
+      elim (is_lost (t ++ byte ∷ [])) as (λ l. is_lost (t ++ byte ∷ []) ≡ l → l ≡ false) [
+        | true ↦ λ l. let none : frame_size (t ++ byte ∷ []) ≡ None = lost_no_frame (t ++ byte ∷ []) l in absurd (cc)
+        | false ↦ λ l. refl
+      ] refl
+
+  last_event : flow_event bed f byte ≡ frame_event bed (t ++ byte ∷ [])
+  last_event =
+      event_is bed f byte (t ++ byte ∷ []) (item_read (length (t ++ byte ∷ [])) (slice_index (t ++ byte ∷ []) 0) (read_frame (t ++ byte ∷ [])))
+      (ap (λ half. so_far_in half byte) e) (item_by (t ++ byte ∷ []) false (Some (length (t ++ byte ∷ []))) last_lost whole)
+
+  last_after : flow_after bed f byte ≡ flow_with bed (record f { at = f.at + 1; half = going_on [] }) (frame_event bed (t ++ byte ∷ []))
+  last_after =
+      after_is bed f byte (going_on []) (frame_event bed (t ++ byte ∷ []))
+      (ap (λ half. half_after half byte) e ∙ half_by_front t byte false (Some (length (t ++ byte ∷ []))) last_lost whole) last_event
+
+  last_refusal : (limit header size : ℕ) → fixed_header_of (t ++ byte ∷ []) ≡ headers.Whole header size → (size ≤ limit) ⊎ (header ≤ length t)
+      → flow_refusal limit bed f byte ≡ frame_lines f (t ++ byte ∷ []) (frame_event bed (t ++ byte ∷ [])) f.at
+  last_refusal limit header size known may =
+      let fits : is_too_large limit (t ++ byte ∷ []) (fixed_header_of (t ++ byte ∷ [])) ≡ false = ap (is_too_large limit (t ++ byte ∷ [])) known ∙ small limit t byte header size may in
+      refusal_is limit bed f byte (t ++ byte ∷ []) (frame_event bed (t ++ byte ∷ [])) (ap (λ half. so_far_in half byte) e) last_event
+      ∙ rw (fits, whole) refl
+
+-- Bytes up to a packet's last one do nothing.
+module _ (bed : Bed) (f : Flow) (u p : List ℕ) (byte : ℕ) (e : f.half ≡ going_on u) (header size : ℕ) (known : fixed_header_of ((u ++ p) ++ byte ∷ []) ≡ headers.Whole header size)
+    (all : size ≡ length ((u ++ p) ++ byte ∷ [])) where
+  abbrev before : Flow
+  before = record f { at = f.at + length p; half = going_on (u ++ p) }
+
+  until_last : (limit : ℕ) → (size ≤ limit) ⊎ (header ≤ length u) → IsQuiet limit bed f p (going_on (u ++ p))
+  until_last limit may = told (fixed_header_of (u ++ p)) refl
+    where
+      told : (front : FixedHeader) → fixed_header_of (u ++ p) ≡ front → IsQuiet limit bed f p (going_on (u ++ p))
+      told headers.Short short = short_quiet limit bed f u p e short
+      told headers.Lost gone = let stays : fixed_header_of ((u ++ p) ++ byte ∷ []) ≡ headers.Lost = lost_stays (u ++ p) (byte ∷ []) gone in absurd (cc)
+      told (headers.Whole header' size') there =
+          let stays : fixed_header_of ((u ++ p) ++ byte ∷ []) ≡ headers.Whole header' size' = whole_stays (u ++ p) (byte ∷ []) header' size' there in
+          let longer : length ((u ++ p) ++ byte ∷ []) ≡ length (u ++ p) + 1 = length-append (u ++ p) (byte ∷ []) in
+          unfinished_quiet limit bed f u p header size e (there ∙ sym stays ∙ known) (omega arith) may
+
+  last_whole : frame_size ((u ++ p) ++ byte ∷ []) ≡ Some (length ((u ++ p) ++ byte ∷ []))
+  last_whole = frame_from_header ((u ++ p) ++ byte ∷ []) header size known (omega arith) ∙ ap Some all
+
+  still : (limit : ℕ) → (size ≤ limit) ⊎ (header ≤ length u) → (size ≤ limit) ⊎ (header ≤ length (u ++ p))
+  still limit (inl within) = inl within
+  still limit (inr before) = inr (let longer : length (u ++ p) ≡ length u + length p = length-append u p in omega arith)
+
+  same_early : (event : Option Event) → comes_early before event ≡ comes_early f event
+  same_early None = refl
+  same_early (Some event) = refl
+
+  all_refused : (limit : ℕ) → (size ≤ limit) ⊎ (header ≤ length u)
+      → flow_refused limit bed f (p ++ byte ∷ []) ≡ frame_lines f ((u ++ p) ++ byte ∷ []) (frame_event bed ((u ++ p) ++ byte ∷ [])) (f.at + length p)
+  all_refused limit may =
+      let quiet : IsQuiet limit bed f p (going_on (u ++ p)) = until_last limit may in
+      refused-append limit bed f p (byte ∷ [])
+      ∙ ap (λ o. or_else o (flow_refused limit bed (flow_behind bed f p) (byte ∷ []))) quiet.refused
+      ∙ ap (λ g. flow_refused limit bed g (byte ∷ [])) quiet.behind
+      ∙ refused-one limit bed before byte
+      ∙ last_refusal bed before (u ++ p) byte refl last_whole limit header size known (still limit may)
+      ∙ ap (λ early. first_standing (
+          (is_other_version (read_frame ((u ++ p) ++ byte ∷ [])), refusals.OtherVersion (f.at + length p))
+          ∷ (early, refusals.Early (f.at + length p))
+          ∷ (is_some (frame_event bed ((u ++ p) ++ byte ∷ [])) && nat_le 4294967295 f.events, refusals.TooLong (f.at + length p))
+          ∷ [])) (same_early (frame_event bed ((u ++ p) ++ byte ∷ [])))
+
+  same_place : (event : Option Event) → flow_placed_with bed before event ≡ flow_placed_with bed f event
+  same_place None = refl
+  same_place (Some event) = refl
+
+  all_heard : flow_heard bed f (p ++ byte ∷ []) ≡ put (flow_placed_with bed f (frame_event bed ((u ++ p) ++ byte ∷ []))) []
+  all_heard =
+      let quiet : IsQuiet size bed f p (going_on (u ++ p)) = until_last size (inl (omega arith)) in
+      heard-append bed f p (byte ∷ [])
+      ∙ ap (λ heard. flow_heard bed (flow_behind bed f p) (byte ∷ []) ++ heard) quiet.heard
+      ∙ append-nil (flow_heard bed (flow_behind bed f p) (byte ∷ []))
+      ∙ ap (λ g. flow_heard bed g (byte ∷ [])) quiet.behind
+      ∙ ap (λ placed. put placed []) (placed_is bed before byte (frame_event bed ((u ++ p) ++ byte ∷ [])) (last_event bed before (u ++ p) byte refl last_whole)
+      ∙ same_place (frame_event bed ((u ++ p) ++ byte ∷ [])))
+
+  all_behind : flow_behind bed f (p ++ byte ∷ []) ≡ flow_with bed (record f { at = f.at + length (p ++ byte ∷ []); half = going_on [] }) (frame_event bed ((u ++ p) ++ byte ∷ []))
+  all_behind =
+      let quiet : IsQuiet size bed f p (going_on (u ++ p)) = until_last size (inl (omega arith)) in
+      let longer : length (p ++ byte ∷ []) ≡ length p + 1 = length-append p (byte ∷ []) in
+      let counted : f.at + length p + 1 ≡ f.at + length (p ++ byte ∷ []) = omega arith in
+      behind-append bed f p (byte ∷ [])
+      ∙ ap (λ g. flow_behind bed g (byte ∷ [])) quiet.behind
+      ∙ last_after bed before (u ++ p) byte refl last_whole
+      ∙ moved_on (frame_event bed ((u ++ p) ++ byte ∷ [])) counted
+    where
+      moved_on : (event : Option Event) → f.at + length p + 1 ≡ f.at + length (p ++ byte ∷ [])
+          → flow_with bed (record f { at = f.at + length p + 1; half = going_on [] }) event ≡ flow_with bed (record f { at = f.at + length (p ++ byte ∷ []); half = going_on [] }) event
+      moved_on event same = ap (λ n. flow_with bed (record f { at = n; half = going_on [] }) event) same
+
+-- bytes that aren't none have a last one
+record HasLast (bytes : List ℕ) : Type 0 where
+  before : List ℕ
+  byte : ℕ
+  joined : bytes ≡ before ++ byte ∷ []
+
+last_of : (byte : ℕ) (bytes : List ℕ) → HasLast (byte ∷ bytes)
+last_of byte [] = record { before = []; byte = byte; joined = refl }
+last_of byte (next ∷ bytes) = let more : HasLast (next ∷ bytes) = last_of next bytes in record { before = byte ∷ more.before; byte = more.byte; joined = ap (λ t. byte ∷ t) more.joined }
+
+has_last : (bytes : List ℕ) → 0 < length bytes → HasLast bytes
+has_last [] some = absurd (omega arith)
+has_last (byte ∷ bytes) some = last_of byte bytes
+
+rejoined : (u bytes p : List ℕ) (byte : ℕ) → bytes ≡ p ++ byte ∷ [] → (u ++ p) ++ byte ∷ [] ≡ u ++ bytes
+rejoined u bytes p byte e = append_assoc u p (byte ∷ []) ∙ ap (λ t. u ++ t) (sym e)
+
+-- Bytes that complete a packet, and go on behind it with none: only its last one completes anything, and is refused for that alone.
+pub complete-refused : (limit : ℕ) (bed : Bed) (f : Flow) (u bytes : List ℕ) (header size at : ℕ) → f.half ≡ record { unfinished = u; lost = false }
+    → fixed_header_of (u ++ bytes) ≡ headers.Whole header size → size ≡ length (u ++ bytes) → 0 < length bytes → at + 1 ≡ f.at + length bytes → (size ≤ limit) ⊎ (header ≤ length u)
+    → flow_refused limit bed f bytes ≡ first_standing (
+        (is_other_version (read_frame (u ++ bytes)), refusals.OtherVersion at)
+        ∷ (comes_early f (option_map (going bed.way) (item_read (length (u ++ bytes)) (slice_index (u ++ bytes) 0) (read_frame (u ++ bytes)))), refusals.Early at)
+        ∷ (is_some (option_map (going bed.way) (item_read (length (u ++ bytes)) (slice_index (u ++ bytes) 0) (read_frame (u ++ bytes)))) && nat_le 4294967295 f.events, refusals.TooLong at)
+        ∷ [])
+complete-refused limit bed f u bytes header size at e known all some last may =
+    let cut : HasLast bytes = has_last bytes some in
+    let frame : (u ++ cut.before) ++ cut.byte ∷ [] ≡ u ++ bytes = rejoined u bytes cut.before cut.byte cut.joined in
+    let longer : length bytes ≡ length cut.before + 1 = ap length cut.joined ∙ length-append cut.before (cut.byte ∷ []) in
+    let place : f.at + length cut.before ≡ at = omega arith in
+    ap (flow_refused limit bed f) cut.joined
+    ∙ all_refused bed f u cut.before cut.byte e header size (ap fixed_header_of frame ∙ known) (all ∙ ap length (sym frame)) limit may
+    ∙ ap (λ t. frame_lines f t (frame_event bed t) (f.at + length cut.before)) frame
+    ∙ ap (frame_lines f (u ++ bytes) (frame_event bed (u ++ bytes))) place
+
+pub complete-heard : (bed : Bed) (f : Flow) (u bytes : List ℕ) (header size : ℕ) → f.half ≡ record { unfinished = u; lost = false }
+    → fixed_header_of (u ++ bytes) ≡ headers.Whole header size → size ≡ length (u ++ bytes) → 0 < length bytes
+    → flow_heard bed f bytes ≡ put (flow_placed_with bed f (option_map (going bed.way) (item_read (length (u ++ bytes)) (slice_index (u ++ bytes) 0) (read_frame (u ++ bytes))))) []
+complete-heard bed f u bytes header size e known all some =
+    let cut : HasLast bytes = has_last bytes some in
+    let frame : (u ++ cut.before) ++ cut.byte ∷ [] ≡ u ++ bytes = rejoined u bytes cut.before cut.byte cut.joined in
+    ap (flow_heard bed f) cut.joined
+    ∙ all_heard bed f u cut.before cut.byte e header size (ap fixed_header_of frame ∙ known) (all ∙ ap length (sym frame))
+    ∙ ap (λ t. put (flow_placed_with bed f (frame_event bed t)) []) frame
+
+pub complete-behind : (bed : Bed) (f : Flow) (u bytes : List ℕ) (header size : ℕ) → f.half ≡ record { unfinished = u; lost = false }
+    → fixed_header_of (u ++ bytes) ≡ headers.Whole header size → size ≡ length (u ++ bytes) → 0 < length bytes
+    → flow_behind bed f bytes ≡ flow_with bed (record f { at = f.at + length bytes; half = record { unfinished = []; lost = false } })
+    (option_map (going bed.way) (item_read (length (u ++ bytes)) (slice_index (u ++ bytes) 0) (read_frame (u ++ bytes))))
+complete-behind bed f u bytes header size e known all some =
+    let cut : HasLast bytes = has_last bytes some in
+    let frame : (u ++ cut.before) ++ cut.byte ∷ [] ≡ u ++ bytes = rejoined u bytes cut.before cut.byte cut.joined in
+    ap (flow_behind bed f) cut.joined
+    ∙ all_behind bed f u cut.before cut.byte e header size (ap fixed_header_of frame ∙ known) (all ∙ ap length (sym frame))
+    ∙ ap (λ t. flow_with bed (record f { at = f.at + length (cut.before ++ cut.byte ∷ []); half = going_on [] }) (frame_event bed t)) frame
+    ∙ ap (λ t. flow_with bed (record f { at = f.at + length t; half = going_on [] }) (frame_event bed (u ++ bytes))) (sym cut.joined)
+
+-- where the frame alone is known, and not its header
+pub complete-refused-within : (limit : ℕ) (bed : Bed) (f : Flow) (u bytes : List ℕ) (at : ℕ) → f.half ≡ record { unfinished = u; lost = false }
+    → frame_size (u ++ bytes) ≡ Some (length (u ++ bytes)) → 0 < length bytes → at + 1 ≡ f.at + length bytes → length (u ++ bytes) ≤ limit
+    → flow_refused limit bed f bytes ≡ first_standing (
+        (is_other_version (read_frame (u ++ bytes)), refusals.OtherVersion at)
+        ∷ (comes_early f (option_map (going bed.way) (item_read (length (u ++ bytes)) (slice_index (u ++ bytes) 0) (read_frame (u ++ bytes)))), refusals.Early at)
+        ∷ (is_some (option_map (going bed.way) (item_read (length (u ++ bytes)) (slice_index (u ++ bytes) 0) (read_frame (u ++ bytes)))) && nat_le 4294967295 f.events, refusals.TooLong at)
+        ∷ [])
+complete-refused-within limit bed f u bytes at e whole some last within =
+    let found : (header : ℕ) × (fixed_header_of (u ++ bytes) ≡ headers.Whole header (length (u ++ bytes))) × (length (u ++ bytes) ≤ length (u ++ bytes)) = header_from_frame (u ++ bytes) (length (u ++ bytes)) whole in
+    complete-refused limit bed f u bytes found.0 (length (u ++ bytes)) at e found.1 refl some last (inl within)
+
+pub complete-heard-frame : (bed : Bed) (f : Flow) (u bytes : List ℕ) → f.half ≡ record { unfinished = u; lost = false }
+    → frame_size (u ++ bytes) ≡ Some (length (u ++ bytes)) → 0 < length bytes
+    → flow_heard bed f bytes ≡ put (flow_placed_with bed f (option_map (going bed.way) (item_read (length (u ++ bytes)) (slice_index (u ++ bytes) 0) (read_frame (u ++ bytes))))) []
+complete-heard-frame bed f u bytes e whole some =
+    let found : (header : ℕ) × (fixed_header_of (u ++ bytes) ≡ headers.Whole header (length (u ++ bytes))) × (length (u ++ bytes) ≤ length (u ++ bytes)) = header_from_frame (u ++ bytes) (length (u ++ bytes)) whole in
+    complete-heard bed f u bytes found.0 (length (u ++ bytes)) e found.1 refl some
+
+pub complete-behind-frame : (bed : Bed) (f : Flow) (u bytes : List ℕ) → f.half ≡ record { unfinished = u; lost = false }
+    → frame_size (u ++ bytes) ≡ Some (length (u ++ bytes)) → 0 < length bytes
+    → flow_behind bed f bytes ≡ flow_with bed (record f { at = f.at + length bytes; half = record { unfinished = []; lost = false } })
+    (option_map (going bed.way) (item_read (length (u ++ bytes)) (slice_index (u ++ bytes) 0) (read_frame (u ++ bytes))))
+complete-behind-frame bed f u bytes e whole some =
+    let found : (header : ℕ) × (fixed_header_of (u ++ bytes) ≡ headers.Whole header (length (u ++ bytes))) × (length (u ++ bytes) ≤ length (u ++ bytes)) = header_from_frame (u ++ bytes) (length (u ++ bytes)) whole in
+    complete-behind bed f u bytes found.0 (length (u ++ bytes)) e found.1 refl some
