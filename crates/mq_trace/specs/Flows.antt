@@ -8,7 +8,7 @@ use Rattle.mq_packet.specs.Stream.{fixed_header_of, frame_size}
 use Rattle.mq_trace.specs.Events.{Item, Event, Placed, sent, received, read_frame, item_at}
 use Rattle.mq_trace.specs.Connections.{needs_answer, is_answer}
 use Rattle.mq_trace.specs.Refusals.{or_else, first_standing, is_too_large, is_other_version}
-use Rattle.mq_trace.specs.Context.{Half, so_far_in, half_after, put}
+use Rattle.mq_trace.specs.Context.{Half, Context, half_for, so_far_in, half_after, put}
 
 -- what doesn't change within a body: the direction, whether the tested end is a server, and the number of the record
 pub record Bed : Type 0 where
@@ -76,3 +76,28 @@ flow_refused limit bed f (byte ∷ bytes) = or_else (flow_refusal limit bed f by
 abbrev pub flow_heard : Bed → Flow → List ℕ → List Placed
 flow_heard bed f [] = []
 flow_heard bed f (byte ∷ bytes) = flow_heard bed (flow_after bed f byte) bytes ++ put (flow_placed bed f byte) []
+
+-- the direction that a body carries, from what is kept of the log
+abbrev pub bed_in : Context → Way → Bed
+bed_in c way = record { way = way; server = c.header.server; record_no = c.records + 1 }
+
+abbrev pub flow_in : Context → Way → Flow
+flow_in c way = record { at = c.at; half = half_for c way; events = c.events; connected = c.connected; answered = c.answered }
+
+-- a direction behind bytes that went this way: what the flow keeps of it, or what was there of the other one
+abbrev pub half_behind : Way → Way → Half → Half → Half
+half_behind ways.Sent ways.Sent new old = new
+half_behind ways.Recv ways.Recv new old = new
+half_behind _ _ new old = old
+
+-- what is kept of the log behind bytes of a body, from what the flow keeps behind them; the record is whole with them, or not
+abbrev pub flowed : Context → Way → Bool → Flow → List ℕ → Context
+flowed c way whole f bytes = record c {
+  at = f.at;
+  part = cond whole [] (c.part ++ bytes);
+  records = cond whole (c.records + 1) c.records;
+  sent = half_behind ways.Sent way f.half c.sent;
+  recv = half_behind ways.Recv way f.half c.recv;
+  events = f.events;
+  answered = f.answered;
+}

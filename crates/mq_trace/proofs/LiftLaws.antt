@@ -1,0 +1,243 @@
+-- Within the body of a record that carries packets, the log's bytes do what those of its direction do.
+use Rattle.std.proofs.Common.{◌≡◌, ℕ, ◌+◌, ◌<◌, ◌≤◌, Bool, true, false, cond, ◌&&◌, List, [], ◌∷◌, ◌++◌, length, Option, Some, None, refl, sym, ◌∙◌, ap, arith, append_assoc, length-append}
+use Rattle.std.specs.Prelude.{◌==◌, ◌||◌, not, if◌then◌else◌, is_some, is_none, nat_lt, nat_le, option_map}
+use Rattle.std.proofs.lemmas.List.{append-nil}
+use Rattle.std.proofs.lemmas.Bool.{le-ltb, lt-ltb, leb-true, leb-false, le-leb, lt-leb, eqb-true, eqb-false, ne_eqb, eq-eqb}
+use Rattle.mq_packet.specs.Stream.{fixed_header_of, frame_size}
+use Rattle.mq_trace.specs.declared.kind.RecordKind.{RecordKind}
+use Rattle.mq_trace.specs.declared.kind.RecordKind.TheVariants as kinds
+use Rattle.mq_trace.specs.declared.kind.Way.{Way}
+use Rattle.mq_trace.specs.declared.kind.Way.TheVariants as ways
+use Rattle.mq_trace.specs.declared.refusal.Refusal.{Refusal}
+use Rattle.mq_trace.specs.declared.refusal.Refusal.TheVariants as refusals
+use Rattle.mq_trace.specs.Framing.{kind_of, body_length, record_size, way_of, opens}
+use Rattle.mq_trace.specs.Events.{Item, Event, Placed, item_at, event_by, event_in, read_frame}
+use Rattle.mq_trace.specs.Refusals.{Situation, or_else, first_standing, allows, is_open_kind, needs_connection, is_release_kind, is_too_large, is_other_version, is_early, record_refusal, header_refusal}
+use Rattle.mq_trace.specs.Context.{Half, Context, half_for, so_far_in, so_far_by, so_far_for, situated, half_after, half_by, half_then, with_heard, after_header, after_part, after, put, placed_with, placed_for, refusal_for, event_for}
+use Rattle.mq_trace.specs.Runs.{behind, refused_in, heard_in}
+use Rattle.mq_trace.specs.Flows.{Bed, Flow, going, comes_early, flow_event, flow_refusal, flow_placed, flow_placed_with, flow_with, flow_after, flow_behind, flow_refused, flow_heard, bed_in, flow_in, half_behind, flowed}
+
+-- A record that carries packets opens no connection, and its events are what its packets are.
+opens_none : (kind : Option RecordKind) (way : Way) → way_of kind ≡ Some way → opens kind ≡ false
+opens_none None way e = refl
+opens_none (Some kinds.Open) way e = absurd (cc)
+opens_none (Some kinds.Sent) way e = refl
+opens_none (Some kinds.Recv) way e = refl
+opens_none (Some kinds.Close) way e = refl
+opens_none (Some kinds.Rest) way e = refl
+opens_none (Some kinds.Release) way e = refl
+
+event_going : (kind : Option RecordKind) (way : Way) (part so_far : List ℕ) → way_of kind ≡ Some way → event_by kind part so_far ≡ option_map (going way) (item_at so_far)
+event_going None way part so_far e = absurd (cc)
+event_going (Some kinds.Open) way part so_far e = absurd (cc)
+event_going (Some kinds.Sent) ways.Sent part so_far e = refl
+event_going (Some kinds.Sent) ways.Recv part so_far e = absurd (cc)
+event_going (Some kinds.Recv) ways.Sent part so_far e = absurd (cc)
+event_going (Some kinds.Recv) ways.Recv part so_far e = refl
+event_going (Some kinds.Close) way part so_far e = absurd (cc)
+event_going (Some kinds.Rest) way part so_far e = absurd (cc)
+event_going (Some kinds.Release) way part so_far e = absurd (cc)
+
+-- the head of a record stays, whatever follows
+kind_stays : (part more : List ℕ) → 5 ≤ length part → kind_of (part ++ more) ≡ kind_of part
+unfolding kind_of
+kind_stays [] more h = absurd (omega arith)
+kind_stays (k ∷ part) more h = refl
+
+body_stays : (part more : List ℕ) → 5 ≤ length part → body_length (part ++ more) ≡ body_length part
+unfolding body_length
+body_stays [] b h = absurd (omega arith)
+body_stays (k ∷ []) b h = absurd (omega arith)
+body_stays (k ∷ p ∷ []) b h = absurd (omega arith)
+body_stays (k ∷ p ∷ q ∷ []) b h = absurd (omega arith)
+body_stays (k ∷ p ∷ q ∷ r ∷ []) b h = absurd (omega arith)
+body_stays (k ∷ p ∷ q ∷ r ∷ s ∷ part) b h = refl
+
+-- the refusal of a byte of a record, with what is told by how far the record is, and the event
+abbrev lines : ℕ → Context → List ℕ → List ℕ → Bool → Bool → Bool → Option Event → Option Refusal
+lines limit c part so_far first head early event = first_standing (
+    (first && is_none (kind_of part), refusals.Kind c.at)
+    ∷ (head && not (allows (kind_of part) (body_length part)), refusals.Length c.at)
+    ∷ (first && (is_open_kind (kind_of part) && c.connected), refusals.Nested c.at)
+    ∷ (first && (needs_connection (kind_of part) && not c.connected), refusals.NotOpen c.at)
+    ∷ (first && (is_release_kind (kind_of part) && not c.header.releases), refusals.ReleaseUnrecorded c.at)
+    ∷ (is_too_large limit so_far (fixed_header_of so_far), refusals.TooLarge c.at)
+    ∷ (is_some (frame_size so_far) && is_other_version (read_frame so_far), refusals.OtherVersion c.at)
+    ∷ (early, refusals.Early c.at)
+    ∷ ((first && nat_lt 4294967295 (c.records + 1)) || (is_some event && nat_le 4294967295 c.events), refusals.TooLong c.at)
+    ∷ [])
+
+early_same : (c : Context) (way : Way) (byte : ℕ) (event : Option Event) → is_early (situated c byte) event ≡ comes_early (flow_in c way) event
+unfolding situated
+early_same c way byte None = refl
+early_same c way byte (Some event) = refl
+
+-- A record is whole where all of its body is there.
+whole_by : (part : List ℕ) → 5 ≤ length part → is_some (record_size part) ≡ nat_le (5 + body_length part) (length part)
+unfolding record_size
+whole_by part there = ap (λ b. is_some (if b then None else (if nat_le (5 + body_length part) (length part) then Some (5 + body_length part) else None))) (le-ltb (length part) 5 there) ∙ some_if (nat_le (5 + body_length part) (length part))
+  where
+    some_if : (b : Bool) → is_some (if b then Some (5 + body_length part) else None) ≡ b
+    some_if true = refl
+    some_if false = refl
+
+just_whole : (n size : ℕ) → n < size → nat_le size (n + 1) ≡ (n + 1 == size)
+just_whole n size less =
+    elim (n + 1 == size) as (λ b. (n + 1 == size) ≡ b → nat_le size (n + 1) ≡ b) [
+      | true ↦ λ e. (let same : n + 1 ≡ size = eqb-true (n + 1) size e in le-leb size (n + 1) (omega arith))
+      | false ↦ λ e. lt-leb size (n + 1) (apart (eqb-false (n + 1) size e))
+    ] refl
+  where
+    apart : (n + 1 ≡ size → ⊥) → n + 1 < size
+    apart other = omega (arith, other)
+
+half_same : (each way : Way) (c : Context) (byte : ℕ) → half_by each (Some way) (half_for c each) byte ≡ half_behind each way (half_after (half_for c way) byte) (half_for c each)
+half_same ways.Sent ways.Sent c byte = refl
+half_same ways.Sent ways.Recv c byte = refl
+half_same ways.Recv ways.Sent c byte = refl
+half_same ways.Recv ways.Recv c byte = refl
+
+-- what is kept behind a byte of a record, from what it makes of each part
+abbrev kept : Context → List ℕ → Bool → Half → Half → Option Event → Context
+kept c part whole sent recv event = with_heard (record c {
+  at = c.at + 1;
+  part = cond whole [] part;
+  records = cond whole (c.records + 1) c.records;
+  sent = sent;
+  recv = recv;
+}) event
+
+kept_flowed : (c : Context) (way : Way) (byte : ℕ) (whole : Bool) (item : Option Item)
+    → kept c (c.part ++ byte ∷ []) whole (half_behind ways.Sent way (half_after (half_for c way) byte) c.sent) (half_behind ways.Recv way (half_after (half_for c way) byte) c.recv) (option_map (going way) item)
+    ≡ flowed c way whole (flow_with (bed_in c way) (record (flow_in c way) { at = c.at + 1; half = half_after (half_for c way) byte }) (option_map (going way) item)) (byte ∷ [])
+kept_flowed c way byte whole None = refl
+kept_flowed c ways.Sent byte whole (Some item) = refl
+kept_flowed c ways.Recv byte whole (Some item) = refl
+
+-- one byte of a body
+module _ (c : Context) (way : Way) (byte : ℕ) (behind_header : 8 ≤ c.at) (goes : way_of (kind_of c.part) ≡ Some way) (there : 5 ≤ length c.part) where
+  abbrev part : List ℕ
+  part = c.part ++ byte ∷ []
+
+  abbrev bed : Bed
+  bed = bed_in c way
+
+  abbrev flow : Flow
+  flow = flow_in c way
+
+  longer : length part ≡ length c.part + 1
+  longer = length-append c.part (byte ∷ [])
+
+  goes_on : way_of (kind_of part) ≡ Some way
+  goes_on = ap way_of (kind_stays c.part (byte ∷ []) there) ∙ goes
+
+  in_body : nat_lt 5 (length part) ≡ true
+  in_body = let l = longer in lt-ltb 5 (length part) (omega arith)
+
+  not_first : (length part == 1) ≡ false
+  not_first = let l = longer in ne_eqb (length part) 1 (λ same. (omega arith))
+
+  not_head : (length part == 5) ≡ false
+  not_head = let l = longer in ne_eqb (length part) 5 (λ same. (omega arith))
+
+  so_far_is : so_far_for c byte ≡ so_far_in (half_for c way) byte
+  unfolding so_far_for
+  so_far_is = ap (λ b. cond b (so_far_by (way_of (kind_of part)) c byte) []) in_body ∙ ap (λ w. so_far_by w c byte) goes_on
+
+  event_is : event_for c byte ≡ flow_event bed flow byte
+  unfolding event_for event_in flow_event
+  event_is =
+      ap (λ b. if b then None else event_by (kind_of part) part (so_far_for c byte)) (le-ltb c.at 8 behind_header)
+      ∙ event_going (kind_of part) way part (so_far_for c byte) goes_on
+      ∙ ap (λ t. option_map (going way) (item_at t)) so_far_is
+
+  event_within : event_in part (so_far_for c byte) ≡ flow_event bed flow byte
+  unfolding event_in flow_event
+  event_within = event_going (kind_of part) way part (so_far_for c byte) goes_on ∙ ap (λ t. option_map (going way) (item_at t)) so_far_is
+
+  by_lines : (limit : ℕ) → record_refusal limit (situated c byte)
+      ≡ lines limit c part (so_far_for c byte) (length part == 1) (length part == 5) (is_early (situated c byte) (event_in part (so_far_for c byte))) (event_in part (so_far_for c byte))
+  unfolding record_refusal situated
+  by_lines limit = refl
+
+  by_flow : (limit : ℕ) → lines limit c part (so_far_in (half_for c way) byte) false false (comes_early flow (flow_event bed flow byte)) (flow_event bed flow byte) ≡ flow_refusal limit bed flow byte
+  unfolding flow_refusal
+  by_flow limit = refl
+
+  -- The byte is refused as in its flow.
+  refusal_lifted : (limit : ℕ) → refusal_for limit c byte ≡ flow_refusal limit bed flow byte
+  unfolding refusal_for
+  refusal_lifted limit =
+      let event : Option Event = flow_event bed flow byte in
+      ap (λ b. if b then header_refusal c.at byte else record_refusal limit (situated c byte)) (le-ltb c.at 8 behind_header)
+      ∙ by_lines limit
+      ∙ ap (λ b. lines limit c part (so_far_for c byte) b (length part == 5) (is_early (situated c byte) (event_in part (so_far_for c byte))) (event_in part (so_far_for c byte))) not_first
+      ∙ ap (λ b. lines limit c part (so_far_for c byte) false b (is_early (situated c byte) (event_in part (so_far_for c byte))) (event_in part (so_far_for c byte))) not_head
+      ∙ ap (λ e. lines limit c part (so_far_for c byte) false false (is_early (situated c byte) e) e) event_within
+      ∙ ap (λ b. lines limit c part (so_far_for c byte) false false b (flow_event bed flow byte)) (early_same c way byte (flow_event bed flow byte))
+      ∙ ap (λ t. lines limit c part t false false (comes_early flow (flow_event bed flow byte)) (flow_event bed flow byte)) so_far_is
+      ∙ by_flow limit
+
+  place_same : (event : Option Event) → placed_with c event ≡ flow_placed_with bed flow event
+  place_same None = refl
+  place_same (Some event) = refl
+
+  -- So is its event.
+  placed_lifted : placed_for c byte ≡ flow_placed bed flow byte
+  unfolding placed_for flow_placed
+  placed_lifted = ap (placed_with c) event_is ∙ place_same (flow_event bed flow byte)
+
+  half_is : (each : Way) → half_then each (half_for c each) part byte ≡ half_behind each way (half_after (half_for c way) byte) (half_for c each)
+  unfolding half_then
+  half_is each =
+      ap (λ b. cond b (record { unfinished = []; lost = false }) (cond (nat_lt 5 (length part)) (half_by each (way_of (kind_of part)) (half_for c each) byte) (half_for c each))) (opens_none (kind_of part) way goes_on)
+      ∙ ap (λ b. cond b (half_by each (way_of (kind_of part)) (half_for c each) byte) (half_for c each)) in_body
+      ∙ ap (λ w. half_by each w (half_for c each) byte) goes_on
+      ∙ half_same each way c byte
+
+  whole_is : length c.part < 5 + body_length c.part → is_some (record_size part) ≡ (length c.part + 1 == 5 + body_length c.part)
+  whole_is less =
+      let l = longer in
+      whole_by part (omega arith)
+      ∙ ap (λ n. nat_le (5 + n) (length part)) (body_stays c.part (byte ∷ []) there)
+      ∙ ap (nat_le (5 + body_length c.part)) l
+      ∙ just_whole (length c.part) (5 + body_length c.part) less
+
+  flow_after_is : flow_after bed flow byte ≡ flow_with bed (record flow { at = c.at + 1; half = half_after (half_for c way) byte }) (option_map (going way) (item_at (so_far_in (half_for c way) byte)))
+  unfolding flow_after flow_event
+  flow_after_is = refl
+
+  flow_event_is : flow_event bed flow byte ≡ option_map (going way) (item_at (so_far_in (half_for c way) byte))
+  unfolding flow_event
+  flow_event_is = refl
+
+  -- What is kept behind the byte is what the flow keeps.
+  after_lifted : length c.part < 5 + body_length c.part → after c byte ≡ flowed c way (length c.part + 1 == 5 + body_length c.part) (flow_after bed flow byte) (byte ∷ [])
+  unfolding after
+  after_lifted less =
+      let item : Option Item = item_at (so_far_in (half_for c way) byte) in
+      let sent : Half = half_behind ways.Sent way (half_after (half_for c way) byte) c.sent in
+      let recv : Half = half_behind ways.Recv way (half_after (half_for c way) byte) c.recv in
+      let whole : Bool = length c.part + 1 == 5 + body_length c.part in
+      ap (λ b. if b then after_header c byte else with_heard (after_part c part byte) (event_for c byte)) (le-ltb c.at 8 behind_header)
+      ∙ ap (λ h. kept c part (is_some (record_size part)) h (half_then ways.Recv c.recv part byte) (event_for c byte)) (half_is ways.Sent)
+      ∙ ap (λ h. kept c part (is_some (record_size part)) (half_behind ways.Sent way (half_after (half_for c way) byte) c.sent) h (event_for c byte)) (half_is ways.Recv)
+      ∙ ap (λ b. kept c part b (half_behind ways.Sent way (half_after (half_for c way) byte) c.sent) (half_behind ways.Recv way (half_after (half_for c way) byte) c.recv) (event_for c byte)) (whole_is less)
+      ∙ ap (kept c part (length c.part + 1 == 5 + body_length c.part) (half_behind ways.Sent way (half_after (half_for c way) byte) c.sent) (half_behind ways.Recv way (half_after (half_for c way) byte) c.recv)) (event_is ∙ flow_event_is)
+      ∙ kept_flowed c way byte (length c.part + 1 == 5 + body_length c.part) (item_at (so_far_in (half_for c way) byte))
+      ∙ ap (λ g. flowed c way (length c.part + 1 == 5 + body_length c.part) g (byte ∷ [])) (sym flow_after_is)
+
+-- The byte is refused as in its flow ..
+pub lifted-refusal : (limit : ℕ) (c : Context) (way : Way) (byte : ℕ) → 8 ≤ c.at → way_of (kind_of c.part) ≡ Some way → 5 ≤ length c.part
+    → refusal_for limit c byte ≡ flow_refusal limit (bed_in c way) (flow_in c way) byte
+lifted-refusal limit c way byte behind_header goes there = refusal_lifted c way byte behind_header goes there limit
+
+-- .. completes what it does there ..
+pub lifted-placed : (c : Context) (way : Way) (byte : ℕ) → 8 ≤ c.at → way_of (kind_of c.part) ≡ Some way → 5 ≤ length c.part
+    → placed_for c byte ≡ flow_placed (bed_in c way) (flow_in c way) byte
+lifted-placed c way byte behind_header goes there = placed_lifted c way byte behind_header goes there
+
+-- .. and leaves what it leaves there.
+pub lifted-after : (c : Context) (way : Way) (byte : ℕ) → 8 ≤ c.at → way_of (kind_of c.part) ≡ Some way → 5 ≤ length c.part → length c.part < 5 + body_length c.part
+    → after c byte ≡ flowed c way (length c.part + 1 == 5 + body_length c.part) (flow_after (bed_in c way) (flow_in c way) byte) (byte ∷ [])
+lifted-after c way byte behind_header goes there less = after_lifted c way byte behind_header goes there less
