@@ -14,6 +14,9 @@ use Rattle.mq_trace.specs.Framing.{kind_of, way_of, body_length}
 use Rattle.mq_trace.specs.Events.{Placed}
 use Rattle.mq_trace.specs.Context.{Half, Context}
 use Rattle.mq_trace.specs.Runs.{behind, refused_in, heard_in}
+use Rattle.mq_trace.specs.Hearing.{AreEvents}
+use Rattle.mq_trace.specs.Directing.{FlowWhy}
+use Rattle.mq_trace.specs.declared.refusal.Refusal.{Refusal}
 
 -- a direction, apart from where its bytes lie
 abbrev pub half_in : Direction → Half
@@ -88,3 +91,18 @@ pub record Advances (r r' : Reading) (bytes : List ℕ) (heard : List Placed) : 
   pub limit : r'.limit ≡ r.limit
   pub each : (part : List ℕ) → IsAt r.stage part → (part' : List ℕ) × IsAt r'.stage part' × (refused_in r.limit (context_of r part) bytes ≡ None)
       × (behind (context_of r part) bytes ≡ context_of r' part') × (heard_in (context_of r part) bytes ≡ heard)
+
+-- With these bytes a reader comes from one state to another, and a sink that had heard what came before has heard the events too that they complete.
+pub record Comes {S : Type 0} (agrees : S → List Placed → Type 0) (r r' : Reading) (bytes : List ℕ) (old new : S) : Type 0 where
+  pub heard : List Placed
+  pub advances : Advances r r' bytes heard
+  pub told : (earlier : List Placed) → agrees old earlier → AreEvents (heard ++ earlier) → agrees new (heard ++ earlier)
+
+-- These bytes aren't taken in: none before one of them is refused or completes anything, and that one isn't taken in.
+pub record StepStops {S : Type 0} (refuses : S → Refusal → Type 0) (r : Reading) (bytes : List ℕ) (old new : S) (refusal : Refusal) : Type 0 where
+  pub taken : List ℕ
+  pub byte : ℕ
+  pub later : List ℕ
+  pub is : bytes ≡ taken ++ byte ∷ later
+  pub each : (part : List ℕ) → IsAt r.stage part → (refused_in r.limit (context_of r part) taken ≡ None) × (heard_in (context_of r part) taken ≡ [])
+    × FlowWhy refuses (r.at + length taken) (refused_in r.limit (context_of r part) (taken ++ byte ∷ [])) (heard_in (context_of r part) (taken ++ byte ∷ [])) old new refusal

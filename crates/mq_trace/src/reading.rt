@@ -1,5 +1,8 @@
 //! Reads a log: its header, its records, and what they carry.
 
+ghost use Rattle.std.specs.Prelude.{◌≡◌, ◌≤◌, OnOk, IfOk, IfErr, length, take};
+ghost use Rattle.mq_trace.specs.Keeping.{IsSound, Comes, StepStops};
+
 use super::connections::{Connections, tell};
 use super::direction::{Bed, Direction};
 use super::event::Event;
@@ -50,7 +53,14 @@ impl Reading {
     /// # Errors
     ///
     /// The refusal that first stands with one of them; the sink's own refusal; `Memory`.
-    pub fn take<S: Sink>(&mut self, bytes: &[u8], sink: &mut S) -> Result<usize, Refusal> {
+    pub fn take<S: Sink>(&mut self, bytes: &[u8], sink: &mut S) -> Result<usize, Refusal>
+        requires some { 1 ≤ length bytes.now }
+        requires sound { IsSound self.old }
+        ensures count { IfOk result (λ n. (1 ≤ n) × (n ≤ length bytes.now)) }
+        ensures sound { OnOk result (IsSound self.new) }
+        ensures comes { IfOk result (λ n. Comes S.agrees self.old self.new (take n bytes.now) sink.old sink.new) }
+        ensures stops { IfErr result (λ refusal. StepStops S.refuses self.old bytes.now sink.old sink.new refusal) }
+    {
         if self.at < HEADER_LENGTH {
             self.take_header(bytes[0])?;
             return Ok(1);
@@ -94,8 +104,8 @@ impl Reading {
         let [_, a, b, c, d, ..] = bytes else {
             return Ok(1);
         };
-        self.at += 3;
-        self.end_head(kind, u32::from_be_bytes([*a, *b, *c, *d]), sink)?;
+        let length = self.skip_length(kind, *a, *b, *c);
+        self.end_head(kind, length, *d, sink)?;
         Ok(5)
     }
 
@@ -130,6 +140,18 @@ impl Reading {
         Ok(kind)
     }
 
+    /// Takes in the first three bytes of a record's length, and answers the number that they spell.
+    fn skip_length(&mut self, kind: RecordKind, a: u8, b: u8, c: u8) -> u32 {
+        let length = u32::from_be_bytes([0, a, b, c]);
+        self.at += 3;
+        self.stage = Stage::Head {
+            kind,
+            count: 3,
+            length,
+        };
+        length
+    }
+
     /// Takes in the next byte of a record's head, of whose length so many bytes came.
     fn go_on_head<S: Sink>(
         &mut self,
@@ -139,26 +161,27 @@ impl Reading {
         byte: u8,
         sink: &mut S,
     ) -> Result<(), Refusal> {
-        let length = length * 256 + u32::from(byte);
         if count == 3 {
-            return self.end_head(kind, length, sink);
+            return self.end_head(kind, length, byte, sink);
         }
         self.at += 1;
         self.stage = Stage::Head {
             kind,
             count: count + 1,
-            length,
+            length: length * 256 + u32::from(byte),
         };
         Ok(())
     }
 
-    /// Takes in the last byte of a record's head, which tells this length.
+    /// Takes in the last byte of a record's head, behind three bytes of its length, which spell this number.
     fn end_head<S: Sink>(
         &mut self,
         kind: RecordKind,
         length: u32,
+        byte: u8,
         sink: &mut S,
     ) -> Result<(), Refusal> {
+        let length = length * 256 + u32::from(byte);
         if !kind.allows(length) {
             return Err(Refusal::Length(self.at));
         }
