@@ -2,6 +2,7 @@ pub mod ContextLaws
 pub mod FlowLaws
 pub mod FramingLaws
 pub mod HalfLaws
+pub mod ItemLaws
 pub mod LiftLaws
 pub mod PiecesLaws
 pub mod RunLaws

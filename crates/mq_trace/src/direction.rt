@@ -1,9 +1,9 @@
 //! One direction of a connection: its stream of packets, which the bodies of records carry in any cutting.
 
-ghost use Rattle.std.specs.Prelude.{◌≡◌, ◌+◌, ◌<◌, ◌≤◌, ◌^◌, ◌++◌, ◌⊎◌, [], List, Some, None, OnOk, IfOk, IfErr, length, take, true, false};
+ghost use Rattle.std.specs.Prelude.{◌≡◌, ◌+◌, ◌<◌, ◌≤◌, ◌^◌, ◌++◌, ◌⊎◌, [], List, Some, None, OnOk, IfOk, IfErr, length, take, slice_index, option_map, true, false};
 ghost use Rattle.mq_packet.specs.Stream.{frame_size, fixed_header_of};
 ghost use Rattle.mq_packet.specs.declared.header.FixedHeader.TheVariants as headers;
-ghost use Rattle.mq_trace.specs.Events.{Placed};
+ghost use Rattle.mq_trace.specs.Events.{Placed, item_read, read_frame};
 ghost use Rattle.mq_trace.specs.Context.{put};
 ghost use Rattle.mq_trace.specs.Hearing.{AreEvents, event_of, item_of};
 ghost use Rattle.mq_trace.specs.Telling.{Untold};
@@ -207,27 +207,37 @@ fn tell_frame<S: Sink>(
         → OnOk result (S.agrees sink.new (put (flow_placed_with (bed_of bed) (flow_of at (record { unfinished = []; lost = false }) connections.old) (frame_event bed.way frame.now)) earlier)) }
     ensures err { IfErr result (λ refusal. Untold S.refuses at (frame_met at (flow_of at (record { unfinished = []; lost = false }) connections.old) bed.way frame.now) sink.old sink.new refusal) }
 {
+    match item_in(frame) {
+        Some(item) => tell(
+            connections,
+            bed.server,
+            at,
+            bed.record_no,
+            going(bed.way, item),
+            sink,
+        ),
+        None => Err(Refusal::OtherVersion(at)),
+    }
+}
+
+/// What a whole packet is, unless it is a CONNECT of another protocol version (MQTT 5.0, section 3.1.2.2).
+fn item_in(frame: &[u8]) -> Option<Item<'_>>
+    requires { frame_size frame.now ≡ Some (length frame.now) }
+    ensures { option_map item_of result ≡ item_read (length frame.now) (slice_index frame.now 0) (read_frame frame.now) }
+{
     let FixedHeader::Whole { length, .. } = fixed_header(frame) else {
         unreachable!()
     };
     let first = frame[0];
-    let item = match decode(first, &frame[length..]) {
-        Ok(packet) => Item::Packet(packet),
-        Err(DecodeFault::Broken(fault)) => Item::Bad {
+    match decode(first, &frame[length..]) {
+        Ok(packet) => Some(Item::Packet(packet)),
+        Err(DecodeFault::Broken(fault)) => Some(Item::Bad {
             first,
             rule: fault.rule,
             at: fault.at,
-        },
-        Err(DecodeFault::OtherVersion(_)) => return Err(Refusal::OtherVersion(at)),
-    };
-    tell(
-        connections,
-        bed.server,
-        at,
-        bed.record_no,
-        going(bed.way, item),
-        sink,
-    )
+        }),
+        Err(DecodeFault::OtherVersion(_)) => None,
+    }
 }
 
 /// An item that goes this way.

@@ -1,0 +1,90 @@
+-- What a whole packet is, and what telling it meets.
+use Rattle.std.proofs.Common.{◌≡◌, ℕ, ◌-◌, ◌<◌, ◌≤◌, Bool, true, false, List, length, take, drop, take_all, Option, Some, None, Result, Ok, Err, refl, sym, ap, ◌∙◌, arith}
+use Rattle.std.specs.Prelude.{slice_index, unwrap_or, option_map}
+use Rattle.std.proofs.lemmas.List.{length-drop}
+use Rattle.mq_packet.specs.declared.header.FixedHeader.{FixedHeader}
+use Rattle.mq_packet.specs.declared.header.FixedHeader.TheVariants.{Short, Lost, Whole}
+use Rattle.mq_packet.specs.declared.fault.DecodeFault.{DecodeFault}
+use Rattle.mq_packet.specs.declared.fault.DecodeFault.TheVariants.{Broken, OtherVersion}
+use Rattle.mq_packet.specs.declared.packet.Packet.{Packet}
+use Rattle.mq_packet.specs.Entries.{Entry}
+use Rattle.mq_packet.specs.Reading.{view}
+use Rattle.mq_packet.specs.Sizes.{size_with, remaining_length}
+use Rattle.mq_packet.specs.Stream.{fixed_header_of, frame_size}
+use Rattle.mq_packet.specs.Decoding.{decoded}
+use Rattle.mq_packet.proofs.StreamLaws.{header_from_frame, size_above}
+use Rattle.mq_packet.proofs.BodyLaws.{size_of_frame}
+use Rattle.mq_trace.specs.declared.refusal.Refusal.{Refusal}
+use Rattle.mq_trace.specs.declared.kind.Way.{Way}
+use Rattle.mq_trace.specs.declared.connections.Connections.{Connections}
+use Rattle.mq_trace.specs.Events.{Item, Event, Placed, packet, bad, lost, item_read, read_frame}
+use Rattle.mq_trace.specs.Refusals.{is_other_version}
+use Rattle.mq_trace.specs.Context.{Half}
+use Rattle.mq_trace.specs.Flows.{Bed, going, flow_placed_with}
+use Rattle.mq_trace.specs.Telling.{met_by, connections_with, next_placed}
+use Rattle.mq_trace.specs.Directing.{flow_of, frame_event, frame_met, connections_then}
+
+-- What is known of a frame.
+pub framed : (frame : List ℕ) (header size : ℕ) → frame_size frame ≡ Some (length frame) → Whole header size ≡ fixed_header_of frame → (length frame ≡ size) × (1 ≤ header) × (header ≤ size)
+framed frame header size whole e =
+    (let known : (header' : ℕ) × (fixed_header_of frame ≡ Whole header' (length frame)) × (length frame ≤ length frame) = header_from_frame frame (length frame) whole in
+    let same : Whole header size ≡ Whole known.0 (length frame) = e ∙ known.1 in
+    let size_is : size ≡ length frame = cc in
+    let above : (1 ≤ header) × (header ≤ size) = size_above frame header size (sym e) in
+    (sym size_is, above.0, above.1))
+
+-- Where there is a frame, its fixed header is whole.
+pub frame_header : (frame : List ℕ) → frame_size frame ≡ Some (length frame) → (header : ℕ) × (size : ℕ) × (fixed_header_of frame ≡ Whole header size)
+frame_header frame whole =
+    (let known : (header' : ℕ) × (fixed_header_of frame ≡ Whole header' (length frame)) × (length frame ≤ length frame) = header_from_frame frame (length frame) whole in
+    (known.0, length frame, known.1))
+
+-- What a frame says is what its body says.
+pub read_by_body : (frame : List ℕ) (header size : ℕ) → Whole header size ≡ fixed_header_of frame → read_frame frame ≡ decoded (slice_index frame 0) (take (length frame - header) (drop header frame))
+unfolding read_frame
+read_by_body frame header size e =
+    (let rest : take (length frame - header) (drop header frame) ≡ drop header frame = grind (arith, take_all, length-drop) in
+    rw (rest, ← e) refl)
+
+-- A packet that was read of a frame's body, with its size.
+pub packet_read : (frame : List ℕ) (header size : ℕ) (p : Packet) → ((i : ℕ) → slice_index frame i < 256) → frame_size frame ≡ Some (length frame) → Whole header size ≡ fixed_header_of frame
+    → remaining_length p ≡ length (take (length frame - header) (drop header frame))
+    → packet (unwrap_or (size_with (remaining_length p)) 0) (view p) ≡ packet (length frame) (view p)
+packet_read frame header size p bytes whole e is =
+    (let rest : take (length frame - header) (drop header frame) ≡ drop header frame = grind (arith, take_all, length-drop) in
+    let known : (length frame ≡ size) × (1 ≤ header) × (header ≤ size) = framed frame header size whole e in
+    let sized : size_with (remaining_length p) ≡ Some (length frame) = size_of_frame frame header size p bytes (sym e) known.0 (is ∙ ap length rest) in
+    ap (λ (o : Option ℕ). packet (unwrap_or o 0) (view p)) sized)
+
+-- A frame that is an item meets what its event meets, and what is kept and heard is the event's.
+met_read : (at n b : ℕ) (half : Half) (c : Connections) (way : Way) (item : Item) (read : Result Entry DecodeFault) → item_read n b read ≡ Some item → is_other_version read ≡ false
+met_read at n b half c way item (Ok entry) e = refl
+met_read at n b half c way item (Err (Broken fault)) e = refl
+met_read at n b half c way item (Err (OtherVersion version)) e = absurd (cc)
+
+frame_event_is : (way : Way) (frame : List ℕ) (item : Item) → item_read (length frame) (slice_index frame 0) (read_frame frame) ≡ Some item → frame_event way frame ≡ Some (going way item)
+frame_event_is way frame item e = ap (option_map (going way)) e
+
+pub met_item : (at : ℕ) (half : Half) (c : Connections) (way : Way) (frame : List ℕ) (item : Item) → item_read (length frame) (slice_index frame 0) (read_frame frame) ≡ Some item
+    → frame_met at (flow_of at half c) way frame ≡ met_by at c (going way item)
+met_item at half c way frame item e =
+    (let other : is_other_version (read_frame frame) ≡ false = met_read at (length frame) (slice_index frame 0) half c way item (read_frame frame) e in
+    let event : frame_event way frame ≡ Some (going way item) = frame_event_is way frame item e in
+    rw (other, event) refl)
+
+pub kept_item : (server : Bool) (c : Connections) (way : Way) (frame : List ℕ) (item : Item) → item_read (length frame) (slice_index frame 0) (read_frame frame) ≡ Some item
+    → connections_then server c (frame_event way frame) ≡ connections_with server c (going way item)
+kept_item server c way frame item e = ap (connections_then server c) (frame_event_is way frame item e)
+
+pub placed_item : (at : ℕ) (bed : Bed) (half : Half) (c : Connections) (frame : List ℕ) (item : Item) → item_read (length frame) (slice_index frame 0) (read_frame frame) ≡ Some item
+    → flow_placed_with bed (flow_of at half c) (frame_event bed.way frame) ≡ Some (next_placed c bed.record_no (going bed.way item))
+placed_item at bed half c frame item e = ap (flow_placed_with bed (flow_of at half c)) (frame_event_is bed.way frame item e)
+
+-- A frame that is no item is of another protocol version.
+other_read : (n b : ℕ) (read : Result Entry DecodeFault) → item_read n b read ≡ None → is_other_version read ≡ true
+other_read n b (Ok entry) e = absurd (cc)
+other_read n b (Err (Broken fault)) e = absurd (cc)
+other_read n b (Err (OtherVersion version)) e = refl
+
+pub met_other : (frame : List ℕ) → item_read (length frame) (slice_index frame 0) (read_frame frame) ≡ None → is_other_version (read_frame frame) ≡ true
+met_other frame e = other_read (length frame) (slice_index frame 0) (read_frame frame) e
