@@ -1,17 +1,17 @@
 -- What several bytes of one direction do, within the body of a record: byte by byte, and a whole packet at a time.
 use Rattle.std.proofs.Common.{◌≡◌, ℕ, ◌+◌, ◌<◌, ◌≤◌, Bool, true, false, cond, ◌&&◌, ◌⊎◌, inl, inr, List, [], ◌∷◌, ◌++◌, length, Option, Some, None, refl, sym, ◌∙◌, ap, subst, arith, append_assoc, length-append}
-use Rattle.std.specs.Prelude.{◌==◌, is_some, nat_lt, nat_le, option_map, slice_index}
+use Rattle.std.specs.Prelude.{◌==◌, is_some, nat_le, option_map, slice_index}
 use Rattle.std.proofs.lemmas.List.{append-nil}
 use Rattle.std.proofs.lemmas.Bool.{le-ltb, lt-ltb, ne_eqb, eq-eqb}
 use Rattle.mq_packet.specs.declared.header.FixedHeader.{FixedHeader}
 use Rattle.mq_packet.specs.declared.header.FixedHeader.TheVariants as headers
 use Rattle.mq_packet.specs.Stream.{fixed_header_of, frame_size, is_lost}
-use Rattle.mq_packet.proofs.StreamLaws.{whole_stays, lost_stays, short_before, lost_header, header_lost, lost_no_frame, short_no_frame, no_frame_yet, frame_from_header, header_from_frame, frame_stood}
+use Rattle.mq_packet.proofs.StreamLaws.{whole_stays, lost_stays, short_before, lost_header, lost_no_frame, short_no_frame, no_frame_yet, frame_from_header, header_from_frame, frame_stood}
 use Rattle.mq_trace.specs.declared.kind.Way.{Way}
 use Rattle.mq_trace.specs.declared.kind.Way.TheVariants as ways
 use Rattle.mq_trace.specs.declared.refusal.Refusal.{Refusal}
 use Rattle.mq_trace.specs.declared.refusal.Refusal.TheVariants as refusals
-use Rattle.mq_trace.specs.Events.{lost, Item, Event, Placed, item_at, item_read, read_frame}
+use Rattle.mq_trace.specs.Events.{lost, Item, Event, item_at, item_read, read_frame}
 use Rattle.mq_trace.specs.Refusals.{or_else, first_standing, is_too_large, is_other_version}
 use Rattle.mq_trace.specs.Context.{Half, so_far_in, half_after, put}
 use Rattle.mq_trace.specs.Flows.{Bed, Flow, going, comes_early, flow_event, flow_refusal, flow_placed, flow_placed_with, flow_with, flow_after, flow_behind, flow_refused, flow_heard}
@@ -83,7 +83,6 @@ quiet_none limit bed f half e = record { refused = refl; heard = refl; behind = 
 quiet_more : (limit : ℕ) (bed : Bed) (f : Flow) (byte : ℕ) (bytes : List ℕ) (between half : Half)
     → IsQuietByte limit bed f byte between → IsQuiet limit bed (record f { at = f.at + 1; half = between }) bytes half → IsQuiet limit bed f (byte ∷ bytes) half
 quiet_more limit bed f byte bytes between half one more =
-    let g : Flow = record f { at = f.at + 1; half = between } in
     let counted : f.at + 1 + length bytes ≡ f.at + length (byte ∷ bytes) = omega arith in
     record {
       refused = ap (λ o. or_else o (flow_refused limit bed (flow_after bed f byte) bytes)) one.refused ∙ ap (λ g. flow_refused limit bed g bytes) one.behind ∙ more.refused;
@@ -225,7 +224,6 @@ unfinished_quiet : (limit : ℕ) (bed : Bed) (f : Flow) (u bytes : List ℕ) (he
     → IsQuiet limit bed f bytes (going_on (u ++ bytes))
 unfinished_quiet limit bed f u [] header size e whole less may = quiet_none limit bed f (going_on (u ++ [])) (at_end f u e)
 unfinished_quiet limit bed f u (byte ∷ bytes) header size e whole less may =
-    let t : List ℕ = u ++ byte ∷ [] in
     let joined : (u ++ byte ∷ []) ++ bytes ≡ u ++ byte ∷ bytes = append_assoc u (byte ∷ []) bytes in
     let whole' : fixed_header_of ((u ++ byte ∷ []) ++ bytes) ≡ headers.Whole header size = ap fixed_header_of joined ∙ whole in
     let counted : length ((u ++ byte ∷ []) ++ bytes) ≡ length (u ++ byte ∷ bytes) = ap length joined in
@@ -403,10 +401,10 @@ module _ (bed : Bed) (f : Flow) (u p : List ℕ) (byte : ℕ) (e : f.half ≡ go
       ∙ refused-one limit bed before byte
       ∙ last_refusal bed before (u ++ p) byte refl last_whole limit header size known (still limit may)
       ∙ ap (λ early. first_standing (
-          (is_other_version (read_frame ((u ++ p) ++ byte ∷ [])), refusals.OtherVersion (f.at + length p))
-          ∷ (early, refusals.Early (f.at + length p))
-          ∷ (is_some (frame_event bed ((u ++ p) ++ byte ∷ [])) && nat_le 4294967295 f.events, refusals.TooLong (f.at + length p))
-          ∷ [])) (same_early (frame_event bed ((u ++ p) ++ byte ∷ [])))
+      (is_other_version (read_frame ((u ++ p) ++ byte ∷ [])), refusals.OtherVersion (f.at + length p))
+      ∷ (early, refusals.Early (f.at + length p))
+      ∷ (is_some (frame_event bed ((u ++ p) ++ byte ∷ [])) && nat_le 4294967295 f.events, refusals.TooLong (f.at + length p))
+      ∷ [])) (same_early (frame_event bed ((u ++ p) ++ byte ∷ [])))
 
   same_place : (event : Option Event) → flow_placed_with bed before event ≡ flow_placed_with bed f event
   same_place None = refl
@@ -457,10 +455,10 @@ rejoined u bytes p byte e = append_assoc u p (byte ∷ []) ∙ ap (λ t. u ++ t)
 pub complete-refused : (limit : ℕ) (bed : Bed) (f : Flow) (u bytes : List ℕ) (header size at : ℕ) → f.half ≡ record { unfinished = u; lost = false }
     → fixed_header_of (u ++ bytes) ≡ headers.Whole header size → size ≡ length (u ++ bytes) → 0 < length bytes → at + 1 ≡ f.at + length bytes → (size ≤ limit) ⊎ (header ≤ length u)
     → flow_refused limit bed f bytes ≡ first_standing (
-        (is_other_version (read_frame (u ++ bytes)), refusals.OtherVersion at)
-        ∷ (comes_early f (option_map (going bed.way) (item_read (length (u ++ bytes)) (slice_index (u ++ bytes) 0) (read_frame (u ++ bytes)))), refusals.Early at)
-        ∷ (is_some (option_map (going bed.way) (item_read (length (u ++ bytes)) (slice_index (u ++ bytes) 0) (read_frame (u ++ bytes)))) && nat_le 4294967295 f.events, refusals.TooLong at)
-        ∷ [])
+    (is_other_version (read_frame (u ++ bytes)), refusals.OtherVersion at)
+    ∷ (comes_early f (option_map (going bed.way) (item_read (length (u ++ bytes)) (slice_index (u ++ bytes) 0) (read_frame (u ++ bytes)))), refusals.Early at)
+    ∷ (is_some (option_map (going bed.way) (item_read (length (u ++ bytes)) (slice_index (u ++ bytes) 0) (read_frame (u ++ bytes)))) && nat_le 4294967295 f.events, refusals.TooLong at)
+    ∷ [])
 complete-refused limit bed f u bytes header size at e known all some last may =
     let cut : HasLast bytes = has_last bytes some in
     let frame : (u ++ cut.before) ++ cut.byte ∷ [] ≡ u ++ bytes = rejoined u bytes cut.before cut.byte cut.joined in
@@ -497,10 +495,10 @@ complete-behind bed f u bytes header size e known all some =
 pub complete-refused-within : (limit : ℕ) (bed : Bed) (f : Flow) (u bytes : List ℕ) (at : ℕ) → f.half ≡ record { unfinished = u; lost = false }
     → frame_size (u ++ bytes) ≡ Some (length (u ++ bytes)) → 0 < length bytes → at + 1 ≡ f.at + length bytes → length (u ++ bytes) ≤ limit
     → flow_refused limit bed f bytes ≡ first_standing (
-        (is_other_version (read_frame (u ++ bytes)), refusals.OtherVersion at)
-        ∷ (comes_early f (option_map (going bed.way) (item_read (length (u ++ bytes)) (slice_index (u ++ bytes) 0) (read_frame (u ++ bytes)))), refusals.Early at)
-        ∷ (is_some (option_map (going bed.way) (item_read (length (u ++ bytes)) (slice_index (u ++ bytes) 0) (read_frame (u ++ bytes)))) && nat_le 4294967295 f.events, refusals.TooLong at)
-        ∷ [])
+    (is_other_version (read_frame (u ++ bytes)), refusals.OtherVersion at)
+    ∷ (comes_early f (option_map (going bed.way) (item_read (length (u ++ bytes)) (slice_index (u ++ bytes) 0) (read_frame (u ++ bytes)))), refusals.Early at)
+    ∷ (is_some (option_map (going bed.way) (item_read (length (u ++ bytes)) (slice_index (u ++ bytes) 0) (read_frame (u ++ bytes)))) && nat_le 4294967295 f.events, refusals.TooLong at)
+    ∷ [])
 complete-refused-within limit bed f u bytes at e whole some last within =
     let found : (header : ℕ) × (fixed_header_of (u ++ bytes) ≡ headers.Whole header (length (u ++ bytes))) × (length (u ++ bytes) ≤ length (u ++ bytes)) = header_from_frame (u ++ bytes) (length (u ++ bytes)) whole in
     complete-refused limit bed f u bytes found.0 (length (u ++ bytes)) at e found.1 refl some last (inl within)
@@ -519,3 +517,10 @@ pub complete-behind-frame : (bed : Bed) (f : Flow) (u bytes : List ℕ) → f.ha
 complete-behind-frame bed f u bytes e whole some =
     let found : (header : ℕ) × (fixed_header_of (u ++ bytes) ≡ headers.Whole header (length (u ++ bytes))) × (length (u ++ bytes) ≤ length (u ++ bytes)) = header_from_frame (u ++ bytes) (length (u ++ bytes)) whole in
     complete-behind bed f u bytes found.0 (length (u ++ bytes)) e found.1 refl some
+
+-- A refusal of the first bytes stays, whatever follows; where there is none, what follows decides.
+pub refused-first : (limit : ℕ) (bed : Bed) (f : Flow) (a b : List ℕ) (refusal : Refusal) → flow_refused limit bed f a ≡ Some refusal → flow_refused limit bed f (a ++ b) ≡ Some refusal
+refused-first limit bed f a b refusal e = refused-append limit bed f a b ∙ ap (λ o. or_else o (flow_refused limit bed (flow_behind bed f a) b)) e
+
+pub refused-later : (limit : ℕ) (bed : Bed) (f : Flow) (a b : List ℕ) → flow_refused limit bed f a ≡ None → flow_refused limit bed f (a ++ b) ≡ flow_refused limit bed (flow_behind bed f a) b
+refused-later limit bed f a b e = refused-append limit bed f a b ∙ ap (λ o. or_else o (flow_refused limit bed (flow_behind bed f a) b)) e

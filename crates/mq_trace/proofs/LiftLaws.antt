@@ -2,7 +2,7 @@
 use Rattle.std.proofs.Common.{◌≡◌, ℕ, ◌+◌, ◌<◌, ◌≤◌, Bool, true, false, cond, ◌&&◌, List, [], ◌∷◌, ◌++◌, length, Option, Some, None, refl, sym, ◌∙◌, ap, arith, append_assoc, length-append}
 use Rattle.std.specs.Prelude.{◌==◌, ◌||◌, not, if◌then◌else◌, is_some, is_none, nat_lt, nat_le, option_map}
 use Rattle.std.proofs.lemmas.List.{append-nil}
-use Rattle.std.proofs.lemmas.Bool.{le-ltb, lt-ltb, leb-true, leb-false, le-leb, lt-leb, eqb-true, eqb-false, ne_eqb, eq-eqb}
+use Rattle.std.proofs.lemmas.Bool.{le-ltb, lt-ltb, le-leb, lt-leb, eqb-true, eqb-false, ne_eqb}
 use Rattle.mq_packet.specs.Stream.{fixed_header_of, frame_size}
 use Rattle.mq_trace.specs.declared.kind.RecordKind.{RecordKind}
 use Rattle.mq_trace.specs.declared.kind.RecordKind.TheVariants as kinds
@@ -11,8 +11,8 @@ use Rattle.mq_trace.specs.declared.kind.Way.TheVariants as ways
 use Rattle.mq_trace.specs.declared.refusal.Refusal.{Refusal}
 use Rattle.mq_trace.specs.declared.refusal.Refusal.TheVariants as refusals
 use Rattle.mq_trace.specs.Framing.{kind_of, body_length, record_size, way_of, opens}
-use Rattle.mq_trace.specs.Events.{Item, Event, Placed, item_at, event_by, event_in, read_frame}
-use Rattle.mq_trace.specs.Refusals.{Situation, or_else, first_standing, allows, is_open_kind, needs_connection, is_release_kind, is_too_large, is_other_version, is_early, record_refusal, header_refusal}
+use Rattle.mq_trace.specs.Events.{Item, Event, item_at, event_by, event_in, read_frame}
+use Rattle.mq_trace.specs.Refusals.{or_else, first_standing, allows, is_open_kind, needs_connection, is_release_kind, is_too_large, is_other_version, is_early, record_refusal, header_refusal}
 use Rattle.mq_trace.specs.Context.{Half, Context, half_for, so_far_in, so_far_by, so_far_for, situated, half_after, half_by, half_then, with_heard, after_header, after_part, after, put, placed_with, placed_for, refusal_for, event_for}
 use Rattle.mq_trace.specs.Runs.{behind, refused_in, heard_in}
 use Rattle.mq_trace.specs.Flows.{Bed, Flow, going, comes_early, flow_event, flow_refusal, flow_placed, flow_placed_with, flow_with, flow_after, flow_behind, flow_refused, flow_heard, bed_in, flow_in, half_behind, flowed}
@@ -168,7 +168,6 @@ module _ (c : Context) (way : Way) (byte : ℕ) (behind_header : 8 ≤ c.at) (go
   refusal_lifted : (limit : ℕ) → refusal_for limit c byte ≡ flow_refusal limit bed flow byte
   unfolding refusal_for
   refusal_lifted limit =
-      let event : Option Event = flow_event bed flow byte in
       ap (λ b. if b then header_refusal c.at byte else record_refusal limit (situated c byte)) (le-ltb c.at 8 behind_header)
       ∙ by_lines limit
       ∙ ap (λ b. lines limit c part (so_far_for c byte) b (length part == 5) (is_early (situated c byte) (event_in part (so_far_for c byte))) (event_in part (so_far_for c byte))) not_first
@@ -215,10 +214,6 @@ module _ (c : Context) (way : Way) (byte : ℕ) (behind_header : 8 ≤ c.at) (go
   after_lifted : length c.part < 5 + body_length c.part → after c byte ≡ flowed c way (length c.part + 1 == 5 + body_length c.part) (flow_after bed flow byte) (byte ∷ [])
   unfolding after
   after_lifted less =
-      let item : Option Item = item_at (so_far_in (half_for c way) byte) in
-      let sent : Half = half_behind ways.Sent way (half_after (half_for c way) byte) c.sent in
-      let recv : Half = half_behind ways.Recv way (half_after (half_for c way) byte) c.recv in
-      let whole : Bool = length c.part + 1 == 5 + body_length c.part in
       ap (λ b. if b then after_header c byte else with_heard (after_part c part byte) (event_for c byte)) (le-ltb c.at 8 behind_header)
       ∙ ap (λ h. kept c part (is_some (record_size part)) h (half_then ways.Recv c.recv part byte) (event_for c byte)) (half_is ways.Sent)
       ∙ ap (λ h. kept c part (is_some (record_size part)) (half_behind ways.Sent way (half_after (half_for c way) byte) c.sent) h (event_for c byte)) (half_is ways.Recv)
@@ -241,3 +236,126 @@ lifted-placed c way byte behind_header goes there = placed_lifted c way byte beh
 pub lifted-after : (c : Context) (way : Way) (byte : ℕ) → 8 ≤ c.at → way_of (kind_of c.part) ≡ Some way → 5 ≤ length c.part → length c.part < 5 + body_length c.part
     → after c byte ≡ flowed c way (length c.part + 1 == 5 + body_length c.part) (flow_after (bed_in c way) (flow_in c way) byte) (byte ∷ [])
 lifted-after c way byte behind_header goes there less = after_lifted c way byte behind_header goes there less
+
+flow_with_at : (bed : Bed) (f : Flow) (event : Option Event) → (flow_with bed f event).at ≡ f.at
+flow_with_at _ f None = refl
+flow_with_at _ f (Some event) = refl
+
+flow_with_connected : (bed : Bed) (f : Flow) (event : Option Event) → (flow_with bed f event).connected ≡ f.connected
+flow_with_connected _ f None = refl
+flow_with_connected _ f (Some event) = refl
+
+after_at : (bed : Bed) (f : Flow) (byte : ℕ) → (flow_after bed f byte).at ≡ f.at + 1
+unfolding flow_after
+after_at bed f byte = flow_with_at bed (record f { at = f.at + 1; half = half_after f.half byte }) (flow_event bed f byte)
+
+after_connected : (bed : Bed) (f : Flow) (byte : ℕ) → (flow_after bed f byte).connected ≡ f.connected
+unfolding flow_after
+after_connected bed f byte = flow_with_connected bed (record f { at = f.at + 1; half = half_after f.half byte }) (flow_event bed f byte)
+
+-- A flow is found again in what is kept behind it.
+flow_again : (c : Context) (way : Way) (g : Flow) (bytes : List ℕ) → g.connected ≡ c.connected → flow_in (flowed c way false g bytes) way ≡ g
+flow_again c ways.Sent g bytes e = ap (λ b. record g { connected = b }) (sym e)
+flow_again c ways.Recv g bytes e = ap (λ b. record g { connected = b }) (sym e)
+
+flowed_twice : (c : Context) (way : Way) (whole : Bool) (g h : Flow) (bytes more : List ℕ) → flowed (flowed c way false g bytes) way whole h more ≡ flowed c way whole h (bytes ++ more)
+flowed_twice c ways.Sent whole g h bytes more = ap (λ t. record (flowed c ways.Sent whole h (bytes ++ more)) { part = cond whole [] t }) (append_assoc c.part bytes more)
+flowed_twice c ways.Recv whole g h bytes more = ap (λ t. record (flowed c ways.Recv whole h (bytes ++ more)) { part = cond whole [] t }) (append_assoc c.part bytes more)
+
+flowed_none : (c : Context) (way : Way) → flowed c way false (flow_in c way) [] ≡ c
+flowed_none c ways.Sent = ap (λ t. record c { part = t }) (append-nil c.part)
+flowed_none c ways.Recv = ap (λ t. record c { part = t }) (append-nil c.part)
+
+-- a byte of a body behind which more of the body stands
+module _ (c : Context) (way : Way) (byte next : ℕ) (bytes : List ℕ) (behind_header : 8 ≤ c.at) (goes : way_of (kind_of c.part) ≡ Some way) (there : 5 ≤ length c.part)
+    (fits : length c.part + length (byte ∷ next ∷ bytes) ≤ 5 + body_length c.part) where
+  abbrev then_flow : Flow
+  then_flow = flow_after (bed_in c way) (flow_in c way) byte
+
+  abbrev then_kept : Context
+  then_kept = flowed c way false then_flow (byte ∷ [])
+
+  then_longer : length (c.part ++ byte ∷ []) ≡ length c.part + 1
+  then_longer = length-append c.part (byte ∷ [])
+
+  then_is : after c byte ≡ then_kept
+  then_is =
+      lifted-after c way byte behind_header goes there (omega arith)
+      ∙ ap (λ b. flowed c way b then_flow (byte ∷ [])) (ne_eqb (length c.part + 1) (5 + body_length c.part) (λ same. (omega arith)))
+
+  then_at : 8 ≤ then_kept.at
+  then_at = let same : then_flow.at ≡ c.at + 1 = after_at (bed_in c way) (flow_in c way) byte in omega arith
+
+  then_goes : way_of (kind_of then_kept.part) ≡ Some way
+  then_goes = ap way_of (kind_stays c.part (byte ∷ []) there) ∙ goes
+
+  then_there : 5 ≤ length then_kept.part
+  then_there = let l = then_longer in omega arith
+
+  then_body : body_length then_kept.part ≡ body_length c.part
+  then_body = body_stays c.part (byte ∷ []) there
+
+  then_fits : length then_kept.part + length (next ∷ bytes) ≤ 5 + body_length then_kept.part
+  then_fits = let l = then_longer in let b = then_body in omega arith
+
+  then_less : length then_kept.part < 5 + body_length then_kept.part
+  then_less = let l = then_longer in let b = then_body in omega arith
+
+  then_flows : flow_in then_kept way ≡ then_flow
+  then_flows = flow_again c way then_flow (byte ∷ []) (after_connected (bed_in c way) (flow_in c way) byte)
+
+  then_whole : (length then_kept.part + length (next ∷ bytes) == 5 + body_length then_kept.part) ≡ (length c.part + length (byte ∷ next ∷ bytes) == 5 + body_length c.part)
+  then_whole =
+      let l = then_longer in
+      let counted : length (c.part ++ byte ∷ []) + length (next ∷ bytes) ≡ length c.part + length (byte ∷ next ∷ bytes) = omega arith in
+      ap (λ n. n == 5 + body_length then_kept.part) counted ∙ ap (λ n. length c.part + length (byte ∷ next ∷ bytes) == 5 + n) then_body
+
+-- Bytes of one body are refused as in their flow ..
+pub lifted-refused : (limit : ℕ) (c : Context) (way : Way) (bytes : List ℕ) → 8 ≤ c.at → way_of (kind_of c.part) ≡ Some way → 5 ≤ length c.part
+    → length c.part + length bytes ≤ 5 + body_length c.part → refused_in limit c bytes ≡ flow_refused limit (bed_in c way) (flow_in c way) bytes
+lifted-refused limit c way [] behind_header goes there fits = refl
+lifted-refused limit c way (byte ∷ []) behind_header goes there fits = ap (λ o. or_else o None) (lifted-refusal limit c way byte behind_header goes there)
+lifted-refused limit c way (byte ∷ next ∷ bytes) behind_header goes there fits =
+    ap (λ o. or_else o (refused_in limit (after c byte) (next ∷ bytes))) (lifted-refusal limit c way byte behind_header goes there)
+    ∙ ap (or_else (flow_refusal limit (bed_in c way) (flow_in c way) byte))
+    (ap (λ k. refused_in limit k (next ∷ bytes)) (then_is c way byte next bytes behind_header goes there fits)
+    ∙ lifted-refused limit (then_kept c way byte next bytes behind_header goes there fits) way (next ∷ bytes)
+    (then_at c way byte next bytes behind_header goes there fits) (then_goes c way byte next bytes behind_header goes there fits)
+    (then_there c way byte next bytes behind_header goes there fits) (then_fits c way byte next bytes behind_header goes there fits)
+    ∙ ap (λ g. flow_refused limit (bed_in c way) g (next ∷ bytes)) (then_flows c way byte next bytes behind_header goes there fits))
+
+-- .. complete what they do there ..
+pub lifted-heard : (c : Context) (way : Way) (bytes : List ℕ) → 8 ≤ c.at → way_of (kind_of c.part) ≡ Some way → 5 ≤ length c.part
+    → length c.part + length bytes ≤ 5 + body_length c.part → heard_in c bytes ≡ flow_heard (bed_in c way) (flow_in c way) bytes
+lifted-heard c way [] behind_header goes there fits = refl
+lifted-heard c way (byte ∷ []) behind_header goes there fits = ap (λ placed. put placed []) (lifted-placed c way byte behind_header goes there)
+lifted-heard c way (byte ∷ next ∷ bytes) behind_header goes there fits =
+    ap (λ placed. heard_in (after c byte) (next ∷ bytes) ++ put placed []) (lifted-placed c way byte behind_header goes there)
+    ∙ ap (λ heard. heard ++ put (flow_placed (bed_in c way) (flow_in c way) byte) [])
+    (ap (λ k. heard_in k (next ∷ bytes)) (then_is c way byte next bytes behind_header goes there fits)
+    ∙ lifted-heard (then_kept c way byte next bytes behind_header goes there fits) way (next ∷ bytes)
+    (then_at c way byte next bytes behind_header goes there fits) (then_goes c way byte next bytes behind_header goes there fits)
+    (then_there c way byte next bytes behind_header goes there fits) (then_fits c way byte next bytes behind_header goes there fits)
+    ∙ ap (λ g. flow_heard (bed_in c way) g (next ∷ bytes)) (then_flows c way byte next bytes behind_header goes there fits))
+
+-- .. and leave what they leave there.
+pub lifted-behind : (c : Context) (way : Way) (bytes : List ℕ) → 8 ≤ c.at → way_of (kind_of c.part) ≡ Some way → 5 ≤ length c.part
+    → length c.part < 5 + body_length c.part → length c.part + length bytes ≤ 5 + body_length c.part
+    → behind c bytes ≡ flowed c way (length c.part + length bytes == 5 + body_length c.part) (flow_behind (bed_in c way) (flow_in c way) bytes) bytes
+lifted-behind c way [] behind_header goes there less fits =
+    sym (ap (λ b. flowed c way b (flow_in c way) []) (ne_eqb (length c.part + length {A = ℕ} []) (5 + body_length c.part) (λ same. (omega arith))) ∙ flowed_none c way)
+lifted-behind c way (byte ∷ []) behind_header goes there less fits =
+    let one : length c.part + 1 ≡ length c.part + length (byte ∷ []) = omega arith in
+    lifted-after c way byte behind_header goes there less
+    ∙ ap (λ n. flowed c way (n == 5 + body_length c.part) (flow_after (bed_in c way) (flow_in c way) byte) (byte ∷ [])) one
+lifted-behind c way (byte ∷ next ∷ bytes) behind_header goes there less fits =
+    let c' : Context = then_kept c way byte next bytes behind_header goes there fits in
+    ap (λ k. behind k (next ∷ bytes)) (then_is c way byte next bytes behind_header goes there fits)
+    ∙ lifted-behind (then_kept c way byte next bytes behind_header goes there fits) way (next ∷ bytes)
+    (then_at c way byte next bytes behind_header goes there fits) (then_goes c way byte next bytes behind_header goes there fits)
+    (then_there c way byte next bytes behind_header goes there fits) (then_less c way byte next bytes behind_header goes there fits)
+    (then_fits c way byte next bytes behind_header goes there fits)
+    ∙ ap (λ b. flowed c' way b (flow_behind (bed_in c way) (flow_in c' way) (next ∷ bytes)) (next ∷ bytes)) (then_whole c way byte next bytes behind_header goes there fits)
+    ∙ ap (λ g. flowed c' way (length c.part + length (byte ∷ next ∷ bytes) == 5 + body_length c.part) (flow_behind (bed_in c way) g (next ∷ bytes)) (next ∷ bytes)) (then_flows c way byte next bytes behind_header goes there fits)
+    ∙ flowed_twice c way (length c.part + length (byte ∷ next ∷ bytes) == 5 + body_length c.part) (flow_after (bed_in c way) (flow_in c way) byte)
+    (flow_behind (bed_in c way) (flow_after (bed_in c way) (flow_in c way) byte) (next ∷ bytes)) (byte ∷ []) (next ∷ bytes)
