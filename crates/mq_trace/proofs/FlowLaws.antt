@@ -66,10 +66,10 @@ unfolding flow_placed
 placed_is bed f byte event i = ap (flow_placed_with bed f) i
 
 -- What bytes do that complete nothing and aren't refused.
-record IsQuiet (limit : ℕ) (bed : Bed) (f : Flow) (bytes : List ℕ) (half : Half) : Type 0 where
-  refused : flow_refused limit bed f bytes ≡ None
-  heard : flow_heard bed f bytes ≡ []
-  behind : flow_behind bed f bytes ≡ record f { at = f.at + length bytes; half = half }
+pub record IsQuiet (limit : ℕ) (bed : Bed) (f : Flow) (bytes : List ℕ) (half : Half) : Type 0 where
+  pub refused : flow_refused limit bed f bytes ≡ None
+  pub heard : flow_heard bed f bytes ≡ []
+  pub behind : flow_behind bed f bytes ≡ record f { at = f.at + length bytes; half = half }
 
 -- the same of one byte
 record IsQuietByte (limit : ℕ) (bed : Bed) (f : Flow) (byte : ℕ) (half : Half) : Type 0 where
@@ -369,7 +369,7 @@ module _ (bed : Bed) (f : Flow) (u p : List ℕ) (byte : ℕ) (e : f.half ≡ go
   abbrev before : Flow
   before = record f { at = f.at + length p; half = going_on (u ++ p) }
 
-  until_last : (limit : ℕ) → (size ≤ limit) ⊎ (header ≤ length u) → IsQuiet limit bed f p (going_on (u ++ p))
+  pub until_last : (limit : ℕ) → (size ≤ limit) ⊎ (header ≤ length u) → IsQuiet limit bed f p (going_on (u ++ p))
   until_last limit may = told (fixed_header_of (u ++ p)) refl
     where
       told : (front : FixedHeader) → fixed_header_of (u ++ p) ≡ front → IsQuiet limit bed f p (going_on (u ++ p))
@@ -435,16 +435,16 @@ module _ (bed : Bed) (f : Flow) (u p : List ℕ) (byte : ℕ) (e : f.half ≡ go
       moved_on event same = ap (λ n. flow_with bed (record f { at = n; half = going_on [] }) event) same
 
 -- bytes that aren't none have a last one
-record HasLast (bytes : List ℕ) : Type 0 where
-  before : List ℕ
-  byte : ℕ
-  joined : bytes ≡ before ++ byte ∷ []
+pub record HasLast (bytes : List ℕ) : Type 0 where
+  pub before : List ℕ
+  pub byte : ℕ
+  pub joined : bytes ≡ before ++ byte ∷ []
 
 last_of : (byte : ℕ) (bytes : List ℕ) → HasLast (byte ∷ bytes)
 last_of byte [] = record { before = []; byte = byte; joined = refl }
 last_of byte (next ∷ bytes) = let more : HasLast (next ∷ bytes) = last_of next bytes in record { before = byte ∷ more.before; byte = more.byte; joined = ap (λ t. byte ∷ t) more.joined }
 
-has_last : (bytes : List ℕ) → 0 < length bytes → HasLast bytes
+pub has_last : (bytes : List ℕ) → 0 < length bytes → HasLast bytes
 has_last [] some = absurd (omega arith)
 has_last (byte ∷ bytes) some = last_of byte bytes
 

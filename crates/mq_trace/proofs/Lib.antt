@@ -1,4 +1,5 @@
 pub mod ContextLaws
+pub mod DirectionLaws
 pub mod FlowLaws
 pub mod FramingLaws
 pub mod HalfLaws

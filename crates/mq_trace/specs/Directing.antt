@@ -1,5 +1,5 @@
 -- One direction in memory: what a step takes in, and what stops it.
-use Rattle.std.specs.Prelude.{◌≡◌, ℕ, ◌+◌, ◌⊎◌, nat_le, Bool, true, ◌&&◌, List, [], ◌∷◌, ◌++◌, length, slice_index, Option, Some, None, option_map, is_some}
+use Rattle.std.specs.Prelude.{◌≡◌, ℕ, ◌+◌, ◌≤◌, ◌⊎◌, nat_le, Bool, true, ◌&&◌, List, [], ◌∷◌, ◌++◌, length, slice_index, Option, Some, None, option_map, is_some}
 use Rattle.mq_trace.specs.declared.kind.Way.{Way}
 use Rattle.mq_trace.specs.declared.refusal.Refusal.{Refusal}
 use Rattle.mq_trace.specs.declared.refusal.Refusal.TheVariants as refusals
@@ -8,7 +8,12 @@ use Rattle.mq_trace.specs.declared.direction.Bed.{Bed as BedInMemory}
 use Rattle.mq_trace.specs.Events.{Event, Placed, item_read, read_frame}
 use Rattle.mq_trace.specs.Refusals.{first_standing, is_other_version}
 use Rattle.mq_trace.specs.Context.{Half}
-use Rattle.mq_trace.specs.Flows.{Bed, Flow, going, comes_early, flow_placed_with, flow_refused, flow_heard}
+use Rattle.mq_packet.specs.declared.header.FixedHeader.TheVariants as headers
+use Rattle.mq_packet.specs.Stream.{fixed_header_of, frame_size}
+use Rattle.mq_trace.specs.declared.direction.Step.{Step}
+use Rattle.mq_trace.specs.declared.direction.Step.TheVariants as steps
+use Rattle.mq_trace.specs.Hearing.{AreEvents}
+use Rattle.mq_trace.specs.Flows.{Bed, Flow, going, comes_early, flow_refused, flow_behind, flow_heard}
 use Rattle.mq_trace.specs.Telling.{connections_with, RefusedBySink}
 
 abbrev pub bed_of : BedInMemory → Bed
@@ -51,3 +56,15 @@ pub record FlowStops {S : Type 0} (refuses : S → Refusal → Type 0) (limit : 
   pub unrefused : flow_refused limit bed f taken ≡ None
   pub unheard : flow_heard bed f taken ≡ []
   pub why : FlowWhy refuses (f.at + length taken) (flow_refused limit bed f (taken ++ byte ∷ [])) (flow_heard bed f (taken ++ byte ∷ [])) old new refusal
+
+-- These bytes bring a direction from one state to another: none of them is refused, and a sink that had heard what came before has heard the events too that they complete.
+pub record FlowComes {S : Type 0} (agrees : S → List Placed → Type 0) (limit : ℕ) (bed : Bed) (f f' : Flow) (bytes : List ℕ) (old new : S) : Type 0 where
+  pub unrefused : flow_refused limit bed f bytes ≡ None
+  pub kept : flow_behind bed f bytes ≡ f'
+  pub told : (earlier : List Placed) → agrees old earlier → AreEvents (flow_heard bed f bytes ++ earlier) → agrees new (flow_heard bed f bytes ++ earlier)
+
+-- What the next bytes of a direction are: a whole packet within the limit; more of an unfinished packet of this size; or a byte that may belong to a fixed header.
+abbrev pub IsStep : Half → ℕ → List ℕ → Step → Type 0
+IsStep half limit bytes (steps.Whole size) = (half.unfinished ≡ []) × (frame_size bytes ≡ Some size) × (size ≤ limit)
+IsStep half limit bytes (steps.More size) = (header : ℕ) × (fixed_header_of half.unfinished ≡ headers.Whole header size)
+IsStep half limit bytes steps.Byte = Unit {0}

@@ -105,4 +105,4 @@ pub record StepStops {S : Type 0} (refuses : S → Refusal → Type 0) (r : Read
   pub later : List ℕ
   pub is : bytes ≡ taken ++ byte ∷ later
   pub each : (part : List ℕ) → IsAt r.stage part → (refused_in r.limit (context_of r part) taken ≡ None) × (heard_in (context_of r part) taken ≡ [])
-    × FlowWhy refuses (r.at + length taken) (refused_in r.limit (context_of r part) (taken ++ byte ∷ [])) (heard_in (context_of r part) (taken ++ byte ∷ [])) old new refusal
+      × FlowWhy refuses (r.at + length taken) (refused_in r.limit (context_of r part) (taken ++ byte ∷ [])) (heard_in (context_of r part) (taken ++ byte ∷ [])) old new refusal

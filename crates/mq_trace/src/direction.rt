@@ -1,6 +1,6 @@
 //! One direction of a connection: its stream of packets, which the bodies of records carry in any cutting.
 
-ghost use Rattle.std.specs.Prelude.{◌≡◌, ◌+◌, ◌<◌, ◌≤◌, ◌^◌, ◌++◌, ◌⊎◌, [], List, Some, None, OnOk, IfOk, IfErr, length, take, slice_index, option_map, true, false};
+ghost use Rattle.std.specs.Prelude.{◌≡◌, ◌+◌, ◌<◌, ◌≤◌, ◌^◌, ◌++◌, ◌⊎◌, ℕ, ◌∷◌, [], List, Some, None, OnOk, IfOk, IfErr, length, take, slice_index, option_map, true, false};
 ghost use Rattle.mq_packet.specs.Stream.{frame_size, fixed_header_of};
 ghost use Rattle.mq_packet.specs.declared.header.FixedHeader.TheVariants as headers;
 ghost use Rattle.mq_trace.specs.Events.{Placed, item_read, read_frame};
@@ -9,7 +9,7 @@ ghost use Rattle.mq_trace.specs.Hearing.{AreEvents, event_of, item_of};
 ghost use Rattle.mq_trace.specs.Telling.{Untold};
 ghost use Rattle.mq_trace.specs.Keeping.{half_in, IsUnfinished};
 ghost use Rattle.mq_trace.specs.Flows.{going, flow_placed_with, flow_refused, flow_heard, flow_behind};
-ghost use Rattle.mq_trace.specs.Directing.{bed_of, flow_of, frame_event, frame_met, connections_then, FlowStops};
+ghost use Rattle.mq_trace.specs.Directing.{bed_of, flow_of, frame_event, frame_met, connections_then, FlowStops, FlowComes, IsStep};
 
 use super::connections::{Connections, tell};
 use super::event::{Event, Item};
@@ -38,6 +38,17 @@ pub struct Bed {
     pub record_no: u32,
     /// The largest packet that is read, in bytes.
     pub limit: u32,
+}
+
+/// What the next bytes of a direction are to it.
+#[derive(Clone, Copy, Debug, PartialEq, Eq)]
+pub enum Step {
+    /// A whole packet of this size, within the limit.
+    Whole(usize),
+    /// More of the unfinished packet, which has this size.
+    More(usize),
+    /// A byte that may belong to a fixed header.
+    Byte,
 }
 
 impl Direction {
@@ -88,22 +99,42 @@ impl Direction {
         if self.lost {
             return Ok(bytes.len());
         }
-        if self.unfinished.is_empty() {
-            if let FixedHeader::Whole { size, .. } = fixed_header(bytes) {
-                if size <= bed.limit as usize && size <= bytes.len() {
-                    let last = at + (size - 1) as u64;
-                    tell_frame(bed, connections, last, &bytes[..size], sink)?;
-                    return Ok(size);
-                }
+        match self.step(bed.limit, bytes) {
+            Step::Whole(size) => {
+                take_whole(bed, connections, at, &bytes[..size], sink)?;
+                Ok(size)
             }
-        } else if let FixedHeader::Whole { size, .. } = fixed_header(self.unfinished.as_slice()) {
-            return self.go_on(bed, connections, at, size, bytes, sink);
+            Step::More(size) => self.go_on(bed, connections, at, size, bytes, sink),
+            Step::Byte => {
+                self.take_byte(bed, connections, at, bytes[0], sink)?;
+                Ok(1)
+            }
         }
-        self.take_byte(bed, connections, at, bytes[0], sink)?;
-        Ok(1)
     }
 
-    /// Goes on with an unfinished packet of this size, whose fixed header is whole.
+    /// What the next bytes are to the direction, which isn't lost.
+    fn step(&self, limit: u32, bytes: &[u8]) -> Step
+        ensures { IsStep (half_in self.now) limit bytes.now result }
+    {
+        if self.unfinished.is_empty() {
+            match fixed_header(bytes) {
+                FixedHeader::Whole { size, .. } if size <= limit as usize && size <= bytes.len() =>
+                    { Step::Whole(size) }
+                _ => Step::Byte,
+            }
+        } else {
+            match fixed_header(self.unfinished.as_slice()) {
+                FixedHeader::Whole { size, .. } => Step::More(size),
+                _ => Step::Byte,
+            }
+        }
+    }
+
+    /// Goes on with an unfinished packet of this size, whose fixed header is whole. Answers how many bytes it takes.
+    ///
+    /// # Errors
+    ///
+    /// The refusal that stands with the packet's last byte; the sink's own refusal; `Memory`.
     fn go_on<S: Sink>(
         &mut self,
         bed: Bed,
@@ -119,25 +150,89 @@ impl Direction {
         requires kept { self.old.lost ≡ false }
         requires begun { (header : ℕ) × (fixed_header_of self.old.unfinished.items ≡ headers.Whole header size) }
         ensures count { IfOk result (λ n. (1 ≤ n) × (n ≤ length bytes.now)) }
-        ensures unrefused { IfOk result (λ n. flow_refused bed.limit (bed_of bed) (flow_of at (half_in self.old) connections.old) (take n bytes.now) ≡ None) }
-        ensures kept { IfOk result (λ n. flow_behind (bed_of bed) (flow_of at (half_in self.old) connections.old) (take n bytes.now) ≡ flow_of (at + n) (half_in self.new) connections.new) }
-        ensures heard { (earlier : List Placed) → S.agrees sink.old earlier → IfOk result (λ n.
-            AreEvents (flow_heard (bed_of bed) (flow_of at (half_in self.old) connections.old) (take n bytes.now) ++ earlier)
-            → S.agrees sink.new (flow_heard (bed_of bed) (flow_of at (half_in self.old) connections.old) (take n bytes.now) ++ earlier)) }
+        ensures comes { IfOk result (λ n. FlowComes S.agrees bed.limit (bed_of bed) (flow_of at (half_in self.old) connections.old)
+            (flow_of (at + n) (half_in self.new) connections.new) (take n bytes.now) sink.old sink.new) }
         ensures sound { OnOk result (IsUnfinished bed.limit (half_in self.new)) }
         ensures stops { IfErr result (λ refusal. FlowStops S.refuses bed.limit (bed_of bed) (flow_of at (half_in self.old) connections.old) bytes.now sink.old sink.new refusal) }
     {
         let lacks = size - self.unfinished.len();
-        let count = lacks.min(bytes.len());
-        self.unfinished
-            .extend_from_slice(&bytes[..count])
-            .map_err(|_| Refusal::Memory(at))?;
-        if count == lacks {
-            let last = at + (count - 1) as u64;
-            tell_frame(bed, connections, last, self.unfinished.as_slice(), sink)?;
-            self.unfinished.clear();
+        if bytes.len() < lacks {
+            self.keep(at, bytes)?;
+            Ok(bytes.len())
+        } else {
+            self.end(bed, connections, at, &bytes[..lacks], sink)?;
+            Ok(lacks)
         }
-        Ok(count)
+    }
+
+    /// Keeps bytes of an unfinished packet.
+    ///
+    /// # Errors
+    ///
+    /// `Memory`, at the first of them.
+    fn keep(&mut self, at: u64, bytes: &[u8]) -> Result<(), Refusal>
+        ensures ok { OnOk result (half_in self.new ≡ record { unfinished = self.old.unfinished.items ++ bytes.now; lost = self.old.lost }) }
+        ensures err { IfErr result (λ refusal. refusal ≡ Refusal.Memory at) }
+    {
+        self.unfinished
+            .extend_from_slice(bytes)
+            .map_err(|_| Refusal::Memory(at))
+    }
+
+    /// Takes in the last bytes of an unfinished packet.
+    ///
+    /// # Errors
+    ///
+    /// The refusal that stands with the last of them; the sink's own refusal; `Memory`.
+    fn end<S: Sink>(
+        &mut self,
+        bed: Bed,
+        connections: &mut Connections,
+        at: u64,
+        bytes: &[u8],
+        sink: &mut S,
+    ) -> Result<(), Refusal>
+        requires some { 1 ≤ length bytes.now }
+        requires room { at + length bytes.now < 2 ^ 64 }
+        requires kept { self.old.lost ≡ false }
+        requires whole { frame_size (self.old.unfinished.items ++ bytes.now) ≡ Some (length (self.old.unfinished.items ++ bytes.now)) }
+        requires within { length (self.old.unfinished.items ++ bytes.now) ≤ bed.limit }
+        ensures comes { OnOk result (FlowComes S.agrees bed.limit (bed_of bed) (flow_of at (half_in self.old) connections.old)
+            (flow_of (at + length bytes.now) (half_in self.new) connections.new) bytes.now sink.old sink.new) }
+        ensures empty { OnOk result (half_in self.new ≡ record { unfinished = []; lost = false }) }
+        ensures stops { IfErr result (λ refusal. FlowStops S.refuses bed.limit (bed_of bed) (flow_of at (half_in self.old) connections.old) bytes.now sink.old sink.new refusal) }
+    {
+        match self.keep(at, bytes) {
+            Ok(()) => self.tell_kept(bed, connections, at + (bytes.len() - 1) as u64, sink),
+            Err(refusal) => Err(refusal),
+        }
+    }
+
+    /// Tells a sink of the packet that was unfinished and now is whole, whose last byte stands at this offset of the log, and lets
+    /// it go.
+    ///
+    /// # Errors
+    ///
+    /// The refusal that stands with its last byte; the sink's own refusal.
+    fn tell_kept<S: Sink>(
+        &mut self,
+        bed: Bed,
+        connections: &mut Connections,
+        at: u64,
+        sink: &mut S,
+    ) -> Result<(), Refusal>
+        requires whole { frame_size self.old.unfinished.items ≡ Some (length self.old.unfinished.items) }
+        ensures empty { OnOk result (half_in self.new ≡ record { unfinished = []; lost = self.old.lost }) }
+        ensures met { OnOk result (frame_met at (flow_of at (record { unfinished = []; lost = false }) connections.old) bed.way self.old.unfinished.items ≡ None) }
+        ensures kept { OnOk result (connections.new ≡ connections_then bed.server connections.old (frame_event bed.way self.old.unfinished.items)) }
+        ensures heard { (earlier : List Placed) → S.agrees sink.old earlier
+            → AreEvents (put (flow_placed_with (bed_of bed) (flow_of at (record { unfinished = []; lost = false }) connections.old) (frame_event bed.way self.old.unfinished.items)) earlier)
+            → OnOk result (S.agrees sink.new (put (flow_placed_with (bed_of bed) (flow_of at (record { unfinished = []; lost = false }) connections.old) (frame_event bed.way self.old.unfinished.items)) earlier)) }
+        ensures err { IfErr result (λ refusal. Untold S.refuses at (frame_met at (flow_of at (record { unfinished = []; lost = false }) connections.old) bed.way self.old.unfinished.items) sink.old sink.new refusal) }
+    {
+        let told = tell_frame(bed, connections, at, self.unfinished.as_slice(), sink);
+        self.unfinished.clear();
+        told
     }
 
     /// Takes in one byte, which may belong to a fixed header.
@@ -152,43 +247,92 @@ impl Direction {
         requires unfinished { IsUnfinished bed.limit (half_in self.old) }
         requires kept { self.old.lost ≡ false }
         requires room { at + 1 < 2 ^ 64 }
-        ensures unrefused { OnOk result (flow_refused bed.limit (bed_of bed) (flow_of at (half_in self.old) connections.old) (byte ∷ []) ≡ None) }
-        ensures kept { OnOk result (flow_behind (bed_of bed) (flow_of at (half_in self.old) connections.old) (byte ∷ []) ≡ flow_of (at + 1) (half_in self.new) connections.new) }
-        ensures heard { (earlier : List Placed) → S.agrees sink.old earlier → AreEvents (flow_heard (bed_of bed) (flow_of at (half_in self.old) connections.old) (byte ∷ []) ++ earlier)
-            → OnOk result (S.agrees sink.new (flow_heard (bed_of bed) (flow_of at (half_in self.old) connections.old) (byte ∷ []) ++ earlier)) }
+        ensures comes { OnOk result (FlowComes S.agrees bed.limit (bed_of bed) (flow_of at (half_in self.old) connections.old)
+            (flow_of (at + 1) (half_in self.new) connections.new) (byte ∷ []) sink.old sink.new) }
         ensures sound { OnOk result (IsUnfinished bed.limit (half_in self.new)) }
         ensures stops { IfErr result (λ refusal. FlowStops S.refuses bed.limit (bed_of bed) (flow_of at (half_in self.old) connections.old) (byte ∷ []) sink.old sink.new refusal) }
     {
-        self.unfinished
-            .extend_from_slice(&[byte])
-            .map_err(|_| Refusal::Memory(at))?;
+        match self.keep(at, &[byte]) {
+            Ok(()) => self.settle(bed, connections, at, sink),
+            Err(refusal) => Err(refusal),
+        }
+    }
+
+    /// Settles the newest byte of the unfinished packet, which stands at this offset of the log.
+    ///
+    /// # Errors
+    ///
+    /// The refusal that stands with it; the sink's own refusal.
+    fn settle<S: Sink>(
+        &mut self,
+        bed: Bed,
+        connections: &mut Connections,
+        at: u64,
+        sink: &mut S,
+    ) -> Result<(), Refusal> {
         match fixed_header(self.unfinished.as_slice()) {
             FixedHeader::Short => Ok(()),
-            FixedHeader::Lost => {
-                tell(
-                    connections,
-                    bed.server,
-                    at,
-                    bed.record_no,
-                    going(bed.way, Item::Lost),
-                    sink,
-                )?;
-                self.unfinished.clear();
-                self.lost = true;
-                Ok(())
-            }
+            FixedHeader::Lost => self.lose(bed, connections, at, sink),
             FixedHeader::Whole { length, size } => {
                 if length == self.unfinished.len() && size > bed.limit as usize {
-                    return Err(Refusal::TooLarge(at));
+                    Err(Refusal::TooLarge(at))
+                } else if size == self.unfinished.len() {
+                    self.tell_kept(bed, connections, at, sink)
+                } else {
+                    Ok(())
                 }
-                if size == self.unfinished.len() {
-                    tell_frame(bed, connections, at, self.unfinished.as_slice(), sink)?;
-                    self.unfinished.clear();
-                }
-                Ok(())
             }
         }
     }
+
+    /// Loses the direction, whose Remaining Length is no variable byte integer with the byte at this offset of the log
+    /// (MQTT 5.0, section 1.5.5).
+    ///
+    /// # Errors
+    ///
+    /// `TooLong` where there are 4,294,967,295 events already; the sink's own refusal.
+    fn lose<S: Sink>(
+        &mut self,
+        bed: Bed,
+        connections: &mut Connections,
+        at: u64,
+        sink: &mut S,
+    ) -> Result<(), Refusal> {
+        self.unfinished.clear();
+        self.lost = true;
+        tell(
+            connections,
+            bed.server,
+            at,
+            bed.record_no,
+            going(bed.way, Item::Lost),
+            sink,
+        )
+    }
+}
+
+/// Takes in a whole packet, where none is unfinished.
+///
+/// # Errors
+///
+/// The refusal that stands with its last byte; the sink's own refusal.
+fn take_whole<S: Sink>(
+    bed: Bed,
+    connections: &mut Connections,
+    at: u64,
+    frame: &[u8],
+    sink: &mut S,
+) -> Result<(), Refusal>
+    requires some { 1 ≤ length frame.now }
+    requires room { at + length frame.now < 2 ^ 64 }
+    requires whole { frame_size frame.now ≡ Some (length frame.now) }
+    requires within { length frame.now ≤ bed.limit }
+    ensures comes { OnOk result (FlowComes S.agrees bed.limit (bed_of bed) (flow_of at (record { unfinished = []; lost = false }) connections.old)
+        (flow_of (at + length frame.now) (record { unfinished = []; lost = false }) connections.new) frame.now sink.old sink.new) }
+    ensures stops { IfErr result (λ refusal. FlowStops S.refuses bed.limit (bed_of bed) (flow_of at (record { unfinished = []; lost = false }) connections.old) frame.now sink.old sink.new refusal) }
+{
+    let last = at + (frame.len() - 1) as u64;
+    tell_frame(bed, connections, last, frame, sink)
 }
 
 /// Tells a sink of a whole packet, whose last byte stands at this offset of the log.

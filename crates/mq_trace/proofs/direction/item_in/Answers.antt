@@ -33,10 +33,17 @@ decode-requires c =
     simp (length-take, length-drop) (omega (arith, known.0, known.1, known.2, c.in-Whole.ensures.bounds.3))
 
 pub returns-in-Ok : goal.returns-in-Ok
-returns-in-Ok c = ?
+returns-in-Ok c =
+    let body = read_by_body c.args.frame.now c.in-Whole.length c.in-Whole.size c.in-Whole.ensures.exact in
+    ap Some (packet_read c.args.frame.now c.in-Whole.length c.in-Whole.size c.in-Ok.packet (λ i. omega (arith, c.type_inv.frame i)) c.requires c.in-Whole.ensures.exact c.in-Ok.ensures.size)
+    ∙ sym (ap (item_read (length c.args.frame.now) (slice_index c.args.frame.now 0)) (body ∙ c.in-Ok.ensures.exact))
 
 pub returns-in-Err-Broken : goal.returns-in-Err-Broken
-returns-in-Err-Broken c = ?
+returns-in-Err-Broken c =
+    let body = read_by_body c.args.frame.now c.in-Whole.length c.in-Whole.size c.in-Whole.ensures.exact in
+    sym (ap (item_read (length c.args.frame.now) (slice_index c.args.frame.now 0)) (body ∙ c.in-Err-Broken.ensures.exact ∙ ap Err c.in-Err-Broken.field-0-is))
 
 pub returns-in-Err-OtherVersion : goal.returns-in-Err-OtherVersion
-returns-in-Err-OtherVersion c = ?
+returns-in-Err-OtherVersion c =
+    let body = read_by_body c.args.frame.now c.in-Whole.length c.in-Whole.size c.in-Whole.ensures.exact in
+    sym (ap (item_read (length c.args.frame.now) (slice_index c.args.frame.now 0)) (body ∙ c.in-Err-OtherVersion.ensures.exact ∙ ap Err c.in-Err-OtherVersion.field-0-is))

@@ -1,0 +1,146 @@
+-- What a step of a direction comes to, and what stops it.
+use Rattle.std.proofs.Common.{◌≡◌, ℕ, ◌+◌, ◌<◌, ◌≤◌, Bool, true, false, List, [], ◌∷◌, ◌++◌, length, Option, Some, None, refl, sym, ap, ◌∙◌, arith, length-append, append_assoc, subst}
+use Rattle.std.proofs.Common.{inl, inr, Result, Ok, Err}
+use Rattle.std.specs.Prelude.{option_map, ◌||◌, OnOk, IfErr, slice_index}
+use Rattle.std.proofs.lemmas.List.{append-nil}
+use Rattle.mq_packet.specs.declared.header.FixedHeader.TheVariants as headers
+use Rattle.mq_packet.specs.Stream.{fixed_header_of, frame_size}
+use Rattle.mq_packet.proofs.StreamLaws.{header_from_frame}
+use Rattle.mq_trace.specs.declared.kind.Way.{Way}
+use Rattle.mq_trace.specs.declared.kind.Way.TheVariants as ways
+use Rattle.mq_trace.specs.declared.refusal.Refusal.{Refusal}
+use Rattle.mq_trace.specs.declared.refusal.Refusal.TheVariants as refusals
+use Rattle.mq_trace.specs.declared.connections.Connections.{Connections}
+use Rattle.mq_trace.specs.declared.direction.Bed.{Bed as BedInMemory}
+use Rattle.mq_trace.specs.Events.{Item, Event, Placed, item_read, read_frame}
+use Rattle.mq_trace.specs.Refusals.{is_other_version, first_standing}
+use Rattle.mq_trace.proofs.ItemLaws.{met_other}
+use Rattle.mq_trace.specs.Connections.{is_answer}
+use Rattle.mq_trace.specs.Context.{Half, put}
+use Rattle.mq_trace.specs.Hearing.{AreEvents}
+use Rattle.mq_trace.specs.Telling.{connections_with, RefusedBySink, Untold}
+use Rattle.mq_trace.specs.Flows.{Bed, Flow, going, flow_placed_with, flow_with, flow_behind, flow_refused, flow_heard}
+use Rattle.mq_trace.specs.Directing.{bed_of, flow_of, frame_event, frame_met, connections_then, FlowWhy, FlowStops, FlowComes}
+use Rattle.mq_trace.proofs.FlowLaws.{HasLast, has_last, IsQuiet, until_last, complete-refused-within, complete-heard-frame, complete-behind-frame}
+
+-- a direction that isn't lost, with these bytes of an unfinished packet
+abbrev pub going_on : List ℕ → Half
+going_on unfinished = record { unfinished = unfinished; lost = false }
+
+-- an item that goes either way neither begins nor ends a connection
+with_item : (server : Bool) (c : Connections) (way : Way) (item : Item) → connections_with server c (going way item) ≡ record { events = c.events + 1; connected = c.connected; answered = is_answer server (going way item) || c.answered }
+with_item server c ways.Sent item = refl
+with_item server c ways.Recv item = refl
+
+-- what is kept behind an item, if there is one
+pub flow_then : (bed : BedInMemory) (at : ℕ) (half : Half) (c : Connections) (item : Option Item)
+    → flow_with (bed_of bed) (flow_of at half c) (option_map (going bed.way) item) ≡ flow_of at half (connections_then bed.server c (option_map (going bed.way) item))
+flow_then bed at half c None = refl
+flow_then bed at half c (Some item) = ap (λ (k : Connections). flow_of at half k) (sym (with_item bed.server c bed.way item))
+
+-- the event at its place doesn't depend on where in the log its last byte stands
+pub put_same : (bed : Bed) (at at' : ℕ) (half half' : Half) (c : Connections) (event : Option Event) (earlier : List Placed)
+    → put (flow_placed_with bed (flow_of at half c) event) [] ++ earlier ≡ put (flow_placed_with bed (flow_of at' half' c) event) earlier
+put_same bed at at' half half' c None earlier = refl
+put_same bed at at' half half' c (Some event) earlier = refl
+
+no_item : (way : Way) (item : Option Item) → option_map (going way) item ≡ None → item ≡ None
+no_item way None e = refl
+no_item way (Some item) e = absurd (cc)
+
+-- a frame that is no item is met by a refusal
+pub met_none : (at : ℕ) (f : Flow) (way : Way) (frame : List ℕ) → frame_event way frame ≡ None → frame_met at f way frame ≡ Some (refusals.OtherVersion at)
+met_none at f way frame e =
+    (let other : is_other_version (read_frame frame) ≡ true = met_other frame (no_item way (item_read (length frame) (slice_index frame 0) (read_frame frame)) e) in
+    rw (other) refl)
+
+-- Memory was refused for the first of these bytes.
+pub stops_memory : {S : Type 0} (refuses : S → Refusal → Type 0) (limit : ℕ) (bed : Bed) (f : Flow) (bytes : List ℕ) (sink : S) → 0 < length bytes
+    → FlowStops refuses limit bed f bytes sink sink (refusals.Memory f.at)
+stops_memory refuses limit bed f [] sink some = absurd (omega arith)
+stops_memory refuses limit bed f (byte ∷ bytes) sink some = record {
+  taken = [];
+  byte = byte;
+  later = bytes;
+  is = refl;
+  unrefused = refl;
+  unheard = refl;
+  why = inr (inl (ap (λ (n : ℕ). refusals.Memory n) (let here : f.at ≡ f.at + length {A = ℕ} [] = omega arith in here), refl));
+}
+
+module _ {S : Type 0} (agrees : S → List Placed → Type 0) (refuses : S → Refusal → Type 0) (limit : ℕ) (bed : BedInMemory) (at last : ℕ) (c : Connections) (u bytes : List ℕ)
+    (whole : frame_size (u ++ bytes) ≡ Some (length (u ++ bytes))) (some : 0 < length bytes) (is_last : last + 1 ≡ at + length bytes) (within : length (u ++ bytes) ≤ limit) where
+  -- The bytes that complete a packet come to what telling it comes to ..
+  pub completes : (c' : Connections) (old new : S) → frame_met last (flow_of last (going_on []) c) bed.way (u ++ bytes) ≡ None
+      → c' ≡ connections_then bed.server c (frame_event bed.way (u ++ bytes))
+      → ((earlier : List Placed) → agrees old earlier → AreEvents (put (flow_placed_with (bed_of bed) (flow_of last (going_on []) c) (frame_event bed.way (u ++ bytes))) earlier)
+      → agrees new (put (flow_placed_with (bed_of bed) (flow_of last (going_on []) c) (frame_event bed.way (u ++ bytes))) earlier))
+      → FlowComes agrees limit (bed_of bed) (flow_of at (going_on u) c) (flow_of (at + length bytes) (going_on []) c') bytes old new
+  completes c' old new met kept told =
+      (let heard : flow_heard (bed_of bed) (flow_of at (going_on u) c) bytes ≡ put (flow_placed_with (bed_of bed) (flow_of at (going_on u) c) (frame_event bed.way (u ++ bytes))) []
+      = complete-heard-frame (bed_of bed) (flow_of at (going_on u) c) u bytes refl whole some in
+      let same : (earlier : List Placed) → flow_heard (bed_of bed) (flow_of at (going_on u) c) bytes ++ earlier ≡ put (flow_placed_with (bed_of bed) (flow_of last (going_on []) c) (frame_event bed.way (u ++ bytes))) earlier
+      = λ earlier. ap (λ (l : List Placed). l ++ earlier) heard ∙ put_same (bed_of bed) at last (going_on u) (going_on []) c (frame_event bed.way (u ++ bytes)) earlier in
+      record {
+        unrefused = complete-refused-within limit (bed_of bed) (flow_of at (going_on u) c) u bytes last refl whole some is_last within ∙ met;
+        kept = complete-behind-frame (bed_of bed) (flow_of at (going_on u) c) u bytes refl whole some
+            ∙ flow_then bed (at + length bytes) (going_on []) c _
+            ∙ ap (λ (k : Connections). flow_of (at + length bytes) (going_on []) k) (sym kept);
+        told = λ earlier was are. subst (agrees new) (sym (same earlier)) (told earlier was (subst AreEvents (same earlier) are));
+      })
+
+  -- .. and stop where telling it stops: at the last of them.
+  pub stops_by : HasLast bytes → (old new : S) (refusal : Refusal)
+      → Untold refuses last (frame_met last (flow_of last (going_on []) c) bed.way (u ++ bytes)) old new refusal
+      → FlowStops refuses limit (bed_of bed) (flow_of at (going_on u) c) bytes old new refusal
+  stops_by cut old new refusal untold =
+      (let f : Flow = flow_of at (going_on u) c in
+      let joined : bytes ≡ cut.before ++ cut.byte ∷ [] = cut.joined in
+      let frame : u ++ bytes ≡ (u ++ cut.before) ++ cut.byte ∷ [] = ap (λ (t : List ℕ). u ++ t) joined ∙ sym (append_assoc u cut.before (cut.byte ∷ [])) in
+      let found : (header : ℕ) × (fixed_header_of (u ++ bytes) ≡ headers.Whole header (length (u ++ bytes))) × (length (u ++ bytes) ≤ length (u ++ bytes)) = header_from_frame (u ++ bytes) (length (u ++ bytes)) whole in
+      let longer : length (u ++ bytes) ≡ length (u ++ cut.before) + 1 = ap length frame ∙ length-append (u ++ cut.before) (cut.byte ∷ []) in
+      let known : fixed_header_of ((u ++ cut.before) ++ cut.byte ∷ []) ≡ headers.Whole found.0 (length (u ++ bytes)) = ap fixed_header_of (sym frame) ∙ found.1 in
+      let quiet : IsQuiet limit (bed_of bed) f cut.before (going_on (u ++ cut.before))
+      = until_last (bed_of bed) f u cut.before cut.byte refl found.0 (length (u ++ bytes)) known (ap length frame) limit (inl within) in
+      let more : length bytes ≡ length cut.before + 1 = ap length joined ∙ length-append cut.before (cut.byte ∷ []) in
+      let here : last ≡ at + length cut.before = omega arith in
+      let met : flow_refused limit (bed_of bed) f (cut.before ++ cut.byte ∷ []) ≡ frame_met last (flow_of last (going_on []) c) bed.way (u ++ bytes)
+      = ap (flow_refused limit (bed_of bed) f) (sym joined) ∙ complete-refused-within limit (bed_of bed) f u bytes last refl whole some is_last within in
+      let heard : flow_heard (bed_of bed) f (cut.before ++ cut.byte ∷ []) ≡ put (flow_placed_with (bed_of bed) f (frame_event bed.way (u ++ bytes))) []
+      = ap (flow_heard (bed_of bed) f) (sym joined) ∙ complete-heard-frame (bed_of bed) f u bytes refl whole some in
+      record {
+        taken = cut.before;
+        byte = cut.byte;
+        later = [];
+        is = joined;
+        unrefused = quiet.refused;
+        unheard = quiet.heard;
+        why = subst (λ (n : ℕ). FlowWhy refuses n (flow_refused limit (bed_of bed) f (cut.before ++ cut.byte ∷ [])) (flow_heard (bed_of bed) f (cut.before ++ cut.byte ∷ [])) old new refusal) here
+            (why_by (flow_refused limit (bed_of bed) f (cut.before ++ cut.byte ∷ [])) (flow_heard (bed_of bed) f (cut.before ++ cut.byte ∷ [])) met (ap length heard) old new refusal untold);
+      })
+    where
+      -- what isn't met is an item, and is heard
+      one_heard : (event : Option Event) → frame_event bed.way (u ++ bytes) ≡ event → frame_met last (flow_of last (going_on []) c) bed.way (u ++ bytes) ≡ None
+          → length (put (flow_placed_with (bed_of bed) (flow_of at (going_on u) c) (frame_event bed.way (u ++ bytes))) []) ≡ 1
+      one_heard None e none = let some : frame_met last (flow_of last (going_on []) c) bed.way (u ++ bytes) ≡ Some (refusals.OtherVersion last) = met_none last (flow_of last (going_on []) c) bed.way (u ++ bytes) e in absurd (cc)
+      one_heard (Some event) e none = ap (λ (o : Option Event). length (put (flow_placed_with (bed_of bed) (flow_of at (going_on u) c) o) [])) e
+
+      why_by : (met : Option Refusal) (heard : List Placed) → met ≡ frame_met last (flow_of last (going_on []) c) bed.way (u ++ bytes)
+          → length heard ≡ length (put (flow_placed_with (bed_of bed) (flow_of at (going_on u) c) (frame_event bed.way (u ++ bytes))) []) → (old new : S) (refusal : Refusal)
+          → Untold refuses last (frame_met last (flow_of last (going_on []) c) bed.way (u ++ bytes)) old new refusal
+          → FlowWhy refuses last met heard old new refusal
+      why_by met heard same many old new refusal (inl x) = inl (same ∙ x.0, x.1)
+      why_by met heard same many old new refusal (inr x) = inr (inr (same ∙ x.0, many ∙ one_heard (frame_event bed.way (u ++ bytes)) refl x.0, x.1))
+
+  pub comes_of : {A : Type 0} (r : Result A Refusal) (c' : Connections) (old new : S) → OnOk r (frame_met last (flow_of last (going_on []) c) bed.way (u ++ bytes) ≡ None)
+      → OnOk r (c' ≡ connections_then bed.server c (frame_event bed.way (u ++ bytes)))
+      → ((earlier : List Placed) → agrees old earlier → AreEvents (put (flow_placed_with (bed_of bed) (flow_of last (going_on []) c) (frame_event bed.way (u ++ bytes))) earlier)
+      → OnOk r (agrees new (put (flow_placed_with (bed_of bed) (flow_of last (going_on []) c) (frame_event bed.way (u ++ bytes))) earlier)))
+      → OnOk r (FlowComes agrees limit (bed_of bed) (flow_of at (going_on u) c) (flow_of (at + length bytes) (going_on []) c') bytes old new)
+  comes_of (Ok x) c' old new met kept told = completes c' old new met kept told
+  comes_of (Err refusal) c' old new met kept told = tt
+
+  pub stops_of : {A : Type 0} (r : Result A Refusal) (old new : S) → IfErr r (λ refusal. Untold refuses last (frame_met last (flow_of last (going_on []) c) bed.way (u ++ bytes)) old new refusal)
+      → IfErr r (λ refusal. FlowStops refuses limit (bed_of bed) (flow_of at (going_on u) c) bytes old new refusal)
+  stops_of (Ok x) old new untold = tt
+  stops_of (Err refusal) old new untold = stops_by (has_last bytes some) old new refusal untold
