@@ -1,11 +1,11 @@
 -- What a step of a direction comes to, and what stops it.
-use Rattle.std.proofs.Common.{◌≡◌, ℕ, ◌+◌, ◌<◌, ◌≤◌, Bool, true, false, List, [], ◌∷◌, ◌++◌, length, Option, Some, None, refl, sym, ap, ◌∙◌, arith, length-append, append_assoc, subst}
+use Rattle.std.proofs.Common.{◌≡◌, ℕ, ◌+◌, ◌<◌, ◌≤◌, Bool, true, false, List, [], ◌∷◌, ◌++◌, length, Option, Some, None, refl, sym, ap, ◌∙◌, arith, length-append, append_assoc, subst, take, drop}
 use Rattle.std.proofs.Common.{inl, inr, Result, Ok, Err}
 use Rattle.std.specs.Prelude.{option_map, ◌||◌, OnOk, IfErr, slice_index}
-use Rattle.std.proofs.lemmas.List.{append-nil}
+use Rattle.std.proofs.lemmas.List.{take-append-drop}
 use Rattle.mq_packet.specs.declared.header.FixedHeader.TheVariants as headers
 use Rattle.mq_packet.specs.Stream.{fixed_header_of, frame_size}
-use Rattle.mq_packet.proofs.StreamLaws.{header_from_frame}
+use Rattle.mq_packet.proofs.StreamLaws.{header_from_frame, frame_from_header, whole_stays}
 use Rattle.mq_trace.specs.declared.kind.Way.{Way}
 use Rattle.mq_trace.specs.declared.kind.Way.TheVariants as ways
 use Rattle.mq_trace.specs.declared.refusal.Refusal.{Refusal}
@@ -18,10 +18,11 @@ use Rattle.mq_trace.proofs.ItemLaws.{met_other}
 use Rattle.mq_trace.specs.Connections.{is_answer}
 use Rattle.mq_trace.specs.Context.{Half, put}
 use Rattle.mq_trace.specs.Hearing.{AreEvents}
+use Rattle.mq_trace.specs.Keeping.{IsShort, IsUnfinished}
 use Rattle.mq_trace.specs.Telling.{connections_with, RefusedBySink, Untold}
 use Rattle.mq_trace.specs.Flows.{Bed, Flow, going, flow_placed_with, flow_with, flow_behind, flow_refused, flow_heard}
 use Rattle.mq_trace.specs.Directing.{bed_of, flow_of, frame_event, frame_met, connections_then, FlowWhy, FlowStops, FlowComes}
-use Rattle.mq_trace.proofs.FlowLaws.{HasLast, has_last, IsQuiet, until_last, complete-refused-within, complete-heard-frame, complete-behind-frame}
+use Rattle.mq_trace.proofs.FlowLaws.{HasLast, has_last, IsQuiet, until_last, quiet-refused, quiet-heard, quiet-behind, complete-refused-within, complete-heard-frame, complete-behind-frame}
 
 -- a direction that isn't lost, with these bytes of an unfinished packet
 abbrev pub going_on : List ℕ → Half
@@ -144,3 +145,100 @@ module _ {S : Type 0} (agrees : S → List Placed → Type 0) (refuses : S → R
       → IfErr r (λ refusal. FlowStops refuses limit (bed_of bed) (flow_of at (going_on u) c) bytes old new refusal)
   stops_of (Ok x) old new untold = tt
   stops_of (Err refusal) old new untold = stops_by (has_last bytes some) old new refusal untold
+
+-- The same for a packet whose bytes in memory are these.
+module _ {S : Type 0} (agrees : S → List Placed → Type 0) (refuses : S → Refusal → Type 0) (limit : ℕ) (bed : BedInMemory) (at last : ℕ) (c : Connections) (old_half kept_half : Half) (bytes : List ℕ)
+    (open_yet : old_half.lost ≡ false) (kept_is : kept_half ≡ record { unfinished = old_half.unfinished ++ bytes; lost = old_half.lost })
+    (whole : frame_size (old_half.unfinished ++ bytes) ≡ Some (length (old_half.unfinished ++ bytes))) (some : 0 < length bytes) (is_last : last + 1 ≡ at + length bytes)
+    (within : length (old_half.unfinished ++ bytes) ≤ limit) where
+  half_is : old_half ≡ going_on old_half.unfinished
+  half_is = ap (λ (l : Bool). record { unfinished = old_half.unfinished; lost = l }) open_yet
+
+  pub ended : {A : Type 0} (r : Result A Refusal) (new_half : Half) (c' : Connections) (old new : S) → OnOk r (new_half ≡ record { unfinished = []; lost = kept_half.lost })
+      → OnOk r (frame_met last (flow_of last (going_on []) c) bed.way kept_half.unfinished ≡ None)
+      → OnOk r (c' ≡ connections_then bed.server c (frame_event bed.way kept_half.unfinished))
+      → ((earlier : List Placed) → agrees old earlier → AreEvents (put (flow_placed_with (bed_of bed) (flow_of last (going_on []) c) (frame_event bed.way kept_half.unfinished)) earlier)
+      → OnOk r (agrees new (put (flow_placed_with (bed_of bed) (flow_of last (going_on []) c) (frame_event bed.way kept_half.unfinished)) earlier)))
+      → OnOk r (FlowComes agrees limit (bed_of bed) (flow_of at old_half c) (flow_of (at + length bytes) new_half c') bytes old new)
+  ended (Err refusal) new_half c' old new empty met kept told = tt
+  ended (Ok x) new_half c' old new empty met kept told =
+      (let frame : kept_half.unfinished ≡ old_half.unfinished ++ bytes = ap (λ (h : Half). h.unfinished) kept_is in
+      let gone : new_half ≡ going_on [] = empty ∙ ap (λ (l : Bool). record { unfinished = []; lost = l }) (ap (λ (h : Half). h.lost) kept_is ∙ open_yet) in
+      let P : List ℕ → Type 0 = λ (t : List ℕ). (earlier : List Placed) → agrees old earlier → AreEvents (put (flow_placed_with (bed_of bed) (flow_of last (going_on []) c) (frame_event bed.way t)) earlier)
+      → agrees new (put (flow_placed_with (bed_of bed) (flow_of last (going_on []) c) (frame_event bed.way t)) earlier) in
+      let comes : FlowComes agrees limit (bed_of bed) (flow_of at (going_on old_half.unfinished) c) (flow_of (at + length bytes) (going_on []) c') bytes old new
+      = completes agrees refuses limit bed at last c old_half.unfinished bytes whole some is_last within c' old new
+      (ap (λ (t : List ℕ). frame_met last (flow_of last (going_on []) c) bed.way t) (sym frame) ∙ met)
+      (kept ∙ ap (λ (t : List ℕ). connections_then bed.server c (frame_event bed.way t)) frame)
+      (subst P frame told) in
+      subst (λ (h : Half). FlowComes agrees limit (bed_of bed) (flow_of at h c) (flow_of (at + length bytes) new_half c') bytes old new) (sym half_is)
+      (subst (λ (h : Half). FlowComes agrees limit (bed_of bed) (flow_of at (going_on old_half.unfinished) c) (flow_of (at + length bytes) h c') bytes old new) (sym gone) comes))
+
+  pub ended_stops : {A : Type 0} (r : Result A Refusal) (old new : S) → IfErr r (λ refusal. Untold refuses last (frame_met last (flow_of last (going_on []) c) bed.way kept_half.unfinished) old new refusal)
+      → IfErr r (λ refusal. FlowStops refuses limit (bed_of bed) (flow_of at old_half c) bytes old new refusal)
+  ended_stops (Ok x) old new untold = tt
+  ended_stops (Err refusal) old new untold =
+      (let frame : kept_half.unfinished ≡ old_half.unfinished ++ bytes = ap (λ (h : Half). h.unfinished) kept_is in
+      let stops : FlowStops refuses limit (bed_of bed) (flow_of at (going_on old_half.unfinished) c) bytes old new refusal
+      = stops_by agrees refuses limit bed at last c old_half.unfinished bytes whole some is_last within (has_last bytes some) old new refusal
+      (subst (λ (t : List ℕ). Untold refuses last (frame_met last (flow_of last (going_on []) c) bed.way t) old new refusal) frame untold) in
+      subst (λ (h : Half). FlowStops refuses limit (bed_of bed) (flow_of at h c) bytes old new refusal) (sym half_is) stops)
+
+-- A direction with no unfinished packet.
+pub nothing_unfinished : (limit : ℕ) (lost : Bool) → IsUnfinished limit (record { unfinished = []; lost = lost })
+unfolding fixed_header_of
+nothing_unfinished limit lost = (omega arith, λ is. refl)
+
+-- what an unfinished packet's header says
+pub short_is : (limit : ℕ) (u : List ℕ) (header size : ℕ) → fixed_header_of u ≡ headers.Whole header size → IsShort limit u (fixed_header_of u) → (length u < size) × (size ≤ limit)
+short_is limit u header size e short = subst (IsShort limit u) e short
+
+-- More bytes of an unfinished packet do nothing where they don't complete it, ..
+pub keeps : {S : Type 0} (agrees : S → List Placed → Type 0) (limit : ℕ) (bed : Bed) (at : ℕ) (c : Connections) (half new_half : Half) (bytes : List ℕ) (sink : S) (header size : ℕ) → half.lost ≡ false
+    → new_half ≡ record { unfinished = half.unfinished ++ bytes; lost = half.lost } → fixed_header_of half.unfinished ≡ headers.Whole header size → IsShort limit half.unfinished (fixed_header_of half.unfinished)
+    → length half.unfinished + length bytes < size
+    → FlowComes agrees limit bed (flow_of at half c) (flow_of (at + length bytes) new_half c) bytes sink sink
+keeps agrees limit bed at c half new_half bytes sink header size open_yet kept e short less =
+    (let bounds : (length half.unfinished < size) × (size ≤ limit) = short_is limit half.unfinished header size e short in
+    let longer : length (half.unfinished ++ bytes) ≡ length half.unfinished + length bytes = length-append half.unfinished bytes in
+    let stays : fixed_header_of (half.unfinished ++ bytes) ≡ headers.Whole header size = whole_stays half.unfinished bytes header size e in
+    let is : half ≡ going_on half.unfinished = ap (λ (l : Bool). record { unfinished = half.unfinished; lost = l }) open_yet in
+    let heard : flow_heard bed (flow_of at half c) bytes ≡ [] = quiet-heard bed (flow_of at half c) half.unfinished bytes header size is stays (omega arith) in
+    record {
+      unrefused = quiet-refused limit bed (flow_of at half c) half.unfinished bytes header size is stays (omega arith) (inl bounds.1);
+      kept = quiet-behind bed (flow_of at half c) half.unfinished bytes header size is stays (omega arith)
+          ∙ ap (λ (l : Bool). flow_of (at + length bytes) (record { unfinished = half.unfinished ++ bytes; lost = l }) c) (sym open_yet) ∙ ap (λ (h : Half). flow_of (at + length bytes) h c) (sym kept);
+      told = λ earlier was are. subst (λ (l : List Placed). agrees sink (l ++ earlier)) (sym heard) was;
+    })
+
+-- .. and it is unfinished still.
+pub keeps_unfinished : (limit : ℕ) (half new_half : Half) (bytes : List ℕ) (header size : ℕ) → half.lost ≡ false → new_half ≡ record { unfinished = half.unfinished ++ bytes; lost = half.lost }
+    → fixed_header_of half.unfinished ≡ headers.Whole header size → IsShort limit half.unfinished (fixed_header_of half.unfinished) → length half.unfinished + length bytes < size
+    → IsUnfinished limit new_half
+keeps_unfinished limit half new_half bytes header size open_yet kept e short less =
+    (let bounds : (length half.unfinished < size) × (size ≤ limit) = short_is limit half.unfinished header size e short in
+    let longer : length (half.unfinished ++ bytes) ≡ length half.unfinished + length bytes = length-append half.unfinished bytes in
+    let stays : fixed_header_of (half.unfinished ++ bytes) ≡ headers.Whole header size = whole_stays half.unfinished bytes header size e in
+    let within : (length (half.unfinished ++ bytes) < size) × (size ≤ limit) = (omega arith, bounds.1) in
+    subst (IsUnfinished limit) (sym kept)
+    (subst (IsShort limit (half.unfinished ++ bytes)) (sym stays) within, λ (is : half.lost ≡ true). (let never : false ≡ true = sym open_yet ∙ is in absurd (cc))))
+
+-- The bytes that an unfinished packet lacks make it whole.
+pub whole_with : (u bytes : List ℕ) (header size : ℕ) → fixed_header_of u ≡ headers.Whole header size → length u + length bytes ≡ size → frame_size (u ++ bytes) ≡ Some (length (u ++ bytes))
+whole_with u bytes header size e all =
+    (let longer : length (u ++ bytes) ≡ length u + length bytes = length-append u bytes in
+    let same : size ≡ length (u ++ bytes) = omega arith in
+    frame_from_header (u ++ bytes) header size (whole_stays u bytes header size e) (omega arith) ∙ ap Some same)
+
+-- What stops the first of some bytes stops them.
+pub stops_front : {S : Type 0} (refuses : S → Refusal → Type 0) (limit : ℕ) (bed : Bed) (f : Flow) (n : ℕ) (bytes : List ℕ) (old new : S) (refusal : Refusal)
+    → FlowStops refuses limit bed f (take n bytes) old new refusal → FlowStops refuses limit bed f bytes old new refusal
+stops_front refuses limit bed f n bytes old new refusal stops = record {
+  taken = stops.taken;
+  byte = stops.byte;
+  later = stops.later ++ drop n bytes;
+  is = sym (take-append-drop n bytes) ∙ ap (λ (t : List ℕ). t ++ drop n bytes) stops.is ∙ append_assoc stops.taken (stops.byte ∷ stops.later) (drop n bytes);
+  unrefused = stops.unrefused;
+  unheard = stops.unheard;
+  why = stops.why;
+}

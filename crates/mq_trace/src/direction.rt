@@ -101,14 +101,16 @@ impl Direction {
         }
         match self.step(bed.limit, bytes) {
             Step::Whole(size) => {
-                take_whole(bed, connections, at, &bytes[..size], sink)?;
-                Ok(size)
+                match take_whole(bed, connections, at, &bytes[..size], sink) {
+                    Ok(()) => Ok(size),
+                    Err(refusal) => Err(refusal),
+                }
             }
             Step::More(size) => self.go_on(bed, connections, at, size, bytes, sink),
-            Step::Byte => {
-                self.take_byte(bed, connections, at, bytes[0], sink)?;
-                Ok(1)
-            }
+            Step::Byte => match self.take_byte(bed, connections, at, bytes[0], sink) {
+                Ok(()) => Ok(1),
+                Err(refusal) => Err(refusal),
+            },
         }
     }
 
@@ -157,11 +159,15 @@ impl Direction {
     {
         let lacks = size - self.unfinished.len();
         if bytes.len() < lacks {
-            self.keep(at, bytes)?;
-            Ok(bytes.len())
+            match self.keep(at, bytes) {
+                Ok(()) => Ok(bytes.len()),
+                Err(refusal) => Err(refusal),
+            }
         } else {
-            self.end(bed, connections, at, &bytes[..lacks], sink)?;
-            Ok(lacks)
+            match self.end(bed, connections, at, &bytes[..lacks], sink) {
+                Ok(()) => Ok(lacks),
+                Err(refusal) => Err(refusal),
+            }
         }
     }
 

@@ -1,0 +1,45 @@
+-- More of an unfinished packet.
+use Rattle.std.proofs.Common.{◌≡◌, ◌<◌, ◌≤◌, ◌+◌, ◌-◌, ℕ, List, length, arith, sym, subst, ap, ◌∙◌, take, length-take-le}
+use Rattle.std.proofs.lemmas.List.{take_all}
+use Rattle.mq_trace.specs.declared.refusal.Refusal.{Refusal}
+use Rattle.mq_trace.specs.Context.{Half}
+use Rattle.mq_trace.specs.Directing.{bed_of, flow_of, FlowStops, FlowComes}
+use Rattle.mq_trace.specs.Keeping.{half_in, IsUnfinished}
+use Rattle.mq_trace.proofs.DirectionLaws.{keeps, keeps_unfinished, whole_with, stops_front, stops_memory, nothing_unfinished, short_is}
+use Rattle.mq_trace.proofs.direction.Direction.go_on.Goals as goal
+
+pub end-requires-clause-whole : goal.end-requires-clause-whole
+end-requires-clause-whole g c =
+    let bounds = short_is c.args.bed.limit c.args.self.now.unfinished.items c.requires.begun.0 c.args.size c.requires.begun.1 c.requires.unfinished.0 in
+    let front : length (take (c.args.size - c.len.result) c.args.bytes.now) ≡ c.args.size - c.len.result = length-take-le (c.args.size - c.len.result) c.args.bytes.now c.if-bytes-lacks.false in
+    whole_with c.args.self.now.unfinished.items (take (c.args.size - c.len.result) c.args.bytes.now) c.requires.begun.0 c.args.size c.requires.begun.1
+    (omega (arith, bounds.0, front, c.len.ensures.value))
+
+pub returns-in-Ok-clause-comes : goal.returns-in-Ok-clause-comes
+returns-in-Ok-clause-comes g c =
+    let bounds = short_is c.args.bed.limit c.args.self.now.unfinished.items c.requires.begun.0 c.args.size c.requires.begun.1 c.requires.unfinished.0 in
+    subst (λ (t : List ℕ). FlowComes {S = g.row.S.Denot} g.S.Sink.agrees c.args.bed.limit (bed_of c.args.bed) (flow_of c.args.at (half_in c.args.self.now) c.args.connections.now)
+    (flow_of (c.args.at + length c.args.bytes.now) (half_in c.keep.new.self) c.args.connections.now) t c.args.sink.now c.args.sink.now)
+    (sym (take_all (length c.args.bytes.now) c.args.bytes.now (omega arith)))
+    (keeps g.S.Sink.agrees c.args.bed.limit (bed_of c.args.bed) c.args.at c.args.connections.now (half_in c.args.self.now) (half_in c.keep.new.self) c.args.bytes.now c.args.sink.now
+    c.requires.begun.0 c.args.size c.requires.kept c.in-Ok.ensures.ok c.requires.begun.1 c.requires.unfinished.0 (omega (arith, bounds.0, c.len.ensures.value, c.if-bytes-lacks.true)))
+
+pub returns-in-Ok-clause-sound : goal.returns-in-Ok-clause-sound
+returns-in-Ok-clause-sound g c =
+    let bounds = short_is c.args.bed.limit c.args.self.now.unfinished.items c.requires.begun.0 c.args.size c.requires.begun.1 c.requires.unfinished.0 in
+    keeps_unfinished c.args.bed.limit (half_in c.args.self.now) (half_in c.keep.new.self) c.args.bytes.now
+    c.requires.begun.0 c.args.size c.requires.kept c.in-Ok.ensures.ok c.requires.begun.1 c.requires.unfinished.0 (omega (arith, bounds.0, c.len.ensures.value, c.if-bytes-lacks.true))
+
+pub returns-in-Err-clause-stops : goal.returns-in-Err-clause-stops
+returns-in-Err-clause-stops g c =
+    subst (λ (refusal : Refusal). FlowStops {S = g.row.S.Denot} g.S.Sink.refuses c.args.bed.limit (bed_of c.args.bed) (flow_of c.args.at (half_in c.args.self.now) c.args.connections.now)
+    c.args.bytes.now c.args.sink.now c.args.sink.now refusal) (sym c.in-Err.ensures.err)
+    (stops_memory g.S.Sink.refuses c.args.bed.limit (bed_of c.args.bed) (flow_of c.args.at (half_in c.args.self.now) c.args.connections.now) c.args.bytes.now c.args.sink.now (omega (arith, c.requires.some)))
+
+pub returns-in-Ok-end-clause-sound : goal.returns-in-Ok-end-clause-sound
+returns-in-Ok-end-clause-sound g c = subst (λ (h : Half). IsUnfinished c.args.bed.limit h) (sym c.in-Ok-end.ensures.empty) (nothing_unfinished c.args.bed.limit _)
+
+pub returns-in-Err-end-clause-stops : goal.returns-in-Err-end-clause-stops
+returns-in-Err-end-clause-stops g c =
+    stops_front g.S.Sink.refuses c.args.bed.limit (bed_of c.args.bed) (flow_of c.args.at (half_in c.args.self.now) c.args.connections.now) (c.args.size - c.len.result) c.args.bytes.now
+    c.args.sink.now c.end.new.sink _ c.in-Err-end.ensures.stops
