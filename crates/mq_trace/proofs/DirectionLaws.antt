@@ -1,11 +1,11 @@
 -- What a step of a direction comes to, and what stops it.
-use Rattle.std.proofs.Common.{◌≡◌, ℕ, ◌+◌, ◌<◌, ◌≤◌, Bool, true, false, List, [], ◌∷◌, ◌++◌, length, Option, Some, None, refl, sym, ap, ◌∙◌, arith, length-append, append_assoc, subst, take, drop}
+use Rattle.std.proofs.Common.{◌≡◌, ℕ, ◌+◌, ◌<◌, ◌≤◌, Bool, true, false, List, [], ◌∷◌, ◌++◌, length, Option, Some, None, refl, sym, ap, ◌∙◌, arith, length-append, append_assoc, subst, take, drop, length-take-le}
 use Rattle.std.proofs.Common.{inl, inr, Result, Ok, Err}
 use Rattle.std.specs.Prelude.{option_map, ◌||◌, OnOk, IfErr, slice_index}
 use Rattle.std.proofs.lemmas.List.{take-append-drop}
 use Rattle.mq_packet.specs.declared.header.FixedHeader.TheVariants as headers
 use Rattle.mq_packet.specs.Stream.{fixed_header_of, frame_size}
-use Rattle.mq_packet.proofs.StreamLaws.{header_from_frame, frame_from_header, whole_stays}
+use Rattle.mq_packet.proofs.StreamLaws.{header_from_frame, frame_from_header, whole_stays, frame_bounds, frame_stood}
 use Rattle.mq_trace.specs.declared.kind.Way.{Way}
 use Rattle.mq_trace.specs.declared.kind.Way.TheVariants as ways
 use Rattle.mq_trace.specs.declared.refusal.Refusal.{Refusal}
@@ -22,7 +22,7 @@ use Rattle.mq_trace.specs.Keeping.{IsShort, IsUnfinished}
 use Rattle.mq_trace.specs.Telling.{connections_with, RefusedBySink, Untold}
 use Rattle.mq_trace.specs.Flows.{Bed, Flow, going, flow_placed_with, flow_with, flow_behind, flow_refused, flow_heard}
 use Rattle.mq_trace.specs.Directing.{bed_of, flow_of, frame_event, frame_met, connections_then, FlowWhy, FlowStops, FlowComes}
-use Rattle.mq_trace.proofs.FlowLaws.{HasLast, has_last, IsQuiet, until_last, quiet-refused, quiet-heard, quiet-behind, complete-refused-within, complete-heard-frame, complete-behind-frame}
+use Rattle.mq_trace.proofs.FlowLaws.{lost-behind, HasLast, has_last, IsQuiet, until_last, quiet-refused, quiet-heard, quiet-behind, complete-refused-within, complete-heard-frame, complete-behind-frame}
 
 -- a direction that isn't lost, with these bytes of an unfinished packet
 abbrev pub going_on : List ℕ → Half
@@ -242,3 +242,26 @@ stops_front refuses limit bed f n bytes old new refusal stops = record {
   unheard = stops.unheard;
   why = stops.why;
 }
+
+-- A whole packet at the front is all of its own bytes.
+pub frame_front : (bytes : List ℕ) (size : ℕ) → frame_size bytes ≡ Some size → (1 ≤ size) × (size ≤ length bytes) × (length (take size bytes) ≡ size) × (frame_size (take size bytes) ≡ Some (length (take size bytes)))
+frame_front bytes size e =
+    (let bounds : (0 < size) × (size ≤ length bytes) = frame_bounds bytes size e in
+    let front : length (take size bytes) ≡ size = length-take-le size bytes bounds.1 in
+    let whole : frame_size (take size bytes ++ drop size bytes) ≡ Some size = ap frame_size (take-append-drop size bytes) ∙ e in
+    (omega arith, bounds.1, front, frame_stood (take size bytes) (drop size bytes) size whole (omega arith) ∙ ap Some (sym front)))
+
+-- the first byte of some is the first of them
+pub first_front : (bytes : List ℕ) → 1 ≤ length bytes → slice_index bytes 0 ∷ [] ≡ take 1 bytes
+first_front [] some = absurd (omega arith)
+first_front (byte ∷ bytes) some = refl
+
+-- A direction that is lost takes in all bytes, and nothing comes of them.
+pub lost_kept : (bed : Bed) (at : ℕ) (half : Half) (c : Connections) (bytes : List ℕ) → half.lost ≡ true
+    → flow_behind bed (flow_of at half c) (take (length bytes) bytes) ≡ flow_of (at + length bytes) half c
+lost_kept bed at half c bytes e =
+    lost-behind bed (flow_of at half c) (take (length bytes) bytes) e ∙ ap (λ (n : ℕ). flow_of (at + n) half c) (length-take-le (length bytes) bytes (omega arith))
+
+-- a direction in which nothing is unfinished, and which isn't lost
+pub empty_half : (half : Half) → half.unfinished ≡ [] → half.lost ≡ false → half ≡ record { unfinished = []; lost = false }
+empty_half half nothing open_yet = ap (λ (u : List ℕ). record { unfinished = u; lost = half.lost }) nothing ∙ ap (λ (l : Bool). record { unfinished = []; lost = l }) open_yet

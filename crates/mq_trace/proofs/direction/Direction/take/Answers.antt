@@ -1,0 +1,56 @@
+-- The next packet of a direction.
+use Rattle.std.proofs.Common.{◌≡◌, ◌<◌, ◌≤◌, ◌+◌, false, ℕ, List, [], ◌∷◌, ◌++◌, length, arith, sym, subst, ap, ◌∙◌, take}
+use Rattle.std.specs.Prelude.{slice_index}
+use Rattle.mq_trace.specs.Events.{Placed}
+use Rattle.mq_trace.specs.Context.{Half}
+use Rattle.mq_trace.specs.Keeping.{half_in}
+use Rattle.mq_trace.specs.Flows.{flow_behind}
+use Rattle.mq_trace.specs.Directing.{bed_of, flow_of, FlowStops}
+use Rattle.mq_trace.proofs.FlowLaws.{lost-refused, lost-heard}
+use Rattle.mq_trace.proofs.DirectionLaws.{frame_front, first_front, lost_kept, stops_front, empty_half}
+use Rattle.mq_trace.proofs.direction.Direction.take.Goals as goal
+
+pub returns-then-self-clause-unrefused : goal.returns-then-self-clause-unrefused
+returns-then-self-clause-unrefused g c = lost-refused c.args.bed.limit (bed_of c.args.bed) (flow_of c.args.at (half_in c.args.self.now) c.args.connections.now) (take (length c.args.bytes.now) c.args.bytes.now) c.if-self.true
+
+pub returns-then-self-clause-kept : goal.returns-then-self-clause-kept
+returns-then-self-clause-kept g c = lost_kept (bed_of c.args.bed) c.args.at (half_in c.args.self.now) c.args.connections.now c.args.bytes.now c.if-self.true
+
+pub returns-then-self-clause-heard : goal.returns-then-self-clause-heard
+returns-then-self-clause-heard g c = λ earlier was are.
+    subst (λ (l : List Placed). g.S.Sink.agrees c.args.sink.now (l ++ earlier))
+    (sym (lost-heard (bed_of c.args.bed) (flow_of c.args.at (half_in c.args.self.now) c.args.connections.now) (take (length c.args.bytes.now) c.args.bytes.now) c.if-self.true)) was
+
+pub slice_bounds-take_whole-end : goal.slice_bounds-take_whole-end
+slice_bounds-take_whole-end g c = sym (frame_front c.args.bytes.now c.in-Whole.size c.in-Whole.ensures.1).2
+
+pub take_whole-requires-clause-some : goal.take_whole-requires-clause-some
+take_whole-requires-clause-some g c = let known = frame_front c.args.bytes.now c.in-Whole.size c.in-Whole.ensures.1 in omega (arith, known.0, known.2)
+
+pub take_whole-requires-clause-whole : goal.take_whole-requires-clause-whole
+take_whole-requires-clause-whole g c = (frame_front c.args.bytes.now c.in-Whole.size c.in-Whole.ensures.1).3
+
+pub returns-in-Ok-clause-count : goal.returns-in-Ok-clause-count
+returns-in-Ok-clause-count g c = let known = frame_front c.args.bytes.now c.in-Whole.size c.in-Whole.ensures.1 in (known.0, known.1)
+
+pub returns-in-Ok-clause-kept : goal.returns-in-Ok-clause-kept
+returns-in-Ok-clause-kept g c =
+    let front = (frame_front c.args.bytes.now c.in-Whole.size c.in-Whole.ensures.1).2 in
+    let empty = empty_half (half_in c.args.self.now) c.in-Whole.ensures.0 c.if-self.false in
+    subst (λ (h : Half). flow_behind (bed_of c.args.bed) (flow_of c.args.at h c.args.connections.now) (take c.in-Whole.size c.args.bytes.now) ≡ flow_of (c.args.at + c.in-Whole.size) h c.take_whole.new.connections) (sym empty)
+    (c.in-Ok.ensures.comes.kept ∙ ap (λ (n : ℕ). flow_of (c.args.at + n) (record { unfinished = []; lost = false }) c.take_whole.new.connections) front)
+
+pub returns-in-Err-clause-stops : goal.returns-in-Err-clause-stops
+returns-in-Err-clause-stops g c =
+    let empty = empty_half (half_in c.args.self.now) c.in-Whole.ensures.0 c.if-self.false in
+    subst (λ (h : Half). FlowStops {S = g.row.S.Denot} g.S.Sink.refuses c.args.bed.limit (bed_of c.args.bed) (flow_of c.args.at h c.args.connections.now) c.args.bytes.now
+    c.args.sink.now c.take_whole.new.sink c.in-Err.refusal) (sym empty)
+    (stops_front g.S.Sink.refuses c.args.bed.limit (bed_of c.args.bed) (flow_of c.args.at (record { unfinished = []; lost = false }) c.args.connections.now) c.in-Whole.size c.args.bytes.now
+    c.args.sink.now c.take_whole.new.sink c.in-Err.refusal c.in-Err.ensures.stops)
+
+pub returns-in-Err-take_byte-clause-stops : goal.returns-in-Err-take_byte-clause-stops
+returns-in-Err-take_byte-clause-stops g c =
+    stops_front g.S.Sink.refuses c.args.bed.limit (bed_of c.args.bed) (flow_of c.args.at (half_in c.args.self.now) c.args.connections.now) 1 c.args.bytes.now
+    c.args.sink.now c.take_byte.new.sink _
+    (subst (λ (t : List ℕ). FlowStops {S = g.row.S.Denot} g.S.Sink.refuses c.args.bed.limit (bed_of c.args.bed) (flow_of c.args.at (half_in c.args.self.now) c.args.connections.now) t
+    c.args.sink.now c.take_byte.new.sink c.in-Err-take_byte.refusal) (first_front c.args.bytes.now c.requires.some) c.in-Err-take_byte.ensures.stops)
