@@ -6,5 +6,7 @@ pub mod HalfLaws
 pub mod ItemLaws
 pub mod LiftLaws
 pub mod PiecesLaws
+pub mod ReadingLaws
 pub mod RunLaws
+pub mod StageLaws
 pub mod StepLaws

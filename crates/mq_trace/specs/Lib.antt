@@ -10,5 +10,6 @@ pub mod Pieces
 pub mod Refusals
 pub mod Refusing
 pub mod Runs
+pub mod Stepping
 pub mod Telling
 pub mod Tracing

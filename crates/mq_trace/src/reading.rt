@@ -1,7 +1,9 @@
 //! Reads a log: its header, its records, and what they carry.
 
-ghost use Rattle.std.specs.Prelude.{◌≡◌, ◌≤◌, OnOk, IfOk, IfErr, length, take};
+ghost use Rattle.std.specs.Prelude.{◌≡◌, ◌+◌, ◌<◌, ◌≤◌, OnOk, IfOk, IfErr, length, take};
 ghost use Rattle.mq_trace.specs.Keeping.{IsSound, Comes, StepStops};
+ghost use Rattle.mq_trace.specs.Refusals.{header_refusal};
+ghost use Rattle.mq_trace.specs.Stepping.{err_of, behind_header};
 
 use super::connections::{Connections, tell};
 use super::direction::{Bed, Direction};
@@ -89,7 +91,16 @@ impl Reading {
     }
 
     /// Takes in a byte of the header.
-    fn take_header(&mut self, byte: u8) -> Result<(), Refusal> {
+    ///
+    /// # Errors
+    ///
+    /// The refusal that the byte gives.
+    #[tactic(auto, using(crate::proofs::StageLaws::header_sound))]
+    fn take_header(&mut self, byte: u8) -> Result<(), Refusal>
+        requires begun { self.old.at < 8 }
+        ensures refused { header_refusal self.old.at byte ≡ err_of result }
+        ensures kept { OnOk result (self.new ≡ behind_header self.old byte) }
+    {
         if let Some(refusal) = header_refusal(self.at, byte) {
             return Err(refusal);
         }

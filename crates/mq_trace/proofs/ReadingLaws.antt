@@ -1,0 +1,123 @@
+-- What a step of a log's reader does: its states, one after the other.
+use Rattle.std.proofs.Common.{◌≡◌, ℕ, ◌+◌, ◌*◌, ◌<◌, ◌≤◌, Bool, true, false, cond, List, [], ◌∷◌, ◌++◌, length, Option, Some, None, refl, sym, ◌∙◌, ap, subst, arith, append_assoc, length-append}
+use Rattle.std.specs.Prelude.{◌⊎◌, slice_index}
+use Rattle.std.specs.Int.{w16, w32, from_be_bytes}
+use Rattle.std.proofs.lemmas.List.{append-nil}
+use Rattle.mq_trace.specs.declared.kind.RecordKind.{RecordKind}
+use Rattle.mq_trace.specs.declared.kind.RecordKind.TheVariants as kinds
+use Rattle.mq_trace.specs.declared.kind.Way.{Way}
+use Rattle.mq_trace.specs.declared.kind.Way.TheVariants as ways
+use Rattle.mq_trace.specs.declared.stage.Stage.{Stage}
+use Rattle.mq_trace.specs.declared.stage.Stage.TheVariants as stages
+use Rattle.mq_trace.specs.declared.refusal.Refusal.{Refusal}
+use Rattle.mq_trace.specs.declared.refusal.Refusal.TheVariants as refusals
+use Rattle.mq_trace.specs.declared.reading.Reading.{Reading}
+use Rattle.mq_trace.specs.declared.header.Header.{Header}
+use Rattle.mq_trace.specs.declared.connections.Connections.{Connections}
+use Rattle.mq_trace.specs.Framing.{kind_named, kind_of, way_of, opens, body_length}
+use Rattle.mq_trace.specs.Events.{Event, Placed, opened, closed, rested, released, event_of_head}
+use Rattle.mq_trace.specs.Refusals.{or_else, header_refusal, first_standing, allows}
+use Rattle.mq_trace.specs.Context.{Half, Context, emptied, refusal_for, event_for, placed_for, placed_with, put, after, after_header, with_heard}
+use Rattle.mq_trace.specs.Runs.{behind, refused_in, heard_in}
+use Rattle.mq_trace.specs.Hearing.{AreEvents}
+use Rattle.mq_trace.specs.Telling.{met_by, connections_with, next_placed, Untold, RefusedBySink}
+use Rattle.mq_trace.specs.Directing.{FlowWhy}
+use Rattle.mq_trace.specs.Keeping.{half_in, spelled_from, IsAt, context_of, begun_in, IsWithin, IsShort, IsUnfinished, IsSound, Advances, Comes, StepStops}
+use Rattle.mq_trace.proofs.RunLaws.{behind_append, refused_append, heard_append}
+use Rattle.mq_trace.proofs.StepLaws.{header_refused, header_after, header_placed, first_refusal, first_event, first_after, middle_refusal, middle_event, middle_after, middle_behind, middle_refused, middle_heard, placed_none, placed_some, fifth_length, fifth_event, fifth_refusal, fifth_after, release_high_refusal, release_high_event, release_high_after, release_low_refusal, release_low_event, release_low_after}
+use Rattle.mq_trace.proofs.FramingLaws.{body_length-append, kind_of-append}
+
+-- One step after another.
+pub advanced : (r r1 r2 : Reading) (a b : List ℕ) (h k : List Placed) → Advances r r1 a h → Advances r1 r2 b k → Advances r r2 (a ++ b) (k ++ h)
+advanced r r1 r2 a b h k first second = record {
+  limit = second.limit ∙ first.limit;
+  each = λ part at. (
+      let f = first.each part at in
+      let g = second.each f.0 f.1 in (
+        g.0,
+        g.1,
+        refused_append r.limit (context_of r part) a b
+            ∙ ap (λ o. or_else o (refused_in r.limit (behind (context_of r part) a) b)) f.2
+            ∙ ap (λ c. refused_in r.limit c b) f.3
+            ∙ ap (λ limit. refused_in limit (context_of r1 f.0) b) (sym first.limit)
+            ∙ g.2,
+        behind_append (context_of r part) a b ∙ ap (λ c. behind c b) f.3 ∙ g.3,
+        heard_append (context_of r part) a b ∙ ap (λ c. heard_in c b ++ heard_in (context_of r part) a) f.3 ∙ ap (λ past. past ++ heard_in (context_of r part) a) g.4 ∙ ap (λ past. k ++ past) f.4,
+      ));
+}
+
+-- A quiet step and one that is told.
+pub comes_after : {S : Type 0} (agrees : S → List Placed → Type 0) (r r1 r2 : Reading) (a b : List ℕ) (old new : S)
+    → Advances r r1 a [] → Comes agrees r1 r2 b old new → Comes agrees r r2 (a ++ b) old new
+comes_after agrees r r1 r2 a b old new quiet comes = record {
+  heard = comes.heard;
+  advances = (let both = advanced r r1 r2 a b [] comes.heard quiet comes.advances in rw append-nil at both);
+  told = comes.told;
+}
+
+-- A quiet step by itself.
+pub comes_quietly : {S : Type 0} (agrees : S → List Placed → Type 0) (r r1 : Reading) (a : List ℕ) (sink : S)
+    → Advances r r1 a [] → Comes agrees r r1 a sink sink
+comes_quietly agrees r r1 a sink quiet = record {
+  heard = [];
+  advances = quiet;
+  told = λ earlier agree are. agree;
+}
+
+-- A step that tells one event.
+pub comes_telling : {S : Type 0} (agrees : S → List Placed → Type 0) (r r1 : Reading) (a : List ℕ) (old new : S) (e : Placed)
+    → Advances r r1 a (e ∷ []) → ((earlier : List Placed) → agrees old earlier → AreEvents (e ∷ earlier) → agrees new (e ∷ earlier)) → Comes agrees r r1 a old new
+comes_telling agrees r r1 a old new e step told = record {
+  heard = e ∷ [];
+  advances = step;
+  told = told;
+}
+
+-- A quiet step, and one that stops.
+pub stops_after : {S : Type 0} (refuses : S → Refusal → Type 0) (r r1 : Reading) (a b : List ℕ) (old new : S) (refusal : Refusal)
+    → Advances r r1 a [] → r1.at ≡ r.at + length a → StepStops refuses r1 b old new refusal → StepStops refuses r (a ++ b) old new refusal
+stops_after refuses r r1 a b old new refusal quiet moved stop = record {
+  taken = a ++ stop.taken;
+  byte = stop.byte;
+  later = stop.later;
+  is = ap (λ bytes. a ++ bytes) stop.is ∙ sym (append_assoc a stop.taken (stop.byte ∷ stop.later));
+  each = λ part at. (
+      let f = quiet.each part at in
+      let g = stop.each f.0 f.1 in
+      let c = context_of r part in
+      let refused : (bytes : List ℕ) → refused_in r.limit c (a ++ bytes) ≡ refused_in r1.limit (context_of r1 f.0) bytes = λ bytes.
+      refused_append r.limit c a bytes
+      ∙ ap (λ o. or_else o (refused_in r.limit (behind c a) bytes)) f.2
+      ∙ ap (λ d. refused_in r.limit d bytes) f.3
+      ∙ ap (λ limit. refused_in limit (context_of r1 f.0) bytes) (sym quiet.limit) in
+      let heard : (bytes : List ℕ) → heard_in c (a ++ bytes) ≡ heard_in (context_of r1 f.0) bytes = λ bytes.
+      heard_append c a bytes
+      ∙ ap (λ d. heard_in d bytes ++ heard_in c a) f.3
+      ∙ ap (λ past. heard_in (context_of r1 f.0) bytes ++ past) f.4
+      ∙ append-nil (heard_in (context_of r1 f.0) bytes) in
+      let last : (a ++ stop.taken) ++ stop.byte ∷ [] ≡ a ++ (stop.taken ++ stop.byte ∷ []) = append_assoc a stop.taken (stop.byte ∷ []) in
+      let whole = stop.taken ++ stop.byte ∷ [] in
+      let place : r1.at + length stop.taken ≡ r.at + length (a ++ stop.taken) = (let l = length-append a stop.taken in omega arith) in (
+        refused stop.taken ∙ g.0,
+        heard stop.taken ∙ g.1,
+        same_why refuses old new refusal place (sym (refused whole) ∙ ap (refused_in r.limit c) (sym last)) (sym (heard whole) ∙ ap (heard_in c) (sym last)) g.2,
+      ));
+}
+  where
+    same_why : {S : Type 0} (refuses : S → Refusal → Type 0) (old new : S) (refusal : Refusal) {at at' : ℕ} {met met' : Option Refusal} {heard heard' : List Placed}
+        → at ≡ at' → met ≡ met' → heard ≡ heard' → FlowWhy refuses at met heard old new refusal → FlowWhy refuses at' met' heard' old new refusal
+    same_why refuses old new refusal {at} {at'} {met} {met'} {heard} {heard'} p q s why =
+        subst (λ n. FlowWhy refuses n met' heard' old new refusal) p
+        (subst (λ o. FlowWhy refuses at o heard' old new refusal) q
+        (subst (λ l. FlowWhy refuses at met l old new refusal) s why))
+
+-- It doesn't matter what follows.
+pub stops_longer : {S : Type 0} (refuses : S → Refusal → Type 0) (r : Reading) (a b : List ℕ) (old new : S) (refusal : Refusal)
+    → StepStops refuses r a old new refusal → StepStops refuses r (a ++ b) old new refusal
+stops_longer refuses r a b old new refusal stop = record {
+  taken = stop.taken;
+  byte = stop.byte;
+  later = stop.later ++ b;
+  is = ap (λ bytes. bytes ++ b) stop.is ∙ append_assoc stop.taken (stop.byte ∷ stop.later) b;
+  each = stop.each;
+}

@@ -1,0 +1,199 @@
+-- The states of a log's reader, from one byte to the next.
+use Rattle.std.proofs.Common.{◌≡◌, ℕ, ◌+◌, ◌-◌, ◌*◌, ◌<◌, ◌≤◌, Bool, true, false, cond, nat_lt, List, [], ◌∷◌, ◌++◌, length, Option, Some, None, refl, sym, ◌∙◌, ap, subst, inl, inr, arith, append_assoc, length-append}
+use Rattle.std.specs.Prelude.{◌==◌, ◌⊎◌, if◌then◌else◌, nat_le, ◌&&◌, not, slice_index, is_some, is_none}
+use Rattle.std.specs.Int.{w16, w32, from_be_bytes}
+use Rattle.std.proofs.lemmas.Bool.{eqb-true, eqb-false, leb-true, leb-false}
+use Rattle.mq_packet.specs.Stream.{fixed_header_of}
+use Rattle.mq_trace.specs.declared.kind.RecordKind.{RecordKind}
+use Rattle.mq_trace.specs.declared.kind.RecordKind.TheVariants as kinds
+use Rattle.mq_trace.specs.declared.kind.Way.{Way}
+use Rattle.mq_trace.specs.declared.kind.Way.TheVariants as ways
+use Rattle.mq_trace.specs.declared.stage.Stage.{Stage}
+use Rattle.mq_trace.specs.declared.stage.Stage.TheVariants as stages
+use Rattle.mq_trace.specs.declared.refusal.Refusal.{Refusal}
+use Rattle.mq_trace.specs.declared.refusal.Refusal.TheVariants as refusals
+use Rattle.mq_trace.specs.declared.connections.Connections.{Connections}
+use Rattle.mq_trace.specs.declared.reading.Reading.{Reading}
+use Rattle.mq_trace.specs.Framing.{kind_named, kind_of, way_of, opens, body_length}
+use Rattle.mq_trace.specs.Events.{Event, Placed, opened, closed, rested, released, event_of_head}
+use Rattle.mq_trace.specs.Refusals.{or_else, header_refusal, first_standing, allows, is_open_kind, needs_connection, is_release_kind}
+use Rattle.mq_trace.specs.Context.{Half, Context, emptied, refusal_for, event_for, placed_for, placed_with, put, after, after_header, with_heard}
+use Rattle.mq_trace.specs.Runs.{behind, refused_in, heard_in}
+use Rattle.mq_trace.specs.Telling.{met_by, connections_with, next_placed, Untold, RefusedBySink}
+use Rattle.mq_trace.specs.Directing.{FlowWhy}
+use Rattle.mq_trace.specs.Keeping.{half_in, spelled_from, IsAt, context_of, begun_in, IsWithin, IsShort, IsUnfinished, IsSound, Advances, StepStops}
+use Rattle.mq_trace.specs.Stepping.{behind_header, met_by_kind, Begins, in_head, marked, leaving}
+use Rattle.mq_trace.proofs.StepLaws.{header_refused, header_after, header_placed, first_refusal, first_event, first_after, middle_refusal, middle_event, middle_after, placed_none, placed_some, fifth_length, fifth_event, fifth_refusal, fifth_after, release_high_refusal, release_high_event, release_high_after, release_low_refusal, release_low_event, release_low_after}
+use Rattle.mq_trace.proofs.FramingLaws.{body_length-append, kind_of-append}
+use Rattle.mq_trace.proofs.ReadingLaws.{advanced}
+
+-- One byte's step.
+one_step : (r r' : Reading) (b : ℕ) (heard : List Placed) → r'.limit ≡ r.limit
+    → ((part : List ℕ) → IsAt r.stage part → (part' : List ℕ) × IsAt r'.stage part' × (refusal_for r.limit (context_of r part) b ≡ None)
+    × (after (context_of r part) b ≡ context_of r' part') × (put (placed_for (context_of r part) b) [] ≡ heard))
+    → Advances r r' (b ∷ []) heard
+one_step r r' b heard same each = record {
+  limit = same;
+  each = λ part at. (
+      let f = each part at in
+      (f.0, f.1, ap (λ o. or_else o None) f.2, f.3, f.4));
+}
+
+-- One byte that is refused at once.
+pub stops_refused : {S : Type 0} (refuses : S → Refusal → Type 0) (r : Reading) (b : ℕ) (sink : S) (refusal : Refusal)
+    → ((part : List ℕ) → IsAt r.stage part → refusal_for r.limit (context_of r part) b ≡ Some refusal)
+    → StepStops refuses r (b ∷ []) sink sink refusal
+stops_refused refuses r b sink refusal each = record {
+  taken = [];
+  byte = b;
+  later = [];
+  is = refl;
+  each = λ part at. (refl, refl, inl (ap (λ o. or_else o None) (each part at), refl));
+}
+
+-- One byte that completes an event that isn't told.
+pub stops_untold : {S : Type 0} (refuses : S → Refusal → Type 0) (r : Reading) (b : ℕ) (met : Option Refusal) (e : Placed) (old new : S) (refusal : Refusal)
+    → ((part : List ℕ) → IsAt r.stage part → (refusal_for r.limit (context_of r part) b ≡ met) × (placed_for (context_of r part) b ≡ Some e))
+    → Untold refuses r.at met old new refusal → StepStops refuses r (b ∷ []) old new refusal
+stops_untold {S} refuses r b met e old new refusal each untold = record {
+  taken = [];
+  byte = b;
+  later = [];
+  is = refl;
+  each = λ part at. (refl, refl, why part at untold);
+}
+  where
+    place : r.at ≡ r.at + 0
+    place = omega arith
+
+    why : (part : List ℕ) → IsAt r.stage part → Untold refuses r.at met old new refusal
+        → FlowWhy refuses (r.at + length {A = ℕ} []) (refused_in r.limit (context_of r part) (b ∷ [])) (heard_in (context_of r part) (b ∷ [])) old new refusal
+    why part at (inl told) = let f = each part at in inl (ap (λ o. or_else o None) (f.0 ∙ told.0), told.1)
+    why part at (inr told) =
+        let f = each part at in
+        inr (inr (ap (λ o. or_else o None) (f.0 ∙ told.0), ap (λ o. length (put o [])) f.1, subst (λ n. RefusedBySink refuses n new refusal) place told.1))
+
+-- A byte of the log's header.
+pub header_advances : (r : Reading) (b : ℕ) → r.at < 8 → r.stage ≡ stages.Between → header_refusal r.at b ≡ None → Advances r (behind_header r b) (b ∷ []) []
+header_advances r b short between none = one_step r (behind_header r b) b [] refl (λ part at. (
+    let c = context_of r part in
+    let nothing : part ≡ [] = subst (λ s. IsAt s part) between at in (
+      [],
+      subst (λ s. IsAt s []) (sym between) refl,
+      header_refused r.limit c b short ∙ none,
+      header_after c b short ∙ ap (context_of (behind_header r b)) nothing,
+      ap (λ o. put o []) (header_placed c b short),
+    )))
+
+pub header_stops : (r : Reading) (b : ℕ) (refusal : Refusal) → r.at < 8 → header_refusal r.at b ≡ Some refusal
+    → (part : List ℕ) → IsAt r.stage part → refusal_for r.limit (context_of r part) b ≡ Some refusal
+header_stops r b refusal short some part at = header_refused r.limit (context_of r part) b short ∙ some
+
+pub header_sound : (r : Reading) (b : ℕ) → IsSound r → r.at < 8 → IsSound (behind_header r b)
+header_sound r b sound short =
+    let first = sound.header_first short in
+    let none : begun_in r.stage ≡ 0 = ap begun_in first.0 in
+    record {
+      counted = omega arith;
+      begun = λ some. absurd (omega arith);
+      within = sound.within;
+      behind_header = λ some. absurd (omega arith);
+      header_first = λ less. first;
+      emptied = sound.emptied;
+      sent = sound.sent;
+      recv = sound.recv;
+    }
+
+-- A record's first byte.
+named_refusal : (r : Reading) (part : List ℕ) (b : ℕ) (kind : RecordKind) → 8 ≤ r.at → part ≡ [] → kind_named b ≡ Some kind
+    → refusal_for r.limit (context_of r part) b ≡ met_by_kind r kind
+named_refusal r part b kind behind none named =
+    first_refusal r.limit (context_of r part) b behind none
+    ∙ ap (λ k. first_standing (
+    (is_none k, refusals.Kind r.at)
+    ∷ (is_open_kind k && r.connections.connected, refusals.Nested r.at)
+    ∷ (needs_connection k && not r.connections.connected, refusals.NotOpen r.at)
+    ∷ (is_release_kind k && not r.header.releases, refusals.ReleaseUnrecorded r.at)
+    ∷ (nat_lt 4294967295 (r.records + 1), refusals.TooLong r.at)
+    ∷ [])) named
+
+pub unnamed_refused : (r : Reading) (b : ℕ) → 8 ≤ r.at → r.stage ≡ stages.Between → kind_named b ≡ None
+    → (part : List ℕ) → IsAt r.stage part → refusal_for r.limit (context_of r part) b ≡ Some (refusals.Kind r.at)
+unnamed_refused r b behind between unnamed part at =
+    let nothing : part ≡ [] = subst (λ s. IsAt s part) between at in
+    first_refusal r.limit (context_of r part) b behind nothing
+    ∙ ap (λ k. first_standing (
+    (is_none k, refusals.Kind r.at)
+    ∷ (is_open_kind k && r.connections.connected, refusals.Nested r.at)
+    ∷ (needs_connection k && not r.connections.connected, refusals.NotOpen r.at)
+    ∷ (is_release_kind k && not r.header.releases, refusals.ReleaseUnrecorded r.at)
+    ∷ (nat_lt 4294967295 (r.records + 1), refusals.TooLong r.at)
+    ∷ [])) unnamed
+
+pub named_refused : (r : Reading) (b : ℕ) (kind : RecordKind) (refusal : Refusal) → 8 ≤ r.at → r.stage ≡ stages.Between → kind_named b ≡ Some kind → met_by_kind r kind ≡ Some refusal
+    → (part : List ℕ) → IsAt r.stage part → refusal_for r.limit (context_of r part) b ≡ Some refusal
+named_refused r b kind refusal behind between named met part at =
+    named_refusal r part b kind behind (subst (λ s. IsAt s part) between at) named ∙ met
+
+-- the reader behind a record's first byte, apart from where its directions' bytes lie
+begun_context : (r r' : Reading) (b : ℕ) (kind : RecordKind) → kind_named b ≡ Some kind → Begins r r' kind
+    → record (context_of r []) { at = r.at + 1; part = b ∷ []; sent = cond (opens (kind_named b)) emptied (half_in r.sent); recv = cond (opens (kind_named b)) emptied (half_in r.recv) } ≡ context_of r' (b ∷ [])
+begun_context r r' b kind named begins =
+    let c : Context = record (context_of r (b ∷ [])) { at = r.at + 1 } in
+    ap (λ k. record c { sent = cond (opens k) emptied (half_in r.sent); recv = cond (opens k) emptied (half_in r.recv) }) named
+    ∙ ap (λ half. record c { sent = half; recv = cond (opens (Some kind)) emptied (half_in r.recv) }) (sym begins.sent)
+    ∙ ap (λ half. record c { sent = half_in r'.sent; recv = half }) (sym begins.recv)
+    ∙ sym (ap (λ (x : Reading). record (context_of x (b ∷ [])) { sent = half_in r'.sent; recv = half_in r'.recv }) begins.is)
+
+kind_first : (b : ℕ) → kind_of (b ∷ []) ≡ kind_named b
+unfolding kind_of
+kind_first b = refl
+
+pub first_advances : (r r' : Reading) (b : ℕ) (kind : RecordKind) → 8 ≤ r.at → r.stage ≡ stages.Between → kind_named b ≡ Some kind → met_by_kind r kind ≡ None → Begins r r' kind
+    → Advances r r' (b ∷ []) []
+first_advances r r' b kind behind between named met begins = one_step r r' b [] (ap (λ (x : Reading). x.limit) begins.is) (λ part at. (
+    let c = context_of r part in
+    let nothing : part ≡ [] = subst (λ s. IsAt s part) between at in
+    let staged : stages.Head kind 0 0 ≡ r'.stage = sym (ap (λ (x : Reading). x.stage) begins.is) in (
+      b ∷ [],
+      subst (λ s. IsAt s (b ∷ [])) staged (b, [], refl, kind_first b ∙ named, refl, refl),
+      named_refusal r part b kind behind nothing named ∙ met,
+      first_after c b behind nothing ∙ begun_context r r' b kind named begins,
+      ap (λ o. put o []) (placed_none c b (first_event c b behind nothing)),
+    )))
+
+nothing_unfinished : (limit : ℕ) → IsUnfinished limit (record { unfinished = []; lost = false })
+unfolding fixed_header_of
+nothing_unfinished limit = (omega arith, λ e. refl)
+
+within_limit : (limit : ℕ) (opening : Bool) (half half' : Half) → IsUnfinished limit half → half' ≡ cond opening emptied half → IsUnfinished limit half'
+within_limit limit opening half half' unfinished is = subst (IsUnfinished limit) (sym is) (either opening)
+  where
+    either : (opening : Bool) → IsUnfinished limit (cond opening emptied half)
+    either true = nothing_unfinished limit
+    either false = unfinished
+
+no_others : (kind : RecordKind) (m : Half) (half half' : Half) (count number : ℕ) → stages.Head kind 0 0 ≡ stages.Head kinds.Open count number → half' ≡ cond (opens (Some kind)) m half → half' ≡ m
+no_others kind m half half' count number e is = is ∙ ap (λ k. cond (opens (Some k)) m half) (let same : kind ≡ kinds.Open = cc in same)
+
+pub first_sound : (r r' : Reading) (kind : RecordKind) → IsSound r → 8 ≤ r.at → r.stage ≡ stages.Between → r.records < 4294967295 → Begins r r' kind → IsSound r'
+first_sound r r' kind sound behind between room begins =
+    let staged : r'.stage ≡ stages.Head kind 0 0 = ap (λ (x : Reading). x.stage) begins.is in
+    let placed : r'.at ≡ r.at + 1 = ap (λ (x : Reading). x.at) begins.is in
+    let numbered : r'.records ≡ r.records = ap (λ (x : Reading). x.records) begins.is in
+    let limited : r'.limit ≡ r.limit = ap (λ (x : Reading). x.limit) begins.is in
+    let none : begun_in r.stage ≡ 0 = ap begun_in between in
+    let one : begun_in r'.stage ≡ 1 + 0 = ap begun_in staged in
+    record {
+      counted = omega (arith, sound.counted);
+      begun = λ some. omega arith;
+      within = subst IsWithin (sym staged) (omega arith, (λ e. refl, λ e. omega arith, λ e. omega arith, omega arith));
+      behind_header = λ some. omega arith;
+      header_first = λ less. absurd (omega arith);
+      emptied = λ count number is. (
+        no_others kind emptied (half_in r.sent) (half_in r'.sent) count number (sym staged ∙ is) begins.sent,
+        no_others kind emptied (half_in r.recv) (half_in r'.recv) count number (sym staged ∙ is) begins.recv,
+      );
+      sent = subst (λ limit. IsUnfinished limit (half_in r'.sent)) (sym limited) (within_limit r.limit (opens (Some kind)) (half_in r.sent) (half_in r'.sent) sound.sent begins.sent);
+      recv = subst (λ limit. IsUnfinished limit (half_in r'.recv)) (sym limited) (within_limit r.limit (opens (Some kind)) (half_in r.recv) (half_in r'.recv) sound.recv begins.recv);
+    }

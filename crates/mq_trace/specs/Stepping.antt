@@ -1,0 +1,64 @@
+-- The steps of a log's reader: its state behind the bytes of one.
+use Rattle.std.specs.Prelude.{◌≡◌, ℕ, ◌+◌, ◌==◌, nat_lt, Bool, ◌&&◌, not, cond, if◌then◌else◌, List, [], ◌∷◌, Option, Some, None, Result, Ok, Err}
+use Rattle.mq_trace.specs.declared.kind.RecordKind.{RecordKind}
+use Rattle.mq_trace.specs.declared.kind.Way.{Way}
+use Rattle.mq_trace.specs.declared.refusal.Refusal.{Refusal}
+use Rattle.mq_trace.specs.declared.refusal.Refusal.TheVariants as refusals
+use Rattle.mq_trace.specs.declared.stage.Stage.TheVariants as stages
+use Rattle.mq_trace.specs.declared.reading.Reading.{Reading}
+use Rattle.mq_trace.specs.Framing.{opens}
+use Rattle.mq_trace.specs.Events.{Event}
+use Rattle.mq_trace.specs.Refusals.{first_standing, is_open_kind, needs_connection, is_release_kind}
+use Rattle.mq_trace.specs.Context.{Half, emptied}
+use Rattle.mq_trace.specs.Telling.{connections_with}
+use Rattle.mq_trace.specs.Keeping.{half_in}
+
+-- the refusal that a result holds, if it holds one
+abbrev pub err_of : {A : Type 0} → Result A Refusal → Option Refusal
+err_of (Ok a) = None
+err_of (Err refusal) = Some refusal
+
+-- behind one more byte of the log's header
+abbrev pub behind_header : Reading → ℕ → Reading
+behind_header r byte = record r {
+  at = r.at + 1;
+  header = record {
+    server = if r.at == 5 then byte == 1 else r.header.server;
+    releases = if r.at == 6 then byte == 1 else r.header.releases;
+  };
+}
+
+-- what a record of this kind meets with its first byte
+abbrev pub met_by_kind : Reading → RecordKind → Option Refusal
+met_by_kind r kind = first_standing (
+    (is_open_kind (Some kind) && r.connections.connected, refusals.Nested r.at)
+    ∷ (needs_connection (Some kind) && not r.connections.connected, refusals.NotOpen r.at)
+    ∷ (is_release_kind (Some kind) && not r.header.releases, refusals.ReleaseUnrecorded r.at)
+    ∷ (nat_lt 4294967295 (r.records + 1), refusals.TooLong r.at)
+    ∷ [])
+
+-- behind the first byte of a record of this kind
+pub record Begins (r r' : Reading) (kind : RecordKind) : Type 0 where
+  pub is : r' ≡ record r { at = r.at + 1; stage = stages.Head kind 0 0; sent = r'.sent; recv = r'.recv }
+  pub sent : half_in r'.sent ≡ cond (opens (Some kind)) emptied (half_in r.sent)
+  pub recv : half_in r'.recv ≡ cond (opens (Some kind)) emptied (half_in r.recv)
+
+-- behind more bytes of a record's head
+abbrev pub in_head : Reading → ℕ → RecordKind → ℕ → ℕ → Reading
+in_head r at kind count number = record r { at = at; stage = stages.Head kind count number }
+
+-- behind the last byte of a record that completes this event
+abbrev pub marked : Reading → Event → Reading
+marked r event = record r {
+  at = r.at + 1;
+  records = r.records + 1;
+  stage = stages.Between;
+  connections = connections_with r.header.server r.connections event;
+}
+
+-- where so many bytes of a record's body are still to come
+abbrev pub leaving : Reading → Way → ℕ → Reading
+leaving r way left = record r {
+  records = if left == 0 then r.records + 1 else r.records;
+  stage = if left == 0 then stages.Between else stages.Body way left;
+}
