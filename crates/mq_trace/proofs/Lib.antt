@@ -1,5 +1,6 @@
 pub mod ContextLaws
 pub mod DirectionLaws
+pub mod EndLaws
 pub mod FlowLaws
 pub mod FramingLaws
 pub mod HalfLaws

@@ -1,5 +1,5 @@
 -- The states of a log's reader, from one byte to the next.
-use Rattle.std.proofs.Common.{◌≡◌, ℕ, ◌+◌, ◌-◌, ◌*◌, ◌<◌, ◌≤◌, Bool, true, false, cond, nat_lt, List, [], ◌∷◌, ◌++◌, length, Option, Some, None, refl, sym, ◌∙◌, ap, subst, inl, inr, arith, append_assoc, length-append}
+use Rattle.std.proofs.Common.{◌≡◌, ℕ, ◌+◌, ◌-◌, ◌*◌, ◌<◌, ◌≤◌, Bool, true, false, cond, nat_lt, List, [], ◌∷◌, ◌++◌, length, Option, Some, None, refl, sym, ◌∙◌, ap, subst, inl, inr, arith, zero, suc, append_assoc, length-append}
 use Rattle.std.specs.Prelude.{◌==◌, ◌⊎◌, if◌then◌else◌, nat_le, ◌&&◌, not, slice_index, is_some, is_none}
 use Rattle.std.specs.Int.{w16, w32, from_be_bytes}
 use Rattle.std.proofs.lemmas.Bool.{eqb-true, eqb-false, leb-true, leb-false}
@@ -28,7 +28,7 @@ use Rattle.mq_trace.proofs.FramingLaws.{body_length-append, kind_of-append}
 use Rattle.mq_trace.proofs.ReadingLaws.{advanced}
 
 -- One byte's step.
-one_step : (r r' : Reading) (b : ℕ) (heard : List Placed) → r'.limit ≡ r.limit
+pub one_step : (r r' : Reading) (b : ℕ) (heard : List Placed) → r'.limit ≡ r.limit
     → ((part : List ℕ) → IsAt r.stage part → (part' : List ℕ) × IsAt r'.stage part' × (refusal_for r.limit (context_of r part) b ≡ None)
     × (after (context_of r part) b ≡ context_of r' part') × (put (placed_for (context_of r part) b) [] ≡ heard))
     → Advances r r' (b ∷ []) heard
@@ -196,4 +196,124 @@ first_sound r r' kind sound behind between room begins =
       );
       sent = subst (λ limit. IsUnfinished limit (half_in r'.sent)) (sym limited) (within_limit r.limit (opens (Some kind)) (half_in r.sent) (half_in r'.sent) sound.sent begins.sent);
       recv = subst (λ limit. IsUnfinished limit (half_in r'.recv)) (sym limited) (within_limit r.limit (opens (Some kind)) (half_in r.recv) (half_in r'.recv) sound.recv begins.recv);
+    }
+
+-- The bytes of a record's length.
+opening_of : (kind : RecordKind) → opens (Some kind) ≡ true → kind ≡ kinds.Open
+opening_of kinds.Open e = refl
+opening_of kinds.Sent e = absurd (cc)
+opening_of kinds.Recv e = absurd (cc)
+opening_of kinds.Close e = absurd (cc)
+opening_of kinds.Rest e = absurd (cc)
+opening_of kinds.Release e = absurd (cc)
+
+spelled_more : (number : ℕ) (bytes : List ℕ) (b : ℕ) → spelled_from number (bytes ++ b ∷ []) ≡ spelled_from number bytes * 256 + b
+spelled_more number [] b = refl
+spelled_more number (x ∷ bytes) b = spelled_more (number * 256 + x) bytes b
+
+-- within a record's head
+module _ (r : Reading) (kind : RecordKind) (count number : ℕ) (sound : IsSound r) (staged : r.stage ≡ stages.Head kind count number) where
+  pub begun_some : begun_in r.stage ≡ 1 + count
+  begun_some = ap begun_in staged
+
+  pub head_behind : 8 ≤ r.at
+  head_behind = let some = begun_some in sound.behind_header (omega arith)
+
+  pub head_room : r.records < 4294967295
+  head_room = let some = begun_some in sound.begun (omega arith)
+
+  pub head_bounds : IsWithin (stages.Head kind count number)
+  head_bounds = subst IsWithin staged sound.within
+
+  pub head_opening : kind ≡ kinds.Open → (half_in r.sent ≡ emptied) × (half_in r.recv ≡ emptied)
+  head_opening is = sound.emptied count number (staged ∙ ap (λ k. stages.Head k count number) is)
+
+  pub head_is : (part : List ℕ) → IsAt r.stage part → IsAt (stages.Head kind count number) part
+  head_is part at = subst (λ s. IsAt s part) staged at
+
+  pub head_long : (part : List ℕ) → IsAt r.stage part → length part ≡ 1 + count
+  head_long part at = let h = head_is part at in let l : length part ≡ length (h.0 ∷ h.1) = ap length h.2 in let n : length h.1 ≡ count = h.4 in omega arith
+
+  pub head_opens : (part : List ℕ) → IsAt r.stage part → opens (kind_of part) ≡ true → (half_in r.sent ≡ emptied) × (half_in r.recv ≡ emptied)
+  head_opens part at e = head_opening (opening_of kind (ap opens (sym (head_is part at).3) ∙ e))
+
+  pub head_longer : (part : List ℕ) (b : ℕ) → IsAt r.stage part → IsAt (stages.Head kind (count + 1) (number * 256 + b)) (part ++ b ∷ [])
+  head_longer part b at =
+      let h = head_is part at in
+      let l = head_long part at in
+      let n : length h.1 ≡ count = h.4 in
+      let more = length-append h.1 (b ∷ []) in
+      (h.0, h.1 ++ b ∷ [], ap (λ p. p ++ b ∷ []) h.2, kind_of-append part (b ∷ []) (omega arith) ∙ h.3, omega arith, ap (λ m. m * 256 + b) h.5 ∙ sym (spelled_more 0 h.1 b))
+
+pub length_advances : (r : Reading) (kind : RecordKind) (count number b : ℕ) → IsSound r → r.stage ≡ stages.Head kind count number → count < 3
+    → Advances r (in_head r (r.at + 1) kind (count + 1) (number * 256 + b)) (b ∷ []) []
+length_advances r kind count number b sound staged few = one_step r (in_head r (r.at + 1) kind (count + 1) (number * 256 + b)) b [] refl (λ part at. (
+    let c = context_of r part in
+    let behind = head_behind r kind count number sound staged in
+    let long = head_long r kind count number sound staged part at in (
+      part ++ b ∷ [],
+      head_longer r kind count number sound staged part b at,
+      middle_refusal r.limit c b behind (omega arith) (omega arith),
+      middle_after c b behind (omega arith) (omega arith) (head_opens r kind count number sound staged part at),
+      ap (λ o. put o []) (placed_none c b (middle_event c b behind (omega arith) (omega arith))),
+    )))
+
+small_of : (count number : ℕ) → count < 3 → (count ≡ 0 → number ≡ 0) → (count ≡ 1 → number < 256) → (count ≡ 2 → number < 65536) → number < 65536
+small_of zero number few a b c = let is = a refl in omega arith
+small_of (suc zero) number few a b c = let is = b refl in omega arith
+small_of (suc (suc zero)) number few a b c = c refl
+small_of (suc (suc (suc count))) number few a b c = absurd (omega arith)
+
+pub length_sound : (r : Reading) (kind : RecordKind) (count number b : ℕ) → IsSound r → r.stage ≡ stages.Head kind count number → count < 3 → b < 256
+    → IsSound (in_head r (r.at + 1) kind (count + 1) (number * 256 + b))
+length_sound r kind count number b sound staged few byte =
+    let some = begun_some r kind count number sound staged in
+    let behind = head_behind r kind count number sound staged in
+    let room = head_room r kind count number sound staged in
+    let bounds = head_bounds r kind count number sound staged in
+    let small : number < 65536 = small_of count number few bounds.1.0 bounds.1.1 bounds.1.2 in
+    record {
+      counted = omega (arith, sound.counted);
+      begun = λ begun. room;
+      within = (omega arith, (λ e. absurd (omega arith), λ e. (let none : number ≡ 0 = bounds.1.0 (omega arith) in omega arith), λ e. (let less : number < 256 = bounds.1.1 (omega arith) in omega arith), omega arith));
+      behind_header = λ begun. omega arith;
+      header_first = λ less. absurd (omega arith);
+      emptied = λ n m e. head_opening r kind count number sound staged (let same : kind ≡ kinds.Open = cc in same);
+      sent = sound.sent;
+      recv = sound.recv;
+    }
+
+-- Three bytes of it at once.
+pub three_advance : (r : Reading) (kind : RecordKind) (x y z : ℕ) → IsSound r → r.stage ≡ stages.Head kind 0 0 → x < 256 → y < 256
+    → Advances r (in_head r (r.at + 3) kind 3 (from_be_bytes w32 (0 ∷ x ∷ y ∷ z ∷ []))) (x ∷ y ∷ z ∷ []) []
+three_advance r kind x y z sound staged x_byte y_byte =
+    let r1 : Reading = in_head r (r.at + 1) kind 1 (0 * 256 + x) in
+    let r2 : Reading = in_head r1 (r1.at + 1) kind 2 ((0 * 256 + x) * 256 + y) in
+    let r3 : Reading = in_head r2 (r2.at + 1) kind 3 (((0 * 256 + x) * 256 + y) * 256 + z) in
+    let sound1 : IsSound r1 = length_sound r kind 0 0 x sound staged (omega arith) x_byte in
+    let sound2 : IsSound r2 = length_sound r1 kind 1 (0 * 256 + x) y sound1 refl (omega arith) y_byte in
+    let step1 : Advances r r1 (x ∷ []) [] = length_advances r kind 0 0 x sound staged (omega arith) in
+    let step2 : Advances r1 r2 (y ∷ []) [] = length_advances r1 kind 1 (0 * 256 + x) y sound1 refl (omega arith) in
+    let step3 : Advances r2 r3 (z ∷ []) [] = length_advances r2 kind 2 ((0 * 256 + x) * 256 + y) z sound2 refl (omega arith) in
+    let steps : Advances r r3 (x ∷ y ∷ z ∷ []) [] = advanced r r1 r3 (x ∷ []) (y ∷ z ∷ []) [] [] step1 (advanced r1 r2 r3 (y ∷ []) (z ∷ []) [] [] step2 step3) in
+    let placed : ((r.at + 1) + 1) + 1 ≡ r.at + 3 = omega arith in
+    let spelled : ((0 * 256 + x) * 256 + y) * 256 + z ≡ from_be_bytes w32 (0 ∷ x ∷ y ∷ z ∷ []) = omega arith in
+    subst (λ n. Advances r (in_head r n kind 3 (from_be_bytes w32 (0 ∷ x ∷ y ∷ z ∷ []))) (x ∷ y ∷ z ∷ []) []) placed
+    (subst (λ m. Advances r (in_head r (((r.at + 1) + 1) + 1) kind 3 m) (x ∷ y ∷ z ∷ []) []) spelled steps)
+
+pub three_sound : (r : Reading) (kind : RecordKind) (x y z : ℕ) → IsSound r → r.stage ≡ stages.Head kind 0 0 → x < 256 → y < 256 → z < 256
+    → IsSound (in_head r (r.at + 3) kind 3 (from_be_bytes w32 (0 ∷ x ∷ y ∷ z ∷ [])))
+three_sound r kind x y z sound staged x_byte y_byte z_byte =
+    let some = begun_some r kind 0 0 sound staged in
+    let behind = head_behind r kind 0 0 sound staged in
+    let room = head_room r kind 0 0 sound staged in
+    record {
+      counted = omega (arith, sound.counted);
+      begun = λ begun. room;
+      within = (omega arith, (λ e. absurd (omega arith), λ e. absurd (omega arith), λ e. absurd (omega arith), omega arith));
+      behind_header = λ begun. omega arith;
+      header_first = λ less. absurd (omega arith);
+      emptied = λ n m e. head_opening r kind 0 0 sound staged (let same : kind ≡ kinds.Open = cc in same);
+      sent = sound.sent;
+      recv = sound.recv;
     }

@@ -43,6 +43,11 @@ pub record Begins (r r' : Reading) (kind : RecordKind) : Type 0 where
   pub sent : half_in r'.sent ≡ cond (opens (Some kind)) emptied (half_in r.sent)
   pub recv : half_in r'.recv ≡ cond (opens (Some kind)) emptied (half_in r.recv)
 
+-- the refusal of a record's first byte
+abbrev pub refused_first : Reading → Option RecordKind → Option Refusal
+refused_first r None = Some (refusals.Kind r.at)
+refused_first r (Some kind) = met_by_kind r kind
+
 -- behind more bytes of a record's head
 abbrev pub in_head : Reading → ℕ → RecordKind → ℕ → ℕ → Reading
 in_head r at kind count number = record r { at = at; stage = stages.Head kind count number }

@@ -1,9 +1,16 @@
 //! Reads a log: its header, its records, and what they carry.
 
-ghost use Rattle.std.specs.Prelude.{◌≡◌, ◌+◌, ◌<◌, ◌≤◌, OnOk, IfOk, IfErr, length, take};
+ghost use Rattle.std.specs.Prelude.{◌≡◌, ◌+◌, ◌^◌, ◌<◌, ◌≤◌, ◌∷◌, [], List, true, false, cond, Some, None, OnOk, IfOk, IfErr, length, take};
 ghost use Rattle.mq_trace.specs.Keeping.{IsSound, Comes, StepStops};
 ghost use Rattle.mq_trace.specs.Refusals.{header_refusal};
-ghost use Rattle.mq_trace.specs.Stepping.{err_of, behind_header};
+ghost use Rattle.std.specs.Int.{w16, w32, from_be_bytes};
+ghost use Rattle.mq_trace.specs.declared.stage.Stage.TheVariants as stages;
+ghost use Rattle.mq_trace.specs.Framing.{kind_named, opens};
+ghost use Rattle.mq_trace.specs.Keeping.{half_in};
+ghost use Rattle.mq_trace.specs.Events.{Placed};
+ghost use Rattle.mq_trace.specs.Hearing.{AreEvents, event_of};
+ghost use Rattle.mq_trace.specs.Telling.{met_by, next_placed, Untold};
+ghost use Rattle.mq_trace.specs.Stepping.{err_of, behind_header, met_by_kind, Begins, refused_first, in_head, marked, leaving};
 
 use super::connections::{Connections, tell};
 use super::direction::{Bed, Direction};
@@ -84,7 +91,7 @@ impl Reading {
                 Ok(1)
             }
             Stage::Release(Some(high)) => {
-                self.end_release(u16::from_be_bytes([high, bytes[0]]), sink)?;
+                self.end_release(high, bytes[0], sink)?;
                 Ok(1)
             }
         }
@@ -121,23 +128,53 @@ impl Reading {
     }
 
     /// Takes in a record's first byte.
-    fn begin_record(&mut self, byte: u8) -> Result<RecordKind, Refusal> {
-        let at = self.at;
+    ///
+    /// # Errors
+    ///
+    /// The refusal that the byte gives.
+    fn begin_record(&mut self, byte: u8) -> Result<RecordKind, Refusal>
+        requires { self.old.at + 1 < 2 ^ 64 }
+        ensures named { IfOk result (λ kind. kind_named byte ≡ Some kind) }
+        ensures met { IfOk result (λ kind. met_by_kind self.old kind ≡ None) }
+        ensures room { OnOk result (self.old.records < 4294967295) }
+        ensures begins { IfOk result (λ kind. Begins self.old self.new kind) }
+        ensures refused { IfErr result (λ refusal. refused_first self.old (kind_named byte) ≡ Some refusal) }
+    {
         let Some(kind) = RecordKind::named(byte) else {
-            return Err(Refusal::Kind(at));
+            return Err(Refusal::Kind(self.at));
         };
+        if let Some(refusal) = self.met_by(kind) {
+            return Err(refusal);
+        }
+        self.begin(kind);
+        Ok(kind)
+    }
+
+    /// The refusal that a record of this kind meets with its first byte.
+    fn met_by(&self, kind: RecordKind) -> Option<Refusal>
+        ensures met { result ≡ met_by_kind self.now kind }
+        ensures room { result ≡ None → self.now.records < 4294967295 }
+    {
         if kind == RecordKind::Open && self.connections.connected {
-            return Err(Refusal::Nested(at));
+            Some(Refusal::Nested(self.at))
+        } else if kind.needs_connection() && !self.connections.connected {
+            Some(Refusal::NotOpen(self.at))
+        } else if kind == RecordKind::Release && !self.header.releases {
+            Some(Refusal::ReleaseUnrecorded(self.at))
+        } else if self.records == u32::MAX {
+            Some(Refusal::TooLong(self.at))
+        } else {
+            None
         }
-        if kind.needs_connection() && !self.connections.connected {
-            return Err(Refusal::NotOpen(at));
-        }
-        if kind == RecordKind::Release && !self.header.releases {
-            return Err(Refusal::ReleaseUnrecorded(at));
-        }
-        if self.records == u32::MAX {
-            return Err(Refusal::TooLong(at));
-        }
+    }
+
+    /// Goes on behind the first byte of a record of this kind.
+    fn begin(&mut self, kind: RecordKind)
+        requires { self.old.at + 1 < 2 ^ 64 }
+        ensures is { self.new ≡ record self.old { at = self.old.at + 1; stage = stages.Head kind 0 0; sent = self.new.sent; recv = self.new.recv } }
+        ensures sent { half_in self.new.sent ≡ cond (opens (Some kind)) (record { unfinished = []; lost = false }) (half_in self.old.sent) }
+        ensures recv { half_in self.new.recv ≡ cond (opens (Some kind)) (record { unfinished = []; lost = false }) (half_in self.old.recv) }
+    {
         if kind == RecordKind::Open {
             self.sent.clear();
             self.recv.clear();
@@ -148,11 +185,14 @@ impl Reading {
             count: 0,
             length: 0,
         };
-        Ok(kind)
     }
 
     /// Takes in the first three bytes of a record's length, and answers the number that they spell.
-    fn skip_length(&mut self, kind: RecordKind, a: u8, b: u8, c: u8) -> u32 {
+    fn skip_length(&mut self, kind: RecordKind, a: u8, b: u8, c: u8) -> u32
+        requires { self.old.at + 3 < 2 ^ 64 }
+        ensures number { result ≡ from_be_bytes w32 (0 ∷ a ∷ b ∷ c ∷ []) }
+        ensures kept { self.new ≡ in_head self.old (self.old.at + 3) kind 3 result }
+    {
         let length = u32::from_be_bytes([0, a, b, c]);
         self.at += 3;
         self.stage = Stage::Head {
@@ -171,7 +211,13 @@ impl Reading {
         length: u32,
         byte: u8,
         sink: &mut S,
-    ) -> Result<(), Refusal> {
+    ) -> Result<(), Refusal>
+        requires sound { IsSound self.old }
+        requires within { self.old.stage ≡ stages.Head kind count length }
+        ensures sound { OnOk result (IsSound self.new) }
+        ensures comes { OnOk result (Comes S.agrees self.old self.new (byte ∷ []) sink.old sink.new) }
+        ensures stops { IfErr result (λ refusal. StepStops S.refuses self.old (byte ∷ []) sink.old sink.new refusal) }
+    {
         if count == 3 {
             return self.end_head(kind, length, byte, sink);
         }
@@ -191,7 +237,13 @@ impl Reading {
         length: u32,
         byte: u8,
         sink: &mut S,
-    ) -> Result<(), Refusal> {
+    ) -> Result<(), Refusal>
+        requires sound { IsSound self.old }
+        requires within { self.old.stage ≡ stages.Head kind 3 length }
+        ensures sound { OnOk result (IsSound self.new) }
+        ensures comes { OnOk result (Comes S.agrees self.old self.new (byte ∷ []) sink.old sink.new) }
+        ensures stops { IfErr result (λ refusal. StepStops S.refuses self.old (byte ∷ []) sink.old sink.new refusal) }
+    {
         let length = length * 256 + u32::from(byte);
         if !kind.allows(length) {
             return Err(Refusal::Length(self.at));
@@ -216,40 +268,74 @@ impl Reading {
         }
     }
 
-    /// Ends a record that is its head alone.
-    fn end_mark<S: Sink>(&mut self, event: Event<'_>, sink: &mut S) -> Result<(), Refusal> {
-        tell(
+    /// Ends a record with an event.
+    ///
+    /// # Errors
+    ///
+    /// What the event meets, and the sink's own refusal, at the byte that is being taken in.
+    fn end_mark<S: Sink>(&mut self, event: Event<'_>, sink: &mut S) -> Result<(), Refusal>
+        requires room { self.old.at + 1 < 2 ^ 64 }
+        requires numbered { self.old.records < 4294967295 }
+        ensures met { OnOk result (met_by self.old.at self.old.connections (event_of event.entry) ≡ None) }
+        ensures kept { OnOk result (self.new ≡ marked self.old (event_of event.entry)) }
+        ensures heard { (earlier : List Placed) → S.agrees sink.old earlier → AreEvents (next_placed self.old.connections (self.old.records + 1) (event_of event.entry) ∷ earlier)
+            → OnOk result (S.agrees sink.new (next_placed self.old.connections (self.old.records + 1) (event_of event.entry) ∷ earlier)) }
+        ensures err { IfErr result (λ refusal. Untold S.refuses self.old.at (met_by self.old.at self.old.connections (event_of event.entry)) sink.old sink.new refusal) }
+    {
+        match tell(
             &mut self.connections,
             self.header.server,
             self.at,
             self.records + 1,
             event,
             sink,
-        )?;
-        self.end_record();
-        Ok(())
+        ) {
+            Ok(()) => {
+                self.end_record();
+                Ok(())
+            }
+            Err(refusal) => Err(refusal),
+        }
     }
 
     /// Ends a RELEASE of this Packet Identifier.
-    fn end_release<S: Sink>(&mut self, identifier: u16, sink: &mut S) -> Result<(), Refusal> {
-        self.end_mark(Event::Release(identifier), sink)
+    fn end_release<S: Sink>(&mut self, high: u8, low: u8, sink: &mut S) -> Result<(), Refusal>
+        requires sound { IsSound self.old }
+        requires within { self.old.stage ≡ stages.Release (Some high) }
+        ensures sound { OnOk result (IsSound self.new) }
+        ensures comes { OnOk result (Comes S.agrees self.old self.new (low ∷ []) sink.old sink.new) }
+        ensures stops { IfErr result (λ refusal. StepStops S.refuses self.old (low ∷ []) sink.old sink.new refusal) }
+    {
+        self.end_mark(Event::Release(u16::from_be_bytes([high, low])), sink)
     }
 
     /// Takes in the last byte of a record.
-    fn end_record(&mut self) {
+    #[tactic(auto, using(crate::proofs::EndLaws::left_sound))]
+    fn end_record(&mut self)
+        requires room { self.old.at + 1 < 2 ^ 64 }
+        requires numbered { self.old.records < 4294967295 }
+        ensures { self.new ≡ record self.old { at = self.old.at + 1; records = self.old.records + 1; stage = stages.Between } }
+    {
         self.at += 1;
         self.records += 1;
         self.stage = Stage::Between;
     }
 
     /// Takes in the last byte of the head of a record that carries so many bytes this way.
-    fn begin_body(&mut self, way: Way, length: u32) {
+    fn begin_body(&mut self, way: Way, length: u32)
+        requires room { self.old.at + 1 < 2 ^ 64 }
+        requires numbered { self.old.records < 4294967295 }
+        ensures { self.new ≡ leaving (record self.old { at = self.old.at + 1 }) way length }
+    {
         self.at += 1;
         self.leave(way, length);
     }
 
     /// Goes on where so many bytes of a record's body are still to come.
-    fn leave(&mut self, way: Way, left: u32) {
+    fn leave(&mut self, way: Way, left: u32)
+        requires numbered { self.old.records < 4294967295 }
+        ensures { self.new ≡ leaving self.old way left }
+    {
         if left == 0 {
             self.records += 1;
             self.stage = Stage::Between;
