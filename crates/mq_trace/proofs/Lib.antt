@@ -1,3 +1,4 @@
+pub mod BodyLaws
 pub mod ContextLaws
 pub mod DirectionLaws
 pub mod EndLaws
@@ -11,3 +12,4 @@ pub mod ReadingLaws
 pub mod RunLaws
 pub mod StageLaws
 pub mod StepLaws
+pub mod TellingLaws

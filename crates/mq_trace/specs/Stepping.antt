@@ -10,7 +10,12 @@ use Rattle.mq_trace.specs.Framing.{opens}
 use Rattle.mq_trace.specs.Events.{Event}
 use Rattle.mq_trace.specs.Refusals.{first_standing, is_open_kind, needs_connection, is_release_kind}
 use Rattle.mq_trace.specs.Context.{Half, emptied}
+use Rattle.mq_trace.specs.declared.connections.Connections.{Connections}
+use Rattle.mq_trace.specs.declared.direction.Direction.{Direction}
+use Rattle.mq_trace.specs.declared.kind.Way.TheVariants as ways
 use Rattle.mq_trace.specs.Telling.{connections_with}
+use Rattle.mq_trace.specs.Flows.{Bed, Flow}
+use Rattle.mq_trace.specs.Directing.{flow_of}
 use Rattle.mq_trace.specs.Keeping.{half_in}
 
 -- the refusal that a result holds, if it holds one
@@ -67,3 +72,23 @@ leaving r way left = record r {
   records = if left == 0 then r.records + 1 else r.records;
   stage = if left == 0 then stages.Between else stages.Body way left;
 }
+
+-- the direction that a body carries, and what is kept of it
+abbrev pub bed_for : Reading → Way → Bed
+bed_for r way = record { way = way; server = r.header.server; record_no = r.records + 1 }
+
+abbrev pub direction_for : Reading → Way → Direction
+direction_for r ways.Sent = r.sent
+direction_for r ways.Recv = r.recv
+
+abbrev pub flow_for : Reading → Way → Flow
+flow_for r way = flow_of r.at (half_in (direction_for r way)) r.connections
+
+-- the reader, with another direction this way
+abbrev pub redirected : Reading → Way → Direction → Reading
+redirected r ways.Sent d = record r { sent = d }
+redirected r ways.Recv d = record r { recv = d }
+
+-- behind bytes of a body, of which so many are still to come
+abbrev pub carried_on : Reading → Way → ℕ → Direction → Connections → ℕ → Reading
+carried_on r way at d connections left = leaving (record (redirected r way d) { at = at; connections = connections }) way left

@@ -1,16 +1,18 @@
 //! Reads a log: its header, its records, and what they carry.
 
-ghost use Rattle.std.specs.Prelude.{◌≡◌, ◌+◌, ◌^◌, ◌<◌, ◌≤◌, ◌∷◌, [], List, true, false, cond, Some, None, OnOk, IfOk, IfErr, length, take};
+ghost use Rattle.std.specs.Prelude.{◌≡◌, ◌+◌, ◌^◌, ◌<◌, ◌≤◌, ◌∷◌, ◌++◌, [], List, true, false, cond, Some, None, OnOk, IfOk, IfErr, length, take};
 ghost use Rattle.mq_trace.specs.Keeping.{IsSound, Comes, StepStops};
 ghost use Rattle.mq_trace.specs.Refusals.{header_refusal};
 ghost use Rattle.std.specs.Int.{w16, w32, from_be_bytes};
 ghost use Rattle.mq_trace.specs.declared.stage.Stage.TheVariants as stages;
 ghost use Rattle.mq_trace.specs.Framing.{kind_named, opens};
-ghost use Rattle.mq_trace.specs.Keeping.{half_in};
+ghost use Rattle.mq_trace.specs.Keeping.{half_in, IsUnfinished};
 ghost use Rattle.mq_trace.specs.Events.{Placed};
 ghost use Rattle.mq_trace.specs.Hearing.{AreEvents, event_of};
 ghost use Rattle.mq_trace.specs.Telling.{met_by, next_placed, Untold};
-ghost use Rattle.mq_trace.specs.Stepping.{err_of, behind_header, met_by_kind, Begins, refused_first, in_head, marked, leaving};
+ghost use Rattle.mq_trace.specs.Stepping.{err_of, behind_header, met_by_kind, Begins, refused_first, in_head, marked, leaving, bed_for, direction_for, flow_for, redirected};
+ghost use Rattle.mq_trace.specs.Flows.{flow_refused, flow_heard, flow_behind};
+ghost use Rattle.mq_trace.specs.Directing.{flow_of, FlowStops};
 
 use super::connections::{Connections, tell};
 use super::direction::{Bed, Direction};
@@ -310,7 +312,7 @@ impl Reading {
     }
 
     /// Takes in the last byte of a record.
-    #[tactic(auto, using(crate::proofs::EndLaws::left_sound))]
+    #[tactic(auto, using(crate::proofs::BodyLaws::body_stops))]
     fn end_record(&mut self)
         requires room { self.old.at + 1 < 2 ^ 64 }
         requires numbered { self.old.records < 4294967295 }
@@ -351,24 +353,52 @@ impl Reading {
         left: u32,
         bytes: &[u8],
         sink: &mut S,
-    ) -> Result<usize, Refusal> {
+    ) -> Result<usize, Refusal>
+        requires some { 1 ≤ length bytes.now }
+        requires sound { IsSound self.old }
+        requires within { self.old.stage ≡ stages.Body way left }
+        ensures count { IfOk result (λ n. (1 ≤ n) × (n ≤ length bytes.now)) }
+        ensures sound { OnOk result (IsSound self.new) }
+        ensures comes { IfOk result (λ n. Comes S.agrees self.old self.new (take n bytes.now) sink.old sink.new) }
+        ensures stops { IfErr result (λ refusal. StepStops S.refuses self.old bytes.now sink.old sink.new refusal) }
+    {
         let body = &bytes[..bytes.len().min(left as usize)];
+        match self.pass_on(way, body, sink) {
+            Ok(count) => {
+                self.at += count as u64;
+                self.leave(way, left - count as u32);
+                Ok(count)
+            }
+            Err(refusal) => Err(refusal),
+        }
+    }
+
+    /// Passes bytes of a body on to the direction that they go: those of one packet. Answers how many.
+    fn pass_on<S: Sink>(&mut self, way: Way, body: &[u8], sink: &mut S) -> Result<usize, Refusal>
+        requires some { 1 ≤ length body.now }
+        requires room { self.old.at + length body.now < 2 ^ 64 }
+        requires numbered { self.old.records < 4294967295 }
+        requires unfinished { IsUnfinished self.old.limit (half_in (direction_for self.old way)) }
+        ensures is { self.new ≡ record (redirected self.old way (direction_for self.new way)) { connections = self.new.connections } }
+        ensures count { IfOk result (λ n. (1 ≤ n) × (n ≤ length body.now)) }
+        ensures unrefused { IfOk result (λ n. flow_refused self.old.limit (bed_for self.old way) (flow_for self.old way) (take n body.now) ≡ None) }
+        ensures kept { IfOk result (λ n. flow_behind (bed_for self.old way) (flow_for self.old way) (take n body.now) ≡ flow_of (self.old.at + n) (half_in (direction_for self.new way)) self.new.connections) }
+        ensures heard { (earlier : List Placed) → S.agrees sink.old earlier → IfOk result (λ n.
+            AreEvents (flow_heard (bed_for self.old way) (flow_for self.old way) (take n body.now) ++ earlier)
+            → S.agrees sink.new (flow_heard (bed_for self.old way) (flow_for self.old way) (take n body.now) ++ earlier)) }
+        ensures sound { OnOk result (IsUnfinished self.old.limit (half_in (direction_for self.new way))) }
+        ensures stops { IfErr result (λ refusal. FlowStops S.refuses self.old.limit (bed_for self.old way) (flow_for self.old way) body.now sink.old sink.new refusal) }
+    {
         let bed = Bed {
             way,
             server: self.header.server,
             record_no: self.records + 1,
             limit: self.limit,
         };
-        let count = match way {
-            Way::Sent => self
-                .sent
-                .take(bed, &mut self.connections, self.at, body, sink)?,
-            Way::Recv => self
-                .recv
-                .take(bed, &mut self.connections, self.at, body, sink)?,
-        };
-        self.at += count as u64;
-        self.leave(way, left - count as u32);
-        Ok(count)
+        let at = self.at;
+        match way {
+            Way::Sent => self.sent.take(bed, &mut self.connections, at, body, sink),
+            Way::Recv => self.recv.take(bed, &mut self.connections, at, body, sink),
+        }
     }
 }

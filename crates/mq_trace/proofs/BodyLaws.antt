@@ -1,0 +1,177 @@
+-- The body of a record that carries packets.
+use Rattle.std.proofs.Common.{◌≡◌, ℕ, ◌+◌, ◌-◌, ◌*◌, ◌<◌, ◌≤◌, Bool, true, false, cond, List, [], ◌∷◌, ◌++◌, length, take, Option, Some, None, refl, sym, ◌∙◌, ap, subst, inl, inr, arith, length-append}
+use Rattle.std.specs.Prelude.{◌==◌, ◌⊎◌, if◌then◌else◌}
+use Rattle.std.proofs.lemmas.Bool.{eqb-true, eqb-false, eq-eqb, ne_eqb}
+use Rattle.mq_trace.specs.declared.kind.RecordKind.{RecordKind}
+use Rattle.mq_trace.specs.declared.kind.Way.{Way}
+use Rattle.mq_trace.specs.declared.kind.Way.TheVariants as ways
+use Rattle.mq_trace.specs.declared.stage.Stage.{Stage}
+use Rattle.mq_trace.specs.declared.stage.Stage.TheVariants as stages
+use Rattle.mq_trace.specs.declared.refusal.Refusal.{Refusal}
+use Rattle.mq_trace.specs.declared.connections.Connections.{Connections}
+use Rattle.mq_trace.specs.declared.direction.Direction.{Direction}
+use Rattle.mq_trace.specs.declared.reading.Reading.{Reading}
+use Rattle.mq_trace.specs.Framing.{kind_of, way_of, body_length}
+use Rattle.mq_trace.specs.Events.{Event, Placed}
+use Rattle.mq_trace.specs.Context.{Half, Context, half_for}
+use Rattle.mq_trace.specs.Runs.{behind, refused_in, heard_in}
+use Rattle.mq_trace.specs.Flows.{Bed, Flow, flow_event, flow_with, flow_after, flow_behind, flow_refused, flow_heard, bed_in, flow_in, half_behind, flowed}
+use Rattle.mq_trace.specs.Directing.{flow_of, FlowWhy, FlowStops}
+use Rattle.mq_trace.specs.Keeping.{half_in, IsAt, context_of, begun_in, IsWithin, IsUnfinished, IsSound, Advances, StepStops}
+use Rattle.mq_trace.specs.Stepping.{bed_for, direction_for, flow_for, redirected, leaving, carried_on}
+use Rattle.mq_trace.proofs.FramingLaws.{body_length-append, kind_of-append}
+use Rattle.mq_trace.proofs.EndLaws.{left_sound}
+use Rattle.mq_trace.proofs.LiftLaws.{lifted-refused, lifted-heard, lifted-behind}
+
+bed_same : (r : Reading) (way : Way) (part : List ℕ) → bed_in (context_of r part) way ≡ bed_for r way
+bed_same r way part = refl
+
+flow_same : (r : Reading) (way : Way) (part : List ℕ) → flow_in (context_of r part) way ≡ flow_for r way
+flow_same r ways.Sent part = refl
+flow_same r ways.Recv part = refl
+
+-- No byte of a body opens or ends a connection.
+connected_with : (bed : Bed) (f : Flow) (event : Option Event) → (flow_with bed f event).connected ≡ f.connected
+connected_with bed f None = refl
+connected_with bed f (Some event) = refl
+
+connected_after : (bed : Bed) (f : Flow) (byte : ℕ) → (flow_after bed f byte).connected ≡ f.connected
+unfolding flow_after
+connected_after bed f byte = connected_with bed _ (flow_event bed f byte)
+
+connected_behind : (bed : Bed) (f : Flow) (bytes : List ℕ) → (flow_behind bed f bytes).connected ≡ f.connected
+connected_behind bed f [] = refl
+connected_behind bed f (byte ∷ bytes) = connected_behind bed (flow_after bed f byte) bytes ∙ connected_after bed f byte
+
+limit_same : (r : Reading) (way : Way) (d : Direction) → (redirected r way d).limit ≡ r.limit
+limit_same r ways.Sent d = refl
+limit_same r ways.Recv d = refl
+
+flowed_context : (r : Reading) (way : Way) (part bytes : List ℕ) (d : Direction) (connections : Connections) (at left : ℕ) → connections.connected ≡ r.connections.connected
+    → flowed (context_of r part) way (left == 0) (flow_of at (half_in d) connections) bytes ≡ context_of (carried_on r way at d connections left) (cond (left == 0) [] (part ++ bytes))
+flowed_context r ways.Sent part bytes d connections at left same =
+    ap (λ b. record (context_of (carried_on r ways.Sent at d connections left) (cond (left == 0) [] (part ++ bytes))) { connected = b }) (sym same)
+flowed_context r ways.Recv part bytes d connections at left same =
+    ap (λ b. record (context_of (carried_on r ways.Recv at d connections left) (cond (left == 0) [] (part ++ bytes))) { connected = b }) (sym same)
+
+redirected_sound : (r : Reading) (way : Way) (d : Direction) (connections : Connections) (at left : ℕ) → at ≤ 8 + 1048581 * r.records + (1048581 - left) → left ≤ 1048576 → 8 ≤ at → r.records < 4294967295
+    → IsUnfinished r.limit (half_in r.sent) → IsUnfinished r.limit (half_in r.recv) → IsUnfinished r.limit (half_in d) → IsSound (carried_on r way at d connections left)
+redirected_sound r ways.Sent d connections at left counted short behind room sent recv own = left_sound (record r { sent = d; at = at; connections = connections }) ways.Sent left counted short behind room own recv
+redirected_sound r ways.Recv d connections at left counted short behind room sent recv own = left_sound (record r { recv = d; at = at; connections = connections }) ways.Recv left counted short behind room sent own
+
+-- within a body of which so many bytes are still to come
+module _ (r : Reading) (way : Way) (left : ℕ) (sound : IsSound r) (staged : r.stage ≡ stages.Body way left) where
+  body_within : (1 ≤ left) × (left ≤ 1048576)
+  body_within = subst IsWithin staged sound.within
+
+  pub body_behind : 8 ≤ r.at
+  body_behind = let some : begun_in r.stage ≡ 1048581 - left = ap begun_in staged in let few = body_within.1 in sound.behind_header (omega arith)
+
+  pub body_room : r.records < 4294967295
+  body_room = let some : begun_in r.stage ≡ 1048581 - left = ap begun_in staged in let few = body_within.1 in sound.begun (omega arith)
+
+  pub body_counted : r.at ≤ 8 + 1048581 * r.records + (1048581 - left)
+  body_counted = let some : begun_in r.stage ≡ 1048581 - left = ap begun_in staged in omega (arith, sound.counted)
+
+  body_is : (part : List ℕ) → IsAt r.stage part → IsAt (stages.Body way left) part
+  body_is part at = subst (λ s. IsAt s part) staged at
+
+  body_goes : (part : List ℕ) → IsAt r.stage part → way_of (kind_of part) ≡ Some way
+  body_goes part at = let h = body_is part at in ap way_of h.1 ∙ h.2
+
+  body_fits : (part bytes : List ℕ) → IsAt r.stage part → length bytes ≤ left → length part + length bytes ≤ 5 + body_length part
+  body_fits part bytes at short = let h = body_is part at in let there : 5 ≤ length part = h.3 in let size : length part + left ≡ 5 + body_length part = h.4 in omega arith
+
+  pub body_refused : (part bytes : List ℕ) → IsAt r.stage part → length bytes ≤ left → refused_in r.limit (context_of r part) bytes ≡ flow_refused r.limit (bed_for r way) (flow_for r way) bytes
+  body_refused part bytes at short =
+      lifted-refused r.limit (context_of r part) way bytes body_behind (body_goes part at) (body_is part at).3 (body_fits part bytes at short)
+      ∙ ap (λ f. flow_refused r.limit (bed_for r way) f bytes) (flow_same r way part)
+
+  pub body_heard : (part bytes : List ℕ) → IsAt r.stage part → length bytes ≤ left → heard_in (context_of r part) bytes ≡ flow_heard (bed_for r way) (flow_for r way) bytes
+  body_heard part bytes at short =
+      lifted-heard (context_of r part) way bytes body_behind (body_goes part at) (body_is part at).3 (body_fits part bytes at short)
+      ∙ ap (λ f. flow_heard (bed_for r way) f bytes) (flow_same r way part)
+
+  same_end : (n n' m m' : ℕ) → n + m ≡ n' + m' → (n == n') ≡ (m == m')
+  same_end n n' m m' e = by_cases (m == m') refl
+    where
+      by_cases : (t : Bool) → (m == m') ≡ t → (n == n') ≡ t
+      by_cases true is = let same = eqb-true m m' is in eq-eqb n n' (omega arith)
+      by_cases false is = let other = eqb-false m m' is in ne_eqb n n' (λ same. other (omega arith))
+
+  left_whole : (part bytes : List ℕ) → IsAt r.stage part → length bytes ≤ left → (length part + length bytes == 5 + body_length part) ≡ (left - length bytes == 0)
+  left_whole part bytes at short =
+      let h = body_is part at in
+      let size : length part + left ≡ 5 + body_length part = h.4 in
+      same_end (length part + length bytes) (5 + body_length part) (left - length bytes) 0 (omega arith)
+
+  pub body_kept : (part bytes : List ℕ) → IsAt r.stage part → length bytes ≤ left
+      → behind (context_of r part) bytes ≡ flowed (context_of r part) way (left - length bytes == 0) (flow_behind (bed_for r way) (flow_for r way) bytes) bytes
+  body_kept part bytes at short =
+      let h = body_is part at in
+      let size : length part + left ≡ 5 + body_length part = h.4 in
+      let some : 1 ≤ left = body_within.0 in
+      lifted-behind (context_of r part) way bytes body_behind (body_goes part at) h.3 (omega arith) (body_fits part bytes at short)
+      ∙ ap (λ f. flowed (context_of r part) way (length part + length bytes == 5 + body_length part) (flow_behind (bed_for r way) f bytes) bytes) (flow_same r way part)
+      ∙ ap (λ t. flowed (context_of r part) way t (flow_behind (bed_for r way) (flow_for r way) bytes) bytes) (left_whole part bytes at short)
+
+  -- where the part is behind them
+  left_at : (part bytes : List ℕ) → IsAt r.stage part → length bytes ≤ left → (t : Bool) → (left - length bytes == 0) ≡ t
+      → IsAt (if t then stages.Between else stages.Body way (left - length bytes)) (cond t [] (part ++ bytes))
+  left_at part bytes at short true is = refl
+  left_at part bytes at short false is =
+      let h = body_is part at in
+      let there : 5 ≤ length part = h.3 in
+      let size : length part + left ≡ 5 + body_length part = h.4 in
+      let l = length-append part bytes in
+      let body = body_length-append part bytes there in
+      (h.0, kind_of-append part bytes (omega arith) ∙ h.1, h.2, omega arith, omega arith)
+
+  -- Bytes of one body that are taken in.
+  pub body_steps : (bytes : List ℕ) (d : Direction) (connections : Connections) (at : ℕ) → length bytes ≤ left
+      → flow_refused r.limit (bed_for r way) (flow_for r way) bytes ≡ None
+      → flow_behind (bed_for r way) (flow_for r way) bytes ≡ flow_of at (half_in d) connections
+      → Advances r (carried_on r way at d connections (left - length bytes)) bytes (flow_heard (bed_for r way) (flow_for r way) bytes)
+  body_steps bytes d connections at short none kept = record {
+    limit = limit_same r way d;
+    each = λ part is. (
+      cond (left - length bytes == 0) [] (part ++ bytes),
+      left_at part bytes is short (left - length bytes == 0) refl,
+      body_refused part bytes is short ∙ none,
+      body_kept part bytes is short
+          ∙ ap (λ f. flowed (context_of r part) way (left - length bytes == 0) f bytes) kept
+          ∙ flowed_context r way part bytes d connections at (left - length bytes) (sym (ap (λ (f : Flow). f.connected) kept) ∙ connected_behind (bed_for r way) (flow_for r way) bytes),
+      body_heard part bytes is short,
+    );
+  }
+
+  -- Bytes of one body that aren't.
+  pub body_stops : {S : Type 0} (refuses : S → Refusal → Type 0) (bytes : List ℕ) (old new : S) (refusal : Refusal) → length bytes ≤ left
+      → FlowStops refuses r.limit (bed_for r way) (flow_for r way) bytes old new refusal → StepStops refuses r bytes old new refusal
+  body_stops refuses bytes old new refusal short stop =
+      let l : length bytes ≡ length (stop.taken ++ stop.byte ∷ stop.later) = ap length stop.is in
+      let m = length-append stop.taken (stop.byte ∷ stop.later) in
+      let n = length-append stop.taken (stop.byte ∷ []) in
+      let some : length (stop.byte ∷ stop.later) ≡ length stop.later + 1 = omega arith in
+      let few : length stop.taken ≤ left = omega arith in
+      let last : length (stop.taken ++ stop.byte ∷ []) ≤ left = omega arith in
+      record {
+        taken = stop.taken;
+        byte = stop.byte;
+        later = stop.later;
+        is = stop.is;
+        each = λ part at. (
+          body_refused part stop.taken at few ∙ stop.unrefused,
+          body_heard part stop.taken at few ∙ stop.unheard,
+          subst (λ o. FlowWhy refuses (r.at + length stop.taken) o (heard_in (context_of r part) (stop.taken ++ stop.byte ∷ [])) old new refusal) (sym (body_refused part (stop.taken ++ stop.byte ∷ []) at last))
+              (subst (λ h. FlowWhy refuses (r.at + length stop.taken) (flow_refused r.limit (bed_for r way) (flow_for r way) (stop.taken ++ stop.byte ∷ [])) h old new refusal)
+              (sym (body_heard part (stop.taken ++ stop.byte ∷ []) at last)) stop.why),
+        );
+      }
+
+  pub body_sound : (count : ℕ) (d : Direction) (connections : Connections) → count ≤ left → IsUnfinished r.limit (half_in d) → IsSound (carried_on r way (r.at + count) d connections (left - count))
+  body_sound count d connections few unfinished =
+      let behind = body_behind in
+      let counted = body_counted in
+      let short : left ≤ 1048576 = body_within.1 in
+      redirected_sound r way d connections (r.at + count) (left - count) (omega arith) (omega arith) (omega arith) body_room sound.sent sound.recv unfinished

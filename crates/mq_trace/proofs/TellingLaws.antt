@@ -1,0 +1,28 @@
+-- A step that tells a sink of an event, by what came of telling it.
+use Rattle.std.proofs.Common.{◌≡◌, ℕ, ◌+◌, List, [], ◌∷◌, Option, Some, None, Result, Ok, Err, OnOk, IfErr, sym, subst}
+use Rattle.mq_trace.specs.declared.refusal.Refusal.{Refusal}
+use Rattle.mq_trace.specs.declared.reading.Reading.{Reading}
+use Rattle.mq_trace.specs.Events.{Event, Placed}
+use Rattle.mq_trace.specs.Hearing.{AreEvents}
+use Rattle.mq_trace.specs.Telling.{met_by, next_placed, Untold}
+use Rattle.mq_trace.specs.Keeping.{IsAt, context_of, Comes, StepStops}
+use Rattle.mq_trace.specs.Stepping.{marked}
+use Rattle.mq_trace.proofs.ReadingLaws.{comes_telling}
+use Rattle.mq_trace.proofs.StageLaws.{stops_untold}
+use Rattle.mq_trace.proofs.EndLaws.{Tells, tells_advances}
+
+pub told_comes : {S A : Type 0} (agrees : S → List Placed → Type 0) (r r' : Reading) (b : ℕ) (event : Event) (old new : S) (result : Result A Refusal) → Tells r b event
+    → OnOk result (met_by r.at r.connections event ≡ None) → OnOk result (r' ≡ marked r event)
+    → ((earlier : List Placed) → agrees old earlier → AreEvents (next_placed r.connections (r.records + 1) event ∷ earlier) → OnOk result (agrees new (next_placed r.connections (r.records + 1) event ∷ earlier)))
+    → OnOk result (Comes agrees r r' (b ∷ []) old new)
+told_comes agrees r r' b event old new (Ok a) tells met kept heard =
+    subst (λ (x : Reading). Comes agrees r x (b ∷ []) old new) (sym kept)
+    (comes_telling agrees r (marked r event) (b ∷ []) old new (next_placed r.connections (r.records + 1) event) (tells_advances r b event tells met) heard)
+told_comes agrees r r' b event old new (Err refusal) tells met kept heard = tt
+
+pub told_stops : {S A : Type 0} (refuses : S → Refusal → Type 0) (r : Reading) (b : ℕ) (event : Event) (old new : S) (result : Result A Refusal) → Tells r b event
+    → IfErr result (λ refusal. Untold refuses r.at (met_by r.at r.connections event) old new refusal)
+    → IfErr result (λ refusal. StepStops refuses r (b ∷ []) old new refusal)
+told_stops refuses r b event old new (Ok a) tells untold = tt
+told_stops refuses r b event old new (Err refusal) tells untold =
+    stops_untold refuses r b (met_by r.at r.connections event) (next_placed r.connections (r.records + 1) event) old new refusal (λ part at. (let told = tells part at in (told.0, told.1))) untold
