@@ -2,6 +2,7 @@
 use Rattle.std.proofs.Common.{◌≡◌, ℕ, ◌+◌, ◌-◌, ◌*◌, ◌<◌, ◌≤◌, Bool, true, false, cond, List, [], ◌∷◌, ◌++◌, length, take, Option, Some, None, refl, sym, ◌∙◌, ap, subst, inl, inr, arith, length-append}
 use Rattle.std.specs.Prelude.{◌==◌, ◌⊎◌, if◌then◌else◌}
 use Rattle.std.proofs.lemmas.Bool.{eqb-true, eqb-false, eq-eqb, ne_eqb}
+use Rattle.std.proofs.lemmas.List.{take-append-le, length-take-le}
 use Rattle.mq_trace.specs.declared.kind.RecordKind.{RecordKind}
 use Rattle.mq_trace.specs.declared.kind.Way.{Way}
 use Rattle.mq_trace.specs.declared.kind.Way.TheVariants as ways
@@ -16,8 +17,9 @@ use Rattle.mq_trace.specs.Events.{Event, Placed}
 use Rattle.mq_trace.specs.Context.{Half, Context, half_for}
 use Rattle.mq_trace.specs.Runs.{behind, refused_in, heard_in}
 use Rattle.mq_trace.specs.Flows.{Bed, Flow, flow_event, flow_with, flow_after, flow_behind, flow_refused, flow_heard, bed_in, flow_in, half_behind, flowed}
+use Rattle.mq_trace.specs.Hearing.{AreEvents}
 use Rattle.mq_trace.specs.Directing.{flow_of, FlowWhy, FlowStops}
-use Rattle.mq_trace.specs.Keeping.{half_in, IsAt, context_of, begun_in, IsWithin, IsUnfinished, IsSound, Advances, StepStops}
+use Rattle.mq_trace.specs.Keeping.{half_in, IsAt, context_of, begun_in, IsWithin, IsUnfinished, IsSound, Advances, Comes, StepStops}
 use Rattle.mq_trace.specs.Stepping.{bed_for, direction_for, flow_for, redirected, leaving, carried_on}
 use Rattle.mq_trace.proofs.FramingLaws.{body_length-append, kind_of-append}
 use Rattle.mq_trace.proofs.EndLaws.{left_sound}
@@ -46,6 +48,10 @@ connected_behind bed f (byte ∷ bytes) = connected_behind bed (flow_after bed f
 limit_same : (r : Reading) (way : Way) (d : Direction) → (redirected r way d).limit ≡ r.limit
 limit_same r ways.Sent d = refl
 limit_same r ways.Recv d = refl
+
+place_same : (r : Reading) (way : Way) (d : Direction) → (redirected r way d).at ≡ r.at
+place_same r ways.Sent d = refl
+place_same r ways.Recv d = refl
 
 flowed_context : (r : Reading) (way : Way) (part bytes : List ℕ) (d : Direction) (connections : Connections) (at left : ℕ) → connections.connected ≡ r.connections.connected
     → flowed (context_of r part) way (left == 0) (flow_of at (half_in d) connections) bytes ≡ context_of (carried_on r way at d connections left) (cond (left == 0) [] (part ++ bytes))
@@ -175,3 +181,29 @@ module _ (r : Reading) (way : Way) (left : ℕ) (sound : IsSound r) (staged : r.
       let counted = body_counted in
       let short : left ≤ 1048576 = body_within.1 in
       redirected_sound r way d connections (r.at + count) (left - count) (omega arith) (omega arith) (omega arith) body_room sound.sent sound.recv unfinished
+
+  -- The step that passes bytes of one body on.
+  pub body_comes : {S : Type 0} (agrees : S → List Placed → Type 0) (bytes body rest : List ℕ) (n : ℕ) (r1 r2 : Reading) (old new : S) → bytes ≡ body ++ rest → n ≤ length body → length body ≤ left
+      → r1 ≡ record (redirected r way (direction_for r1 way)) { connections = r1.connections } → r2 ≡ leaving (record r1 { at = r1.at + n }) way (left - n)
+      → flow_refused r.limit (bed_for r way) (flow_for r way) (take n body) ≡ None
+      → flow_behind (bed_for r way) (flow_for r way) (take n body) ≡ flow_of (r.at + n) (half_in (direction_for r1 way)) r1.connections
+      → ((earlier : List Placed) → agrees old earlier → AreEvents (flow_heard (bed_for r way) (flow_for r way) (take n body) ++ earlier) → agrees new (flow_heard (bed_for r way) (flow_for r way) (take n body) ++ earlier))
+      → Comes agrees r r2 (take n bytes) old new
+  body_comes agrees bytes body rest n r1 r2 old new is within short passed went none kept told =
+      let d = direction_for r1 way in
+      let taken = length-take-le n body within in
+      let few : length (take n body) ≤ left = omega arith in
+      let steps : Advances r (carried_on r way (r.at + n) d r1.connections (left - length (take n body))) (take n body) (flow_heard (bed_for r way) (flow_for r way) (take n body)) =
+          body_steps (take n body) d r1.connections (r.at + n) few none kept in
+      let counted : Advances r (carried_on r way (r.at + n) d r1.connections (left - n)) (take n body) (flow_heard (bed_for r way) (flow_for r way) (take n body)) =
+          subst (λ m. Advances r (carried_on r way (r.at + n) d r1.connections (left - m)) (take n body) (flow_heard (bed_for r way) (flow_for r way) (take n body))) taken steps in
+      let ends : r2 ≡ carried_on r way (r.at + n) d r1.connections (left - n) =
+          went
+          ∙ ap (λ m. leaving (record r1 { at = m + n }) way (left - n)) (ap (λ (x : Reading). x.at) passed ∙ place_same r way d)
+          ∙ ap (λ (x : Reading). leaving (record x { at = r.at + n }) way (left - n)) passed in
+      let front : take n body ≡ take n bytes = sym (take-append-le n body rest within) ∙ ap (take n) (sym is) in
+      subst (λ (l : List ℕ). Comes agrees r r2 l old new) front (record {
+        heard = flow_heard (bed_for r way) (flow_for r way) (take n body);
+        advances = subst (λ (x : Reading). Advances r x (take n body) (flow_heard (bed_for r way) (flow_for r way) (take n body))) (sym ends) counted;
+        told = told;
+      })

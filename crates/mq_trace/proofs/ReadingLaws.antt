@@ -1,8 +1,8 @@
 -- What a step of a log's reader does: its states, one after the other.
-use Rattle.std.proofs.Common.{◌≡◌, ℕ, ◌+◌, ◌*◌, ◌<◌, ◌≤◌, Bool, true, false, cond, List, [], ◌∷◌, ◌++◌, length, Option, Some, None, refl, sym, ◌∙◌, ap, subst, arith, append_assoc, length-append}
+use Rattle.std.proofs.Common.{◌≡◌, ℕ, ◌+◌, ◌*◌, ◌<◌, ◌≤◌, Bool, true, false, cond, List, [], ◌∷◌, ◌++◌, length, Option, Some, None, refl, sym, ◌∙◌, ap, subst, arith, take, drop, append_assoc, length-append}
 use Rattle.std.specs.Prelude.{◌⊎◌, slice_index}
 use Rattle.std.specs.Int.{w16, w32, from_be_bytes}
-use Rattle.std.proofs.lemmas.List.{append-nil}
+use Rattle.std.proofs.lemmas.List.{append-nil, take-append-drop}
 use Rattle.mq_trace.specs.declared.kind.RecordKind.{RecordKind}
 use Rattle.mq_trace.specs.declared.kind.RecordKind.TheVariants as kinds
 use Rattle.mq_trace.specs.declared.kind.Way.{Way}
@@ -121,3 +121,27 @@ stops_longer refuses r a b old new refusal stop = record {
   is = ap (λ bytes. bytes ++ b) stop.is ∙ append_assoc stop.taken (stop.byte ∷ stop.later) b;
   each = stop.each;
 }
+
+-- The bytes at the front of a piece.
+pub first_of : (bytes : List ℕ) → 1 ≤ length bytes → slice_index bytes 0 ∷ [] ≡ take 1 bytes
+first_of [] some = absurd (omega arith)
+first_of (x ∷ bytes) some = refl
+
+pub five_of : (bytes : List ℕ) → 5 ≤ length bytes → slice_index bytes 0 ∷ slice_index bytes 1 ∷ slice_index bytes 2 ∷ slice_index bytes 3 ∷ slice_index bytes 4 ∷ [] ≡ take 5 bytes
+five_of [] some = absurd (omega arith)
+five_of (k ∷ []) some = absurd (omega arith)
+five_of (k ∷ x ∷ []) some = absurd (omega arith)
+five_of (k ∷ x ∷ y ∷ []) some = absurd (omega arith)
+five_of (k ∷ x ∷ y ∷ z ∷ []) some = absurd (omega arith)
+five_of (k ∷ x ∷ y ∷ z ∷ b ∷ bytes) some = refl
+
+-- A step that takes the first bytes of a piece in, and one that stops at one of them.
+pub comes_front : {S : Type 0} (agrees : S → List Placed → Type 0) (r r1 : Reading) (front bytes : List ℕ) (n : ℕ) (old new : S) → front ≡ take n bytes
+    → Comes agrees r r1 front old new → Comes agrees r r1 (take n bytes) old new
+comes_front agrees r r1 front bytes n old new is comes = subst (λ (l : List ℕ). Comes agrees r r1 l old new) is comes
+
+pub stops_front : {S : Type 0} (refuses : S → Refusal → Type 0) (r : Reading) (front bytes : List ℕ) (n : ℕ) (old new : S) (refusal : Refusal) → front ≡ take n bytes
+    → StepStops refuses r front old new refusal → StepStops refuses r bytes old new refusal
+stops_front refuses r front bytes n old new refusal is stop =
+    subst (λ (l : List ℕ). StepStops refuses r l old new refusal) (take-append-drop n bytes)
+    (stops_longer refuses r (take n bytes) (drop n bytes) old new refusal (subst (λ (l : List ℕ). StepStops refuses r l old new refusal) is stop))

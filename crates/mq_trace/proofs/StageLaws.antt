@@ -22,7 +22,7 @@ use Rattle.mq_trace.specs.Runs.{behind, refused_in, heard_in}
 use Rattle.mq_trace.specs.Telling.{met_by, connections_with, next_placed, Untold, RefusedBySink}
 use Rattle.mq_trace.specs.Directing.{FlowWhy}
 use Rattle.mq_trace.specs.Keeping.{half_in, spelled_from, IsAt, context_of, begun_in, IsWithin, IsShort, IsUnfinished, IsSound, Advances, StepStops}
-use Rattle.mq_trace.specs.Stepping.{behind_header, met_by_kind, Begins, in_head, marked, leaving}
+use Rattle.mq_trace.specs.Stepping.{behind_header, met_by_kind, refused_first, Begins, in_head, marked, leaving}
 use Rattle.mq_trace.proofs.StepLaws.{header_refused, header_after, header_placed, first_refusal, first_event, first_after, middle_refusal, middle_event, middle_after, placed_none, placed_some, fifth_length, fifth_event, fifth_refusal, fifth_after, release_high_refusal, release_high_event, release_high_after, release_low_refusal, release_low_event, release_low_after}
 use Rattle.mq_trace.proofs.FramingLaws.{body_length-append, kind_of-append}
 use Rattle.mq_trace.proofs.ReadingLaws.{advanced}
@@ -134,6 +134,12 @@ pub named_refused : (r : Reading) (b : ℕ) (kind : RecordKind) (refusal : Refus
     → (part : List ℕ) → IsAt r.stage part → refusal_for r.limit (context_of r part) b ≡ Some refusal
 named_refused r b kind refusal behind between named met part at =
     named_refusal r part b kind behind (subst (λ s. IsAt s part) between at) named ∙ met
+
+-- what refuses a record's first byte
+pub first_refused : (r : Reading) (b : ℕ) (kind : Option RecordKind) (refusal : Refusal) → 8 ≤ r.at → r.stage ≡ stages.Between → kind_named b ≡ kind → refused_first r kind ≡ Some refusal
+    → (part : List ℕ) → IsAt r.stage part → refusal_for r.limit (context_of r part) b ≡ Some refusal
+first_refused r b None refusal behind between named met part at = unnamed_refused r b behind between named part at ∙ met
+first_refused r b (Some kind) refusal behind between named met part at = named_refused r b kind refusal behind between named met part at
 
 -- the reader behind a record's first byte, apart from where its directions' bytes lie
 begun_context : (r r' : Reading) (b : ℕ) (kind : RecordKind) → kind_named b ≡ Some kind → Begins r r' kind

@@ -1,13 +1,13 @@
 -- A step that tells a sink of an event, by what came of telling it.
-use Rattle.std.proofs.Common.{◌≡◌, ℕ, ◌+◌, List, [], ◌∷◌, Option, Some, None, Result, Ok, Err, OnOk, IfErr, sym, subst}
+use Rattle.std.proofs.Common.{◌≡◌, ℕ, ◌+◌, List, [], ◌∷◌, ◌++◌, length, Option, Some, None, Result, Ok, Err, OnOk, IfErr, sym, subst}
 use Rattle.mq_trace.specs.declared.refusal.Refusal.{Refusal}
 use Rattle.mq_trace.specs.declared.reading.Reading.{Reading}
 use Rattle.mq_trace.specs.Events.{Event, Placed}
 use Rattle.mq_trace.specs.Hearing.{AreEvents}
 use Rattle.mq_trace.specs.Telling.{met_by, next_placed, Untold}
-use Rattle.mq_trace.specs.Keeping.{IsAt, context_of, Comes, StepStops}
+use Rattle.mq_trace.specs.Keeping.{IsAt, context_of, Advances, Comes, StepStops}
 use Rattle.mq_trace.specs.Stepping.{marked}
-use Rattle.mq_trace.proofs.ReadingLaws.{comes_telling}
+use Rattle.mq_trace.proofs.ReadingLaws.{comes_telling, comes_after, stops_after}
 use Rattle.mq_trace.proofs.StageLaws.{stops_untold}
 use Rattle.mq_trace.proofs.EndLaws.{Tells, tells_advances}
 
@@ -26,3 +26,14 @@ pub told_stops : {S A : Type 0} (refuses : S → Refusal → Type 0) (r : Readin
 told_stops refuses r b event old new (Ok a) tells untold = tt
 told_stops refuses r b event old new (Err refusal) tells untold =
     stops_untold refuses r b (met_by r.at r.connections event) (next_placed r.connections (r.records + 1) event) old new refusal (λ part at. (let told = tells part at in (told.0, told.1))) untold
+
+-- What comes behind a quiet step.
+pub result_comes : {S A : Type 0} (agrees : S → List Placed → Type 0) (r r1 r2 : Reading) (a b : List ℕ) (old new : S) (result : Result A Refusal) → Advances r r1 a []
+    → OnOk result (Comes agrees r1 r2 b old new) → OnOk result (Comes agrees r r2 (a ++ b) old new)
+result_comes agrees r r1 r2 a b old new (Ok x) quiet comes = comes_after agrees r r1 r2 a b old new quiet comes
+result_comes agrees r r1 r2 a b old new (Err refusal) quiet comes = tt
+
+pub result_stops : {S A : Type 0} (refuses : S → Refusal → Type 0) (r r1 : Reading) (a b : List ℕ) (old new : S) (result : Result A Refusal) → Advances r r1 a [] → r1.at ≡ r.at + length a
+    → IfErr result (λ refusal. StepStops refuses r1 b old new refusal) → IfErr result (λ refusal. StepStops refuses r (a ++ b) old new refusal)
+result_stops refuses r r1 a b old new (Ok x) quiet moved stops = tt
+result_stops refuses r r1 a b old new (Err refusal) quiet moved stops = stops_after refuses r r1 a b old new refusal quiet moved stops

@@ -24,6 +24,9 @@ use super::sink::Sink;
 use super::stage::Stage;
 use std::alloc::Global;
 
+/// The length of a record's head, in bytes: its kind, and the length of its body.
+const HEAD_LENGTH: usize = 5;
+
 /// What is kept of a log.
 #[derive(Drop)]
 pub struct Reading {
@@ -73,8 +76,10 @@ impl Reading {
         ensures stops { IfErr result (λ refusal. StepStops S.refuses self.old bytes.now sink.old sink.new refusal) }
     {
         if self.at < HEADER_LENGTH {
-            self.take_header(bytes[0])?;
-            return Ok(1);
+            return match self.take_header(bytes[0]) {
+                Ok(()) => Ok(1),
+                Err(refusal) => Err(refusal),
+            };
         }
         match self.stage {
             Stage::Between => self.take_head(bytes, sink),
@@ -82,20 +87,20 @@ impl Reading {
                 kind,
                 count,
                 length,
-            } => {
-                self.go_on_head(kind, count, length, bytes[0], sink)?;
-                Ok(1)
-            }
+            } => match self.go_on_head(kind, count, length, bytes[0], sink) {
+                Ok(()) => Ok(1),
+                Err(refusal) => Err(refusal),
+            },
             Stage::Body { way, left } => self.take_body(way, left, bytes, sink),
             Stage::Release(None) => {
                 self.at += 1;
                 self.stage = Stage::Release(Some(bytes[0]));
                 Ok(1)
             }
-            Stage::Release(Some(high)) => {
-                self.end_release(high, bytes[0], sink)?;
-                Ok(1)
-            }
+            Stage::Release(Some(high)) => match self.end_release(high, bytes[0], sink) {
+                Ok(()) => Ok(1),
+                Err(refusal) => Err(refusal),
+            },
         }
     }
 
@@ -104,7 +109,6 @@ impl Reading {
     /// # Errors
     ///
     /// The refusal that the byte gives.
-    #[tactic(auto, using(crate::proofs::StageLaws::header_sound))]
     fn take_header(&mut self, byte: u8) -> Result<(), Refusal>
         requires begun { self.old.at < 8 }
         ensures refused { header_refusal self.old.at byte ≡ err_of result }
@@ -119,14 +123,48 @@ impl Reading {
     }
 
     /// Takes in a record's head at once, where all of it is there, else its first byte.
-    fn take_head<S: Sink>(&mut self, bytes: &[u8], sink: &mut S) -> Result<usize, Refusal> {
-        let kind = self.begin_record(bytes[0])?;
-        let [_, a, b, c, d, ..] = bytes else {
-            return Ok(1);
-        };
-        let length = self.skip_length(kind, *a, *b, *c);
-        self.end_head(kind, length, *d, sink)?;
-        Ok(5)
+    fn take_head<S: Sink>(&mut self, bytes: &[u8], sink: &mut S) -> Result<usize, Refusal>
+        requires some { 1 ≤ length bytes.now }
+        requires sound { IsSound self.old }
+        requires behind { 8 ≤ self.old.at }
+        requires between { self.old.stage ≡ stages.Between }
+        ensures count { IfOk result (λ n. (1 ≤ n) × (n ≤ length bytes.now)) }
+        ensures sound { OnOk result (IsSound self.new) }
+        ensures comes { IfOk result (λ n. Comes S.agrees self.old self.new (take n bytes.now) sink.old sink.new) }
+        ensures stops { IfErr result (λ refusal. StepStops S.refuses self.old bytes.now sink.old sink.new refusal) }
+    {
+        match self.begin_record(bytes[0]) {
+            Ok(kind) => {
+                if bytes.len() < HEAD_LENGTH {
+                    return Ok(1);
+                }
+                match self.take_length(kind, bytes[1], bytes[2], bytes[3], bytes[4], sink) {
+                    Ok(()) => Ok(HEAD_LENGTH),
+                    Err(refusal) => Err(refusal),
+                }
+            }
+            Err(refusal) => Err(refusal),
+        }
+    }
+
+    /// Takes in all four bytes of a record's length, behind its first byte.
+    fn take_length<S: Sink>(
+        &mut self,
+        kind: RecordKind,
+        a: u8,
+        b: u8,
+        c: u8,
+        d: u8,
+        sink: &mut S,
+    ) -> Result<(), Refusal>
+        requires sound { IsSound self.old }
+        requires within { self.old.stage ≡ stages.Head kind 0 0 }
+        ensures sound { OnOk result (IsSound self.new) }
+        ensures comes { OnOk result (Comes S.agrees self.old self.new (a ∷ b ∷ c ∷ d ∷ []) sink.old sink.new) }
+        ensures stops { IfErr result (λ refusal. StepStops S.refuses self.old (a ∷ b ∷ c ∷ d ∷ []) sink.old sink.new refusal) }
+    {
+        let length = self.skip_length(kind, a, b, c);
+        self.end_head(kind, length, d, sink)
     }
 
     /// Takes in a record's first byte.
@@ -312,7 +350,6 @@ impl Reading {
     }
 
     /// Takes in the last byte of a record.
-    #[tactic(auto, using(crate::proofs::BodyLaws::body_stops))]
     fn end_record(&mut self)
         requires room { self.old.at + 1 < 2 ^ 64 }
         requires numbered { self.old.records < 4294967295 }

@@ -1,0 +1,63 @@
+use Rattle.std.proofs.Common.{arith, rules, ◌≡◌, ℕ, ◌+◌, ◌<◌, ◌≤◌, ◌∷◌, [], length, slice_index_or, ap, sym, subst, refl, ◌∙◌}
+use Rattle.std.specs.Prelude.{slice_index}
+use Rattle.mq_trace.specs.declared.reading.Reading.{Reading}
+use Rattle.mq_trace.specs.Framing.{kind_named}
+use Rattle.mq_trace.specs.Keeping.{begun_in, Advances, IsSound}
+use Rattle.mq_trace.proofs.ReadingLaws.{comes_quietly, comes_after, stops_after, first_of, five_of, comes_front, stops_front}
+use Rattle.mq_trace.proofs.StageLaws.{first_advances, first_sound, first_refused, stops_refused}
+use Rattle.mq_trace.proofs.reading.Reading.take_head.Goals as goal
+
+pub begin_record-requires : goal.begin_record-requires
+begin_record-requires g c =
+    let none : begun_in c.args.self.now.stage ≡ 0 = ap begun_in c.requires.between in
+    let counted = c.requires.sound.counted in
+    omega arith
+
+pub returns-then-bytes-lt-HEAD_LENGTH-clause-sound : goal.returns-then-bytes-lt-HEAD_LENGTH-clause-sound
+returns-then-bytes-lt-HEAD_LENGTH-clause-sound g c =
+    let r = c.args.self.now in
+    let s = c.in-Ok.ensures in
+    first_sound r _ c.in-Ok.kind c.requires.sound c.requires.behind c.requires.between s.room s.begins
+
+pub returns-then-bytes-lt-HEAD_LENGTH-clause-comes : goal.returns-then-bytes-lt-HEAD_LENGTH-clause-comes
+returns-then-bytes-lt-HEAD_LENGTH-clause-comes g c =
+    let r = c.args.self.now in
+    let s = c.in-Ok.ensures in
+    let bytes = c.args.bytes.now in
+    comes_front g.S.Sink.agrees r c.begin_record.new.self (slice_index bytes 0 ∷ []) bytes 1 c.args.sink.now c.args.sink.now (first_of bytes c.requires.some)
+    (comes_quietly g.S.Sink.agrees r c.begin_record.new.self (slice_index bytes 0 ∷ []) c.args.sink.now (first_advances r c.begin_record.new.self (slice_index bytes 0) c.in-Ok.kind c.requires.behind c.requires.between s.named s.met s.begins))
+
+pub take_length-requires-clause-sound : goal.take_length-requires-clause-sound
+take_length-requires-clause-sound g c =
+    let r = c.args.self.now in
+    let s = c.in-Ok.ensures in
+    first_sound r c.begin_record.new.self c.in-Ok.kind c.requires.sound c.requires.behind c.requires.between s.room s.begins
+
+pub returns-in-Ok-take_length-clause-comes : goal.returns-in-Ok-take_length-clause-comes
+returns-in-Ok-take_length-clause-comes g c =
+    let r = c.args.self.now in
+    let s = c.in-Ok.ensures in
+    let bytes = c.args.bytes.now in
+    let more = slice_index bytes 1 ∷ slice_index bytes 2 ∷ slice_index bytes 3 ∷ slice_index bytes 4 ∷ [] in
+    let quiet = first_advances r c.begin_record.new.self (slice_index bytes 0) c.in-Ok.kind c.requires.behind c.requires.between s.named s.met s.begins in
+    comes_front g.S.Sink.agrees r c.take_length.new.self (slice_index bytes 0 ∷ more) bytes 5 c.args.sink.now c.take_length.new.sink (five_of bytes (omega arith))
+    (comes_after g.S.Sink.agrees r c.begin_record.new.self c.take_length.new.self (slice_index bytes 0 ∷ []) more c.args.sink.now c.take_length.new.sink quiet c.in-Ok-take_length.ensures.comes)
+
+pub returns-in-Err-take_length-clause-stops : goal.returns-in-Err-take_length-clause-stops
+returns-in-Err-take_length-clause-stops g c =
+    let r = c.args.self.now in
+    let s = c.in-Ok.ensures in
+    let bytes = c.args.bytes.now in
+    let more = slice_index bytes 1 ∷ slice_index bytes 2 ∷ slice_index bytes 3 ∷ slice_index bytes 4 ∷ [] in
+    let quiet = first_advances r c.begin_record.new.self (slice_index bytes 0) c.in-Ok.kind c.requires.behind c.requires.between s.named s.met s.begins in
+    let moved : c.begin_record.new.self.at ≡ r.at + length (slice_index bytes 0 ∷ []) = ap (λ (x : Reading). x.at) s.begins.is in
+    stops_front g.S.Sink.refuses r (slice_index bytes 0 ∷ more) bytes 5 c.args.sink.now c.take_length.new.sink _ (five_of bytes (omega arith))
+    (stops_after g.S.Sink.refuses r c.begin_record.new.self (slice_index bytes 0 ∷ []) more c.args.sink.now c.take_length.new.sink _ quiet moved c.in-Err-take_length.ensures.stops)
+
+pub returns-in-Err-clause-stops : goal.returns-in-Err-clause-stops
+returns-in-Err-clause-stops g c =
+    let r = c.args.self.now in
+    let bytes = c.args.bytes.now in
+    stops_front g.S.Sink.refuses r (slice_index bytes 0 ∷ []) bytes 1 c.args.sink.now c.args.sink.now c.in-Err.refusal (first_of bytes c.requires.some)
+    (stops_refused g.S.Sink.refuses r (slice_index bytes 0) c.args.sink.now c.in-Err.refusal
+    (first_refused r (slice_index bytes 0) (kind_named (slice_index bytes 0)) c.in-Err.refusal c.requires.behind c.requires.between refl c.in-Err.ensures.refused))
