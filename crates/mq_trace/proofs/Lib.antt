@@ -8,3 +8,4 @@ pub mod LiftLaws
 pub mod PiecesLaws
 pub mod RunLaws
 pub mod StepLaws
+pub mod TracingLaws

@@ -120,8 +120,10 @@ fn take_in<S: Sink>(reading: &mut Reading, piece: &[u8], sink: &mut S) -> Result
 {
     let mut rest = piece;
     while !rest.is_empty() {
-        let count = reading.take(rest, sink)?;
-        rest = &rest[count..];
+        match reading.take(rest, sink) {
+            Ok(count) => rest = &rest[count..],
+            Err(refusal) => return Err(refusal),
+        }
     }
     Ok(())
 }
