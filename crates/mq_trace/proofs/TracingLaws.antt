@@ -1,22 +1,25 @@
 -- From steps to logs: what a reader's steps come to, and what stops them.
 use Rattle.std.proofs.Common.{◌≡◌, ℕ, ◌+◌, ◌<◌, ◌≤◌, Bool, true, false, List, [], ◌∷◌, ◌++◌, length, Option, Some, None, Result, Ok, Err, inl, inr, is_some, refl, sym, ap, ◌∙◌, arith, length-append, append_assoc, subst, take, drop, ◌-◌}
-use Rattle.std.specs.Prelude.{◌==◌}
-use Rattle.std.proofs.lemmas.Bool.{eqb-true}
+use Rattle.std.specs.Prelude.{◌==◌, ◌||◌, not, nat_lt}
+use Rattle.std.proofs.lemmas.Bool.{eqb-true, lt-ltb}
 use Rattle.std.proofs.lemmas.List.{append-nil, take-append-drop, length-drop, take_all, nil_from_length}
 use Rattle.mq_trace.specs.declared.refusal.Refusal.{Refusal}
 use Rattle.mq_trace.specs.declared.refusal.Refusal.TheVariants as refusals
+use Rattle.mq_trace.specs.declared.stage.Stage.{Stage}
+use Rattle.mq_trace.specs.declared.stage.Stage.TheVariants as stages
 use Rattle.mq_trace.specs.declared.reading.Reading.{Reading}
+use Rattle.mq_trace.specs.Framing.{header_by, records}
 use Rattle.mq_trace.specs.Events.{Event, Placed, events, event_at}
-use Rattle.mq_trace.specs.Refusals.{refused, refusal_at, or_else}
+use Rattle.mq_trace.specs.Refusals.{refused, refusal_at, or_else, is_cut_short}
 use Rattle.mq_trace.specs.Refusing.{moved}
-use Rattle.mq_trace.specs.Context.{Context, context, event_for, placed_for, placed_with, put}
+use Rattle.mq_trace.specs.Context.{Context, context, fresh, event_for, placed_for, placed_with, put}
 use Rattle.mq_trace.specs.Runs.{behind, refused_in, heard_in}
 use Rattle.mq_trace.specs.Hearing.{AreEvents}
 use Rattle.mq_trace.specs.Telling.{RefusedBySink}
 use Rattle.mq_trace.specs.Directing.{FlowWhy}
 use Rattle.mq_trace.specs.Keeping.{IsAt, context_of, Advances, Comes, StepStops}
-use Rattle.mq_trace.specs.Tracing.{Keeps, HasHeard, Why, Stops}
-use Rattle.mq_trace.proofs.ContextLaws.{at_context, event-kept, refused-grow}
+use Rattle.mq_trace.specs.Tracing.{Keeps, HasHeard, Why, Stops, is_between}
+use Rattle.mq_trace.proofs.ContextLaws.{at_context, part_context, context_is, context-nothing, refused-nothing, event-kept, refused-grow}
 use Rattle.mq_trace.proofs.RunLaws.{heard_append, context_run, events_run, passes, stops}
 
 -- A reader that keeps a log and comes on with some bytes keeps the log with these bytes behind it.
@@ -172,3 +175,36 @@ rest_same n rest = (let behind : length (drop n rest) ≡ length rest - n = leng
 
 pub nothing_left : (rest : List ℕ) (empty : Bool) → empty ≡ (length rest == 0) → empty ≡ true → rest ≡ []
 nothing_left rest empty told is = nil_from_length rest (eqb-true (length rest) 0 (sym told ∙ is))
+
+-- What a reader knows of the log that it keeps.
+pub kept_at : (r : Reading) (log : List ℕ) → Keeps r log → r.at ≡ length log
+kept_at r log keeps = ap (λ (c : Context). c.at) (sym keeps.kept) ∙ at_context log
+
+pub kept_header : (r : Reading) (log : List ℕ) → Keeps r log → r.header ≡ header_by log
+kept_header r log keeps = ap (λ (c : Context). c.header) (sym keeps.kept ∙ context_is log)
+
+-- a part of a record is there, or none is, as the stage says
+part_there : (stage : Stage) (part : List ℕ) → IsAt stage part → nat_lt 0 (length part) ≡ not (is_between stage)
+part_there stages.Between part at = ap (λ (p : List ℕ). nat_lt 0 (length p)) at
+part_there (stages.Head kind count length_so_far) part at = ap (λ (p : List ℕ). nat_lt 0 (length p)) at.2 ∙ lt-ltb 0 (length (at.0 ∷ at.1)) (omega arith)
+part_there (stages.Body way left) part at = lt-ltb 0 (length part) (omega (arith, at.3))
+part_there (stages.Release None) part at = lt-ltb 0 (length part) (omega (arith, at.1))
+part_there (stages.Release (Some high)) part at = lt-ltb 0 (length part) (omega (arith, at.1))
+
+-- Whether the log would be cut short, if it ended here.
+pub kept_cut : (r : Reading) (log : List ℕ) → Keeps r log → is_cut_short log ≡ (nat_lt r.at 8 || not (is_between r.stage))
+unfolding is_cut_short
+kept_cut r log keeps =
+    (let part : (records log).rest ≡ keeps.part = sym (part_context log) ∙ ap (λ (c : Context). c.part) keeps.kept in
+    ap (λ (n : ℕ). nat_lt n 8 || nat_lt 0 (length (records log).rest)) (sym (kept_at r log keeps))
+    ∙ ap (λ (p : List ℕ). nat_lt r.at 8 || nat_lt 0 (length p)) part
+    ∙ ap (λ (b : Bool). nat_lt r.at 8 || b) (part_there r.stage keeps.part keeps.stands))
+
+-- a new reader keeps the log of no bytes
+pub keeps_nothing : (r : Reading) → r.stage ≡ stages.Between → context_of r [] ≡ fresh → Keeps r []
+keeps_nothing r between kept = record {
+  unrefused = refused-nothing r.limit;
+  part = [];
+  stands = subst (λ (s : Stage). IsAt s []) (sym between) refl;
+  kept = context-nothing ∙ sym kept;
+}

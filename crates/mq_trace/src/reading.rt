@@ -1,7 +1,8 @@
 //! Reads a log: its header, its records, and what they carry.
 
-ghost use Rattle.std.specs.Prelude.{◌≡◌, ◌≤◌, OnOk, IfOk, IfErr, length, take};
-ghost use Rattle.mq_trace.specs.Keeping.{IsSound, Comes, StepStops};
+ghost use Rattle.std.specs.Prelude.{◌≡◌, ◌≤◌, OnOk, IfOk, IfErr, length, take, []};
+ghost use Rattle.mq_trace.specs.Context.{fresh};
+ghost use Rattle.mq_trace.specs.Keeping.{IsSound, Comes, StepStops, context_of};
 
 use super::connections::{Connections, tell};
 use super::direction::{Bed, Direction};
@@ -28,7 +29,12 @@ pub struct Reading {
 
 impl Reading {
     /// What is kept of nothing.
-    pub fn new(alloc: Global, limit: u32) -> Self {
+    pub fn new(alloc: Global, limit: u32) -> Self
+        ensures limit { result.limit ≡ limit }
+        ensures fresh { context_of result [] ≡ fresh }
+        ensures between { result.stage ≡ Stage.Between }
+        ensures sound { IsSound result }
+    {
         Reading {
             limit,
             at: 0,
