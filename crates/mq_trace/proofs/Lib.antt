@@ -6,6 +6,8 @@ pub mod HalfLaws
 pub mod ItemLaws
 pub mod LiftLaws
 pub mod PiecesLaws
+pub mod ReadBackLaws
 pub mod RunLaws
 pub mod StepLaws
 pub mod TracingLaws
+pub mod WritingLaws

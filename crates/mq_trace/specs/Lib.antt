@@ -12,3 +12,4 @@ pub mod Refusing
 pub mod Runs
 pub mod Telling
 pub mod Tracing
+pub mod Writing

@@ -12,6 +12,7 @@ mod refusal;
 mod sink;
 mod stage;
 mod tracer;
+mod writer;
 
 pub use event::{Event, Item};
 pub use header::Header;
@@ -19,3 +20,4 @@ pub use place::Place3;
 pub use refusal::Refusal;
 pub use sink::Sink;
 pub use tracer::Tracer;
+pub use writer::{TraceWriter, WriteFault};
