@@ -11,6 +11,8 @@ mod reading;
 mod refusal;
 mod sink;
 mod stage;
+#[cfg(test)]
+mod tests;
 mod tracer;
 mod writer;
 
