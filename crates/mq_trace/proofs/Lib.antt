@@ -1,3 +1,4 @@
+pub mod ByteLaws
 pub mod ContextLaws
 pub mod DirectionLaws
 pub mod FlowLaws
