@@ -1,5 +1,5 @@
 -- What a reader of a log keeps in memory, and what it stands for.
-use Rattle.std.specs.Prelude.{◌≡◌, ℕ, ◌+◌, ◌*◌, ◌<◌, ◌≤◌, ◌⊎◌, Bool, true, false, List, [], ◌∷◌, ◌++◌, length, slice_index, Option, Some, None}
+use Rattle.std.specs.Prelude.{◌≡◌, ℕ, ◌+◌, ◌-◌, ◌*◌, ◌<◌, ◌≤◌, ◌⊎◌, Bool, true, false, List, [], ◌∷◌, ◌++◌, length, slice_index, Option, Some, None}
 use Rattle.mq_trace.specs.declared.kind.RecordKind.{RecordKind}
 use Rattle.mq_trace.specs.declared.kind.RecordKind.TheVariants as kinds
 use Rattle.mq_trace.specs.declared.direction.Direction.{Direction}
@@ -54,8 +54,9 @@ context_of r part = record {
 abbrev pub begun_in : Stage → ℕ
 begun_in stages.Between = 0
 begun_in (stages.Head kind count length_so_far) = 1 + count
-begun_in (stages.Body way left) = 1048581
-begun_in (stages.Release first) = 6
+begun_in (stages.Body way left) = 1048581 - left
+begun_in (stages.Release None) = 5
+begun_in (stages.Release (Some high)) = 6
 
 -- the stage's numbers are within their bounds
 abbrev pub IsWithin : Stage → Type 0
