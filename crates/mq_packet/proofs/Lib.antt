@@ -5,6 +5,7 @@ pub mod ValueLaws
 pub mod RequestLaws
 pub mod ConnectFlagLaws
 pub mod GrowingLaws
+pub mod HeaderLaws
 pub mod CanonicalLaws
 pub mod ReasonLaws
 pub mod SizeLaws

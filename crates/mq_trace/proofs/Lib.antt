@@ -1,4 +1,5 @@
 pub mod BodyLaws
+pub mod ByteLaws
 pub mod ContextLaws
 pub mod DirectionLaws
 pub mod EndLaws
@@ -8,8 +9,11 @@ pub mod HalfLaws
 pub mod ItemLaws
 pub mod LiftLaws
 pub mod PiecesLaws
+pub mod ReadBackLaws
 pub mod ReadingLaws
 pub mod RunLaws
 pub mod StageLaws
 pub mod StepLaws
 pub mod TellingLaws
+pub mod TracingLaws
+pub mod WritingLaws

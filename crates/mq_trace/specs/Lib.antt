@@ -10,6 +10,8 @@ pub mod Pieces
 pub mod Refusals
 pub mod Refusing
 pub mod Runs
+pub mod Settling
 pub mod Stepping
 pub mod Telling
 pub mod Tracing
+pub mod Writing

@@ -1,7 +1,9 @@
 -- What a tracer has come to, and what its calls answer.
-use Rattle.std.specs.Prelude.{◌≡◌, ℕ, ◌⊎◌, Bool, true, List, [], ◌∷◌, ◌++◌, length, Option, Some, None, is_some, Result, Ok, Err}
+use Rattle.std.specs.Prelude.{◌≡◌, ℕ, ◌⊎◌, Bool, true, false, List, [], ◌∷◌, ◌++◌, length, Option, Some, None, is_some, Result, Ok, Err}
 use Rattle.mq_trace.specs.declared.refusal.Refusal.{Refusal}
 use Rattle.mq_trace.specs.declared.refusal.Refusal.TheVariants as refusals
+use Rattle.mq_trace.specs.declared.stage.Stage.{Stage}
+use Rattle.mq_trace.specs.declared.stage.Stage.TheVariants as stages
 use Rattle.mq_trace.specs.declared.reading.Reading.{Reading}
 use Rattle.mq_trace.specs.Events.{Placed, events, event_at}
 use Rattle.mq_trace.specs.Refusals.{refused, refusal_at, is_cut_short}
@@ -56,3 +58,8 @@ Takes agrees refuses limit log piece old new (Err refusal) = Stops agrees refuse
 abbrev pub Ends : List ℕ → Result (Unit {0}) Refusal → Type 0
 Ends log (Ok _) = is_cut_short log ≡ false
 Ends log (Err refusal) = (refusal ≡ refusals.Cut (length log)) × (is_cut_short log ≡ true)
+
+-- the stage is between two records
+abbrev pub is_between : Stage → Bool
+is_between stages.Between = true
+is_between _ = false

@@ -3,11 +3,12 @@
 ghost use Rattle.std.specs.Prelude.{◌≡◌, ◌+◌, ◌<◌, ◌≤◌, ◌^◌, ◌++◌, ◌⊎◌, ℕ, ◌∷◌, [], List, Some, None, OnOk, IfOk, IfErr, length, take, slice_index, option_map, true, false};
 ghost use Rattle.mq_packet.specs.Stream.{frame_size, fixed_header_of};
 ghost use Rattle.mq_packet.specs.declared.header.FixedHeader.TheVariants as headers;
-ghost use Rattle.mq_trace.specs.Events.{Placed, item_read, read_frame};
+ghost use Rattle.mq_trace.specs.Events.{Placed, lost, item_read, read_frame};
 ghost use Rattle.mq_trace.specs.Context.{put};
 ghost use Rattle.mq_trace.specs.Hearing.{AreEvents, event_of, item_of};
-ghost use Rattle.mq_trace.specs.Telling.{Untold};
+ghost use Rattle.mq_trace.specs.Telling.{Untold, met_by, connections_with, next_placed};
 ghost use Rattle.mq_trace.specs.Keeping.{half_in, IsUnfinished};
+ghost use Rattle.mq_trace.specs.Settling.{IsByteMore};
 ghost use Rattle.mq_trace.specs.Flows.{going, flow_placed_with, flow_refused, flow_heard, flow_behind};
 ghost use Rattle.mq_trace.specs.Directing.{bed_of, flow_of, frame_event, frame_met, connections_then, FlowStops, FlowComes, IsStep};
 
@@ -275,7 +276,15 @@ impl Direction {
         connections: &mut Connections,
         at: u64,
         sink: &mut S,
-    ) -> Result<(), Refusal> {
+    ) -> Result<(), Refusal>
+        requires kept { self.old.lost ≡ false }
+        ensures comes { (before : List ℕ) (byte : ℕ) → IsByteMore bed.limit before byte self.old.unfinished.items
+            → OnOk result (FlowComes S.agrees bed.limit (bed_of bed) (flow_of at (record { unfinished = before; lost = false }) connections.old)
+            (flow_of (at + 1) (half_in self.new) connections.new) (byte ∷ []) sink.old sink.new) }
+        ensures sound { (before : List ℕ) (byte : ℕ) → IsByteMore bed.limit before byte self.old.unfinished.items → OnOk result (IsUnfinished bed.limit (half_in self.new)) }
+        ensures stops { (before : List ℕ) (byte : ℕ) → IsByteMore bed.limit before byte self.old.unfinished.items
+            → IfErr result (λ refusal. FlowStops S.refuses bed.limit (bed_of bed) (flow_of at (record { unfinished = before; lost = false }) connections.old) (byte ∷ []) sink.old sink.new refusal) }
+    {
         match fixed_header(self.unfinished.as_slice()) {
             FixedHeader::Short => Ok(()),
             FixedHeader::Lost => self.lose(bed, connections, at, sink),
@@ -303,7 +312,13 @@ impl Direction {
         connections: &mut Connections,
         at: u64,
         sink: &mut S,
-    ) -> Result<(), Refusal> {
+    ) -> Result<(), Refusal>
+        ensures gone { half_in self.new ≡ record { unfinished = []; lost = true } }
+        ensures ok { OnOk result ((met_by at connections.old (going bed.way lost) ≡ None) × (connections.new ≡ connections_with bed.server connections.old (going bed.way lost))) }
+        ensures heard { (earlier : List Placed) → S.agrees sink.old earlier → AreEvents (next_placed connections.old bed.record_no (going bed.way lost) ∷ earlier)
+            → OnOk result (S.agrees sink.new (next_placed connections.old bed.record_no (going bed.way lost) ∷ earlier)) }
+        ensures err { IfErr result (λ refusal. Untold S.refuses at (met_by at connections.old (going bed.way lost)) sink.old sink.new refusal) }
+    {
         self.unfinished.clear();
         self.lost = true;
         tell(

@@ -11,7 +11,10 @@ mod reading;
 mod refusal;
 mod sink;
 mod stage;
+#[cfg(test)]
+mod tests;
 mod tracer;
+mod writer;
 
 pub use event::{Event, Item};
 pub use header::Header;
@@ -19,3 +22,4 @@ pub use place::Place3;
 pub use refusal::Refusal;
 pub use sink::Sink;
 pub use tracer::Tracer;
+pub use writer::{TraceWriter, WriteFault};

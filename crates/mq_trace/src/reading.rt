@@ -1,7 +1,7 @@
 //! Reads a log: its header, its records, and what they carry.
 
 ghost use Rattle.std.specs.Prelude.{◌≡◌, ◌+◌, ◌^◌, ◌<◌, ◌≤◌, ◌∷◌, ◌++◌, [], List, true, false, cond, Some, None, OnOk, IfOk, IfErr, length, take};
-ghost use Rattle.mq_trace.specs.Keeping.{IsSound, Comes, StepStops};
+ghost use Rattle.mq_trace.specs.Keeping.{context_of, IsSound, Comes, StepStops};
 ghost use Rattle.mq_trace.specs.Refusals.{header_refusal};
 ghost use Rattle.std.specs.Int.{w16, w32, from_be_bytes};
 ghost use Rattle.mq_trace.specs.declared.stage.Stage.TheVariants as stages;
@@ -10,6 +10,7 @@ ghost use Rattle.mq_trace.specs.Keeping.{half_in, IsUnfinished};
 ghost use Rattle.mq_trace.specs.Events.{Placed};
 ghost use Rattle.mq_trace.specs.Hearing.{AreEvents, event_of};
 ghost use Rattle.mq_trace.specs.Telling.{met_by, next_placed, Untold};
+ghost use Rattle.mq_trace.specs.Context.{fresh};
 ghost use Rattle.mq_trace.specs.Stepping.{err_of, behind_header, met_by_kind, Begins, refused_first, in_head, marked, leaving, bed_for, direction_for, flow_for, redirected};
 ghost use Rattle.mq_trace.specs.Flows.{flow_refused, flow_heard, flow_behind};
 ghost use Rattle.mq_trace.specs.Directing.{flow_of, FlowStops};
@@ -42,7 +43,12 @@ pub struct Reading {
 
 impl Reading {
     /// What is kept of nothing.
-    pub fn new(alloc: Global, limit: u32) -> Self {
+    pub fn new(alloc: Global, limit: u32) -> Self
+        ensures limit { result.limit ≡ limit }
+        ensures fresh { context_of result [] ≡ fresh }
+        ensures between { result.stage ≡ Stage.Between }
+        ensures sound { IsSound result }
+    {
         Reading {
             limit,
             at: 0,
@@ -173,7 +179,8 @@ impl Reading {
     ///
     /// The refusal that the byte gives.
     fn begin_record(&mut self, byte: u8) -> Result<RecordKind, Refusal>
-        requires { self.old.at + 1 < 2 ^ 64 }
+        requires sound { IsSound self.old }
+        requires between { self.old.stage ≡ stages.Between }
         ensures named { IfOk result (λ kind. kind_named byte ≡ Some kind) }
         ensures met { IfOk result (λ kind. met_by_kind self.old kind ≡ None) }
         ensures room { OnOk result (self.old.records < 4294967295) }

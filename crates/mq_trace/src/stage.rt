@@ -1,5 +1,8 @@
 //! Where a reader of a log stands among the log's records.
 
+ghost use Rattle.std.specs.Prelude.{◌≡◌};
+ghost use Rattle.mq_trace.specs.Tracing.{is_between};
+
 use super::kind::{RecordKind, Way};
 
 /// Where a reader stands among the records of a log.
@@ -25,4 +28,16 @@ pub enum Stage {
     },
     /// Inside the body of a RELEASE: its first byte, if that came.
     Release(Option<u8>),
+}
+
+impl Stage {
+    /// Whether the reader stands between two records.
+    pub fn is_between(self) -> bool
+        ensures { result ≡ is_between self }
+    {
+        match self {
+            Stage::Between => true,
+            Stage::Head { .. } | Stage::Body { .. } | Stage::Release(_) => false,
+        }
+    }
 }

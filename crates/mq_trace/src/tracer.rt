@@ -1,15 +1,14 @@
 //! Reads a log that is fed in pieces, and tells a sink of its events.
 
-ghost use Rattle.std.specs.Prelude.{◌≡◌, ℕ, ◌+◌, ◌*◌, ◌≤◌, List, [], ◌++◌, nat_lt, length, Some, None, Err, IfErr, IfSome, OnOk, if◌then◌else◌};
+ghost use Rattle.std.specs.Prelude.{◌≡◌, ℕ, ◌+◌, ◌*◌, ◌≤◌, List, [], ◌++◌, ◌||◌, not, nat_lt, length, Some, None, Err, IfErr, IfSome, OnOk, if◌then◌else◌};
 ghost use Rattle.mq_trace.specs.Framing.{header_by};
 ghost use Rattle.mq_trace.specs.Keeping.{IsSound};
-ghost use Rattle.mq_trace.specs.Tracing.{Follows, Takes, Ends, Keeps, HasHeard, Stops};
+ghost use Rattle.mq_trace.specs.Tracing.{Follows, Takes, Ends, Keeps, HasHeard, Stops, is_between};
 
 use super::header::{HEADER_LENGTH, Header};
 use super::reading::Reading;
 use super::refusal::Refusal;
 use super::sink::Sink;
-use super::stage::Stage;
 use std::alloc::Global;
 use std::marker::Model;
 
@@ -92,10 +91,10 @@ impl Tracer {
         if let Some(refusal) = self.refusal {
             return Err(refusal);
         }
-        let at = self.reading.at;
-        if at < HEADER_LENGTH || self.reading.stage != Stage::Between {
-            self.refusal = Some(Refusal::Cut(at));
-            return Err(Refusal::Cut(at));
+        if is_cut_short(&self.reading) {
+            let refusal = Refusal::Cut(self.reading.at);
+            self.refusal = Some(refusal);
+            return Err(refusal);
         }
         Ok(())
     }
@@ -109,6 +108,13 @@ impl Tracer {
     }
 }
 
+/// Whether the log, if it ended here, would end inside its header or a record.
+fn is_cut_short(reading: &Reading) -> bool
+    ensures { result ≡ (nat_lt reading.now.at 8 || not (is_between reading.now.stage)) }
+{
+    reading.at < HEADER_LENGTH || !reading.stage.is_between()
+}
+
 /// Takes in a piece of a log.
 fn take_in<S: Sink>(reading: &mut Reading, piece: &[u8], sink: &mut S) -> Result<(), Refusal>
     requires { IsSound reading.old }
@@ -120,8 +126,10 @@ fn take_in<S: Sink>(reading: &mut Reading, piece: &[u8], sink: &mut S) -> Result
 {
     let mut rest = piece;
     while !rest.is_empty() {
-        let count = reading.take(rest, sink)?;
-        rest = &rest[count..];
+        match reading.take(rest, sink) {
+            Ok(count) => rest = &rest[count..],
+            Err(refusal) => return Err(refusal),
+        }
     }
     Ok(())
 }

@@ -7,12 +7,6 @@ use Rattle.mq_trace.proofs.ReadingLaws.{comes_quietly, comes_after, stops_after,
 use Rattle.mq_trace.proofs.StageLaws.{first_advances, first_sound, first_refused, stops_refused}
 use Rattle.mq_trace.proofs.reading.Reading.take_head.Goals as goal
 
-pub begin_record-requires : goal.begin_record-requires
-begin_record-requires g c =
-    let none : begun_in c.args.self.now.stage ≡ 0 = ap begun_in c.requires.between in
-    let counted = c.requires.sound.counted in
-    omega arith
-
 pub returns-then-bytes-lt-HEAD_LENGTH-clause-sound : goal.returns-then-bytes-lt-HEAD_LENGTH-clause-sound
 returns-then-bytes-lt-HEAD_LENGTH-clause-sound g c =
     let r = c.args.self.now in

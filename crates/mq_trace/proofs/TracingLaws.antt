@@ -1,0 +1,210 @@
+-- From steps to logs: what a reader's steps come to, and what stops them.
+use Rattle.std.proofs.Common.{◌≡◌, ℕ, ◌+◌, ◌<◌, ◌≤◌, Bool, true, false, List, [], ◌∷◌, ◌++◌, length, Option, Some, None, Result, Ok, Err, inl, inr, is_some, refl, sym, ap, ◌∙◌, arith, length-append, append_assoc, subst, take, drop, ◌-◌}
+use Rattle.std.specs.Prelude.{◌==◌, ◌||◌, not, nat_lt}
+use Rattle.std.proofs.lemmas.Bool.{eqb-true, lt-ltb}
+use Rattle.std.proofs.lemmas.List.{append-nil, take-append-drop, length-drop, take_all, nil_from_length}
+use Rattle.mq_trace.specs.declared.refusal.Refusal.{Refusal}
+use Rattle.mq_trace.specs.declared.refusal.Refusal.TheVariants as refusals
+use Rattle.mq_trace.specs.declared.stage.Stage.{Stage}
+use Rattle.mq_trace.specs.declared.stage.Stage.TheVariants as stages
+use Rattle.mq_trace.specs.declared.reading.Reading.{Reading}
+use Rattle.mq_trace.specs.Framing.{header_by, records}
+use Rattle.mq_trace.specs.Events.{Event, Placed, events, event_at}
+use Rattle.mq_trace.specs.Refusals.{refused, refusal_at, or_else, is_cut_short}
+use Rattle.mq_trace.specs.Refusing.{moved}
+use Rattle.mq_trace.specs.Context.{Context, context, fresh, event_for, placed_for, placed_with, put}
+use Rattle.mq_trace.specs.Runs.{behind, refused_in, heard_in}
+use Rattle.mq_trace.specs.Hearing.{AreEvents}
+use Rattle.mq_trace.specs.Telling.{RefusedBySink}
+use Rattle.mq_trace.specs.Directing.{FlowWhy}
+use Rattle.mq_trace.specs.Keeping.{IsAt, context_of, Advances, Comes, StepStops}
+use Rattle.mq_trace.specs.Tracing.{Keeps, HasHeard, Why, Stops, is_between}
+use Rattle.mq_trace.proofs.ContextLaws.{at_context, part_context, context_is, context-nothing, refused-nothing, event-kept, refused-grow}
+use Rattle.mq_trace.proofs.RunLaws.{heard_append, context_run, events_run, passes, stops}
+
+-- A reader that keeps a log and comes on with some bytes keeps the log with these bytes behind it.
+pub keeps_on : {S : Type 0} (agrees : S → List Placed → Type 0) (r r' : Reading) (log bytes : List ℕ) (old new : S) → Keeps r log → Comes agrees r r' bytes old new → Keeps r' (log ++ bytes)
+keeps_on agrees r r' log bytes old new keeps comes =
+    (let step = comes.advances.each keeps.part keeps.stands in
+    let unrefused : refused r.limit (log ++ bytes) ≡ None = passes r.limit log bytes keeps.unrefused (ap (λ (c : Context). refused_in r.limit c bytes) keeps.kept ∙ step.2) in
+    record {
+      unrefused = ap (λ (limit : ℕ). refused limit (log ++ bytes)) comes.advances.limit ∙ unrefused;
+      part = step.0;
+      stands = step.1;
+      kept = context_run log bytes ∙ ap (λ (c : Context). behind c bytes) keeps.kept ∙ step.3;
+    })
+
+-- A sink that had heard the events of the log has heard those of the longer log then.
+pub hears_on : {S : Type 0} (agrees : S → List Placed → Type 0) (r r' : Reading) (log bytes : List ℕ) (old new : S) → Keeps r log → Comes agrees r r' bytes old new → HasHeard agrees log bytes old new
+hears_on agrees r r' log bytes old new keeps comes =
+    (let step = comes.advances.each keeps.part keeps.stands in
+    let longer : events (log ++ bytes) ≡ comes.heard ++ events log
+        = events_run log bytes ∙ ap (λ (l : List Placed). l ++ events log) (ap (λ (c : Context). heard_in c bytes) keeps.kept ∙ step.4) in
+    let next = keeps_on agrees r r' log bytes old new keeps comes in
+    λ was. subst (agrees new) (sym longer) (comes.told (events log) was (record { limit = r'.limit; log = log ++ bytes; unrefused = next.unrefused; are = sym longer })))
+
+-- an event at its place is an event
+some_placed : (c : Context) (event : Option Event) → length (put (placed_with c event) []) ≡ 1 → is_some event ≡ true
+some_placed c None one = absurd (omega (arith, one))
+some_placed c (Some event) one = refl
+
+some_event : (c : Context) (byte : ℕ) → length (put (placed_for c byte) []) ≡ 1 → is_some (event_for c byte) ≡ true
+unfolding placed_for
+some_event c byte one = some_placed c (event_for c byte) one
+
+-- What stops a step stops the log.
+module _ {S : Type 0} (agrees : S → List Placed → Type 0) (refuses : S → Refusal → Type 0) (r : Reading) (log : List ℕ) (keeps : Keeps r log) where
+  -- the byte behind these bytes
+  module _ (taken : List ℕ) (byte : ℕ) (unrefused : refused_in r.limit (context_of r keeps.part) taken ≡ None) (unheard : heard_in (context_of r keeps.part) taken ≡ []) where
+    taken_in : refused r.limit (log ++ taken) ≡ None
+    taken_in = passes r.limit log taken keeps.unrefused (ap (λ (c : Context). refused_in r.limit c taken) keeps.kept ∙ unrefused)
+
+    same_events : events (log ++ taken) ≡ events log
+    same_events = events_run log taken ∙ ap (λ (l : List Placed). l ++ events log) (ap (λ (c : Context). heard_in c taken) keeps.kept ∙ unheard)
+
+    heard_nothing : (old new : S) → new ≡ old → HasHeard agrees log taken old new
+    heard_nothing old new same = λ was. subst (agrees new) (sym same_events) (subst (λ (s : S). agrees s (events log)) (sym same) was)
+
+    offset : length (log ++ taken) ≡ r.at + length taken
+    offset = length-append log taken ∙ ap (λ (n : ℕ). n + length taken) (sym (at_context log) ∙ ap (λ (c : Context). c.at) keeps.kept)
+
+    refused_here : (refusal : Refusal) → refused_in r.limit (context_of r keeps.part) (taken ++ byte ∷ []) ≡ Some refusal → refusal_at r.limit (log ++ taken) byte ≡ Some refusal
+    refused_here refusal met =
+        (let all : refused r.limit ((log ++ taken) ++ byte ∷ []) ≡ Some refusal
+            = ap (refused r.limit) (append_assoc log taken (byte ∷ []))
+              ∙ stops r.limit log (taken ++ byte ∷ []) refusal keeps.unrefused (ap (λ (c : Context). refused_in r.limit c (taken ++ byte ∷ [])) keeps.kept ∙ met) in
+        ap (λ (o : Option Refusal). or_else o (refusal_at r.limit (log ++ taken) byte)) (sym taken_in) ∙ sym (refused-grow r.limit (log ++ taken) byte) ∙ all)
+
+    completed : length (heard_in (context_of r keeps.part) (taken ++ byte ∷ [])) ≡ 1 → is_some (event_at (log ++ taken) byte) ≡ true
+    completed one =
+        (let c = context_of r keeps.part in
+        let split : heard_in c (taken ++ byte ∷ []) ≡ put (placed_for (behind c taken) byte) []
+            = heard_append c taken (byte ∷ []) ∙ ap (λ (l : List Placed). (put (placed_for (behind c taken) byte) []) ++ l) unheard ∙ append-nil (put (placed_for (behind c taken) byte) []) in
+        let event : is_some (event_for (behind c taken) byte) ≡ true = some_event (behind c taken) byte (sym (ap length split) ∙ one) in
+        ap is_some (event-kept (log ++ taken) byte ∙ ap (λ (k : Context). event_for k byte) (context_run log taken ∙ ap (λ (k : Context). behind k taken) keeps.kept)) ∙ event)
+
+    pub why_here : (old new : S) (refusal : Refusal) → FlowWhy refuses (r.at + length taken) (refused_in r.limit (context_of r keeps.part) (taken ++ byte ∷ []))
+        (heard_in (context_of r keeps.part) (taken ++ byte ∷ [])) old new refusal → Why agrees refuses r.limit log taken byte old new refusal
+    why_here old new refusal (inl x) = inl (refused_here refusal x.0, heard_nothing old new x.1)
+    why_here old new refusal (inr (inl x)) = inr (inl (x.0 ∙ ap (λ (n : ℕ). refusals.Memory n) (sym offset), heard_nothing old new x.1))
+    why_here old new refusal (inr (inr x)) =
+        inr (inr (x.2.own, x.2.refused, x.2.is ∙ ap (moved x.2.own) (sym offset), completed x.1))
+
+  pub stopped : (bytes : List ℕ) (old new : S) (refusal : Refusal) → StepStops refuses r bytes old new refusal → Stops agrees refuses r.limit log bytes old new refusal
+  stopped bytes old new refusal stop =
+      (let each = stop.each keeps.part keeps.stands in
+      record {
+        taken = stop.taken;
+        byte = stop.byte;
+        later = stop.later;
+        is = stop.is;
+        unrefused = taken_in stop.taken stop.byte each.0 each.1;
+        why = why_here stop.taken stop.byte each.0 each.1 old new refusal each.2;
+      })
+
+-- Where the loop over a piece stands: these bytes of it are taken in.
+pub record Goes {S : Type 0} (agrees : S → List Placed → Type 0) (first now : Reading) (piece rest : List ℕ) (old new : S) : Type 0 where
+  pub done : List ℕ
+  pub is : piece ≡ done ++ rest
+  pub limit : now.limit ≡ first.limit
+  pub each : (log : List ℕ) → Keeps first log → Keeps now (log ++ done) × HasHeard agrees log done old new
+
+pub begins : {S : Type 0} (agrees : S → List Placed → Type 0) (r : Reading) (piece : List ℕ) (sink : S) → Goes agrees r r piece piece sink sink
+begins agrees r piece sink = record {
+  done = [];
+  is = refl;
+  limit = refl;
+  each = λ log keeps. (subst (Keeps r) (sym (append-nil log)) keeps, λ was. subst (λ (l : List ℕ). agrees sink (events l)) (sym (append-nil log)) was);
+}
+
+pub goes_on : {S : Type 0} (agrees : S → List Placed → Type 0) (first now next : Reading) (piece rest : List ℕ) (n : ℕ) (old mid new : S) → Goes agrees first now piece rest old mid
+    → Comes agrees now next (take n rest) mid new → Goes agrees first next piece (drop n rest) old new
+goes_on agrees first now next piece rest n old mid new goes comes = record {
+  done = goes.done ++ take n rest;
+  is = goes.is ∙ ap (λ (l : List ℕ). goes.done ++ l) (sym (take-append-drop n rest)) ∙ sym (append_assoc goes.done (take n rest) (drop n rest));
+  limit = comes.advances.limit ∙ goes.limit;
+  each = λ log keeps. (
+    let before = goes.each log keeps in
+    let assoc : (log ++ goes.done) ++ take n rest ≡ log ++ (goes.done ++ take n rest) = append_assoc log goes.done (take n rest) in
+    (subst (Keeps next) assoc (keeps_on agrees now next (log ++ goes.done) (take n rest) mid new before.0 comes),
+    λ was. subst (λ (l : List ℕ). agrees new (events l)) assoc (hears_on agrees now next (log ++ goes.done) (take n rest) mid new before.0 comes (before.1 was))));
+}
+
+-- At its end the loop has taken in the whole piece.
+pub ends_kept : {S : Type 0} (agrees : S → List Placed → Type 0) (first now : Reading) (piece rest : List ℕ) (old new : S) → Goes agrees first now piece rest old new → rest ≡ []
+    → (log : List ℕ) → Keeps first log → Keeps now (log ++ piece) × HasHeard agrees log piece old new
+ends_kept agrees first now piece rest old new goes none log keeps =
+    (let all : goes.done ≡ piece = sym (goes.is ∙ ap (λ (l : List ℕ). goes.done ++ l) none ∙ append-nil goes.done) in
+    let here = goes.each log keeps in
+    (subst (λ (l : List ℕ). Keeps now (log ++ l)) all here.0, subst (λ (l : List ℕ). HasHeard agrees log l old new) all here.1))
+
+-- Why a byte isn't taken in behind some bytes, seen from before them.
+why_joined : {S : Type 0} (agrees : S → List Placed → Type 0) (refuses : S → Refusal → Type 0) (limit : ℕ) (log done taken : List ℕ) (byte : ℕ) (old mid new : S) (refusal : Refusal)
+    → HasHeard agrees log done old mid → Why agrees refuses limit (log ++ done) taken byte mid new refusal → Why agrees refuses limit log (done ++ taken) byte old new refusal
+why_joined agrees refuses limit log done taken byte old mid new refusal before (inl x) =
+    (let assoc : (log ++ done) ++ taken ≡ log ++ (done ++ taken) = append_assoc log done taken in
+    inl (subst (λ (l : List ℕ). refusal_at limit l byte ≡ Some refusal) assoc x.0, λ was. subst (λ (l : List ℕ). agrees new (events l)) assoc (x.1 (before was))))
+why_joined agrees refuses limit log done taken byte old mid new refusal before (inr (inl x)) =
+    (let assoc : (log ++ done) ++ taken ≡ log ++ (done ++ taken) = append_assoc log done taken in
+    inr (inl (subst (λ (l : List ℕ). refusal ≡ refusals.Memory (length l)) assoc x.0, λ was. subst (λ (l : List ℕ). agrees new (events l)) assoc (x.1 (before was)))))
+why_joined agrees refuses limit log done taken byte old mid new refusal before (inr (inr x)) =
+    (let assoc : (log ++ done) ++ taken ≡ log ++ (done ++ taken) = append_assoc log done taken in
+    inr (inr (x.0, x.1, subst (λ (l : List ℕ). refusal ≡ moved x.0 (length l)) assoc x.2, subst (λ (l : List ℕ). is_some (event_at l byte) ≡ true) assoc x.3)))
+
+-- What stops a step stops the piece.
+pub stops_piece : {S : Type 0} (agrees : S → List Placed → Type 0) (refuses : S → Refusal → Type 0) (first now : Reading) (piece rest : List ℕ) (old mid new : S) (refusal : Refusal)
+    → Goes agrees first now piece rest old mid → StepStops refuses now rest mid new refusal → (log : List ℕ) → Keeps first log
+    → Stops agrees refuses first.limit log piece old new refusal
+stops_piece agrees refuses first now piece rest old mid new refusal goes stop log keeps =
+    (let before = goes.each log keeps in
+    let here = stopped agrees refuses now (log ++ goes.done) before.0 rest mid new refusal stop in
+    let assoc : (log ++ goes.done) ++ here.taken ≡ log ++ (goes.done ++ here.taken) = append_assoc log goes.done here.taken in
+    record {
+      taken = goes.done ++ here.taken;
+      byte = here.byte;
+      later = here.later;
+      is = goes.is ∙ ap (λ (l : List ℕ). goes.done ++ l) here.is ∙ sym (append_assoc goes.done here.taken (here.byte ∷ here.later));
+      unrefused = ap (λ (l : List ℕ). refused first.limit l) (sym assoc) ∙ ap (λ (n : ℕ). refused n ((log ++ goes.done) ++ here.taken)) (sym goes.limit) ∙ here.unrefused;
+      why = subst (λ (limit : ℕ). Why agrees refuses limit log (goes.done ++ here.taken) here.byte old new refusal) goes.limit
+          (why_joined agrees refuses now.limit log goes.done here.taken here.byte old mid new refusal before.1 here.why);
+    })
+
+-- all that is behind the first bytes
+pub rest_same : (n : ℕ) (rest : List ℕ) → take (length rest - n) (drop n rest) ≡ drop n rest
+rest_same n rest = (let behind : length (drop n rest) ≡ length rest - n = length-drop n rest in take_all (length rest - n) (drop n rest) (omega arith))
+
+pub nothing_left : (rest : List ℕ) (empty : Bool) → empty ≡ (length rest == 0) → empty ≡ true → rest ≡ []
+nothing_left rest empty told is = nil_from_length rest (eqb-true (length rest) 0 (sym told ∙ is))
+
+-- What a reader knows of the log that it keeps.
+pub kept_at : (r : Reading) (log : List ℕ) → Keeps r log → r.at ≡ length log
+kept_at r log keeps = ap (λ (c : Context). c.at) (sym keeps.kept) ∙ at_context log
+
+pub kept_header : (r : Reading) (log : List ℕ) → Keeps r log → r.header ≡ header_by log
+kept_header r log keeps = ap (λ (c : Context). c.header) (sym keeps.kept ∙ context_is log)
+
+-- a part of a record is there, or none is, as the stage says
+part_there : (stage : Stage) (part : List ℕ) → IsAt stage part → nat_lt 0 (length part) ≡ not (is_between stage)
+part_there stages.Between part at = ap (λ (p : List ℕ). nat_lt 0 (length p)) at
+part_there (stages.Head kind count length_so_far) part at = ap (λ (p : List ℕ). nat_lt 0 (length p)) at.2 ∙ lt-ltb 0 (length (at.0 ∷ at.1)) (omega arith)
+part_there (stages.Body way left) part at = lt-ltb 0 (length part) (omega (arith, at.3))
+part_there (stages.Release None) part at = lt-ltb 0 (length part) (omega (arith, at.1))
+part_there (stages.Release (Some high)) part at = lt-ltb 0 (length part) (omega (arith, at.1))
+
+-- Whether the log would be cut short, if it ended here.
+pub kept_cut : (r : Reading) (log : List ℕ) → Keeps r log → is_cut_short log ≡ (nat_lt r.at 8 || not (is_between r.stage))
+unfolding is_cut_short
+kept_cut r log keeps =
+    (let part : (records log).rest ≡ keeps.part = sym (part_context log) ∙ ap (λ (c : Context). c.part) keeps.kept in
+    ap (λ (n : ℕ). nat_lt n 8 || nat_lt 0 (length (records log).rest)) (sym (kept_at r log keeps))
+    ∙ ap (λ (p : List ℕ). nat_lt r.at 8 || nat_lt 0 (length p)) part
+    ∙ ap (λ (b : Bool). nat_lt r.at 8 || b) (part_there r.stage keeps.part keeps.stands))
+
+-- a new reader keeps the log of no bytes
+pub keeps_nothing : (r : Reading) → r.stage ≡ stages.Between → context_of r [] ≡ fresh → Keeps r []
+keeps_nothing r between kept = record {
+  unrefused = refused-nothing r.limit;
+  part = [];
+  stands = subst (λ (s : Stage). IsAt s []) (sym between) refl;
+  kept = context-nothing ∙ sym kept;
+}

@@ -1,0 +1,12 @@
+use Rattle.mq_trace.proofs.ReadBackLaws.{bit_read_back}
+use Rattle.std.proofs.Common.{refl}
+use Rattle.mq_trace.proofs.writer.laws.headers_are_read_back.Goals as goal
+
+pub returns-clause-server : goal.returns-clause-server
+returns-clause-server c = λ header rest. bit_read_back header.server
+
+pub returns-clause-releases : goal.returns-clause-releases
+returns-clause-releases c = λ header rest. bit_read_back header.releases
+
+pub returns-clause-behind : goal.returns-clause-behind
+returns-clause-behind c = λ header rest. refl

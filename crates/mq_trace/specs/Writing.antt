@@ -1,0 +1,80 @@
+-- A log as it is written, in version 1: the bytes of its header and of its records, and what a TraceWriter does with them.
+use Rattle.std.specs.Prelude.{◌≡◌, ℕ, ◌<◌, Bool, true, false, List, [], ◌∷◌, ◌++◌, length, codes, Option}
+use Rattle.std.specs.Int.{w16, w32, to_be_bytes}
+use Rattle.std.specs.Io.KnownBytes.{Appends}
+use Rattle.mq_trace.specs.declared.header.Header.{Header}
+use Rattle.mq_trace.specs.declared.kind.RecordKind.{RecordKind}
+use Rattle.mq_trace.specs.declared.kind.RecordKind.TheVariants as kinds
+
+-- a bit as a byte
+abbrev pub bit_byte : Bool → ℕ
+bit_byte true = 1
+bit_byte false = 0
+
+-- a header: `MQTR`, the version, a byte that is 1 for a server, one whose bit 0 says that releases are recorded, and a byte that is 0
+abbrev pub header_bytes : Header → List ℕ
+header_bytes header = codes "MQTR" ++ 1 ∷ bit_byte header.server ∷ bit_byte header.releases ∷ 0 ∷ []
+
+-- a record, and what it carries: bytes, or a Packet Identifier
+pub data Record : Type 0 where
+  opened closed rested : Record
+  sent received : List ℕ → Record
+  released : ℕ → Record
+
+-- its kind
+abbrev pub record_kind : Record → RecordKind
+record_kind opened = kinds.Open
+record_kind (sent body) = kinds.Sent
+record_kind (received body) = kinds.Recv
+record_kind closed = kinds.Close
+record_kind rested = kinds.Rest
+record_kind (released identifier) = kinds.Release
+
+-- the byte that names a kind
+abbrev pub kind_byte : RecordKind → ℕ
+kind_byte kinds.Open = 1
+kind_byte kinds.Sent = 2
+kind_byte kinds.Recv = 3
+kind_byte kinds.Close = 4
+kind_byte kinds.Rest = 5
+kind_byte kinds.Release = 6
+
+-- its body; an identifier has two bytes, the most significant first
+abbrev pub record_body : Record → List ℕ
+record_body (sent body) = body
+record_body (received body) = body
+record_body (released identifier) = to_be_bytes w16 identifier
+record_body _ = []
+
+-- the record whose kind has this byte: the byte, the length of the body in four bytes, the most significant first, and the body
+abbrev pub framed : ℕ → List ℕ → List ℕ
+framed kind body = kind ∷ to_be_bytes w32 (length body) ++ body
+
+-- a record's bytes
+abbrev pub record_bytes : Record → List ℕ
+record_bytes entry = framed (kind_byte (record_kind entry)) (record_body entry)
+
+-- The known bytes grew by a beginning of the text, and by nothing else. It isn't all of the text.
+pub record AppendsBeginning (old new : Option (List ℕ)) (text : List ℕ) : Type 0 where
+  pub written : List ℕ
+  pub unwritten : List ℕ
+  pub whole : text ≡ written ++ unwritten
+  pub some : 0 < length unwritten
+  pub appended : Appends old new written
+
+-- a TraceWriter: the writer that it writes to, and whether a call has failed
+pub record Tracing (W : Type 0) : Type 0 where
+  pub writer : W
+  pub has_failed : Bool
+
+-- A call has written these bytes, and no call has failed.
+pub record WritesAll {W : Type 0} (contents : W → Option (List ℕ)) (old new : Tracing W) (bytes : List ℕ) : Type 0 where
+  pub unfailed : old.has_failed ≡ false
+  pub goes_on : new.has_failed ≡ false
+  pub appended : Appends (contents old.writer) (contents new.writer) bytes
+
+-- A call has failed to write these bytes: where an earlier call had failed it wrote nothing, and else a beginning of them.
+pub record FailsToWrite {W : Type 0} (contents : W → Option (List ℕ)) (old new : Tracing W) (bytes : List ℕ) : Type 0 where
+  pub failed : new.has_failed ≡ true
+  pub unchanged : old.has_failed ≡ true → new.writer ≡ old.writer
+  pub begun : old.has_failed ≡ false → AppendsBeginning (contents old.writer) (contents new.writer) bytes

@@ -1,0 +1,248 @@
+//! Writing a log.
+ghost use Rattle.std.specs.Prelude.{◌≡◌, ◌≤◌, false, Some, ◌++◌, ◌∷◌, length, codes, OnOk, OnErr};
+ghost use Rattle.std.specs.Int.{w32, to_be_bytes};
+ghost use Rattle.std.specs.Io.KnownBytes.{Appends};
+ghost use Rattle.mq_trace.specs.Writing.{header_bytes, kind_byte, framed, opened, closed, rested, sent, received, released, record_bytes, AppendsBeginning, WritesAll, FailsToWrite};
+
+mod laws;
+
+use super::header::Header;
+use super::kind::RecordKind;
+use std::error::Error;
+use std::fmt;
+use std::io::Write;
+use std::marker::Model;
+
+/// The version of the log that is written.
+const VERSION: u8 = 1;
+
+/// Why a log isn't written any further.
+#[derive(Clone, Copy, Debug, PartialEq, Eq)]
+pub enum WriteFault {
+    /// A write failed: the writer answered an error, an interruption too, or it took no byte.
+    Write,
+}
+
+impl fmt::Display for WriteFault {
+    ghost output = { λ _. Some (codes "the log could not be written") };
+
+    fn fmt<W: fmt::Write>(&self, f: &mut fmt::Formatter<W>) -> fmt::Result {
+        write!(f, "the log could not be written")
+    }
+}
+
+impl Error for WriteFault {}
+
+/// Writes a log, its header and its records, in the order of the calls. It takes no memory.
+///
+/// That the header comes first and once, and that each record stands where it may, is the caller's to keep.
+///
+/// A call in which a write fails has written a beginning of its header or record, and not all of it. Each later call answers
+/// `Write` too, and writes nothing.
+#[derive(Drop)]
+pub struct TraceWriter<W: Write> {
+    writer: W,
+    has_failed: bool,
+}
+
+impl<W: Write> Model for TraceWriter<W> {
+    ghost use Rattle.mq_trace.specs.Writing.{Tracing};
+
+    ghost Value = { Tracing W };
+
+    ghost view = { λ tracing. record { writer = tracing.writer; has_failed = tracing.has_failed } };
+}
+
+impl<W: Write> TraceWriter<W> {
+    /// Takes a writer to write a log to. Nothing is written yet.
+    pub fn new(writer: W) -> Self
+        ensures writer { result.writer ≡ writer }
+        ensures unfailed { result.has_failed ≡ false }
+    {
+        TraceWriter {
+            writer,
+            has_failed: false,
+        }
+    }
+
+    /// Writes the header of a log.
+    ///
+    /// # Errors
+    ///
+    /// `Write` where a write failed, in this call or in an earlier one.
+    pub fn header(&mut self, header: &Header) -> Result<(), WriteFault>
+        ensures ok { OnOk result (WritesAll W.contents self.old self.new (header_bytes header.now)) }
+        ensures write { OnErr result (FailsToWrite W.contents self.old self.new (header_bytes header.now)) }
+    {
+        self.write(&bytes_of(*header), &[])
+    }
+
+    /// Writes an OPEN: a network connection begins.
+    ///
+    /// # Errors
+    ///
+    /// `Write` where a write failed, in this call or in an earlier one.
+    pub fn open(&mut self) -> Result<(), WriteFault>
+        ensures ok { OnOk result (WritesAll W.contents self.old self.new (record_bytes opened)) }
+        ensures write { OnErr result (FailsToWrite W.contents self.old self.new (record_bytes opened)) }
+    {
+        self.record(RecordKind::Open, &[])
+    }
+
+    /// Writes a SENT: bytes that the tested end sent, at most 1,048,576 of them.
+    ///
+    /// # Errors
+    ///
+    /// `Write` where a write failed, in this call or in an earlier one.
+    pub fn sent(&mut self, body: &[u8]) -> Result<(), WriteFault>
+        requires { length body.now ≤ 1048576 }
+        ensures ok { OnOk result (WritesAll W.contents self.old self.new (record_bytes (sent body.now))) }
+        ensures write { OnErr result (FailsToWrite W.contents self.old self.new (record_bytes (sent body.now))) }
+    {
+        self.record(RecordKind::Sent, body)
+    }
+
+    /// Writes a RECV: bytes that the tested end received, at most 1,048,576 of them.
+    ///
+    /// # Errors
+    ///
+    /// `Write` where a write failed, in this call or in an earlier one.
+    pub fn recv(&mut self, body: &[u8]) -> Result<(), WriteFault>
+        requires { length body.now ≤ 1048576 }
+        ensures ok { OnOk result (WritesAll W.contents self.old self.new (record_bytes (received body.now))) }
+        ensures write { OnErr result (FailsToWrite W.contents self.old self.new (record_bytes (received body.now))) }
+    {
+        self.record(RecordKind::Recv, body)
+    }
+
+    /// Writes a CLOSE: the network connection ended.
+    ///
+    /// # Errors
+    ///
+    /// `Write` where a write failed, in this call or in an earlier one.
+    pub fn close(&mut self) -> Result<(), WriteFault>
+        ensures ok { OnOk result (WritesAll W.contents self.old self.new (record_bytes closed)) }
+        ensures write { OnErr result (FailsToWrite W.contents self.old self.new (record_bytes closed)) }
+    {
+        self.record(RecordKind::Close, &[])
+    }
+
+    /// Writes a REST: the tested end is at rest.
+    ///
+    /// # Errors
+    ///
+    /// `Write` where a write failed, in this call or in an earlier one.
+    pub fn rest(&mut self) -> Result<(), WriteFault>
+        ensures ok { OnOk result (WritesAll W.contents self.old self.new (record_bytes rested)) }
+        ensures write { OnErr result (FailsToWrite W.contents self.old self.new (record_bytes rested)) }
+    {
+        self.record(RecordKind::Rest, &[])
+    }
+
+    /// Writes a RELEASE: the tested end released the QoS 2 message that it received under this Packet Identifier.
+    ///
+    /// # Errors
+    ///
+    /// `Write` where a write failed, in this call or in an earlier one.
+    pub fn release(&mut self, identifier: u16) -> Result<(), WriteFault>
+        ensures ok { OnOk result (WritesAll W.contents self.old self.new (record_bytes (released identifier))) }
+        ensures write { OnErr result (FailsToWrite W.contents self.old self.new (record_bytes (released identifier))) }
+    {
+        self.record(RecordKind::Release, &identifier.to_be_bytes())
+    }
+
+    /// The writer that was written to.
+    pub fn into_inner(self) -> W
+        ensures { result ≡ self.writer }
+    {
+        self.writer
+    }
+
+    /// Writes a record of this kind, with this body.
+    fn record(&mut self, kind: RecordKind, body: &[u8]) -> Result<(), WriteFault>
+        requires { length body.now ≤ 1048576 }
+        ensures ok { OnOk result (WritesAll W.contents self.old self.new (framed (kind_byte kind) body.now)) }
+        ensures write { OnErr result (FailsToWrite W.contents self.old self.new (framed (kind_byte kind) body.now)) }
+    {
+        self.write(&record_head(kind, body.len() as u32), body)
+    }
+
+    /// Writes some bytes, and others behind them, if no write has failed yet.
+    fn write(&mut self, front: &[u8], back: &[u8]) -> Result<(), WriteFault>
+        ensures ok { OnOk result (WritesAll W.contents self.old self.new (front.now ++ back.now)) }
+        ensures write { OnErr result (FailsToWrite W.contents self.old self.new (front.now ++ back.now)) }
+    {
+        if self.has_failed {
+            return Err(WriteFault::Write);
+        }
+        let written = write_both(front, back, &mut self.writer);
+        self.has_failed = written.is_err();
+        written
+    }
+}
+
+/// The bytes of a header.
+fn bytes_of(header: Header) -> [u8; 8]
+    ensures { result ≡ header_bytes header }
+{
+    let server = u8::from(header.server);
+    let releases = u8::from(header.releases);
+    [b'M', b'Q', b'T', b'R', VERSION, server, releases, 0]
+}
+
+/// The byte that names a kind of record.
+fn byte_of(kind: RecordKind) -> u8
+    ensures { result ≡ kind_byte kind }
+{
+    match kind {
+        RecordKind::Open => 1,
+        RecordKind::Sent => 2,
+        RecordKind::Recv => 3,
+        RecordKind::Close => 4,
+        RecordKind::Rest => 5,
+        RecordKind::Release => 6,
+    }
+}
+
+/// What stands before a record's body: the byte of its kind, and how many bytes the body has.
+fn record_head(kind: RecordKind, length: u32) -> [u8; 5]
+    ensures { result ≡ kind_byte kind ∷ to_be_bytes w32 length }
+{
+    let [highest, high, low, lowest] = length.to_be_bytes();
+    [byte_of(kind), highest, high, low, lowest]
+}
+
+/// Writes some bytes, and others behind them.
+///
+/// # Errors
+///
+/// `Write` where a write failed.
+fn write_both<W: Write>(front: &[u8], back: &[u8], writer: &mut W) -> Result<(), WriteFault>
+    ensures ok { OnOk result (Appends (W.contents writer.old) (W.contents writer.new) (front.now ++ back.now)) }
+    ensures write { OnErr result (AppendsBeginning (W.contents writer.old) (W.contents writer.new) (front.now ++ back.now)) }
+{
+    write_bytes(front, writer)?;
+    write_bytes(back, writer)
+}
+
+/// Writes these bytes.
+///
+/// # Errors
+///
+/// `Write` where a write failed: the writer answered an error, an interruption too, or took no byte.
+fn write_bytes<W: Write>(bytes: &[u8], writer: &mut W) -> Result<(), WriteFault>
+    ensures ok { OnOk result (Appends (W.contents writer.old) (W.contents writer.new) bytes.now) }
+    ensures write { OnErr result (AppendsBeginning (W.contents writer.old) (W.contents writer.new) bytes.now) }
+{
+    let mut rest = bytes;
+    while !rest.is_empty() {
+        match writer.write(rest) {
+            Ok(0) | Err(_) => return Err(WriteFault::Write),
+            Ok(taken) => rest = &rest[taken..],
+        }
+    }
+    Ok(())
+}
+
+#[cfg(test)]
+mod tests;
