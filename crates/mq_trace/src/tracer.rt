@@ -53,6 +53,13 @@ impl Tracer {
         Some(self.reading.header)
     }
 
+    /// How many bytes of the log were taken in.
+    pub fn taken(&self) -> u64
+        ensures { (log : List ℕ) → Follows self.now log → result ≡ length log }
+    {
+        self.reading.at
+    }
+
     /// Takes in the next piece of the log, and tells the sink of the events whose last bytes are in it. It doesn't matter how the
     /// log is cut into pieces.
     ///
