@@ -9,6 +9,7 @@ pub mod Keeping
 pub mod Pieces
 pub mod Refusals
 pub mod Refusing
+pub mod Rows
 pub mod Runs
 pub mod Settling
 pub mod Stepping

@@ -4,6 +4,7 @@
 mod connections;
 mod direction;
 mod event;
+mod framing_laws;
 mod header;
 mod kind;
 mod place;
