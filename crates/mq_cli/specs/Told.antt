@@ -4,13 +4,12 @@ use Rattle.std.specs.Io.KnownBytes.{Appends}
 use Rattle.hex.specs.Hex.{decode_of}
 use Rattle.mq_judge.specs.declared.Refusal.{Refusal}
 use Rattle.mq_judge.specs.declared.Refusal.TheVariants as refusals
-use Rattle.mq_judge.specs.Events.{seen_in}
 use Rattle.mq_judge.specs.Faults.{listed}
-use Rattle.mq_judge.specs.Framing.{tested_by}
 use Rattle.mq_judge.specs.Refusals.{is_cut_short, refused}
 use Rattle.mq_judge.specs.OnePacket.{IsOnePacket, packet_report}
 use Rattle.mq_judge.specs.Report.{refused_line, report}
 use Rattle.mq_judge.specs.Running.{IsJudged, default_limit}
+use Rattle.mq_judge.specs.Seeing.{seen_in, tested_by}
 use Rattle.mq_cli.specs.declared.command_line.Task.{Task}
 use Rattle.mq_cli.specs.declared.command_line.Task.TheVariants.{Check, Packet}
 use Rattle.mq_cli.specs.declared.command_line.Stop.{Stop}

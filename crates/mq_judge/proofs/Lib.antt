@@ -1,9 +1,6 @@
 pub mod BoolLaws
 pub mod ConnectionLaws
-pub mod ContextLaws
 pub mod FaultLaws
-pub mod FramingLaws
-pub mod HalfLaws
 pub mod JudgeLaws
 pub mod ListingLaws
 pub mod LookbackLaws
@@ -12,13 +9,8 @@ pub mod MembershipLaws
 pub mod MomentLaws
 pub mod OnePacketLaws
 pub mod OrderLaws
-pub mod PiecesLaws
 pub mod PlainLaws
-pub mod ProgressLaws
-pub mod ReachLaws
 pub mod ReportLaws
 pub mod RunningLaws
 pub mod SessionLaws
-pub mod SituationLaws
-pub mod StateLaws
 pub mod Writes

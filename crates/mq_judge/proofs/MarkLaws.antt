@@ -20,7 +20,7 @@ use Rattle.mq_judge.specs.contracts.rules.faults.MarkOrd.TheImpl.Laws as laws
 use Rattle.mq_judge.specs.declared.rules.rule.Rule.{Rule}
 use Rattle.mq_judge.specs.declared.rules.faults.Mark.{Mark}
 use Rattle.mq_judge.specs.declared.rules.fault.Fault.{Fault}
-use Rattle.mq_judge.specs.declared.trace.place.Place3.{Place3}
+use Rattle.mq_trace.specs.declared.place.Place3.{Place3}
 use Rattle.mq_judge.specs.Moments.{or_else}
 use Rattle.mq_judge.specs.Statements.{same_rule}
 use Rattle.mq_judge.specs.Marks.{mark_cmp, FaultMap, fault_at, with_fault, judged}

@@ -1,24 +1,140 @@
 -- In a log that isn't refused each event has its place, and each session packet and each RELEASE on a connection stands after its CONNACK.
-use Rattle.std.proofs.Common.{◌≡◌, ℕ, ◌+◌, ◌<◌, ◌≤◌, Bool, true, false, cond, nat_lt, List, [], ◌∷◌, ◌++◌, length, reverse, Option, Some, None, is_some, refl, sym, ◌∙◌, ap, subst, arith, length-append}
+use Rattle.std.proofs.Common.{◌≡◌, ℕ, ◌+◌, ◌<◌, ◌≤◌, Bool, true, false, cond, nat_lt, List, [], ◌∷◌, ◌++◌, length, map, reverse, Option, Some, None, is_some, refl, sym, ◌∙◌, ap, subst, arith, length-append}
 use Rattle.std.specs.Prelude.{◌||◌, ◌&&◌, ◌==◌, not, if◌then◌else◌, option_map, drop}
 use Rattle.std.specs.Int.{w16, from_be_bytes}
-use Rattle.std.proofs.lemmas.List.{reverse-append, reverse-reverse}
+use Rattle.std.proofs.lemmas.List.{reverse-append, reverse-reverse, length-map}
 use Rattle.std.proofs.lemmas.Bool.{ltb-true, ltb-false, le-ltb}
-use Rattle.mq_judge.specs.declared.trace.kind.RecordKind.{RecordKind}
-use Rattle.mq_judge.specs.declared.trace.kind.RecordKind.TheVariants as kinds
-use Rattle.mq_judge.specs.declared.trace.refusal.Refusal.{Refusal}
+use Rattle.mq_packet.specs.Entries.{Entry, connect, connack, publish, acknowledgement, request, answer, pingreq, pingresp, disconnect, auth}
+use Rattle.mq_packet.specs.declared.packet.AcknowledgementKind.TheVariants as acknowledgements
+use Rattle.mq_packet.specs.declared.packet.RequestKind.TheVariants as requests
+use Rattle.mq_trace.specs.declared.kind.RecordKind.{RecordKind}
+use Rattle.mq_trace.specs.declared.kind.RecordKind.TheVariants as kinds
+use Rattle.mq_trace.specs.declared.refusal.Refusal.{Refusal}
+use Rattle.mq_trace.specs.declared.header.Header.{Header}
+use Rattle.mq_trace.specs.Framing.{header_by, kind_of, way_of, record_size}
+use Rattle.mq_trace.specs.Events.{Event, Item, Placed, event_by, event_in, item_at, events, packet, bad, lost, opened, closed, rested, released, sent, received}
+use Rattle.mq_trace.specs.Connections.{begins, ends, is_connack, needs_session as entry_needs_session, is_answer, needs_answer, is_connected as trace_connected, is_answered as trace_answered}
+use Rattle.mq_trace.specs.Refusals.{Situation, needs_connection, first_standing, conditions, header_refusal, record_refusal, refusal_at, refused, is_early, or_else as first_of}
+use Rattle.mq_trace.specs.Context.{Context, context, situated, refusal_for, event_for, placed_with, placed_for, put, so_far_for, with_heard, after_header, after_part, after}
+use Rattle.mq_trace.proofs.ContextLaws.{refused-grow, refusal-kept, events-kept, events-header, header-behind, at_context, context-grow, context-nothing}
 use Rattle.mq_judge.specs.declared.rules.role.Role.{Role}
-use Rattle.mq_judge.specs.declared.rules.role.Tested.{Tested}
 use Rattle.mq_judge.specs.declared.rules.note.Seen.{Seen}
-use Rattle.mq_judge.specs.Moments.{or_else, IsPlaced}
-use Rattle.mq_judge.specs.Notes.{is_open, is_release, connack_of, needs_session}
+use Rattle.mq_judge.specs.Moments.{or_else, since, IsPlaced}
+use Rattle.mq_judge.specs.Notes.{packet_note, is_open, is_close, is_release, is_session_packet, connack_code, connack_of, needs_session}
+use Rattle.mq_judge.specs.Seeing.{tested_as, tested_by, note_of, seen, seen_in}
 use Rattle.mq_judge.specs.Connections.{is_connected, connection, decision, IsInOrder}
-use Rattle.mq_judge.specs.Framing.{tested_by, kind_of, way_of, record_size}
-use Rattle.mq_judge.specs.Events.{Event, Item, note_of, event_by, event_in, item_at, seen_in, opened, closed, rested, released, sent, received}
-use Rattle.mq_judge.specs.Refusals.{Situation, needs_connection, first_standing, conditions, header_refusal, record_refusal, refusal_at, refused, is_answered, is_early}
-use Rattle.mq_judge.specs.Context.{Context, context, situated, refusal_for, event_for, seen_with, seen_for, put, so_far_for, with_note, after_header, after_part, after}
 use Rattle.mq_judge.proofs.ConnectionLaws.{connection-step}
-use Rattle.mq_judge.proofs.ContextLaws.{refused-grow, refusal-kept, seen-kept, seen-nothing, seen-header, tested-behind, at_context, context-grow, context-nothing}
+
+-- What the log's reader knows of an event is what the statements look at of it.
+begins-noted : (e : Event) → begins e ≡ is_open (note_of e)
+begins-noted opened = refl
+begins-noted closed = refl
+begins-noted rested = refl
+begins-noted (released identifier) = refl
+begins-noted (sent item) = refl
+begins-noted (received item) = refl
+
+ends-noted : (e : Event) → ends e ≡ is_close (note_of e)
+ends-noted opened = refl
+ends-noted closed = refl
+ends-noted rested = refl
+ends-noted (released identifier) = refl
+ends-noted (sent item) = refl
+ends-noted (received item) = refl
+
+-- so with a packet
+connack-noted : (entry : Entry) → is_connack entry ≡ is_some (connack_code (Some (packet_note entry)))
+connack-noted (connect fields) = refl
+connack-noted (connack session_present code properties) = refl
+connack-noted (publish fields) = refl
+connack-noted (acknowledgement acknowledgements.Puback identifier code properties) = refl
+connack-noted (acknowledgement acknowledgements.Pubrec identifier code properties) = refl
+connack-noted (acknowledgement acknowledgements.Pubrel identifier code properties) = refl
+connack-noted (acknowledgement acknowledgements.Pubcomp identifier code properties) = refl
+connack-noted (request requests.Subscribe identifier properties filters) = refl
+connack-noted (request requests.Unsubscribe identifier properties filters) = refl
+connack-noted (answer requests.Subscribe identifier properties codes) = refl
+connack-noted (answer requests.Unsubscribe identifier properties codes) = refl
+connack-noted pingreq = refl
+connack-noted pingresp = refl
+connack-noted (disconnect code properties) = refl
+connack-noted (auth code properties) = refl
+
+session-noted : (entry : Entry) → entry_needs_session entry ≡ is_session_packet (packet_note entry)
+session-noted (connect fields) = refl
+session-noted (connack session_present code properties) = refl
+session-noted (publish fields) = refl
+session-noted (acknowledgement acknowledgements.Puback identifier code properties) = refl
+session-noted (acknowledgement acknowledgements.Pubrec identifier code properties) = refl
+session-noted (acknowledgement acknowledgements.Pubrel identifier code properties) = refl
+session-noted (acknowledgement acknowledgements.Pubcomp identifier code properties) = refl
+session-noted (request requests.Subscribe identifier properties filters) = refl
+session-noted (request requests.Unsubscribe identifier properties filters) = refl
+session-noted (answer requests.Subscribe identifier properties codes) = refl
+session-noted (answer requests.Unsubscribe identifier properties codes) = refl
+session-noted pingreq = refl
+session-noted pingresp = refl
+session-noted (disconnect code properties) = refl
+session-noted (auth code properties) = refl
+
+-- the role of the end that a header names
+abbrev role_of : Header → Role
+role_of header = (tested_as header).role
+
+-- a CONNACK from the server
+answer-noted : (server releases : Bool) (e : Event) → is_answer server e ≡ is_some (connack_of (role_of (record { server = server; releases = releases })) (note_of e))
+answer-noted true releases opened = refl
+answer-noted true releases closed = refl
+answer-noted true releases rested = refl
+answer-noted true releases (released identifier) = refl
+answer-noted true releases (sent (packet size entry)) = connack-noted entry
+answer-noted true releases (sent (bad first rule at)) = refl
+answer-noted true releases (sent lost) = refl
+answer-noted true releases (received item) = refl
+answer-noted false releases opened = refl
+answer-noted false releases closed = refl
+answer-noted false releases rested = refl
+answer-noted false releases (released identifier) = refl
+answer-noted false releases (sent item) = refl
+answer-noted false releases (received (packet size entry)) = connack-noted entry
+answer-noted false releases (received (bad first rule at)) = refl
+answer-noted false releases (received lost) = refl
+
+or_false : (b : Bool) → b ≡ (b || false)
+or_false true = refl
+or_false false = refl
+
+-- a session packet or a RELEASE
+needs-noted : (e : Event) → needs_answer e ≡ (needs_session (note_of e) || is_release (note_of e))
+needs-noted opened = refl
+needs-noted closed = refl
+needs-noted rested = refl
+needs-noted (released identifier) = refl
+needs-noted (sent (packet size entry)) = session-noted entry ∙ or_false (is_session_packet (packet_note entry))
+needs-noted (sent (bad first rule at)) = refl
+needs-noted (sent lost) = refl
+needs-noted (received (packet size entry)) = session-noted entry ∙ or_false (is_session_packet (packet_note entry))
+needs-noted (received (bad first rule at)) = refl
+needs-noted (received lost) = refl
+
+-- an open connection
+connected-noted : (log : List Placed) → trace_connected log ≡ is_connected (map seen log)
+connected-noted [] = refl
+connected-noted (e ∷ past) =
+    ap (λ b. b || (not (ends e.event) && trace_connected past)) (begins-noted e.event)
+    ∙ ap (λ b. is_open (note_of e.event) || (not b && trace_connected past)) (ends-noted e.event)
+    ∙ ap (λ b. is_open (note_of e.event) || (not (is_close (note_of e.event)) && b)) (connected-noted past)
+
+-- The CONNACK of the latest connection has come.
+abbrev is_answered : Role → List Seen → Bool
+is_answered role log = since (λ note. is_some (connack_of role note)) is_open log
+
+answered-noted : (header : Header) (log : List Placed) → trace_answered header.server log ≡ is_answered (role_of header) (map seen log)
+answered-noted header [] = refl
+answered-noted header (e ∷ past) =
+    ap (λ b. b || (not (begins e.event) && trace_answered header.server past)) (answer-noted header.server header.releases e.event)
+    ∙ ap (λ b. is_some (connack_of (role_of header) (note_of e.event)) || (not b && trace_answered header.server past)) (begins-noted e.event)
+    ∙ ap (λ b. is_some (connack_of (role_of header) (note_of e.event)) || (not (is_open (note_of e.event)) && b)) (answered-noted header past)
 
 -- what holds of no bytes, and of a log with one byte more if it holds of the log, holds of every log
 pub along : (P : List ℕ → Type 0) → P [] → ((log : List ℕ) (byte : ℕ) → P log → P (log ++ byte ∷ [])) → (log : List ℕ) → P log
@@ -75,7 +191,7 @@ not-early limit s h = (none_stands (conditions limit s) h).1.1.1.1.1.1.1.0
 pub unrefused-grow : (limit : ℕ) (log : List ℕ) (byte : ℕ) → refused limit (log ++ byte ∷ []) ≡ None → (refused limit log ≡ None) × (refusal_at limit log byte ≡ None)
 unrefused-grow limit log byte h = go (refused limit log) (refusal_at limit log byte) (sym (refused-grow limit log byte) ∙ h)
   where
-    go : (a b : Option Refusal) → or_else a b ≡ None → (a ≡ None) × (b ≡ None)
+    go : (a b : Option Refusal) → first_of a b ≡ None → (a ≡ None) × (b ≡ None)
     go None b e = (refl, e)
     go (Some r) b e = absurd (cc)
 
@@ -110,20 +226,20 @@ connected-now : (limit : ℕ) (c : Context) (byte : ℕ) → record_refusal limi
 unfolding situated
 connected-now limit c byte unrefused on h = connected-more c.part byte c.connected on (begins-connected limit (situated c byte) unrefused) h
 
-same-part : (c : Context) (o : Option Event) → (with_note c o).part ≡ c.part
+same-part : (c : Context) (o : Option Event) → (with_heard c o).part ≡ c.part
 same-part c None = refl
 same-part c (Some event) = refl
 
-sent-connected : (c : Context) (o : Option Item) → (with_note c (option_map sent o)).connected ≡ c.connected
+sent-connected : (c : Context) (o : Option Item) → (with_heard c (option_map sent o)).connected ≡ c.connected
 sent-connected c None = refl
 sent-connected c (Some item) = refl
 
-received-connected : (c : Context) (o : Option Item) → (with_note c (option_map received o)).connected ≡ c.connected
+received-connected : (c : Context) (o : Option Item) → (with_heard c (option_map received o)).connected ≡ c.connected
 received-connected c None = refl
 received-connected c (Some item) = refl
 
 -- what packets give opens and closes no connection
-carrying-connected : (c : Context) (kind : Option RecordKind) (part so_far : List ℕ) → is_some (way_of kind) ≡ true → (with_note c (event_by kind part so_far)).connected ≡ c.connected
+carrying-connected : (c : Context) (kind : Option RecordKind) (part so_far : List ℕ) → is_some (way_of kind) ≡ true → (with_heard c (event_by kind part so_far)).connected ≡ c.connected
 carrying-connected c None part so_far h = absurd (cc)
 carrying-connected c (Some kinds.Open) part so_far h = absurd (cc)
 carrying-connected c (Some kinds.Sent) part so_far h = sent-connected c (item_at so_far)
@@ -140,16 +256,16 @@ left-connected part more whole left connected = subst (λ (rest : List ℕ). 0 <
     go false begun h = connected h
 
 on_connection_part : (limit : ℕ) (c : Context) (byte : ℕ) → record_refusal limit (situated c byte) ≡ None → IsOnConnection c
-    → IsOnConnection (with_note (after_part c (c.part ++ byte ∷ []) byte) (event_in (c.part ++ byte ∷ []) (so_far_for c byte)))
+    → IsOnConnection (with_heard (after_part c (c.part ++ byte ∷ []) byte) (event_in (c.part ++ byte ∷ []) (so_far_for c byte)))
 unfolding event_in
 on_connection_part limit c byte unrefused on =
     let part : List ℕ = c.part ++ byte ∷ [] in
-    left-connected part (with_note (after_part c part byte) (event_by (kind_of part) part (so_far_for c byte))) (is_some (record_size part))
+    left-connected part (with_heard (after_part c part byte) (event_by (kind_of part) part (so_far_for c byte))) (is_some (record_size part))
     (same-part (after_part c part byte) (event_by (kind_of part) part (so_far_for c byte)))
     (λ h. carrying-connected (after_part c part byte) (kind_of part) part (so_far_for c byte) h ∙ connected-now limit c byte unrefused on h)
 
 on_connection_step : (limit : ℕ) (c : Context) (byte : ℕ) (b : Bool) → (if b then header_refusal c.at byte else record_refusal limit (situated c byte)) ≡ None → IsOnConnection c
-    → IsOnConnection (if b then after_header c byte else with_note (after_part c (c.part ++ byte ∷ []) byte) (if b then None else event_in (c.part ++ byte ∷ []) (so_far_for c byte)))
+    → IsOnConnection (if b then after_header c byte else with_heard (after_part c (c.part ++ byte ∷ []) byte) (if b then None else event_in (c.part ++ byte ∷ []) (so_far_for c byte)))
 on_connection_step limit c byte true unrefused on = on
 on_connection_step limit c byte false unrefused on = on_connection_part limit c byte unrefused on
 
@@ -209,27 +325,43 @@ early_or_answered limit c byte event long unrefused is on =
     let here : event_by (kind_of (c.part ++ byte ∷ [])) (c.part ++ byte ∷ []) (so_far_for c byte) ≡ Some event =
     sym (ap (λ b. if b then None else event_by (kind_of (c.part ++ byte ∷ [])) (c.part ++ byte ∷ []) (so_far_for c byte)) behind) ∙ is in
     settle (needs_session (note_of event)) (is_release (note_of event)) c.connected c.answered
-    (ap (is_early (situated c byte)) (sym here) ∙ not-early limit (situated c byte) stands)
+    (ap (λ b. b && (c.connected && not c.answered)) (sym (needs-noted event)) ∙ ap (is_early (situated c byte)) (sym here) ∙ not-early limit (situated c byte) stands)
     (λ needs. connected-now limit c byte stands on (session-carried (kind_of (c.part ++ byte ∷ [])) (c.part ++ byte ∷ []) (so_far_for c byte) event here needs))
 
 answered_context : (log : List ℕ) → (context log).answered ≡ is_answered (tested_by log).role (seen_in log)
-unfolding context
-answered_context log = refl
+unfolding context seen_in
+answered_context log = answered-noted (header_by log) (events log)
 
 connected_context : (log : List ℕ) → (context log).connected ≡ is_connected (seen_in log)
-unfolding context
-connected_context log = refl
+unfolding context seen_in
+connected_context log = connected-noted (events log)
 
-events_context : (log : List ℕ) → (context log).events ≡ length (seen_in log)
-unfolding context
-events_context log = refl
+pub events_context : (log : List ℕ) → (context log).events ≡ length (seen_in log)
+unfolding context seen_in
+events_context log = sym (length-map (events log) seen)
 
-seen_for-is : (log : List ℕ) (byte : ℕ) → put (seen_for (context log) byte) (seen_in log) ≡ put (seen_with (context log) (event_for (context log) byte)) (seen_in log)
-unfolding seen_for
-seen_for-is log byte = refl
+-- what the statements look at of an event that may have come
+abbrev seen_with : Context → Option Event → List Seen → List Seen
+seen_with c None log = log
+seen_with c (Some event) log = record { place = record { position = c.events + 1; record_no = c.records + 1 }; note = note_of event } ∷ log
+
+seen_put : (c : Context) (o : Option Event) (log : List Placed) → map seen (put (placed_with c o) log) ≡ seen_with c o (map seen log)
+seen_put c None log = refl
+seen_put c (Some event) log = refl
+
+seen-kept : (log : List ℕ) (byte : ℕ) → seen_in (log ++ byte ∷ []) ≡ seen_with (context log) (event_for (context log) byte) (seen_in log)
+unfolding seen_in placed_for
+seen-kept log byte = ap (map seen) (events-kept log byte) ∙ seen_put (context log) (event_for (context log) byte) (events log)
+
+seen-header : (log : List ℕ) → length log ≤ 8 → seen_in log ≡ []
+unfolding seen_in
+seen-header log h = ap (map seen) (events-header log h)
+
+pub seen-nothing : seen_in [] ≡ []
+seen-nothing = seen-header [] (omega arith)
 
 orderly_put : (limit : ℕ) (log : List ℕ) (byte : ℕ) (o : Option Event) → 8 ≤ length log → refusal_at limit log byte ≡ None → event_for (context log) byte ≡ o → IsOnConnection (context log)
-    → IsOrderly (tested_by log).role (seen_in log) → IsOrderly (tested_by log).role (put (seen_with (context log) o) (seen_in log))
+    → IsOrderly (tested_by log).role (seen_in log) → IsOrderly (tested_by log).role (seen_with (context log) o (seen_in log))
 orderly_put limit log byte None long unrefused is on before = before
 orderly_put limit log byte (Some event) long unrefused is on before =
     let at : 8 ≤ (context log).at = subst (λ (n : ℕ). 8 ≤ n) (sym (at_context log)) long in
@@ -251,9 +383,9 @@ orderly_step limit log byte true is unrefused on before =
     orderly_nothing (tested_by (log ++ byte ∷ [])).role (seen_in (log ++ byte ∷ [])) (seen-header (log ++ byte ∷ []) (omega arith))
 orderly_step limit log byte false is unrefused on before =
     let long = ltb-false (length log) 8 is in
-    let P : Tested → Type 0 = λ tested. IsOrderly tested.role (seen_in (log ++ byte ∷ [])) in
-    subst P (sym (tested-behind log byte long))
-    (subst (IsOrderly (tested_by log).role) (sym (seen-kept log byte ∙ seen_for-is log byte))
+    let P : Header → Type 0 = λ header. IsOrderly (role_of header) (seen_in (log ++ byte ∷ [])) in
+    subst P (sym (header-behind log byte long))
+    (subst (IsOrderly (tested_by log).role) (sym (seen-kept log byte))
     (orderly_put limit log byte (event_for (context log) byte) long unrefused refl on before))
 
 -- a log that isn't refused is in order

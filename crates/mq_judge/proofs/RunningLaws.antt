@@ -2,22 +2,22 @@
 use Rattle.std.proofs.Common.{◌≡◌, ℕ, ◌+◌, ◌≤◌, Bool, true, false, ◌⊎◌, inl, inr, List, [], ◌++◌, length, Option, Some, None, refl, sym, ap, subst, ◌∙◌, append_assoc, append-nil, length-append, arith, nat_lt, ◌||◌, ◌==◌, IsSome, IfSome, rules, Ok, Err, if◌then◌else◌}
 use Rattle.std.specs.FinMap as map
 use Rattle.std.specs.Io.KnownBytes.{Appends, Consumes, Keeps, IsAtEnd}
-use Rattle.mq_judge.specs.declared.trace.refusal.Refusal.{Refusal}
-use Rattle.mq_judge.specs.declared.trace.refusal.Refusal.TheVariants as refusals
+use Rattle.mq_trace.specs.declared.refusal.Refusal.{Refusal}
+use Rattle.mq_trace.specs.declared.refusal.Refusal.TheVariants as refusals
 use Rattle.mq_judge.specs.declared.report.Outcome.{Outcome}
 use Rattle.mq_judge.specs.declared.report.Outcome.TheVariants.{Pass, Fail}
 use Rattle.mq_judge.specs.declared.report.RunFault.{RunFault}
 use Rattle.mq_judge.specs.declared.report.RunFault.TheVariants as run_faults
 use Rattle.mq_judge.specs.declared.rules.role.Role.{Role}
 use Rattle.mq_judge.specs.Judging.{Judged, Follows, IsMemoryWithin, AreFaultsOf}
-use Rattle.mq_judge.specs.Refusals.{refused, is_cut_short}
-use Rattle.mq_judge.specs.Context.{context}
-use Rattle.mq_judge.specs.Framing.{tested_by}
-use Rattle.mq_judge.specs.Events.{events, seen_in}
+use Rattle.mq_trace.specs.Refusals.{refused, is_cut_short}
+use Rattle.mq_trace.specs.Events.{events}
+use Rattle.mq_judge.specs.Seeing.{tested_by, seen_in}
 use Rattle.mq_judge.specs.Marks.{FaultMap}
 use Rattle.mq_judge.specs.Report.{report, report_on, AppendsBeginning}
 use Rattle.mq_judge.specs.Running.{default_limit, outcome_of, IsJudged, IsFailureWithin, RefusesLog, RunsOver, TookAll, StoppedAt}
-use Rattle.mq_judge.proofs.ContextLaws.{refused-stays}
+use Rattle.mq_trace.proofs.ContextLaws.{refused-stays}
+use Rattle.mq_judge.proofs.JudgeLaws.{unrefused}
 use Rattle.mq_judge.proofs.ListingLaws.{entries-listed}
 
 pub consumes-nothing : (x : Option (List ℕ)) → Consumes x x []
@@ -123,19 +123,22 @@ or-false : (a b : Bool) → (a || b) ≡ false → a ≡ false
 or-false false b h = refl
 or-false true b h = h
 
+-- This is the end that a judge names.
+abbrev pub IsNamed : Judged → Option Role → Type 0
+IsNamed judge named = (log : List ℕ) → Follows judge log → named ≡ (if nat_lt (length log) 8 then None else Some (tested_by log).role)
+
 -- the end that a judge names once its log isn't cut short
-pub role-known : (judge : Judged) (log : List ℕ) → Follows judge log → is_cut_short log ≡ false
-    → (if nat_lt judge.reader.at 8 then None else Some judge.reader.tested.role) ≡ Some (tested_by log).role
-unfolding context is_cut_short
-role-known judge log followed whole =
+role-known : (judge : Judged) (log : List ℕ) (named : Option Role) → Follows judge log → is_cut_short log ≡ false → IsNamed judge named → named ≡ Some (tested_by log).role
+unfolding is_cut_short
+role-known judge log named followed whole names =
     let long : nat_lt (length log) 8 ≡ false = or-false (nat_lt (length log) 8) _ whole in
-    rw (followed.keeps.kept, long) refl
+    names log followed ∙ ap (λ b. if b then None else Some (tested_by log).role) long
 
 pub is-named : {judge : Judged} {x y : Option (List ℕ)} (named : Option Role) (count : ℕ) (faults : FaultMap) → TookAll x y judge
     → ((log : List ℕ) → Follows judge log → IsVerdictOn log count faults)
-    → named ≡ (if nat_lt judge.reader.at 8 then None else Some judge.reader.tested.role) → IsSome named
-is-named {judge} named count faults took verdict e =
-    rw (e ∙ role-known judge took.log took.followed (verdict took.log took.followed).0) (search rules)
+    → IsNamed judge named → IsSome named
+is-named {judge} named count faults took verdict names =
+    rw (role-known judge took.log named took.followed (verdict took.log took.followed).0 names) (search rules)
 
 pub report-is : (log : List ℕ) (count : ℕ) (faults : FaultMap) → IsVerdictOn log count faults
     → report_on (tested_by log).role (map.entries faults) count ≡ report log
@@ -157,15 +160,15 @@ whole-taken (Some xs) (Some ys) log P h end p =
 -- a run that came to an outcome
 pub run-reports : {x y : Option (List ℕ)} (w z : Option (List ℕ)) {judge : Judged} (count : ℕ) (faults : FaultMap) (role : Role) (outcome : Outcome)
     → TookAll x y judge → judge.limit ≡ default_limit → ((log : List ℕ) → Follows judge log → IsVerdictOn log count faults)
-    → (if nat_lt judge.reader.at 8 then None else Some judge.reader.tested.role) ≡ Some role
+    → IsNamed judge (Some role)
     → Appends w z (report_on role (map.entries faults) count) → outcome ≡ (if map.len faults == 0 then Pass else Fail)
     → IfSome x (λ log. RunsOver log (Ok outcome) w z)
 run-reports {x} {y} w z {judge} count faults role outcome took limit verdict named wrote says =
     let log = took.log in
     let v : IsVerdictOn log count faults = verdict log took.followed in
-    let known : Some role ≡ Some (tested_by log).role = sym named ∙ role-known judge log took.followed v.0 in
+    let known : Some role ≡ Some (tested_by log).role = role-known judge log (Some role) took.followed v.0 named in
     let same : role ≡ (tested_by log).role = cc in
-    let judged : IsJudged log = record { unrefused = subst (λ l. refused l log ≡ None) limit took.followed.keeps.unrefused; whole = v.0 } in
+    let judged : IsJudged log = record { unrefused = subst (λ l. refused l log ≡ None) limit (unrefused judge log took.followed); whole = v.0 } in
     let text : report_on role (map.entries faults) count ≡ report log =
     ap (λ (r : Role). report_on r (map.entries faults) count) same ∙ report-is log count faults v in
     whole-taken x y log (λ l. RunsOver l (Ok outcome) w z) took.consumed took.ended
@@ -174,15 +177,15 @@ run-reports {x} {y} w z {judge} count faults role outcome took limit verdict nam
 -- a run whose writer failed
 pub run-stops-writing : {x y : Option (List ℕ)} (w z : Option (List ℕ)) {judge : Judged} (count : ℕ) (faults : FaultMap) (role : Role) (fault : RunFault)
     → TookAll x y judge → judge.limit ≡ default_limit → ((log : List ℕ) → Follows judge log → IsVerdictOn log count faults)
-    → (if nat_lt judge.reader.at 8 then None else Some judge.reader.tested.role) ≡ Some role
+    → IsNamed judge (Some role)
     → (fault ≡ run_faults.Write) × AppendsBeginning w z (report_on role (map.entries faults) count)
     → IfSome x (λ log. RunsOver log (Err fault) w z)
 run-stops-writing {x} {y} w z {judge} count faults role fault took limit verdict named stopped =
     let log = took.log in
     let v : IsVerdictOn log count faults = verdict log took.followed in
-    let known : Some role ≡ Some (tested_by log).role = sym named ∙ role-known judge log took.followed v.0 in
+    let known : Some role ≡ Some (tested_by log).role = role-known judge log (Some role) took.followed v.0 named in
     let same : role ≡ (tested_by log).role = cc in
-    let judged : IsJudged log = record { unrefused = subst (λ l. refused l log ≡ None) limit took.followed.keeps.unrefused; whole = v.0 } in
+    let judged : IsJudged log = record { unrefused = subst (λ l. refused l log ≡ None) limit (unrefused judge log took.followed); whole = v.0 } in
     let text : report_on role (map.entries faults) count ≡ report log =
     ap (λ (r : Role). report_on r (map.entries faults) count) same ∙ report-is log count faults v in
     whole-taken x y log (λ l. RunsOver l (Err fault) w z) took.consumed took.ended

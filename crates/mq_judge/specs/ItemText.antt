@@ -8,7 +8,7 @@ use Rattle.mq_judge.specs.declared.rules.packet_note.PacketNote.{PacketNote}
 use Rattle.mq_judge.specs.declared.rules.packet_note.PacketNote.TheVariants.{Connect, Connack, Publish, Puback, Pubrec, Pubrel, Pubcomp, Subscribe, Suback, Unsubscribe, Unsuback, Pingreq, Pingresp, Disconnect, Auth}
 use Rattle.mq_judge.specs.Rules.{code_of}
 use Rattle.mq_judge.specs.Statements.{statement_of}
-use Rattle.mq_judge.specs.Report.{spaced}
+use Rattle.mq_trace.specs.Refusing.{spaced}
 
 -- the name of a packet's type (MQTT 5.0, section 2.1.2)
 abbrev pub type_name : PacketNote → List ℕ

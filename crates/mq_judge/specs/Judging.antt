@@ -1,33 +1,31 @@
 -- What a judge has come to, and what its calls answer.
-use Rattle.std.specs.Prelude.{◌≡◌, ℕ, ◌<◌, ◌≤◌, true, false, List, ◌++◌, length, ◌⊎◌, Option, Some, None, Result, Ok, Err}
-use Rattle.mq_judge.specs.declared.trace.refusal.Refusal.{Refusal}
-use Rattle.mq_judge.specs.declared.trace.refusal.Refusal.TheVariants as refusals
+use Rattle.std.specs.Prelude.{◌≡◌, ℕ, ◌<◌, ◌≤◌, true, false, List, ◌++◌, length, ◌⊎◌, Some, None, Result, Ok, Err}
+use Rattle.mq_trace.specs.declared.refusal.Refusal.{Refusal}
+use Rattle.mq_trace.specs.declared.refusal.Refusal.TheVariants as refusals
+use Rattle.mq_trace.specs.Tracing.{Traced, Follows as IsTracedTo}
+use Rattle.mq_trace.specs.Events.{events}
+use Rattle.mq_trace.specs.Refusals.{refused, is_cut_short}
 use Rattle.mq_judge.specs.declared.rules.note.Seen.{Seen}
 use Rattle.mq_judge.specs.declared.rules.rule.Rule.{Rule}
-use Rattle.mq_judge.specs.Context.{Context, context}
-use Rattle.mq_judge.specs.Framing.{tested_by}
-use Rattle.mq_judge.specs.Events.{events, seen_in}
-use Rattle.mq_judge.specs.Refusals.{refused, is_cut_short}
+use Rattle.mq_judge.specs.Seeing.{tested_by, seen_in}
 use Rattle.mq_judge.specs.Faults.{fault_in}
 use Rattle.mq_judge.specs.Marks.{FaultMap, fault_at}
 
--- a judge: its limit, the refusal that it came to, what it keeps of the log's framing, and the events, the newest first
+-- a judge: its limit, what has become of the log, and the events that were seen, the newest first
 pub record Judged : Type 0 where
   pub limit : ℕ
-  pub refusal : Option Refusal
-  pub reader : Context
+  pub tracer : Traced
   pub seen : List Seen
 
--- This is what is kept of the log and the events that were seen, the newest first, and the log isn't refused.
-pub record Keeps (limit : ℕ) (reader : Context) (seen : List Seen) (log : List ℕ) : Type 0 where
-  pub unrefused : refused limit log ≡ None
-  pub kept : reader ≡ context log
+-- The tracer has taken in this log, with this limit, and refused none of it; and these are its events, the newest first.
+pub record Keeps (limit : ℕ) (tracer : Traced) (seen : List Seen) (log : List ℕ) : Type 0 where
+  pub traced : IsTracedTo tracer log
+  pub within : tracer.reading.limit ≡ limit
   pub events : seen ≡ seen_in log
 
 -- The judge has taken in this log, and refused none of it.
 pub record Follows (judge : Judged) (log : List ℕ) : Type 0 where
-  pub open_yet : judge.refusal ≡ None
-  pub keeps : Keeps judge.limit judge.reader judge.seen log
+  pub keeps : Keeps judge.limit judge.tracer judge.seen log
 
 -- A growth was refused while one of the bytes from `start` on and before `end` was taken in.
 abbrev pub IsMemoryWithin : ℕ → ℕ → Refusal → Type 0

@@ -3,7 +3,7 @@ use Rattle.std.specs.Prelude.{ℕ, Bool, cond, Option, None}
 use Rattle.std.specs.declared.cmp.Ordering.{Ordering}
 use Rattle.std.specs.FinMap as map
 use Rattle.mq_judge.specs.declared.rules.rule.Rule.{Rule}
-use Rattle.mq_judge.specs.declared.trace.place.Place3.{Place3}
+use Rattle.mq_trace.specs.declared.place.Place3.{Place3}
 use Rattle.mq_judge.specs.declared.rules.fault.Fault.{Fault}
 use Rattle.mq_judge.specs.declared.rules.faults.Mark.{Mark}
 use Rattle.mq_judge.specs.contracts.rules.faults.MarkOrd.TheImpl as mark_ord

@@ -1,5 +1,5 @@
 -- What one packet and one event are to the statements, each by itself.
-use Rattle.std.specs.Prelude.{ℕ, ◌==◌, nat_le, Bool, true, false, ◌||◌, cond, Option, Some, None}
+use Rattle.std.specs.Prelude.{ℕ, ◌==◌, nat_le, Bool, true, false, cond, Option, Some, None}
 use Rattle.mq_packet.specs.declared.packet.Qos.{Qos}
 use Rattle.mq_packet.specs.declared.packet.Qos.TheVariants as quality
 use Rattle.mq_packet.specs.declared.packet.AcknowledgementKind.{AcknowledgementKind}
@@ -139,7 +139,3 @@ abbrev pub needs_session : Note → Bool
 needs_session (Sent (Packet p)) = is_session_packet p
 needs_session (Recv (Packet p)) = is_session_packet p
 needs_session _ = false
-
--- a session packet or a RELEASE: on a connection it stands after the CONNACK
-abbrev pub needs_connack : Note → Bool
-needs_connack note = needs_session note || is_release note

@@ -14,7 +14,8 @@ use Rattle.mq_judge.specs.declared.packet_line.Finding.{Finding}
 use Rattle.mq_judge.specs.declared.packet_line.Finding.TheVariants.{NeedMore, LeftOver, Item, OtherVersion}
 use Rattle.mq_judge.specs.Notes.{packet_note}
 use Rattle.mq_judge.specs.ItemText.{item_text}
-use Rattle.mq_judge.specs.Report.{line, spaced}
+use Rattle.mq_trace.specs.Refusing.{spaced}
+use Rattle.mq_judge.specs.Report.{line}
 
 -- what one frame is that has this first byte and this size, by what its body comes to
 abbrev pub frame_finding : ℕ → ℕ → Result Entry DecodeFault → Finding

@@ -1,16 +1,15 @@
 -- What judging a whole log, from a reader to a writer, comes to.
 use Rattle.std.specs.Prelude.{◌≡◌, ℕ, ◌==◌, ◌≤◌, true, false, List, length, ◌⊎◌, Option, Some, None, Result, Ok, Err, if◌then◌else◌}
 use Rattle.std.specs.Io.KnownBytes.{Appends, Consumes, IsAtEnd}
-use Rattle.mq_judge.specs.declared.trace.refusal.Refusal.{Refusal}
-use Rattle.mq_judge.specs.declared.trace.refusal.Refusal.TheVariants as refusals
+use Rattle.mq_trace.specs.declared.refusal.Refusal.{Refusal}
+use Rattle.mq_trace.specs.declared.refusal.Refusal.TheVariants as refusals
 use Rattle.mq_judge.specs.declared.report.Outcome.{Outcome}
 use Rattle.mq_judge.specs.declared.report.Outcome.TheVariants.{Pass, Fail}
 use Rattle.mq_judge.specs.declared.report.RunFault.{RunFault}
 use Rattle.mq_judge.specs.declared.report.RunFault.TheVariants as run_faults
-use Rattle.mq_judge.specs.Framing.{tested_by}
-use Rattle.mq_judge.specs.Events.{seen_in}
+use Rattle.mq_judge.specs.Seeing.{tested_by, seen_in}
 use Rattle.mq_judge.specs.Faults.{listed}
-use Rattle.mq_judge.specs.Refusals.{refused, is_cut_short}
+use Rattle.mq_trace.specs.Refusals.{refused, is_cut_short}
 use Rattle.mq_judge.specs.Report.{report, AppendsBeginning}
 use Rattle.mq_judge.specs.Judging.{Judged, Follows}
 

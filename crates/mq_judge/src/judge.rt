@@ -1,15 +1,14 @@
 //! The judge: it is fed a log, in any pieces, and answers the verdict on it.
-ghost use Rattle.std.specs.Prelude.{◌≡◌, ℕ, ◌≤◌, List, [], ◌++◌, nat_lt, Some, None, IfErr, IfSome, OnOk, reverse, if◌then◌else◌};
-ghost use Rattle.mq_judge.specs.Context.{put};
+ghost use Rattle.std.specs.Prelude.{◌≡◌, ℕ, ◌≤◌, List, [], ◌++◌, nat_lt, length, Some, None, Err, IfErr, IfSome, OnOk, reverse, if◌then◌else◌};
 ghost use Rattle.mq_judge.specs.Judging.{Keeps, Follows, Takes, Finishes};
+ghost use Rattle.mq_judge.specs.Seeing.{tested_by};
 
+use super::noting::Notes;
 use super::rules::faults::Faults;
-use super::rules::note::Seen;
 use super::rules::plain::judge_all;
-use super::rules::role::Role;
-use super::trace::reader::LogReader;
-use super::trace::refusal::Refusal;
-use std::alloc::{AllocError, Global};
+use super::rules::role::{Role, Tested};
+use mq_trace::{Refusal, Tracer};
+use std::alloc::Global;
 use std::marker::Model;
 
 /// How a judge reads a log.
@@ -38,14 +37,18 @@ pub struct Verdict {
     pub faults: Faults,
 }
 
+/// How many bytes a log's header has.
+const HEADER_LENGTH: usize = 8;
+
 /// Judges one log.
 #[derive(Drop)]
 pub struct Judge {
     alloc: Global,
     limit: u32,
-    refusal: Option<Refusal>,
-    reader: LogReader,
-    seen: Vec<Seen>,
+    // How many bytes of the log's header haven't come yet.
+    header_left: usize,
+    tracer: Tracer,
+    notes: Notes,
 }
 
 impl Model for Judge {
@@ -54,7 +57,7 @@ impl Model for Judge {
 
     ghost Value = { Judged };
 
-    ghost view = { λ j. record { limit = j.limit; refusal = j.refusal; reader = j.reader; seen = reverse j.seen.items } };
+    ghost view = { λ j. record { limit = j.limit; tracer = j.tracer; seen = reverse j.notes.seen.items } };
 }
 
 impl Judge {
@@ -66,17 +69,18 @@ impl Judge {
         Judge {
             alloc,
             limit: options.limit,
-            refusal: None,
-            reader: LogReader::new(alloc),
-            seen: Vec::new(alloc),
+            header_left: HEADER_LENGTH,
+            tracer: Tracer::new(alloc, options.limit),
+            notes: Notes::new(alloc),
         }
     }
 
     /// Which end is judged, once the log's header is whole.
     pub fn role(&self) -> Option<Role>
-        ensures { result ≡ (if nat_lt self.now.reader.at 8 then None else Some self.now.reader.tested.role) }
+        ensures { (log : List ℕ) → Follows self.now log → result ≡ (if nat_lt (length log) 8 then None else Some (tested_by log).role) }
     {
-        self.reader.tested().map(|tested| tested.role)
+        let header = self.tracer.header()?;
+        Some(Tested::of(header).role)
     }
 
     /// Takes in the next piece of the log. It doesn't matter how the log is cut into pieces.
@@ -89,17 +93,12 @@ impl Judge {
         ensures answers { (log : List ℕ) → Follows self.old log → Takes self.old.limit log piece.now result }
         ensures follows { (log : List ℕ) → Follows self.old log → OnOk result (Follows self.new (log ++ piece.now)) }
         ensures limit { self.new.limit ≡ self.old.limit }
-        ensures refuses { IfErr result (λ refusal. self.new.refusal ≡ Some refusal) }
-        ensures for_ever { IfSome self.old.refusal (λ refusal. (result ≡ Err refusal) × (self.new ≡ self.old)) }
+        ensures refuses { IfErr result (λ refusal. self.new.tracer.refusal ≡ Some refusal) }
+        ensures for_ever { IfSome self.old.tracer.refusal (λ refusal. (result ≡ Err refusal) × (self.new ≡ self.old)) }
     {
-        if let Some(refusal) = self.refusal {
-            return Err(refusal);
-        }
-        let taken = take_in(&mut self.reader, &mut self.seen, self.limit, piece);
-        if let Err(refusal) = taken {
-            self.refusal = Some(refusal);
-        }
-        taken
+        let count = self.header_left.min(piece.len());
+        self.header_left -= count;
+        take_in(&mut self.tracer, &mut self.notes, piece, count)
     }
 
     /// Ends the log, and answers the verdict on it.
@@ -109,52 +108,51 @@ impl Judge {
     /// The refusal that an earlier call answered; `Cut`, at the log's length, where it ends inside its header or a record; `Memory`, at the log's length.
     pub fn finish(self) -> Result<Verdict, Refusal>
         ensures verdict { (log : List ℕ) → Follows self log → Finishes (λ v. v.events) (λ v. v.faults) log result }
-        ensures for_ever { IfSome self.refusal (λ refusal. result ≡ Err refusal) }
+        ensures for_ever { IfSome self.tracer.refusal (λ refusal. result ≡ Err refusal) }
     {
-        if let Some(refusal) = self.refusal {
-            return Err(refusal);
-        }
-        let at = self.reader.at();
-        let Some(tested) = self.reader.tested() else {
+        let mut tracer = self.tracer;
+        tracer.finish()?;
+        let at = tracer.taken();
+        let Some(header) = tracer.header() else {
             return Err(Refusal::Cut(at));
         };
-        if self.reader.is_cut_short() {
-            return Err(Refusal::Cut(at));
-        }
+        let tested = Tested::of(header);
         let mut faults = Faults::new(self.alloc);
-        judge_all(tested, self.seen.as_slice(), &mut faults).map_err(|_| Refusal::Memory(at))?;
+        let judged = judge_all(tested, self.notes.seen.as_slice(), &mut faults);
+        judged.map_err(|_| Refusal::Memory(at))?;
         Ok(Verdict {
-            events: self.reader.events(),
+            events: self.notes.count(),
             faults,
         })
     }
 }
 
-/// Takes in each byte of a piece, and notes the events that they complete.
+/// Takes in a piece of a log, and notes the events that it completes: the first so many bytes, those of the log's header, apart from the others.
 fn take_in(
-    reader: &mut LogReader,
-    seen: &mut Vec<Seen>,
-    limit: u32,
+    tracer: &mut Tracer,
+    notes: &mut Notes,
     piece: &[u8],
+    header_count: usize,
 ) -> Result<(), Refusal>
-    ensures answers { (log : List ℕ) → Keeps limit reader.old (reverse seen.old.items) log → Takes limit log piece.now result }
-    ensures keeps { (log : List ℕ) → Keeps limit reader.old (reverse seen.old.items) log
-        → OnOk result (Keeps limit reader.new (reverse seen.new.items) (log ++ piece.now)) }
+    requires { header_count ≤ length piece.now }
+    ensures answers { (limit : ℕ) (log : List ℕ) → Keeps limit tracer.old (reverse notes.old.seen.items) log → Takes limit log piece.now result }
+    ensures keeps { (limit : ℕ) (log : List ℕ) → Keeps limit tracer.old (reverse notes.old.seen.items) log
+        → OnOk result (Keeps limit tracer.new (reverse notes.new.seen.items) (log ++ piece.now)) }
+    ensures refuses { IfErr result (λ refusal. tracer.new.refusal ≡ Some refusal) }
+    ensures for_ever { IfSome tracer.old.refusal (λ refusal. (result ≡ Err refusal) × (tracer.new ≡ tracer.old) × (notes.new ≡ notes.old)) }
 {
-    for byte in piece {
-        let at = reader.at();
-        let event = reader.take(limit, *byte)?;
-        note(seen, event).map_err(|_| Refusal::Memory(at))?;
-    }
-    Ok(())
+    let (header, rest) = piece.split_at(header_count);
+    feed_notes(tracer, notes, header)?;
+    feed_notes(tracer, notes, rest)
 }
 
-/// Notes an event, if there is one, behind those before it.
-fn note(seen: &mut Vec<Seen>, event: Option<Seen>) -> Result<(), AllocError>
-    ensures { OnOk result (reverse seen.new.items ≡ put event (reverse seen.old.items)) }
+/// Takes in a piece of a log, and notes the events that it completes.
+fn feed_notes(tracer: &mut Tracer, notes: &mut Notes, piece: &[u8]) -> Result<(), Refusal>
+    ensures answers { (limit : ℕ) (log : List ℕ) → Keeps limit tracer.old (reverse notes.old.seen.items) log → Takes limit log piece.now result }
+    ensures keeps { (limit : ℕ) (log : List ℕ) → Keeps limit tracer.old (reverse notes.old.seen.items) log
+        → OnOk result (Keeps limit tracer.new (reverse notes.new.seen.items) (log ++ piece.now)) }
+    ensures refuses { IfErr result (λ refusal. tracer.new.refusal ≡ Some refusal) }
+    ensures for_ever { IfSome tracer.old.refusal (λ refusal. (result ≡ Err refusal) × (tracer.new ≡ tracer.old) × (notes.new ≡ notes.old)) }
 {
-    if let Some(event) = event {
-        seen.push(event)?;
-    }
-    Ok(())
+    tracer.feed(piece, notes)
 }

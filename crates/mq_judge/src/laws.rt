@@ -1,63 +1,12 @@
 //! Laws of the definitions on whole logs, each the contract of a function that does nothing.
-ghost use Rattle.std.specs.Prelude.{◌≡◌, ℕ, Bool, true, false, take, drop, List, [], ◌∷◌, ◌++◌, None, Some};
-ghost use Rattle.mq_judge.specs.declared.trace.refusal.Refusal.{Refusal};
-ghost use Rattle.mq_judge.specs.declared.trace.refusal.Refusal.TheVariants.{Version, Nested, NotOpen, ReleaseUnrecorded, Early};
-ghost use Rattle.mq_judge.specs.declared.trace.kind.Way.{Way};
-ghost use Rattle.mq_judge.specs.Pieces.{Pieces, AreCut};
-ghost use Rattle.mq_packet.specs.Stream.{frame_size};
-ghost use Rattle.mq_judge.specs.Framing.{record_size, records, stream, tested_by, kind_of, opens, carried};
-ghost use Rattle.mq_judge.specs.Events.{seen_in};
-ghost use Rattle.mq_judge.specs.Refusals.{refused, is_cut_short};
-ghost use Rattle.mq_judge.specs.Rows.{client_header, silent_header, opened, closed, released};
+ghost use Rattle.std.specs.Prelude.{◌≡◌, ℕ, List, None};
+ghost use Rattle.mq_trace.specs.Refusals.{refused};
+ghost use Rattle.mq_judge.specs.Seeing.{tested_by, seen_in};
 ghost use Rattle.mq_judge.specs.Moments.{IsPlaced};
 ghost use Rattle.mq_judge.specs.Connections.{IsInOrder};
-ghost use Rattle.mq_judge.specs.Context.{context, after, put, seen_for};
-
-/// Behind its header a log is its records, each a whole one, and a rest that no record is a prefix of; and only one list of records is so.
-pub fn log_is_its_records()
-    ensures cut { (log : List ℕ) → AreCut record_size (drop 8 log) (records log) }
-    ensures only { (log : List ℕ) (cut : Pieces) → AreCut record_size (drop 8 log) cut → cut ≡ records log }
-{}
-
-/// What a direction carried is its frames, and a rest that no frame is a prefix of; and only one list of frames is so (MQTT 5.0, section 2.1).
-pub fn stream_is_its_frames()
-    ensures cut { (bytes : List ℕ) → AreCut frame_size bytes (stream bytes) }
-    ensures only { (bytes : List ℕ) (cut : Pieces) → AreCut frame_size bytes cut → cut ≡ stream bytes }
-{}
-
-/// What a direction carried on a connection doesn't depend on what stands before its OPEN: a packet that was unfinished there is dropped, and a
-/// direction that was lost there is read again. Records are given the newest first.
-pub fn connections_carry_their_own()
-    ensures { (way : Way) (later before : List (List ℕ)) (first : List ℕ) → opens (kind_of first) ≡ true → carried way (later ++ first ∷ before) ≡ carried way (later ++ first ∷ []) }
-{}
-
-/// A refusal stays, whatever follows: the earliest byte decides.
-pub fn refusals_stay()
-    ensures { (limit : ℕ) (log more : List ℕ) (refusal : Refusal) → refused limit log ≡ Some refusal → refused limit (log ++ more) ≡ Some refusal }
-{}
 
 /// In a log that isn't refused each event has its place, and each session packet and each RELEASE on a connection stands after its CONNACK.
 pub fn unrefused_logs_are_in_order()
     ensures placed { (limit : ℕ) (log : List ℕ) → refused limit log ≡ None → IsPlaced (seen_in log) }
     ensures in_order { (limit : ℕ) (log : List ℕ) → refused limit log ≡ None → IsInOrder (tested_by log).role (seen_in log) }
-{}
-
-/// One byte more changes what is kept of a log, and adds an event or none, by what is kept alone.
-pub fn one_byte_more()
-    ensures kept { (log : List ℕ) (byte : ℕ) → context (log ++ byte ∷ []) ≡ after (context log) byte }
-    ensures events { (log : List ℕ) (byte : ℕ) → seen_in (log ++ byte ∷ []) ≡ put (seen_for (context log) byte) (seen_in log) }
-{}
-
-/// What the definitions make of short logs, computed from the definitions alone.
-pub fn worked_logs()
-    ensures empty { (seen_in client_header ≡ []) × (refused 16777216 client_header ≡ None) × (is_cut_short client_header ≡ false) }
-    ensures cut { is_cut_short (take 7 client_header) ≡ true }
-    ensures nested { refused 16777216 (client_header ++ opened ++ opened) ≡ Some (Nested 13) }
-    ensures second { refused 16777216 (client_header ++ opened ++ closed ++ opened) ≡ None }
-    ensures between { refused 16777216 (client_header ++ released) ≡ None }
-    ensures after_closed { refused 16777216 (client_header ++ opened ++ closed ++ released) ≡ None }
-    ensures early { refused 16777216 (client_header ++ opened ++ released) ≡ Some (Early 19) }
-    ensures unrecorded { refused 16777216 (silent_header ++ released) ≡ Some (ReleaseUnrecorded 8) }
-    ensures unopened { refused 16777216 (client_header ++ closed) ≡ Some (NotOpen 8) }
-    ensures version { refused 16777216 (77 ∷ 81 ∷ 84 ∷ 82 ∷ 2 ∷ []) ≡ Some (Version 4) }
 {}

@@ -3,13 +3,14 @@
 
 mod judge;
 mod laws;
+mod noting;
 mod packet_line;
 mod report;
 mod rules;
 mod running;
-mod trace;
 
 pub use judge::{Judge, Options, Verdict};
+pub use mq_trace::Refusal;
 pub use packet_line::write_packet;
 pub use report::{Form, Outcome, RunFault, write_refused, write_text};
 pub use rules::fault::Fault;
@@ -17,4 +18,3 @@ pub use rules::faults::{Faults, Mark, Memory};
 pub use rules::role::{Role, Tested};
 pub use rules::rule::Rule;
 pub use running::run;
-pub use trace::refusal::Refusal;

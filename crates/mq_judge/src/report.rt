@@ -12,7 +12,7 @@ use super::judge::Verdict;
 use super::rules::fault::Fault;
 use super::rules::faults::Mark;
 use super::rules::role::Role;
-use super::trace::refusal::Refusal;
+use mq_trace::Refusal;
 use std::fmt;
 use std::io::Write;
 

@@ -3,7 +3,7 @@ ghost use Rattle.std.specs.Prelude.{◌≡◌, ◌==◌, [], IfSome, IfErr, OnOk
 ghost use Rattle.std.specs.FinMap as map;
 ghost use Rattle.std.specs.Io.KnownBytes.{Appends};
 ghost use Rattle.mq_judge.specs.declared.report.RunFault.TheVariants as run_faults;
-ghost use Rattle.mq_judge.specs.declared.trace.refusal.Refusal.{Refusal as AnyRefusal};
+ghost use Rattle.mq_trace.specs.declared.refusal.Refusal.{Refusal as AnyRefusal};
 ghost use Rattle.mq_judge.specs.Judging.{Follows};
 ghost use Rattle.mq_judge.specs.Report.{report_on, AppendsBeginning};
 ghost use Rattle.mq_judge.specs.Running.{RunsOver, TookAll, StoppedAt};
@@ -11,7 +11,7 @@ ghost use Rattle.mq_judge.specs.Running.{RunsOver, TookAll, StoppedAt};
 use super::judge::{Judge, Options, Verdict};
 use super::report::{Form, Outcome, RunFault, write_text};
 use super::rules::role::Role;
-use super::trace::refusal::Refusal;
+use mq_trace::Refusal;
 use std::alloc::Global;
 use std::io::{ErrorKind, Read, Write};
 

@@ -1,7 +1,7 @@
 //! Faults: where a statement is false, and where that was decided.
 ghost use Rattle.std.specs.Prelude.{◌≡◌};
 
-use super::super::trace::place::Place3;
+use mq_trace::Place3;
 
 /// What is told of a pair of a position and a statement that is false there.
 #[derive(Clone, Copy, Debug, PartialEq, Eq)]

@@ -4,9 +4,9 @@ ghost use Rattle.std.specs.FinMap as map;
 ghost use Rattle.std.specs.Map.Iter.{ShowsInOrder, ShowsValuesInOrder, deref_pair};
 ghost use Rattle.mq_judge.specs.Marks.{with_fault, judged};
 
-use super::super::trace::place::Place3;
 use super::fault::Fault;
 use super::rule::Rule;
+use mq_trace::Place3;
 use std::alloc::{AllocFailed, Global};
 use std::collections::BTreeMap;
 use std::collections::btree_map::Iter;

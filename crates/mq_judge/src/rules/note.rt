@@ -1,12 +1,13 @@
 //! What the statements look at of an event.
 ghost use Rattle.std.specs.Prelude.{◌≡◌};
-ghost use Rattle.mq_judge.specs.Notes.{is_open as opens_connection, opener_of, closer_of, is_id, connack_of, needs_session as needs_one, needs_connack as needs_acceptance};
+ghost use Rattle.mq_judge.specs.Notes.{is_open as opens_connection, opener_of, closer_of, is_id};
+ghost use Rattle.mq_judge.specs.Seeing.{item_note, note_of};
 ghost use Rattle.mq_judge.specs.Statements.{broken as broken_by};
+ghost use Rattle.mq_trace.specs.Hearing.{item_of, event_of};
 
-use super::super::trace::place::Place3;
 use super::packet_note::PacketNote;
-use super::role::Role;
 use mq_packet::{BodyFault, PacketRule};
+use mq_trace::{Event, Item, Place3};
 
 /// What the statements look at of an item that was sent or received.
 #[derive(Clone, Copy, Debug, PartialEq, Eq)]
@@ -52,7 +53,38 @@ pub struct Seen {
     pub note: Note,
 }
 
+impl ItemNote {
+    /// What the statements look at of this item.
+    pub fn of(item: &Item<'_>) -> ItemNote
+        ensures { result ≡ item_note (item_of item.now) }
+    {
+        match item {
+            Item::Packet(packet) => ItemNote::Packet(PacketNote::of(packet)),
+            Item::Bad { first, rule, at } => ItemNote::Bad {
+                first: *first,
+                rule: *rule,
+                at: *at,
+            },
+            Item::Lost => ItemNote::Lost,
+        }
+    }
+}
+
 impl Note {
+    /// What the statements look at of this event.
+    pub fn of(event: &Event<'_>) -> Note
+        ensures { result ≡ note_of (event_of event.now) }
+    {
+        match event {
+            Event::Open => Note::Open,
+            Event::Close => Note::Close,
+            Event::Rest => Note::Rest,
+            Event::Release(identifier) => Note::Release(*identifier),
+            Event::Sent(item) => Note::Sent(ItemNote::of(item)),
+            Event::Recv(item) => Note::Recv(ItemNote::of(item)),
+        }
+    }
+
     /// Whether a network connection begins.
     pub fn is_open(&self) -> bool
         ensures { result ≡ opens_connection self.now }
@@ -93,41 +125,6 @@ impl Note {
         ensures { result ≡ is_id identifier (closer_of self.now) }
     {
         matches!(self.closer(), Some(closed) if closed == identifier)
-    }
-
-    /// The Reason Code of a CONNACK from the server, which a tested client receives and a tested server sends
-    /// (MQTT 5.0, section 3.2).
-    pub fn connack_code(&self, role: Role) -> Option<u8>
-        ensures { result ≡ connack_of role self.now }
-    {
-        match (role, self) {
-            (Role::Client, Note::Recv(ItemNote::Packet(PacketNote::Connack { code, .. })))
-            | (Role::Server, Note::Sent(ItemNote::Packet(PacketNote::Connack { code, .. }))) =>
-                Some(*code),
-            _ => None,
-        }
-    }
-
-    /// Whether the event is a session packet, of either direction (MQTT 5.0, section 4.1).
-    pub fn needs_session(&self) -> bool
-        ensures { result ≡ needs_one self.now }
-    {
-        match self {
-            Note::Sent(ItemNote::Packet(packet)) | Note::Recv(ItemNote::Packet(packet)) => {
-                packet.needs_session()
-            }
-            _ => false,
-        }
-    }
-
-    /// Whether the event is a session packet or a RELEASE, which on a connection stand after its CONNACK (MQTT 5.0, section 4.1).
-    pub fn needs_connack(&self) -> bool
-        ensures { result ≡ needs_acceptance self.now }
-    {
-        match self {
-            Note::Release(_) => true,
-            _ => self.needs_session(),
-        }
     }
 
     /// The rule that the bytes of what the tested end sent break, and where in the packet.

@@ -1,7 +1,7 @@
 //! What the statements look at of a packet.
 ghost use Rattle.std.specs.Prelude.{◌≡◌, Some};
 ghost use Rattle.mq_packet.specs.Reading.{view};
-ghost use Rattle.mq_judge.specs.Notes.{packet_note, new_identifier, settled_identifier, is_session_packet};
+ghost use Rattle.mq_judge.specs.Notes.{packet_note, new_identifier, settled_identifier};
 
 use mq_packet::{Packet, Qos};
 
@@ -144,29 +144,6 @@ impl PacketNote {
                 (*code >= REFUSING).then_some(*identifier)
             }
             _ => None,
-        }
-    }
-
-    /// Whether the packet needs a session: a PUBLISH, a SUBSCRIBE, an UNSUBSCRIBE, or what acknowledges one (MQTT 5.0, section 4.1).
-    pub fn needs_session(&self) -> bool
-        ensures { result ≡ is_session_packet self.now }
-    {
-        match self {
-            PacketNote::Publish { .. }
-            | PacketNote::Puback { .. }
-            | PacketNote::Pubrec { .. }
-            | PacketNote::Pubrel { .. }
-            | PacketNote::Pubcomp { .. }
-            | PacketNote::Subscribe(_)
-            | PacketNote::Suback(_)
-            | PacketNote::Unsubscribe(_)
-            | PacketNote::Unsuback(_) => true,
-            PacketNote::Connect
-            | PacketNote::Connack { .. }
-            | PacketNote::Pingreq
-            | PacketNote::Pingresp
-            | PacketNote::Disconnect(_)
-            | PacketNote::Auth(_) => false,
         }
     }
 }

@@ -130,11 +130,11 @@ fn admission_after(admission: Option<Admission>, role: Role, note: &Note) -> Opt
 
 #[cfg(test)]
 mod tests {
-    use super::super::super::trace::place::Place3;
     use super::super::note::ItemNote;
     use super::super::packet_note::PacketNote;
     use super::*;
     use mq_packet::{PacketRule, Qos};
+    use mq_trace::Place3;
     use std::alloc::Global;
 
     /// Event number `position`, which each have a record of their own.

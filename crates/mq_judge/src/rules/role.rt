@@ -1,4 +1,8 @@
 //! The end that is judged.
+ghost use Rattle.std.specs.Prelude.{◌≡◌};
+ghost use Rattle.mq_judge.specs.Seeing.{tested_as};
+
+use mq_trace::Header;
 
 /// An end of an MQTT session.
 #[derive(Clone, Copy, Debug, PartialEq, Eq)]
@@ -16,4 +20,21 @@ pub struct Tested {
     pub role: Role,
     /// Whether the log records the releases of QoS 2 messages.
     pub releases: bool,
+}
+
+impl Tested {
+    /// The end that this header names.
+    pub fn of(header: Header) -> Tested
+        ensures { result ≡ tested_as header }
+    {
+        let role = if header.server {
+            Role::Server
+        } else {
+            Role::Client
+        };
+        Tested {
+            role,
+            releases: header.releases,
+        }
+    }
 }

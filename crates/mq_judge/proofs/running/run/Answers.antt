@@ -1,6 +1,6 @@
-use Rattle.std.proofs.Common.{sym, ◌∙◌}
+use Rattle.std.proofs.Common.{◌∙◌, subst}
 use Rattle.std.proofs.lemmas.Result.{err_from_is_err_and}
-use Rattle.mq_judge.proofs.RunningLaws.{is-named, run-reports, run-stops-writing, run-stopped}
+use Rattle.mq_judge.proofs.RunningLaws.{IsNamed, is-named, run-reports, run-stops-writing, run-stopped}
 use Rattle.mq_judge.proofs.running.run.Goals as goal
 
 pub returns-in_err-feed_all-clause-runs : goal.returns-in_err-feed_all-clause-runs
@@ -15,9 +15,9 @@ pub returns-in_err-write_report-clause-runs : goal.returns-in_err-write_report-c
 returns-in_err-write_report-clause-runs g c =
     let p = err_from_is_err_and c.from_residual-in_err-write_report.result c.from_residual-in_err-write_report.ensures.1 in
     rw (p.1, p.2) (run-stops-writing _ _ _ _ _ _ c.in_ok-feed_all.ensures.all (c.feed_all.ensures.limit ∙ c.new-judge.ensures.limit ∙ c.default.ensures)
-    c.in_ok-verdict.ensures.verdict (sym c.role-role.ensures ∙ c.unwrap.ensures) c.in_err-write_report.ensures.write)
+    c.in_ok-verdict.ensures.verdict (subst (IsNamed _) c.unwrap.ensures c.role-role.ensures) c.in_err-write_report.ensures.write)
 
 pub returns-clause-runs : goal.returns-clause-runs
 returns-clause-runs g c =
     run-reports _ _ _ _ _ _ c.in_ok-feed_all.ensures.all (c.feed_all.ensures.limit ∙ c.new-judge.ensures.limit ∙ c.default.ensures)
-    c.in_ok-verdict.ensures.verdict (sym c.role-role.ensures ∙ c.unwrap.ensures) c.in_ok-write_report.ensures.ok c.outcome.ensures
+    c.in_ok-verdict.ensures.verdict (subst (IsNamed _) c.unwrap.ensures c.role-role.ensures) c.in_ok-write_report.ensures.ok c.outcome.ensures
