@@ -13,6 +13,7 @@ pub mod ReadBackLaws
 pub mod ReadingLaws
 pub mod RunLaws
 pub mod StageLaws
+pub mod SplitLaws
 pub mod StepLaws
 pub mod TellingLaws
 pub mod TracingLaws

@@ -13,6 +13,7 @@ pub mod Rows
 pub mod Runs
 pub mod Settling
 pub mod Stepping
+pub mod Splitting
 pub mod Telling
 pub mod Tracing
 pub mod Writing

@@ -11,6 +11,7 @@ mod place;
 mod reading;
 mod refusal;
 mod sink;
+mod splitting_laws;
 mod stage;
 #[cfg(test)]
 mod tests;

@@ -1,0 +1,7 @@
+-- What stays of a log's events where its records are cut in another way.
+use Rattle.std.specs.Prelude.{ℕ}
+use Rattle.mq_trace.specs.Events.{Event, Placed}
+
+-- an event and its position, without the number of its record
+abbrev pub but_record : Placed → ℕ × Event
+but_record placed = (placed.place.position, placed.event)
