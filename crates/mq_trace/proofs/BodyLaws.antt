@@ -194,13 +194,13 @@ module _ (r : Reading) (way : Way) (left : ℕ) (sound : IsSound r) (staged : r.
       let taken = length-take-le n body within in
       let few : length (take n body) ≤ left = omega arith in
       let steps : Advances r (carried_on r way (r.at + n) d r1.connections (left - length (take n body))) (take n body) (flow_heard (bed_for r way) (flow_for r way) (take n body)) =
-          body_steps (take n body) d r1.connections (r.at + n) few none kept in
+      body_steps (take n body) d r1.connections (r.at + n) few none kept in
       let counted : Advances r (carried_on r way (r.at + n) d r1.connections (left - n)) (take n body) (flow_heard (bed_for r way) (flow_for r way) (take n body)) =
-          subst (λ m. Advances r (carried_on r way (r.at + n) d r1.connections (left - m)) (take n body) (flow_heard (bed_for r way) (flow_for r way) (take n body))) taken steps in
+      subst (λ m. Advances r (carried_on r way (r.at + n) d r1.connections (left - m)) (take n body) (flow_heard (bed_for r way) (flow_for r way) (take n body))) taken steps in
       let ends : r2 ≡ carried_on r way (r.at + n) d r1.connections (left - n) =
-          went
-          ∙ ap (λ m. leaving (record r1 { at = m + n }) way (left - n)) (ap (λ (x : Reading). x.at) passed ∙ place_same r way d)
-          ∙ ap (λ (x : Reading). leaving (record x { at = r.at + n }) way (left - n)) passed in
+      went
+      ∙ ap (λ m. leaving (record r1 { at = m + n }) way (left - n)) (ap (λ (x : Reading). x.at) passed ∙ place_same r way d)
+      ∙ ap (λ (x : Reading). leaving (record x { at = r.at + n }) way (left - n)) passed in
       let front : take n body ≡ take n bytes = sym (take-append-le n body rest within) ∙ ap (take n) (sym is) in
       subst (λ (l : List ℕ). Comes agrees r r2 l old new) front (record {
         heard = flow_heard (bed_for r way) (flow_for r way) (take n body);

@@ -151,6 +151,9 @@ begun_context r r' b kind named begins =
     ∙ ap (λ half. record c { sent = half_in r'.sent; recv = half }) (sym begins.recv)
     ∙ sym (ap (λ (x : Reading). record (context_of x (b ∷ [])) { sent = half_in r'.sent; recv = half_in r'.recv }) begins.is)
 
+pub begins_at : (r r' : Reading) (kind : RecordKind) → Begins r r' kind → r'.at ≡ r.at + 1
+begins_at r r' kind begins = ap (λ (x : Reading). x.at) begins.is
+
 kind_first : (b : ℕ) → kind_of (b ∷ []) ≡ kind_named b
 unfolding kind_of
 kind_first b = refl

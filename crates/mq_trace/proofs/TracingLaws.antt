@@ -39,7 +39,7 @@ pub hears_on : {S : Type 0} (agrees : S → List Placed → Type 0) (r r' : Read
 hears_on agrees r r' log bytes old new keeps comes =
     (let step = comes.advances.each keeps.part keeps.stands in
     let longer : events (log ++ bytes) ≡ comes.heard ++ events log
-        = events_run log bytes ∙ ap (λ (l : List Placed). l ++ events log) (ap (λ (c : Context). heard_in c bytes) keeps.kept ∙ step.4) in
+    = events_run log bytes ∙ ap (λ (l : List Placed). l ++ events log) (ap (λ (c : Context). heard_in c bytes) keeps.kept ∙ step.4) in
     let next = keeps_on agrees r r' log bytes old new keeps comes in
     λ was. subst (agrees new) (sym longer) (comes.told (events log) was (record { limit = r'.limit; log = log ++ bytes; unrefused = next.unrefused; are = sym longer })))
 
@@ -71,15 +71,15 @@ module _ {S : Type 0} (agrees : S → List Placed → Type 0) (refuses : S → R
     refused_here : (refusal : Refusal) → refused_in r.limit (context_of r keeps.part) (taken ++ byte ∷ []) ≡ Some refusal → refusal_at r.limit (log ++ taken) byte ≡ Some refusal
     refused_here refusal met =
         (let all : refused r.limit ((log ++ taken) ++ byte ∷ []) ≡ Some refusal
-            = ap (refused r.limit) (append_assoc log taken (byte ∷ []))
-              ∙ stops r.limit log (taken ++ byte ∷ []) refusal keeps.unrefused (ap (λ (c : Context). refused_in r.limit c (taken ++ byte ∷ [])) keeps.kept ∙ met) in
+        = ap (refused r.limit) (append_assoc log taken (byte ∷ []))
+        ∙ stops r.limit log (taken ++ byte ∷ []) refusal keeps.unrefused (ap (λ (c : Context). refused_in r.limit c (taken ++ byte ∷ [])) keeps.kept ∙ met) in
         ap (λ (o : Option Refusal). or_else o (refusal_at r.limit (log ++ taken) byte)) (sym taken_in) ∙ sym (refused-grow r.limit (log ++ taken) byte) ∙ all)
 
     completed : length (heard_in (context_of r keeps.part) (taken ++ byte ∷ [])) ≡ 1 → is_some (event_at (log ++ taken) byte) ≡ true
     completed one =
         (let c = context_of r keeps.part in
         let split : heard_in c (taken ++ byte ∷ []) ≡ put (placed_for (behind c taken) byte) []
-            = heard_append c taken (byte ∷ []) ∙ ap (λ (l : List Placed). (put (placed_for (behind c taken) byte) []) ++ l) unheard ∙ append-nil (put (placed_for (behind c taken) byte) []) in
+        = heard_append c taken (byte ∷ []) ∙ ap (λ (l : List Placed). (put (placed_for (behind c taken) byte) []) ++ l) unheard ∙ append-nil (put (placed_for (behind c taken) byte) []) in
         let event : is_some (event_for (behind c taken) byte) ≡ true = some_event (behind c taken) byte (sym (ap length split) ∙ one) in
         ap is_some (event-kept (log ++ taken) byte ∙ ap (λ (k : Context). event_for k byte) (context_run log taken ∙ ap (λ (k : Context). behind k taken) keeps.kept)) ∙ event)
 
@@ -124,10 +124,11 @@ goes_on agrees first now next piece rest n old mid new goes comes = record {
   is = goes.is ∙ ap (λ (l : List ℕ). goes.done ++ l) (sym (take-append-drop n rest)) ∙ sym (append_assoc goes.done (take n rest) (drop n rest));
   limit = comes.advances.limit ∙ goes.limit;
   each = λ log keeps. (
-    let before = goes.each log keeps in
-    let assoc : (log ++ goes.done) ++ take n rest ≡ log ++ (goes.done ++ take n rest) = append_assoc log goes.done (take n rest) in
-    (subst (Keeps next) assoc (keeps_on agrees now next (log ++ goes.done) (take n rest) mid new before.0 comes),
-    λ was. subst (λ (l : List ℕ). agrees new (events l)) assoc (hears_on agrees now next (log ++ goes.done) (take n rest) mid new before.0 comes (before.1 was))));
+      let before = goes.each log keeps in
+      let assoc : (log ++ goes.done) ++ take n rest ≡ log ++ (goes.done ++ take n rest) = append_assoc log goes.done (take n rest) in (
+        subst (Keeps next) assoc (keeps_on agrees now next (log ++ goes.done) (take n rest) mid new before.0 comes),
+        λ was. subst (λ (l : List ℕ). agrees new (events l)) assoc (hears_on agrees now next (log ++ goes.done) (take n rest) mid new before.0 comes (before.1 was)),
+      ));
 }
 
 -- At its end the loop has taken in the whole piece.

@@ -4,10 +4,12 @@ use Rattle.mq_trace.proofs.TracingLaws.{Goes, begins, goes_on, ends_kept, stops_
 use Rattle.mq_trace.proofs.tracer.take_in.Goals as goal
 
 pub loop-rest-preserved : goal.loop-rest-preserved
-loop-rest-preserved g c =
-    (subst (λ (l : List ℕ). Goes {S = g.row.S.Denot} g.S.Sink.agrees c.args.reading.now c.take.new.self c.args.piece.now l c.args.sink.now c.take.new.sink) (sym (rest_same c.in-Ok.count c.loop-rest.rest.now))
-    (goes_on g.S.Sink.agrees c.args.reading.now c.loop-rest.reading c.take.new.self c.args.piece.now c.loop-rest.rest.now c.in-Ok.count c.args.sink.now c.loop-rest.sink c.take.new.sink
-    c.loop-rest.invariant.0 c.in-Ok.ensures.comes), c.in-Ok.ensures.sound)
+loop-rest-preserved g c = (
+  subst (λ (l : List ℕ). Goes {S = g.row.S.Denot} g.S.Sink.agrees c.args.reading.now c.take.new.self c.args.piece.now l c.args.sink.now c.take.new.sink) (sym (rest_same c.in-Ok.count c.loop-rest.rest.now))
+      (goes_on g.S.Sink.agrees c.args.reading.now c.loop-rest.reading c.take.new.self c.args.piece.now c.loop-rest.rest.now c.in-Ok.count c.args.sink.now c.loop-rest.sink c.take.new.sink
+      c.loop-rest.invariant.0 c.in-Ok.ensures.comes),
+  c.in-Ok.ensures.sound,
+)
 
 pub returns-in-Err-clause-stops : goal.returns-in-Err-clause-stops
 returns-in-Err-clause-stops g c = λ log keeps.

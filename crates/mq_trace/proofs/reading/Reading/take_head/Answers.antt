@@ -4,7 +4,7 @@ use Rattle.mq_trace.specs.declared.reading.Reading.{Reading}
 use Rattle.mq_trace.specs.Framing.{kind_named}
 use Rattle.mq_trace.specs.Keeping.{begun_in, Advances, IsSound}
 use Rattle.mq_trace.proofs.ReadingLaws.{comes_quietly, comes_after, stops_after, first_of, five_of, comes_front, stops_front}
-use Rattle.mq_trace.proofs.StageLaws.{first_advances, first_sound, first_refused, stops_refused}
+use Rattle.mq_trace.proofs.StageLaws.{begins_at, first_advances, first_sound, first_refused, stops_refused}
 use Rattle.mq_trace.proofs.reading.Reading.take_head.Goals as goal
 
 pub returns-then-bytes-lt-HEAD_LENGTH-clause-sound : goal.returns-then-bytes-lt-HEAD_LENGTH-clause-sound
@@ -44,9 +44,8 @@ returns-in-Err-take_length-clause-stops g c =
     let bytes = c.args.bytes.now in
     let more = slice_index bytes 1 ∷ slice_index bytes 2 ∷ slice_index bytes 3 ∷ slice_index bytes 4 ∷ [] in
     let quiet = first_advances r c.begin_record.new.self (slice_index bytes 0) c.in-Ok.kind c.requires.behind c.requires.between s.named s.met s.begins in
-    let moved : c.begin_record.new.self.at ≡ r.at + length (slice_index bytes 0 ∷ []) = ap (λ (x : Reading). x.at) s.begins.is in
     stops_front g.S.Sink.refuses r (slice_index bytes 0 ∷ more) bytes 5 c.args.sink.now c.take_length.new.sink _ (five_of bytes (omega arith))
-    (stops_after g.S.Sink.refuses r c.begin_record.new.self (slice_index bytes 0 ∷ []) more c.args.sink.now c.take_length.new.sink _ quiet moved c.in-Err-take_length.ensures.stops)
+    (stops_after g.S.Sink.refuses r c.begin_record.new.self (slice_index bytes 0 ∷ []) more c.args.sink.now c.take_length.new.sink _ quiet (begins_at r c.begin_record.new.self c.in-Ok.kind s.begins) c.in-Err-take_length.ensures.stops)
 
 pub returns-in-Err-clause-stops : goal.returns-in-Err-clause-stops
 returns-in-Err-clause-stops g c =
