@@ -1,12 +1,10 @@
 -- The body of a record that carries packets.
-use Rattle.std.proofs.Common.{◌≡◌, ℕ, ◌+◌, ◌-◌, ◌*◌, ◌<◌, ◌≤◌, Bool, true, false, cond, List, [], ◌∷◌, ◌++◌, length, take, Option, Some, None, refl, sym, ◌∙◌, ap, subst, inl, inr, arith, length-append}
-use Rattle.std.specs.Prelude.{◌==◌, ◌⊎◌, if◌then◌else◌}
+use Rattle.std.proofs.Common.{◌≡◌, ℕ, ◌+◌, ◌-◌, ◌*◌, ◌<◌, ◌≤◌, Bool, true, false, cond, List, [], ◌∷◌, ◌++◌, length, take, Option, Some, None, refl, sym, ◌∙◌, ap, subst, arith, length-append}
+use Rattle.std.specs.Prelude.{◌==◌, if◌then◌else◌}
 use Rattle.std.proofs.lemmas.Bool.{eqb-true, eqb-false, eq-eqb, ne_eqb}
 use Rattle.std.proofs.lemmas.List.{take-append-le, length-take-le}
-use Rattle.mq_trace.specs.declared.kind.RecordKind.{RecordKind}
 use Rattle.mq_trace.specs.declared.kind.Way.{Way}
 use Rattle.mq_trace.specs.declared.kind.Way.TheVariants as ways
-use Rattle.mq_trace.specs.declared.stage.Stage.{Stage}
 use Rattle.mq_trace.specs.declared.stage.Stage.TheVariants as stages
 use Rattle.mq_trace.specs.declared.refusal.Refusal.{Refusal}
 use Rattle.mq_trace.specs.declared.connections.Connections.{Connections}
@@ -14,9 +12,8 @@ use Rattle.mq_trace.specs.declared.direction.Direction.{Direction}
 use Rattle.mq_trace.specs.declared.reading.Reading.{Reading}
 use Rattle.mq_trace.specs.Framing.{kind_of, way_of, body_length}
 use Rattle.mq_trace.specs.Events.{Event, Placed}
-use Rattle.mq_trace.specs.Context.{Half, Context, half_for}
 use Rattle.mq_trace.specs.Runs.{behind, refused_in, heard_in}
-use Rattle.mq_trace.specs.Flows.{Bed, Flow, flow_event, flow_with, flow_after, flow_behind, flow_refused, flow_heard, bed_in, flow_in, half_behind, flowed}
+use Rattle.mq_trace.specs.Flows.{Bed, Flow, flow_event, flow_with, flow_after, flow_behind, flow_refused, flow_heard, bed_in, flow_in, flowed}
 use Rattle.mq_trace.specs.Hearing.{AreEvents}
 use Rattle.mq_trace.specs.Directing.{flow_of, FlowWhy, FlowStops}
 use Rattle.mq_trace.specs.Keeping.{half_in, IsAt, context_of, begun_in, IsWithin, IsUnfinished, IsSound, Advances, Comes, StepStops}

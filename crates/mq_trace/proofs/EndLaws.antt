@@ -1,29 +1,26 @@
 -- The end of a record's head, and the body of a RELEASE.
-use Rattle.std.proofs.Common.{◌≡◌, ℕ, ◌+◌, ◌-◌, ◌*◌, ◌<◌, ◌≤◌, Bool, true, false, cond, nat_lt, List, [], ◌∷◌, ◌++◌, length, Option, Some, None, refl, sym, ◌∙◌, ap, subst, inl, inr, arith, length-append}
-use Rattle.std.specs.Prelude.{◌==◌, ◌⊎◌, if◌then◌else◌, nat_le, ◌&&◌, not, slice_index, is_some}
+use Rattle.std.proofs.Common.{◌≡◌, ℕ, ◌+◌, ◌-◌, ◌*◌, ◌<◌, ◌≤◌, Bool, true, false, cond, List, [], ◌∷◌, ◌++◌, length, Option, Some, None, refl, sym, ◌∙◌, ap, subst, arith, length-append}
+use Rattle.std.specs.Prelude.{◌==◌, if◌then◌else◌, nat_le, ◌&&◌, not, slice_index, is_some}
 use Rattle.std.specs.Int.{w16, w32, from_be_bytes}
-use Rattle.std.proofs.lemmas.Bool.{eqb-true, eqb-false, leb-true, eq-eqb}
-use Rattle.std.proofs.lemmas.List.{get_or-append_right}
+use Rattle.std.proofs.lemmas.Bool.{eqb-true, eqb-false}
 use Rattle.mq_trace.specs.declared.kind.RecordKind.{RecordKind}
 use Rattle.mq_trace.specs.declared.kind.RecordKind.TheVariants as kinds
 use Rattle.mq_trace.specs.declared.kind.Way.{Way}
-use Rattle.mq_trace.specs.declared.kind.Way.TheVariants as ways
-use Rattle.mq_trace.specs.declared.stage.Stage.{Stage}
 use Rattle.mq_trace.specs.declared.stage.Stage.TheVariants as stages
 use Rattle.mq_trace.specs.declared.refusal.Refusal.{Refusal}
 use Rattle.mq_trace.specs.declared.refusal.Refusal.TheVariants as refusals
 use Rattle.mq_trace.specs.declared.connections.Connections.{Connections}
 use Rattle.mq_trace.specs.declared.reading.Reading.{Reading}
-use Rattle.mq_trace.specs.Framing.{kind_of, way_of, opens, body_length}
-use Rattle.mq_trace.specs.Events.{Event, Placed, opened, closed, rested, released, event_of_head}
+use Rattle.mq_trace.specs.Framing.{kind_of, way_of, body_length}
+use Rattle.mq_trace.specs.Events.{Event, opened, closed, rested, released, event_of_head}
 use Rattle.mq_trace.specs.Refusals.{first_standing, allows}
 use Rattle.mq_trace.specs.Context.{Context, refusal_for, event_for, placed_for, put, after, with_heard}
-use Rattle.mq_trace.specs.Telling.{met_by, connections_with, next_placed}
-use Rattle.mq_trace.specs.Keeping.{half_in, spelled_from, IsAt, context_of, begun_in, IsWithin, IsUnfinished, IsSound, Advances}
+use Rattle.mq_trace.specs.Telling.{met_by, next_placed}
+use Rattle.mq_trace.specs.Keeping.{half_in, spelled_from, IsAt, context_of, begun_in, IsUnfinished, IsSound, Advances}
 use Rattle.mq_trace.specs.Stepping.{marked, leaving}
 use Rattle.mq_trace.proofs.StepLaws.{placed_none, placed_some, fifth_length, fifth_event, fifth_refusal, fifth_after, release_high_refusal, release_high_event, release_high_after, release_low_refusal, release_low_event, release_low_after}
 use Rattle.mq_trace.proofs.FramingLaws.{body_length-append, kind_of-append}
-use Rattle.mq_trace.proofs.StageLaws.{one_step, begun_some, head_behind, head_room, head_bounds, head_is, head_long, head_opens, head_longer}
+use Rattle.mq_trace.proofs.StageLaws.{one_step, begun_some, head_behind, head_room, head_is, head_long, head_opens}
 
 -- What a step that completes an event does with each part: what it meets, what is heard, and what is kept.
 abbrev pub Tells : Reading → ℕ → Event → Type 0

@@ -1,31 +1,16 @@
 -- What a step of a log's reader does: its states, one after the other.
-use Rattle.std.proofs.Common.{◌≡◌, ℕ, ◌+◌, ◌*◌, ◌<◌, ◌≤◌, Bool, true, false, cond, List, [], ◌∷◌, ◌++◌, length, Option, Some, None, refl, sym, ◌∙◌, ap, subst, arith, take, drop, append_assoc, length-append}
-use Rattle.std.specs.Prelude.{◌⊎◌, slice_index}
-use Rattle.std.specs.Int.{w16, w32, from_be_bytes}
+use Rattle.std.proofs.Common.{◌≡◌, ℕ, ◌+◌, ◌≤◌, List, [], ◌∷◌, ◌++◌, length, Option, refl, sym, ◌∙◌, ap, subst, arith, take, drop, append_assoc, length-append}
+use Rattle.std.specs.Prelude.{slice_index}
 use Rattle.std.proofs.lemmas.List.{append-nil, take-append-drop}
-use Rattle.mq_trace.specs.declared.kind.RecordKind.{RecordKind}
-use Rattle.mq_trace.specs.declared.kind.RecordKind.TheVariants as kinds
-use Rattle.mq_trace.specs.declared.kind.Way.{Way}
-use Rattle.mq_trace.specs.declared.kind.Way.TheVariants as ways
-use Rattle.mq_trace.specs.declared.stage.Stage.{Stage}
-use Rattle.mq_trace.specs.declared.stage.Stage.TheVariants as stages
 use Rattle.mq_trace.specs.declared.refusal.Refusal.{Refusal}
-use Rattle.mq_trace.specs.declared.refusal.Refusal.TheVariants as refusals
 use Rattle.mq_trace.specs.declared.reading.Reading.{Reading}
-use Rattle.mq_trace.specs.declared.header.Header.{Header}
-use Rattle.mq_trace.specs.declared.connections.Connections.{Connections}
-use Rattle.mq_trace.specs.Framing.{kind_named, kind_of, way_of, opens, body_length}
-use Rattle.mq_trace.specs.Events.{Event, Placed, opened, closed, rested, released, event_of_head}
-use Rattle.mq_trace.specs.Refusals.{or_else, header_refusal, first_standing, allows}
-use Rattle.mq_trace.specs.Context.{Half, Context, emptied, refusal_for, event_for, placed_for, placed_with, put, after, after_header, with_heard}
+use Rattle.mq_trace.specs.Events.{Placed}
+use Rattle.mq_trace.specs.Refusals.{or_else}
 use Rattle.mq_trace.specs.Runs.{behind, refused_in, heard_in}
 use Rattle.mq_trace.specs.Hearing.{AreEvents}
-use Rattle.mq_trace.specs.Telling.{met_by, connections_with, next_placed, Untold, RefusedBySink}
 use Rattle.mq_trace.specs.Directing.{FlowWhy}
-use Rattle.mq_trace.specs.Keeping.{half_in, spelled_from, IsAt, context_of, begun_in, IsWithin, IsShort, IsUnfinished, IsSound, Advances, Comes, StepStops}
+use Rattle.mq_trace.specs.Keeping.{context_of, Advances, Comes, StepStops}
 use Rattle.mq_trace.proofs.RunLaws.{behind_append, refused_append, heard_append}
-use Rattle.mq_trace.proofs.StepLaws.{header_refused, header_after, header_placed, first_refusal, first_event, first_after, middle_refusal, middle_event, middle_after, middle_behind, middle_refused, middle_heard, placed_none, placed_some, fifth_length, fifth_event, fifth_refusal, fifth_after, release_high_refusal, release_high_event, release_high_after, release_low_refusal, release_low_event, release_low_after}
-use Rattle.mq_trace.proofs.FramingLaws.{body_length-append, kind_of-append}
 
 -- One step after another.
 pub advanced : (r r1 r2 : Reading) (a b : List ℕ) (h k : List Placed) → Advances r r1 a h → Advances r1 r2 b k → Advances r r2 (a ++ b) (k ++ h)

@@ -1,30 +1,25 @@
 -- The states of a log's reader, from one byte to the next.
-use Rattle.std.proofs.Common.{◌≡◌, ℕ, ◌+◌, ◌-◌, ◌*◌, ◌<◌, ◌≤◌, Bool, true, false, cond, nat_lt, List, [], ◌∷◌, ◌++◌, length, Option, Some, None, refl, sym, ◌∙◌, ap, subst, inl, inr, arith, zero, suc, append_assoc, length-append}
-use Rattle.std.specs.Prelude.{◌==◌, ◌⊎◌, if◌then◌else◌, nat_le, ◌&&◌, not, slice_index, is_some, is_none}
-use Rattle.std.specs.Int.{w16, w32, from_be_bytes}
-use Rattle.std.proofs.lemmas.Bool.{eqb-true, eqb-false, leb-true, leb-false}
+use Rattle.std.proofs.Common.{◌≡◌, ℕ, ◌+◌, ◌*◌, ◌<◌, ◌≤◌, Bool, true, false, cond, nat_lt, List, [], ◌∷◌, ◌++◌, length, Option, Some, None, refl, sym, ◌∙◌, ap, subst, inl, inr, arith, zero, suc, length-append}
+use Rattle.std.specs.Prelude.{◌&&◌, not, is_none}
+use Rattle.std.specs.Int.{w32, from_be_bytes}
 use Rattle.mq_packet.specs.Stream.{fixed_header_of}
 use Rattle.mq_trace.specs.declared.kind.RecordKind.{RecordKind}
 use Rattle.mq_trace.specs.declared.kind.RecordKind.TheVariants as kinds
-use Rattle.mq_trace.specs.declared.kind.Way.{Way}
-use Rattle.mq_trace.specs.declared.kind.Way.TheVariants as ways
-use Rattle.mq_trace.specs.declared.stage.Stage.{Stage}
 use Rattle.mq_trace.specs.declared.stage.Stage.TheVariants as stages
 use Rattle.mq_trace.specs.declared.refusal.Refusal.{Refusal}
 use Rattle.mq_trace.specs.declared.refusal.Refusal.TheVariants as refusals
-use Rattle.mq_trace.specs.declared.connections.Connections.{Connections}
 use Rattle.mq_trace.specs.declared.reading.Reading.{Reading}
-use Rattle.mq_trace.specs.Framing.{kind_named, kind_of, way_of, opens, body_length}
-use Rattle.mq_trace.specs.Events.{Event, Placed, opened, closed, rested, released, event_of_head}
-use Rattle.mq_trace.specs.Refusals.{or_else, header_refusal, first_standing, allows, is_open_kind, needs_connection, is_release_kind}
-use Rattle.mq_trace.specs.Context.{Half, Context, emptied, refusal_for, event_for, placed_for, placed_with, put, after, after_header, with_heard}
+use Rattle.mq_trace.specs.Framing.{kind_named, kind_of, opens}
+use Rattle.mq_trace.specs.Events.{Placed}
+use Rattle.mq_trace.specs.Refusals.{or_else, header_refusal, first_standing, is_open_kind, needs_connection, is_release_kind}
+use Rattle.mq_trace.specs.Context.{Half, Context, emptied, refusal_for, placed_for, put, after}
 use Rattle.mq_trace.specs.Runs.{behind, refused_in, heard_in}
-use Rattle.mq_trace.specs.Telling.{met_by, connections_with, next_placed, Untold, RefusedBySink}
+use Rattle.mq_trace.specs.Telling.{Untold, RefusedBySink}
 use Rattle.mq_trace.specs.Directing.{FlowWhy}
-use Rattle.mq_trace.specs.Keeping.{half_in, spelled_from, IsAt, context_of, begun_in, IsWithin, IsShort, IsUnfinished, IsSound, Advances, StepStops}
-use Rattle.mq_trace.specs.Stepping.{behind_header, met_by_kind, refused_first, Begins, in_head, marked, leaving}
-use Rattle.mq_trace.proofs.StepLaws.{header_refused, header_after, header_placed, first_refusal, first_event, first_after, middle_refusal, middle_event, middle_after, placed_none, placed_some, fifth_length, fifth_event, fifth_refusal, fifth_after, release_high_refusal, release_high_event, release_high_after, release_low_refusal, release_low_event, release_low_after}
-use Rattle.mq_trace.proofs.FramingLaws.{body_length-append, kind_of-append}
+use Rattle.mq_trace.specs.Keeping.{half_in, spelled_from, IsAt, context_of, begun_in, IsWithin, IsUnfinished, IsSound, Advances, StepStops}
+use Rattle.mq_trace.specs.Stepping.{behind_header, met_by_kind, refused_first, Begins, in_head}
+use Rattle.mq_trace.proofs.StepLaws.{header_refused, header_after, header_placed, first_refusal, first_event, first_after, middle_refusal, middle_event, middle_after, placed_none}
+use Rattle.mq_trace.proofs.FramingLaws.{kind_of-append}
 use Rattle.mq_trace.proofs.ReadingLaws.{advanced}
 
 -- One byte's step.

@@ -1,11 +1,11 @@
 -- A step that tells a sink of an event, by what came of telling it.
-use Rattle.std.proofs.Common.{◌≡◌, ℕ, ◌+◌, List, [], ◌∷◌, ◌++◌, length, Option, Some, None, Result, Ok, Err, OnOk, IfErr, sym, subst}
+use Rattle.std.proofs.Common.{◌≡◌, ℕ, ◌+◌, List, [], ◌∷◌, ◌++◌, length, None, Result, Ok, Err, OnOk, IfErr, sym, subst}
 use Rattle.mq_trace.specs.declared.refusal.Refusal.{Refusal}
 use Rattle.mq_trace.specs.declared.reading.Reading.{Reading}
 use Rattle.mq_trace.specs.Events.{Event, Placed}
 use Rattle.mq_trace.specs.Hearing.{AreEvents}
 use Rattle.mq_trace.specs.Telling.{met_by, next_placed, Untold}
-use Rattle.mq_trace.specs.Keeping.{IsAt, context_of, Advances, Comes, StepStops}
+use Rattle.mq_trace.specs.Keeping.{Advances, Comes, StepStops}
 use Rattle.mq_trace.specs.Stepping.{marked}
 use Rattle.mq_trace.proofs.ReadingLaws.{comes_telling, comes_after, stops_after}
 use Rattle.mq_trace.proofs.StageLaws.{stops_untold}

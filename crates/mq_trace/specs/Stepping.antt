@@ -1,5 +1,5 @@
 -- The steps of a log's reader: its state behind the bytes of one.
-use Rattle.std.specs.Prelude.{◌≡◌, ℕ, ◌+◌, ◌==◌, nat_lt, Bool, ◌&&◌, not, cond, if◌then◌else◌, List, [], ◌∷◌, Option, Some, None, Result, Ok, Err}
+use Rattle.std.specs.Prelude.{◌≡◌, ℕ, ◌+◌, ◌==◌, nat_lt, ◌&&◌, not, cond, if◌then◌else◌, [], ◌∷◌, Option, Some, None, Result, Ok, Err}
 use Rattle.mq_trace.specs.declared.kind.RecordKind.{RecordKind}
 use Rattle.mq_trace.specs.declared.kind.Way.{Way}
 use Rattle.mq_trace.specs.declared.refusal.Refusal.{Refusal}
@@ -9,7 +9,7 @@ use Rattle.mq_trace.specs.declared.reading.Reading.{Reading}
 use Rattle.mq_trace.specs.Framing.{opens}
 use Rattle.mq_trace.specs.Events.{Event}
 use Rattle.mq_trace.specs.Refusals.{first_standing, is_open_kind, needs_connection, is_release_kind}
-use Rattle.mq_trace.specs.Context.{Half, emptied}
+use Rattle.mq_trace.specs.Context.{emptied}
 use Rattle.mq_trace.specs.declared.connections.Connections.{Connections}
 use Rattle.mq_trace.specs.declared.direction.Direction.{Direction}
 use Rattle.mq_trace.specs.declared.kind.Way.TheVariants as ways

@@ -1,12 +1,11 @@
 //! Reads a log: its header, its records, and what they carry.
 
 ghost use Rattle.std.specs.Prelude.{◌≡◌, ◌+◌, ◌^◌, ◌<◌, ◌≤◌, ◌∷◌, ◌++◌, [], List, true, false, cond, Some, None, OnOk, IfOk, IfErr, length, take};
-ghost use Rattle.mq_trace.specs.Keeping.{context_of, IsSound, Comes, StepStops};
+ghost use Rattle.mq_trace.specs.Keeping.{half_in, context_of, IsUnfinished, IsSound, Comes, StepStops};
 ghost use Rattle.mq_trace.specs.Refusals.{header_refusal};
 ghost use Rattle.std.specs.Int.{w16, w32, from_be_bytes};
 ghost use Rattle.mq_trace.specs.declared.stage.Stage.TheVariants as stages;
 ghost use Rattle.mq_trace.specs.Framing.{kind_named, opens};
-ghost use Rattle.mq_trace.specs.Keeping.{half_in, IsUnfinished};
 ghost use Rattle.mq_trace.specs.Events.{Placed};
 ghost use Rattle.mq_trace.specs.Hearing.{AreEvents, event_of};
 ghost use Rattle.mq_trace.specs.Telling.{met_by, next_placed, Untold};

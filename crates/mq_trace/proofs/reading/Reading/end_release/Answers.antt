@@ -1,6 +1,6 @@
-use Rattle.std.proofs.Common.{rules, arith, ◌≡◌, ◌∷◌, [], ap, sym, subst}
+use Rattle.std.proofs.Common.{arith, ◌≡◌, ◌∷◌, [], subst}
 use Rattle.std.specs.Int.{w16, from_be_bytes}
-use Rattle.mq_trace.specs.Events.{Event, released}
+use Rattle.mq_trace.specs.Events.{released}
 use Rattle.mq_trace.proofs.EndLaws.{Tells, release_tells}
 use Rattle.mq_trace.proofs.TellingLaws.{told_comes, told_stops}
 use Rattle.mq_trace.proofs.reading.Reading.end_release.Goals as goal

@@ -1,4 +1,4 @@
-use Rattle.std.proofs.Common.{arith, ◌≡◌, ◌+◌, ◌*◌, ◌<◌, ◌≤◌, ◌∷◌, [], sym, subst}
+use Rattle.std.proofs.Common.{arith, ◌+◌, ◌*◌, ◌<◌, ◌≤◌, ◌∷◌, [], sym, subst}
 use Rattle.mq_trace.specs.Keeping.{Advances}
 use Rattle.mq_trace.specs.Stepping.{in_head}
 use Rattle.mq_trace.proofs.ReadingLaws.{comes_quietly}

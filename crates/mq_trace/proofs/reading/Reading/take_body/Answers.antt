@@ -1,4 +1,4 @@
-use Rattle.std.proofs.Common.{arith, rules, ◌≡◌, ℕ, ◌+◌, ◌-◌, ◌<◌, ◌≤◌, ◌++◌, List, [], length, min, take, drop, sym, subst}
+use Rattle.std.proofs.Common.{arith, ◌≡◌, ℕ, ◌≤◌, List, length, min, take, drop, sym, subst}
 use Rattle.std.proofs.lemmas.List.{take-append-drop, length-take}
 use Rattle.mq_trace.specs.Keeping.{StepStops}
 use Rattle.mq_trace.proofs.ReadingLaws.{stops_longer}

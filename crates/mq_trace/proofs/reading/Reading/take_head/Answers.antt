@@ -1,8 +1,6 @@
-use Rattle.std.proofs.Common.{arith, rules, ◌≡◌, ℕ, ◌+◌, ◌<◌, ◌≤◌, ◌∷◌, [], length, slice_index_or, ap, sym, subst, refl, ◌∙◌}
+use Rattle.std.proofs.Common.{arith, ◌∷◌, [], refl}
 use Rattle.std.specs.Prelude.{slice_index}
-use Rattle.mq_trace.specs.declared.reading.Reading.{Reading}
 use Rattle.mq_trace.specs.Framing.{kind_named}
-use Rattle.mq_trace.specs.Keeping.{begun_in, Advances, IsSound}
 use Rattle.mq_trace.proofs.ReadingLaws.{comes_quietly, comes_after, stops_after, first_of, five_of, comes_front, stops_front}
 use Rattle.mq_trace.proofs.StageLaws.{begins_at, first_advances, first_sound, first_refused, stops_refused}
 use Rattle.mq_trace.proofs.reading.Reading.take_head.Goals as goal
