@@ -500,9 +500,11 @@ impl Lines {
 }
 
 impl Sink for Lines {
-    ghost agrees = { λ _ _. 0 ≡ 0 };
+    ghost use Rattle.std.specs.Prelude.{⊤};
 
-    ghost refuses = { λ _ _. 0 ≡ 0 };
+    ghost agrees = { λ _ _. ⊤ };
+
+    ghost refuses = { λ _ _. ⊤ };
 
     fn event(&mut self, place: Place3, event: Event<'_>) -> Result<(), Refusal> {
         self.heard = self.heard.saturating_add(1);
@@ -568,12 +570,9 @@ fn trace(
     size: usize,
     lines: &mut Lines,
 ) -> Result<(), Refusal> {
-    let mut rest = log;
-    while !rest.is_empty() {
-        let count = rest.len().min(size).max(1);
-        tracer.feed(&rest[..count], lines)?;
+    for piece in log.chunks(size.max(1)) {
+        tracer.feed(piece, lines)?;
         assert!(rt; tracer.pending() as u64 <= 2 * u64::from(limit));
-        rest = &rest[count..];
     }
     tracer.finish()
 }
