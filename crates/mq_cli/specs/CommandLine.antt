@@ -7,13 +7,17 @@ use Rattle.clap.specs.Simple.{on_top}
 use Rattle.clap.specs.declared.error.kind.ErrorKind.{ErrorKind}
 use Rattle.clap.specs.declared.error.kind.ErrorKind.TheVariants.{DisplayHelp, DisplayVersion}
 use Rattle.mq_cli.specs.declared.command_line.Task.{Task}
-use Rattle.mq_cli.specs.declared.command_line.Task.TheVariants.{Check, Packet}
+use Rattle.mq_cli.specs.declared.command_line.Task.TheVariants.{Check, Show, Packet}
 use Rattle.mq_cli.specs.declared.command_line.Stop.{Stop}
 use Rattle.mq_cli.specs.declared.command_line.Stop.TheVariants.{Help, Usage, Memory}
 
 -- `check [FILE]`
 abbrev pub check_command : App
 check_command = with_rule (new_app (codes "check")) (new_rule (codes "FILE"))
+
+-- `show [FILE]`
+abbrev pub show_command : App
+show_command = with_rule (new_app (codes "show")) (new_rule (codes "FILE"))
 
 -- `packet HEX`
 abbrev pub packet_command : App
@@ -23,8 +27,10 @@ packet_command = with_rule (new_app (codes "packet")) (record (new_rule (codes "
 abbrev pub mqjudge : App
 mqjudge = with_subcommand
     (with_subcommand
+    (with_subcommand
     (on_top (λ s. record s { has_version = true; subcommand_required = true }) (new_app (codes "mqjudge")))
     check_command.top)
+    show_command.top)
     packet_command.top
 
 -- what a command line asks for: a subcommand, its operand and its flag
@@ -36,6 +42,10 @@ pub record Request : Type 0 where
 -- `check` on this file, with a report as text
 abbrev pub check_request : Option Text → Request
 check_request file = record { subcommand = codes "check"; operand = file; json = false }
+
+-- `show` of this file
+abbrev pub show_request : Option Text → Request
+show_request file = record { subcommand = codes "show"; operand = file; json = false }
 
 -- `packet` on these digits; the operand may not be left out
 abbrev pub packet_request : Option Text → Request
@@ -58,6 +68,7 @@ faults_of words = fault_of mqjudge words
 abbrev pub request_by : Task → Request
 request_by (Check file json) =
     record { subcommand = codes "check"; operand = option_map string_bytes file; json = json }
+request_by (Show file) = show_request (option_map string_bytes file)
 request_by (Packet hex) = packet_request (Some (string_bytes hex))
 
 -- the kind asks for a text to be shown: help, or the version

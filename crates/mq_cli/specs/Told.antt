@@ -11,7 +11,7 @@ use Rattle.mq_judge.specs.Report.{refused_line, report}
 use Rattle.mq_judge.specs.Running.{IsJudged, default_limit}
 use Rattle.mq_judge.specs.Seeing.{seen_in, tested_by}
 use Rattle.mq_cli.specs.declared.command_line.Task.{Task}
-use Rattle.mq_cli.specs.declared.command_line.Task.TheVariants.{Check, Packet}
+use Rattle.mq_cli.specs.declared.command_line.Task.TheVariants.{Check, Show, Packet}
 use Rattle.mq_cli.specs.declared.command_line.Stop.{Stop}
 use Rattle.mq_cli.specs.declared.command_line.Stop.TheVariants.{Help, Usage, Memory}
 use Rattle.mq_cli.specs.declared.failure.Failure.{Failure}
@@ -30,6 +30,10 @@ IsToldOn (Usage text) old new = Appends old new (string_bytes text)
 IsToldOn Memory old new = ⊥
 
 -- ---- the log
+
+-- what was written, where that is known, ends in this line
+abbrev pub EndsIn : Option (List ℕ) → List ℕ → Type 0
+EndsIn new written = (before : Option (List ℕ)) × Appends before new written
 
 -- the refusal of the log: the first condition that stands in it, or that it is cut short
 abbrev pub IsRefusedBy : List ℕ → Refusal → Type 0
@@ -72,28 +76,33 @@ not_hex_line = codes "mqjudge: not hex" ++ 10 ∷ []
 
 -- ---- what a status tells of a task, whose input has these bytes left, where that is known
 
--- 0: the log is judged and has no fault; the bytes are one packet
+-- 0: the log is judged and has no fault; the log that is shown can be judged; the bytes are one packet
 abbrev pub HasPassed : Task → Option (List ℕ) → Type 0
 HasPassed (Check file json) input = IfSome input (λ log. IsJudged log × IsFaultless log)
+HasPassed (Show file) input = IfSome input IsJudged
 HasPassed (Packet hex) input = SpellsPacket (string_bytes hex)
 
 -- 1: the log is judged and has faults; the bytes are no packet, or not one alone
 abbrev pub HasFailed : Task → Option (List ℕ) → Type 0
 HasFailed (Check file json) input = IfSome input (λ log. IsJudged log × (¬ IsFaultless log))
+HasFailed (Show file) input = ⊥
 HasFailed (Packet hex) input = SpellsNoPacket (string_bytes hex)
 
--- 0 and 1: the report was written, or the line on the packet, and nothing else
+-- 0 and 1: the report was written, or the line on the packet, and nothing else; of the lines on a log's events this says nothing
 abbrev pub IsReportedOn : Task → Option (List ℕ) → Option (List ℕ) → Option (List ℕ) → Type 0
 IsReportedOn (Check file json) input old new = IfSome input (λ log. Appends old new (report log))
+IsReportedOn (Show file) input old new = ⊤
 IsReportedOn (Packet hex) input old new = AppendsLineOf (string_bytes hex) old new
 
--- 2: the log is refused, and the line that says so was written and nothing else
+-- 2: the log is refused, and the line that says so was written: alone by a check, behind those of its events where it is shown
 abbrev pub IsRefusedOn : Task → Option (List ℕ) → Option (List ℕ) → Option (List ℕ) → Type 0
 IsRefusedOn (Check file json) input old new = IfSome input (λ log.
     (refusal : Refusal) × IsRefusedBy log refusal × Appends old new (refused_line refusal))
+IsRefusedOn (Show file) input old new = IfSome input (λ log. (refusal : Refusal) × IsRefusedBy log refusal × EndsIn new (refused_line refusal))
 IsRefusedOn (Packet hex) input old new = ⊥
 
 -- 3: the digits of a packet are none
 abbrev pub IsNotHex : Task → Type 0
 IsNotHex (Check file json) = ⊥
+IsNotHex (Show file) = ⊥
 IsNotHex (Packet hex) = IsErr (decode_of (string_bytes hex))

@@ -4,7 +4,7 @@ ghost use Rattle.clap.specs.Words.{HasKind, Kinds, app_of, subcommand_of, subcom
 ghost use Rattle.clap.specs.declared.builder.command.Command.TheViews.{out-Command};
 ghost use Rattle.mq_cli.specs.CommandLine.{StopsFor, check_command, check_request, faults_of};
 ghost use Rattle.mq_cli.specs.CommandLine.{mqjudge, packet_command, packet_request};
-ghost use Rattle.mq_cli.specs.CommandLine.{request_by, request_of};
+ghost use Rattle.mq_cli.specs.CommandLine.{request_by, request_of, show_command, show_request};
 
 use clap::error::ErrorKind;
 use clap::{Arg, ArgMatches, Command, Error};
@@ -19,6 +19,11 @@ pub enum Task {
         file: Option<String>,
         /// Report as JSON in place of text.
         json: bool,
+    },
+    /// Show the events of the log in `file`, or on standard input where there is none.
+    Show {
+        /// The log's path.
+        file: Option<String>,
     },
     /// Say what the bytes are that `hex` spells, which are to be one packet.
     Packet {
@@ -39,9 +44,9 @@ pub enum Stop {
     Memory,
 }
 
-/// Reads the words of a command line, `mqjudge check [FILE]` or `mqjudge packet HEX`, of which the
-/// first is the program's name. A request for help or the version comes as a `Stop`, and so do
-/// words that are no such command line.
+/// Reads the words of a command line, `mqjudge check [FILE]`, `mqjudge show [FILE]` or
+/// `mqjudge packet HEX`, of which the first is the program's name. A request for help or the
+/// version comes as a `Stop`, and so do words that are no such command line.
 pub fn parse(alloc: Global, words: &[&str]) -> Result<Task, Stop>
     ensures taken { IfOk result (λ _. faults_of (map (λ word. word.now) words.now) ≡ []) }
     ensures task { IfOk result (λ task.
@@ -51,9 +56,12 @@ pub fn parse(alloc: Global, words: &[&str]) -> Result<Task, Stop>
     match matches_of(alloc, words) {
         Ok(matches) => match matches.subcommand_matches("check") {
             Some(check) => check_task(alloc, check.get_str("FILE")),
-            None => match matches.subcommand_matches("packet") {
-                Some(packet) => packet_task(alloc, packet.get_str("HEX")),
-                None => unreachable!(),
+            None => match matches.subcommand_matches("show") {
+                Some(show) => show_task(alloc, show.get_str("FILE")),
+                None => match matches.subcommand_matches("packet") {
+                    Some(packet) => packet_task(alloc, packet.get_str("HEX")),
+                    None => unreachable!(),
+                },
             },
         },
         Err(error) => Err(stop_for(alloc, &error)),
@@ -75,13 +83,15 @@ fn command_line<'a>(alloc: Global) -> Result<Command<'a>, AllocError>
     ensures { IfOk result (λ command. app_of command ≡ mqjudge) }
 {
     let check = check_command(alloc)?;
+    let show = show_command(alloc)?;
     let packet = packet_command(alloc)?;
     let with_check = Command::new(alloc, "mqjudge")
         .about("Judges the log of one end of an MQTT 5.0 session")
         .version("0.1.0")
         .subcommand_required(true)
         .subcommand(check)?;
-    with_check.subcommand(packet)
+    let with_show = with_check.subcommand(show)?;
+    with_show.subcommand(packet)
 }
 
 // The definition of `check`.
@@ -92,6 +102,17 @@ fn check_command<'a>(alloc: Global) -> Result<Command<'a>, AllocError>
     let file = Arg::new(alloc, "FILE").help("The log; standard input where it is left out");
     Command::new(alloc, "check")
         .about("Judges a log and reports each fault")
+        .arg(file)
+}
+
+// The definition of `show`.
+fn show_command<'a>(alloc: Global) -> Result<Command<'a>, AllocError>
+    ensures app { IfOk result (λ command. app_of command ≡ show_command) }
+    ensures local { IfOk result (λ command. (out-Command command).has_globals ≡ false) }
+{
+    let file = Arg::new(alloc, "FILE").help("The log; standard input where it is left out");
+    Command::new(alloc, "show")
+        .about("Shows each event of a log")
         .arg(file)
 }
 
@@ -122,6 +143,22 @@ fn check_task(alloc: Global, file: Option<&str>) -> Result<Task, Stop>
         None => None,
     };
     Ok(Task::Check { file, json: false })
+}
+
+// The task of `show` on this operand.
+fn show_task(alloc: Global, file: Option<&str>) -> Result<Task, Stop>
+    ensures task { IfOk result (λ task.
+        request_by task ≡ show_request (option_map (λ path. path.now) file.entry)) }
+    ensures stop { IfErr result (λ stop. stop ≡ Stop.Memory) }
+{
+    let file = match file {
+        Some(path) => match String::from_str(alloc, path) {
+            Ok(path) => Some(path),
+            Err(_) => return Err(Stop::Memory),
+        },
+        None => None,
+    };
+    Ok(Task::Show { file })
 }
 
 // The task of `packet` on this operand; an operand that is left out counts as an empty one.

@@ -11,6 +11,8 @@ mod failure;
 mod log_tests;
 #[cfg(test)]
 mod packet_tests;
+#[cfg(test)]
+mod show_tests;
 mod tasks;
 #[cfg(test)]
 mod tests;
@@ -78,12 +80,13 @@ fn perform_task<R: AllocGlobal + Files + Input, W: Write, E: Write>(
         Task::Check {
             file: Some(path),
             ..
-        } => {
+        }
+        | Task::Show { file: Some(path) } => {
             let file = File::open(rt, path.as_str()).map_err(failed_reading)?;
             let mut input = BufReader::new(alloc, file).map_err(failed_reading)?;
             Ok(perform(alloc, task, &mut input, output, error))
         }
-        Task::Check { file: None, .. } | Task::Packet { .. } => {
+        Task::Check { file: None, .. } | Task::Show { file: None } | Task::Packet { .. } => {
             Ok(perform(alloc, task, &mut rt.reader(), output, error))
         }
     }

@@ -2,7 +2,7 @@
 ghost use Rattle.std.specs.Prelude.{◌≡◌, ◌≢◌, ◌≤◌, ◌⊎◌, [], IfOk, IfErr, IfSome, IsErr, OnOk};
 ghost use Rattle.std.specs.Io.KnownBytes.{Appends, Keeps};
 ghost use Rattle.hex.specs.Hex.{decode_of};
-ghost use Rattle.mq_cli.specs.Told.{AppendsLineOf, HasFailed, HasPassed, IsFaultless, IsNotHex};
+ghost use Rattle.mq_cli.specs.Told.{AppendsLineOf, EndsIn, HasFailed, HasPassed, IsFaultless, IsNotHex};
 ghost use Rattle.mq_cli.specs.Told.{IsOfLog, IsRefusedBy, IsRefusedOn, IsReportedOn, IsShownOn};
 ghost use Rattle.mq_cli.specs.Told.{IsToldOn, SpellsNoPacket, SpellsPacket, failure_of, not_hex_line};
 ghost use Rattle.mq_judge.specs.declared.Refusal.{Refusal};
@@ -13,17 +13,18 @@ ghost use Rattle.mq_judge.specs.Running.{IsJudged};
 use crate::command_line::{Stop, Task};
 use crate::failure::{FAILED, FAULTY, Failure, MISUSED, PASSED, REFUSED};
 use hex::{FromHexError, decode};
-use mq_judge::{Form, Outcome, Refusal, RunFault, run, write_packet, write_refused};
+use mq_judge::{Form, Outcome, Refusal, RunFault, run, show, write_packet, write_refused};
 use std::alloc::Global;
 use std::io::{Read, Write};
 
 /// Does the task, and gives the status to exit with.
 ///
 /// A check judges the log that `input` gives, and writes the report, or the line on a refused log,
-/// to `output`: 0 for no fault, 1 for faults, 2 for a refused log. A packet's line is written to
-/// `output`: 0 where the bytes are one packet, else 1; where `hex` spells no bytes the status is 3,
-/// which is told on `error`. Where reading or writing failed or memory ran out the status is 4, and
-/// what failed is told on `error`.
+/// to `output`: 0 for no fault, 1 for faults, 2 for a refused log. To show a log is to write a line
+/// for each event to `output`: 0, or 2 for a refused log, with the line on it behind those of the
+/// events before. A packet's line is written to `output`: 0 where the bytes are one packet, else 1;
+/// where `hex` spells no bytes the status is 3, which is told on `error`. Where reading or writing
+/// failed or memory ran out the status is 4, and what failed is told on `error`.
 pub fn perform<R: Read, W: Write, E: Write>(
     alloc: Global,
     task: &Task,
@@ -49,6 +50,10 @@ pub fn perform<R: Read, W: Write, E: Write>(
             Ok(status) => status,
             Err(failure) => failure.report(error),
         },
+        Task::Show { .. } => match show_log(alloc, input, output) {
+            Ok(status) => status,
+            Err(failure) => failure.report(error),
+        },
         Task::Packet { hex } => packet(alloc, hex.as_str(), output, error),
     }
 }
@@ -69,6 +74,22 @@ fn check<R: Read, W: Write>(alloc: Global, input: &mut R, output: &mut W) -> Res
     match run(alloc, input, output, Form::Text) {
         Ok(Outcome::Pass) => see_out(PASSED, output),
         Ok(Outcome::Fail) => see_out(FAULTY, output),
+        Err(RunFault::Refused(refusal)) => refuse(&refusal, output),
+        Err(RunFault::Write) => Err(Failure::Write),
+        Err(RunFault::Memory) => Err(Failure::Memory),
+    }
+}
+
+// Shows the events of a log.
+fn show_log<R: Read, W: Write>(alloc: Global, input: &mut R, output: &mut W) -> Result<u8, Failure>
+    ensures passed { IfOk result (λ status. status ≡ PASSED → IfSome (R.remaining input.old) IsJudged) }
+    ensures refused { IfOk result (λ status. status ≡ REFUSED → IfSome (R.remaining input.old)
+        (λ log. (refusal : Refusal) × IsRefusedBy log refusal
+        × EndsIn (W.contents output.new) (refused_line refusal))) }
+    ensures statuses { IfOk result (λ status. (status ≡ PASSED) ⊎ (status ≡ REFUSED)) }
+{
+    match show(alloc, input, output) {
+        Ok(()) => see_out(PASSED, output),
         Err(RunFault::Refused(refusal)) => refuse(&refusal, output),
         Err(RunFault::Write) => Err(Failure::Write),
         Err(RunFault::Memory) => Err(Failure::Memory),
@@ -136,7 +157,7 @@ fn refuse_hex<E: Write>(error: &mut E) -> u8
         → Appends (E.contents error.old) (E.contents error.new) not_hex_line }
     ensures statuses { (result ≡ MISUSED) ⊎ (result ≡ FAILED) }
 {
-    let Ok(()) = show("mqjudge: not hex\n", error) else {
+    let Ok(()) = put_out("mqjudge: not hex\n", error) else {
         return FAILED;
     };
     MISUSED
@@ -160,11 +181,11 @@ pub fn stop<W: Write, E: Write>(stop: &Stop, output: &mut W, error: &mut E) -> u
     ensures statuses { (result ≡ PASSED) ⊎ ((result ≡ MISUSED) ⊎ (result ≡ FAILED)) }
 {
     match stop {
-        Stop::Help(text) => match show(text.as_str(), output) {
+        Stop::Help(text) => match put_out(text.as_str(), output) {
             Ok(()) => PASSED,
             Err(failure) => failure.report(error),
         },
-        Stop::Usage(text) => match show(text.as_str(), error) {
+        Stop::Usage(text) => match put_out(text.as_str(), error) {
             Ok(()) => MISUSED,
             Err(_) => FAILED,
         },
@@ -173,7 +194,7 @@ pub fn stop<W: Write, E: Write>(stop: &Stop, output: &mut W, error: &mut E) -> u
 }
 
 // Writes the text, and sees it out.
-fn show<W: Write>(text: &str, writer: &mut W) -> Result<(), Failure>
+fn put_out<W: Write>(text: &str, writer: &mut W) -> Result<(), Failure>
     ensures written { OnOk result (Appends (W.contents writer.old) (W.contents writer.new) text.now) }
     ensures failed { IfErr result (λ failure. failure ≡ Failure.Write) }
 {

@@ -10,5 +10,6 @@ pub mod Report
 pub mod Rules
 pub mod Running
 pub mod Seeing
+pub mod Showing
 pub mod Statements
 pub use Rattle.mq_trace.specs.Refusals

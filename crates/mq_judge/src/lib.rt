@@ -8,6 +8,7 @@ mod packet_line;
 mod report;
 mod rules;
 mod running;
+mod showing;
 
 pub use judge::{Judge, Options, Verdict};
 pub use mq_trace::Refusal;
@@ -18,3 +19,4 @@ pub use rules::faults::{Faults, Mark, Memory};
 pub use rules::role::{Role, Tested};
 pub use rules::rule::Rule;
 pub use running::run;
+pub use showing::show;

@@ -1,0 +1,206 @@
+use crate::command_line::{Stop, Task, parse};
+use crate::failure::{FAILED, PASSED, REFUSED};
+use crate::tasks::{perform, stop};
+use crate::tests::{Narrow, Told, Trickle};
+use std::alloc::Global;
+use std::io::{Cursor, Read};
+use std::test::Fail;
+
+// A session of seven events: a message is sent and acknowledged.
+const WHOLE_LOG: &[u8] = b"MQTR\x01\x00\x01\x00\
+    \x01\x00\x00\x00\x00\
+    \x02\x00\x00\x00\x0f\x10\x0d\x00\x04MQTT\x05\x02\x00\x3c\x00\x00\x00\
+    \x03\x00\x00\x00\x05\x20\x03\x00\x00\x00\
+    \x02\x00\x00\x00\x09\x32\x07\x00\x01a\x00\x01\x00x\
+    \x03\x00\x00\x00\x04\x40\x02\x00\x01\
+    \x05\x00\x00\x00\x00\
+    \x04\x00\x00\x00\x00";
+
+const WHOLE_LINES: &str = "1 record 1 OPEN\n\
+    2 record 2 SENT CONNECT size 15\n\
+    3 record 3 RECV CONNACK size 5\n\
+    4 record 4 SENT PUBLISH size 9 qos 1 dup 0 id 1\n\
+    5 record 5 RECV PUBACK size 4 id 1\n\
+    6 record 6 REST\n\
+    7 record 7 CLOSE\n";
+
+// A server's log with each of the fifteen packets, some of them cut, a release, a packet that breaks a rule, and directions
+// that are lost.
+const LOG_OF_ALL: &[u8] = b"MQTR\x01\x01\x01\x00\
+    \x01\x00\x00\x00\x00\
+    \x03\x00\x00\x00\x11\x10\x0d\x00\x04MQTT\x05\x02\x00\x3c\x00\x00\x00\xf0\x00\
+    \x02\x00\x00\x00\x07\xf0\x00\x20\x03\x00\x00\x00\
+    \x03\x00\x00\x00\x0b\x82\x07\x00\x07\x00\x00\x01a\x00\xc0\x00\
+    \x02\x00\x00\x00\x08\x90\x04\x00\x07\x00\x00\xd0\x00\
+    \x02\x00\x00\x00\x03\x3d\x07\x00\
+    \x03\x00\x00\x00\x07\x30\x05\x00\x01a\x00x\
+    \x02\x00\x00\x00\x06\x01a\xff\xff\x00x\
+    \x03\x00\x00\x00\x05\x50\x03\xff\xff\x10\
+    \x02\x00\x00\x00\x04\x62\x02\xff\xff\
+    \x03\x00\x00\x00\x04\x70\x02\xff\xff\
+    \x06\x00\x00\x00\x02\xff\xff\
+    \x02\x00\x00\x00\x04\x40\x02\x00\x02\
+    \x03\x00\x00\x00\x08\xa2\x06\x00\x03\x00\x00\x01a\
+    \x02\x00\x00\x00\x06\xb0\x04\x00\x03\x00\x00\
+    \x02\x00\x00\x00\x09\x32\x07\x00\x01a\x00\x00\x00x\
+    \x02\x00\x00\x00\x05\x30\xff\xff\xff\xff\
+    \x03\x00\x00\x00\x05\xe0\x00\x30\x80\x00";
+
+const LINES_OF_ALL: &str = "1 record 1 OPEN\n\
+    2 record 2 RECV CONNECT size 15\n\
+    3 record 2 RECV AUTH size 2\n\
+    4 record 3 SENT AUTH size 2\n\
+    5 record 3 SENT CONNACK size 5\n\
+    6 record 4 RECV SUBSCRIBE size 9 id 7\n\
+    7 record 4 RECV PINGREQ size 2\n\
+    8 record 5 SENT SUBACK size 6 id 7\n\
+    9 record 5 SENT PINGRESP size 2\n\
+    10 record 7 RECV PUBLISH size 7 qos 0 dup 0\n\
+    11 record 8 SENT PUBLISH size 9 qos 2 dup 1 id 65535\n\
+    12 record 9 RECV PUBREC size 5 id 65535\n\
+    13 record 10 SENT PUBREL size 4 id 65535\n\
+    14 record 11 RECV PUBCOMP size 4 id 65535\n\
+    15 record 12 RELEASE 65535\n\
+    16 record 13 SENT PUBACK size 4 id 2\n\
+    17 record 14 RECV UNSUBSCRIBE size 8 id 3\n\
+    18 record 15 SENT UNSUBACK size 6 id 3\n\
+    19 record 16 SENT BAD W09 offset 5\n\
+    20 record 17 SENT LOST\n\
+    21 record 18 RECV DISCONNECT size 2\n\
+    22 record 18 RECV LOST\n";
+
+// A log, and what is shown of it.
+static ROWS: [(&[u8], &str, u8); 6] = [
+    (WHOLE_LOG, WHOLE_LINES, PASSED),
+    (LOG_OF_ALL, LINES_OF_ALL, PASSED),
+    (b"MQTR\x01\x00\x01\x00", "", PASSED),
+    (b"MQTR\x01\x00\x01", "refused 10 Cut at 7\n", REFUSED),
+    (
+        b"MQTR\x01\x00\x01\x00\x01\x00\x00\x00\x00\x01\x00\x00\x00\x00",
+        "1 record 1 OPEN\nrefused 7 Nested at 13\n",
+        REFUSED,
+    ),
+    (
+        b"MQTR\x01\x00\x01\x00\x01\x00\x00\x00\x00\x02\x00\x00\x00\x05\x30\xff\xff\xff\x7f",
+        "1 record 1 OPEN\nrefused 11 TooLarge at 22\n",
+        REFUSED,
+    ),
+];
+
+fn shown_of<R: Read>(alloc: Global, input: &mut R) -> Result<Told, Stop> {
+    let task = parse(alloc, &["mqjudge", "show"])?;
+    let mut output = Vec::new(alloc);
+    let mut error = Vec::new(alloc);
+    let status = perform(alloc, &task, input, &mut output, &mut error);
+    Ok(Told {
+        status,
+        output,
+        error,
+    })
+}
+
+#[test]
+fn shows_logs_whole_and_byte_by_byte(rt: HostRuntime) -> Result<(), Fail> {
+    for (log, lines, status) in ROWS {
+        let mut trickle = Trickle {
+            bytes: log,
+            fails_after: None,
+        };
+        let whole = shown_of(rt.alloc(), &mut &log[..])?;
+        let cut = shown_of(rt.alloc(), &mut trickle)?;
+        for told in [whole, cut] {
+            assert_eq!(rt; told.output.as_slice(), lines.as_bytes());
+            assert_eq!(rt; told.status, status, "{lines}");
+            assert!(rt; told.error.is_empty());
+        }
+    }
+    Ok(())
+}
+
+// What was read until then is shown.
+#[test]
+fn tells_what_failed(rt: HostRuntime) -> Result<(), Fail> {
+    for (fails_after, lines) in [(0, 0), (7, 0), (13, 1), (42, 2), (43, 3), (76, 7)] {
+        let mut input = Trickle {
+            bytes: WHOLE_LOG,
+            fails_after: Some(fails_after),
+        };
+        let told = shown_of(rt.alloc(), &mut input)?;
+        assert_eq!(rt; told.status, FAILED);
+        assert_eq!(rt; told.error.as_slice(), &b"mqjudge: read failed\n"[..]);
+        let ends = told.output.iter().filter(|byte| **byte == b'\n').count();
+        assert_eq!(rt; ends, lines, "{fails_after} bytes");
+        assert!(rt; WHOLE_LINES.as_bytes().starts_with(told.output.as_slice()));
+    }
+    let task = parse(rt.alloc(), &["mqjudge", "show"])?;
+    let short = &WHOLE_LOG[..75];
+    for (log, room, stays) in [
+        (WHOLE_LOG, 0, false),
+        (WHOLE_LOG, 20, false),
+        (WHOLE_LOG, 194, false),
+        (WHOLE_LOG, 10_000, true),
+        (short, 198, false),
+        (short, 10_000, true),
+    ] {
+        let mut output = Narrow { room, stays };
+        let mut error = Vec::new(rt.alloc());
+        let status = perform(rt.alloc(), &task, &mut &log[..], &mut output, &mut error);
+        assert_eq!(rt; status, FAILED, "{room} bytes");
+        assert_eq!(rt; error.as_slice(), &b"mqjudge: write failed\n"[..]);
+    }
+    Ok(())
+}
+
+// With each allocation failing in turn, the answer is the log's, or that memory ran out, behind the lines until then.
+#[test]
+fn tells_of_a_show_without_memory(rt: HostRuntime) {
+    let mut output = Cursor::new([0; 1024]);
+    let mut error = Cursor::new([0; 64]);
+    let status = match parse(rt.alloc(), &["mqjudge", "show"]) {
+        Ok(task) => perform(
+            rt.alloc(),
+            &task,
+            &mut &LOG_OF_ALL[..],
+            &mut output,
+            &mut error,
+        ),
+        Err(why) => stop(&why, &mut output, &mut error),
+    };
+    let written = output.position() as usize;
+    assert!(rt; written <= LINES_OF_ALL.len());
+    assert!(rt;
+        output
+            .get_ref()
+            .starts_with(&LINES_OF_ALL.as_bytes()[..written])
+    );
+    let complaint: &[u8] = if status == PASSED {
+        assert_eq!(rt; written, LINES_OF_ALL.len());
+        b""
+    } else {
+        assert_eq!(rt; status, FAILED);
+        b"mqjudge: out of memory\n"
+    };
+    assert_eq!(rt; error.position(), complaint.len() as u64);
+    assert!(rt; error.get_ref().starts_with(complaint));
+}
+
+#[test]
+fn reads_the_words_of_a_show(rt: HostRuntime) -> Result<(), Fail> {
+    let Task::Show { file } = parse(rt.alloc(), &["mqjudge", "show"])? else {
+        return Err("no show".into());
+    };
+    assert!(rt; file.is_none());
+    let Task::Show { file } = parse(rt.alloc(), &["mqjudge", "show", "a.log"])? else {
+        return Err("no show".into());
+    };
+    let path = file.ok_or("no file")?;
+    assert!(rt; path.as_str() == "a.log");
+    let Err(Stop::Usage(text)) = parse(rt.alloc(), &["mqjudge", "show", "a", "b"]) else {
+        return Err("taken".into());
+    };
+    assert!(rt;
+        text.as_str().contains("unexpected argument 'b' found"),
+        "{text}"
+    );
+    Ok(())
+}
