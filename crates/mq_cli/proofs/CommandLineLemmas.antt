@@ -21,7 +21,7 @@ use Rattle.mq_cli.specs.declared.command_line.Stop.{Stop}
 use Rattle.mq_cli.specs.declared.command_line.Stop.TheVariants.{Help, Memory, Usage}
 use Rattle.clap.specs.Kinds.{HasKind, IsAmong, Kinds, or_else}
 use Rattle.clap.specs.Faults.{defaults_fault, turn_fault, walk_fault, word_fault, step_fault, entered_fault, settle_fault, check_fault, other_fault}
-use Rattle.mq_cli.specs.CommandLine.{IsShown, StopsFor, check_request, faults_of, mqjudge, packet_request, request_in, request_of}
+use Rattle.mq_cli.specs.CommandLine.{IsShown, StopsFor, check_request, faults_of, mqjudge, packet_request, request_in, request_of, show_request}
 
 -- ---- lists of kinds
 
@@ -140,31 +140,36 @@ subcommand_is_there rows false e = cc
 is_symmetric : (xs ys : List ℕ) → bytes_eq xs ys ≡ false → bytes_eq ys xs ≡ false
 is_symmetric xs ys e = false_from_ne_true _ (λ same. true≢false (sym ((bytes_eq-Decides xs ys).1 (sym ((bytes_eq-Decides ys xs).0 same))) ∙ e))
 
--- of `check`, `packet` and `help`, the one that was entered
-the_first : {X Y : Type 0} (f : X → Y) (b c d : Bool) (x y z : X) → d ≡ false
-    → is_some (option_map f (cond b (Some x) (cond c (Some y) (cond d (Some z) None)))) ≡ true
-    → (option_map f (cond b (Some x) (cond c (Some y) (cond d (Some z) None))) ≡ Some (f x))
-    ⊎ (option_map f (cond b (Some x) (cond c (Some y) (cond d (Some z) None))) ≡ Some (f y))
-the_first f true c d x y z other some = inl refl
-the_first f false true d x y z other some = inr refl
-the_first f false false true x y z other some = absurd (true≢false other)
-the_first f false false false x y z other some = absurd (true≢false (sym some))
+-- of `check`, `show`, `packet` and `help`, the one that was entered
+the_first : {X Y : Type 0} (f : X → Y) (b c d h : Bool) (w x y z : X) → h ≡ false
+    → is_some (option_map f (cond b (Some w) (cond c (Some x) (cond d (Some y) (cond h (Some z) None))))) ≡ true
+    → (option_map f (cond b (Some w) (cond c (Some x) (cond d (Some y) (cond h (Some z) None)))) ≡ Some (f w))
+    ⊎ ((option_map f (cond b (Some w) (cond c (Some x) (cond d (Some y) (cond h (Some z) None)))) ≡ Some (f x))
+    ⊎ (option_map f (cond b (Some w) (cond c (Some x) (cond d (Some y) (cond h (Some z) None)))) ≡ Some (f y)))
+the_first f true c d h w x y z other some = inl refl
+the_first f false true d h w x y z other some = inr (inl refl)
+the_first f false false true h w x y z other some = inr (inr refl)
+the_first f false false false true w x y z other some = absurd (true≢false other)
+the_first f false false false false w x y z other some = absurd (true≢false (sym some))
 
 -- a subcommand that asks for something was met
 abbrev NamesTask : Option (Text × List Row) → Type 0
-NamesTask met = ((rows : List Row) × (met ≡ Some (codes "check", rows))) ⊎ ((rows : List Row) × (met ≡ Some (codes "packet", rows)))
+NamesTask met = ((rows : List Row) × (met ≡ Some (codes "check", rows)))
+    ⊎ (((rows : List Row) × (met ≡ Some (codes "show", rows))) ⊎ ((rows : List Row) × (met ≡ Some (codes "packet", rows))))
 
 entered_names : (stop : Option (Text × List Text)) → StoppedElsewhere stop → is_some (entered (built mqjudge) stop) ≡ true
     → NamesTask (entered (built mqjudge) stop)
 entered_names None e some = absurd (true≢false (sym some))
 entered_names (Some p) e some =
     let other : answers_to p.0 (codes "help", []) ≡ false = ap (λ (b : Bool). b || false) (is_symmetric p.0 (codes "help") e) in
-    elim (the_first (λ s. rows_at s p.1) (answers_to p.0 (codes "check", [])) (answers_to p.0 (codes "packet", [])) (answers_to p.0 (codes "help", [])) _ _ _ other some) [
+    elim (the_first (λ s. rows_at s p.1) (answers_to p.0 (codes "check", [])) (answers_to p.0 (codes "show", [])) (answers_to p.0 (codes "packet", []))
+    (answers_to p.0 (codes "help", [])) _ _ _ _ other some) [
       | inl h ↦ inl (_, h)
-      | inr h ↦ inr (_, h)
+      | inr (inl h) ↦ inr (inl (_, h))
+      | inr (inr h) ↦ inr (inr (_, h))
     ]
 
--- words in which the definition finds no fault name `check` or `packet`
+-- words in which the definition finds no fault name `check`, `show` or `packet`
 subcommand_is_met : (words : List Text) → faults_of words ≡ [] → NamesTask (subcommand_of mqjudge words)
 subcommand_is_met words none =
     let a = built mqjudge in
@@ -185,14 +190,16 @@ name_met : {Z : Type 0} (o : Option (Box SubCommand Z)) → option_map (λ p. p.
 name_met None = refl
 name_met (Some b) = refl
 
--- matches of such words are those of `check` or of `packet`
+-- matches of such words are those of `check`, of `show` or of `packet`
 pub subcommand_is_named : (words : List Text) (m : ArgMatches) → faults_of words ≡ [] → subcommand_rows_of m ≡ subcommand_of mqjudge words
-    → (subcommand_name_of m ≡ Some (codes "check")) ⊎ (subcommand_name_of m ≡ Some (codes "packet"))
+    → (subcommand_name_of m ≡ Some (codes "check"))
+    ⊎ ((subcommand_name_of m ≡ Some (codes "show")) ⊎ (subcommand_name_of m ≡ Some (codes "packet")))
 subcommand_is_named words m none same =
     let named = sym (name_met (out-ArgMatches m).subcommand) ∙ ap (option_map (λ (p : Text × List Row). p.0)) same in
     elim (subcommand_is_met words none) [
       | inl h ↦ inl (named ∙ ap (option_map (λ (p : Text × List Row). p.0)) h.1)
-      | inr h ↦ inr (named ∙ ap (option_map (λ (p : Text × List Row). p.0)) h.1)
+      | inr (inl h) ↦ inr (inl (named ∙ ap (option_map (λ (p : Text × List Row). p.0)) h.1))
+      | inr (inr h) ↦ inr (inr (named ∙ ap (option_map (λ (p : Text × List Row). p.0)) h.1))
     ]
 
 -- a name and rows are what was met
@@ -214,6 +221,12 @@ pub request_is_check : (words : List Text) (m check : ArgMatches) → subcommand
 request_is_check words m check same named rows =
     ap (option_map request_in) (met_by words m check (codes "check") same named rows)
     ∙ ap (λ (f : Option Text). Some (check_request f)) (sym (first_value-rows (found_of check) (codes "FILE")))
+
+pub request_is_show : (words : List Text) (m shown : ArgMatches) → subcommand_rows_of m ≡ subcommand_of mqjudge words → subcommand_name_of m ≡ Some (codes "show")
+    → option_map (λ p. p.1) (subcommand_rows_of m) ≡ Some (rows_of (found_of shown)) → request_of words ≡ Some (show_request (first_value (found_of shown) (codes "FILE")))
+request_is_show words m shown same named rows =
+    ap (option_map request_in) (met_by words m shown (codes "show") same named rows)
+    ∙ ap (λ (f : Option Text). Some (show_request f)) (sym (first_value-rows (found_of shown) (codes "FILE")))
 
 pub request_is_packet : (words : List Text) (m packet : ArgMatches) → subcommand_rows_of m ≡ subcommand_of mqjudge words → subcommand_name_of m ≡ Some (codes "packet")
     → option_map (λ p. p.1) (subcommand_rows_of m) ≡ Some (rows_of (found_of packet)) → request_of words ≡ Some (packet_request (first_value (found_of packet) (codes "HEX")))

@@ -2,7 +2,7 @@ use Rattle.std.proofs.Common.{ap, ap₂, codes, true, ◌≡◌, ◌∙◌}
 use Rattle.std.proofs.lemmas.Result.{IfOk-weaker}
 use Rattle.clap.specs.Words.{App, Shape, app_of, new_app, with_subcommand}
 use Rattle.clap.specs.Simple.{app_of_fields, on_top}
-use Rattle.mq_cli.specs.CommandLine.{check_command}
+use Rattle.mq_cli.specs.CommandLine.{check_command, show_command}
 use Rattle.mq_cli.proofs.command_line.command_line.Goals as goal
 
 abbrev versioned : Shape → Shape
@@ -19,5 +19,7 @@ returns c =
     let top_is = required_is ∙ ap (on_top required) (version_is ∙ ap (on_top versioned) about_is) in
     let with_check : app_of c.in_ok-with_check.with_check ≡ with_subcommand (on_top required (on_top versioned (new_app (codes "mqjudge")))) check_command.top =
     c.in_ok-with_check.ensures.shape c.in_ok-check.ensures.local ∙ ap₂ with_subcommand top_is (ap (λ (a : App). a.top) c.in_ok-check.ensures.app) in
-    IfOk-weaker c.subcommand-2.result _ _ (λ r h. h.shape c.in_ok-packet.ensures.local
-    ∙ ap₂ with_subcommand with_check (ap (λ (a : App). a.top) c.in_ok-packet.ensures.app)) c.subcommand-2.ensures
+    let with_show : app_of c.in_ok-with_show.with_show ≡ with_subcommand (with_subcommand (on_top required (on_top versioned (new_app (codes "mqjudge")))) check_command.top) show_command.top =
+    c.in_ok-with_show.ensures.shape c.in_ok-show.ensures.local ∙ ap₂ with_subcommand with_check (ap (λ (a : App). a.top) c.in_ok-show.ensures.app) in
+    IfOk-weaker c.subcommand-3.result _ _ (λ r h. h.shape c.in_ok-packet.ensures.local
+    ∙ ap₂ with_subcommand with_show (ap (λ (a : App). a.top) c.in_ok-packet.ensures.app)) c.subcommand-3.ensures

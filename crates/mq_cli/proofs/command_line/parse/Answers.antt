@@ -1,8 +1,8 @@
 use Rattle.std.proofs.Common.{ap, map, refl, sym, true≢false, Some, Option, ◌∙◌, inl, inr}
 use Rattle.std.proofs.lemmas.Result.{IfOk-weaker}
 use Rattle.clap.specs.Words.{Text}
-use Rattle.mq_cli.specs.CommandLine.{check_request, packet_request}
-use Rattle.mq_cli.proofs.CommandLineLemmas.{subcommand_is_named, request_is_check, request_is_packet}
+use Rattle.mq_cli.specs.CommandLine.{check_request, packet_request, show_request}
+use Rattle.mq_cli.proofs.CommandLineLemmas.{subcommand_is_named, request_is_check, request_is_packet, request_is_show}
 use Rattle.mq_cli.proofs.command_line.parse.Goals as goal
 
 pub unreachable-requires : goal.unreachable-requires
@@ -10,7 +10,8 @@ unreachable-requires c =
     let named = subcommand_is_named (map (λ word. word.now) c.args.words.now) c.in-Ok.matches c.in-Ok.ensures.taken c.in-Ok.ensures.met in
     elim named [
       | inl h ↦ true≢false (sym (c.in-None.ensures.found.1 h))
-      | inr h ↦ true≢false (sym (c.in-None-subcommand_matches.ensures.found.1 h))
+      | inr (inl h) ↦ true≢false (sym (c.in-None-subcommand_matches.ensures.found.1 h))
+      | inr (inr h) ↦ true≢false (sym (c.in-None-subcommand_matches-2.ensures.found.1 h))
     ]
 
 pub returns-in-Some-clause-task : goal.returns-in-Some-clause-task
@@ -24,5 +25,13 @@ returns-in-Some-subcommand_matches-clause-task c =
     let words = map (λ word. word.now) c.args.words.now in
     let met = c.in-Some-subcommand_matches in
     let given = c.get_str-in-Some-subcommand_matches.ensures in
+    let asked = request_is_show words c.in-Ok.matches met.show.now c.in-Ok.ensures.met (met.ensures.found.0 refl) met.ensures.rows in
+    IfOk-weaker c.show_task.result _ _ (λ task h. asked ∙ ap (λ (f : Option Text). Some (show_request f)) (sym given) ∙ ap Some (sym h)) c.show_task.ensures.task
+
+pub returns-in-Some-subcommand_matches-2-clause-task : goal.returns-in-Some-subcommand_matches-2-clause-task
+returns-in-Some-subcommand_matches-2-clause-task c =
+    let words = map (λ word. word.now) c.args.words.now in
+    let met = c.in-Some-subcommand_matches-2 in
+    let given = c.get_str-in-Some-subcommand_matches-2.ensures in
     let asked = request_is_packet words c.in-Ok.matches met.packet.now c.in-Ok.ensures.met (met.ensures.found.0 refl) met.ensures.rows in
     IfOk-weaker c.packet_task.result _ _ (λ task h. asked ∙ ap (λ (f : Option Text). Some (packet_request f)) (sym given) ∙ ap Some (sym h)) c.packet_task.ensures.task
