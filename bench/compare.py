@@ -2,7 +2,7 @@
 """Compares what `mqjudge packet` and `mqjudge show` print with what the plain program of this folder prints.
 
 Both get the same packets and logs: those of packets.txt, changed in a few bytes, and short logs of make_log.py. What differs is
-printed, with its bytes. What `mqjudge` can't do yet is left out; then the plain program alone is tried, which must always answer.
+printed, with its bytes. Where there is no `mqjudge` the plain program alone is tried, which must always answer.
 
 usage: bench/compare.py [--mqjudge PATH] [--packets 3000] [--logs 500] [--seed 1]
 """
@@ -20,7 +20,7 @@ from pathlib import Path
 sys.dont_write_bytecode = True  # the repository stays as it is
 import make_log
 from make_log import CLOSE, CONNACK, CONNECT, OPEN, RECV, REST, SENT, record
-from run import HERE, MISUSE, build_baseline
+from run import HERE, build_baseline
 
 RELEASE = 6
 TELLING = bytes.fromhex("0001020405 23262B2F 7F80C3FF 10 82")
@@ -109,41 +109,33 @@ def answer(*words: str | Path) -> Answer:
 class Comparison:
     def __init__(self, mqjudge: Path, baseline: Path) -> None:
         self.mqjudge, self.baseline = mqjudge, baseline
+        self.both = shutil.which(mqjudge) is not None
         self.differences = 0
-
-    def has(self, *words: str) -> bool:
-        if not shutil.which(self.mqjudge):
-            print(f"no program at {self.mqjudge}: the plain program is tried alone")
-            return False
-        if answer(self.mqjudge, *words)[0] == MISUSE:
-            print(f"{self.mqjudge} has no `{words[0]}` yet: the plain program is tried alone")
-            return False
-        return True
+        if not self.both:
+            print(f"no program at {mqjudge}: the plain program is tried alone")
 
     def tell(self, what: str, *answers: Answer) -> None:
         self.differences += 1
         print(f"{what}:", *answers, sep="\n  ")
 
     def compare_packets(self, some: Iterator[bytes]) -> int:
-        both = self.has("packet", "D000")
         count = 0
         for count, packet in enumerate(some, 1):
             plain = answer(self.baseline, "packet", packet.hex())
             if plain[0] not in (0, 1) or not PACKET_TEXT.fullmatch(plain[1].rstrip("\n")):
                 self.tell(f"no answer to packet {packet.hex()}", plain)
-            elif both and (judged := answer(self.mqjudge, "packet", packet.hex())) != plain:
+            elif self.both and (judged := answer(self.mqjudge, "packet", packet.hex())) != plain:
                 self.tell(f"packet {packet.hex()}", judged, plain)
         return count
 
     def compare_logs(self, some: Iterator[Path]) -> int:
-        both = self.has("show", str(HERE.parent / "examples" / "pass.log"))
         count = 0
         for count, log in enumerate(some, 1):
             plain = answer(self.baseline, log)
             what = log.read_bytes().hex() if log.stat().st_size < 5_000 else log.name
             if plain[0] not in (0, 2):
                 self.tell(f"no answer to log {what}", plain)
-            elif both and (judged := answer(self.mqjudge, "show", log)) != plain:
+            elif self.both and (judged := answer(self.mqjudge, "show", log)) != plain:
                 line = next((pair for pair in zip(judged[1].splitlines(), plain[1].splitlines()) if pair[0] != pair[1]), ())
                 self.tell(f"log {what}", (judged[0], *line[:1]), (plain[0], *line[1:]))
         return count

@@ -51,7 +51,7 @@ pub fn perform<R: Read, W: Write, E: Write>(
             Err(failure) => failure.report(error),
         },
         Task::Show { .. } => match show_log(alloc, input, output) {
-            Ok(status) => status,
+            Ok(shown) => shown,
             Err(failure) => failure.report(error),
         },
         Task::Packet { hex } => packet(alloc, hex.as_str(), output, error),
