@@ -3,10 +3,11 @@ use Rattle.std.proofs.Common.{◌≡◌, ℕ, List, length, Option, Some, None, 
 use Rattle.std.specs.Io.KnownBytes.{Appends}
 use Rattle.mq_judge.specs.Report.{refused_line}
 use Rattle.mq_judge.specs.Running.{IsFailureWithin, RefusesLog, RunsOver}
+use Rattle.mq_judge.specs.Showing.{ShowsLog}
 use Rattle.mq_judge.specs.declared.Refusal.{Refusal}
 use Rattle.mq_judge.specs.declared.Refusal.TheVariants as refusals
 use Rattle.mq_judge.specs.declared.RunFault.TheVariants.{Refused}
-use Rattle.mq_cli.specs.Told.{IsOfLog, IsRefusedBy}
+use Rattle.mq_cli.specs.Told.{EndsIn, IsOfLog, IsRefusedBy}
 
 -- what holds of a log holds of what a reader has left, where that is known
 for_log : (remaining : Option (List ℕ)) (P Q : List ℕ → Type 0) → ((log : List ℕ) → P log → Q log) → IfSome remaining P → IfSome remaining Q
@@ -33,3 +34,12 @@ refusal_is_told remaining old middle new refusal (Ok s) ran unwritten own writte
     for_log remaining (λ log. RunsOver log (Err (Refused refusal)) old middle) (λ log. (r : Refusal) × IsRefusedBy log r × Appends old new (refused_line r))
     (λ log h. (refusal, own_refusal log refusal own h, subst (λ v. Appends v new (refused_line refusal)) unwritten written)) ran
 refusal_is_told remaining old middle new refusal (Err e) ran unwritten own written = tt
+
+-- the same of a log that was shown: its line was written last
+pub shown_refusal_is_told : {E : Type 0} (remaining middle new : Option (List ℕ)) (refusal : Refusal) (status : Result ℕ E)
+    → IfSome remaining (λ log. ShowsLog log (Err (Refused refusal))) → OnOk status (IsOfLog refusal) → OnOk status (Appends middle new (refused_line refusal))
+    → IfOk status (λ s. s ≡ 2 → IfSome remaining (λ log. (r : Refusal) × IsRefusedBy log r × EndsIn new (refused_line r)))
+shown_refusal_is_told remaining middle new refusal (Ok s) shown own written = λ is.
+    for_log remaining (λ log. ShowsLog log (Err (Refused refusal))) (λ log. (r : Refusal) × IsRefusedBy log r × EndsIn new (refused_line r))
+    (λ log h. (refusal, own_refusal log refusal own h, (middle, written))) shown
+shown_refusal_is_told remaining middle new refusal (Err e) shown own written = tt
