@@ -17,7 +17,7 @@ use Rattle.mq_judge.specs.declared.showing.ShownEvent.TheVariants.{Open, Close, 
 use Rattle.mq_judge.specs.declared.showing.ShownLine.{ShownLine}
 use Rattle.mq_judge.specs.ItemText.{item_text}
 use Rattle.mq_judge.specs.Notes.{packet_note}
-use Rattle.mq_judge.specs.Report.{spaced}
+use Rattle.mq_trace.specs.Refusing.{spaced}
 use Rattle.mq_judge.specs.Running.{IsJudged, RefusesLog}
 
 -- what lines show of an item: of a packet what its note has, and its size

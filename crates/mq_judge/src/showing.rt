@@ -1,7 +1,7 @@
 //! Shows the events of a log from a reader, a line for each.
 ghost use Rattle.std.specs.Prelude.{◌≡◌, true, Some, IfSome, OnOk, IfErr, [], List, ℕ};
 ghost use Rattle.mq_judge.specs.Running.{StoppedAt};
-ghost use Rattle.mq_judge.specs.Showing.{ShowsLog, TracedAll, event_text, shown_event, shown_text};
+ghost use Rattle.mq_judge.specs.Showing.{ShowsLog, TracedAll, event_text, shown_event, shown_item, shown_text};
 ghost use Rattle.mq_trace.specs.Tracing.{Follows};
 
 use super::judge::Options;
@@ -58,7 +58,9 @@ impl ShownEvent {
 }
 
 // How lines show this item. A packet that was read has a size.
-fn shown_item(item: &Item<'_>) -> ShownItem {
+fn shown_item(item: &Item<'_>) -> ShownItem
+    ensures { result ≡ shown_item item.now }
+{
     match item {
         Item::Packet(packet) => ShownItem {
             item: ItemNote::Packet(PacketNote::of(packet)),
@@ -107,7 +109,9 @@ struct Showing<'a, W> {
 }
 
 impl<W: Write> Sink for Showing<'_, W> {
-    ghost agrees = { λ _ _. 0 ≡ 0 };
+    ghost use Rattle.std.specs.Prelude.{⊤};
+
+    ghost agrees = { λ _ _. ⊤ };
 
     ghost refuses = { λ showing _. showing.failed ≡ true };
 
