@@ -30,7 +30,7 @@ pub unrefused : (judge : Judged) (log : List ℕ) → Follows judge log → refu
 unrefused judge log f = subst (λ l. refused l log ≡ None) f.keeps.within f.keeps.traced.keeps.unrefused
 
 -- the answer where a byte behind what was taken is refused
-refused-there : (limit : ℕ) (log taken later : List ℕ) (byte : ℕ) (r : Refusal) → refused limit (log ++ taken) ≡ None → refusal_at limit (log ++ taken) byte ≡ Some r
+pub refused-there : (limit : ℕ) (log taken later : List ℕ) (byte : ℕ) (r : Refusal) → refused limit (log ++ taken) ≡ None → refusal_at limit (log ++ taken) byte ≡ Some r
     → refused limit (log ++ (taken ++ byte ∷ later)) ≡ Some r
 refused-there limit log taken later byte r none stands =
     ap (refused limit) (sym (append_assoc log taken (byte ∷ later)) ∙ sym (append_assoc (log ++ taken) (byte ∷ []) later))
@@ -38,7 +38,7 @@ refused-there limit log taken later byte r none stands =
     (refused-grow limit (log ++ taken) byte ∙ ap (λ o. first_of o (refusal_at limit (log ++ taken) byte)) none ∙ stands)
 
 -- the answer where memory is refused for it
-memory-there : (log taken later : List ℕ) (byte : ℕ) → IsMemoryWithin (length log) (length (log ++ (taken ++ byte ∷ later))) (refusals.Memory (length (log ++ taken)))
+pub memory-there : (log taken later : List ℕ) (byte : ℕ) → IsMemoryWithin (length log) (length (log ++ (taken ++ byte ∷ later))) (refusals.Memory (length (log ++ taken)))
 memory-there log taken later byte =
     let a = length-append log taken in
     let b = length-append log (taken ++ byte ∷ later) in

@@ -13,4 +13,5 @@ pub mod PlainLaws
 pub mod ReportLaws
 pub mod RunningLaws
 pub mod SessionLaws
+pub mod ShowingLaws
 pub mod Writes

@@ -83,23 +83,23 @@ stopped-reading {x} {y} z limit so_far kept = record {
   why = inl (omega (arith, so_far.count));
 }
 
-memory-within : (start end : ℕ) (refusal : Refusal) → IsMemoryWithin start end refusal → IsFailureWithin end refusal
-memory-within start end (refusals.Memory at) h = omega arith
-memory-within start end (refusals.Header at) h = absurd h
-memory-within start end (refusals.Version at) h = absurd h
-memory-within start end (refusals.Role at) h = absurd h
-memory-within start end (refusals.Flags at) h = absurd h
-memory-within start end (refusals.Kind at) h = absurd h
-memory-within start end (refusals.Length at) h = absurd h
-memory-within start end (refusals.Nested at) h = absurd h
-memory-within start end (refusals.NotOpen at) h = absurd h
-memory-within start end (refusals.ReleaseUnrecorded at) h = absurd h
-memory-within start end (refusals.Cut at) h = absurd h
-memory-within start end (refusals.TooLarge at) h = absurd h
-memory-within start end (refusals.OtherVersion at) h = absurd h
-memory-within start end (refusals.Early at) h = absurd h
-memory-within start end (refusals.TooLong at) h = absurd h
-memory-within start end (refusals.Read at) h = absurd h
+pub memory_within_failure : (start end : ℕ) (refusal : Refusal) → IsMemoryWithin start end refusal → IsFailureWithin end refusal
+memory_within_failure start end (refusals.Memory at) h = omega arith
+memory_within_failure start end (refusals.Header at) h = absurd h
+memory_within_failure start end (refusals.Version at) h = absurd h
+memory_within_failure start end (refusals.Role at) h = absurd h
+memory_within_failure start end (refusals.Flags at) h = absurd h
+memory_within_failure start end (refusals.Kind at) h = absurd h
+memory_within_failure start end (refusals.Length at) h = absurd h
+memory_within_failure start end (refusals.Nested at) h = absurd h
+memory_within_failure start end (refusals.NotOpen at) h = absurd h
+memory_within_failure start end (refusals.ReleaseUnrecorded at) h = absurd h
+memory_within_failure start end (refusals.Cut at) h = absurd h
+memory_within_failure start end (refusals.TooLarge at) h = absurd h
+memory_within_failure start end (refusals.OtherVersion at) h = absurd h
+memory_within_failure start end (refusals.Early at) h = absurd h
+memory_within_failure start end (refusals.TooLong at) h = absurd h
+memory_within_failure start end (refusals.Read at) h = absurd h
 
 -- the judge refused a piece
 pub stopped-judging : {x y : Option (List ℕ)} (z : Option (List ℕ)) {judge : Judged} {fed : ℕ} (limit : ℕ) (piece : List ℕ) (refusal : Refusal)
@@ -110,7 +110,7 @@ stopped-judging {x} {y} z limit piece refusal so_far more takes = record {
   taken = so_far.log ++ piece;
   consumed = consumes-then x y z so_far.log piece so_far.consumed more;
   why = elim (takes so_far.log so_far.followed) [
-    | inl memory ↦ inl (memory-within (length so_far.log) (length (so_far.log ++ piece)) refusal memory)
+    | inl memory ↦ inl (memory_within_failure (length so_far.log) (length (so_far.log ++ piece)) refusal memory)
     | inr stands ↦ inr stands
   ];
 }

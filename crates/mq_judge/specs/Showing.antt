@@ -1,5 +1,5 @@
 -- The lines that show a log's events, and what showing a whole log, from a reader to a writer, comes to.
-use Rattle.std.specs.Prelude.{ℕ, List, [], ◌∷◌, codes, decimal, Option, unwrap_or, Result, Ok, Err, ⊤}
+use Rattle.std.specs.Prelude.{ℕ, List, [], ◌∷◌, codes, decimal, Option, unwrap_or, Result, Ok, Err, ⊤, ◌⊎◌}
 use Rattle.std.specs.Io.KnownBytes.{Consumes, IsAtEnd}
 use Rattle.mq_packet.specs.Reading.{view}
 use Rattle.mq_packet.specs.Sizes.{size_with, remaining_length}
@@ -18,7 +18,8 @@ use Rattle.mq_judge.specs.declared.showing.ShownLine.{ShownLine}
 use Rattle.mq_judge.specs.ItemText.{item_text}
 use Rattle.mq_judge.specs.Notes.{packet_note}
 use Rattle.mq_trace.specs.Refusing.{spaced}
-use Rattle.mq_judge.specs.Running.{IsJudged, RefusesLog}
+use Rattle.mq_trace.specs.declared.refusal.Refusal.{Refusal}
+use Rattle.mq_judge.specs.Running.{IsJudged, RefusesLog, StoppedAt}
 
 -- what lines show of an item: of a packet what its note has, and its size
 abbrev pub shown_item : HeardItem → ShownItem
@@ -61,3 +62,7 @@ pub record TracedAll (old new : Option (List ℕ)) (tracer : Traced) : Type 0 wh
   pub consumed : Consumes old new log
   pub ended : IsAtEnd new
   pub followed : Follows tracer log
+
+-- A tracer with this limit has taken in some of what a reader had left, and then there was this refusal; or the sink refused an event.
+pub record TraceStops {S : Type 0} (refuses : S → Refusal → Type 0) (old new : Option (List ℕ)) (limit : ℕ) (sink : S) (refusal : Refusal) : Type 0 where
+  pub why : StoppedAt old new limit refusal ⊎ ((own : Refusal) × refuses sink own)

@@ -1,7 +1,7 @@
 //! Shows the events of a log from a reader, a line for each.
 ghost use Rattle.std.specs.Prelude.{◌≡◌, true, Some, IfSome, OnOk, IfErr, [], List, ℕ};
-ghost use Rattle.mq_judge.specs.Running.{StoppedAt};
-ghost use Rattle.mq_judge.specs.Showing.{ShowsLog, TracedAll, event_text, shown_event, shown_item, shown_text};
+ghost use Rattle.mq_judge.specs.Running.{default_limit};
+ghost use Rattle.mq_judge.specs.Showing.{ShowsLog, TracedAll, TraceStops, event_text, shown_event, shown_item, shown_text};
 ghost use Rattle.mq_trace.specs.Tracing.{Follows};
 
 use super::judge::Options;
@@ -150,13 +150,26 @@ pub fn show<R: Read, W: Write>(
         writer,
         failed: false,
     };
-    let traced = trace_all(&mut tracer, reader, &mut showing);
-    if showing.failed {
-        return Err(RunFault::Write);
+    match trace_all(&mut tracer, reader, &mut showing) {
+        Ok(()) => end(tracer),
+        Err(refusal) => {
+            if showing.failed {
+                Err(RunFault::Write)
+            } else {
+                Err(RunFault::Refused(refusal))
+            }
+        }
     }
-    traced?;
-    tracer.finish()?;
-    Ok(())
+}
+
+/// Ends the log that a tracer was fed.
+fn end(mut tracer: Tracer) -> Result<(), RunFault>
+    ensures { (log : List ℕ) → Follows tracer log → tracer.reading.limit ≡ default_limit → ShowsLog log result }
+{
+    match tracer.finish() {
+        Ok(()) => Ok(()),
+        Err(refusal) => Err(RunFault::Refused(refusal)),
+    }
 }
 
 /// Feeds a tracer all that a reader gives, at most 8,192 bytes a turn. An interrupted read is tried again, in a turn of its own.
@@ -171,6 +184,8 @@ fn trace_all<R: Read, S: Sink>(
 ) -> Result<(), Refusal>
     requires { Follows tracer.old [] }
     ensures all { OnOk result (TracedAll (R.remaining reader.old) (R.remaining reader.new) tracer.new) }
+    ensures limit { OnOk result (tracer.new.reading.limit ≡ tracer.old.reading.limit) }
+    ensures stopped { IfErr result (λ refusal. TraceStops S.refuses (R.remaining reader.old) (R.remaining reader.new) tracer.old.reading.limit sink.new refusal) }
 {
     let mut buffer = [0; 8192];
     let mut fed = 0;
@@ -178,8 +193,10 @@ fn trace_all<R: Read, S: Sink>(
         match reader.read(&mut buffer) {
             Ok(0) => return Ok(()),
             Ok(count) => {
-                tracer.feed(&buffer[..count], sink)?;
-                fed += count as u64;
+                match tracer.feed(&buffer[..count], sink) {
+                    Ok(()) => fed += count as u64,
+                    Err(refusal) => return Err(refusal),
+                }
             }
             Err(error) => {
                 if error.kind() != ErrorKind::Interrupted {
