@@ -82,16 +82,20 @@ traced-stopped agrees refuses {x} {y} z {tracer} limit piece old new r so_far mo
   where
     told : Answers limit so_far.log piece r ⊎ ((own : Refusal) × refuses new own) → TraceStops refuses x z limit new r
     told (inr own) = record { why = inr own }
-    told (inl (inl memory)) = record { why = inl (record {
-      taken = so_far.log ++ piece;
-      consumed = consumes-then x y z so_far.log piece so_far.consumed more;
-      why = inl (memory_within_failure (length so_far.log) (length (so_far.log ++ piece)) r memory);
-    }) }
-    told (inl (inr stands)) = record { why = inl (record {
-      taken = so_far.log ++ piece;
-      consumed = consumes-then x y z so_far.log piece so_far.consumed more;
-      why = inr stands;
-    }) }
+    told (inl (inl memory)) = record {
+      why = inl (record {
+        taken = so_far.log ++ piece;
+        consumed = consumes-then x y z so_far.log piece so_far.consumed more;
+        why = inl (memory_within_failure (length so_far.log) (length (so_far.log ++ piece)) r memory);
+      });
+    }
+    told (inl (inr stands)) = record {
+      why = inl (record {
+        taken = so_far.log ++ piece;
+        consumed = consumes-then x y z so_far.log piece so_far.consumed more;
+        why = inr stands;
+      });
+    }
 
 -- a show that was stopped
 pub show-stopped : {S : Type 0} {refuses : S → Refusal → Type 0} {x y : Option (List ℕ)} {limit : ℕ} {sink : S} {r : Refusal} → TraceStops refuses x y limit sink r

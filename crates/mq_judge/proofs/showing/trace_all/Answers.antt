@@ -13,8 +13,11 @@ pub loop-turn-preserved : goal.loop-turn-preserved
 loop-turn-preserved g c =
     elim c.match-read.branch [
       | in-Ok+in-Ok-feed w ↦
-          rw (w.tracer-is, w.fed-is) (traced-more (g.R.Read.remaining c.read.new.self) w.feed.new.self _ (take w.in-Ok.count c.read.new.buf) c.loop-turn.invariant.0 w.in-Ok.ensures.bytes.0
-          w.in-Ok-feed.ensures.follows w.in-Ok-feed.ensures.limit (search rules), search rules)
+          rw (w.tracer-is, w.fed-is) (
+            traced-more (g.R.Read.remaining c.read.new.self) w.feed.new.self _ (take w.in-Ok.count c.read.new.buf) c.loop-turn.invariant.0 w.in-Ok.ensures.bytes.0
+                w.in-Ok-feed.ensures.follows w.in-Ok-feed.ensures.limit (search rules),
+            search rules,
+          )
       | in-Err+else-ne w ↦
           rw (w.tracer-is, w.fed-is) (traced-none (g.R.Read.remaining c.read.new.self) c.loop-turn.invariant.0 w.in-Err.ensures.bytes, omega (arith, c.loop-turn.invariant.1))
     ]
