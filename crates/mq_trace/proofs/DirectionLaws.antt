@@ -251,6 +251,16 @@ frame_front bytes size e =
     let whole : frame_size (take size bytes ++ drop size bytes) ≡ Some size = ap frame_size (take-append-drop size bytes) ∙ e in
     (omega arith, bounds.1, front, frame_stood (take size bytes) (drop size bytes) size whole (omega arith) ∙ ap Some (sym front)))
 
+-- Its fixed header is that of all.
+pub header_front : (bytes : List ℕ) (header size : ℕ) → frame_size bytes ≡ Some size → fixed_header_of bytes ≡ headers.Whole header size → fixed_header_of (take size bytes) ≡ headers.Whole header (length (take size bytes))
+header_front bytes header size e is =
+    (let front = frame_front bytes size e in
+    let known : (header' : ℕ) × (fixed_header_of (take size bytes) ≡ headers.Whole header' (length (take size bytes))) × (length (take size bytes) ≤ length (take size bytes)) = header_from_frame (take size bytes) (length (take size bytes)) front.3 in
+    let stays : fixed_header_of (take size bytes ++ drop size bytes) ≡ headers.Whole known.0 (length (take size bytes)) = whole_stays (take size bytes) (drop size bytes) known.0 (length (take size bytes)) known.1 in
+    let of_all : fixed_header_of bytes ≡ headers.Whole known.0 (length (take size bytes)) = ap fixed_header_of (sym (take-append-drop size bytes)) ∙ stays in
+    let same : known.0 ≡ header = cc in
+    known.1 ∙ ap (λ (h : ℕ). headers.Whole h (length (take size bytes))) same)
+
 -- the first byte of some is the first of them
 pub first_front : (bytes : List ℕ) → 1 ≤ length bytes → slice_index bytes 0 ∷ [] ≡ take 1 bytes
 first_front [] some = absurd (omega arith)

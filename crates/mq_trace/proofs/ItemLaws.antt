@@ -1,6 +1,6 @@
 -- What a whole packet is, and what telling it meets.
-use Rattle.std.proofs.Common.{◌≡◌, ℕ, ◌-◌, ◌<◌, ◌≤◌, Bool, true, false, List, length, take, drop, take_all, Option, Some, None, Result, Ok, Err, refl, sym, ap, ◌∙◌, arith}
-use Rattle.std.specs.Prelude.{slice_index, unwrap_or, option_map}
+use Rattle.std.proofs.Common.{◌≡◌, ℕ, ◌-◌, ◌<◌, ◌≤◌, Bool, true, false, List, ◌∷◌, length, take, drop, take_all, Option, Some, None, Result, Ok, Err, refl, sym, ap, ◌∙◌, subst, inl, inr, arith}
+use Rattle.std.specs.Prelude.{slice_index, unwrap_or, option_map, OnOk, IfErr}
 use Rattle.std.proofs.lemmas.List.{length-drop}
 use Rattle.mq_packet.specs.declared.header.FixedHeader.{FixedHeader}
 use Rattle.mq_packet.specs.declared.header.FixedHeader.TheVariants.{Short, Lost, Whole}
@@ -12,16 +12,18 @@ use Rattle.mq_packet.specs.Reading.{view}
 use Rattle.mq_packet.specs.Sizes.{size_with, remaining_length}
 use Rattle.mq_packet.specs.Stream.{fixed_header_of, frame_size}
 use Rattle.mq_packet.specs.Decoding.{decoded}
-use Rattle.mq_packet.proofs.StreamLaws.{header_from_frame, size_above}
+use Rattle.mq_packet.proofs.StreamLaws.{header_from_frame, frame_from_header, size_above}
 use Rattle.mq_packet.proofs.BodyLaws.{size_of_frame}
 use Rattle.mq_trace.specs.declared.refusal.Refusal.{Refusal}
+use Rattle.mq_trace.specs.declared.refusal.Refusal.TheVariants as refusals
 use Rattle.mq_trace.specs.declared.kind.Way.{Way}
 use Rattle.mq_trace.specs.declared.connections.Connections.{Connections}
 use Rattle.mq_trace.specs.Events.{Item, Event, Placed, packet, bad, lost, item_read, read_frame}
 use Rattle.mq_trace.specs.Refusals.{is_other_version}
-use Rattle.mq_trace.specs.Context.{Half}
+use Rattle.mq_trace.specs.Context.{Half, put}
 use Rattle.mq_trace.specs.Flows.{Bed, going, flow_placed_with}
-use Rattle.mq_trace.specs.Telling.{met_by, connections_with, next_placed}
+use Rattle.mq_trace.specs.Hearing.{AreEvents}
+use Rattle.mq_trace.specs.Telling.{met_by, connections_with, next_placed, Untold}
 use Rattle.mq_trace.specs.Directing.{flow_of, frame_event, frame_met, connections_then}
 
 -- What is known of a frame.
@@ -39,6 +41,9 @@ frame_header frame whole =
     (let known : (header' : ℕ) × (fixed_header_of frame ≡ Whole header' (length frame)) × (length frame ≤ length frame) = header_from_frame frame (length frame) whole in
     (known.0, length frame, known.1))
 
+pub frame_by_header : (frame : List ℕ) (header : ℕ) → fixed_header_of frame ≡ Whole header (length frame) → frame_size frame ≡ Some (length frame)
+frame_by_header frame header e = frame_from_header frame header (length frame) e (omega arith)
+
 -- What a frame says is what its body says.
 pub read_by_body : (frame : List ℕ) (header size : ℕ) → Whole header size ≡ fixed_header_of frame → read_frame frame ≡ decoded (slice_index frame 0) (take (length frame - header) (drop header frame))
 unfolding read_frame
@@ -55,6 +60,20 @@ packet_read frame header size p bytes whole e is =
     let known : (length frame ≡ size) × (1 ≤ header) × (header ≤ size) = framed frame header size whole e in
     let sized : size_with (remaining_length p) ≡ Some (length frame) = size_of_frame frame header size p bytes (sym e) known.0 (is ∙ ap length rest) in
     ap (λ (o : Option ℕ). packet (unwrap_or o 0) (view p)) sized)
+
+-- What a frame is, by what its body says.
+pub packet_item : (frame : List ℕ) (header : ℕ) (p : Packet) → ((i : ℕ) → slice_index frame i < 256) → Whole header (length frame) ≡ fixed_header_of frame
+    → remaining_length p ≡ length (take (length frame - header) (drop header frame)) → decoded (slice_index frame 0) (take (length frame - header) (drop header frame)) ≡ Ok (view p)
+    → item_read (length frame) (slice_index frame 0) (read_frame frame) ≡ Some (packet (unwrap_or (size_with (remaining_length p)) 0) (view p))
+packet_item frame header p bytes e is read =
+    (let whole : frame_size frame ≡ Some (length frame) = frame_by_header frame header (sym e) in
+    ap (item_read (length frame) (slice_index frame 0)) (read_by_body frame header (length frame) e ∙ read)
+    ∙ ap Some (sym (packet_read frame header (length frame) p bytes whole e is)))
+
+pub fault_item : (frame : List ℕ) (header : ℕ) (fault : DecodeFault) → Whole header (length frame) ≡ fixed_header_of frame
+    → decoded (slice_index frame 0) (take (length frame - header) (drop header frame)) ≡ Err fault
+    → item_read (length frame) (slice_index frame 0) (read_frame frame) ≡ item_read (length frame) (slice_index frame 0) (Err fault)
+fault_item frame header fault e read = ap (item_read (length frame) (slice_index frame 0)) (read_by_body frame header (length frame) e ∙ read)
 
 -- A frame that is an item meets what its event meets, and what is kept and heard is the event's.
 met_read : (at n b : ℕ) (half : Half) (c : Connections) (way : Way) (item : Item) (read : Result Entry DecodeFault) → item_read n b read ≡ Some item → is_other_version read ≡ false
@@ -88,3 +107,25 @@ other_read n b (Err (OtherVersion version)) e = refl
 
 pub met_other : (frame : List ℕ) → item_read (length frame) (slice_index frame 0) (read_frame frame) ≡ None → is_other_version (read_frame frame) ≡ true
 met_other frame e = other_read (length frame) (slice_index frame 0) (read_frame frame) e
+
+-- Who was told of an item was told of the frame that is it.
+module _ {S : Type 0} (agrees : S → List Placed → Type 0) (refuses : S → Refusal → Type 0) {A : Type 0} (r : Result A Refusal) (at : ℕ) (half : Half) (c : Connections) (bed : Bed) (frame : List ℕ) (item : Item)
+    (e : item_read (length frame) (slice_index frame 0) (read_frame frame) ≡ Some item) where
+  pub told_met : OnOk r (met_by at c (going bed.way item) ≡ None) → OnOk r (frame_met at (flow_of at half c) bed.way frame ≡ None)
+  told_met = subst (λ (m : Option Refusal). OnOk r (m ≡ None)) (sym (met_item at half c bed.way frame item e))
+
+  pub told_kept : (c' : Connections) → OnOk r (c' ≡ connections_with bed.server c (going bed.way item)) → OnOk r (c' ≡ connections_then bed.server c (frame_event bed.way frame))
+  told_kept c' = subst (λ (then' : Connections). OnOk r (c' ≡ then')) (sym (kept_item bed.server c bed.way frame item e))
+
+  pub told_heard : (old new : S) → ((earlier : List Placed) → agrees old earlier → AreEvents (next_placed c bed.record_no (going bed.way item) ∷ earlier) → OnOk r (agrees new (next_placed c bed.record_no (going bed.way item) ∷ earlier)))
+      → (earlier : List Placed) → agrees old earlier → AreEvents (put (flow_placed_with bed (flow_of at half c) (frame_event bed.way frame)) earlier)
+      → OnOk r (agrees new (put (flow_placed_with bed (flow_of at half c) (frame_event bed.way frame)) earlier))
+  told_heard old new = subst (λ (o : Option Placed). (earlier : List Placed) → agrees old earlier → AreEvents (put o earlier) → OnOk r (agrees new (put o earlier))) (sym (placed_item at bed half c frame item e))
+
+  pub told_err : (old new : S) → IfErr r (λ refusal. Untold refuses at (met_by at c (going bed.way item)) old new refusal) → IfErr r (λ refusal. Untold refuses at (frame_met at (flow_of at half c) bed.way frame) old new refusal)
+  told_err old new = subst (λ (m : Option Refusal). IfErr r (λ refusal. Untold refuses at m old new refusal)) (sym (met_item at half c bed.way frame item e))
+
+-- A frame of another version is refused as that.
+pub other_met : {S : Type 0} (refuses : S → Refusal → Type 0) (at : ℕ) (half : Half) (c : Connections) (way : Way) (frame : List ℕ) (sink : S) → item_read (length frame) (slice_index frame 0) (read_frame frame) ≡ None
+    → Untold refuses at (frame_met at (flow_of at half c) way frame) sink sink (refusals.OtherVersion at)
+other_met refuses at half c way frame sink e = inl (rw (met_other frame e) refl, refl)

@@ -63,8 +63,8 @@ pub record FlowComes {S : Type 0} (agrees : S → List Placed → Type 0) (limit
   pub kept : flow_behind bed f bytes ≡ f'
   pub told : (earlier : List Placed) → agrees old earlier → AreEvents (flow_heard bed f bytes ++ earlier) → agrees new (flow_heard bed f bytes ++ earlier)
 
--- What the next bytes of a direction are: a whole packet within the limit; more of an unfinished packet of this size; or a byte that may belong to a fixed header.
+-- What the next bytes of a direction are: a whole packet within the limit, with its fixed header's length; more of an unfinished packet of this size; or a byte that may belong to a fixed header.
 abbrev pub IsStep : Half → ℕ → List ℕ → Step → Type 0
-IsStep half limit bytes (steps.Whole size) = (half.unfinished ≡ []) × (frame_size bytes ≡ Some size) × (size ≤ limit)
+IsStep half limit bytes (steps.Whole header size) = (half.unfinished ≡ []) × (frame_size bytes ≡ Some size) × (size ≤ limit) × (fixed_header_of bytes ≡ headers.Whole header size) × (size ≤ header + 268435455)
 IsStep half limit bytes (steps.More size) = (header : ℕ) × (fixed_header_of half.unfinished ≡ headers.Whole header size)
 IsStep half limit bytes steps.Byte = Unit {0}

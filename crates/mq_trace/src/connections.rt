@@ -29,6 +29,7 @@ pub struct Connections {
 ///
 /// `Early` where the event needs its connection's CONNACK, which hasn't come; `TooLong` where there are 4,294,967,295 events
 /// already; the sink's own refusal. Each names this byte.
+#[inline(always)]
 pub fn tell<S: Sink>(
     connections: &mut Connections,
     server: bool,
@@ -49,6 +50,7 @@ pub fn tell<S: Sink>(
 }
 
 /// The refusal that an event meets which the byte at this offset completes.
+#[inline(always)]
 fn met_by(connections: Connections, at: u64, event: &Event<'_>) -> Option<Refusal>
     ensures met { result ≡ met_by at connections (event_of event.now) }
     ensures room { result ≡ None → connections.events < 4294967295 }
@@ -63,6 +65,7 @@ fn met_by(connections: Connections, at: u64, event: &Event<'_>) -> Option<Refusa
 }
 
 /// Whether the event needs its connection's CONNACK, while that hasn't come.
+#[inline(always)]
 fn is_early(connections: Connections, event: &Event<'_>) -> bool
     ensures { result ≡ (needs_answer (event_of event.now) && (connections.connected && not connections.answered)) }
 {
@@ -74,6 +77,7 @@ fn is_early(connections: Connections, event: &Event<'_>) -> bool
 /// # Errors
 ///
 /// The sink's own refusal, at this byte.
+#[inline(always)]
 fn tell_next<S: Sink>(
     connections: &mut Connections,
     server: bool,
@@ -103,6 +107,7 @@ fn tell_next<S: Sink>(
 }
 
 /// What is kept behind one event more.
+#[inline(always)]
 fn connections_with(connections: Connections, server: bool, event: &Event<'_>) -> Connections
     requires { connections.events < 4294967295 }
     ensures { result ≡ connections_with server connections (event_of event.now) }
@@ -136,6 +141,7 @@ fn ends(event: &Event<'_>) -> bool
 
 /// Whether the event is a CONNACK from the server, which a tested server sends and a tested client receives
 /// (MQTT 5.0, section 3.2).
+#[inline(always)]
 fn is_answer(server: bool, event: &Event<'_>) -> bool
     ensures { result ≡ is_answer server (event_of event.now) }
 {
@@ -147,6 +153,7 @@ fn is_answer(server: bool, event: &Event<'_>) -> bool
 }
 
 /// Whether the event is a session packet or a RELEASE, which on a connection stand after its CONNACK (MQTT 5.0, section 4.1).
+#[inline(always)]
 fn needs_answer(event: &Event<'_>) -> bool
     ensures { result ≡ needs_answer (event_of event.now) }
 {
@@ -157,6 +164,7 @@ fn needs_answer(event: &Event<'_>) -> bool
     }
 }
 
+#[inline(always)]
 fn is_connack(item: &Item<'_>) -> bool
     ensures { result ≡ is_packet is_connack (item_of item.now) }
 {
@@ -167,6 +175,7 @@ fn is_connack(item: &Item<'_>) -> bool
 }
 
 /// Whether the item is a PUBLISH, a SUBSCRIBE, an UNSUBSCRIBE, or what acknowledges one (MQTT 5.0, section 4.1).
+#[inline(always)]
 fn needs_session(item: &Item<'_>) -> bool
     ensures { result ≡ is_packet needs_session (item_of item.now) }
 {

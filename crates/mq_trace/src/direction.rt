@@ -6,6 +6,7 @@ ghost use Rattle.mq_packet.specs.declared.header.FixedHeader.TheVariants as head
 ghost use Rattle.mq_trace.specs.Events.{Placed, lost, item_read, read_frame};
 ghost use Rattle.mq_trace.specs.Context.{put};
 ghost use Rattle.mq_trace.specs.Hearing.{AreEvents, event_of, item_of};
+ghost use Rattle.mq_trace.specs.declared.event.Item.TheVariants as items;
 ghost use Rattle.mq_trace.specs.Telling.{Untold, met_by, connections_with, next_placed};
 ghost use Rattle.mq_trace.specs.Keeping.{half_in, IsUnfinished};
 ghost use Rattle.mq_trace.specs.Settling.{IsByteMore};
@@ -18,7 +19,7 @@ use super::kind::Way;
 use super::refusal::Refusal;
 use super::sink::Sink;
 use bytes::BytesMut;
-use mq_packet::{DecodeFault, FixedHeader, decode, fixed_header};
+use mq_packet::{DecodeFault, FixedHeader, Packet, decode, fixed_header};
 use std::alloc::Global;
 
 /// What is kept of one direction: the bytes of its unfinished packet.
@@ -44,8 +45,13 @@ pub struct Bed {
 /// What the next bytes of a direction are to it.
 #[derive(Clone, Copy, Debug, PartialEq, Eq)]
 pub enum Step {
-    /// A whole packet of this size, within the limit.
-    Whole(usize),
+    /// A whole packet, within the limit.
+    Whole {
+        /// How many bytes its fixed header has.
+        header: usize,
+        /// How many bytes it has.
+        size: usize,
+    },
     /// More of the unfinished packet, which has this size.
     More(usize),
     /// A byte that may belong to a fixed header.
@@ -101,8 +107,8 @@ impl Direction {
             return Ok(bytes.len());
         }
         match self.step(bed.limit, bytes) {
-            Step::Whole(size) => {
-                match take_whole(bed, connections, at, &bytes[..size], sink) {
+            Step::Whole { header, size } => {
+                match take_whole(bed, connections, at, header, &bytes[..size], sink) {
                     Ok(()) => Ok(size),
                     Err(refusal) => Err(refusal),
                 }
@@ -121,8 +127,13 @@ impl Direction {
     {
         if self.unfinished.is_empty() {
             match fixed_header(bytes) {
-                FixedHeader::Whole { size, .. } if size <= limit as usize && size <= bytes.len() =>
-                    { Step::Whole(size) }
+                FixedHeader::Whole { length, size }
+                    if size <= limit as usize && size <= bytes.len() => {
+                    Step::Whole {
+                        header: length,
+                        size,
+                    }
+                }
                 _ => Step::Byte,
             }
         } else {
@@ -138,6 +149,7 @@ impl Direction {
     /// # Errors
     ///
     /// The refusal that stands with the packet's last byte; the sink's own refusal; `Memory`.
+    #[inline(never)]
     fn go_on<S: Sink>(
         &mut self,
         bed: Bed,
@@ -177,6 +189,7 @@ impl Direction {
     /// # Errors
     ///
     /// `Memory`, at the first of them.
+    #[inline(never)]
     fn keep(&mut self, at: u64, bytes: &[u8]) -> Result<(), Refusal>
         ensures ok { OnOk result (half_in self.new ≡ record { unfinished = self.old.unfinished.items ++ bytes.now; lost = self.old.lost }) }
         ensures err { IfErr result (λ refusal. refusal ≡ Refusal.Memory at) }
@@ -191,6 +204,7 @@ impl Direction {
     /// # Errors
     ///
     /// The refusal that stands with the last of them; the sink's own refusal; `Memory`.
+    #[inline(never)]
     fn end<S: Sink>(
         &mut self,
         bed: Bed,
@@ -237,12 +251,14 @@ impl Direction {
             → OnOk result (S.agrees sink.new (put (flow_placed_with (bed_of bed) (flow_of at (record { unfinished = []; lost = false }) connections.old) (frame_event bed.way self.old.unfinished.items)) earlier)) }
         ensures err { IfErr result (λ refusal. Untold S.refuses at (frame_met at (flow_of at (record { unfinished = []; lost = false }) connections.old) bed.way self.old.unfinished.items) sink.old sink.new refusal) }
     {
-        let told = tell_frame(bed, connections, at, self.unfinished.as_slice(), sink);
+        let frame = self.unfinished.as_slice();
+        let told = tell_frame(bed, connections, at, header_of(frame), frame, sink);
         self.unfinished.clear();
         told
     }
 
     /// Takes in one byte, which may belong to a fixed header.
+    #[inline(never)]
     fn take_byte<S: Sink>(
         &mut self,
         bed: Bed,
@@ -270,6 +286,7 @@ impl Direction {
     /// # Errors
     ///
     /// The refusal that stands with it; the sink's own refusal.
+    #[inline(never)]
     fn settle<S: Sink>(
         &mut self,
         bed: Bed,
@@ -306,6 +323,7 @@ impl Direction {
     /// # Errors
     ///
     /// `TooLong` where there are 4,294,967,295 events already; the sink's own refusal.
+    #[inline(never)]
     fn lose<S: Sink>(
         &mut self,
         bed: Bed,
@@ -332,7 +350,19 @@ impl Direction {
     }
 }
 
-/// Takes in a whole packet, where none is unfinished.
+/// How many bytes the fixed header of a whole packet has.
+fn header_of(frame: &[u8]) -> usize
+    requires { frame_size frame.now ≡ Some (length frame.now) }
+    ensures is { fixed_header_of frame.now ≡ headers.Whole result (length frame.now) }
+    ensures fits { length frame.now ≤ result + 268435455 }
+{
+    let FixedHeader::Whole { length, .. } = fixed_header(frame) else {
+        unreachable!()
+    };
+    length
+}
+
+/// Takes in a whole packet, whose fixed header has so many bytes, where none is unfinished.
 ///
 /// # Errors
 ///
@@ -341,30 +371,35 @@ fn take_whole<S: Sink>(
     bed: Bed,
     connections: &mut Connections,
     at: u64,
+    header: usize,
     frame: &[u8],
     sink: &mut S,
 ) -> Result<(), Refusal>
     requires some { 1 ≤ length frame.now }
     requires room { at + length frame.now < 2 ^ 64 }
-    requires whole { frame_size frame.now ≡ Some (length frame.now) }
+    requires whole { fixed_header_of frame.now ≡ headers.Whole header (length frame.now) }
+    requires fits { length frame.now ≤ header + 268435455 }
     requires within { length frame.now ≤ bed.limit }
     ensures comes { OnOk result (FlowComes S.agrees bed.limit (bed_of bed) (flow_of at (record { unfinished = []; lost = false }) connections.old)
         (flow_of (at + length frame.now) (record { unfinished = []; lost = false }) connections.new) frame.now sink.old sink.new) }
     ensures stops { IfErr result (λ refusal. FlowStops S.refuses bed.limit (bed_of bed) (flow_of at (record { unfinished = []; lost = false }) connections.old) frame.now sink.old sink.new refusal) }
 {
     let last = at + (frame.len() - 1) as u64;
-    tell_frame(bed, connections, last, frame, sink)
+    tell_frame(bed, connections, last, header, frame, sink)
 }
 
-/// Tells a sink of a whole packet, whose last byte stands at this offset of the log.
+/// Tells a sink of a whole packet, whose fixed header has so many bytes and whose last byte stands at this offset of the log.
+#[inline(always)]
 fn tell_frame<S: Sink>(
     bed: Bed,
     connections: &mut Connections,
     at: u64,
+    header: usize,
     frame: &[u8],
     sink: &mut S,
 ) -> Result<(), Refusal>
-    requires whole { frame_size frame.now ≡ Some (length frame.now) }
+    requires whole { fixed_header_of frame.now ≡ headers.Whole header (length frame.now) }
+    requires fits { length frame.now ≤ header + 268435455 }
     ensures met { OnOk result (frame_met at (flow_of at (record { unfinished = []; lost = false }) connections.old) bed.way frame.now ≡ None) }
     ensures kept { OnOk result (connections.new ≡ connections_then bed.server connections.old (frame_event bed.way frame.now)) }
     ensures heard { (earlier : List Placed) → S.agrees sink.old earlier
@@ -372,40 +407,76 @@ fn tell_frame<S: Sink>(
         → OnOk result (S.agrees sink.new (put (flow_placed_with (bed_of bed) (flow_of at (record { unfinished = []; lost = false }) connections.old) (frame_event bed.way frame.now)) earlier)) }
     ensures err { IfErr result (λ refusal. Untold S.refuses at (frame_met at (flow_of at (record { unfinished = []; lost = false }) connections.old) bed.way frame.now) sink.old sink.new refusal) }
 {
-    match item_in(frame) {
-        Some(item) => tell(
-            connections,
-            bed.server,
-            at,
-            bed.record_no,
-            going(bed.way, item),
-            sink,
-        ),
-        None => Err(Refusal::OtherVersion(at)),
+    let first = frame[0];
+    match decode(first, &frame[header..]) {
+        Ok(packet) => tell_packet(bed, connections, at, packet, sink),
+        Err(DecodeFault::Broken(fault)) => {
+            let item = Item::Bad {
+                first,
+                rule: fault.rule,
+                at: fault.at,
+            };
+            tell_item(bed, connections, at, item, sink)
+        }
+        Err(DecodeFault::OtherVersion(_)) => Err(Refusal::OtherVersion(at)),
     }
 }
 
-/// What a whole packet is, unless it is a CONNECT of another protocol version (MQTT 5.0, section 3.1.2.2).
-fn item_in(frame: &[u8]) -> Option<Item<'_>>
-    requires { frame_size frame.now ≡ Some (length frame.now) }
-    ensures { option_map item_of result ≡ item_read (length frame.now) (slice_index frame.now 0) (read_frame frame.now) }
+/// Tells a sink of a packet.
+#[inline(always)]
+fn tell_packet<S: Sink>(
+    bed: Bed,
+    connections: &mut Connections,
+    at: u64,
+    packet: Packet<'_>,
+    sink: &mut S,
+) -> Result<(), Refusal>
+    ensures met { OnOk result (met_by at connections.old (going bed.way (item_of (items.Packet packet.entry))) ≡ None) }
+    ensures kept { OnOk result (connections.new ≡ connections_with bed.server connections.old (going bed.way (item_of (items.Packet packet.entry)))) }
+    ensures heard { (earlier : List Placed) → S.agrees sink.old earlier → AreEvents (next_placed connections.old bed.record_no (going bed.way (item_of (items.Packet packet.entry))) ∷ earlier)
+        → OnOk result (S.agrees sink.new (next_placed connections.old bed.record_no (going bed.way (item_of (items.Packet packet.entry))) ∷ earlier)) }
+    ensures err { IfErr result (λ refusal. Untold S.refuses at (met_by at connections.old (going bed.way (item_of (items.Packet packet.entry)))) sink.old sink.new refusal) }
 {
-    let FixedHeader::Whole { length, .. } = fixed_header(frame) else {
-        unreachable!()
-    };
-    let first = frame[0];
-    match decode(first, &frame[length..]) {
-        Ok(packet) => Some(Item::Packet(packet)),
-        Err(DecodeFault::Broken(fault)) => Some(Item::Bad {
-            first,
-            rule: fault.rule,
-            at: fault.at,
-        }),
-        Err(DecodeFault::OtherVersion(_)) => None,
+    // Each way apart, so that the packet, which is large, is moved once.
+    match bed.way {
+        Way::Sent => {
+            let event = Event::Sent(Item::Packet(packet));
+            tell(connections, bed.server, at, bed.record_no, event, sink)
+        }
+        Way::Recv => {
+            let event = Event::Recv(Item::Packet(packet));
+            tell(connections, bed.server, at, bed.record_no, event, sink)
+        }
     }
+}
+
+/// Tells a sink of an item.
+#[inline(never)]
+fn tell_item<S: Sink>(
+    bed: Bed,
+    connections: &mut Connections,
+    at: u64,
+    item: Item<'_>,
+    sink: &mut S,
+) -> Result<(), Refusal>
+    ensures met { OnOk result (met_by at connections.old (going bed.way (item_of item.entry)) ≡ None) }
+    ensures kept { OnOk result (connections.new ≡ connections_with bed.server connections.old (going bed.way (item_of item.entry))) }
+    ensures heard { (earlier : List Placed) → S.agrees sink.old earlier → AreEvents (next_placed connections.old bed.record_no (going bed.way (item_of item.entry)) ∷ earlier)
+        → OnOk result (S.agrees sink.new (next_placed connections.old bed.record_no (going bed.way (item_of item.entry)) ∷ earlier)) }
+    ensures err { IfErr result (λ refusal. Untold S.refuses at (met_by at connections.old (going bed.way (item_of item.entry))) sink.old sink.new refusal) }
+{
+    tell(
+        connections,
+        bed.server,
+        at,
+        bed.record_no,
+        going(bed.way, item),
+        sink,
+    )
 }
 
 /// An item that goes this way.
+#[inline(always)]
 fn going(way: Way, item: Item<'_>) -> Event<'_>
     ensures { event_of result ≡ going way (item_of item.entry) }
 {

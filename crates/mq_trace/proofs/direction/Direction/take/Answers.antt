@@ -7,7 +7,7 @@ use Rattle.mq_trace.specs.Keeping.{half_in}
 use Rattle.mq_trace.specs.Flows.{flow_behind}
 use Rattle.mq_trace.specs.Directing.{bed_of, flow_of, FlowStops}
 use Rattle.mq_trace.proofs.FlowLaws.{lost-refused, lost-heard}
-use Rattle.mq_trace.proofs.DirectionLaws.{frame_front, first_front, lost_kept, stops_front, empty_half}
+use Rattle.mq_trace.proofs.DirectionLaws.{frame_front, header_front, first_front, lost_kept, stops_front, empty_half}
 use Rattle.mq_trace.proofs.direction.Direction.take.Goals as goal
 
 pub returns-then-self-clause-unrefused : goal.returns-then-self-clause-unrefused
@@ -28,7 +28,10 @@ pub take_whole-requires-clause-some : goal.take_whole-requires-clause-some
 take_whole-requires-clause-some g c = let known = frame_front c.args.bytes.now c.in-Whole.size c.in-Whole.ensures.1 in omega (arith, known.0, known.2)
 
 pub take_whole-requires-clause-whole : goal.take_whole-requires-clause-whole
-take_whole-requires-clause-whole g c = (frame_front c.args.bytes.now c.in-Whole.size c.in-Whole.ensures.1).3
+take_whole-requires-clause-whole g c = header_front c.args.bytes.now c.in-Whole.header c.in-Whole.size c.in-Whole.ensures.1 c.in-Whole.ensures.3
+
+pub take_whole-requires-clause-fits : goal.take_whole-requires-clause-fits
+take_whole-requires-clause-fits g c = let front = (frame_front c.args.bytes.now c.in-Whole.size c.in-Whole.ensures.1).2 in omega (arith, front, c.in-Whole.ensures.4)
 
 pub returns-in-Ok-clause-count : goal.returns-in-Ok-clause-count
 returns-in-Ok-clause-count g c = let known = frame_front c.args.bytes.now c.in-Whole.size c.in-Whole.ensures.1 in (known.0, known.1)
