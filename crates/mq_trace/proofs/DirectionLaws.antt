@@ -3,6 +3,7 @@ use Rattle.std.proofs.Common.{◌≡◌, ℕ, ◌+◌, ◌<◌, ◌≤◌, Bool,
 use Rattle.std.proofs.Common.{inl, inr, Result, Ok, Err}
 use Rattle.std.specs.Prelude.{option_map, ◌||◌, OnOk, IfErr, slice_index}
 use Rattle.std.proofs.lemmas.List.{take-append-drop}
+use Rattle.mq_packet.specs.declared.header.FixedHeader.{FixedHeader}
 use Rattle.mq_packet.specs.declared.header.FixedHeader.TheVariants as headers
 use Rattle.mq_packet.specs.Stream.{fixed_header_of, frame_size}
 use Rattle.mq_packet.proofs.StreamLaws.{header_from_frame, frame_from_header, whole_stays, frame_bounds, frame_stood}
@@ -22,7 +23,7 @@ use Rattle.mq_trace.specs.Keeping.{IsShort, IsUnfinished}
 use Rattle.mq_trace.specs.Telling.{connections_with, RefusedBySink, Untold}
 use Rattle.mq_trace.specs.Flows.{Bed, Flow, going, flow_placed_with, flow_with, flow_behind, flow_refused, flow_heard}
 use Rattle.mq_trace.specs.Directing.{bed_of, flow_of, frame_event, frame_met, connections_then, FlowWhy, FlowStops, FlowComes}
-use Rattle.mq_trace.proofs.FlowLaws.{lost-behind, HasLast, has_last, IsQuiet, until_last, quiet-refused, quiet-heard, quiet-behind, complete-refused-within, complete-heard-frame, complete-behind-frame}
+use Rattle.mq_trace.proofs.FlowLaws.{lost-behind, HasLast, has_last, IsQuiet, until_last, quiet-refused, quiet-heard, quiet-behind, short-refused, short-heard, short-behind, complete-refused-within, complete-heard-frame, complete-behind-frame}
 
 -- a direction that isn't lost, with these bytes of an unfinished packet
 abbrev pub going_on : List ℕ → Half
@@ -222,6 +223,39 @@ keeps_unfinished limit half new_half bytes header size open_yet kept e short les
     let within : (length (half.unfinished ++ bytes) < size) × (size ≤ limit) = (omega arith, bounds.1) in
     subst (IsUnfinished limit) (sym kept)
     (subst (IsShort limit (half.unfinished ++ bytes)) (sym stays) within, λ (is : half.lost ≡ true). (let never : false ≡ true = sym open_yet ∙ is in absurd (cc))))
+
+-- Bytes that begin a packet do nothing but stay, where it isn't whole with them and no larger than the limit, ..
+pub begins : {S : Type 0} (agrees : S → List Placed → Type 0) (limit : ℕ) (bed : Bed) (at : ℕ) (c : Connections) (half new_half : Half) (bytes : List ℕ) (sink : S) → half.unfinished ≡ [] → half.lost ≡ false
+    → new_half ≡ record { unfinished = half.unfinished ++ bytes; lost = half.lost } → IsShort limit bytes (fixed_header_of bytes)
+    → FlowComes agrees limit bed (flow_of at half c) (flow_of (at + length bytes) new_half c) bytes sink sink
+begins {S} agrees limit bed at c half new_half bytes sink none open_yet kept short = told (fixed_header_of bytes) refl short
+  where
+    is : half ≡ going_on []
+    is = ap (λ (u : List ℕ). record { unfinished = u; lost = half.lost }) none ∙ ap (λ (l : Bool). record { unfinished = []; lost = l }) open_yet
+
+    kept_is : going_on bytes ≡ new_half
+    kept_is = sym (kept ∙ ap (λ (u : List ℕ). record { unfinished = u ++ bytes; lost = half.lost }) none ∙ ap (λ (l : Bool). record { unfinished = bytes; lost = l }) open_yet)
+
+    comes : flow_refused limit bed (flow_of at half c) bytes ≡ None → flow_heard bed (flow_of at half c) bytes ≡ [] → flow_behind bed (flow_of at half c) bytes ≡ flow_of (at + length bytes) (going_on bytes) c
+        → FlowComes agrees limit bed (flow_of at half c) (flow_of (at + length bytes) new_half c) bytes sink sink
+    comes unrefused heard behind = record {
+      unrefused = unrefused;
+      kept = behind ∙ ap (λ (h : Half). flow_of (at + length bytes) h c) kept_is;
+      told = λ earlier was are. subst (λ (l : List Placed). agrees sink (l ++ earlier)) (sym heard) was;
+    }
+
+    told : (front : FixedHeader) → fixed_header_of bytes ≡ front → IsShort limit bytes front → FlowComes agrees limit bed (flow_of at half c) (flow_of (at + length bytes) new_half c) bytes sink sink
+    told headers.Short e few = comes (short-refused limit bed (flow_of at half c) [] bytes is e) (short-heard bed (flow_of at half c) [] bytes is e) (short-behind bed (flow_of at half c) [] bytes is e)
+    told headers.Lost e never = absurd never
+    told (headers.Whole header size) e bounds = comes (quiet-refused limit bed (flow_of at half c) [] bytes header size is e bounds.0 (inl bounds.1))
+        (quiet-heard bed (flow_of at half c) [] bytes header size is e bounds.0) (quiet-behind bed (flow_of at half c) [] bytes header size is e bounds.0)
+
+-- .. and it is unfinished.
+pub begins_unfinished : (limit : ℕ) (half new_half : Half) (bytes : List ℕ) → half.unfinished ≡ [] → half.lost ≡ false → new_half ≡ record { unfinished = half.unfinished ++ bytes; lost = half.lost }
+    → IsShort limit bytes (fixed_header_of bytes) → IsUnfinished limit new_half
+begins_unfinished limit half new_half bytes none open_yet kept short =
+    (let is : new_half ≡ going_on bytes = kept ∙ ap (λ (u : List ℕ). record { unfinished = u ++ bytes; lost = half.lost }) none ∙ ap (λ (l : Bool). record { unfinished = bytes; lost = l }) open_yet in
+    subst (IsUnfinished limit) (sym is) (short, λ e. absurd (cc)))
 
 -- The bytes that an unfinished packet lacks make it whole.
 pub whole_with : (u bytes : List ℕ) (header size : ℕ) → fixed_header_of u ≡ headers.Whole header size → length u + length bytes ≡ size → frame_size (u ++ bytes) ≡ Some (length (u ++ bytes))

@@ -8,10 +8,6 @@ use Rattle.mq_trace.specs.declared.direction.Bed.{Bed as BedInMemory}
 use Rattle.mq_trace.specs.Events.{Event, Placed, item_read, read_frame}
 use Rattle.mq_trace.specs.Refusals.{first_standing, is_other_version}
 use Rattle.mq_trace.specs.Context.{Half}
-use Rattle.mq_packet.specs.declared.header.FixedHeader.TheVariants as headers
-use Rattle.mq_packet.specs.Stream.{fixed_header_of, frame_size}
-use Rattle.mq_trace.specs.declared.direction.Step.{Step}
-use Rattle.mq_trace.specs.declared.direction.Step.TheVariants as steps
 use Rattle.mq_trace.specs.Hearing.{AreEvents}
 use Rattle.mq_trace.specs.Flows.{Bed, Flow, going, comes_early, flow_refused, flow_behind, flow_heard}
 use Rattle.mq_trace.specs.Telling.{connections_with, RefusedBySink}
@@ -62,9 +58,3 @@ pub record FlowComes {S : Type 0} (agrees : S → List Placed → Type 0) (limit
   pub unrefused : flow_refused limit bed f bytes ≡ None
   pub kept : flow_behind bed f bytes ≡ f'
   pub told : (earlier : List Placed) → agrees old earlier → AreEvents (flow_heard bed f bytes ++ earlier) → agrees new (flow_heard bed f bytes ++ earlier)
-
--- What the next bytes of a direction are: a whole packet within the limit, with its fixed header's length; more of an unfinished packet of this size; or a byte that may belong to a fixed header.
-abbrev pub IsStep : Half → ℕ → List ℕ → Step → Type 0
-IsStep half limit bytes (steps.Whole header size) = (half.unfinished ≡ []) × (frame_size bytes ≡ Some size) × (size ≤ limit) × (fixed_header_of bytes ≡ headers.Whole header size) × (size ≤ header + 268435455)
-IsStep half limit bytes (steps.More size) = (header : ℕ) × (fixed_header_of half.unfinished ≡ headers.Whole header size)
-IsStep half limit bytes steps.Byte = Unit {0}

@@ -9,9 +9,9 @@ ghost use Rattle.mq_trace.specs.Hearing.{AreEvents, event_of, item_of};
 ghost use Rattle.mq_trace.specs.declared.event.Item.TheVariants as items;
 ghost use Rattle.mq_trace.specs.Telling.{Untold, met_by, connections_with, next_placed};
 ghost use Rattle.mq_trace.specs.Keeping.{half_in, IsUnfinished};
-ghost use Rattle.mq_trace.specs.Settling.{IsByteMore};
+ghost use Rattle.mq_trace.specs.Settling.{IsByteMore, IsStep};
 ghost use Rattle.mq_trace.specs.Flows.{going, flow_placed_with, flow_refused, flow_heard, flow_behind};
-ghost use Rattle.mq_trace.specs.Directing.{bed_of, flow_of, frame_event, frame_met, connections_then, FlowStops, FlowComes, IsStep};
+ghost use Rattle.mq_trace.specs.Directing.{bed_of, flow_of, frame_event, frame_met, connections_then, FlowStops, FlowComes};
 
 use super::connections::{Connections, tell};
 use super::event::{Event, Item};
@@ -52,6 +52,8 @@ pub enum Step {
         /// How many bytes it has.
         size: usize,
     },
+    /// The beginning of a packet, of which more is to come.
+    Beginning,
     /// More of the unfinished packet, which has this size.
     More(usize),
     /// A byte that may belong to a fixed header.
@@ -113,6 +115,10 @@ impl Direction {
                     Err(refusal) => Err(refusal),
                 }
             }
+            Step::Beginning => match self.keep(at, bytes) {
+                Ok(()) => Ok(bytes.len()),
+                Err(refusal) => Err(refusal),
+            },
             Step::More(size) => self.go_on(bed, connections, at, size, bytes, sink),
             Step::Byte => match self.take_byte(bed, connections, at, bytes[0], sink) {
                 Ok(()) => Ok(1),
@@ -127,13 +133,17 @@ impl Direction {
     {
         if self.unfinished.is_empty() {
             match fixed_header(bytes) {
-                FixedHeader::Whole { length, size }
-                    if size <= limit as usize && size <= bytes.len() => {
-                    Step::Whole {
-                        header: length,
-                        size,
+                FixedHeader::Whole { length, size } if size <= limit as usize => {
+                    if size <= bytes.len() {
+                        Step::Whole {
+                            header: length,
+                            size,
+                        }
+                    } else {
+                        Step::Beginning
                     }
                 }
+                FixedHeader::Short => Step::Beginning,
                 _ => Step::Byte,
             }
         } else {

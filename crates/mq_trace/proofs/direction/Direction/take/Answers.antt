@@ -1,13 +1,16 @@
 -- The next packet of a direction.
 use Rattle.std.proofs.Common.{◌≡◌, ◌<◌, ◌≤◌, ◌+◌, false, ℕ, List, [], ◌∷◌, ◌++◌, length, arith, sym, subst, ap, ◌∙◌, take}
 use Rattle.std.specs.Prelude.{slice_index}
+use Rattle.std.proofs.lemmas.List.{take_all}
 use Rattle.mq_trace.specs.Events.{Placed}
 use Rattle.mq_trace.specs.Context.{Half}
 use Rattle.mq_trace.specs.Keeping.{half_in}
-use Rattle.mq_trace.specs.Flows.{flow_behind}
+use Rattle.mq_trace.specs.declared.refusal.Refusal.{Refusal}
+use Rattle.mq_trace.specs.Hearing.{AreEvents}
+use Rattle.mq_trace.specs.Flows.{flow_behind, flow_refused, flow_heard}
 use Rattle.mq_trace.specs.Directing.{bed_of, flow_of, FlowStops}
 use Rattle.mq_trace.proofs.FlowLaws.{lost-refused, lost-heard}
-use Rattle.mq_trace.proofs.DirectionLaws.{frame_front, header_front, first_front, lost_kept, stops_front, empty_half}
+use Rattle.mq_trace.proofs.DirectionLaws.{frame_front, header_front, first_front, lost_kept, stops_front, stops_memory, empty_half, begins, begins_unfinished}
 use Rattle.mq_trace.proofs.direction.Direction.take.Goals as goal
 
 pub returns-then-self-clause-unrefused : goal.returns-then-self-clause-unrefused
@@ -57,3 +60,32 @@ returns-in-Err-take_byte-clause-stops g c =
     c.args.sink.now c.take_byte.new.sink _
     (subst (λ (t : List ℕ). FlowStops {S = g.row.S.Denot} g.S.Sink.refuses c.args.bed.limit (bed_of c.args.bed) (flow_of c.args.at (half_in c.args.self.now) c.args.connections.now) t
     c.args.sink.now c.take_byte.new.sink c.in-Err-take_byte.refusal) (first_front c.args.bytes.now c.requires.some) c.in-Err-take_byte.ensures.stops)
+
+pub returns-in-Ok-keep-clause-unrefused : goal.returns-in-Ok-keep-clause-unrefused
+returns-in-Ok-keep-clause-unrefused g c =
+    let comes = begins g.S.Sink.agrees c.args.bed.limit (bed_of c.args.bed) c.args.at c.args.connections.now (half_in c.args.self.now) (half_in c.keep.new.self) c.args.bytes.now c.args.sink.now
+    c.in-Beginning.ensures.0 c.if-self.false c.in-Ok-keep.ensures.ok c.in-Beginning.ensures.1 in
+    ap (flow_refused c.args.bed.limit (bed_of c.args.bed) (flow_of c.args.at (half_in c.args.self.now) c.args.connections.now)) (take_all (length c.args.bytes.now) c.args.bytes.now (omega arith)) ∙ comes.unrefused
+
+pub returns-in-Ok-keep-clause-kept : goal.returns-in-Ok-keep-clause-kept
+returns-in-Ok-keep-clause-kept g c =
+    let comes = begins g.S.Sink.agrees c.args.bed.limit (bed_of c.args.bed) c.args.at c.args.connections.now (half_in c.args.self.now) (half_in c.keep.new.self) c.args.bytes.now c.args.sink.now
+    c.in-Beginning.ensures.0 c.if-self.false c.in-Ok-keep.ensures.ok c.in-Beginning.ensures.1 in
+    ap (flow_behind (bed_of c.args.bed) (flow_of c.args.at (half_in c.args.self.now) c.args.connections.now)) (take_all (length c.args.bytes.now) c.args.bytes.now (omega arith)) ∙ comes.kept
+
+pub returns-in-Ok-keep-clause-heard : goal.returns-in-Ok-keep-clause-heard
+returns-in-Ok-keep-clause-heard g c =
+    let comes = begins g.S.Sink.agrees c.args.bed.limit (bed_of c.args.bed) c.args.at c.args.connections.now (half_in c.args.self.now) (half_in c.keep.new.self) c.args.bytes.now c.args.sink.now
+    c.in-Beginning.ensures.0 c.if-self.false c.in-Ok-keep.ensures.ok c.in-Beginning.ensures.1 in
+    subst (λ (t : List ℕ). (earlier : List Placed) → g.S.Sink.agrees c.args.sink.now earlier → AreEvents (flow_heard (bed_of c.args.bed) (flow_of c.args.at (half_in c.args.self.now) c.args.connections.now) t ++ earlier)
+    → g.S.Sink.agrees c.args.sink.now (flow_heard (bed_of c.args.bed) (flow_of c.args.at (half_in c.args.self.now) c.args.connections.now) t ++ earlier))
+    (sym (take_all (length c.args.bytes.now) c.args.bytes.now (omega arith))) comes.told
+
+pub returns-in-Ok-keep-clause-sound : goal.returns-in-Ok-keep-clause-sound
+returns-in-Ok-keep-clause-sound g c = begins_unfinished c.args.bed.limit (half_in c.args.self.now) (half_in c.keep.new.self) c.args.bytes.now c.in-Beginning.ensures.0 c.if-self.false c.in-Ok-keep.ensures.ok c.in-Beginning.ensures.1
+
+pub returns-in-Err-keep-clause-stops : goal.returns-in-Err-keep-clause-stops
+returns-in-Err-keep-clause-stops g c =
+    subst (λ (refusal : Refusal). FlowStops {S = g.row.S.Denot} g.S.Sink.refuses c.args.bed.limit (bed_of c.args.bed) (flow_of c.args.at (half_in c.args.self.now) c.args.connections.now)
+    c.args.bytes.now c.args.sink.now c.args.sink.now refusal) (sym c.in-Err-keep.ensures.err)
+    (stops_memory g.S.Sink.refuses c.args.bed.limit (bed_of c.args.bed) (flow_of c.args.at (half_in c.args.self.now) c.args.connections.now) c.args.bytes.now c.args.sink.now (omega (arith, c.requires.some)))
