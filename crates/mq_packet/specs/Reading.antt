@@ -10,11 +10,12 @@ use Rattle.mq_packet.specs.declared.packet.Packet.{Packet}
 use Rattle.mq_packet.specs.declared.packet.Packet.TheVariants as packets
 use Rattle.mq_packet.specs.declared.packet.Will.{Will}
 use Rattle.mq_packet.specs.declared.packet.Connect.{Connect}
+use Rattle.mq_packet.specs.declared.packet.Publish.{Publish}
 use Rattle.mq_packet.specs.declared.packet.AcknowledgementKind.TheVariants as acknowledgements
 use Rattle.mq_packet.specs.declared.packet.RequestKind.TheVariants as requests
 use Rattle.mq_packet.specs.declared.stop.Stop.{Stop}
 use Rattle.mq_packet.specs.declared.stop.Stop.TheVariants as stops
-use Rattle.mq_packet.specs.Entries.{Entry, WillFields, ConnectFields, connect, connack, publish, acknowledgement, request, answer, pingreq, pingresp, disconnect, auth}
+use Rattle.mq_packet.specs.Entries.{Entry, WillFields, ConnectFields, PublishFields, connect, connack, publish, acknowledgement, request, answer, pingreq, pingresp, disconnect, auth}
 use Rattle.mq_packet.specs.Decoding.{broken, rule_of, list_rule}
 
 -- The Will of a CONNECT in memory.
@@ -25,11 +26,15 @@ will_view w = record { qos = w.qos; retain = w.retain; properties = w.properties
 abbrev pub connect_view : Connect → ConnectFields
 connect_view p = record { clean_start = p.clean_start; keep_alive = p.keep_alive; properties = p.properties; client_identifier = p.client_identifier.now; will = option_map will_view p.will; user_name = option_map (λ t. t.now) p.user_name; password = option_map (λ b. b.now) p.password }
 
+-- The fields of a PUBLISH in memory.
+abbrev pub publish_view : Publish → PublishFields
+publish_view p = record { duplicate = p.duplicate; qos = p.qos; retain = p.retain; topic = p.topic.now; identifier = p.identifier; properties = p.properties; payload = p.payload.now }
+
 -- The fields of a packet in memory: all but `read_len`, which tells how it was spelled.
 abbrev pub view : Packet → Entry
 view (packets.Connect p) = connect (connect_view p)
 view (packets.Connack p) = connack p.session_present p.code p.properties
-view (packets.Publish p) = publish (record { duplicate = p.duplicate; qos = p.qos; retain = p.retain; topic = p.topic.now; identifier = p.identifier; properties = p.properties; payload = p.payload.now })
+view (packets.Publish p) = publish (publish_view p)
 view (packets.Puback p) = acknowledgement acknowledgements.Puback p.identifier p.code p.properties
 view (packets.Pubrec p) = acknowledgement acknowledgements.Pubrec p.identifier p.code p.properties
 view (packets.Pubrel p) = acknowledgement acknowledgements.Pubrel p.identifier p.code p.properties

@@ -37,9 +37,9 @@ pub fn read_packet<'a>(first: u8, cursor: Cursor<'a>, size: usize) -> Result<Pac
     ensures { Reads view result (read (format_of first size) cursor.entry) }
 {
     match first {
-        0x10 => read_connect(cursor),
-        0x20 => read_connack(cursor),
-        0x30..0x40 => read_publish(first, cursor),
+        0x10 => read_connect(cursor).map(Packet::Connect),
+        0x20 => read_connack(cursor).map(Packet::Connack),
+        0x30..0x40 => read_publish(first, cursor).map(Packet::Publish),
         0x40 => read_acknowledgement(cursor, AcknowledgementKind::Puback).map(Packet::Puback),
         0x50 => read_acknowledgement(cursor, AcknowledgementKind::Pubrec).map(Packet::Pubrec),
         0x62 => read_acknowledgement(cursor, AcknowledgementKind::Pubrel).map(Packet::Pubrel),

@@ -1,13 +1,14 @@
 //! The reader of CONNACK (MQTT 5.0, section 3.2).
 
 ghost use Rattle.std.specs.Prelude.{◌≡◌};
+ghost use Rattle.mq_packet.specs.Entries.{connack};
 ghost use Rattle.mq_packet.specs.Formats.{byte, connack_flags_objection, connack_format};
 ghost use Rattle.mq_packet.specs.Decoding.{read, read_field};
-ghost use Rattle.mq_packet.specs.Reading.{Takes, Reads, view};
+ghost use Rattle.mq_packet.specs.Reading.{Takes, Reads};
 
 use super::fields::{property_list, reason_code, whole};
 use crate::codes::CONNACK_CODES;
-use crate::packet::{Connack, Packet};
+use crate::packet::Connack;
 use crate::rule::PacketRule;
 use crate::stop::Stop;
 use mq_props::Place;
@@ -21,8 +22,8 @@ const SESSION_PRESENT: u8 = 0x01;
 /// # Errors
 ///
 /// The first rule that a field breaks: W06, W20, W13, or one of its property list.
-pub fn read_connack<'a>(mut cursor: Cursor<'a>) -> Result<Packet<'a>, Stop>
-    ensures { Reads view result (read connack_format cursor.entry) }
+pub fn read_connack<'a>(mut cursor: Cursor<'a>) -> Result<Connack<'a>, Stop>
+    ensures { Reads (λ p. connack p.session_present p.code p.properties) result (read connack_format cursor.entry) }
 {
     let flags = connack_flags(&mut cursor)?;
     let code = reason_code(&mut cursor, &CONNACK_CODES)?;
@@ -30,11 +31,11 @@ pub fn read_connack<'a>(mut cursor: Cursor<'a>) -> Result<Packet<'a>, Stop>
     let session_present = flags == SESSION_PRESENT;
     whole(
         cursor,
-        Packet::Connack(Connack {
+        Connack {
             session_present,
             code,
             properties,
-        }),
+        },
     )
 }
 

@@ -1,12 +1,13 @@
 //! The reader of CONNECT (MQTT 5.0, section 3.1).
 
 ghost use Rattle.std.specs.Prelude.{◌≡◌, true, bit_and};
+ghost use Rattle.mq_packet.specs.Entries.{connect};
 ghost use Rattle.mq_packet.specs.Formats.{byte, connect_flags_objection, are_connect_flags, qos_of, connect_format, connect_from, will_if, user_name_from, password_from};
 ghost use Rattle.mq_packet.specs.Decoding.{read, read_field};
-ghost use Rattle.mq_packet.specs.Reading.{Takes, Reads, view, with_password, with_names, with_will};
+ghost use Rattle.mq_packet.specs.Reading.{Takes, Reads, connect_view, with_password, with_names, with_will};
 
 use super::fields::{property_list, protocol_name, protocol_version, whole};
-use crate::packet::{Connect, Packet, Qos, Will};
+use crate::packet::{Connect, Qos, Will};
 use crate::rule::PacketRule;
 use crate::stop::Stop;
 use mq_props::Place;
@@ -72,8 +73,8 @@ fn will_qos(flags: u8) -> Qos
 /// # Errors
 ///
 /// The first rule that a field breaks: W06, W18, W19, one of a text or of a property list; or the version, where it isn't 5.
-pub fn read_connect<'a>(mut cursor: Cursor<'a>) -> Result<Packet<'a>, Stop>
-    ensures { Reads view result (read connect_format cursor.entry) }
+pub fn read_connect<'a>(mut cursor: Cursor<'a>) -> Result<Connect<'a>, Stop>
+    ensures { Reads (λ p. connect (connect_view p)) result (read connect_format cursor.entry) }
 {
     protocol_name(&mut cursor)?;
     protocol_version(&mut cursor)?;
@@ -81,8 +82,8 @@ pub fn read_connect<'a>(mut cursor: Cursor<'a>) -> Result<Packet<'a>, Stop>
     read_behind_flags(cursor, flags)
 }
 
-fn read_behind_flags<'a>(mut cursor: Cursor<'a>, flags: u8) -> Result<Packet<'a>, Stop>
-    ensures { Reads view result (read (connect_from flags) cursor.entry) }
+fn read_behind_flags<'a>(mut cursor: Cursor<'a>, flags: u8) -> Result<Connect<'a>, Stop>
+    ensures { Reads (λ p. connect (connect_view p)) result (read (connect_from flags) cursor.entry) }
 {
     let keep_alive = cursor.u16()?;
     let properties = property_list(&mut cursor, Place::Connect)?;
@@ -104,8 +105,12 @@ fn read_behind_flags<'a>(mut cursor: Cursor<'a>, flags: u8) -> Result<Packet<'a>
 }
 
 // The Will (MQTT 5.0, sections 3.1.3.2 to 3.1.3.4), and what stands behind it.
-fn read_will<'a>(mut cursor: Cursor<'a>, flags: u8, packet: Connect<'a>) -> Result<Packet<'a>, Stop>
-    ensures { Reads view result (read (will_if true flags (λ will. user_name_from flags (with_will packet.entry will))) cursor.entry) }
+fn read_will<'a>(
+    mut cursor: Cursor<'a>,
+    flags: u8,
+    packet: Connect<'a>,
+) -> Result<Connect<'a>, Stop>
+    ensures { Reads (λ p. connect (connect_view p)) result (read (will_if true flags (λ will. user_name_from flags (with_will packet.entry will))) cursor.entry) }
 {
     let properties = property_list(&mut cursor, Place::Will)?;
     let topic = cursor.text()?;
@@ -126,8 +131,8 @@ fn read_user_name<'a>(
     mut cursor: Cursor<'a>,
     flags: u8,
     packet: Connect<'a>,
-) -> Result<Packet<'a>, Stop>
-    ensures { Reads view result (read (user_name_from flags (with_names packet.entry)) cursor.entry) }
+) -> Result<Connect<'a>, Stop>
+    ensures { Reads (λ p. connect (connect_view p)) result (read (user_name_from flags (with_names packet.entry)) cursor.entry) }
 {
     if flags & USER_NAME == 0 {
         return read_password(
@@ -155,18 +160,18 @@ fn read_password<'a>(
     mut cursor: Cursor<'a>,
     flags: u8,
     packet: Connect<'a>,
-) -> Result<Packet<'a>, Stop>
-    ensures { Reads view result (read (password_from flags (with_password packet.entry)) cursor.entry) }
+) -> Result<Connect<'a>, Stop>
+    ensures { Reads (λ p. connect (connect_view p)) result (read (password_from flags (with_password packet.entry)) cursor.entry) }
 {
     if flags & PASSWORD == 0 {
         return whole(
             cursor,
-            Packet::Connect(Connect {
+            Connect {
                 password: None,
                 ..packet
-            }),
+            },
         );
     }
     let password = Some(cursor.binary()?);
-    whole(cursor, Packet::Connect(Connect { password, ..packet }))
+    whole(cursor, Connect { password, ..packet })
 }

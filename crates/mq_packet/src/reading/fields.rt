@@ -5,9 +5,8 @@ ghost use Rattle.mq_packet.specs.Entries.{Entry, listed};
 ghost use Rattle.mq_props.specs.Listed.{Listed};
 ghost use Rattle.mq_packet.specs.Formats.{last_properties, byte, two_bytes, text, binary, properties, any_value, name_objection, version_objection, code_objection, is_code, identifier_objection, topic_objection, filter_objection, is_filter};
 ghost use Rattle.mq_packet.specs.Decoding.{read, read_field, ended};
-ghost use Rattle.mq_packet.specs.Reading.{Takes, Reads, view};
+ghost use Rattle.mq_packet.specs.Reading.{Takes, Reads};
 
-use crate::packet::Packet;
 use crate::rule::PacketRule;
 use crate::stop::Stop;
 use mq_props::{Place, Props};
@@ -28,8 +27,9 @@ const PROTOCOL_VERSION: u8 = 5;
 /// # Errors
 ///
 /// W06 at the first byte that is left.
-pub fn whole<'a>(cursor: Cursor<'a>, packet: Packet<'a>) -> Result<Packet<'a>, Stop>
-    ensures { Reads view result (ended (view packet.entry) cursor.entry) }
+pub fn whole<P: Drop>(cursor: Cursor<'_>, packet: P) -> Result<P, Stop>
+    ensures same { IfOk result (λ read. read ≡ packet) }
+    ensures ended { (see : P → Entry) → Reads see result (ended (see packet) cursor.entry) }
 {
     if !cursor.is_empty() {
         return Err(Stop::Broken {

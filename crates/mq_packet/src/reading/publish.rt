@@ -3,13 +3,13 @@
 ghost use Rattle.std.specs.Prelude.{◌≡◌, IfOk, if◌then◌else◌};
 ghost use Rattle.mq_props.specs.declared.table.Place.TheVariants as places;
 ghost use Rattle.mq_packet.specs.declared.rule.PacketRule.TheVariants as rules;
-ghost use Rattle.mq_packet.specs.Entries.{Entry, listed};
+ghost use Rattle.mq_packet.specs.Entries.{publish, listed};
 ghost use Rattle.mq_packet.specs.Formats.{refused, properties, alias_objection, names_topic, has_bits, qos_of, publish_format, publish_unacknowledged, publish_acknowledged, publish_from};
 ghost use Rattle.mq_packet.specs.Decoding.{read, read_field};
-ghost use Rattle.mq_packet.specs.Reading.{Takes, Reads, view};
+ghost use Rattle.mq_packet.specs.Reading.{Takes, Reads, publish_view};
 
 use super::fields::{packet_identifier, property_list, topic_name};
-use crate::packet::{Packet, Publish, Qos};
+use crate::packet::{Publish, Qos};
 use crate::rule::PacketRule;
 use crate::stop::Stop;
 use mq_props::{Place, Props};
@@ -30,8 +30,8 @@ const RETAIN: u8 = 0x01;
 ///
 /// W07 or W08 where the first byte breaks it; else the first rule that a field breaks: a rule of texts, W06, W09, W14, W21, or one
 /// of its property list.
-pub fn read_publish<'a>(first: u8, cursor: Cursor<'a>) -> Result<Packet<'a>, Stop>
-    ensures { Reads view result (read (publish_format first) cursor.entry) }
+pub fn read_publish<'a>(first: u8, cursor: Cursor<'a>) -> Result<Publish<'a>, Stop>
+    ensures { Reads (λ p. publish (publish_view p)) result (read (publish_format first) cursor.entry) }
 {
     let duplicate = first & DUP != 0;
     let retain = first & RETAIN != 0;
@@ -50,8 +50,8 @@ fn read_unacknowledged<'a>(
     cursor: Cursor<'a>,
     duplicate: bool,
     retain: bool,
-) -> Result<Packet<'a>, Stop>
-    ensures { Reads view result (read (if duplicate then refused rules.W08 else publish_unacknowledged retain) cursor.entry) }
+) -> Result<Publish<'a>, Stop>
+    ensures { Reads (λ p. publish (publish_view p)) result (read (if duplicate then refused rules.W08 else publish_unacknowledged retain) cursor.entry) }
 {
     if duplicate {
         return Err(Stop::Broken {
@@ -62,12 +62,12 @@ fn read_unacknowledged<'a>(
     read_at_most_once(cursor, retain)
 }
 
-fn read_at_most_once<'a>(mut cursor: Cursor<'a>, retain: bool) -> Result<Packet<'a>, Stop>
-    ensures { Reads view result (read (publish_unacknowledged retain) cursor.entry) }
+fn read_at_most_once<'a>(mut cursor: Cursor<'a>, retain: bool) -> Result<Publish<'a>, Stop>
+    ensures { Reads (λ p. publish (publish_view p)) result (read (publish_unacknowledged retain) cursor.entry) }
 {
     let topic = topic_name(&mut cursor)?;
     let properties = properties_for(&mut cursor, topic)?;
-    Ok(Packet::Publish(Publish {
+    Ok(Publish {
         duplicate: false,
         qos: Qos::AtMostOnce,
         retain,
@@ -75,7 +75,7 @@ fn read_at_most_once<'a>(mut cursor: Cursor<'a>, retain: bool) -> Result<Packet<
         identifier: None,
         properties,
         payload: cursor.rest(),
-    }))
+    })
 }
 
 fn read_acknowledged<'a>(
@@ -83,13 +83,13 @@ fn read_acknowledged<'a>(
     duplicate: bool,
     qos: Qos,
     retain: bool,
-) -> Result<Packet<'a>, Stop>
-    ensures { Reads view result (read (publish_acknowledged duplicate qos retain) cursor.entry) }
+) -> Result<Publish<'a>, Stop>
+    ensures { Reads (λ p. publish (publish_view p)) result (read (publish_acknowledged duplicate qos retain) cursor.entry) }
 {
     let topic = topic_name(&mut cursor)?;
     let identifier = packet_identifier(&mut cursor)?;
     let properties = properties_for(&mut cursor, topic)?;
-    Ok(Packet::Publish(Publish {
+    Ok(Publish {
         duplicate,
         qos,
         retain,
@@ -97,7 +97,7 @@ fn read_acknowledged<'a>(
         identifier: Some(identifier),
         properties,
         payload: cursor.rest(),
-    }))
+    })
 }
 
 // Whether the packet has a Topic Name, or a Topic Alias that stands for it (MQTT 5.0, section 3.3.2.3.4).

@@ -4,7 +4,7 @@ use Rattle.mq_packet.specs.declared.packet.RequestKind.TheVariants as requests
 use Rattle.mq_packet.specs.Entries.{request, answer}
 use Rattle.mq_packet.specs.Formats.{request_format, answer_format}
 use Rattle.mq_packet.specs.Decoding.{read}
-use Rattle.mq_packet.specs.Reading.{Reads}
+use Rattle.mq_packet.specs.Reading.{Reads, view}
 use Rattle.mq_packet.proofs.reading.read_packet.Goals as goal
 
 pub returns-in-130 : goal.returns-in-130
@@ -26,3 +26,13 @@ pub returns-in-176 : goal.returns-in-176
 returns-in-176 c =
     (let read_so : Reads (λ p. answer requests.Unsubscribe p.identifier p.properties p.codes) c.read_answer-in-176.result (read (answer_format c.args.size requests.Unsubscribe) c.args.cursor) = c.read_answer-in-176.ensures c.args.size c.requires in
     search (rules, read_so))
+
+pub returns-in-192 : goal.returns-in-192
+returns-in-192 c =
+    (let ends = c.whole.ensures.ended view in
+    search (rules, ends))
+
+pub returns-in-208 : goal.returns-in-208
+returns-in-208 c =
+    (let ends = c.whole-in-208.ensures.ended view in
+    search (rules, ends))
