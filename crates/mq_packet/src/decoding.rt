@@ -9,7 +9,7 @@ ghost use Rattle.mq_packet.specs.Reading.{view, HasReadLen, Gives};
 ghost use Rattle.mq_packet.specs.Sizes.{remaining_length};
 
 use crate::fault::{BodyFault, DecodeFault};
-use crate::packet::{Acknowledgement, Ending, Packet};
+use crate::packet::Packet;
 use crate::reading::read_packet;
 use crate::stop::Stop;
 use mq_wire::Cursor;
@@ -45,7 +45,7 @@ fn read_body<'a>(first: u8, body: &'a [u8]) -> Result<Packet<'a>, DecodeFault>
 {
     let cursor = Cursor::starting_at(body, start_of_body(body.len()));
     match read_packet(first, cursor, body.len()) {
-        Ok(packet) => Ok(with_read_len(packet, body.len() as u32)),
+        Ok(packet) => Ok(packet),
         Err(Stop::Broken { at, rule }) => Err(DecodeFault::Broken(BodyFault {
             at: at as u32,
             rule,
@@ -67,40 +67,5 @@ fn start_of_body(size: usize) -> usize
         128..16_384 => 3,
         16_384..2_097_152 => 4,
         _ => 5,
-    }
-}
-
-// The packet, which keeps the length of the body that it was read from if it has several spellings (MQTT 5.0, sections 3.4 to
-// 3.7, 3.14 and 3.15).
-fn with_read_len<'a>(packet: Packet<'a>, len: u32) -> Packet<'a>
-    ensures same { view result ≡ view packet.entry }
-    ensures read_len { HasReadLen len result }
-{
-    match packet {
-        Packet::Puback(p) => Packet::Puback(acknowledgement_of(p, len)),
-        Packet::Pubrec(p) => Packet::Pubrec(acknowledgement_of(p, len)),
-        Packet::Pubrel(p) => Packet::Pubrel(acknowledgement_of(p, len)),
-        Packet::Pubcomp(p) => Packet::Pubcomp(acknowledgement_of(p, len)),
-        Packet::Disconnect(p) => Packet::Disconnect(ending_of(p, len)),
-        Packet::Auth(p) => Packet::Auth(ending_of(p, len)),
-        other => other,
-    }
-}
-
-fn acknowledgement_of<'a>(packet: Acknowledgement<'a>, len: u32) -> Acknowledgement<'a>
-    ensures { result ≡ record { identifier = packet.entry.identifier; code = packet.entry.code; properties = packet.entry.properties; read_len = Some len } }
-{
-    Acknowledgement {
-        read_len: Some(len),
-        ..packet
-    }
-}
-
-fn ending_of<'a>(packet: Ending<'a>, len: u32) -> Ending<'a>
-    ensures { result ≡ record { code = packet.entry.code; properties = packet.entry.properties; read_len = Some len } }
-{
-    Ending {
-        read_len: Some(len),
-        ..packet
     }
 }

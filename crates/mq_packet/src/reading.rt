@@ -10,10 +10,10 @@ mod lists;
 mod publish;
 mod request;
 
-ghost use Rattle.std.specs.Prelude.{◌≡◌, ◌≤◌, length};
+ghost use Rattle.std.specs.Prelude.{◌≡◌, ◌≤◌, IfOk, length};
 ghost use Rattle.mq_packet.specs.Formats.{format_of};
 ghost use Rattle.mq_packet.specs.Decoding.{read};
-ghost use Rattle.mq_packet.specs.Reading.{view, Reads};
+ghost use Rattle.mq_packet.specs.Reading.{view, HasReadLen, Reads};
 
 use crate::packet::{AcknowledgementKind, EndingKind, Packet, RequestKind};
 use crate::rule::PacketRule;
@@ -31,27 +31,31 @@ pub use request::read_request;
 
 /// The packet with this first byte whose body, of no more than this size, is left in the cursor; or where the reading of it
 /// stops. But for PUBLISH, whose first byte has flags of its own, each type has one first byte (MQTT 5.0, sections 2.1.2 and
-/// 2.1.3).
+/// 2.1.3). A packet that has several spellings keeps the size (MQTT 5.0, sections 3.4 to 3.7, 3.14 and 3.15).
 pub fn read_packet<'a>(first: u8, cursor: Cursor<'a>, size: usize) -> Result<Packet<'a>, Stop>
-    requires { length cursor.rest ≤ size }
-    ensures { Reads view result (read (format_of first size) cursor.entry) }
+    requires inside { length cursor.rest ≤ size }
+    requires bound { size ≤ 268435455 }
+    ensures read { Reads view result (read (format_of first size) cursor.entry) }
+    ensures read_len { IfOk result (λ packet. HasReadLen size packet) }
 {
     match first {
         0x10 => read_connect(cursor).map(Packet::Connect),
         0x20 => read_connack(cursor).map(Packet::Connack),
         0x30..0x40 => read_publish(first, cursor).map(Packet::Publish),
-        0x40 => read_acknowledgement(cursor, AcknowledgementKind::Puback).map(Packet::Puback),
-        0x50 => read_acknowledgement(cursor, AcknowledgementKind::Pubrec).map(Packet::Pubrec),
-        0x62 => read_acknowledgement(cursor, AcknowledgementKind::Pubrel).map(Packet::Pubrel),
-        0x70 => read_acknowledgement(cursor, AcknowledgementKind::Pubcomp).map(Packet::Pubcomp),
+        0x40 => read_acknowledgement(cursor, AcknowledgementKind::Puback, size).map(Packet::Puback),
+        0x50 => read_acknowledgement(cursor, AcknowledgementKind::Pubrec, size).map(Packet::Pubrec),
+        0x62 => read_acknowledgement(cursor, AcknowledgementKind::Pubrel, size).map(Packet::Pubrel),
+        0x70 => read_acknowledgement(cursor, AcknowledgementKind::Pubcomp, size).map(
+            Packet::Pubcomp,
+        ),
         0x82 => read_request(cursor, RequestKind::Subscribe).map(Packet::Subscribe),
         0x90 => read_answer(cursor, RequestKind::Subscribe).map(Packet::Suback),
         0xa2 => read_request(cursor, RequestKind::Unsubscribe).map(Packet::Unsubscribe),
         0xb0 => read_answer(cursor, RequestKind::Unsubscribe).map(Packet::Unsuback),
         0xc0 => whole(cursor, Packet::Pingreq),
         0xd0 => whole(cursor, Packet::Pingresp),
-        0xe0 => read_ending(cursor, EndingKind::Disconnect).map(Packet::Disconnect),
-        0xf0 => read_ending(cursor, EndingKind::Auth).map(Packet::Auth),
+        0xe0 => read_ending(cursor, EndingKind::Disconnect, size).map(Packet::Disconnect),
+        0xf0 => read_ending(cursor, EndingKind::Auth, size).map(Packet::Auth),
         0x00..0x10 => Err(refused(PacketRule::W02)),
         _ => Err(refused(PacketRule::W01)),
     }

@@ -1,6 +1,6 @@
 //! The reader of PUBACK, PUBREC, PUBREL and PUBCOMP (MQTT 5.0, sections 3.4 to 3.7).
 
-ghost use Rattle.std.specs.Prelude.{◌≡◌};
+ghost use Rattle.std.specs.Prelude.{◌≡◌, ◌≤◌, Some, IfOk};
 ghost use Rattle.mq_packet.specs.Entries.{acknowledgement, acknowledgement_place, acknowledgement_codes};
 ghost use Rattle.mq_packet.specs.Formats.{acknowledgement_format, last_properties};
 ghost use Rattle.mq_packet.specs.Decoding.{read};
@@ -33,8 +33,8 @@ fn codes_of(kind: AcknowledgementKind) -> &'static [u8]
     }
 }
 
-/// Reads a PUBACK, PUBREC, PUBREL or PUBCOMP (MQTT 5.0, sections 3.4 to 3.7) from all that is left. Where it ends behind its
-/// identifier its Reason Code is 0x00, and where it ends behind its code it has no properties.
+/// Reads a PUBACK, PUBREC, PUBREL or PUBCOMP (MQTT 5.0, sections 3.4 to 3.7) from all that is left of a body of this size, which it
+/// keeps. Where it ends behind its identifier its Reason Code is 0x00, and where it ends behind its code it has no properties.
 ///
 /// # Errors
 ///
@@ -42,8 +42,11 @@ fn codes_of(kind: AcknowledgementKind) -> &'static [u8]
 pub fn read_acknowledgement<'a>(
     mut cursor: Cursor<'a>,
     kind: AcknowledgementKind,
+    size: usize,
 ) -> Result<Acknowledgement<'a>, Stop>
-    ensures { Reads (λ p. acknowledgement kind p.identifier p.code p.properties) result (read (acknowledgement_format kind) cursor.entry) }
+    requires { size ≤ 268435455 }
+    ensures read { Reads (λ p. acknowledgement kind p.identifier p.code p.properties) result (read (acknowledgement_format kind) cursor.entry) }
+    ensures read_len { IfOk result (λ p. p.read_len ≡ Some size) }
 {
     let identifier = packet_identifier(&mut cursor)?;
     if cursor.is_empty() {
@@ -51,11 +54,11 @@ pub fn read_acknowledgement<'a>(
             identifier,
             code: SUCCESS,
             properties: Props::empty(place_of(kind)),
-            read_len: None,
+            read_len: Some(size as u32),
         });
     }
     let code = reason_code(&mut cursor, codes_of(kind))?;
-    read_behind_code(cursor, kind, identifier, code)
+    read_behind_code(cursor, kind, identifier, code, size)
 }
 
 // The acknowledgement with this identifier and code, whose properties, if there are any, are left.
@@ -64,14 +67,17 @@ fn read_behind_code<'a>(
     kind: AcknowledgementKind,
     identifier: u16,
     code: u8,
+    size: usize,
 ) -> Result<Acknowledgement<'a>, Stop>
-    ensures { Reads (λ p. acknowledgement kind p.identifier p.code p.properties) result (read (last_properties (acknowledgement_place kind) (acknowledgement kind identifier code)) cursor.entry) }
+    requires { size ≤ 268435455 }
+    ensures read { Reads (λ p. acknowledgement kind p.identifier p.code p.properties) result (read (last_properties (acknowledgement_place kind) (acknowledgement kind identifier code)) cursor.entry) }
+    ensures read_len { IfOk result (λ p. p.read_len ≡ Some size) }
 {
     let properties = last_properties(cursor, place_of(kind))?;
     Ok(Acknowledgement {
         identifier,
         code,
         properties,
-        read_len: None,
+        read_len: Some(size as u32),
     })
 }

@@ -1,6 +1,6 @@
 //! The reader of DISCONNECT and AUTH (MQTT 5.0, sections 3.14 and 3.15).
 
-ghost use Rattle.std.specs.Prelude.{◌≡◌};
+ghost use Rattle.std.specs.Prelude.{◌≡◌, ◌≤◌, Some, IfOk};
 ghost use Rattle.mq_packet.specs.Entries.{ending, ending_place, ending_codes};
 ghost use Rattle.mq_packet.specs.Formats.{ending_format};
 ghost use Rattle.mq_packet.specs.Decoding.{read};
@@ -31,21 +31,27 @@ fn codes_of(kind: EndingKind) -> &'static [u8]
     }
 }
 
-/// Reads a DISCONNECT or AUTH (MQTT 5.0, sections 3.14 and 3.15) from all that is left. An empty one has the Reason Code 0x00, and
-/// where one ends behind its code it has no properties.
+/// Reads a DISCONNECT or AUTH (MQTT 5.0, sections 3.14 and 3.15) from all that is left of a body of this size, which it keeps. An
+/// empty one has the Reason Code 0x00, and where one ends behind its code it has no properties.
 ///
 /// # Errors
 ///
 /// The first rule that a field breaks: W06, W13, or one of its property list.
-pub fn read_ending<'a>(mut cursor: Cursor<'a>, kind: EndingKind) -> Result<Ending<'a>, Stop>
-    ensures { Reads (λ p. ending kind p.code p.properties) result (read (ending_format kind) cursor.entry) }
+pub fn read_ending<'a>(
+    mut cursor: Cursor<'a>,
+    kind: EndingKind,
+    size: usize,
+) -> Result<Ending<'a>, Stop>
+    requires { size ≤ 268435455 }
+    ensures read { Reads (λ p. ending kind p.code p.properties) result (read (ending_format kind) cursor.entry) }
+    ensures read_len { IfOk result (λ p. p.read_len ≡ Some size) }
 {
     let place = place_of(kind);
     if cursor.is_empty() {
         return Ok(Ending {
             code: SUCCESS,
             properties: Props::empty(place),
-            read_len: None,
+            read_len: Some(size as u32),
         });
     }
     let code = reason_code(&mut cursor, codes_of(kind))?;
@@ -53,6 +59,6 @@ pub fn read_ending<'a>(mut cursor: Cursor<'a>, kind: EndingKind) -> Result<Endin
     Ok(Ending {
         code,
         properties,
-        read_len: None,
+        read_len: Some(size as u32),
     })
 }

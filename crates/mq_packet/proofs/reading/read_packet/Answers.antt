@@ -9,22 +9,22 @@ use Rattle.mq_packet.proofs.reading.read_packet.Goals as goal
 
 pub returns-in-130 : goal.returns-in-130
 returns-in-130 c =
-    (let read_so : Reads (λ p. request requests.Subscribe p.identifier p.properties p.filters) c.read_request.result (read (request_format c.args.size requests.Subscribe) c.args.cursor) = c.read_request.ensures c.args.size c.requires in
+    (let read_so : Reads (λ p. request requests.Subscribe p.identifier p.properties p.filters) c.read_request.result (read (request_format c.args.size requests.Subscribe) c.args.cursor) = c.read_request.ensures c.args.size c.requires.inside in
     search (rules, read_so))
 
 pub returns-in-144 : goal.returns-in-144
 returns-in-144 c =
-    (let read_so : Reads (λ p. answer requests.Subscribe p.identifier p.properties p.codes) c.read_answer.result (read (answer_format c.args.size requests.Subscribe) c.args.cursor) = c.read_answer.ensures c.args.size c.requires in
+    (let read_so : Reads (λ p. answer requests.Subscribe p.identifier p.properties p.codes) c.read_answer.result (read (answer_format c.args.size requests.Subscribe) c.args.cursor) = c.read_answer.ensures c.args.size c.requires.inside in
     search (rules, read_so))
 
 pub returns-in-162 : goal.returns-in-162
 returns-in-162 c =
-    (let read_so : Reads (λ p. request requests.Unsubscribe p.identifier p.properties p.filters) c.read_request-in-162.result (read (request_format c.args.size requests.Unsubscribe) c.args.cursor) = c.read_request-in-162.ensures c.args.size c.requires in
+    (let read_so : Reads (λ p. request requests.Unsubscribe p.identifier p.properties p.filters) c.read_request-in-162.result (read (request_format c.args.size requests.Unsubscribe) c.args.cursor) = c.read_request-in-162.ensures c.args.size c.requires.inside in
     search (rules, read_so))
 
 pub returns-in-176 : goal.returns-in-176
 returns-in-176 c =
-    (let read_so : Reads (λ p. answer requests.Unsubscribe p.identifier p.properties p.codes) c.read_answer-in-176.result (read (answer_format c.args.size requests.Unsubscribe) c.args.cursor) = c.read_answer-in-176.ensures c.args.size c.requires in
+    (let read_so : Reads (λ p. answer requests.Unsubscribe p.identifier p.properties p.codes) c.read_answer-in-176.result (read (answer_format c.args.size requests.Unsubscribe) c.args.cursor) = c.read_answer-in-176.ensures c.args.size c.requires.inside in
     search (rules, read_so))
 
 pub returns-in-192 : goal.returns-in-192
