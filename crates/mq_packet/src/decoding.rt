@@ -21,6 +21,9 @@ use mq_wire::Cursor;
 /// isn't right decides: `Broken` where it breaks a rule on a packet's bytes, with its place, `OtherVersion` where it is the
 /// version of a CONNECT and another than 5. Last, no bytes may be left over. A body has at most 268,435,455 bytes
 /// (MQTT 5.0, section 2.1.4). Nothing is copied, and no memory is taken.
+// A packet is large, and what is inlined doesn't move it: so are this one and the readers of the packets that are read most. The
+// others stay out of the way.
+#[inline(always)]
 pub fn decode<'a>(first: u8, body: &'a [u8]) -> Result<Packet<'a>, DecodeFault>
     requires { length body.now ≤ 268435455 }
     // A packet is answered only where these bytes spell it, and a fault only where they have it.
@@ -37,6 +40,7 @@ pub fn decode<'a>(first: u8, body: &'a [u8]) -> Result<Packet<'a>, DecodeFault>
     read_body(first, body)
 }
 
+#[inline(always)]
 #[tactic(auto, unfolding(crate::specs::Decoding::decoded))]
 fn read_body<'a>(first: u8, body: &'a [u8]) -> Result<Packet<'a>, DecodeFault>
     requires { length body.now ≤ 268435455 }
@@ -56,6 +60,7 @@ fn read_body<'a>(first: u8, body: &'a [u8]) -> Result<Packet<'a>, DecodeFault>
 
 // The place of the first byte of a body of this size: behind the first byte and the shortest spelling of the size
 // (MQTT 5.0, sections 1.5.5 and 2.1.4).
+#[inline(always)]
 #[tactic(auto, unfolding(crate::specs::Decoding::body_start, mq_wire::specs::Spellings::varint_spelling))]
 fn start_of_body(size: usize) -> usize
     requires { size ≤ 268435455 }

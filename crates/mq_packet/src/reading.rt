@@ -32,6 +32,7 @@ pub use request::read_request;
 /// The packet with this first byte whose body, of no more than this size, is left in the cursor; or where the reading of it
 /// stops. But for PUBLISH, whose first byte has flags of its own, each type has one first byte (MQTT 5.0, sections 2.1.2 and
 /// 2.1.3). A packet that has several spellings keeps the size (MQTT 5.0, sections 3.4 to 3.7, 3.14 and 3.15).
+#[inline(always)]
 pub fn read_packet<'a>(first: u8, cursor: Cursor<'a>, size: usize) -> Result<Packet<'a>, Stop>
     requires inside { length cursor.rest ≤ size }
     requires bound { size ≤ 268435455 }

@@ -13,6 +13,7 @@ use crate::stop::Stop;
 use mq_props::{Place, Props};
 use mq_wire::Cursor;
 
+#[inline(always)]
 fn place_of(kind: AcknowledgementKind) -> Place
     ensures { result ≡ acknowledgement_place kind }
 {
@@ -24,6 +25,7 @@ fn place_of(kind: AcknowledgementKind) -> Place
     }
 }
 
+#[inline(always)]
 fn codes_of(kind: AcknowledgementKind) -> &'static [u8]
     ensures { result.now ≡ acknowledgement_codes kind }
 {
@@ -39,6 +41,7 @@ fn codes_of(kind: AcknowledgementKind) -> &'static [u8]
 /// # Errors
 ///
 /// The first rule that a field breaks: W06, W09, W13, or one of its property list.
+#[inline(always)]
 pub fn read_acknowledgement<'a>(
     mut cursor: Cursor<'a>,
     kind: AcknowledgementKind,
@@ -62,6 +65,7 @@ pub fn read_acknowledgement<'a>(
 }
 
 // The acknowledgement with this identifier and code, whose properties, if there are any, are left.
+#[inline(always)]
 fn read_behind_code<'a>(
     cursor: Cursor<'a>,
     kind: AcknowledgementKind,

@@ -39,6 +39,7 @@ fn table(kind: RequestKind) -> &'static [u8]
 /// # Errors
 ///
 /// The first rule that a field breaks: W06, W09, W13, or one of its property list.
+#[inline(never)]
 pub fn read_answer<'a>(mut cursor: Cursor<'a>, kind: RequestKind) -> Result<Answer<'a>, Stop>
     ensures { (size : ℕ) → length cursor.entry.rest ≤ size → Reads (λ p. answer kind p.identifier p.properties p.codes) result (read (answer_format size kind) cursor.entry) }
 {

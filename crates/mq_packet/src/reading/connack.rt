@@ -22,6 +22,7 @@ const SESSION_PRESENT: u8 = 0x01;
 /// # Errors
 ///
 /// The first rule that a field breaks: W06, W20, W13, or one of its property list.
+#[inline(never)]
 pub fn read_connack<'a>(mut cursor: Cursor<'a>) -> Result<Connack<'a>, Stop>
     ensures { Reads (λ p. connack p.session_present p.code p.properties) result (read connack_format cursor.entry) }
 {

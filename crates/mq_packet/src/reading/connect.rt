@@ -73,6 +73,7 @@ fn will_qos(flags: u8) -> Qos
 /// # Errors
 ///
 /// The first rule that a field breaks: W06, W18, W19, one of a text or of a property list; or the version, where it isn't 5.
+#[inline(never)]
 pub fn read_connect<'a>(mut cursor: Cursor<'a>) -> Result<Connect<'a>, Stop>
     ensures { Reads (λ p. connect (connect_view p)) result (read connect_format cursor.entry) }
 {

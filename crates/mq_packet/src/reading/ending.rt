@@ -37,6 +37,7 @@ fn codes_of(kind: EndingKind) -> &'static [u8]
 /// # Errors
 ///
 /// The first rule that a field breaks: W06, W13, or one of its property list.
+#[inline(never)]
 pub fn read_ending<'a>(
     mut cursor: Cursor<'a>,
     kind: EndingKind,

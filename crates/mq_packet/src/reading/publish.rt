@@ -30,6 +30,7 @@ const RETAIN: u8 = 0x01;
 ///
 /// W07 or W08 where the first byte breaks it; else the first rule that a field breaks: a rule of texts, W06, W09, W14, W21, or one
 /// of its property list.
+#[inline(always)]
 pub fn read_publish<'a>(first: u8, cursor: Cursor<'a>) -> Result<Publish<'a>, Stop>
     ensures { Reads (λ p. publish (publish_view p)) result (read (publish_format first) cursor.entry) }
 {
@@ -46,6 +47,7 @@ pub fn read_publish<'a>(first: u8, cursor: Cursor<'a>) -> Result<Publish<'a>, St
     }
 }
 
+#[inline(always)]
 fn read_unacknowledged<'a>(
     cursor: Cursor<'a>,
     duplicate: bool,
@@ -62,6 +64,7 @@ fn read_unacknowledged<'a>(
     read_at_most_once(cursor, retain)
 }
 
+#[inline(always)]
 fn read_at_most_once<'a>(mut cursor: Cursor<'a>, retain: bool) -> Result<Publish<'a>, Stop>
     ensures { Reads (λ p. publish (publish_view p)) result (read (publish_unacknowledged retain) cursor.entry) }
 {
@@ -78,6 +81,7 @@ fn read_at_most_once<'a>(mut cursor: Cursor<'a>, retain: bool) -> Result<Publish
     })
 }
 
+#[inline(always)]
 fn read_acknowledged<'a>(
     mut cursor: Cursor<'a>,
     duplicate: bool,
@@ -101,6 +105,7 @@ fn read_acknowledged<'a>(
 }
 
 // Whether the packet has a Topic Name, or a Topic Alias that stands for it (MQTT 5.0, section 3.3.2.3.4).
+#[inline(always)]
 fn has_topic(topic: &str, properties: &Props<'_>) -> bool
     ensures { result ≡ names_topic topic.now properties.now.items }
 {
@@ -108,6 +113,7 @@ fn has_topic(topic: &str, properties: &Props<'_>) -> bool
 }
 
 // The property list of a PUBLISH on this topic.
+#[inline(always)]
 fn properties_for<'a>(cursor: &mut Cursor<'a>, topic: &str) -> Result<Props<'a>, Stop>
     ensures list { Takes (λ list. list.items) result (read_field (properties places.Publish) (alias_objection topic.now) cursor.old) cursor.new }
     ensures place { IfOk result (λ list. list ≡ listed places.Publish list.items) }

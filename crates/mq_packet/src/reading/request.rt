@@ -39,6 +39,7 @@ fn asks_options(kind: RequestKind) -> bool
 ///
 /// The first rule that a field breaks: a rule of texts, W06, W09, W15, W17, one of its property list; and W16 where it has no
 /// filter.
+#[inline(never)]
 pub fn read_request<'a>(mut cursor: Cursor<'a>, kind: RequestKind) -> Result<Request<'a>, Stop>
     ensures { (size : ℕ) → length cursor.entry.rest ≤ size → Reads (λ p. request kind p.identifier p.properties p.filters) result (read (request_format size kind) cursor.entry) }
 {
