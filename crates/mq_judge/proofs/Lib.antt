@@ -1,5 +1,6 @@
 pub mod BoolLaws
 pub mod ConnectionLaws
+pub mod DigitLaws
 pub mod FaultLaws
 pub mod JudgeLaws
 pub mod ListingLaws

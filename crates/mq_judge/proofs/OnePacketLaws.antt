@@ -1,6 +1,7 @@
 -- Bytes that are one frame, and what it spells.
-use Rattle.std.proofs.Common.{◌≡◌, ℕ, suc, ◌+◌, ◌-◌, ◌≤◌, ◌<◌, ◌↔◌, Bool, true, false, true≢false, List, [], ◌∷◌, ◌++◌, length, take, drop, take_all, Ok, Err, refl, sym, ap, subst, ◌∙◌, arith, append-nil, length-append, length-drop}
+use Rattle.std.proofs.Common.{◌≡◌, ℕ, suc, ◌+◌, ◌-◌, ◌≤◌, ◌<◌, ◌↔◌, Bool, true, false, true≢false, List, [], ◌∷◌, ◌++◌, length, take, drop, take_all, Ok, Err, refl, sym, ap, subst, ◌∙◌, ◌^◌, arith, append-nil, length-append, length-drop}
 use Rattle.std.proofs.Math.Seq.{drop-append_seam}
+use Rattle.std.proofs.lemmas.Bool.Decides.{nat_tests}
 use Rattle.mq_packet.specs.declared.frame.Cut.{Cut}
 use Rattle.mq_packet.specs.declared.frame.Cut.TheVariants.{Need, Frame, Lost}
 use Rattle.mq_packet.specs.declared.fault.DecodeFault.{DecodeFault}
@@ -8,6 +9,7 @@ use Rattle.mq_packet.specs.Decoding.{body_start}
 use Rattle.mq_packet.specs.Entries.{Entry}
 use Rattle.mq_packet.specs.Frames.{BeginsWithFrame}
 use Rattle.mq_packet.specs.Spelled.{IsSpelled}
+use Rattle.mq_wire.specs.Spellings.{varint_spelling}
 use Rattle.mq_judge.specs.OnePacket.{IsOnePacket}
 
 -- behind the spelling of a length stands the rest
@@ -141,3 +143,15 @@ taken_is_small bytes first start end frames all =
     let same : length (take (length bytes - start) (drop start bytes)) ≡ length frame.body =
     ap (λ (l : List ℕ). length l) (body_taken bytes start ∙ frame_body bytes first start end frame all) in
     omega (arith, same, frame.small))
+
+short_spelling : (n : ℕ) → length (varint_spelling n) ≤ 4
+unfolding varint_spelling
+short_spelling n = grind (arith, nat_tests)
+
+-- A frame's end is a number of four bytes.
+pub ends_small : (bytes : List ℕ) (first start end : ℕ) → CutsFrames (Frame first start end) bytes → end < 2 ^ 32
+unfolding body_start
+ends_small bytes first start end frames =
+    (let frame : BeginsWithFrame bytes first start end = (frames first start end).0 refl in
+    let short : length (varint_spelling (length frame.body)) ≤ 4 = short_spelling (length frame.body) in
+    omega (arith, short, frame.small, frame.start_is, frame.end_is))

@@ -1,6 +1,6 @@
 -- A text that is written piece by piece.
 use Rattle.std.proofs.lemmas.List.{take_all, length-append}
-use Rattle.std.specs.Fmt.{WritesText, with_newline}
+use Rattle.std.specs.Fmt.{WritesText, WritesInCalls, with_newline}
 use Rattle.std.proofs.lemmas.Fmt.{contents_after_writes}
 use Rattle.std.proofs.Common.{◌≡◌, ℕ, zero, suc, ◌-◌, ◌<◌, subst, length-drop, IfSome, IfErr, OnOk, Result, Ok, Err, List, [], ◌∷◌, ◌++◌, length, take, drop, Option, Some, None, refl, sym, ap, ◌∙◌, append_assoc, append-nil, arith}
 use Rattle.std.specs.Io.KnownBytes.{Appends, Keeps}
@@ -118,3 +118,9 @@ pub line-stopped : (text : Option (List ℕ)) (made : List ℕ) (x y : Option (L
 line-stopped text made x y (Ok done) e h = tt
 line-stopped None made x y (Err fault) e h = (h.0, tt)
 line-stopped (Some t) made x y (Err fault) e h = (h.0, rw (← e) h.1)
+
+-- what was written into a list by calls stands at its end
+pub all_written : {E : Type 0} (start made text : List ℕ) (r : Result (Unit {0}) E)
+    → OnOk r (WritesInCalls (λ old bytes new. new ≡ old ++ bytes) start text made) → OnOk r (made ≡ start ++ text)
+all_written start made text (Ok done) h = contents_after_writes (λ old bytes new. new ≡ old ++ bytes) (λ w. w) (λ w bs v e. e) start text made h
+all_written start made text (Err fault) h = tt

@@ -1,11 +1,15 @@
--- The text of what is sent or received: a packet with its size, bytes that break a rule, or a stream that is lost.
-use Rattle.std.specs.Prelude.{ℕ, Bool, true, false, List, [], ◌∷◌, ◌++◌, codes, decimal, Option, Some, None}
+-- The text of what is sent or received: a packet with its size, bytes that break a rule, or a direction that is lost.
+use Rattle.std.specs.Prelude.{ℕ, Bool, true, false, List, [], ◌∷◌, ◌++◌, codes, decimal, Option, Some, None, unwrap_or}
 use Rattle.mq_packet.specs.declared.packet.Qos.{Qos}
 use Rattle.mq_packet.specs.declared.packet.Qos.TheVariants as quality
-use Rattle.mq_judge.specs.declared.rules.note.ItemNote.{ItemNote}
-use Rattle.mq_judge.specs.declared.rules.note.ItemNote.TheVariants.{Packet, Bad, Lost}
+use Rattle.mq_packet.specs.declared.rule.PacketRule.{PacketRule}
+use Rattle.mq_packet.specs.Reading.{view}
+use Rattle.mq_packet.specs.Sizes.{size_with, remaining_length}
+use Rattle.mq_trace.specs.declared.event.Item.{Item}
+use Rattle.mq_trace.specs.declared.event.Item.TheVariants as items
 use Rattle.mq_judge.specs.declared.rules.packet_note.PacketNote.{PacketNote}
 use Rattle.mq_judge.specs.declared.rules.packet_note.PacketNote.TheVariants.{Connect, Connack, Publish, Puback, Pubrec, Pubrel, Pubcomp, Subscribe, Suback, Unsubscribe, Unsuback, Pingreq, Pingresp, Disconnect, Auth}
+use Rattle.mq_judge.specs.Notes.{packet_note}
 use Rattle.mq_judge.specs.Rules.{code_of}
 use Rattle.mq_judge.specs.Statements.{statement_of}
 use Rattle.mq_trace.specs.Refusing.{spaced}
@@ -65,13 +69,26 @@ abbrev pub identifier_words : Option ℕ → List (List ℕ)
 identifier_words None = []
 identifier_words (Some identifier) = codes "id" ∷ decimal identifier ∷ []
 
+-- words with a space before each
+abbrev pub behind_spaces : List (List ℕ) → List ℕ
+behind_spaces [] = []
+behind_spaces (word ∷ words) = 32 ∷ (word ++ behind_spaces words)
+
 -- a packet: its type and its size in bytes, of a PUBLISH the QoS and the DUP flag, and the Packet Identifier, if it has one
 abbrev pub packet_text : PacketNote → ℕ → List ℕ
 packet_text packet size = spaced (type_name packet ∷ codes "size" ∷ decimal size
     ∷ (delivery_words (delivery_of packet) ++ identifier_words (identifier_of packet)))
 
--- an item that has this size, if it is a packet: of bytes that break a rule, the rule, and where the field begins that breaks it
-abbrev pub item_text : ItemNote → ℕ → List ℕ
-item_text (Packet packet) size = packet_text packet size
-item_text (Bad first rule at) size = spaced (codes "BAD" ∷ code_of (statement_of rule) ∷ codes "offset" ∷ decimal at ∷ [])
-item_text Lost size = codes "LOST"
+-- bytes that break a rule: the rule, and where the field begins that breaks it
+abbrev pub broken_text : PacketRule → ℕ → List ℕ
+broken_text rule at = spaced (codes "BAD" ∷ code_of (statement_of rule) ∷ codes "offset" ∷ decimal at ∷ [])
+
+-- a direction that can't be cut into packets
+abbrev pub lost_text : List ℕ
+lost_text = codes "LOST"
+
+-- an item: a packet that was read is as long as it is when it is written
+abbrev pub item_text : Item → List ℕ
+item_text (items.Packet packet) = packet_text (packet_note (view packet)) (unwrap_or (size_with (remaining_length packet)) 0)
+item_text (items.Bad first rule at) = broken_text rule at
+item_text items.Lost = lost_text

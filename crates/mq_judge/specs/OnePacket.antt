@@ -1,33 +1,31 @@
 -- Bytes that are to be one packet, and the line that says what they are.
 use Rattle.std.specs.Prelude.{ℕ, ◌-◌, nat_lt, Bool, true, false, if◌then◌else◌, List, [], ◌∷◌, length, drop, codes, decimal, Result, Ok, Err}
 use Rattle.mq_packet.specs.declared.frame.Cut.{Cut}
-use Rattle.mq_packet.specs.declared.frame.Cut.TheVariants.{Need, Frame, Lost}
+use Rattle.mq_packet.specs.declared.frame.Cut.TheVariants as cuts
 use Rattle.mq_packet.specs.declared.fault.DecodeFault.{DecodeFault}
 use Rattle.mq_packet.specs.declared.fault.DecodeFault.TheVariants as faults
 use Rattle.mq_packet.specs.Entries.{Entry}
 use Rattle.mq_packet.specs.Frames.{BeginsWithFrame, cut_of}
 use Rattle.mq_packet.specs.Decoding.{decoded}
 use Rattle.mq_packet.specs.Spelled.{IsSpelled}
-use Rattle.mq_judge.specs.declared.rules.note.ItemNote.{ItemNote}
-use Rattle.mq_judge.specs.declared.rules.note.ItemNote.TheVariants as items
 use Rattle.mq_judge.specs.declared.packet_line.Finding.{Finding}
-use Rattle.mq_judge.specs.declared.packet_line.Finding.TheVariants.{NeedMore, LeftOver, Item, OtherVersion}
+use Rattle.mq_judge.specs.declared.packet_line.Finding.TheVariants.{NeedMore, LeftOver, Packet, Broken, Lost, OtherVersion}
 use Rattle.mq_judge.specs.Notes.{packet_note}
-use Rattle.mq_judge.specs.ItemText.{item_text}
+use Rattle.mq_judge.specs.ItemText.{packet_text, broken_text, lost_text}
 use Rattle.mq_trace.specs.Refusing.{spaced}
 use Rattle.mq_judge.specs.Report.{line}
 
 -- what one frame is that has this first byte and this size, by what its body comes to
 abbrev pub frame_finding : ℕ → ℕ → Result Entry DecodeFault → Finding
-frame_finding first size (Ok entry) = Item (record { item = items.Packet (packet_note entry); size = size })
-frame_finding first size (Err (faults.Broken fault)) = Item (record { item = items.Bad first fault.rule fault.at; size = size })
+frame_finding first size (Ok entry) = Packet (packet_note entry) size
+frame_finding first size (Err (faults.Broken fault)) = Broken fault.rule fault.at
 frame_finding first size (Err (faults.OtherVersion version)) = OtherVersion version
 
 -- what the bytes are, by the cut at their front: what follows a whole frame counts first, whatever the frame holds
 abbrev pub finding_by : List ℕ → Cut → Finding
-finding_by bytes Need = NeedMore
-finding_by bytes Lost = Item (record { item = items.Lost; size = length bytes })
-finding_by bytes (Frame first start end) = if nat_lt end (length bytes) then LeftOver (length bytes - end)
+finding_by bytes cuts.Need = NeedMore
+finding_by bytes cuts.Lost = Lost
+finding_by bytes (cuts.Frame first start end) = if nat_lt end (length bytes) then LeftOver (length bytes - end)
     else frame_finding first end (decoded first (drop start bytes))
 
 -- what the bytes are
@@ -38,16 +36,14 @@ finding bytes = finding_by bytes (cut_of bytes)
 abbrev pub finding_text : Finding → List ℕ
 finding_text NeedMore = codes "need more bytes"
 finding_text (LeftOver count) = spaced (codes "left" ∷ codes "over" ∷ decimal count ∷ codes "bytes" ∷ [])
-finding_text (Item shown) = item_text shown.item shown.size
+finding_text (Packet packet size) = packet_text packet size
+finding_text (Broken rule at) = broken_text rule at
+finding_text Lost = lost_text
 finding_text (OtherVersion version) = spaced (codes "other" ∷ codes "version" ∷ decimal version ∷ [])
 
 -- it is a packet
-abbrev pub is_packet_note : ItemNote → Bool
-is_packet_note (items.Packet packet) = true
-is_packet_note _ = false
-
 abbrev pub finds_packet : Finding → Bool
-finds_packet (Item shown) = is_packet_note shown.item
+finds_packet (Packet packet size) = true
 finds_packet _ = false
 
 -- all that is written of the bytes

@@ -3,6 +3,7 @@
 
 mod judge;
 mod laws;
+mod lines;
 mod noting;
 mod packet_line;
 mod report;

@@ -1,19 +1,20 @@
 //! The line that says what bytes are that are to be one packet.
-ghost use Rattle.std.specs.Prelude.{◌≡◌, ◌≤◌, ◌↔◌, true, Some, IfOk, IfErr, OnOk, length};
+ghost use Rattle.std.specs.Prelude.{◌≡◌, ◌≤◌, ◌↔◌, true, ◌++◌, IfOk, IfErr, OnOk, length};
 ghost use Rattle.std.specs.Io.KnownBytes.{Appends};
 ghost use Rattle.mq_judge.specs.OnePacket.{IsOnePacket, finding, finding_text, finds_packet, frame_finding, is_packet, packet_report};
-ghost use Rattle.mq_judge.specs.Report.{AppendsBeginning};
+ghost use Rattle.mq_judge.specs.Report.{line, AppendsBeginning};
 ghost use Rattle.mq_packet.specs.Decoding.{decoded};
 ghost use Rattle.mq_packet.specs.Entries.{Entry};
 ghost use Rattle.mq_packet.specs.Spelled.{IsSpelled};
 
+use super::lines::Lines;
 use super::report::RunFault;
-use super::report::item::ShownItem;
-use super::report::line::write_line;
-use super::rules::note::ItemNote;
+use super::report::item::{LOST, put_broken, put_packet};
+use super::report::line::write_bytes;
 use super::rules::packet_note::PacketNote;
-use mq_packet::{Cut, DecodeFault, cut, decode};
+use mq_packet::{Cut, DecodeFault, PacketRule, cut, decode};
 use std::fmt;
+use std::fmt::Write as _;
 use std::io::Write;
 
 /// What bytes are that are to be one packet.
@@ -23,23 +24,14 @@ enum Finding {
     NeedMore,
     /// This many bytes follow a whole frame.
     LeftOver(usize),
-    /// One frame, or bytes that are no frame's beginning.
-    Item(ShownItem),
+    /// One frame that is a packet of this size.
+    Packet(PacketNote, u32),
+    /// One frame that breaks this rule, in the field that begins there.
+    Broken(PacketRule, u32),
+    /// The beginning of no frame.
+    Lost,
     /// The frame of a CONNECT of another protocol version (MQTT 5.0, section 3.1.2.2).
     OtherVersion(u8),
-}
-
-impl fmt::Display for Finding {
-    ghost output = { λ found. Some (finding_text found) };
-
-    fn fmt<W: fmt::Write>(&self, f: &mut fmt::Formatter<W>) -> fmt::Result {
-        match self {
-            Finding::NeedMore => write!(f, "need more bytes"),
-            Finding::LeftOver(count) => write!(f, "left over {count} bytes"),
-            Finding::Item(item) => write!(f, "{item}"),
-            Finding::OtherVersion(version) => write!(f, "other version {version}"),
-        }
-    }
 }
 
 impl Finding {
@@ -51,10 +43,7 @@ impl Finding {
     {
         match cut(bytes) {
             Cut::Need => Finding::NeedMore,
-            Cut::Lost => Finding::Item(ShownItem {
-                item: ItemNote::Lost,
-                size: bytes.len(),
-            }),
+            Cut::Lost => Finding::Lost,
             Cut::Frame {
                 first,
                 body_start,
@@ -63,39 +52,63 @@ impl Finding {
                 if body_end < bytes.len() {
                     return Finding::LeftOver(bytes.len() - body_end);
                 }
-                Finding::of_frame(first, &bytes[body_start..], body_end)
+                Finding::of_frame(first, &bytes[body_start..], body_end as u32)
             }
         }
     }
 
     // What a frame is that has this first byte, this body and this size.
-    fn of_frame(first: u8, body: &[u8], size: usize) -> Finding
+    fn of_frame(first: u8, body: &[u8], size: u32) -> Finding
         requires { length body.now ≤ 268435455 }
         ensures exact { result ≡ frame_finding first size (decoded first body.now) }
         ensures spells { (finds_packet result ≡ true) ↔ ((packet : Entry) × IsSpelled first body.now packet) }
     {
-        let item = match decode(first, body) {
-            Ok(packet) => ItemNote::Packet(PacketNote::of(&packet)),
-            Err(DecodeFault::Broken(fault)) => ItemNote::Bad {
-                first,
-                rule: fault.rule,
-                at: fault.at,
-            },
-            Err(DecodeFault::OtherVersion(version)) => return Finding::OtherVersion(version),
-        };
-        Finding::Item(ShownItem { item, size })
+        match decode(first, body) {
+            Ok(packet) => Finding::Packet(PacketNote::of(&packet), size),
+            Err(DecodeFault::Broken(fault)) => Finding::Broken(fault.rule, fault.at),
+            Err(DecodeFault::OtherVersion(version)) => Finding::OtherVersion(version),
+        }
     }
 
     fn is_packet(&self) -> bool
         ensures { result ≡ finds_packet self.now }
     {
-        matches!(
-            self,
-            Finding::Item(ShownItem {
-                item: ItemNote::Packet(_),
-                ..
-            })
-        )
+        matches!(self, Finding::Packet(..))
+    }
+}
+
+// Puts the text that says this behind the lines that wait.
+fn put_finding(lines: &mut Lines, found: Finding) -> fmt::Result
+    ensures { OnOk result (lines.new ≡ lines.old ++ finding_text found) }
+{
+    match found {
+        Finding::NeedMore => lines.put("need more bytes"),
+        Finding::LeftOver(count) => write!(lines, "left over {count} bytes"),
+        Finding::Packet(packet, size) => put_packet(lines, packet, size),
+        Finding::Broken(rule, at) => put_broken(lines, rule, at),
+        Finding::Lost => lines.put(LOST),
+        Finding::OtherVersion(version) => write!(lines, "other version {version}"),
+    }
+}
+
+// Puts the line of that text.
+fn put_line(lines: &mut Lines, found: Finding) -> fmt::Result
+    ensures { OnOk result (lines.new ≡ lines.old ++ line (finding_text found)) }
+{
+    put_finding(lines, found)?;
+    lines.put("\n")
+}
+
+// Writes the line that says this.
+fn write_finding<W: Write>(found: Finding, writer: &mut W) -> Result<(), RunFault>
+    ensures ok { OnOk result (Appends (W.contents writer.old) (W.contents writer.new) (line (finding_text found))) }
+    ensures write { IfErr result (λ fault. (fault ≡ RunFault.Write)
+        × AppendsBeginning (W.contents writer.old) (W.contents writer.new) (line (finding_text found))) }
+{
+    let mut lines = Lines::new();
+    match put_line(&mut lines, found) {
+        Ok(()) => write_bytes(lines.as_bytes(), writer),
+        Err(_) => Err(RunFault::Write),
     }
 }
 
@@ -119,6 +132,6 @@ pub fn write_packet<W: Write>(bytes: &[u8], writer: &mut W) -> Result<bool, RunF
         × AppendsBeginning (W.contents writer.old) (W.contents writer.new) (packet_report bytes.now)) }
 {
     let found = Finding::of(bytes);
-    write_line(found, writer)?;
+    write_finding(found, writer)?;
     Ok(found.is_packet())
 }

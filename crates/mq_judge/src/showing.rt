@@ -1,109 +1,27 @@
 //! Shows the events of a log from a reader, a line for each.
-ghost use Rattle.std.specs.Prelude.{◌≡◌, true, Some, IfSome, OnOk, IfErr, [], List, ℕ};
+ghost use Rattle.std.specs.Prelude.{◌≡◌, ◌<◌, ◌+◌, true, IfSome, OnOk, IfErr, [], ◌∷◌, ◌++◌, List, length, ℕ};
 ghost use Rattle.mq_judge.specs.Running.{default_limit};
-ghost use Rattle.mq_judge.specs.Showing.{ShowsLog, TracedAll, TraceStops, event_text, shown_event, shown_item, shown_text};
+ghost use Rattle.mq_judge.specs.Showing.{ShowsLog, TracedAll, TraceStops, event_line, event_text};
 ghost use Rattle.mq_trace.specs.Tracing.{Follows};
 
 use super::judge::Options;
+use super::lines::Lines;
 use super::report::RunFault;
-use super::report::item::ShownItem;
-use super::report::line::write_line;
-use super::rules::note::ItemNote;
-use super::rules::packet_note::PacketNote;
-use mq_trace::{Event, Item, Place3, Refusal, Sink, Tracer};
+use super::report::item::put_item;
+use super::report::line::write_bytes;
+use mq_trace::{Event, Place3, Refusal, Sink, Tracer};
 use std::alloc::Global;
 use std::fmt;
 use std::io::{ErrorKind, Read, Write};
 
-/// An event, as lines show it.
-#[derive(Clone, Copy, Debug, PartialEq, Eq)]
-enum ShownEvent {
-    Open,
-    Close,
-    Rest,
-    Release(u16),
-    Sent(ShownItem),
-    Recv(ShownItem),
-}
+/// For how many bytes there is to be room before an event's line is put. The longest one has 78.
+const LINE_ROOM: usize = 128;
 
-impl fmt::Display for ShownEvent {
-    ghost output = { λ event. Some (event_text event) };
-
-    fn fmt<W: fmt::Write>(&self, f: &mut fmt::Formatter<W>) -> fmt::Result {
-        match self {
-            ShownEvent::Open => write!(f, "OPEN"),
-            ShownEvent::Close => write!(f, "CLOSE"),
-            ShownEvent::Rest => write!(f, "REST"),
-            ShownEvent::Release(identifier) => write!(f, "RELEASE {identifier}"),
-            ShownEvent::Sent(item) => write!(f, "SENT {item}"),
-            ShownEvent::Recv(item) => write!(f, "RECV {item}"),
-        }
-    }
-}
-
-impl ShownEvent {
-    // How lines show this event.
-    fn of(event: &Event<'_>) -> ShownEvent
-        ensures { result ≡ shown_event event.now }
-    {
-        match event {
-            Event::Open => ShownEvent::Open,
-            Event::Close => ShownEvent::Close,
-            Event::Rest => ShownEvent::Rest,
-            Event::Release(identifier) => ShownEvent::Release(*identifier),
-            Event::Sent(item) => ShownEvent::Sent(shown_item(item)),
-            Event::Recv(item) => ShownEvent::Recv(shown_item(item)),
-        }
-    }
-}
-
-// How lines show this item. A packet that was read has a size.
-fn shown_item(item: &Item<'_>) -> ShownItem
-    ensures { result ≡ shown_item item.now }
-{
-    match item {
-        Item::Packet(packet) => ShownItem {
-            item: ItemNote::Packet(PacketNote::of(packet)),
-            size: packet.size().unwrap_or(0) as usize,
-        },
-        Item::Bad { first, rule, at } => ShownItem {
-            item: ItemNote::Bad {
-                first: *first,
-                rule: *rule,
-                at: *at,
-            },
-            size: 0,
-        },
-        Item::Lost => ShownItem {
-            item: ItemNote::Lost,
-            size: 0,
-        },
-    }
-}
-
-/// An event at its place, as a line shows it.
-#[derive(Clone, Copy, Debug, PartialEq, Eq)]
-struct ShownLine {
-    place: Place3,
-    event: ShownEvent,
-}
-
-impl fmt::Display for ShownLine {
-    ghost output = { λ shown. Some (shown_text shown) };
-
-    fn fmt<W: fmt::Write>(&self, f: &mut fmt::Formatter<W>) -> fmt::Result {
-        let Place3 {
-            position,
-            record_no,
-        } = self.place;
-        let event = self.event;
-        write!(f, "{position} record {record_no} {event}")
-    }
-}
-
-/// Writes a line for each event of a log, and refuses the first one whose line can't be written.
+/// Puts a line for each event of a log behind those that wait, and writes these where the next one may have no room. It refuses
+/// the event at which a write failed.
 #[derive(Drop)]
 struct Showing<'a, W> {
+    lines: Lines,
     writer: &'a mut W,
     failed: bool,
 }
@@ -116,22 +34,72 @@ impl<W: Write> Sink for Showing<'_, W> {
     ghost refuses = { λ showing _. showing.failed ≡ true };
 
     fn event(&mut self, place: Place3, event: Event<'_>) -> Result<(), Refusal> {
-        let line = ShownLine {
-            place,
-            event: ShownEvent::of(&event),
-        };
-        if write_line(line, self.writer).is_err() {
+        if !self.lines.has_room(LINE_ROOM) {
+            self.write_out();
+        }
+        if put_line(&mut self.lines, place, &event).is_err() {
             self.failed = true;
+        }
+        if self.failed {
             return Err(Refusal::Memory(0));
         }
         Ok(())
     }
 }
 
-/// Writes a line for each event of the log that a reader gives, as the events come: `<position> record <n> `, and then `OPEN`,
+impl<W: Write> Showing<'_, W> {
+    // Writes the lines that wait.
+    fn write_out(&mut self)
+        ensures { self.old.failed ≡ true → self.new.failed ≡ true }
+    {
+        if write_bytes(self.lines.as_bytes(), self.writer).is_err() {
+            self.failed = true;
+        }
+        self.lines.clear();
+    }
+}
+
+// Puts the line of an event at its place behind those that wait.
+fn put_line(lines: &mut Lines, place: Place3, event: &Event<'_>) -> fmt::Result
+    ensures puts { OnOk result (lines.new ≡ lines.old ++ event_line place event.now) }
+    ensures full { IfErr result (λ _. 8192 < length lines.old + length (event_line place event.now)) }
+{
+    lines.put_number(place.position)?;
+    lines.put(" record ")?;
+    lines.put_number(place.record_no)?;
+    put_event(lines, event)?;
+    lines.put("\n")
+}
+
+// Puts an event's text behind the lines that wait, and a space before it.
+fn put_event(lines: &mut Lines, event: &Event<'_>) -> fmt::Result
+    ensures puts { OnOk result (lines.new ≡ lines.old ++ 32 ∷ event_text event.now) }
+    ensures full { IfErr result (λ _. 8192 < length lines.old + length (32 ∷ event_text event.now)) }
+{
+    match event {
+        Event::Open => lines.put(" OPEN"),
+        Event::Close => lines.put(" CLOSE"),
+        Event::Rest => lines.put(" REST"),
+        Event::Release(identifier) => {
+            lines.put(" RELEASE ")?;
+            lines.put_number(u32::from(*identifier))
+        }
+        Event::Sent(item) => {
+            lines.put(" SENT ")?;
+            put_item(lines, item)
+        }
+        Event::Recv(item) => {
+            lines.put(" RECV ")?;
+            put_item(lines, item)
+        }
+    }
+}
+
+/// Writes a line for each event of the log that a reader gives: `<position> record <n> `, and then `OPEN`,
 /// `CLOSE`, `REST`, `RELEASE <id>`, or `SENT ` or `RECV ` with what `write_packet` says of the item: `<TYPE> size <n>`, with
 /// ` qos <q> dup <d>` for a PUBLISH and ` id <i>` where there is a Packet Identifier; `BAD <code> offset <n>` where it breaks a
-/// rule; `LOST` where the direction can't be cut into packets.
+/// rule; `LOST` where the direction can't be cut into packets. Lines are written together, where 8,192 bytes have no room for
+/// another one, and all that wait before the answer.
 ///
 /// # Errors
 ///
@@ -147,18 +115,18 @@ pub fn show<R: Read, W: Write>(
 {
     let mut tracer = Tracer::new(alloc, Options::default().limit);
     let mut showing = Showing {
+        lines: Lines::new(),
         writer,
         failed: false,
     };
-    match trace_all(&mut tracer, reader, &mut showing) {
+    let traced = trace_all(&mut tracer, reader, &mut showing);
+    showing.write_out();
+    if showing.failed {
+        return Err(RunFault::Write);
+    }
+    match traced {
         Ok(()) => end(tracer),
-        Err(refusal) => {
-            if showing.failed {
-                Err(RunFault::Write)
-            } else {
-                Err(RunFault::Refused(refusal))
-            }
-        }
+        Err(why) => Err(RunFault::Refused(why)),
     }
 }
 

@@ -1,67 +1,93 @@
 //! The text of what is sent or received.
-ghost use Rattle.std.specs.Prelude.{◌≡◌, Some};
-ghost use Rattle.mq_judge.specs.ItemText.{type_name, identifier_of, delivery_of, qos_number, flag_number, packet_text, item_text};
+ghost use Rattle.std.specs.Prelude.{◌≡◌, ◌<◌, ◌+◌, ◌++◌, Some, IfErr, OnOk, length};
+ghost use Rattle.mq_judge.specs.ItemText.{type_name, identifier_of, delivery_of, qos_number, flag_number, delivery_words, identifier_words, behind_spaces, packet_text, broken_text, item_text};
 
-use super::super::rules::note::ItemNote;
+use super::super::lines::Lines;
 use super::super::rules::packet_note::PacketNote;
 use super::super::rules::rule::Rule;
-use mq_packet::Qos;
+use mq_packet::{PacketRule, Qos};
+use mq_trace::Item;
 use std::fmt;
 
-/// An item that is sent or received, as lines show it.
-#[derive(Clone, Copy, Debug, PartialEq, Eq)]
-pub struct ShownItem {
-    /// What it is.
-    pub item: ItemNote,
-    /// How many bytes it has, with its fixed header, if it is a packet.
-    pub size: usize,
-}
+/// The text of a direction that can't be cut into packets.
+pub const LOST: &str = "LOST";
 
-impl fmt::Display for ShownItem {
-    ghost output = { λ shown. Some (item_text shown.item shown.size) };
-
-    fn fmt<W: fmt::Write>(&self, f: &mut fmt::Formatter<W>) -> fmt::Result {
-        match self.item {
-            ItemNote::Packet(packet) => {
-                let shown = ShownPacket {
-                    packet,
-                    size: self.size,
-                };
-                write!(f, "{shown}")
-            }
-            ItemNote::Bad { rule, at, .. } => {
-                let code = Rule::of(rule).code();
-                write!(f, "BAD {code} offset {at}")
-            }
-            ItemNote::Lost => write!(f, "LOST"),
+/// Puts the text of an item that was sent or received behind the lines that wait. A packet that was read has a size.
+///
+/// # Errors
+///
+/// Where they have no room for it. A beginning of it stands there then.
+pub fn put_item(lines: &mut Lines, item: &Item<'_>) -> fmt::Result
+    ensures puts { OnOk result (lines.new ≡ lines.old ++ item_text item.now) }
+    ensures full { IfErr result (λ _. 8192 < length lines.old + length (item_text item.now)) }
+{
+    match item {
+        Item::Packet(packet) => {
+            put_packet(lines, PacketNote::of(packet), packet.size().unwrap_or(0))
         }
+        Item::Bad { rule, at, .. } => put_broken(lines, *rule, *at),
+        Item::Lost => lines.put(LOST),
     }
 }
 
-/// A packet, as lines show it.
-#[derive(Clone, Copy)]
-struct ShownPacket {
-    packet: PacketNote,
-    size: usize,
+/// Puts the text of a packet that has this size behind the lines that wait.
+///
+/// # Errors
+///
+/// Where they have no room for it. A beginning of it stands there then.
+pub fn put_packet(lines: &mut Lines, packet: PacketNote, size: u32) -> fmt::Result
+    ensures puts { OnOk result (lines.new ≡ lines.old ++ packet_text packet size) }
+    ensures full { IfErr result (λ _. 8192 < length lines.old + length (packet_text packet size)) }
+{
+    lines.put(type_name(packet))?;
+    lines.put(" size ")?;
+    lines.put_number(size)?;
+    put_delivery(lines, delivery_of(packet))?;
+    put_identifier(lines, identifier_of(packet))
 }
 
-impl fmt::Display for ShownPacket {
-    ghost output = { λ shown. Some (packet_text shown.packet shown.size) };
+/// Puts the text of bytes that break a rule behind the lines that wait: the rule, and where the field begins that breaks it.
+///
+/// # Errors
+///
+/// Where they have no room for it. A beginning of it stands there then.
+pub fn put_broken(lines: &mut Lines, rule: PacketRule, at: u32) -> fmt::Result
+    ensures puts { OnOk result (lines.new ≡ lines.old ++ broken_text rule at) }
+    ensures full { IfErr result (λ _. 8192 < length lines.old + length (broken_text rule at)) }
+{
+    lines.put("BAD ")?;
+    lines.put(Rule::of(rule).code())?;
+    lines.put(" offset ")?;
+    lines.put_number(at)
+}
 
-    fn fmt<W: fmt::Write>(&self, f: &mut fmt::Formatter<W>) -> fmt::Result {
-        let name = type_name(self.packet);
-        let size = self.size;
-        match (delivery_of(self.packet), identifier_of(self.packet)) {
-            (None, None) => write!(f, "{name} size {size}"),
-            (None, Some(identifier)) => write!(f, "{name} size {size} id {identifier}"),
-            (Some((qos, duplicate)), None) => {
-                write!(f, "{name} size {size} qos {qos} dup {duplicate}")
-            }
-            (Some((qos, duplicate)), Some(identifier)) => write!(
-                f,
-                "{name} size {size} qos {qos} dup {duplicate} id {identifier}"
-            ),
+// Puts the words on a PUBLISH's delivery, if it is one, each behind a space.
+fn put_delivery(lines: &mut Lines, delivery: Option<(u8, u8)>) -> fmt::Result
+    ensures puts { OnOk result (lines.new ≡ lines.old ++ behind_spaces (delivery_words delivery)) }
+    ensures full { IfErr result (λ _. 8192 < length lines.old + length (behind_spaces (delivery_words delivery))) }
+{
+    match delivery {
+        Some((qos, duplicate)) => {
+            lines.put(" qos ")?;
+            lines.put_number(u32::from(qos))?;
+            lines.put(" dup ")?;
+            lines.put_number(u32::from(duplicate))
         }
+        None => Ok(()),
+    }
+}
+
+// Puts the words on a Packet Identifier, if there is one, each behind a space.
+fn put_identifier(lines: &mut Lines, identifier: Option<u16>) -> fmt::Result
+    ensures puts { OnOk result (lines.new ≡ lines.old ++ behind_spaces (identifier_words identifier)) }
+    ensures full { IfErr result (λ _. 8192 < length lines.old + length (behind_spaces (identifier_words identifier))) }
+{
+    match identifier {
+        Some(identifier) => {
+            lines.put(" id ")?;
+            lines.put_number(u32::from(identifier))
+        }
+        None => Ok(()),
     }
 }
 

@@ -76,7 +76,7 @@ impl fmt::Write for Line {
 /// # Errors
 ///
 /// `Write` where a write failed: the writer answered an error, an interruption too, or took no byte.
-fn write_bytes<W: Write>(bytes: &[u8], writer: &mut W) -> Result<(), RunFault>
+pub fn write_bytes<W: Write>(bytes: &[u8], writer: &mut W) -> Result<(), RunFault>
     ensures ok { OnOk result (Appends (W.contents writer.old) (W.contents writer.new) bytes.now) }
     ensures write { IfErr result (λ fault. (fault ≡ RunFault.Write)
         × AppendsBeginning (W.contents writer.old) (W.contents writer.new) bytes.now) }

@@ -5,8 +5,9 @@ use Rattle.mq_judge.proofs.showing.show.Goals as goal
 
 pub returns-in-Ok : goal.returns-in-Ok
 returns-in-Ok g c =
-    show-ended _ _ c.trace_all.new.tracer _ c.in-Ok.ensures.all c.end.ensures (c.in-Ok.ensures.limit ∙ c.new-tracer.ensures.limit ∙ c.default.ensures)
+    show-ended _ _ c.trace_all-traced.new.tracer _ c.in-Ok.ensures.all c.end.ensures (c.in-Ok.ensures.limit ∙ c.new-tracer.ensures.limit ∙ c.default.ensures)
 
-pub returns : goal.returns
-returns g c =
-    show-stopped c.in-Err.ensures.stopped (λ own is. (let never : false ≡ true = sym c.if-showing.false ∙ is in absurd (cc))) (c.new-tracer.ensures.limit ∙ c.default.ensures)
+pub returns-in-Err : goal.returns-in-Err
+returns-in-Err g c =
+    show-stopped c.in-Err.ensures.stopped (λ own is. (let never : false ≡ true = sym c.if-showing.false ∙ c.write_out.ensures is in absurd (cc)))
+    (c.new-tracer.ensures.limit ∙ c.default.ensures)

@@ -1,6 +1,6 @@
 -- The bytes are one packet exactly where they are one frame whose body spells one.
-use Rattle.std.proofs.Common.{arith, rules, ◌≤◌, length}
-use Rattle.mq_judge.proofs.OnePacketLaws.{no_packet, needs_more, is_lost, ends_early, spelled_by_body, taken_is_small, starts_inside}
+use Rattle.std.proofs.Common.{arith, rules, ◌≤◌, ◌<◌, ◌^◌, length}
+use Rattle.mq_judge.proofs.OnePacketLaws.{no_packet, needs_more, is_lost, ends_early, spelled_by_body, taken_is_small, starts_inside, ends_small}
 use Rattle.mq_judge.proofs.packet_line.Finding.of.Goals as goal
 
 pub returns-in-Need-clause-one_packet : goal.returns-in-Need-clause-one_packet
@@ -13,6 +13,11 @@ pub returns-then-body_end-bytes-clause-one_packet : goal.returns-then-body_end-b
 returns-then-body_end-bytes-clause-one_packet c =
     no_packet c.args.bytes.now _ c.in-Frame.ensures.frame
     (λ first start. ends_early _ _ _ first start (length c.args.bytes.now) c.if-body_end-bytes.true)
+
+pub overflow_cast-body_end : goal.overflow_cast-body_end
+overflow_cast-body_end c =
+    let small : c.in-Frame.body_end < 2 ^ 32 = ends_small c.args.bytes.now _ _ _ c.in-Frame.ensures.frame in
+    omega arith
 
 pub slice_bounds-of_frame-count : goal.slice_bounds-of_frame-count
 slice_bounds-of_frame-count c = starts_inside c.args.bytes.now _ _ _ c.in-Frame.ensures.frame

@@ -1,0 +1,132 @@
+//! Lines of text that wait to be written together.
+ghost use Rattle.std.specs.Prelude.{◌≡◌, ◌+◌, ◌<◌, nat_le, [], ◌++◌, IfErr, OnOk, length, decimal};
+
+use std::fmt;
+use std::marker::Model;
+
+/// How many bytes wait at most.
+const ROOM: usize = 8192;
+
+/// Lines that wait to be written.
+#[derive(Drop)]
+pub struct Lines {
+    bytes: [u8; 8192],
+    len: usize,
+}
+
+impl Model for Lines {
+    ghost use Rattle.std.specs.Prelude.{ℕ, ◌≤◌, List, take};
+
+    ghost Value = { List ℕ };
+
+    ghost view = { λ l. take l.len l.bytes };
+
+    ghost invariant = { λ l. l.len ≤ 8192 };
+}
+
+impl Lines {
+    /// No line.
+    pub fn new() -> Self
+        ensures { result ≡ [] }
+    {
+        Lines {
+            bytes: [0; 8192],
+            len: 0,
+        }
+    }
+
+    /// Whether there is room for so many bytes more.
+    #[inline(always)]
+    pub fn has_room(&self, count: usize) -> bool
+        ensures { result ≡ nat_le (length self.now + count) 8192 }
+    {
+        count <= ROOM - self.len
+    }
+
+    /// What waits.
+    #[inline(always)]
+    pub fn as_bytes(&self) -> &[u8]
+        ensures { result.now ≡ self.now }
+    {
+        &self.bytes[..self.len]
+    }
+
+    /// Drops what waits.
+    pub fn clear(&mut self)
+        ensures { self.new ≡ [] }
+    {
+        self.len = 0;
+    }
+
+    /// Puts a text behind what waits, or changes nothing where it has no room.
+    #[inline(always)]
+    pub fn put(&mut self, text: &str) -> fmt::Result
+        ensures puts { OnOk result (self.new ≡ self.old ++ text.now) }
+        ensures full { IfErr result (λ _. (self.new ≡ self.old) × (8192 < length self.old + length text.now)) }
+    {
+        if text.len() > ROOM - self.len {
+            return Err(fmt::Error);
+        }
+        let end = self.len + text.len();
+        self.bytes[self.len..end].copy_from_slice(text.as_bytes());
+        self.len = end;
+        Ok(())
+    }
+
+    /// Puts a number in decimal digits behind what waits, or changes nothing where it has no room.
+    #[inline(never)]
+    pub fn put_number(&mut self, number: u32) -> fmt::Result
+        ensures puts { OnOk result (self.new ≡ self.old ++ decimal number) }
+        ensures full { IfErr result (λ _. (self.new ≡ self.old) × (8192 < length self.old + length (decimal number))) }
+    {
+        let count = digit_count(number);
+        if count > ROOM - self.len {
+            return Err(fmt::Error);
+        }
+        let end = self.len + count;
+        write_digits(&mut self.bytes[self.len..end], number);
+        self.len = end;
+        Ok(())
+    }
+}
+
+impl fmt::Write for Lines {
+    ghost write_str_gives = { λ old text new. new ≡ old ++ text };
+
+    fn write_str(&mut self, text: &str) -> fmt::Result {
+        self.put(text)
+    }
+}
+
+// How many decimal digits a number has.
+fn digit_count(number: u32) -> usize
+    ensures { result ≡ length (decimal number) }
+{
+    match number {
+        0..10 => 1,
+        10..100 => 2,
+        100..1_000 => 3,
+        1_000..10_000 => 4,
+        10_000..100_000 => 5,
+        100_000..1_000_000 => 6,
+        1_000_000..10_000_000 => 7,
+        10_000_000..100_000_000 => 8,
+        100_000_000..1_000_000_000 => 9,
+        _ => 10,
+    }
+}
+
+// Writes a number's decimal digits, from the last one, into bytes that it fills.
+fn write_digits(digits: &mut [u8], number: u32)
+    requires { length digits.old ≡ length (decimal number) }
+    ensures { digits.new ≡ decimal number }
+{
+    let mut at = digits.len();
+    let mut rest = number;
+    while rest >= 10 {
+        at -= 1;
+        digits[at] = b'0' + (rest % 10) as u8;
+        rest /= 10;
+    }
+    digits[at - 1] = b'0' + rest as u8;
+}
