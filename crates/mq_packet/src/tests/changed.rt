@@ -1,12 +1,8 @@
 //! Each packet, cut short at each of its bytes and with each of them changed: what `decode` answers is a packet that is written
 //! and read as itself, or a fault that lies in the packet.
 
-use super::packets::{
-    AUTH, CONNACK, CONNECT, DISCONNECT, PINGREQ, PINGRESP, PUBACK, PUBCOMP, PUBLISH, PUBREC,
-    PUBREL, SUBACK, SUBSCRIBE, UNSUBACK, UNSUBSCRIBE,
-};
+use super::packets::{PACKETS, whole, written};
 use crate::*;
-use mq_wire::put_varint;
 use std::alloc::Global;
 use std::test::Fail;
 
@@ -15,24 +11,6 @@ const MAX_BODY: usize = 1_000;
 
 // What one byte is changed to.
 const VALUES: [u8; 4] = [0x00, 0x7f, 0x80, 0xff];
-
-// The packet with this first byte and body.
-fn whole(alloc: Global, first: u8, body: &[u8]) -> Result<Vec<u8>, Fail> {
-    let mut bytes = Vec::new(alloc);
-    bytes.push(first)?;
-    put_varint(&mut bytes, u32::try_from(body.len())?)?;
-    bytes.extend_from_slice(body)?;
-    Ok(bytes)
-}
-
-// The packet's bytes, as it is written; none if no bytes spell it.
-fn written(alloc: Global, packet: &Packet<'_>) -> Result<Vec<u8>, Fail> {
-    let mut out = Vec::new(alloc);
-    if is_valid(packet) {
-        encode(packet, &mut out)?;
-    }
-    Ok(out)
-}
 
 // Whether the packet is written as bytes that are one of its type, which is written so too.
 fn comes_back(alloc: Global, packet: &Packet<'_>) -> Result<bool, Fail> {
@@ -101,106 +79,9 @@ fn is_well_told_in_all(alloc: Global, packet: (u8, &[u8])) -> Result<bool, Fail>
 }
 
 #[test]
-fn connect(rt: HostRuntime) -> Result<(), Fail> {
-    let (first, body) = CONNECT;
-    assert!(rt; is_well_told_in_all(rt.alloc(), (first, &body))?);
-    Ok(())
-}
-
-#[test]
-fn connack(rt: HostRuntime) -> Result<(), Fail> {
-    let (first, body) = CONNACK;
-    assert!(rt; is_well_told_in_all(rt.alloc(), (first, &body))?);
-    Ok(())
-}
-
-#[test]
-fn publish(rt: HostRuntime) -> Result<(), Fail> {
-    let (first, body) = PUBLISH;
-    assert!(rt; is_well_told_in_all(rt.alloc(), (first, &body))?);
-    Ok(())
-}
-
-#[test]
-fn puback(rt: HostRuntime) -> Result<(), Fail> {
-    let (first, body) = PUBACK;
-    assert!(rt; is_well_told_in_all(rt.alloc(), (first, &body))?);
-    Ok(())
-}
-
-#[test]
-fn pubrec(rt: HostRuntime) -> Result<(), Fail> {
-    let (first, body) = PUBREC;
-    assert!(rt; is_well_told_in_all(rt.alloc(), (first, &body))?);
-    Ok(())
-}
-
-#[test]
-fn pubrel(rt: HostRuntime) -> Result<(), Fail> {
-    let (first, body) = PUBREL;
-    assert!(rt; is_well_told_in_all(rt.alloc(), (first, &body))?);
-    Ok(())
-}
-
-#[test]
-fn pubcomp(rt: HostRuntime) -> Result<(), Fail> {
-    let (first, body) = PUBCOMP;
-    assert!(rt; is_well_told_in_all(rt.alloc(), (first, &body))?);
-    Ok(())
-}
-
-#[test]
-fn subscribe(rt: HostRuntime) -> Result<(), Fail> {
-    let (first, body) = SUBSCRIBE;
-    assert!(rt; is_well_told_in_all(rt.alloc(), (first, &body))?);
-    Ok(())
-}
-
-#[test]
-fn suback(rt: HostRuntime) -> Result<(), Fail> {
-    let (first, body) = SUBACK;
-    assert!(rt; is_well_told_in_all(rt.alloc(), (first, &body))?);
-    Ok(())
-}
-
-#[test]
-fn unsubscribe(rt: HostRuntime) -> Result<(), Fail> {
-    let (first, body) = UNSUBSCRIBE;
-    assert!(rt; is_well_told_in_all(rt.alloc(), (first, &body))?);
-    Ok(())
-}
-
-#[test]
-fn unsuback(rt: HostRuntime) -> Result<(), Fail> {
-    let (first, body) = UNSUBACK;
-    assert!(rt; is_well_told_in_all(rt.alloc(), (first, &body))?);
-    Ok(())
-}
-
-#[test]
-fn pingreq(rt: HostRuntime) -> Result<(), Fail> {
-    let (first, body) = PINGREQ;
-    assert!(rt; is_well_told_in_all(rt.alloc(), (first, &body))?);
-    Ok(())
-}
-
-#[test]
-fn pingresp(rt: HostRuntime) -> Result<(), Fail> {
-    let (first, body) = PINGRESP;
-    assert!(rt; is_well_told_in_all(rt.alloc(), (first, &body))?);
-    Ok(())
-}
-
-#[test]
-fn disconnect(rt: HostRuntime) -> Result<(), Fail> {
-    let (first, body) = DISCONNECT;
-    assert!(rt; is_well_told_in_all(rt.alloc(), (first, &body))?);
-    Ok(())
-}
-
-#[test]
-fn auth(rt: HostRuntime) -> Result<(), Fail> {
-    let (first, body) = AUTH;
-    assert!(rt; is_well_told_in_all(rt.alloc(), (first, &body))?);
+fn all_packets(rt: HostRuntime) -> Result<(), Fail> {
+    for (name, packet) in PACKETS {
+        assert!(rt; is_well_told_in_all(rt.alloc(), packet)?, "{name}");
+    }
     Ok(())
 }

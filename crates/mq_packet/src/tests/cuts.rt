@@ -2,49 +2,43 @@
 
 use crate::{Cut, FixedHeader, cut, fixed_header};
 
+// A packet of two bytes of fixed header.
+fn frame(first: u8, body_end: usize) -> Cut {
+    Cut::Frame {
+        first,
+        body_start: 2,
+        body_end,
+    }
+}
+
 #[test]
 fn cuts_frames(rt: HostRuntime) {
-    assert_eq!(rt; cut(&[]), Cut::Need);
-    assert_eq!(rt; cut(&[0x40]), Cut::Need);
-    assert_eq!(rt; cut(&[0x40, 2, 0]), Cut::Need);
-    assert_eq!(rt;
-        cut(&[0x40, 2, 0, 1]),
-        Cut::Frame {
-            first: 0x40,
-            body_start: 2,
-            body_end: 4
-        }
-    );
-    assert_eq!(rt;
-        cut(&[0xc0, 0, 0x30]),
-        Cut::Frame {
-            first: 0xc0,
-            body_start: 2,
-            body_end: 2
-        }
-    );
-    assert_eq!(rt; cut(&[0x30, 0xff, 0xff, 0xff, 0x7f]), Cut::Need);
-    assert_eq!(rt; cut(&[0x30, 0xff, 0xff, 0xff, 0xff]), Cut::Lost);
-    assert_eq!(rt; cut(&[0x30, 0x80, 0]), Cut::Lost);
+    let rows: [(&[u8], Cut); 8] = [
+        (&[], Cut::Need),
+        (&[0x40], Cut::Need),
+        (&[0x40, 2, 0], Cut::Need),
+        (&[0x40, 2, 0, 1], frame(0x40, 4)),
+        (&[0xc0, 0, 0x30], frame(0xc0, 2)),
+        (&[0x30, 0xff, 0xff, 0xff, 0x7f], Cut::Need),
+        (&[0x30, 0xff, 0xff, 0xff, 0xff], Cut::Lost),
+        (&[0x30, 0x80, 0], Cut::Lost),
+    ];
+    for (bytes, wanted) in rows {
+        assert_eq!(rt; cut(bytes), wanted, "{bytes:?}");
+    }
 }
 
 #[test]
 fn sees_fixed_headers(rt: HostRuntime) {
-    assert_eq!(rt; fixed_header(&[0x30]), FixedHeader::Short);
-    assert_eq!(rt; fixed_header(&[0x30, 0xff, 0xff, 0xff]), FixedHeader::Short);
-    assert_eq!(rt;
-        fixed_header(&[0x30, 0xff, 0xff, 0xff, 0x7f]),
-        FixedHeader::Whole {
-            length: 5,
-            size: 268_435_460
-        }
-    );
-    assert_eq!(rt;
-        fixed_header(&[0x30, 0xff, 0xff, 0xff, 0x80]),
-        FixedHeader::Lost
-    );
-    assert_eq!(rt;
-        fixed_header(&[0xc0, 0]),
-        FixedHeader::Whole { length: 2, size: 2 }
-    );
+    let whole = |length, size| FixedHeader::Whole { length, size };
+    let rows: [(&[u8], FixedHeader); 5] = [
+        (&[0x30], FixedHeader::Short),
+        (&[0x30, 0xff, 0xff, 0xff], FixedHeader::Short),
+        (&[0x30, 0xff, 0xff, 0xff, 0x7f], whole(5, 268_435_460)),
+        (&[0x30, 0xff, 0xff, 0xff, 0x80], FixedHeader::Lost),
+        (&[0xc0, 0], whole(2, 2)),
+    ];
+    for (bytes, wanted) in rows {
+        assert_eq!(rt; fixed_header(bytes), wanted, "{bytes:?}");
+    }
 }

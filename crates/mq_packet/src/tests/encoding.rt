@@ -1,20 +1,13 @@
 //! Which of its spellings a packet is written by, and its size.
 
+use super::packets::is_written_as;
 use crate::*;
 use mq_props::{Place, Prop, Props, PropsBuf};
 use std::alloc::Global;
 use std::test::Fail;
 
-// What stands behind `before` where the packet is written there, if some bytes spell it.
-fn behind(alloc: Global, before: &[u8], packet: &Packet<'_>) -> Result<Option<Vec<u8>>, Fail> {
-    let mut out = Vec::new(alloc);
-    out.extend_from_slice(before)?;
-    if !is_valid(packet) {
-        return Ok(None);
-    }
-    encode(packet, &mut out)?;
-    Ok(Some(out))
-}
+// The most bytes that a body has here.
+const MAX_BODY: usize = 100;
 
 fn acknowledgement<'a>(code: u8, properties: Props<'a>) -> Acknowledgement<'a> {
     Acknowledgement {
@@ -33,87 +26,74 @@ fn ending<'a>(code: u8, properties: Props<'a>) -> Ending<'a> {
     }
 }
 
+// A packet of this type with this code and no properties, if it may leave these out.
+fn bare<'a>(kind: PacketType, code: u8) -> Option<Packet<'a>> {
+    let none = Props::empty;
+    match kind {
+        PacketType::Puback => Some(Packet::Puback(acknowledgement(code, none(Place::Puback)))),
+        PacketType::Pubrec => Some(Packet::Pubrec(acknowledgement(code, none(Place::Pubrec)))),
+        PacketType::Pubrel => Some(Packet::Pubrel(acknowledgement(code, none(Place::Pubrel)))),
+        PacketType::Pubcomp => Some(Packet::Pubcomp(acknowledgement(code, none(Place::Pubcomp)))),
+        PacketType::Disconnect => Some(Packet::Disconnect(ending(code, none(Place::Disconnect)))),
+        PacketType::Auth => Some(Packet::Auth(ending(code, none(Place::Auth)))),
+        _ => None,
+    }
+}
+
+// Whether that packet is written as these bytes, and knows their number.
+fn is_written_short(alloc: Global, kind: PacketType, code: u8, bytes: &[u8]) -> Result<bool, Fail> {
+    let packet = bare(kind, code).ok_or("no such packet")?;
+    let size = Some(u32::try_from(bytes.len())?);
+    Ok(is_written_as(alloc, &packet, bytes)? && packet.size() == size)
+}
+
 #[test]
 fn shortest_spellings(rt: HostRuntime) -> Result<(), Fail> {
-    let none = Props::empty;
-    let rows: [(Packet<'_>, &[u8]); 12] = [
-        (
-            Packet::Puback(acknowledgement(0, none(Place::Puback))),
-            &[0x40, 0x02, 0x00, 0x01],
-        ),
-        (
-            Packet::Puback(acknowledgement(0x10, none(Place::Puback))),
-            &[0x40, 0x03, 0x00, 0x01, 0x10],
-        ),
-        (
-            Packet::Pubrec(acknowledgement(0, none(Place::Pubrec))),
-            &[0x50, 0x02, 0x00, 0x01],
-        ),
-        (
-            Packet::Pubrec(acknowledgement(0x80, none(Place::Pubrec))),
-            &[0x50, 0x03, 0x00, 0x01, 0x80],
-        ),
-        (
-            Packet::Pubrel(acknowledgement(0, none(Place::Pubrel))),
-            &[0x62, 0x02, 0x00, 0x01],
-        ),
-        (
-            Packet::Pubrel(acknowledgement(0x92, none(Place::Pubrel))),
-            &[0x62, 0x03, 0x00, 0x01, 0x92],
-        ),
-        (
-            Packet::Pubcomp(acknowledgement(0, none(Place::Pubcomp))),
-            &[0x70, 0x02, 0x00, 0x01],
-        ),
-        (
-            Packet::Pubcomp(acknowledgement(0x92, none(Place::Pubcomp))),
-            &[0x70, 0x03, 0x00, 0x01, 0x92],
-        ),
-        (
-            Packet::Disconnect(ending(0, none(Place::Disconnect))),
-            &[0xE0, 0x00],
-        ),
-        (
-            Packet::Disconnect(ending(0x04, none(Place::Disconnect))),
-            &[0xE0, 0x01, 0x04],
-        ),
-        (Packet::Auth(ending(0, none(Place::Auth))), &[0xF0, 0x00]),
-        (
-            Packet::Auth(ending(0x18, none(Place::Auth))),
-            &[0xF0, 0x02, 0x18, 0x00],
-        ),
+    use PacketType::{Auth, Disconnect, Puback, Pubcomp, Pubrec, Pubrel};
+    let rows: [(PacketType, u8, &[u8]); 12] = [
+        (Puback, 0, &[0x40, 0x02, 0x00, 0x01]),
+        (Puback, 0x10, &[0x40, 0x03, 0x00, 0x01, 0x10]),
+        (Pubrec, 0, &[0x50, 0x02, 0x00, 0x01]),
+        (Pubrec, 0x80, &[0x50, 0x03, 0x00, 0x01, 0x80]),
+        (Pubrel, 0, &[0x62, 0x02, 0x00, 0x01]),
+        (Pubrel, 0x92, &[0x62, 0x03, 0x00, 0x01, 0x92]),
+        (Pubcomp, 0, &[0x70, 0x02, 0x00, 0x01]),
+        (Pubcomp, 0x92, &[0x70, 0x03, 0x00, 0x01, 0x92]),
+        (Disconnect, 0, &[0xE0, 0x00]),
+        (Disconnect, 0x04, &[0xE0, 0x01, 0x04]),
+        (Auth, 0, &[0xF0, 0x00]),
+        (Auth, 0x18, &[0xF0, 0x02, 0x18, 0x00]),
     ];
-    for (packet, bytes) in &rows {
-        let out = behind(rt.alloc(), &[], packet)?.ok_or("not valid")?;
-        assert_eq!(rt; &out[..], *bytes);
-        assert_eq!(rt; packet.size(), Some(u32::try_from(bytes.len())?));
+    for (kind, code, bytes) in rows {
+        assert!(rt;
+            is_written_short(rt.alloc(), kind, code, bytes)?,
+            "{bytes:?}"
+        );
     }
     Ok(())
+}
+
+// Whether this first byte and body are of a packet that is written as these bytes.
+fn is_read_as(alloc: Global, first: u8, body: &[u8], bytes: &[u8]) -> Result<bool, Fail> {
+    if body.len() > MAX_BODY {
+        return Ok(false);
+    }
+    match decode(first, body) {
+        Ok(packet) => is_written_as(alloc, &packet, bytes),
+        Err(_) => Ok(false),
+    }
 }
 
 // What was read in a longer spelling, or in one without the properties' length, is written as the others are.
 #[test]
 fn spellings_that_were_read(rt: HostRuntime) -> Result<(), Fail> {
-    match decode(0x40, &[0x00, 0x01, 0x00, 0x00]) {
-        Ok(packet) => {
-            let out = behind(rt.alloc(), &[], &packet)?.ok_or("not valid")?;
-            assert_eq!(rt; &out[..], &[0x40, 0x02, 0x00, 0x01][..]);
-        }
-        Err(_) => panic!(rt; "no PUBACK"),
-    }
-    match decode(0xE0, &[0x00, 0x00]) {
-        Ok(packet) => {
-            let out = behind(rt.alloc(), &[], &packet)?.ok_or("not valid")?;
-            assert_eq!(rt; &out[..], &[0xE0, 0x00][..]);
-        }
-        Err(_) => panic!(rt; "no DISCONNECT"),
-    }
-    match decode(0xF0, &[0x18]) {
-        Ok(packet) => {
-            let out = behind(rt.alloc(), &[], &packet)?.ok_or("not valid")?;
-            assert_eq!(rt; &out[..], &[0xF0, 0x02, 0x18, 0x00][..]);
-        }
-        Err(_) => panic!(rt; "no AUTH"),
+    let rows: [(u8, &[u8], &[u8]); 3] = [
+        (0x40, &[0x00, 0x01, 0x00, 0x00], &[0x40, 0x02, 0x00, 0x01]),
+        (0xE0, &[0x00, 0x00], &[0xE0, 0x00]),
+        (0xF0, &[0x18], &[0xF0, 0x02, 0x18, 0x00]),
+    ];
+    for (first, body, bytes) in rows {
+        assert!(rt; is_read_as(rt.alloc(), first, body, bytes)?, "{bytes:?}");
     }
     Ok(())
 }
@@ -124,21 +104,13 @@ fn whole_spellings(rt: HostRuntime) -> Result<(), Fail> {
     let mut list = PropsBuf::new(rt.alloc(), Place::Puback);
     list.push(&Prop::ReasonString("r"))?;
     let packet = Packet::Puback(acknowledgement(0, list.as_props()));
-    let out = behind(rt.alloc(), &[7, 8], &packet)?.ok_or("not valid")?;
-    assert_eq!(rt;
-        &out[..],
-        &[
-            7, 8, 0x40, 0x08, 0x00, 0x01, 0x00, 0x04, 0x1F, 0x00, 0x01, b'r'
-        ][..]
-    );
+    let wanted: &[u8] = &[0x40, 0x08, 0x00, 0x01, 0x00, 0x04, 0x1F, 0x00, 0x01, b'r'];
+    assert!(rt; is_written_as(rt.alloc(), &packet, wanted)?);
     let mut list = PropsBuf::new(rt.alloc(), Place::Auth);
     list.push(&Prop::AuthenticationMethod("m"))?;
     let packet = Packet::Auth(ending(0, list.as_props()));
-    let out = behind(rt.alloc(), &[], &packet)?.ok_or("not valid")?;
-    assert_eq!(rt;
-        &out[..],
-        &[0xF0, 0x06, 0x00, 0x04, 0x15, 0x00, 0x01, b'm'][..]
-    );
+    let wanted: &[u8] = &[0xF0, 0x06, 0x00, 0x04, 0x15, 0x00, 0x01, b'm'];
+    assert!(rt; is_written_as(rt.alloc(), &packet, wanted)?);
     Ok(())
 }
 
@@ -154,11 +126,8 @@ fn least_connect(rt: HostRuntime) -> Result<(), Fail> {
         user_name: None,
         password: None,
     });
-    let out = behind(rt.alloc(), &[], &packet)?.ok_or("not valid")?;
-    assert_eq!(rt;
-        &out[..],
-        &[0x10, 13, 0, 4, b'M', b'Q', b'T', b'T', 5, 0, 0, 0, 0, 0, 0][..]
-    );
+    let wanted: &[u8] = &[0x10, 13, 0, 4, b'M', b'Q', b'T', b'T', 5, 0, 0, 0, 0, 0, 0];
+    assert!(rt; is_written_as(rt.alloc(), &packet, wanted)?);
     Ok(())
 }
 

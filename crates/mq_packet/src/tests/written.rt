@@ -2,11 +2,10 @@
 
 use super::packets::{
     AUTH, CONNACK, CONNECT, DISCONNECT, PINGREQ, PINGRESP, PUBACK, PUBCOMP, PUBLISH, PUBREC,
-    PUBREL, SUBACK, SUBSCRIBE, UNSUBACK, UNSUBSCRIBE,
+    PUBREL, SUBACK, SUBSCRIBE, UNSUBACK, UNSUBSCRIBE, is_written_as, whole,
 };
 use crate::*;
 use mq_props::{Place, Prop, Props, PropsBuf};
-use mq_wire::put_varint;
 use std::alloc::Global;
 use std::test::Fail;
 
@@ -30,22 +29,17 @@ fn reasons(alloc: Global, place: Place) -> Result<PropsBuf, Fail> {
     )
 }
 
-// The packet as it is written; nothing if no bytes spell it.
-fn written(alloc: Global, packet: &Packet<'_>) -> Result<Vec<u8>, Fail> {
-    let mut out = Vec::new(alloc);
-    if is_valid(packet) {
-        encode(packet, &mut out)?;
-    }
-    Ok(out)
-}
-
-// The packet with this first byte and body.
-fn whole(alloc: Global, first: u8, body: &[u8]) -> Result<Vec<u8>, Fail> {
-    let mut bytes = Vec::new(alloc);
-    bytes.push(first)?;
-    put_varint(&mut bytes, u32::try_from(body.len())?)?;
-    bytes.extend_from_slice(body)?;
-    Ok(bytes)
+// Whether the packet is of this type, is written as these bytes, first byte and body, and knows their number.
+fn is_example(
+    alloc: Global,
+    packet: &Packet<'_>,
+    kind: PacketType,
+    example: (u8, &[u8]),
+) -> Result<bool, Fail> {
+    let (first, body) = example;
+    let bytes = whole(alloc, first, body)?;
+    let size = Some(u32::try_from(bytes.len())?);
+    Ok(is_written_as(alloc, packet, &bytes)? && packet.size() == size && packet.kind() == kind)
 }
 
 // A CONNECT with all that it may have.
@@ -99,10 +93,7 @@ fn connect(rt: HostRuntime) -> Result<(), Fail> {
         ],
     )?;
     let packet = connect_with(properties.as_props(), will_properties.as_props());
-    let bytes = whole(rt.alloc(), CONNECT.0, &CONNECT.1)?;
-    assert_eq!(rt; written(rt.alloc(), &packet)?, bytes);
-    assert_eq!(rt; packet.size(), Some(116));
-    assert_eq!(rt; packet.kind(), PacketType::Connect);
+    assert!(rt; is_example(rt.alloc(), &packet, PacketType::Connect, CONNECT)?);
     Ok(())
 }
 
@@ -136,10 +127,7 @@ fn connack(rt: HostRuntime) -> Result<(), Fail> {
         code: 0x00,
         properties: properties.as_props(),
     });
-    let bytes = whole(rt.alloc(), CONNACK.0, &CONNACK.1)?;
-    assert_eq!(rt; written(rt.alloc(), &packet)?, bytes);
-    assert_eq!(rt; packet.size(), Some(71));
-    assert_eq!(rt; packet.kind(), PacketType::Connack);
+    assert!(rt; is_example(rt.alloc(), &packet, PacketType::Connack, CONNACK)?);
     Ok(())
 }
 
@@ -170,10 +158,7 @@ fn publish(rt: HostRuntime) -> Result<(), Fail> {
         properties: properties.as_props(),
         payload: b"payload",
     });
-    let bytes = whole(rt.alloc(), PUBLISH.0, &PUBLISH.1)?;
-    assert_eq!(rt; written(rt.alloc(), &packet)?, bytes);
-    assert_eq!(rt; packet.size(), Some(63));
-    assert_eq!(rt; packet.kind(), PacketType::Publish);
+    assert!(rt; is_example(rt.alloc(), &packet, PacketType::Publish, PUBLISH)?);
     Ok(())
 }
 
@@ -189,27 +174,23 @@ fn acknowledgement<'a>(identifier: u16, code: u8, properties: Props<'a>) -> Ackn
 
 #[test]
 fn acknowledgements(rt: HostRuntime) -> Result<(), Fail> {
-    let properties = reasons(rt.alloc(), Place::Puback)?;
-    let puback = Packet::Puback(acknowledgement(1, 0x10, properties.as_props()));
-    let properties = reasons(rt.alloc(), Place::Pubrec)?;
-    let pubrec = Packet::Pubrec(acknowledgement(2, 0x97, properties.as_props()));
-    let properties = reasons(rt.alloc(), Place::Pubrel)?;
-    let pubrel = Packet::Pubrel(acknowledgement(3, 0x92, properties.as_props()));
-    let properties = reasons(rt.alloc(), Place::Pubcomp)?;
-    let pubcomp = Packet::Pubcomp(acknowledgement(65_535, 0x92, properties.as_props()));
-    let bytes = whole(rt.alloc(), PUBACK.0, &PUBACK.1)?;
-    assert_eq!(rt; written(rt.alloc(), &puback)?, bytes);
-    let bytes = whole(rt.alloc(), PUBREC.0, &PUBREC.1)?;
-    assert_eq!(rt; written(rt.alloc(), &pubrec)?, bytes);
-    let bytes = whole(rt.alloc(), PUBREL.0, &PUBREL.1)?;
-    assert_eq!(rt; written(rt.alloc(), &pubrel)?, bytes);
-    let bytes = whole(rt.alloc(), PUBCOMP.0, &PUBCOMP.1)?;
-    assert_eq!(rt; written(rt.alloc(), &pubcomp)?, bytes);
-    assert_eq!(rt; puback.size(), Some(26));
-    assert_eq!(rt; puback.kind(), PacketType::Puback);
-    assert_eq!(rt; pubrec.kind(), PacketType::Pubrec);
-    assert_eq!(rt; pubrel.kind(), PacketType::Pubrel);
-    assert_eq!(rt; pubcomp.kind(), PacketType::Pubcomp);
+    let rows = [
+        (PacketType::Puback, Place::Puback, 1, 0x10, PUBACK),
+        (PacketType::Pubrec, Place::Pubrec, 2, 0x97, PUBREC),
+        (PacketType::Pubrel, Place::Pubrel, 3, 0x92, PUBREL),
+        (PacketType::Pubcomp, Place::Pubcomp, 65_535, 0x92, PUBCOMP),
+    ];
+    for (kind, place, identifier, code, example) in rows {
+        let properties = reasons(rt.alloc(), place)?;
+        let given = acknowledgement(identifier, code, properties.as_props());
+        let packet = match kind {
+            PacketType::Puback => Packet::Puback(given),
+            PacketType::Pubrec => Packet::Pubrec(given),
+            PacketType::Pubrel => Packet::Pubrel(given),
+            _ => Packet::Pubcomp(given),
+        };
+        assert!(rt; is_example(rt.alloc(), &packet, kind, example)?, "{kind:?}");
+    }
     Ok(())
 }
 
@@ -231,10 +212,7 @@ fn subscribe(rt: HostRuntime) -> Result<(), Fail> {
     let filters = Filters::of(b"\x00\x03a/#\x2D\x00\x03+/b\x02", true);
     let filters = filters.ok_or("no filters")?;
     let packet = Packet::Subscribe(request(4, properties.as_props(), filters));
-    let bytes = whole(rt.alloc(), SUBSCRIBE.0, &SUBSCRIBE.1)?;
-    assert_eq!(rt; written(rt.alloc(), &packet)?, bytes);
-    assert_eq!(rt; packet.size(), Some(27));
-    assert_eq!(rt; packet.kind(), PacketType::Subscribe);
+    assert!(rt; is_example(rt.alloc(), &packet, PacketType::Subscribe, SUBSCRIBE)?);
     Ok(())
 }
 
@@ -246,10 +224,7 @@ fn suback(rt: HostRuntime) -> Result<(), Fail> {
         properties: properties.as_props(),
         codes: Codes::of(&[0x01, 0x02, 0xA2]),
     });
-    let bytes = whole(rt.alloc(), SUBACK.0, &SUBACK.1)?;
-    assert_eq!(rt; written(rt.alloc(), &packet)?, bytes);
-    assert_eq!(rt; packet.size(), Some(28));
-    assert_eq!(rt; packet.kind(), PacketType::Suback);
+    assert!(rt; is_example(rt.alloc(), &packet, PacketType::Suback, SUBACK)?);
     Ok(())
 }
 
@@ -259,10 +234,7 @@ fn unsubscribe(rt: HostRuntime) -> Result<(), Fail> {
     let filters = Filters::of(b"\x00\x03a/#\x00\x06$SYS/+", false);
     let filters = filters.ok_or("no filters")?;
     let packet = Packet::Unsubscribe(request(5, properties.as_props(), filters));
-    let bytes = whole(rt.alloc(), UNSUBSCRIBE.0, &UNSUBSCRIBE.1)?;
-    assert_eq!(rt; written(rt.alloc(), &packet)?, bytes);
-    assert_eq!(rt; packet.size(), Some(25));
-    assert_eq!(rt; packet.kind(), PacketType::Unsubscribe);
+    assert!(rt; is_example(rt.alloc(), &packet, PacketType::Unsubscribe, UNSUBSCRIBE)?);
     Ok(())
 }
 
@@ -274,27 +246,26 @@ fn unsuback(rt: HostRuntime) -> Result<(), Fail> {
         properties: properties.as_props(),
         codes: Codes::of(&[0x00, 0x11]),
     });
-    let bytes = whole(rt.alloc(), UNSUBACK.0, &UNSUBACK.1)?;
-    assert_eq!(rt; written(rt.alloc(), &packet)?, bytes);
-    assert_eq!(rt; packet.size(), Some(27));
-    assert_eq!(rt; packet.kind(), PacketType::Unsuback);
+    assert!(rt; is_example(rt.alloc(), &packet, PacketType::Unsuback, UNSUBACK)?);
     Ok(())
 }
 
 #[test]
 fn pings(rt: HostRuntime) -> Result<(), Fail> {
-    let bytes = whole(rt.alloc(), PINGREQ.0, &PINGREQ.1)?;
-    assert_eq!(rt; written(rt.alloc(), &Packet::Pingreq)?, bytes);
-    let bytes = whole(rt.alloc(), PINGRESP.0, &PINGRESP.1)?;
-    assert_eq!(rt; written(rt.alloc(), &Packet::Pingresp)?, bytes);
-    assert_eq!(rt; Packet::Pingreq.size(), Some(2));
-    assert_eq!(rt; Packet::Pingreq.kind(), PacketType::Pingreq);
-    assert_eq!(rt; Packet::Pingresp.kind(), PacketType::Pingresp);
+    assert!(rt; is_example(rt.alloc(), &Packet::Pingreq, PacketType::Pingreq, PINGREQ)?);
+    assert!(rt;
+        is_example(
+            rt.alloc(),
+            &Packet::Pingresp,
+            PacketType::Pingresp,
+            PINGRESP
+        )?
+    );
     Ok(())
 }
 
 #[test]
-fn endings(rt: HostRuntime) -> Result<(), Fail> {
+fn disconnect(rt: HostRuntime) -> Result<(), Fail> {
     let properties = list(
         rt.alloc(),
         Place::Disconnect,
@@ -305,11 +276,17 @@ fn endings(rt: HostRuntime) -> Result<(), Fail> {
             KEY_VALUE,
         ],
     )?;
-    let disconnect = Packet::Disconnect(Ending {
+    let packet = Packet::Disconnect(Ending {
         code: 0x9D,
         properties: properties.as_props(),
         read_len: None,
     });
+    assert!(rt; is_example(rt.alloc(), &packet, PacketType::Disconnect, DISCONNECT)?);
+    Ok(())
+}
+
+#[test]
+fn auth(rt: HostRuntime) -> Result<(), Fail> {
     let properties = list(
         rt.alloc(),
         Place::Auth,
@@ -320,17 +297,11 @@ fn endings(rt: HostRuntime) -> Result<(), Fail> {
             KEY_VALUE,
         ],
     )?;
-    let auth = Packet::Auth(Ending {
+    let packet = Packet::Auth(Ending {
         code: 0x18,
         properties: properties.as_props(),
         read_len: None,
     });
-    let bytes = whole(rt.alloc(), DISCONNECT.0, &DISCONNECT.1)?;
-    assert_eq!(rt; written(rt.alloc(), &disconnect)?, bytes);
-    let bytes = whole(rt.alloc(), AUTH.0, &AUTH.1)?;
-    assert_eq!(rt; written(rt.alloc(), &auth)?, bytes);
-    assert_eq!(rt; disconnect.size(), Some(27));
-    assert_eq!(rt; disconnect.kind(), PacketType::Disconnect);
-    assert_eq!(rt; auth.kind(), PacketType::Auth);
+    assert!(rt; is_example(rt.alloc(), &packet, PacketType::Auth, AUTH)?);
     Ok(())
 }
