@@ -1,0 +1,107 @@
+//! Logs, as their parts, their packets' bytes, and what is to be told of them.
+
+use crate::Refusal;
+use std::alloc::{AllocError, Global};
+
+/// A part of a log: bytes as they are, or a record.
+#[derive(Clone, Copy)]
+pub enum Part {
+    Raw(&'static [u8]),
+    Open,
+    Sent(&'static [u8]),
+    Recv(&'static [u8]),
+    Close,
+    Rest,
+    Release(u8),
+}
+
+use Part::{Close, Open, Raw, Recv, Release, Rest, Sent};
+
+/// Headers of a tested client and of a tested server, with releases.
+pub const CLIENT: Part = Raw(b"MQTR\x01\x00\x01\x00");
+
+pub const SERVER: Part = Raw(b"MQTR\x01\x01\x01\x00");
+
+pub const CONNECT: &[u8] = b"\x10\x0d\x00\x04MQTT\x05\x02\x00\x3c\x00\x00\x00";
+
+/// A CONNECT of MQTT 3.1.1.
+pub const OLD_CONNECT: &[u8] = b"\x10\x0c\x00\x04MQTT\x04\x02\x00\x3c\x00\x00";
+
+pub const CONNACK: &[u8] = b"\x20\x03\x00\x00\x00";
+
+/// PUBLISH of QoS 1 under identifiers 1 and 0, and the first's first bytes and its last ones.
+pub const PUBLISH: &[u8] = b"\x32\x07\x00\x01a\x00\x01\x00x";
+
+pub const UNIDENTIFIED: &[u8] = b"\x32\x07\x00\x01a\x00\x00\x00x";
+
+pub const BEGINNING: &[u8] = b"\x32\x07\x00\x01a";
+
+pub const END: &[u8] = b"\x00\x01\x00x";
+
+pub const PUBACK: &[u8] = b"\x40\x02\x00\x01";
+
+/// Nothing can be cut behind these.
+pub const LOST: &[u8] = b"\x30\xff\xff\xff\xff";
+
+/// The fixed header of a PUBLISH of the largest size, 268,435,460 bytes.
+pub const LARGEST: &[u8] = b"\x30\xff\xff\xff\x7f";
+
+/// A client's connection that the server answered, up to offset 42, and the lines on its events.
+pub const ANSWERED: [Part; 4] = [CLIENT, Open, Sent(CONNECT), Recv(CONNACK)];
+
+pub const ANSWERED_LINES: &str =
+    "1 record 1 OPEN\n2 record 2 SENT Connect 15\n3 record 3 RECV Connack 5\n";
+
+/// The parts of a log, behind those of `ANSWERED` or alone; the lines on the events of these parts; and what comes of it.
+pub struct Row {
+    pub answered: bool,
+    pub parts: &'static [Part],
+    pub lines: &'static str,
+    pub answer: Result<(), Refusal>,
+}
+
+/// Puts a record with this body behind a log.
+fn put_record(log: &mut Vec<u8>, kind: u8, body: &[u8]) -> Result<(), AllocError> {
+    let [_, _, _, _, a, b, c, d] = body.len().to_be_bytes();
+    log.extend_from_slice(&[kind, a, b, c, d])?;
+    log.extend_from_slice(body)
+}
+
+/// Puts a part behind a log: in one record, or with each byte of SENT and RECV in a record of its own.
+fn put(log: &mut Vec<u8>, part: Part, split: bool) -> Result<(), AllocError> {
+    let (kind, body) = match part {
+        Raw(bytes) => return log.extend_from_slice(bytes),
+        Open => (1, &b""[..]),
+        Sent(body) => (2, body),
+        Recv(body) => (3, body),
+        Close => (4, &b""[..]),
+        Rest => (5, &b""[..]),
+        Release(identifier) => return put_record(log, 6, &[0, identifier]),
+    };
+    if !split || body.is_empty() {
+        return put_record(log, kind, body);
+    }
+    for byte in body {
+        put_record(log, kind, &[*byte])?;
+    }
+    Ok(())
+}
+
+/// The log of these parts, behind those of `ANSWERED` or alone.
+pub fn log_of(
+    alloc: Global,
+    answered: bool,
+    parts: &[Part],
+    split: bool,
+) -> Result<Vec<u8>, AllocError> {
+    let mut log = Vec::new(alloc);
+    if answered {
+        for part in ANSWERED {
+            put(&mut log, part, split)?;
+        }
+    }
+    for part in parts {
+        put(&mut log, *part, split)?;
+    }
+    Ok(log)
+}
