@@ -75,25 +75,33 @@ fn read(bytes: &[u8], place: Place) -> (Option<(usize, PropReason)>, usize) {
     (fault, cursor.rest().len())
 }
 
+// Whether a list of this property alone, and one that has it twice, are read as the standard's table says.
+fn is_read_as_stated(
+    alloc: Global,
+    property: &[u8],
+    places: &[Place],
+    place: Place,
+) -> Result<bool, Fail> {
+    let list = spelled(alloc, &[property])?;
+    let twice = spelled(alloc, &[property, property])?;
+    if !places.contains(&place) {
+        return Ok(read(&list, place) == (Some((1, PropReason::NotAllowed)), list.len()));
+    }
+    let first = property.first().copied().unwrap_or(0);
+    let wanted = if first == 0x26 || first == 0x0B && place == Publish {
+        (None, 0)
+    } else {
+        (Some((list.len(), PropReason::Repeated)), twice.len())
+    };
+    Ok(read(&list, place) == (None, 0) && read(&twice, place) == wanted)
+}
+
 #[test]
 fn every_property_in_every_list(rt: HostRuntime) -> Result<(), Fail> {
-    for (property, places) in PROPERTIES {
+    for (property, places) in &PROPERTIES {
         for place in PLACES {
-            let list = spelled(rt.alloc(), &[property])?;
-            let twice = spelled(rt.alloc(), &[property, property])?;
-            let first = property.first().copied().unwrap_or(0);
-            if !places.contains(&place) {
-                let refused = (Some((1, PropReason::NotAllowed)), list.len());
-                assert_eq!(rt; read(&list, place), refused, "{first} in {place:?}");
-                continue;
-            }
-            assert_eq!(rt; read(&list, place), (None, 0), "{first} in {place:?}");
-            let wanted = if first == 0x26 || first == 0x0B && place == Publish {
-                (None, 0)
-            } else {
-                (Some((list.len(), PropReason::Repeated)), twice.len())
-            };
-            assert_eq!(rt; read(&twice, place), wanted, "two {first} in {place:?}");
+            let is_as_stated = is_read_as_stated(rt.alloc(), property, places, place)?;
+            assert!(rt; is_as_stated, "{property:?} in {place:?}");
         }
     }
     Ok(())
@@ -188,55 +196,53 @@ fn first_bad_field(rt: HostRuntime) {
     assert_eq!(rt; read(&[0, 9], Pubrel), (None, 1));
 }
 
+// Puts each of these into the list, and tells at which one the list first answers otherwise than stated.
+fn first_other(list: &mut PropsBuf, rows: &[(Prop<'_>, Result<(), PushFault>)]) -> Option<usize> {
+    for (at, (prop, answer)) in rows.iter().enumerate() {
+        if list.push(prop) != *answer {
+            return Some(at);
+        }
+    }
+    None
+}
+
 #[test]
 fn what_a_list_takes(rt: HostRuntime) -> Result<(), Fail> {
+    use PushFault::{NotAllowed, Repeated, TooLong, Value};
     let mut list = PropsBuf::new(rt.alloc(), Publish);
     let long = vec![in rt.alloc(); b'a'; 65_536]?;
     let text = str::from_utf8(&long)?;
     let short = str::from_utf8(&long[1..])?;
-    assert_eq!(rt; list.push(&Prop::TopicAlias(0)), Err(PushFault::Value));
-    assert_eq!(rt;
-        list.push(&Prop::ReceiveMaximum(5)),
-        Err(PushFault::NotAllowed)
+    let refused = first_other(
+        &mut list,
+        &[
+            (Prop::TopicAlias(0), Err(Value)),
+            (Prop::ReceiveMaximum(5), Err(NotAllowed)),
+            (Prop::ContentType(text), Err(TooLong)),
+            (Prop::UserProperty("a", text), Err(TooLong)),
+            (Prop::CorrelationData(&long), Err(TooLong)),
+            (Prop::ResponseTopic("a/#"), Err(Value)),
+            (Prop::ContentType("\0"), Err(Value)),
+            (Prop::UserProperty("a", "\0"), Err(Value)),
+            (Prop::SubscriptionIdentifier(0), Err(Value)),
+            (Prop::SubscriptionIdentifier(268_435_456), Err(Value)),
+        ],
     );
-    assert_eq!(rt;
-        list.push(&Prop::ContentType(text)),
-        Err(PushFault::TooLong)
-    );
-    assert_eq!(rt;
-        list.push(&Prop::UserProperty("a", text)),
-        Err(PushFault::TooLong)
-    );
-    assert_eq!(rt;
-        list.push(&Prop::CorrelationData(&long)),
-        Err(PushFault::TooLong)
-    );
-    assert_eq!(rt;
-        list.push(&Prop::ResponseTopic("a/#")),
-        Err(PushFault::Value)
-    );
-    assert_eq!(rt; list.push(&Prop::ContentType("\0")), Err(PushFault::Value));
-    assert_eq!(rt;
-        list.push(&Prop::UserProperty("a", "\0")),
-        Err(PushFault::Value)
-    );
-    assert_eq!(rt;
-        list.push(&Prop::SubscriptionIdentifier(0)),
-        Err(PushFault::Value)
-    );
-    let over = Prop::SubscriptionIdentifier(268_435_456);
-    assert_eq!(rt; list.push(&over), Err(PushFault::Value));
+    assert_eq!(rt; refused, None);
     assert_eq!(rt; list.as_props().as_bytes().len(), 0);
-    assert_eq!(rt; list.push(&Prop::TopicAlias(1)), Ok(()));
-    assert_eq!(rt; list.push(&Prop::TopicAlias(1)), Err(PushFault::Repeated));
-    assert_eq!(rt; list.push(&Prop::TopicAlias(0)), Err(PushFault::Repeated));
-    assert_eq!(rt; list.push(&Prop::UserProperty("a", "b")), Ok(()));
-    assert_eq!(rt; list.push(&Prop::UserProperty("a", "b")), Ok(()));
-    assert_eq!(rt;
-        list.push(&Prop::SubscriptionIdentifier(268_435_455)),
-        Ok(())
+    let taken = first_other(
+        &mut list,
+        &[
+            (Prop::TopicAlias(1), Ok(())),
+            (Prop::TopicAlias(1), Err(Repeated)),
+            (Prop::TopicAlias(0), Err(Repeated)),
+            (Prop::UserProperty("a", "b"), Ok(())),
+            (Prop::UserProperty("a", "b"), Ok(())),
+            (Prop::SubscriptionIdentifier(268_435_455), Ok(())),
+            (Prop::SubscriptionIdentifier(300), Ok(())),
+        ],
     );
-    assert_eq!(rt; list.push(&Prop::SubscriptionIdentifier(300)), Ok(()));
+    assert_eq!(rt; taken, None);
     let props = list.as_props();
     let bytes: &[u8] = &[
         0x23, 0, 1, 0x26, 0, 1, b'a', 0, 1, b'b', 0x26, 0, 1, b'a', 0, 1, b'b', 0x0B, 0xFF, 0xFF,
@@ -357,22 +363,37 @@ fn first_of_each_in_connack(rt: HostRuntime) -> Result<(), Fail> {
         ],
     )?;
     let props = list.as_props();
-    assert_eq!(rt; props.get_session_expiry_interval(), Some(1));
-    assert_eq!(rt; props.get_assigned_client_identifier(), Some("a"));
-    assert_eq!(rt; props.get_server_keep_alive(), Some(2));
-    assert_eq!(rt; props.get_authentication_method(), Some("m"));
+    let texts = [
+        props.get_assigned_client_identifier(),
+        props.get_authentication_method(),
+        props.get_response_information(),
+        props.get_server_reference(),
+        props.get_reason_string(),
+    ];
+    assert_eq!(rt;
+        texts,
+        [Some("a"), Some("m"), Some("i"), Some("s"), Some("r")]
+    );
     assert_eq!(rt; props.get_authentication_data(), Some([3].as_slice()));
-    assert_eq!(rt; props.get_response_information(), Some("i"));
-    assert_eq!(rt; props.get_server_reference(), Some("s"));
-    assert_eq!(rt; props.get_reason_string(), Some("r"));
-    assert_eq!(rt; props.get_receive_maximum(), Some(4));
-    assert_eq!(rt; props.get_topic_alias_maximum(), Some(5));
-    assert_eq!(rt; props.get_maximum_qos(), Some(1));
-    assert_eq!(rt; props.get_retain_available(), Some(0));
-    assert_eq!(rt; props.get_maximum_packet_size(), Some(6));
-    assert_eq!(rt; props.get_wildcard_subscription_available(), Some(1));
-    assert_eq!(rt; props.get_subscription_identifier_available(), Some(0));
-    assert_eq!(rt; props.get_shared_subscription_available(), Some(1));
+    let sizes = [
+        props.get_session_expiry_interval(),
+        props.get_maximum_packet_size(),
+    ];
+    assert_eq!(rt; sizes, [Some(1), Some(6)]);
+    let counts = [
+        props.get_server_keep_alive(),
+        props.get_receive_maximum(),
+        props.get_topic_alias_maximum(),
+    ];
+    assert_eq!(rt; counts, [Some(2), Some(4), Some(5)]);
+    let abilities = [
+        props.get_maximum_qos(),
+        props.get_retain_available(),
+        props.get_wildcard_subscription_available(),
+        props.get_subscription_identifier_available(),
+        props.get_shared_subscription_available(),
+    ];
+    assert_eq!(rt; abilities, [Some(1), Some(0), Some(1), Some(0), Some(1)]);
     Ok(())
 }
 
