@@ -1,5 +1,5 @@
 use crate::failure::{FAULTY, PASSED, REFUSED};
-use crate::tests::{Trickle, told_of};
+use crate::tests::is_told;
 use std::alloc::{AllocError, Global};
 use std::test::Fail;
 
@@ -630,36 +630,14 @@ fn log_of(alloc: Global, role: u8, parts: &[Part]) -> Result<Vec<u8>, AllocError
 }
 
 #[test]
-fn judges_packets(rt: HostRuntime) -> Result<(), Fail> {
+fn judges_packets_whole_and_byte_by_byte(rt: HostRuntime) -> Result<(), Fail> {
     for row in &ROWS {
         let log = log_of(rt.alloc(), row.role, row.parts)?;
-        let told = told_of(rt.alloc(), &mut log.as_slice())?;
         assert!(rt;
-            told.output.as_slice() == row.report.as_bytes(),
+            is_told(rt.alloc(), &log, row.status, row.report)?,
             "{}",
             row.report
         );
-        assert_eq!(rt; told.status, row.status);
-        assert!(rt; told.error.is_empty());
-    }
-    Ok(())
-}
-
-#[test]
-fn judges_packets_byte_by_byte(rt: HostRuntime) -> Result<(), Fail> {
-    for row in &ROWS {
-        let log = log_of(rt.alloc(), row.role, row.parts)?;
-        let mut input = Trickle {
-            bytes: log.as_slice(),
-            fails_after: None,
-        };
-        let told = told_of(rt.alloc(), &mut input)?;
-        assert!(rt;
-            told.output.as_slice() == row.report.as_bytes(),
-            "{}",
-            row.report
-        );
-        assert_eq!(rt; told.status, row.status);
     }
     Ok(())
 }
@@ -669,16 +647,14 @@ fn names_the_rule_that_bytes_break(rt: HostRuntime) -> Result<(), Fail> {
     for broken in &BROKEN {
         let parts = [Open, Sent(CONNECT), Recv(CONNACK), Sent(broken.packet)];
         let log = log_of(rt.alloc(), CLIENT, &parts)?;
-        let told = told_of(rt.alloc(), &mut log.as_slice())?;
         let report = format!(in rt.alloc();
             "fault 4 {} decided 4 record 4 offset {}\nfail 1 faults 4 events\n",
             broken.statement, broken.offset
         )?;
         assert!(rt;
-            told.output.as_slice() == report.as_str().as_bytes(),
+            is_told(rt.alloc(), &log, FAULTY, report.as_str())?,
             "{report}"
         );
-        assert_eq!(rt; told.status, FAULTY);
     }
     Ok(())
 }

@@ -1,7 +1,7 @@
 use crate::command_line::{Stop, Task, parse};
 use crate::failure::{FAILED, FAULTY, MISUSED, PASSED};
 use crate::tasks::{perform, stop};
-use crate::tests::{Narrow, Told};
+use crate::tests::{Narrow, Told, is_failed_write};
 use std::alloc::Global;
 use std::io;
 use std::io::Cursor;
@@ -274,13 +274,7 @@ fn told_of_packet(alloc: Global, hex: &str) -> Result<Told, Stop> {
 fn says_which_packet_bytes_are(rt: HostRuntime) -> Result<(), Fail> {
     for row in &ROWS {
         let told = told_of_packet(rt.alloc(), row.hex)?;
-        assert!(rt;
-            told.output.as_slice() == row.line.as_bytes(),
-            "{}",
-            row.hex
-        );
-        assert_eq!(rt; told.status, row.status);
-        assert!(rt; told.error.is_empty());
+        assert!(rt; told.says(row.status, row.line), "{}", row.hex);
     }
     Ok(())
 }
@@ -298,13 +292,10 @@ fn refuses_digits_that_are_none(rt: HostRuntime) -> Result<(), Fail> {
 
 #[test]
 fn tells_of_a_packet_line_that_fails(rt: HostRuntime) -> Result<(), Fail> {
-    let task = parse(rt.alloc(), &["mqjudge", "packet", "40020001"])?;
+    let words = ["mqjudge", "packet", "40020001"];
     for (room, stays) in [(0, false), (18, false), (19, true)] {
-        let mut output = Narrow { room, stays };
-        let mut error = Vec::new(rt.alloc());
-        let status = perform(rt.alloc(), &task, &mut io::empty(), &mut output, &mut error);
-        assert_eq!(rt; status, FAILED);
-        assert_eq!(rt; error.as_slice(), &b"mqjudge: write failed\n"[..]);
+        let failed = is_failed_write(rt.alloc(), &words, b"", Narrow { room, stays })?;
+        assert!(rt; failed, "{room} bytes");
     }
     Ok(())
 }

@@ -1,7 +1,7 @@
 use crate::command_line::{Stop, Task, parse};
 use crate::failure::{FAILED, PASSED, REFUSED};
 use crate::tasks::{perform, stop};
-use crate::tests::{Narrow, Told, Trickle};
+use crate::tests::{Narrow, Told, Trickle, is_failed_write};
 use std::alloc::Global;
 use std::io::{Cursor, Read};
 use std::test::Fail;
@@ -109,9 +109,7 @@ fn shows_logs_whole_and_byte_by_byte(rt: HostRuntime) -> Result<(), Fail> {
         let whole = shown_of(rt.alloc(), &mut &log[..])?;
         let cut = shown_of(rt.alloc(), &mut trickle)?;
         for told in [whole, cut] {
-            assert_eq!(rt; told.output.as_slice(), lines.as_bytes());
-            assert_eq!(rt; told.status, status, "{lines}");
-            assert!(rt; told.error.is_empty());
+            assert!(rt; told.says(status, lines), "{lines}");
         }
     }
     Ok(())
@@ -119,7 +117,7 @@ fn shows_logs_whole_and_byte_by_byte(rt: HostRuntime) -> Result<(), Fail> {
 
 // What was read until then is shown.
 #[test]
-fn tells_what_failed(rt: HostRuntime) -> Result<(), Fail> {
+fn tells_of_a_failed_read(rt: HostRuntime) -> Result<(), Fail> {
     for (fails_after, lines) in [(0, 0), (7, 0), (13, 1), (42, 2), (43, 3), (76, 7)] {
         let mut input = Trickle {
             bytes: WHOLE_LOG,
@@ -132,7 +130,11 @@ fn tells_what_failed(rt: HostRuntime) -> Result<(), Fail> {
         assert_eq!(rt; ends, lines, "{fails_after} bytes");
         assert!(rt; WHOLE_LINES.as_bytes().starts_with(told.output.as_slice()));
     }
-    let task = parse(rt.alloc(), &["mqjudge", "show"])?;
+    Ok(())
+}
+
+#[test]
+fn tells_of_a_failed_write(rt: HostRuntime) -> Result<(), Fail> {
     let short = &WHOLE_LOG[..75];
     for (log, room, stays) in [
         (WHOLE_LOG, 0, false),
@@ -142,11 +144,9 @@ fn tells_what_failed(rt: HostRuntime) -> Result<(), Fail> {
         (short, 198, false),
         (short, 10_000, true),
     ] {
-        let mut output = Narrow { room, stays };
-        let mut error = Vec::new(rt.alloc());
-        let status = perform(rt.alloc(), &task, &mut &log[..], &mut output, &mut error);
-        assert_eq!(rt; status, FAILED, "{room} bytes");
-        assert_eq!(rt; error.as_slice(), &b"mqjudge: write failed\n"[..]);
+        let output = Narrow { room, stays };
+        let failed = is_failed_write(rt.alloc(), &["mqjudge", "show"], log, output)?;
+        assert!(rt; failed, "{room} bytes");
     }
     Ok(())
 }

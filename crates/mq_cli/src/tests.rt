@@ -185,6 +185,15 @@ pub struct Told {
     pub error: Vec<u8>,
 }
 
+impl Told {
+    // Whether it ended with this status and said this, and nothing of a failure.
+    pub fn says(&self, status: u8, output: &str) -> bool {
+        self.status == status
+            && self.output.as_slice() == output.as_bytes()
+            && self.error.is_empty()
+    }
+}
+
 pub fn told_of<R: Read>(alloc: Global, input: &mut R) -> Result<Told, Stop> {
     let task = parse(alloc, &["mqjudge", "check"])?;
     let mut output = Vec::new(alloc);
@@ -197,30 +206,26 @@ pub fn told_of<R: Read>(alloc: Global, input: &mut R) -> Result<Told, Stop> {
     })
 }
 
-#[test]
-fn judges_whole_logs(rt: HostRuntime) -> Result<(), Fail> {
-    for row in &ROWS {
-        let log = joined(rt.alloc(), row.log)?;
-        let told = told_of(rt.alloc(), &mut log.as_slice())?;
-        assert_eq!(rt; told.output.as_slice(), row.report.as_bytes());
-        assert_eq!(rt; told.status, row.status);
-        assert!(rt; told.error.is_empty());
-    }
-    Ok(())
+// Whether a check of this log, read whole and then byte by byte, says this and nothing else.
+pub fn is_told(alloc: Global, log: &[u8], status: u8, report: &str) -> Result<bool, Stop> {
+    let mut trickle = Trickle {
+        bytes: log,
+        fails_after: None,
+    };
+    let whole = told_of(alloc, &mut &log[..])?;
+    let cut = told_of(alloc, &mut trickle)?;
+    Ok(whole.says(status, report) && cut.says(status, report))
 }
 
 #[test]
-fn judges_logs_byte_by_byte(rt: HostRuntime) -> Result<(), Fail> {
+fn judges_logs_whole_and_byte_by_byte(rt: HostRuntime) -> Result<(), Fail> {
     for row in &ROWS {
         let log = joined(rt.alloc(), row.log)?;
-        let mut input = Trickle {
-            bytes: log.as_slice(),
-            fails_after: None,
-        };
-        let told = told_of(rt.alloc(), &mut input)?;
-        assert_eq!(rt; told.output.as_slice(), row.report.as_bytes());
-        assert_eq!(rt; told.status, row.status);
-        assert!(rt; told.error.is_empty());
+        assert!(rt;
+            is_told(rt.alloc(), &log, row.status, row.report)?,
+            "{}",
+            row.report
+        );
     }
     Ok(())
 }
@@ -266,9 +271,21 @@ fn tells_of_a_failed_read(rt: HostRuntime) -> Result<(), Fail> {
     Ok(())
 }
 
+// Whether what these words ask for fails where the output is so narrow, and tells that a write did.
+pub fn is_failed_write(
+    alloc: Global,
+    words: &[&str],
+    log: &[u8],
+    mut output: Narrow,
+) -> Result<bool, Stop> {
+    let task = parse(alloc, words)?;
+    let mut error = Vec::new(alloc);
+    let status = perform(alloc, &task, &mut &log[..], &mut output, &mut error);
+    Ok(status == FAILED && error.as_slice() == &b"mqjudge: write failed\n"[..])
+}
+
 #[test]
 fn tells_of_a_failed_write(rt: HostRuntime) -> Result<(), Fail> {
-    let task = parse(rt.alloc(), &["mqjudge", "check"])?;
     let short = &HEADER[..7];
     for (log, room, stays) in [
         (HEADER, 0, false),
@@ -277,11 +294,9 @@ fn tells_of_a_failed_write(rt: HostRuntime) -> Result<(), Fail> {
         (short, 0, false),
         (short, 100, true),
     ] {
-        let mut output = Narrow { room, stays };
-        let mut error = Vec::new(rt.alloc());
-        let status = perform(rt.alloc(), &task, &mut &log[..], &mut output, &mut error);
-        assert_eq!(rt; status, FAILED);
-        assert_eq!(rt; error.as_slice(), &b"mqjudge: write failed\n"[..]);
+        let output = Narrow { room, stays };
+        let failed = is_failed_write(rt.alloc(), &["mqjudge", "check"], log, output)?;
+        assert!(rt; failed, "{room} bytes");
     }
     Ok(())
 }
@@ -316,23 +331,25 @@ fn tells_of_want_of_memory(rt: HostRuntime) {
     assert!(rt; error.get_ref().starts_with(complaint));
 }
 
+// Whether these words ask for a check of this file, or of the input.
+fn is_check_of(alloc: Global, words: &[&str], wanted: Option<&str>) -> Result<bool, Stop> {
+    let Task::Check { file, json } = parse(alloc, words)? else {
+        return Ok(false);
+    };
+    let path = file.as_ref().map(|path| path.as_str());
+    Ok(path == wanted && !json)
+}
+
 #[test]
 fn reads_the_words_of_a_check(rt: HostRuntime) -> Result<(), Fail> {
-    let Task::Check { file, json } = parse(rt.alloc(), &["mqjudge", "check"])? else {
-        return Err("no check".into());
-    };
-    assert!(rt; file.is_none() && !json);
-    let Task::Check { file, json } = parse(rt.alloc(), &["mqjudge", "check", "a.log"])? else {
-        return Err("no check".into());
-    };
-    let path = file.ok_or("no file")?;
-    assert!(rt; path.as_str() == "a.log" && !json);
-    let Task::Check { file, json } = parse(rt.alloc(), &["mqjudge", "check", "--", "--help"])?
-    else {
-        return Err("no check".into());
-    };
-    let path = file.ok_or("no file")?;
-    assert!(rt; path.as_str() == "--help" && !json);
+    let rows: [(&[&str], Option<&str>); 3] = [
+        (&["mqjudge", "check"], None),
+        (&["mqjudge", "check", "a.log"], Some("a.log")),
+        (&["mqjudge", "check", "--", "--help"], Some("--help")),
+    ];
+    for (words, wanted) in rows {
+        assert!(rt; is_check_of(rt.alloc(), words, wanted)?, "{words:?}");
+    }
     Ok(())
 }
 
@@ -395,21 +412,24 @@ fn refuses_other_words(rt: HostRuntime) -> Result<(), Fail> {
     Ok(())
 }
 
+// Whether a stop ends with this status, shows this, and tells that.
+fn is_stopped(alloc: Global, why: &Stop, status: u8, shown: &str, told: &str) -> bool {
+    let mut output = Vec::new(alloc);
+    let mut error = Vec::new(alloc);
+    stop(why, &mut output, &mut error) == status
+        && output.as_slice() == shown.as_bytes()
+        && error.as_slice() == told.as_bytes()
+}
+
 #[test]
 fn tells_why_there_is_no_task(rt: HostRuntime) -> Result<(), Fail> {
-    let text = String::from_str(rt.alloc(), "mqjudge 0.1.0\n")?;
-    let help = Stop::Help(text.clone()?);
-    for (why, status, shown, told) in [
-        (&help, PASSED, "mqjudge 0.1.0\n", ""),
-        (&Stop::Usage(text), MISUSED, "", "mqjudge 0.1.0\n"),
-        (&Stop::Memory, FAILED, "", "mqjudge: out of memory\n"),
-    ] {
-        let mut output = Vec::new(rt.alloc());
-        let mut error = Vec::new(rt.alloc());
-        assert_eq!(rt; stop(why, &mut output, &mut error), status);
-        assert_eq!(rt; output.as_slice(), shown.as_bytes());
-        assert_eq!(rt; error.as_slice(), told.as_bytes());
-    }
+    let text = "mqjudge 0.1.0\n";
+    let help = Stop::Help(String::from_str(rt.alloc(), text)?);
+    let usage = Stop::Usage(String::from_str(rt.alloc(), text)?);
+    let memory = "mqjudge: out of memory\n";
+    assert!(rt; is_stopped(rt.alloc(), &help, PASSED, text, ""));
+    assert!(rt; is_stopped(rt.alloc(), &usage, MISUSED, "", text));
+    assert!(rt; is_stopped(rt.alloc(), &Stop::Memory, FAILED, "", memory));
     let mut error = Vec::new(rt.alloc());
     let mut output = Narrow {
         room: 5,
