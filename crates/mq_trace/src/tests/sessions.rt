@@ -7,6 +7,7 @@ use super::logs::{
 };
 use super::telling::{LIMIT, Lines, assert_rows, assert_tells, trace};
 use crate::{Header, Refusal, Tracer};
+use std::process::Abort;
 use std::test::Fail;
 
 pub static SESSIONS: [Row; 15] = [
@@ -223,6 +224,17 @@ fn tells_the_same_of_any_records(rt: HostRuntime) -> Result<(), Fail> {
     Ok(())
 }
 
+/// How many events a log has, its header, and its answer.
+fn told_of(
+    rt: &(impl Abort + AllocGlobal),
+    log: &[u8],
+) -> (usize, Option<Header>, Result<(), Refusal>) {
+    let mut tracer = Tracer::new(rt.alloc(), LIMIT);
+    let mut told = Lines::new(rt.alloc(), true, u32::MAX);
+    let ended = trace(rt, &mut tracer, LIMIT, log, 5, &mut told);
+    (told.heard as usize, tracer.header(), ended)
+}
+
 /// Each beginning of a log of 76 bytes is cut short, but where a record ends.
 #[test]
 fn tells_of_beginnings(rt: HostRuntime) -> Result<(), Fail> {
@@ -230,29 +242,25 @@ fn tells_of_beginnings(rt: HostRuntime) -> Result<(), Fail> {
     assert_eq!(rt; log.len(), 76);
     let ends = [8, 13, 33, 43, 57, 66, 71, 76];
     for count in 0..77 {
-        let mut tracer = Tracer::new(rt.alloc(), LIMIT);
-        let mut told = Lines::new(rt.alloc(), true, u32::MAX);
-        let beginning = &log[..count];
-        let ended = trace(&rt, &mut tracer, LIMIT, beginning, 5, &mut told);
         let whole = ends.iter().filter(|end| **end <= count).count();
-        assert_eq!(rt;
-            told.heard as usize,
-            whole.saturating_sub(1),
-            "{count} bytes"
-        );
         let header = Header {
             server: false,
             releases: true,
         };
-        assert!(rt;
-            tracer.header() == (count >= 8).then_some(header),
+        let answer = if ends.contains(&count) {
+            Ok(())
+        } else {
+            Err(Refusal::Cut(count as u64))
+        };
+        assert_eq!(rt;
+            told_of(&rt, &log[..count]),
+            (
+                whole.saturating_sub(1),
+                (count >= 8).then_some(header),
+                answer
+            ),
             "{count} bytes"
         );
-        if ends.contains(&count) {
-            assert_eq!(rt; ended, Ok(()), "{count} bytes");
-        } else {
-            assert_eq!(rt; ended, Err(Refusal::Cut(count as u64)), "{count} bytes");
-        }
     }
     Ok(())
 }

@@ -4,6 +4,7 @@ use super::{TraceWriter, WriteFault};
 use std::alloc::AllocError;
 use std::io;
 use std::io::{ErrorKind, Write};
+use std::process::Abort;
 
 const CONNECT: &[u8] = b"\x10\x0D\x00\x04MQTT\x05\x02\x00\x3C\x00\x00\x00";
 
@@ -40,6 +41,17 @@ fn call<W: Write>(trace: &mut TraceWriter<W>, number: usize) -> Result<(), Write
         5 => trace.recv(PUBACK),
         6 => trace.rest(),
         _ => trace.close(),
+    }
+}
+
+/// Makes all the worked log's calls, of which those succeed that there is room for.
+fn assert_calls<W: Write>(rt: &impl Abort, trace: &mut TraceWriter<W>, room: usize) {
+    for (number, end) in ENDS.into_iter().enumerate() {
+        assert_eq!(rt;
+            call(trace, number).is_ok(),
+            end <= room,
+            "call {number}, room for {room}"
+        );
     }
 }
 
@@ -118,13 +130,7 @@ fn stops_where_there_is_no_room(rt: HostRuntime) {
     for room in 0..WORKED.len() {
         let mut log = [0xEE; 76];
         let mut trace = TraceWriter::new(&mut log[..room]);
-        for (number, end) in ENDS.into_iter().enumerate() {
-            assert_eq!(rt;
-                call(&mut trace, number).is_ok(),
-                end <= room,
-                "call {number}, room for {room}"
-            );
-        }
+        assert_calls(&rt, &mut trace, room);
         assert_eq!(rt; trace.into_inner().len(), 0, "room for {room}");
         assert!(rt; &log[..room] == &WORKED[..room], "room for {room}");
         assert!(rt;
@@ -143,13 +149,7 @@ fn writes_nothing_after_a_failure(rt: HostRuntime) {
                 room: Some(room),
                 error,
             });
-            for (number, end) in ENDS.into_iter().enumerate() {
-                assert_eq!(rt;
-                    call(&mut trace, number).is_ok(),
-                    end <= room,
-                    "call {number}, room for {room}"
-                );
-            }
+            assert_calls(&rt, &mut trace, room);
             assert_eq!(rt; trace.release(1), Err(WriteFault::Write), "room for {room}");
             assert!(rt;
                 trace.into_inner().taken.as_slice() == &WORKED[..room],
