@@ -58,7 +58,11 @@ impl Lines {
         self.len = 0;
     }
 
-    /// Puts a text behind what waits, or changes nothing where it has no room.
+    /// Puts a text behind what waits.
+    ///
+    /// # Errors
+    ///
+    /// Where it has no room. Nothing changes then.
     #[inline(always)]
     pub fn put(&mut self, text: &str) -> fmt::Result
         ensures puts { OnOk result (self.new ≡ self.old ++ text.now) }
@@ -73,7 +77,11 @@ impl Lines {
         Ok(())
     }
 
-    /// Puts a number in decimal digits behind what waits, or changes nothing where it has no room.
+    /// Puts a number in decimal digits behind what waits.
+    ///
+    /// # Errors
+    ///
+    /// Where it has no room. Nothing changes then.
     #[inline(never)]
     pub fn put_number(&mut self, number: u32) -> fmt::Result
         ensures puts { OnOk result (self.new ≡ self.old ++ decimal number) }

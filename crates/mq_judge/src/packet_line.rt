@@ -77,7 +77,7 @@ impl Finding {
     }
 }
 
-// Puts the text that says this behind the lines that wait.
+// Puts a finding's text behind the lines that wait.
 fn put_finding(lines: &mut Lines, found: Finding) -> fmt::Result
     ensures { OnOk result (lines.new ≡ lines.old ++ finding_text found) }
 {
@@ -91,7 +91,7 @@ fn put_finding(lines: &mut Lines, found: Finding) -> fmt::Result
     }
 }
 
-// Puts the line of that text.
+// Puts a finding's line behind them.
 fn put_line(lines: &mut Lines, found: Finding) -> fmt::Result
     ensures { OnOk result (lines.new ≡ lines.old ++ line (finding_text found)) }
 {
@@ -99,7 +99,7 @@ fn put_line(lines: &mut Lines, found: Finding) -> fmt::Result
     lines.put("\n")
 }
 
-// Writes the line that says this.
+// Writes a finding's line.
 fn write_finding<W: Write>(found: Finding, writer: &mut W) -> Result<(), RunFault>
     ensures ok { OnOk result (Appends (W.contents writer.old) (W.contents writer.new) (line (finding_text found))) }
     ensures write { IfErr result (λ fault. (fault ≡ RunFault.Write)
