@@ -33,6 +33,7 @@ impl<W: Write> Sink for Showing<'_, W> {
 
     ghost refuses = { λ showing _. showing.failed ≡ true };
 
+    #[inline(always)]
     fn event(&mut self, place: Place3, event: Event<'_>) -> Result<(), Refusal> {
         if !self.lines.has_room(LINE_ROOM) {
             self.write_out();

@@ -85,6 +85,7 @@ impl Direction {
     /// # Errors
     ///
     /// The refusal that first stands with one of them; the sink's own refusal; `Memory`.
+    #[inline(always)]
     pub fn take<S: Sink>(
         &mut self,
         bed: Bed,
@@ -128,6 +129,7 @@ impl Direction {
     }
 
     /// What the next bytes are to the direction, which isn't lost.
+    #[inline(always)]
     fn step(&self, limit: u32, bytes: &[u8]) -> Step
         ensures { IsStep (half_in self.now) limit bytes.now result }
     {
@@ -377,6 +379,7 @@ fn header_of(frame: &[u8]) -> usize
 /// # Errors
 ///
 /// The refusal that stands with its last byte; the sink's own refusal.
+#[inline(always)]
 fn take_whole<S: Sink>(
     bed: Bed,
     connections: &mut Connections,

@@ -377,6 +377,7 @@ impl Reading {
     }
 
     /// Goes on where so many bytes of a record's body are still to come.
+    #[inline(always)]
     fn leave(&mut self, way: Way, left: u32)
         requires numbered { self.old.records < 4294967295 }
         ensures { self.new ≡ leaving self.old way left }
@@ -390,6 +391,7 @@ impl Reading {
     }
 
     /// Takes in bytes of a body of which so many are still to come: those of one packet.
+    #[inline(always)]
     fn take_body<S: Sink>(
         &mut self,
         way: Way,
@@ -417,6 +419,7 @@ impl Reading {
     }
 
     /// Passes bytes of a body on to the direction that they go: those of one packet. Answers how many.
+    #[inline(always)]
     fn pass_on<S: Sink>(&mut self, way: Way, body: &[u8], sink: &mut S) -> Result<usize, Refusal>
         requires some { 1 ≤ length body.now }
         requires room { self.old.at + length body.now < 2 ^ 64 }
