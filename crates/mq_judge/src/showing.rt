@@ -61,6 +61,7 @@ impl<W: Write> Showing<'_, W> {
 }
 
 // Puts the line of an event at its place behind those that wait.
+#[inline(always)]
 fn put_line(lines: &mut Lines, place: Place3, event: &Event<'_>) -> fmt::Result
     ensures puts { OnOk result (lines.new ≡ lines.old ++ event_line place event.now) }
     ensures full { IfErr result (λ _. 8192 < length lines.old + length (event_line place event.now)) }
@@ -73,6 +74,7 @@ fn put_line(lines: &mut Lines, place: Place3, event: &Event<'_>) -> fmt::Result
 }
 
 // Puts an event's text behind the lines that wait, and a space before it.
+#[inline(always)]
 fn put_event(lines: &mut Lines, event: &Event<'_>) -> fmt::Result
     ensures puts { OnOk result (lines.new ≡ lines.old ++ 32 ∷ event_text event.now) }
     ensures full { IfErr result (λ _. 8192 < length lines.old + length (32 ∷ event_text event.now)) }

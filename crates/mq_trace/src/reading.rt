@@ -128,6 +128,7 @@ impl Reading {
     }
 
     /// Takes in a record's head at once, where all of it is there, else its first byte.
+    #[inline(always)]
     fn take_head<S: Sink>(&mut self, bytes: &[u8], sink: &mut S) -> Result<usize, Refusal>
         requires some { 1 ≤ length bytes.now }
         requires sound { IsSound self.old }
@@ -153,6 +154,7 @@ impl Reading {
     }
 
     /// Takes in all four bytes of a record's length, behind its first byte.
+    #[inline(always)]
     fn take_length<S: Sink>(
         &mut self,
         kind: RecordKind,
@@ -177,6 +179,7 @@ impl Reading {
     /// # Errors
     ///
     /// The refusal that the byte gives.
+    #[inline(always)]
     fn begin_record(&mut self, byte: u8) -> Result<RecordKind, Refusal>
         requires sound { IsSound self.old }
         requires between { self.old.stage ≡ stages.Between }
@@ -197,6 +200,7 @@ impl Reading {
     }
 
     /// The refusal that a record of this kind meets with its first byte.
+    #[inline(always)]
     fn met_by(&self, kind: RecordKind) -> Option<Refusal>
         ensures met { result ≡ met_by_kind self.now kind }
         ensures room { result ≡ None → self.now.records < 4294967295 }
@@ -215,6 +219,7 @@ impl Reading {
     }
 
     /// Goes on behind the first byte of a record of this kind.
+    #[inline(always)]
     fn begin(&mut self, kind: RecordKind)
         requires { self.old.at + 1 < 2 ^ 64 }
         ensures is { self.new ≡ record self.old { at = self.old.at + 1; stage = stages.Head kind 0 0; sent = self.new.sent; recv = self.new.recv } }
@@ -234,6 +239,7 @@ impl Reading {
     }
 
     /// Takes in the first three bytes of a record's length, and answers the number that they spell.
+    #[inline(always)]
     fn skip_length(&mut self, kind: RecordKind, a: u8, b: u8, c: u8) -> u32
         requires { self.old.at + 3 < 2 ^ 64 }
         ensures number { result ≡ from_be_bytes w32 (0 ∷ a ∷ b ∷ c ∷ []) }
@@ -277,6 +283,7 @@ impl Reading {
     }
 
     /// Takes in the last byte of a record's head, behind three bytes of its length, which spell this number.
+    #[inline(always)]
     fn end_head<S: Sink>(
         &mut self,
         kind: RecordKind,
@@ -367,6 +374,7 @@ impl Reading {
     }
 
     /// Takes in the last byte of the head of a record that carries so many bytes this way.
+    #[inline(always)]
     fn begin_body(&mut self, way: Way, length: u32)
         requires room { self.old.at + 1 < 2 ^ 64 }
         requires numbered { self.old.records < 4294967295 }

@@ -17,6 +17,7 @@ pub const LOST: &str = "LOST";
 /// # Errors
 ///
 /// Where they have no room for it. A beginning of it stands there then.
+#[inline(always)]
 pub fn put_item(lines: &mut Lines, item: &Item<'_>) -> fmt::Result
     ensures puts { OnOk result (lines.new ≡ lines.old ++ item_text item.now) }
     ensures full { IfErr result (λ _. 8192 < length lines.old + length (item_text item.now)) }
@@ -35,6 +36,7 @@ pub fn put_item(lines: &mut Lines, item: &Item<'_>) -> fmt::Result
 /// # Errors
 ///
 /// Where they have no room for it. A beginning of it stands there then.
+#[inline(always)]
 pub fn put_packet(lines: &mut Lines, packet: PacketNote, size: u32) -> fmt::Result
     ensures puts { OnOk result (lines.new ≡ lines.old ++ packet_text packet size) }
     ensures full { IfErr result (λ _. 8192 < length lines.old + length (packet_text packet size)) }
