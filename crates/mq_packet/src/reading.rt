@@ -10,7 +10,7 @@ mod lists;
 mod publish;
 mod request;
 
-ghost use Rattle.std.specs.Prelude.{◌≡◌, ◌≤◌, IfOk, length};
+ghost use Rattle.std.specs.Prelude.{◌≡◌, ◌≢◌, ◌<◌, ◌≤◌, ◌⊎◌, IfOk, length};
 ghost use Rattle.mq_packet.specs.Formats.{format_of};
 ghost use Rattle.mq_packet.specs.Decoding.{read};
 ghost use Rattle.mq_packet.specs.Reading.{view, HasReadLen, Reads};
@@ -40,8 +40,6 @@ pub fn read_packet<'a>(first: u8, cursor: Cursor<'a>, size: usize) -> Result<Pac
     ensures read_len { IfOk result (λ packet. HasReadLen size packet) }
 {
     match first {
-        0x10 => read_connect(cursor).map(Packet::Connect),
-        0x20 => read_connack(cursor).map(Packet::Connack),
         0x30..0x40 => read_publish(first, cursor).map(Packet::Publish),
         0x40 => read_acknowledgement(cursor, AcknowledgementKind::Puback, size).map(Packet::Puback),
         0x50 => read_acknowledgement(cursor, AcknowledgementKind::Pubrec, size).map(Packet::Pubrec),
@@ -49,6 +47,25 @@ pub fn read_packet<'a>(first: u8, cursor: Cursor<'a>, size: usize) -> Result<Pac
         0x70 => read_acknowledgement(cursor, AcknowledgementKind::Pubcomp, size).map(
             Packet::Pubcomp,
         ),
+        // Taken apart and put together, this packet has its own place, and the others need none in memory.
+        _ => Ok(read_other(first, cursor, size)?),
+    }
+}
+
+// The same for all but PUBLISH and what acknowledges one. It stays apart, so that those who read these have no room to make for
+// its packets.
+#[inline(never)]
+fn read_other<'a>(first: u8, cursor: Cursor<'a>, size: usize) -> Result<Packet<'a>, Stop>
+    requires inside { length cursor.rest ≤ size }
+    requires bound { size ≤ 268435455 }
+    requires publish { (first < 48) ⊎ (64 ≤ first) }
+    requires acknowledgement { (first ≢ 64) × (first ≢ 80) × (first ≢ 98) × (first ≢ 112) }
+    ensures read { Reads view result (read (format_of first size) cursor.entry) }
+    ensures read_len { IfOk result (λ packet. HasReadLen size packet) }
+{
+    match first {
+        0x10 => read_connect(cursor).map(Packet::Connect),
+        0x20 => read_connack(cursor).map(Packet::Connack),
         0x82 => read_request(cursor, RequestKind::Subscribe).map(Packet::Subscribe),
         0x90 => read_answer(cursor, RequestKind::Subscribe).map(Packet::Suback),
         0xa2 => read_request(cursor, RequestKind::Unsubscribe).map(Packet::Unsubscribe),

@@ -5,7 +5,7 @@ use Rattle.mq_packet.specs.Entries.{request, answer}
 use Rattle.mq_packet.specs.Formats.{request_format, answer_format}
 use Rattle.mq_packet.specs.Decoding.{read}
 use Rattle.mq_packet.specs.Reading.{Reads, view}
-use Rattle.mq_packet.proofs.reading.read_packet.Goals as goal
+use Rattle.mq_packet.proofs.reading.read_other.Goals as goal
 
 pub returns-in-130 : goal.returns-in-130
 returns-in-130 c =
