@@ -61,6 +61,23 @@ digit_written number rest at digits so_far low small =
       room = rw length-set (omega (arith, so_far.room));
     }
 
+-- Two digits at once.
+pub two_left : (number rest at : ℕ) (digits : List ℕ) → LeavesDigits number rest at digits → 10 ≤ rest → rest < 2 ^ 64 → 2 ≤ at
+two_left number rest at digits so_far low small =
+    let more : length (decimal rest) ≡ length (decimal (rest / 10)) + 1 = digit_more rest low small in
+    let some : 1 ≤ length (decimal (rest / 10)) = decimal_nonempty (rest / 10) (omega arith) in
+    omega (arith, so_far.count, more, some)
+
+pub pair_written : (number rest at : ℕ) (digits : List ℕ) → LeavesDigits number rest at digits → 100 ≤ rest → rest < 2 ^ 64
+    → LeavesDigits number (rest / 100) (at - 2) (set (set digits (at - 1) (48 + rest % 100 % 10)) (at - 2) (48 + rest % 100 / 10))
+pair_written number rest at digits so_far low small =
+    let ones : rest % 100 % 10 ≡ rest % 10 = omega arith in
+    let tens : rest % 100 / 10 ≡ rest / 10 % 10 = omega arith in
+    let left : rest / 100 ≡ rest / 10 / 10 = omega arith in
+    let place : at - 2 ≡ at - 1 - 1 = omega arith in
+    let both = digit_written number (rest / 10) (at - 1) (set digits (at - 1) (48 + rest % 10)) (digit_written number rest at digits so_far (omega arith) small) (omega arith) (omega arith) in
+    rw (ones, tens, left, place) both
+
 pub last_digit_written : (number rest at : ℕ) (digits : List ℕ) → LeavesDigits number rest at digits → rest < 10
     → set digits (at - 1) (48 + rest) ≡ decimal number
 last_digit_written number rest at digits so_far small =

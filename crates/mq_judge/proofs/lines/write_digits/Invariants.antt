@@ -6,3 +6,9 @@ invariant-loop-rest l = LeavesDigits l.number l.rest l.at l.digits
 
 abbrev pub decreases-loop-rest : goal.decreases-loop-rest
 decreases-loop-rest l = l.rest
+
+abbrev pub invariant-loop-rest-2 : goal.invariant-loop-rest-2
+invariant-loop-rest-2 l = LeavesDigits l.number l.rest l.at l.digits
+
+abbrev pub decreases-loop-rest-2 : goal.decreases-loop-rest-2
+decreases-loop-rest-2 l = l.rest
