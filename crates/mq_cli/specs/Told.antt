@@ -1,6 +1,6 @@
 -- What the caller is told, and where.
 use Rattle.std.specs.Prelude.{◌≡◌, ◌⊎◌, ⊤, List, ℕ, Option, Some, [], ◌∷◌, ◌++◌, true, length, codes, string_bytes, IfSome, IsErr, Ok}
-use Rattle.std.specs.Io.KnownBytes.{Appends}
+use Rattle.std.specs.Io.KnownBytes.{Appends, Keeps}
 use Rattle.hex.specs.Hex.{decode_of}
 use Rattle.mq_judge.specs.declared.Refusal.{Refusal}
 use Rattle.mq_judge.specs.declared.Refusal.TheVariants as refusals
@@ -29,6 +29,13 @@ IsToldOn (Help text) old new = ⊥
 IsToldOn (Usage text) old new = Appends old new (string_bytes text)
 IsToldOn Memory old new = ⊥
 
+-- The known bytes grew by a beginning of the text, or by all of it, and by nothing else.
+pub record AppendsPart (old new : Option (List ℕ)) (text : List ℕ) : Type 0 where
+  pub written : List ℕ
+  pub unwritten : List ℕ
+  pub whole : text ≡ written ++ unwritten
+  pub appended : Appends old new written
+
 -- ---- the log
 
 -- what was written, where that is known, ends in this line
@@ -56,6 +63,15 @@ failure_of (refusals.Read at) = failures.Read
 failure_of (refusals.Memory at) = failures.Memory
 failure_of _ = failures.Write
 
+-- nothing was written, or part of what is told of the log: of its report, or of the line on its refusal
+abbrev pub BeginsOnLog : List ℕ → Option (List ℕ) → Option (List ℕ) → Type 0
+BeginsOnLog log old new = Keeps old new ⊎ ((IsJudged log × AppendsPart old new (report log))
+    ⊎ ((refusal : Refusal) × IsRefusedBy log refusal × AppendsPart old new (refused_line refusal)))
+
+-- nothing was written, or part of the line on this refusal, which lies in the log
+abbrev pub BeginsRefusal : Refusal → Option (List ℕ) → Option (List ℕ) → Type 0
+BeginsRefusal refusal old new = Keeps old new ⊎ (IsOfLog refusal × AppendsPart old new (refused_line refusal))
+
 -- ---- the bytes of one packet
 
 -- the digits spell bytes that are one packet
@@ -69,6 +85,11 @@ SpellsNoPacket hex = (bytes : List ℕ) × (decode_of hex ≡ Ok bytes) × (¬ I
 -- they spell bytes, and the line on these was written and nothing else
 abbrev pub AppendsLineOf : List ℕ → Option (List ℕ) → Option (List ℕ) → Type 0
 AppendsLineOf hex old new = (bytes : List ℕ) × (decode_of hex ≡ Ok bytes) × Appends old new (packet_report bytes)
+
+-- nothing was written, or they spell bytes and part of the line on these was
+abbrev pub BeginsLineOf : List ℕ → Option (List ℕ) → Option (List ℕ) → Type 0
+BeginsLineOf hex old new = Keeps old new
+    ⊎ ((bytes : List ℕ) × (decode_of hex ≡ Ok bytes) × AppendsPart old new (packet_report bytes))
 
 -- what is told where they spell none
 abbrev pub not_hex_line : List ℕ
@@ -106,3 +127,9 @@ abbrev pub IsNotHex : Task → Type 0
 IsNotHex (Check file json) = ⊥
 IsNotHex (Show file) = ⊥
 IsNotHex (Packet hex) = IsErr (decode_of (string_bytes hex))
+
+-- 4: nothing was written, or part of what the task tells; of the lines on a log's events this says nothing
+abbrev pub IsBegunOn : Task → Option (List ℕ) → Option (List ℕ) → Option (List ℕ) → Type 0
+IsBegunOn (Check file json) input old new = IfSome input (λ log. BeginsOnLog log old new)
+IsBegunOn (Show file) input old new = ⊤
+IsBegunOn (Packet hex) input old new = BeginsLineOf (string_bytes hex) old new

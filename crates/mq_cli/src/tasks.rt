@@ -2,9 +2,10 @@
 ghost use Rattle.std.specs.Prelude.{◌≡◌, ◌≢◌, ◌≤◌, ◌⊎◌, [], IfOk, IfErr, IfSome, IsErr, OnOk};
 ghost use Rattle.std.specs.Io.KnownBytes.{Appends, Keeps};
 ghost use Rattle.hex.specs.Hex.{decode_of};
-ghost use Rattle.mq_cli.specs.Told.{AppendsLineOf, EndsIn, HasFailed, HasPassed, IsFaultless, IsNotHex};
+ghost use Rattle.mq_cli.specs.Told.{AppendsLineOf, AppendsPart, BeginsLineOf, BeginsOnLog, BeginsRefusal};
+ghost use Rattle.mq_cli.specs.Told.{EndsIn, HasFailed, HasPassed, IsFaultless, IsNotHex};
 ghost use Rattle.mq_cli.specs.Told.{IsOfLog, IsRefusedBy, IsRefusedOn, IsReportedOn, IsShownOn};
-ghost use Rattle.mq_cli.specs.Told.{IsToldOn, SpellsNoPacket, SpellsPacket, failure_of, not_hex_line};
+ghost use Rattle.mq_cli.specs.Told.{IsBegunOn, IsToldOn, SpellsNoPacket, SpellsPacket, failure_of, not_hex_line};
 ghost use Rattle.mq_judge.specs.declared.Refusal.{Refusal};
 ghost use Rattle.mq_judge.specs.OnePacket.{IsOnePacket, packet_report};
 ghost use Rattle.mq_judge.specs.Report.{refused_line, report};
@@ -24,7 +25,8 @@ use std::io::{Read, Write};
 /// for each event to `output`: 0, or 2 for a refused log, with the line on it behind those of the
 /// events before. A packet's line is written to `output`: 0 where the bytes are one packet, else 1;
 /// where `hex` spells no bytes the status is 3, which is told on `error`. Where reading or writing
-/// failed or memory ran out the status is 4, and what failed is told on `error`.
+/// failed or memory ran out the status is 4, and what failed is told on `error`; what was written
+/// until then is part of what would have been.
 pub fn perform<R: Read, W: Write, E: Write>(
     alloc: Global,
     task: &Task,
@@ -40,10 +42,13 @@ pub fn perform<R: Read, W: Write, E: Write>(
         (W.contents output.old) (W.contents output.new) }
     ensures misused { result ≡ MISUSED → IsNotHex task.now
         × Appends (E.contents error.old) (E.contents error.new) not_hex_line }
+    ensures failed { result ≡ FAILED → IsBegunOn task.now (R.remaining input.old)
+        (W.contents output.old) (W.contents output.new) }
     ensures statuses { result ≤ FAILED }
 
-    // Nothing goes to `error` but what failed.
+    // Nothing goes to `error` but what failed, and nothing to `output` where there is nothing to do.
     ensures quiet { result ≤ REFUSED → Keeps (E.contents error.old) (E.contents error.new) }
+    ensures untold { result ≡ MISUSED → Keeps (W.contents output.old) (W.contents output.new) }
 {
     match task {
         Task::Check { .. } => match check(alloc, input, output) {
@@ -69,6 +74,8 @@ fn check<R: Read, W: Write>(alloc: Global, input: &mut R, output: &mut W) -> Res
     ensures refused { IfOk result (λ status. status ≡ REFUSED → IfSome (R.remaining input.old)
         (λ log. (refusal : Refusal) × IsRefusedBy log refusal
         × Appends (W.contents output.old) (W.contents output.new) (refused_line refusal))) }
+    ensures begun { IfErr result (λ _. IfSome (R.remaining input.old)
+        (λ log. BeginsOnLog log (W.contents output.old) (W.contents output.new))) }
     ensures statuses { IfOk result (λ status. status ≤ REFUSED) }
 {
     match run(alloc, input, output, Form::Text) {
@@ -103,6 +110,7 @@ fn refuse<W: Write>(refusal: &Refusal, output: &mut W) -> Result<u8, Failure>
     ensures written { OnOk result
         (Appends (W.contents output.old) (W.contents output.new) (refused_line refusal.now)) }
     ensures failed { IfErr result (λ failure. failure ≡ failure_of refusal.now) }
+    ensures begun { IfErr result (λ _. BeginsRefusal refusal.now (W.contents output.old) (W.contents output.new)) }
 {
     match refusal {
         Refusal::Read(_) => Err(Failure::Read),
@@ -123,8 +131,10 @@ fn packet<W: Write, E: Write>(alloc: Global, hex: &str, output: &mut W, error: &
         → AppendsLineOf hex.now (W.contents output.old) (W.contents output.new) }
     ensures misused { result ≡ MISUSED → IsErr (decode_of hex.now)
         × Appends (E.contents error.old) (E.contents error.new) not_hex_line }
+    ensures failed { result ≡ FAILED → BeginsLineOf hex.now (W.contents output.old) (W.contents output.new) }
     ensures statuses { (result ≤ FAULTY) ⊎ ((result ≡ MISUSED) ⊎ (result ≡ FAILED)) }
     ensures quiet { result ≤ FAULTY → Keeps (E.contents error.old) (E.contents error.new) }
+    ensures untold { result ≡ MISUSED → Keeps (W.contents output.old) (W.contents output.new) }
 {
     match decode(alloc, hex) {
         Ok(bytes) => match tell_packet(bytes.as_slice(), output) {
@@ -143,6 +153,9 @@ fn tell_packet<W: Write>(bytes: &[u8], output: &mut W) -> Result<u8, Failure>
     ensures statuses { IfOk result (λ status. status ≤ FAULTY) }
     ensures written { OnOk result
         (Appends (W.contents output.old) (W.contents output.new) (packet_report bytes.now)) }
+    ensures failed { IfErr result (λ failure. failure ≡ Failure.Write) }
+    ensures begun { IfErr result (λ _.
+        AppendsPart (W.contents output.old) (W.contents output.new) (packet_report bytes.now)) }
 {
     match write_packet(bytes, output) {
         Ok(true) => see_out(PASSED, output),
@@ -179,6 +192,10 @@ pub fn stop<W: Write, E: Write>(stop: &Stop, output: &mut W, error: &mut E) -> u
     ensures shown { result ≡ PASSED → IsShownOn stop.now (W.contents output.old) (W.contents output.new) }
     ensures told { result ≡ MISUSED → IsToldOn stop.now (E.contents error.old) (E.contents error.new) }
     ensures statuses { (result ≡ PASSED) ⊎ ((result ≡ MISUSED) ⊎ (result ≡ FAILED)) }
+
+    // A text goes to one of the two alone.
+    ensures quiet { result ≡ PASSED → Keeps (E.contents error.old) (E.contents error.new) }
+    ensures untold { result ≡ MISUSED → Keeps (W.contents output.old) (W.contents output.new) }
 {
     match stop {
         Stop::Help(text) => match put_out(text.as_str(), output) {
