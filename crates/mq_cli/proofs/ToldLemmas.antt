@@ -7,7 +7,9 @@ use Rattle.mq_judge.specs.Showing.{ShowsLog}
 use Rattle.mq_judge.specs.declared.Refusal.{Refusal}
 use Rattle.mq_judge.specs.declared.Refusal.TheVariants as refusals
 use Rattle.mq_judge.specs.declared.RunFault.TheVariants.{Refused}
-use Rattle.mq_cli.specs.Told.{AppendsPart, BeginsOnLog, BeginsRefusal, EndsIn, IsOfLog, IsRefusedBy}
+use Rattle.mq_cli.specs.Told.{AppendsPart, BeginsOnLog, BeginsRefusal, EndsIn, HasFailed, HasPassed, IsOfLog, IsRefusedBy, IsReportedOn}
+use Rattle.mq_cli.specs.declared.command_line.Task.{Task}
+use Rattle.mq_cli.specs.declared.command_line.Task.TheVariants.{Check, Packet, Show}
 
 -- what holds of a log holds of what a reader has left, where that is known
 for_log : (remaining : Option (List ℕ)) (P Q : List ℕ → Type 0) → ((log : List ℕ) → P log → Q log) → IfSome remaining P → IfSome remaining Q
@@ -73,3 +75,20 @@ pub whole_is_begun : {E : Type 0} (old middle new : Option (List ℕ)) (text : L
 whole_is_begun old middle new text (Ok s) a k = tt
 whole_is_begun old middle new text (Err e) a k =
     record { written = text; unwritten = []; whole = sym (append-nil text); appended = appends_kept old middle new text a k }
+
+-- ---- what a status tells where nothing is known of the input
+
+pub passed_unread : (task : Task) (input : Option (List ℕ)) → HasPassed task input → HasPassed task None
+passed_unread (Check file json) input h = tt
+passed_unread (Show file) input h = tt
+passed_unread (Packet hex) input h = h
+
+pub faulty_unread : (task : Task) (input : Option (List ℕ)) → HasFailed task input → HasFailed task None
+faulty_unread (Check file json) input h = tt
+faulty_unread (Show file) input h = h
+faulty_unread (Packet hex) input h = h
+
+pub reported_unread : (task : Task) (input old new : Option (List ℕ)) → IsReportedOn task input old new → IsReportedOn task None old new
+reported_unread (Check file json) input old new h = tt
+reported_unread (Show file) input old new h = tt
+reported_unread (Packet hex) input old new h = h

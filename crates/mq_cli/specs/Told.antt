@@ -72,6 +72,12 @@ BeginsOnLog log old new = Keeps old new ⊎ ((IsJudged log × AppendsPart old ne
 abbrev pub BeginsRefusal : Refusal → Option (List ℕ) → Option (List ℕ) → Type 0
 BeginsRefusal refusal old new = Keeps old new ⊎ (IsOfLog refusal × AppendsPart old new (refused_line refusal))
 
+-- what failed, in words
+abbrev pub failure_text : Failure → List ℕ
+failure_text failures.Read = codes "read failed"
+failure_text failures.Write = codes "write failed"
+failure_text failures.Memory = codes "out of memory"
+
 -- ---- the bytes of one packet
 
 -- the digits spell bytes that are one packet

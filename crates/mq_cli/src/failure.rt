@@ -1,5 +1,6 @@
 //! What keeps the program from its task, and the statuses that it exits with.
-ghost use Rattle.std.specs.Prelude.{◌≡◌};
+ghost use Rattle.std.specs.Prelude.{◌≡◌, Some};
+ghost use Rattle.mq_cli.specs.Told.{failure_text};
 
 use std::fmt;
 use std::io::Write;
@@ -32,6 +33,8 @@ pub enum Failure {
 }
 
 impl fmt::Display for Failure {
+    ghost output = { λ failure. Some (failure_text failure) };
+
     fn fmt<W: fmt::Write>(&self, f: &mut fmt::Formatter<W>) -> fmt::Result {
         f.write_str(match self {
             Failure::Read => "read failed",

@@ -1,9 +1,10 @@
 //! `mqjudge` judges the log of one end of an MQTT 5.0 session.
 #![tactic(auto)]
 
-ghost use Rattle.std.specs.Prelude.{◌≡◌, ◌≢◌, ◌≤◌, IfOk};
+ghost use Rattle.std.specs.Prelude.{◌≡◌, ◌≢◌, ◌≤◌, IfOk, None};
 ghost use Rattle.std.specs.IoError.{error_kind};
-ghost use Rattle.mq_cli.specs.declared.failure.TheConstants.{FAILED};
+ghost use Rattle.mq_cli.specs.Told.{HasFailed, HasPassed, IsReportedOn};
+ghost use Rattle.mq_cli.specs.declared.failure.TheConstants.{FAILED, FAULTY, PASSED};
 
 mod command_line;
 mod failure;
@@ -67,13 +68,20 @@ fn task<R: AllocGlobal + Env>(rt: &R) -> Result<Result<Task, Stop>, Failure> {
 }
 
 // Does the task, on the log that it names or on standard input where it names none.
+#[tactic(auto, using(crate::proofs::ToldLemmas::passed_unread, crate::proofs::ToldLemmas::faulty_unread, crate::proofs::ToldLemmas::reported_unread))]
 fn perform_task<R: AllocGlobal + Files + Input, W: Write, E: Write>(
     rt: &R,
     task: &Task,
     output: &mut W,
     error: &mut E,
 ) -> Result<u8, Failure>
-    ensures { IfOk result (λ status. status ≤ FAILED) }
+    ensures statuses { IfOk result (λ status. status ≤ FAILED) }
+
+    // Of what a file or standard input gives nothing is known, so this speaks of packets.
+    ensures passed { IfOk result (λ status. status ≡ PASSED → HasPassed task.now None) }
+    ensures faulty { IfOk result (λ status. status ≡ FAULTY → HasFailed task.now None) }
+    ensures reported { IfOk result (λ status. status ≤ FAULTY
+        → IsReportedOn task.now None (W.contents output.old) (W.contents output.new)) }
 {
     let alloc: Global = rt.alloc();
     match task {
