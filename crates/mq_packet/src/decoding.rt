@@ -1,4 +1,7 @@
 //! What a packet's bytes say.
+//!
+//! A packet is large, and what is inlined doesn't move it: so are `decode` and the readers of the packets that are read most. The
+//! others stay out of the way.
 
 ghost use Rattle.std.specs.Prelude.{◌≡◌, ◌≤◌, IfOk, IfErr, Some, Result, length};
 ghost use Rattle.mq_packet.specs.declared.fault.DecodeFault.{DecodeFault};
@@ -21,8 +24,6 @@ use mq_wire::Cursor;
 /// isn't right decides: `Broken` where it breaks a rule on a packet's bytes, with its place, `OtherVersion` where it is the
 /// version of a CONNECT and another than 5. Last, no bytes may be left over. A body has at most 268,435,455 bytes
 /// (MQTT 5.0, section 2.1.4). Nothing is copied, and no memory is taken.
-// A packet is large, and what is inlined doesn't move it: so are this one and the readers of the packets that are read most. The
-// others stay out of the way.
 #[inline(always)]
 pub fn decode<'a>(first: u8, body: &'a [u8]) -> Result<Packet<'a>, DecodeFault>
     requires { length body.now ≤ 268435455 }

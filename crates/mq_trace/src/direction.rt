@@ -1,4 +1,6 @@
 //! One direction of a connection: its stream of packets, which the bodies of records carry in any cutting.
+//!
+//! What a whole packet takes on its way to the sink is inlined, so that it isn't moved; what is rare stays apart.
 
 ghost use Rattle.std.specs.Prelude.{◌≡◌, ◌+◌, ◌<◌, ◌≤◌, ◌^◌, ◌++◌, ◌⊎◌, ℕ, ◌∷◌, [], List, Some, None, OnOk, IfOk, IfErr, length, take, slice_index, option_map, true, false};
 ghost use Rattle.mq_packet.specs.Stream.{frame_size, fixed_header_of};
