@@ -153,3 +153,27 @@ fn lengths_as_read(rt: HostRuntime) {
     });
     assert_eq!(rt; never.size(), None);
 }
+
+#[test]
+fn types_have_their_numbers(rt: HostRuntime) {
+    let rows = [
+        (PacketType::Connect, 1),
+        (PacketType::Connack, 2),
+        (PacketType::Publish, 3),
+        (PacketType::Puback, 4),
+        (PacketType::Pubrec, 5),
+        (PacketType::Pubrel, 6),
+        (PacketType::Pubcomp, 7),
+        (PacketType::Subscribe, 8),
+        (PacketType::Suback, 9),
+        (PacketType::Unsubscribe, 10),
+        (PacketType::Unsuback, 11),
+        (PacketType::Pingreq, 12),
+        (PacketType::Pingresp, 13),
+        (PacketType::Disconnect, 14),
+        (PacketType::Auth, 15),
+    ];
+    for (packet_type, number) in rows {
+        assert_eq!(rt; packet_type as u8, number);
+    }
+}
