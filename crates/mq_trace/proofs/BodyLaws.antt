@@ -12,6 +12,7 @@ use Rattle.mq_trace.specs.declared.direction.Direction.{Direction}
 use Rattle.mq_trace.specs.declared.reading.Reading.{Reading}
 use Rattle.mq_trace.specs.Framing.{kind_of, way_of, body_length}
 use Rattle.mq_trace.specs.Events.{Event, Placed}
+use Rattle.mq_trace.specs.Context.{so_far_in, so_far_for}
 use Rattle.mq_trace.specs.Runs.{behind, refused_in, heard_in}
 use Rattle.mq_trace.specs.Flows.{Bed, Flow, flow_event, flow_with, flow_after, flow_behind, flow_refused, flow_heard, bed_in, flow_in, flowed}
 use Rattle.mq_trace.specs.Hearing.{AreEvents}
@@ -20,7 +21,7 @@ use Rattle.mq_trace.specs.Keeping.{half_in, IsAt, context_of, begun_in, IsWithin
 use Rattle.mq_trace.specs.Stepping.{bed_for, direction_for, flow_for, redirected, leaving, carried_on}
 use Rattle.mq_trace.proofs.FramingLaws.{body_length-append, kind_of-append}
 use Rattle.mq_trace.proofs.EndLaws.{left_sound}
-use Rattle.mq_trace.proofs.LiftLaws.{lifted-refused, lifted-heard, lifted-behind}
+use Rattle.mq_trace.proofs.LiftLaws.{lifted-so_far, half_flowed, lifted-refused, lifted-heard, lifted-behind}
 
 bed_same : (r : Reading) (way : Way) (part : List ℕ) → bed_in (context_of r part) way ≡ bed_for r way
 bed_same r way part = refl
@@ -118,6 +119,22 @@ module _ (r : Reading) (way : Way) (left : ℕ) (sound : IsSound r) (staged : r.
       ∙ ap (λ f. flowed (context_of r part) way (length part + length bytes == 5 + body_length part) (flow_behind (bed_for r way) f bytes) bytes) (flow_same r way part)
       ∙ ap (λ t. flowed (context_of r part) way t (flow_behind (bed_for r way) (flow_for r way) bytes) bytes) (left_whole part bytes at short)
 
+  -- The packet of a byte behind them is the direction's.
+  pub body_so_far : (part bytes : List ℕ) (byte : ℕ) → IsAt r.stage part → length bytes < left
+      → so_far_for (behind (context_of r part) bytes) byte ≡ so_far_in (flow_behind (bed_for r way) (flow_for r way) bytes).half byte
+  body_so_far part bytes byte at short =
+      let h = body_is part at in
+      let there : 5 ≤ length part = h.3 in
+      let some : 0 < left - length bytes = omega arith in
+      let goes_on : (left - length bytes == 0) ≡ false = ne_eqb (left - length bytes) 0 (λ same. (omega arith)) in
+      let f : Flow = flow_behind (bed_for r way) (flow_for r way) bytes in
+      let l = length-append part bytes in
+      let kept : behind (context_of r part) bytes ≡ flowed (context_of r part) way false f bytes
+      = body_kept part bytes at (omega arith) ∙ ap (λ t. flowed (context_of r part) way t f bytes) goes_on in
+      ap (λ c. so_far_for c byte) kept
+      ∙ lifted-so_far (flowed (context_of r part) way false f bytes) way byte (ap way_of (kind_of-append part bytes (omega arith)) ∙ body_goes part at) (omega arith)
+      ∙ ap (λ half. so_far_in half byte) (half_flowed (context_of r part) way f bytes)
+
   -- where the part is behind them
   left_at : (part bytes : List ℕ) → IsAt r.stage part → length bytes ≤ left → (t : Bool) → (left - length bytes == 0) ≡ t
       → IsAt (if t then stages.Between else stages.Body way (left - length bytes)) (cond t [] (part ++ bytes))
@@ -149,9 +166,9 @@ module _ (r : Reading) (way : Way) (left : ℕ) (sound : IsSound r) (staged : r.
   }
 
   -- Bytes of one body that aren't.
-  pub body_stops : {S : Type 0} (refuses : S → Refusal → Type 0) (bytes : List ℕ) (old new : S) (refusal : Refusal) → length bytes ≤ left
-      → FlowStops refuses r.limit (bed_for r way) (flow_for r way) bytes old new refusal → StepStops refuses r bytes old new refusal
-  body_stops refuses bytes old new refusal short stop =
+  pub body_stops : {S : Type 0} (declines : S → S → List Placed → Refusal → Type 0) (bytes : List ℕ) (old new : S) (refusal : Refusal) → length bytes ≤ left
+      → FlowStops declines r.limit (bed_for r way) (flow_for r way) bytes old new refusal → StepStops declines r bytes old new refusal
+  body_stops declines bytes old new refusal short stop =
       let l : length bytes ≡ length (stop.taken ++ stop.byte ∷ stop.later) = ap length stop.is in
       let m = length-append stop.taken (stop.byte ∷ stop.later) in
       let n = length-append stop.taken (stop.byte ∷ []) in
@@ -166,9 +183,12 @@ module _ (r : Reading) (way : Way) (left : ℕ) (sound : IsSound r) (staged : r.
         each = λ part at. (
           body_refused part stop.taken at few ∙ stop.unrefused,
           body_heard part stop.taken at few ∙ stop.unheard,
-          subst (λ o. FlowWhy refuses (r.at + length stop.taken) o (heard_in (context_of r part) (stop.taken ++ stop.byte ∷ [])) old new refusal) (sym (body_refused part (stop.taken ++ stop.byte ∷ []) at last))
-              (subst (λ h. FlowWhy refuses (r.at + length stop.taken) (flow_refused r.limit (bed_for r way) (flow_for r way) (stop.taken ++ stop.byte ∷ [])) h old new refusal)
-              (sym (body_heard part (stop.taken ++ stop.byte ∷ []) at last)) stop.why),
+          (let so_far : List ℕ = so_far_for (behind (context_of r part) stop.taken) stop.byte in
+              subst (λ o. FlowWhy declines r.limit (r.at + length stop.taken) so_far o (heard_in (context_of r part) (stop.taken ++ stop.byte ∷ [])) old new refusal) (sym (body_refused part (stop.taken ++ stop.byte ∷ []) at last))
+              (subst (λ h. FlowWhy declines r.limit (r.at + length stop.taken) so_far (flow_refused r.limit (bed_for r way) (flow_for r way) (stop.taken ++ stop.byte ∷ [])) h old new refusal)
+              (sym (body_heard part (stop.taken ++ stop.byte ∷ []) at last))
+              (subst (λ t. FlowWhy declines r.limit (r.at + length stop.taken) t (flow_refused r.limit (bed_for r way) (flow_for r way) (stop.taken ++ stop.byte ∷ [])) (flow_heard (bed_for r way) (flow_for r way) (stop.taken ++ stop.byte ∷ [])) old new refusal)
+              (sym (body_so_far part stop.taken stop.byte at (omega arith))) stop.why))),
         );
       }
 

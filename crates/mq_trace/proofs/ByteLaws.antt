@@ -15,9 +15,9 @@ use Rattle.mq_trace.specs.declared.connections.Connections.{Connections}
 use Rattle.mq_trace.specs.declared.direction.Bed.{Bed as BedInMemory}
 use Rattle.mq_trace.specs.Events.{Placed, lost}
 use Rattle.mq_trace.specs.Refusals.{first_standing}
-use Rattle.mq_trace.specs.Context.{Half, put}
+use Rattle.mq_trace.specs.Context.{Half, so_far_in, put}
 use Rattle.mq_trace.specs.Hearing.{AreEvents}
-use Rattle.mq_trace.specs.Telling.{met_by, connections_with, next_placed, Untold}
+use Rattle.mq_trace.specs.Telling.{met_by, connections_with, next_placed, RefusedBySink, Untold}
 use Rattle.mq_trace.specs.Flows.{Bed, Flow, going, flow_placed_with, flow_behind, flow_refused, flow_heard}
 use Rattle.mq_trace.specs.Directing.{bed_of, flow_of, frame_event, frame_met, connections_then, FlowWhy, FlowStops, FlowComes}
 use Rattle.mq_trace.specs.Keeping.{IsShort, IsUnfinished}
@@ -63,7 +63,7 @@ below n size up other =
 pub whole_frame : (t : List ℕ) (header size : ℕ) → fixed_header_of t ≡ headers.Whole header size → size ≡ length t → frame_size t ≡ Some (length t)
 whole_frame t header size whole all = frame_from_header t header size whole (omega arith) ∙ ap Some all
 
-module _ {S : Type 0} (agrees : S → List Placed → Type 0) (refuses : S → Refusal → Type 0) (limit : ℕ) (bed : BedInMemory) (at : ℕ) (c : Connections) (u : List ℕ) (byte : ℕ) where
+module _ {S : Type 0} (agrees : S → List Placed → Type 0) (declines : S → S → List Placed → Refusal → Type 0) (limit : ℕ) (bed : BedInMemory) (at : ℕ) (c : Connections) (u : List ℕ) (byte : ℕ) where
   -- the direction before the byte
   abbrev before : Flow
   before = flow_of at (going_on u) c
@@ -103,7 +103,7 @@ module _ {S : Type 0} (agrees : S → List Placed → Type 0) (refuses : S → R
 
   -- The byte that tells a size over the limit is refused.
   pub stops_large : (t : List ℕ) (sink : S) (header size : ℕ) → IsByteMore limit u byte t → fixed_header_of t ≡ headers.Whole header size → header ≡ length t → limit < size
-      → FlowStops refuses limit (bed_of bed) before (byte ∷ []) sink sink (refusals.TooLarge at)
+      → FlowStops declines limit (bed_of bed) before (byte ∷ []) sink sink (refusals.TooLarge at)
   stops_large t sink header size more whole ends over =
       record {
         taken = [];
@@ -136,20 +136,20 @@ module _ {S : Type 0} (agrees : S → List Placed → Type 0) (refuses : S → R
       → ((earlier : List Placed) → agrees old earlier → AreEvents (put (flow_placed_with (bed_of bed) (flow_of at (going_on []) c) (frame_event bed.way x)) earlier)
       → OnOk r (agrees new (put (flow_placed_with (bed_of bed) (flow_of at (going_on []) c) (frame_event bed.way x)) earlier)))
       → OnOk r (FlowComes agrees limit (bed_of bed) before (flow_of (at + 1) (going_on []) c') (byte ∷ []) old new) in
-      let told : P (u ++ byte ∷ []) = λ frame within. comes_of agrees refuses limit bed at at c u (byte ∷ []) frame (omega arith) (omega arith) within r c' old new in
+      let told : P (u ++ byte ∷ []) = λ frame within. comes_of agrees declines limit bed at at c u (byte ∷ []) frame (omega arith) (omega arith) within r c' old new in
       subst P (sym more.is) told (whole_frame t header size whole all) inside)
 
   pub frame_stops : {A : Type 0} (r : Result A Refusal) (t : List ℕ) (header size : ℕ) (old new : S) → IsByteMore limit u byte t
       → fixed_header_of t ≡ headers.Whole header size → (header ≡ length t → size ≤ limit) → size ≡ length t
-      → IfErr r (λ refusal. Untold refuses at (frame_met at (flow_of at (going_on []) c) bed.way t) old new refusal)
-      → IfErr r (λ refusal. FlowStops refuses limit (bed_of bed) before (byte ∷ []) old new refusal)
+      → IfErr r (λ refusal. Untold declines at (frame_met at (flow_of at (going_on []) c) bed.way t) (put (flow_placed_with (bed_of bed) (flow_of at (going_on []) c) (frame_event bed.way t)) []) old new refusal)
+      → IfErr r (λ refusal. FlowStops declines limit (bed_of bed) before (byte ∷ []) old new refusal)
   frame_stops {A} r t header size old new more whole may all =
       (let known : Fits limit t size = fits limit u byte header size t more whole may in
       let inside : length t ≤ limit = omega (arith, known.within, all) in
       let P : List ℕ → Type 0 = λ x. frame_size x ≡ Some (length x) → length x ≤ limit
-      → IfErr r (λ refusal. Untold refuses at (frame_met at (flow_of at (going_on []) c) bed.way x) old new refusal)
-      → IfErr r (λ refusal. FlowStops refuses limit (bed_of bed) before (byte ∷ []) old new refusal) in
-      let told : P (u ++ byte ∷ []) = λ frame within. stops_of agrees refuses limit bed at at c u (byte ∷ []) frame (omega arith) (omega arith) within r old new in
+      → IfErr r (λ refusal. Untold declines at (frame_met at (flow_of at (going_on []) c) bed.way x) (put (flow_placed_with (bed_of bed) (flow_of at (going_on []) c) (frame_event bed.way x)) []) old new refusal)
+      → IfErr r (λ refusal. FlowStops declines limit (bed_of bed) before (byte ∷ []) old new refusal) in
+      let told : P (u ++ byte ∷ []) = λ frame within. stops_of agrees declines limit bed at at c u (byte ∷ []) frame (omega arith) (omega arith) within r old new in
       subst P (sym more.is) told (whole_frame t header size whole all) inside)
 
   -- What the byte comes to with which the direction is lost, and where it stops.
@@ -190,8 +190,8 @@ module _ {S : Type 0} (agrees : S → List Placed → Type 0) (refuses : S → R
       })
 
   pub lost_stops : {A : Type 0} (r : Result A Refusal) (t : List ℕ) (old new : S) → IsByteMore limit u byte t → fixed_header_of t ≡ headers.Lost
-      → IfErr r (λ refusal. Untold refuses at (met_by at c (going bed.way lost)) old new refusal)
-      → IfErr r (λ refusal. FlowStops refuses limit (bed_of bed) before (byte ∷ []) old new refusal)
+      → IfErr r (λ refusal. Untold declines at (met_by at c (going bed.way lost)) (next_placed c bed.record_no (going bed.way lost) ∷ []) old new refusal)
+      → IfErr r (λ refusal. FlowStops declines limit (bed_of bed) before (byte ∷ []) old new refusal)
   lost_stops (Ok x) t old new more lost_there untold = tt
   lost_stops (Err refusal) t old new more lost_there untold =
       (let l : is_lost (u ++ byte ∷ []) ≡ true = is_gone t more lost_there in
@@ -203,14 +203,14 @@ module _ {S : Type 0} (agrees : S → List Placed → Type 0) (refuses : S → R
         is = refl;
         unrefused = refl;
         unheard = refl;
-        why = subst (λ (n : ℕ). FlowWhy refuses n (flow_refused limit (bed_of bed) before (byte ∷ [])) (flow_heard (bed_of bed) before (byte ∷ [])) old new refusal) here
-            (why_by (flow_refused limit (bed_of bed) before (byte ∷ [])) (flow_heard (bed_of bed) before (byte ∷ [])) (lost_met l) (ap length (lost_heard l)) untold);
+        why = subst (λ (n : ℕ). FlowWhy declines limit n (so_far_in (going_on u) byte) (flow_refused limit (bed_of bed) before (byte ∷ [])) (flow_heard (bed_of bed) before (byte ∷ [])) old new refusal) here
+            (why_by (so_far_in (going_on u) byte) (flow_refused limit (bed_of bed) before (byte ∷ [])) (flow_heard (bed_of bed) before (byte ∷ [])) (lost_met l) (lost_heard l) untold);
       })
     where
-      why_by : (met : Option Refusal) (heard : List Placed) → met ≡ met_by at c (going bed.way lost) → length heard ≡ 1
-          → Untold refuses at (met_by at c (going bed.way lost)) old new refusal → FlowWhy refuses at met heard old new refusal
-      why_by met heard same one (inl x) = inl (same ∙ x.0, x.1)
-      why_by met heard same one (inr x) = inr (inr (same ∙ x.0, one, x.1))
+      why_by : (so_far : List ℕ) (met : Option Refusal) (heard : List Placed) → met ≡ met_by at c (going bed.way lost) → heard ≡ next_placed c bed.record_no (going bed.way lost) ∷ []
+          → Untold declines at (met_by at c (going bed.way lost)) (next_placed c bed.record_no (going bed.way lost) ∷ []) old new refusal → FlowWhy declines limit at so_far met heard old new refusal
+      why_by so_far met heard same one (inl x) = inl (same ∙ x.0, x.1)
+      why_by so_far met heard same one (inr x) = inr (inr (same ∙ x.0, ap length one, subst (λ (l : List Placed). RefusedBySink declines at l old new refusal) (sym one) x.1))
 
 -- What is kept behind the byte is unfinished, if its packet isn't whole.
 pub sound_short : (limit : ℕ) (t : List ℕ) (gone : Bool) → gone ≡ false → fixed_header_of t ≡ headers.Short → IsUnfinished limit (record { unfinished = t; lost = gone })

@@ -35,7 +35,7 @@ part-kept : (log : List ℕ) (byte : ℕ) → 8 ≤ length log → part_at log b
 unfolding part_at
 part-kept log byte h = ap newest (begun-grow log byte h)
 
-so_far_kept_by : (carries : Option Way) (log : List ℕ) (byte : ℕ) → packet_by carries (begun log) byte ≡ so_far_by carries (context log) byte
+pub so_far_kept_by : (carries : Option Way) (log : List ℕ) (byte : ℕ) → packet_by carries (begun log) byte ≡ so_far_by carries (context log) byte
 unfolding context
 so_far_kept_by None log byte = refl
 so_far_kept_by (Some ways.Sent) log byte = so_far-kept (carried ways.Sent (begun log)) byte
@@ -45,11 +45,18 @@ pub part_context : (log : List ℕ) → (context log).part ≡ (records log).res
 unfolding context
 part_context log = refl
 
-packet-kept : (log : List ℕ) (byte : ℕ) → 8 ≤ length log → packet_at log byte ≡ so_far_for (context log) byte
+pub packet-kept : (log : List ℕ) (byte : ℕ) → 8 ≤ length log → packet_at log byte ≡ so_far_for (context log) byte
 unfolding packet_at so_far_for
 packet-kept log byte h =
     ap (λ part. cond (nat_lt 5 (length part)) (packet_by (way_of (kind_of part)) (begun log) byte) []) (part-kept log byte h ∙ ap (λ part. part ++ byte ∷ []) (sym (part_context log)))
     ∙ ap (λ so_far. cond (nat_lt 5 (length ((context log).part ++ byte ∷ []))) so_far []) (so_far_kept_by (way_of (kind_of ((context log).part ++ byte ∷ []))) log byte)
+
+-- a byte of the header belongs to no packet
+pub header-so_far : (log : List ℕ) (byte : ℕ) → length log < 8 → so_far_for (context log) byte ≡ []
+unfolding so_far_for
+header-so_far log byte h =
+    let none : (context log).part ≡ [] = part_context log ∙ ap (λ (p : Pieces). p.rest) (records-header log (omega arith)) in
+    ap (λ part. cond (nat_lt 5 (length (part ++ byte ∷ []))) (so_far_by (way_of (kind_of (part ++ byte ∷ []))) (context log) byte) []) none
 
 pub at_context : (log : List ℕ) → (context log).at ≡ length log
 unfolding context

@@ -1,7 +1,8 @@
 -- What a step of a direction comes to, and what stops it.
-use Rattle.std.proofs.Common.{◌≡◌, ℕ, ◌+◌, ◌<◌, ◌≤◌, Bool, true, false, List, [], ◌∷◌, ◌++◌, length, Option, Some, None, refl, sym, ap, ◌∙◌, arith, length-append, append_assoc, subst, take, drop, length-take-le}
+use Rattle.std.proofs.Common.{◌≡◌, ℕ, ◌+◌, ◌<◌, ◌≤◌, Bool, true, false, cond, List, [], ◌∷◌, ◌++◌, length, Option, Some, None, refl, sym, ap, ◌∙◌, arith, length-append, append_assoc, subst, take, drop, length-take-le}
 use Rattle.std.proofs.Common.{inl, inr, Result, Ok, Err}
-use Rattle.std.specs.Prelude.{option_map, ◌||◌, OnOk, IfErr, slice_index}
+use Rattle.std.specs.Prelude.{◌==◌, ◌&&◌, option_map, ◌||◌, OnOk, IfErr, slice_index}
+use Rattle.std.proofs.lemmas.Bool.{le-ltb}
 use Rattle.std.proofs.lemmas.List.{take-append-drop}
 use Rattle.mq_packet.specs.declared.header.FixedHeader.{FixedHeader}
 use Rattle.mq_packet.specs.declared.header.FixedHeader.TheVariants as headers
@@ -14,15 +15,15 @@ use Rattle.mq_trace.specs.declared.refusal.Refusal.TheVariants as refusals
 use Rattle.mq_trace.specs.declared.connections.Connections.{Connections}
 use Rattle.mq_trace.specs.declared.direction.Bed.{Bed as BedInMemory}
 use Rattle.mq_trace.specs.Events.{Item, Event, Placed, item_read, read_frame}
-use Rattle.mq_trace.specs.Refusals.{is_other_version, first_standing}
+use Rattle.mq_trace.specs.Refusals.{or_else, is_too_large, is_other_version, first_standing}
 use Rattle.mq_trace.proofs.ItemLaws.{met_other}
 use Rattle.mq_trace.specs.Connections.{is_answer}
-use Rattle.mq_trace.specs.Context.{Half, put}
+use Rattle.mq_trace.specs.Context.{Half, so_far_in, put}
 use Rattle.mq_trace.specs.Hearing.{AreEvents}
 use Rattle.mq_trace.specs.Keeping.{IsShort, IsUnfinished}
 use Rattle.mq_trace.specs.Telling.{connections_with, RefusedBySink, Untold}
-use Rattle.mq_trace.specs.Flows.{Bed, Flow, going, flow_placed_with, flow_with, flow_behind, flow_refused, flow_heard}
-use Rattle.mq_trace.specs.Directing.{bed_of, flow_of, frame_event, frame_met, connections_then, FlowWhy, FlowStops, FlowComes}
+use Rattle.mq_trace.specs.Flows.{Bed, Flow, going, flow_refusal, flow_placed_with, flow_with, flow_behind, flow_refused, flow_heard}
+use Rattle.mq_trace.specs.Directing.{bed_of, flow_of, frame_event, frame_met, connections_then, NeedsMemory, FlowWhy, FlowStops, FlowComes}
 use Rattle.mq_trace.proofs.FlowLaws.{lost-behind, HasLast, has_last, IsQuiet, until_last, quiet-refused, quiet-heard, quiet-behind, short-refused, short-heard, short-behind, complete-refused-within, complete-heard-frame, complete-behind-frame}
 
 -- a direction that isn't lost, with these bytes of an unfinished packet
@@ -46,6 +47,10 @@ pub put_same : (bed : Bed) (at at' : ℕ) (half half' : Half) (c : Connections) 
 put_same bed at at' half half' c None earlier = refl
 put_same bed at at' half half' c (Some event) earlier = refl
 
+placed_same : (bed : Bed) (at at' : ℕ) (half half' : Half) (c : Connections) (event : Option Event) → flow_placed_with bed (flow_of at half c) event ≡ flow_placed_with bed (flow_of at' half' c) event
+placed_same bed at at' half half' c None = refl
+placed_same bed at at' half half' c (Some event) = refl
+
 no_item : (way : Way) (item : Option Item) → option_map (going way) item ≡ None → item ≡ None
 no_item way None e = refl
 no_item way (Some item) e = absurd (cc)
@@ -56,21 +61,90 @@ met_none at f way frame e =
     (let other : is_other_version (read_frame frame) ≡ true = met_other frame (no_item way (item_read (length frame) (slice_index frame 0) (read_frame frame)) e) in
     rw (other) refl)
 
+-- what a packet with one byte more is known not to be
+abbrev pub IsSmall : ℕ → List ℕ → ℕ → Type 0
+IsSmall limit u byte = is_too_large limit (u ++ byte ∷ []) (fixed_header_of (u ++ byte ∷ [])) ≡ false
+
+-- A packet that isn't larger than the limit isn't known to be at any of its bytes.
+small_size : (limit : ℕ) (t : List ℕ) (header size : ℕ) → size ≤ limit → is_too_large limit t (headers.Whole header size) ≡ false
+small_size limit t header size within = rw (le-ltb limit size within) (and_false (header == length t))
+  where
+    and_false : (b : Bool) → (b && false) ≡ false
+    and_false true = refl
+    and_false false = refl
+
+pub small_more : (limit : ℕ) (u : List ℕ) (byte header size : ℕ) → fixed_header_of u ≡ headers.Whole header size → size ≤ limit → IsSmall limit u byte
+small_more limit u byte header size e within = ap (is_too_large limit (u ++ byte ∷ [])) (whole_stays u (byte ∷ []) header size e) ∙ small_size limit (u ++ byte ∷ []) header size within
+
+pub small_first : (limit : ℕ) (u bytes : List ℕ) → u ≡ [] → IsShort limit bytes (fixed_header_of bytes) → (byte : ℕ) (more : List ℕ) → bytes ≡ byte ∷ more → IsSmall limit u byte
+small_first limit u bytes none short byte more is = subst (λ (t : List ℕ). IsSmall limit t byte) (sym none) (by (fixed_header_of (byte ∷ [])) refl)
+  where
+    by : (front : FixedHeader) → fixed_header_of (byte ∷ []) ≡ front → is_too_large limit (byte ∷ []) front ≡ false
+    by headers.Short e = refl
+    by headers.Lost e = refl
+    by (headers.Whole header size) e =
+        let stays : fixed_header_of bytes ≡ headers.Whole header size = ap fixed_header_of is ∙ whole_stays (byte ∷ []) more header size e in
+        let within : IsShort limit bytes (headers.Whole header size) = subst (IsShort limit bytes) stays short in
+        small_size limit (byte ∷ []) header size within.1
+
+pub small_part : (limit : ℕ) (u bytes : List ℕ) → frame_size (u ++ bytes) ≡ Some (length (u ++ bytes)) → length (u ++ bytes) ≤ limit
+    → (byte : ℕ) (more : List ℕ) → bytes ≡ byte ∷ more → IsSmall limit u byte
+small_part limit u bytes whole within byte more is = by (fixed_header_of (u ++ byte ∷ [])) refl
+  where
+    by : (front : FixedHeader) → fixed_header_of (u ++ byte ∷ []) ≡ front → is_too_large limit (u ++ byte ∷ []) front ≡ false
+    by headers.Short e = refl
+    by headers.Lost e = refl
+    by (headers.Whole header size) e =
+        let frame : u ++ bytes ≡ (u ++ byte ∷ []) ++ more = ap (λ (t : List ℕ). u ++ t) is ∙ sym (append_assoc u (byte ∷ []) more) in
+        let found : (header' : ℕ) × (fixed_header_of (u ++ bytes) ≡ headers.Whole header' (length (u ++ bytes))) × (length (u ++ bytes) ≤ length (u ++ bytes)) = header_from_frame (u ++ bytes) (length (u ++ bytes)) whole in
+        let stays : fixed_header_of (u ++ bytes) ≡ headers.Whole header size = ap fixed_header_of frame ∙ whole_stays (u ++ byte ∷ []) more header size e in
+        let one : headers.Whole header size ≡ headers.Whole found.0 (length (u ++ bytes)) = sym stays ∙ found.1 in
+        let same : size ≡ length (u ++ bytes) = cc in
+        small_size limit (u ++ byte ∷ []) header size (omega (arith, same, within))
+
+-- A byte of a direction that isn't lost belongs to a packet.
+pub needs_memory : (limit : ℕ) (half : Half) (byte : ℕ) → half.lost ≡ false → IsSmall limit half.unfinished byte → NeedsMemory limit (so_far_in half byte)
+needs_memory limit half byte open_yet small =
+    (let is : so_far_in half byte ≡ half.unfinished ++ byte ∷ [] = ap (λ (l : Bool). cond l [] (half.unfinished ++ byte ∷ [])) open_yet in
+    let longer : length (half.unfinished ++ byte ∷ []) ≡ length half.unfinished + 1 = length-append half.unfinished (byte ∷ []) in
+    record {
+      packet = subst (λ (t : List ℕ). 0 < length t) (sym is) (omega arith);
+      within = subst (λ (t : List ℕ). is_too_large limit t (fixed_header_of t) ≡ false) (sym is) small;
+    })
+
 -- Memory was refused for the first of these bytes.
-pub stops_memory : {S : Type 0} (refuses : S → Refusal → Type 0) (limit : ℕ) (bed : Bed) (f : Flow) (bytes : List ℕ) (sink : S) → 0 < length bytes
-    → FlowStops refuses limit bed f bytes sink sink (refusals.Memory f.at)
-stops_memory refuses limit bed f [] sink some = absurd (omega arith)
-stops_memory refuses limit bed f (byte ∷ bytes) sink some = record {
+pub stops_memory : {S : Type 0} (declines : S → S → List Placed → Refusal → Type 0) (limit : ℕ) (bed : Bed) (f : Flow) (bytes : List ℕ) (sink : S) → 0 < length bytes → f.half.lost ≡ false
+    → ((byte : ℕ) (more : List ℕ) → bytes ≡ byte ∷ more → IsSmall limit f.half.unfinished byte) → FlowStops declines limit bed f bytes sink sink (refusals.Memory f.at)
+stops_memory declines limit bed f [] sink some open_yet small = absurd (omega arith)
+stops_memory declines limit bed f (byte ∷ bytes) sink some open_yet small = record {
   taken = [];
   byte = byte;
   later = bytes;
   is = refl;
   unrefused = refl;
   unheard = refl;
-  why = inr (inl (ap (λ (n : ℕ). refusals.Memory n) (let here : f.at ≡ f.at + length {A = ℕ} [] = omega arith in here), refl));
+  why = inr (inl (ap (λ (n : ℕ). refusals.Memory n) (let here : f.at ≡ f.at + length {A = ℕ} [] = omega arith in here), refl, needs_memory limit f.half byte open_yet (small byte bytes refl)));
 }
 
-module _ {S : Type 0} (agrees : S → List Placed → Type 0) (refuses : S → Refusal → Type 0) (limit : ℕ) (bed : BedInMemory) (at last : ℕ) (c : Connections) (u bytes : List ℕ)
+-- A byte that ends a fixed header which tells a size over the limit is refused.
+pub stops_over : {S : Type 0} (declines : S → S → List Placed → Refusal → Type 0) (limit : ℕ) (bed : Bed) (f : Flow) (byte : ℕ) (sink : S) → f.half.lost ≡ false
+    → is_too_large limit (f.half.unfinished ++ byte ∷ []) (fixed_header_of (f.half.unfinished ++ byte ∷ [])) ≡ true → FlowStops declines limit bed f (byte ∷ []) sink sink (refusals.TooLarge f.at)
+unfolding flow_refusal
+stops_over declines limit bed f byte sink open_yet over =
+    (let is : so_far_in f.half byte ≡ f.half.unfinished ++ byte ∷ [] = ap (λ (l : Bool). cond l [] (f.half.unfinished ++ byte ∷ [])) open_yet in
+    let large : is_too_large limit (so_far_in f.half byte) (fixed_header_of (so_far_in f.half byte)) ≡ true = ap (λ (t : List ℕ). is_too_large limit t (fixed_header_of t)) is ∙ over in
+    let met : flow_refusal limit bed f byte ≡ Some (refusals.TooLarge f.at) = rw (large) refl in
+    record {
+      taken = [];
+      byte = byte;
+      later = [];
+      is = refl;
+      unrefused = refl;
+      unheard = refl;
+      why = inl (ap (λ (o : Option Refusal). or_else o None) met, refl);
+    })
+
+module _ {S : Type 0} (agrees : S → List Placed → Type 0) (declines : S → S → List Placed → Refusal → Type 0) (limit : ℕ) (bed : BedInMemory) (at last : ℕ) (c : Connections) (u bytes : List ℕ)
     (whole : frame_size (u ++ bytes) ≡ Some (length (u ++ bytes))) (some : 0 < length bytes) (is_last : last + 1 ≡ at + length bytes) (within : length (u ++ bytes) ≤ limit) where
   -- The bytes that complete a packet come to what telling it comes to ..
   pub completes : (c' : Connections) (old new : S) → frame_met last (flow_of last (going_on []) c) bed.way (u ++ bytes) ≡ None
@@ -93,8 +167,8 @@ module _ {S : Type 0} (agrees : S → List Placed → Type 0) (refuses : S → R
 
   -- .. and stop where telling it stops: at the last of them.
   pub stops_by : HasLast bytes → (old new : S) (refusal : Refusal)
-      → Untold refuses last (frame_met last (flow_of last (going_on []) c) bed.way (u ++ bytes)) old new refusal
-      → FlowStops refuses limit (bed_of bed) (flow_of at (going_on u) c) bytes old new refusal
+      → Untold declines last (frame_met last (flow_of last (going_on []) c) bed.way (u ++ bytes)) (put (flow_placed_with (bed_of bed) (flow_of last (going_on []) c) (frame_event bed.way (u ++ bytes))) []) old new refusal
+      → FlowStops declines limit (bed_of bed) (flow_of at (going_on u) c) bytes old new refusal
   stops_by cut old new refusal untold =
       (let f : Flow = flow_of at (going_on u) c in
       let joined : bytes ≡ cut.before ++ cut.byte ∷ [] = cut.joined in
@@ -117,22 +191,25 @@ module _ {S : Type 0} (agrees : S → List Placed → Type 0) (refuses : S → R
         is = joined;
         unrefused = quiet.refused;
         unheard = quiet.heard;
-        why = subst (λ (n : ℕ). FlowWhy refuses n (flow_refused limit (bed_of bed) f (cut.before ++ cut.byte ∷ [])) (flow_heard (bed_of bed) f (cut.before ++ cut.byte ∷ [])) old new refusal) here
-            (why_by (flow_refused limit (bed_of bed) f (cut.before ++ cut.byte ∷ [])) (flow_heard (bed_of bed) f (cut.before ++ cut.byte ∷ [])) met (ap length heard) old new refusal untold);
+        why = subst (λ (n : ℕ). FlowWhy declines limit n (so_far_in (flow_behind (bed_of bed) f cut.before).half cut.byte) (flow_refused limit (bed_of bed) f (cut.before ++ cut.byte ∷ []))
+            (flow_heard (bed_of bed) f (cut.before ++ cut.byte ∷ [])) old new refusal) here
+            (why_by (so_far_in (flow_behind (bed_of bed) f cut.before).half cut.byte) (flow_refused limit (bed_of bed) f (cut.before ++ cut.byte ∷ []))
+            (flow_heard (bed_of bed) f (cut.before ++ cut.byte ∷ [])) met (heard ∙ ap (λ (o : Option Placed). put o []) (placed_same (bed_of bed) at last (going_on u) (going_on []) c (frame_event bed.way (u ++ bytes)))) old new refusal untold);
       })
     where
       -- what isn't met is an item, and is heard
       one_heard : (event : Option Event) → frame_event bed.way (u ++ bytes) ≡ event → frame_met last (flow_of last (going_on []) c) bed.way (u ++ bytes) ≡ None
-          → length (put (flow_placed_with (bed_of bed) (flow_of at (going_on u) c) (frame_event bed.way (u ++ bytes))) []) ≡ 1
+          → length (put (flow_placed_with (bed_of bed) (flow_of last (going_on []) c) (frame_event bed.way (u ++ bytes))) []) ≡ 1
       one_heard None e none = let some : frame_met last (flow_of last (going_on []) c) bed.way (u ++ bytes) ≡ Some (refusals.OtherVersion last) = met_none last (flow_of last (going_on []) c) bed.way (u ++ bytes) e in absurd (cc)
-      one_heard (Some event) e none = ap (λ (o : Option Event). length (put (flow_placed_with (bed_of bed) (flow_of at (going_on u) c) o) [])) e
+      one_heard (Some event) e none = ap (λ (o : Option Event). length (put (flow_placed_with (bed_of bed) (flow_of last (going_on []) c) o) [])) e
 
-      why_by : (met : Option Refusal) (heard : List Placed) → met ≡ frame_met last (flow_of last (going_on []) c) bed.way (u ++ bytes)
-          → length heard ≡ length (put (flow_placed_with (bed_of bed) (flow_of at (going_on u) c) (frame_event bed.way (u ++ bytes))) []) → (old new : S) (refusal : Refusal)
-          → Untold refuses last (frame_met last (flow_of last (going_on []) c) bed.way (u ++ bytes)) old new refusal
-          → FlowWhy refuses last met heard old new refusal
-      why_by met heard same many old new refusal (inl x) = inl (same ∙ x.0, x.1)
-      why_by met heard same many old new refusal (inr x) = inr (inr (same ∙ x.0, many ∙ one_heard (frame_event bed.way (u ++ bytes)) refl x.0, x.1))
+      why_by : (so_far : List ℕ) (met : Option Refusal) (heard : List Placed) → met ≡ frame_met last (flow_of last (going_on []) c) bed.way (u ++ bytes)
+          → heard ≡ (put (flow_placed_with (bed_of bed) (flow_of last (going_on []) c) (frame_event bed.way (u ++ bytes))) []) → (old new : S) (refusal : Refusal)
+          → Untold declines last (frame_met last (flow_of last (going_on []) c) bed.way (u ++ bytes)) (put (flow_placed_with (bed_of bed) (flow_of last (going_on []) c) (frame_event bed.way (u ++ bytes))) []) old new refusal
+          → FlowWhy declines limit last so_far met heard old new refusal
+      why_by so_far met heard same one old new refusal (inl x) = inl (same ∙ x.0, x.1)
+      why_by so_far met heard same one old new refusal (inr x) =
+          inr (inr (same ∙ x.0, ap length one ∙ one_heard (frame_event bed.way (u ++ bytes)) refl x.0, subst (λ (l : List Placed). RefusedBySink declines last l old new refusal) (sym one) x.1))
 
   pub comes_of : {A : Type 0} (r : Result A Refusal) (c' : Connections) (old new : S) → OnOk r (frame_met last (flow_of last (going_on []) c) bed.way (u ++ bytes) ≡ None)
       → OnOk r (c' ≡ connections_then bed.server c (frame_event bed.way (u ++ bytes)))
@@ -142,13 +219,13 @@ module _ {S : Type 0} (agrees : S → List Placed → Type 0) (refuses : S → R
   comes_of (Ok x) c' old new met kept told = completes c' old new met kept told
   comes_of (Err refusal) c' old new met kept told = tt
 
-  pub stops_of : {A : Type 0} (r : Result A Refusal) (old new : S) → IfErr r (λ refusal. Untold refuses last (frame_met last (flow_of last (going_on []) c) bed.way (u ++ bytes)) old new refusal)
-      → IfErr r (λ refusal. FlowStops refuses limit (bed_of bed) (flow_of at (going_on u) c) bytes old new refusal)
+  pub stops_of : {A : Type 0} (r : Result A Refusal) (old new : S) → IfErr r (λ refusal. Untold declines last (frame_met last (flow_of last (going_on []) c) bed.way (u ++ bytes)) (put (flow_placed_with (bed_of bed) (flow_of last (going_on []) c) (frame_event bed.way (u ++ bytes))) []) old new refusal)
+      → IfErr r (λ refusal. FlowStops declines limit (bed_of bed) (flow_of at (going_on u) c) bytes old new refusal)
   stops_of (Ok x) old new untold = tt
   stops_of (Err refusal) old new untold = stops_by (has_last bytes some) old new refusal untold
 
 -- The same for a packet whose bytes in memory are these.
-module _ {S : Type 0} (agrees : S → List Placed → Type 0) (refuses : S → Refusal → Type 0) (limit : ℕ) (bed : BedInMemory) (at last : ℕ) (c : Connections) (old_half kept_half : Half) (bytes : List ℕ)
+module _ {S : Type 0} (agrees : S → List Placed → Type 0) (declines : S → S → List Placed → Refusal → Type 0) (limit : ℕ) (bed : BedInMemory) (at last : ℕ) (c : Connections) (old_half kept_half : Half) (bytes : List ℕ)
     (open_yet : old_half.lost ≡ false) (kept_is : kept_half ≡ record { unfinished = old_half.unfinished ++ bytes; lost = old_half.lost })
     (whole : frame_size (old_half.unfinished ++ bytes) ≡ Some (length (old_half.unfinished ++ bytes))) (some : 0 < length bytes) (is_last : last + 1 ≡ at + length bytes)
     (within : length (old_half.unfinished ++ bytes) ≤ limit) where
@@ -168,22 +245,22 @@ module _ {S : Type 0} (agrees : S → List Placed → Type 0) (refuses : S → R
       let P : List ℕ → Type 0 = λ (t : List ℕ). (earlier : List Placed) → agrees old earlier → AreEvents (put (flow_placed_with (bed_of bed) (flow_of last (going_on []) c) (frame_event bed.way t)) earlier)
       → agrees new (put (flow_placed_with (bed_of bed) (flow_of last (going_on []) c) (frame_event bed.way t)) earlier) in
       let comes : FlowComes agrees limit (bed_of bed) (flow_of at (going_on old_half.unfinished) c) (flow_of (at + length bytes) (going_on []) c') bytes old new
-      = completes agrees refuses limit bed at last c old_half.unfinished bytes whole some is_last within c' old new
+      = completes agrees declines limit bed at last c old_half.unfinished bytes whole some is_last within c' old new
       (ap (λ (t : List ℕ). frame_met last (flow_of last (going_on []) c) bed.way t) (sym frame) ∙ met)
       (kept ∙ ap (λ (t : List ℕ). connections_then bed.server c (frame_event bed.way t)) frame)
       (subst P frame told) in
       subst (λ (h : Half). FlowComes agrees limit (bed_of bed) (flow_of at h c) (flow_of (at + length bytes) new_half c') bytes old new) (sym half_is)
       (subst (λ (h : Half). FlowComes agrees limit (bed_of bed) (flow_of at (going_on old_half.unfinished) c) (flow_of (at + length bytes) h c') bytes old new) (sym gone) comes))
 
-  pub ended_stops : {A : Type 0} (r : Result A Refusal) (old new : S) → IfErr r (λ refusal. Untold refuses last (frame_met last (flow_of last (going_on []) c) bed.way kept_half.unfinished) old new refusal)
-      → IfErr r (λ refusal. FlowStops refuses limit (bed_of bed) (flow_of at old_half c) bytes old new refusal)
+  pub ended_stops : {A : Type 0} (r : Result A Refusal) (old new : S) → IfErr r (λ refusal. Untold declines last (frame_met last (flow_of last (going_on []) c) bed.way kept_half.unfinished) (put (flow_placed_with (bed_of bed) (flow_of last (going_on []) c) (frame_event bed.way kept_half.unfinished)) []) old new refusal)
+      → IfErr r (λ refusal. FlowStops declines limit (bed_of bed) (flow_of at old_half c) bytes old new refusal)
   ended_stops (Ok x) old new untold = tt
   ended_stops (Err refusal) old new untold =
       (let frame : kept_half.unfinished ≡ old_half.unfinished ++ bytes = ap (λ (h : Half). h.unfinished) kept_is in
-      let stops : FlowStops refuses limit (bed_of bed) (flow_of at (going_on old_half.unfinished) c) bytes old new refusal
-      = stops_by agrees refuses limit bed at last c old_half.unfinished bytes whole some is_last within (has_last bytes some) old new refusal
-      (subst (λ (t : List ℕ). Untold refuses last (frame_met last (flow_of last (going_on []) c) bed.way t) old new refusal) frame untold) in
-      subst (λ (h : Half). FlowStops refuses limit (bed_of bed) (flow_of at h c) bytes old new refusal) (sym half_is) stops)
+      let stops : FlowStops declines limit (bed_of bed) (flow_of at (going_on old_half.unfinished) c) bytes old new refusal
+      = stops_by agrees declines limit bed at last c old_half.unfinished bytes whole some is_last within (has_last bytes some) old new refusal
+      (subst (λ (t : List ℕ). Untold declines last (frame_met last (flow_of last (going_on []) c) bed.way t) (put (flow_placed_with (bed_of bed) (flow_of last (going_on []) c) (frame_event bed.way t)) []) old new refusal) frame untold) in
+      subst (λ (h : Half). FlowStops declines limit (bed_of bed) (flow_of at h c) bytes old new refusal) (sym half_is) stops)
 
 -- A direction with no unfinished packet.
 pub nothing_unfinished : (limit : ℕ) (lost : Bool) → IsUnfinished limit (record { unfinished = []; lost = lost })
@@ -265,9 +342,9 @@ whole_with u bytes header size e all =
     frame_from_header (u ++ bytes) header size (whole_stays u bytes header size e) (omega arith) ∙ ap Some same)
 
 -- What stops the first of some bytes stops them.
-pub stops_front : {S : Type 0} (refuses : S → Refusal → Type 0) (limit : ℕ) (bed : Bed) (f : Flow) (n : ℕ) (bytes : List ℕ) (old new : S) (refusal : Refusal)
-    → FlowStops refuses limit bed f (take n bytes) old new refusal → FlowStops refuses limit bed f bytes old new refusal
-stops_front refuses limit bed f n bytes old new refusal stops = record {
+pub stops_front : {S : Type 0} (declines : S → S → List Placed → Refusal → Type 0) (limit : ℕ) (bed : Bed) (f : Flow) (n : ℕ) (bytes : List ℕ) (old new : S) (refusal : Refusal)
+    → FlowStops declines limit bed f (take n bytes) old new refusal → FlowStops declines limit bed f bytes old new refusal
+stops_front declines limit bed f n bytes old new refusal stops = record {
   taken = stops.taken;
   byte = stops.byte;
   later = stops.later ++ drop n bytes;

@@ -92,7 +92,7 @@ quiet_more limit bed f byte bytes between half one more =
       behind = ap (λ g. flow_behind bed g bytes) one.behind ∙ more.behind ∙ ap (λ n. record f { at = n; half = half }) counted;
     }
 
-nothing_item : item_at [] ≡ None
+pub nothing_item : item_at [] ≡ None
 unfolding item_at is_lost frame_size fixed_header_of
 nothing_item = refl
 
@@ -134,7 +134,7 @@ abbrev going_on : List ℕ → Half
 going_on unfinished = record { unfinished = unfinished; lost = false }
 
 -- what the bytes so far of a packet complete, and what they leave of their direction, by what stands at their front
-item_by : (so_far : List ℕ) (l : Bool) (size : Option ℕ) → is_lost so_far ≡ l → frame_size so_far ≡ size
+pub item_by : (so_far : List ℕ) (l : Bool) (size : Option ℕ) → is_lost so_far ≡ l → frame_size so_far ≡ size
     → item_at so_far ≡ cond l (Some lost) (cond (is_some size) (item_read (length so_far) (slice_index so_far 0) (read_frame so_far)) None)
 unfolding item_at
 item_by so_far l size e s =

@@ -128,7 +128,7 @@ unfolding kind_of
 kind_of-append [] c h = absurd (omega arith)
 kind_of-append (byte ∷ a) c h = refl
 
-if_way-nothing : (way : Way) (carries : Option Way) → if_way way carries [] ≡ []
+pub if_way-nothing : (way : Way) (carries : Option Way) → if_way way carries [] ≡ []
 if_way-nothing ways.Sent None = refl
 if_way-nothing ways.Sent (Some ways.Sent) = refl
 if_way-nothing ways.Sent (Some ways.Recv) = refl
@@ -136,7 +136,7 @@ if_way-nothing ways.Recv None = refl
 if_way-nothing ways.Recv (Some ways.Sent) = refl
 if_way-nothing ways.Recv (Some ways.Recv) = refl
 
-if_way-append : (way : Way) (carries : Option Way) (a c : List ℕ) → if_way way carries (a ++ c) ≡ if_way way carries a ++ if_way way carries c
+pub if_way-append : (way : Way) (carries : Option Way) (a c : List ℕ) → if_way way carries (a ++ c) ≡ if_way way carries a ++ if_way way carries c
 if_way-append ways.Sent None a c = refl
 if_way-append ways.Sent (Some ways.Sent) a c = refl
 if_way-append ways.Sent (Some ways.Recv) a c = refl

@@ -15,7 +15,7 @@ use Rattle.mq_trace.proofs.FramingLaws.{carried-grow}
 pub frame_settles : Settles frame_size
 frame_settles = record { bound = frame_bounds; stays = frame_stays; back = frame_stood }
 
-nothing_lost : is_lost [] ≡ false
+pub nothing_lost : is_lost [] ≡ false
 unfolding is_lost
 nothing_lost = refl
 

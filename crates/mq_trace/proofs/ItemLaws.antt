@@ -1,5 +1,5 @@
 -- What a whole packet is, and what telling it meets.
-use Rattle.std.proofs.Common.{◌≡◌, ℕ, ◌-◌, ◌<◌, ◌≤◌, Bool, true, false, List, ◌∷◌, length, take, drop, take_all, Option, Some, None, Result, Ok, Err, refl, sym, ap, ◌∙◌, subst, inl, inr, arith}
+use Rattle.std.proofs.Common.{◌≡◌, ℕ, ◌-◌, ◌<◌, ◌≤◌, Bool, true, false, List, [], ◌∷◌, length, take, drop, take_all, Option, Some, None, Result, Ok, Err, refl, sym, ap, ◌∙◌, subst, inl, inr, arith}
 use Rattle.std.specs.Prelude.{slice_index, unwrap_or, option_map, OnOk, IfErr}
 use Rattle.std.proofs.lemmas.List.{length-drop}
 use Rattle.mq_packet.specs.declared.header.FixedHeader.{FixedHeader}
@@ -109,7 +109,7 @@ pub met_other : (frame : List ℕ) → item_read (length frame) (slice_index fra
 met_other frame e = other_read (length frame) (slice_index frame 0) (read_frame frame) e
 
 -- Who was told of an item was told of the frame that is it.
-module _ {S : Type 0} (agrees : S → List Placed → Type 0) (refuses : S → Refusal → Type 0) {A : Type 0} (r : Result A Refusal) (at : ℕ) (half : Half) (c : Connections) (bed : Bed) (frame : List ℕ) (item : Item)
+module _ {S : Type 0} (agrees : S → List Placed → Type 0) (declines : S → S → List Placed → Refusal → Type 0) {A : Type 0} (r : Result A Refusal) (at : ℕ) (half : Half) (c : Connections) (bed : Bed) (frame : List ℕ) (item : Item)
     (e : item_read (length frame) (slice_index frame 0) (read_frame frame) ≡ Some item) where
   pub told_met : OnOk r (met_by at c (going bed.way item) ≡ None) → OnOk r (frame_met at (flow_of at half c) bed.way frame ≡ None)
   told_met = subst (λ (m : Option Refusal). OnOk r (m ≡ None)) (sym (met_item at half c bed.way frame item e))
@@ -122,10 +122,13 @@ module _ {S : Type 0} (agrees : S → List Placed → Type 0) (refuses : S → R
       → OnOk r (agrees new (put (flow_placed_with bed (flow_of at half c) (frame_event bed.way frame)) earlier))
   told_heard old new = subst (λ (o : Option Placed). (earlier : List Placed) → agrees old earlier → AreEvents (put o earlier) → OnOk r (agrees new (put o earlier))) (sym (placed_item at bed half c frame item e))
 
-  pub told_err : (old new : S) → IfErr r (λ refusal. Untold refuses at (met_by at c (going bed.way item)) old new refusal) → IfErr r (λ refusal. Untold refuses at (frame_met at (flow_of at half c) bed.way frame) old new refusal)
-  told_err old new = subst (λ (m : Option Refusal). IfErr r (λ refusal. Untold refuses at m old new refusal)) (sym (met_item at half c bed.way frame item e))
+  pub told_err : (old new : S) → IfErr r (λ refusal. Untold declines at (met_by at c (going bed.way item)) (next_placed c bed.record_no (going bed.way item) ∷ []) old new refusal)
+      → IfErr r (λ refusal. Untold declines at (frame_met at (flow_of at half c) bed.way frame) (put (flow_placed_with bed (flow_of at half c) (frame_event bed.way frame)) []) old new refusal)
+  told_err old new untold =
+      subst (λ (o : Option Placed). IfErr r (λ refusal. Untold declines at (frame_met at (flow_of at half c) bed.way frame) (put o []) old new refusal)) (sym (placed_item at bed half c frame item e))
+      (subst (λ (m : Option Refusal). IfErr r (λ refusal. Untold declines at m (next_placed c bed.record_no (going bed.way item) ∷ []) old new refusal)) (sym (met_item at half c bed.way frame item e)) untold)
 
 -- A frame of another version is refused as that.
-pub other_met : {S : Type 0} (refuses : S → Refusal → Type 0) (at : ℕ) (half : Half) (c : Connections) (way : Way) (frame : List ℕ) (sink : S) → item_read (length frame) (slice_index frame 0) (read_frame frame) ≡ None
-    → Untold refuses at (frame_met at (flow_of at half c) way frame) sink sink (refusals.OtherVersion at)
-other_met refuses at half c way frame sink e = inl (rw (met_other frame e) refl, refl)
+pub other_met : {S : Type 0} (declines : S → S → List Placed → Refusal → Type 0) {completed : List Placed} (at : ℕ) (half : Half) (c : Connections) (way : Way) (frame : List ℕ) (sink : S) → item_read (length frame) (slice_index frame 0) (read_frame frame) ≡ None
+    → Untold declines at (frame_met at (flow_of at half c) way frame) completed sink sink (refusals.OtherVersion at)
+other_met declines at half c way frame sink e = inl (rw (met_other frame e) refl, refl)

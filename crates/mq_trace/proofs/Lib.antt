@@ -7,6 +7,7 @@ pub mod FlowLaws
 pub mod FramingLaws
 pub mod HalfLaws
 pub mod ItemLaws
+pub mod JoinedLaws
 pub mod LiftLaws
 pub mod PiecesLaws
 pub mod ReadBackLaws

@@ -18,7 +18,7 @@ use Rattle.mq_trace.specs.Runs.{behind, refused_in, heard_in}
 use Rattle.mq_trace.specs.Flows.{Bed, Flow, going, comes_early, flow_event, flow_refusal, flow_placed, flow_placed_with, flow_with, flow_after, flow_behind, flow_refused, flow_heard, bed_in, flow_in, half_behind, flowed}
 
 -- A record that carries packets opens no connection, and its events are what its packets are.
-opens_none : (kind : Option RecordKind) (way : Way) → way_of kind ≡ Some way → opens kind ≡ false
+pub opens_none : (kind : Option RecordKind) (way : Way) → way_of kind ≡ Some way → opens kind ≡ false
 opens_none None way e = refl
 opens_none (Some kinds.Open) way e = absurd (cc)
 opens_none (Some kinds.Sent) way e = refl
@@ -236,6 +236,19 @@ lifted-placed c way byte behind_header goes there = placed_lifted c way byte beh
 pub lifted-after : (c : Context) (way : Way) (byte : ℕ) → 8 ≤ c.at → way_of (kind_of c.part) ≡ Some way → 5 ≤ length c.part → length c.part < 5 + body_length c.part
     → after c byte ≡ flowed c way (length c.part + 1 == 5 + body_length c.part) (flow_after (bed_in c way) (flow_in c way) byte) (byte ∷ [])
 lifted-after c way byte behind_header goes there less = after_lifted c way byte behind_header goes there less
+
+-- The packet so far of a byte of a body is its direction's.
+pub lifted-so_far : (c : Context) (way : Way) (byte : ℕ) → way_of (kind_of c.part) ≡ Some way → 5 ≤ length c.part → so_far_for c byte ≡ so_far_in (half_for c way) byte
+unfolding so_far_for
+lifted-so_far c way byte goes there =
+    let longer : length (c.part ++ byte ∷ []) ≡ length c.part + 1 = length-append c.part (byte ∷ []) in
+    ap (λ b. cond b (so_far_by (way_of (kind_of (c.part ++ byte ∷ []))) c byte) []) (lt-ltb 5 (length (c.part ++ byte ∷ [])) (omega arith))
+    ∙ ap (λ w. so_far_by w c byte) (ap way_of (kind_stays c.part (byte ∷ []) there) ∙ goes)
+
+-- the direction that a flow keeps, in what is kept of the log
+pub half_flowed : (c : Context) (way : Way) (f : Flow) (bytes : List ℕ) → half_for (flowed c way false f bytes) way ≡ f.half
+half_flowed c ways.Sent f bytes = refl
+half_flowed c ways.Recv f bytes = refl
 
 flow_with_at : (bed : Bed) (f : Flow) (event : Option Event) → (flow_with bed f event).at ≡ f.at
 flow_with_at _ f None = refl

@@ -6,6 +6,7 @@ use Rattle.mq_trace.specs.declared.refusal.Refusal.{Refusal}
 use Rattle.mq_trace.specs.declared.reading.Reading.{Reading}
 use Rattle.mq_trace.specs.Events.{Placed}
 use Rattle.mq_trace.specs.Refusals.{or_else}
+use Rattle.mq_trace.specs.Context.{so_far_for}
 use Rattle.mq_trace.specs.Runs.{behind, refused_in, heard_in}
 use Rattle.mq_trace.specs.Hearing.{AreEvents}
 use Rattle.mq_trace.specs.Directing.{FlowWhy}
@@ -59,9 +60,9 @@ comes_telling agrees r r1 a old new e step told = record {
 }
 
 -- A quiet step, and one that stops.
-pub stops_after : {S : Type 0} (refuses : S → Refusal → Type 0) (r r1 : Reading) (a b : List ℕ) (old new : S) (refusal : Refusal)
-    → Advances r r1 a [] → r1.at ≡ r.at + length a → StepStops refuses r1 b old new refusal → StepStops refuses r (a ++ b) old new refusal
-stops_after refuses r r1 a b old new refusal quiet moved stop = record {
+pub stops_after : {S : Type 0} (declines : S → S → List Placed → Refusal → Type 0) (r r1 : Reading) (a b : List ℕ) (old new : S) (refusal : Refusal)
+    → Advances r r1 a [] → r1.at ≡ r.at + length a → StepStops declines r1 b old new refusal → StepStops declines r (a ++ b) old new refusal
+stops_after declines r r1 a b old new refusal quiet moved stop = record {
   taken = a ++ stop.taken;
   byte = stop.byte;
   later = stop.later;
@@ -85,21 +86,23 @@ stops_after refuses r r1 a b old new refusal quiet moved stop = record {
       let place : r1.at + length stop.taken ≡ r.at + length (a ++ stop.taken) = (let l = length-append a stop.taken in omega arith) in (
         refused stop.taken ∙ g.0,
         heard stop.taken ∙ g.1,
-        same_why refuses old new refusal place (sym (refused whole) ∙ ap (refused_in r.limit c) (sym last)) (sym (heard whole) ∙ ap (heard_in c) (sym last)) g.2,
+        same_why declines old new refusal quiet.limit place (ap (λ d. so_far_for d stop.byte) (sym (behind_append c a stop.taken ∙ ap (λ d. behind d stop.taken) f.3))) (sym (refused whole) ∙ ap (refused_in r.limit c) (sym last)) (sym (heard whole) ∙ ap (heard_in c) (sym last)) g.2,
       ));
 }
   where
-    same_why : {S : Type 0} (refuses : S → Refusal → Type 0) (old new : S) (refusal : Refusal) {at at' : ℕ} {met met' : Option Refusal} {heard heard' : List Placed}
-        → at ≡ at' → met ≡ met' → heard ≡ heard' → FlowWhy refuses at met heard old new refusal → FlowWhy refuses at' met' heard' old new refusal
-    same_why refuses old new refusal {at} {at'} {met} {met'} {heard} {heard'} p q s why =
-        subst (λ n. FlowWhy refuses n met' heard' old new refusal) p
-        (subst (λ o. FlowWhy refuses at o heard' old new refusal) q
-        (subst (λ l. FlowWhy refuses at met l old new refusal) s why))
+    same_why : {S : Type 0} (declines : S → S → List Placed → Refusal → Type 0) (old new : S) (refusal : Refusal) {limit limit' at at' : ℕ} {so_far so_far' : List ℕ} {met met' : Option Refusal} {heard heard' : List Placed}
+        → limit ≡ limit' → at ≡ at' → so_far ≡ so_far' → met ≡ met' → heard ≡ heard' → FlowWhy declines limit at so_far met heard old new refusal → FlowWhy declines limit' at' so_far' met' heard' old new refusal
+    same_why declines old new refusal {limit} {limit'} {at} {at'} {so_far} {so_far'} {met} {met'} {heard} {heard'} m p w q s why =
+        subst (λ n. FlowWhy declines n at' so_far' met' heard' old new refusal) m
+        (subst (λ n. FlowWhy declines limit n so_far' met' heard' old new refusal) p
+        (subst (λ t. FlowWhy declines limit at t met' heard' old new refusal) w
+        (subst (λ o. FlowWhy declines limit at so_far o heard' old new refusal) q
+        (subst (λ l. FlowWhy declines limit at so_far met l old new refusal) s why))))
 
 -- It doesn't matter what follows.
-pub stops_longer : {S : Type 0} (refuses : S → Refusal → Type 0) (r : Reading) (a b : List ℕ) (old new : S) (refusal : Refusal)
-    → StepStops refuses r a old new refusal → StepStops refuses r (a ++ b) old new refusal
-stops_longer refuses r a b old new refusal stop = record {
+pub stops_longer : {S : Type 0} (declines : S → S → List Placed → Refusal → Type 0) (r : Reading) (a b : List ℕ) (old new : S) (refusal : Refusal)
+    → StepStops declines r a old new refusal → StepStops declines r (a ++ b) old new refusal
+stops_longer declines r a b old new refusal stop = record {
   taken = stop.taken;
   byte = stop.byte;
   later = stop.later ++ b;
@@ -125,8 +128,8 @@ pub comes_front : {S : Type 0} (agrees : S → List Placed → Type 0) (r r1 : R
     → Comes agrees r r1 front old new → Comes agrees r r1 (take n bytes) old new
 comes_front agrees r r1 front bytes n old new is comes = subst (λ (l : List ℕ). Comes agrees r r1 l old new) is comes
 
-pub stops_front : {S : Type 0} (refuses : S → Refusal → Type 0) (r : Reading) (front bytes : List ℕ) (n : ℕ) (old new : S) (refusal : Refusal) → front ≡ take n bytes
-    → StepStops refuses r front old new refusal → StepStops refuses r bytes old new refusal
-stops_front refuses r front bytes n old new refusal is stop =
-    subst (λ (l : List ℕ). StepStops refuses r l old new refusal) (take-append-drop n bytes)
-    (stops_longer refuses r (take n bytes) (drop n bytes) old new refusal (subst (λ (l : List ℕ). StepStops refuses r l old new refusal) is stop))
+pub stops_front : {S : Type 0} (declines : S → S → List Placed → Refusal → Type 0) (r : Reading) (front bytes : List ℕ) (n : ℕ) (old new : S) (refusal : Refusal) → front ≡ take n bytes
+    → StepStops declines r front old new refusal → StepStops declines r bytes old new refusal
+stops_front declines r front bytes n old new refusal is stop =
+    subst (λ (l : List ℕ). StepStops declines r l old new refusal) (take-append-drop n bytes)
+    (stops_longer declines r (take n bytes) (drop n bytes) old new refusal (subst (λ (l : List ℕ). StepStops declines r l old new refusal) is stop))

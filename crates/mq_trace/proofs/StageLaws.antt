@@ -12,7 +12,7 @@ use Rattle.mq_trace.specs.declared.reading.Reading.{Reading}
 use Rattle.mq_trace.specs.Framing.{kind_named, kind_of, opens}
 use Rattle.mq_trace.specs.Events.{Placed}
 use Rattle.mq_trace.specs.Refusals.{or_else, header_refusal, first_standing, is_open_kind, needs_connection, is_release_kind}
-use Rattle.mq_trace.specs.Context.{Half, Context, emptied, refusal_for, placed_for, put, after}
+use Rattle.mq_trace.specs.Context.{Half, Context, emptied, so_far_for, refusal_for, placed_for, put, after}
 use Rattle.mq_trace.specs.Runs.{behind, refused_in, heard_in}
 use Rattle.mq_trace.specs.Telling.{Untold, RefusedBySink}
 use Rattle.mq_trace.specs.Directing.{FlowWhy}
@@ -35,10 +35,10 @@ one_step r r' b heard same each = record {
 }
 
 -- One byte that is refused at once.
-pub stops_refused : {S : Type 0} (refuses : S → Refusal → Type 0) (r : Reading) (b : ℕ) (sink : S) (refusal : Refusal)
+pub stops_refused : {S : Type 0} (declines : S → S → List Placed → Refusal → Type 0) (r : Reading) (b : ℕ) (sink : S) (refusal : Refusal)
     → ((part : List ℕ) → IsAt r.stage part → refusal_for r.limit (context_of r part) b ≡ Some refusal)
-    → StepStops refuses r (b ∷ []) sink sink refusal
-stops_refused refuses r b sink refusal each = record {
+    → StepStops declines r (b ∷ []) sink sink refusal
+stops_refused declines r b sink refusal each = record {
   taken = [];
   byte = b;
   later = [];
@@ -47,10 +47,10 @@ stops_refused refuses r b sink refusal each = record {
 }
 
 -- One byte that completes an event that isn't told.
-pub stops_untold : {S : Type 0} (refuses : S → Refusal → Type 0) (r : Reading) (b : ℕ) (met : Option Refusal) (e : Placed) (old new : S) (refusal : Refusal)
+pub stops_untold : {S : Type 0} (declines : S → S → List Placed → Refusal → Type 0) (r : Reading) (b : ℕ) (met : Option Refusal) (e : Placed) (old new : S) (refusal : Refusal)
     → ((part : List ℕ) → IsAt r.stage part → (refusal_for r.limit (context_of r part) b ≡ met) × (placed_for (context_of r part) b ≡ Some e))
-    → Untold refuses r.at met old new refusal → StepStops refuses r (b ∷ []) old new refusal
-stops_untold {S} refuses r b met e old new refusal each untold = record {
+    → Untold declines r.at met (e ∷ []) old new refusal → StepStops declines r (b ∷ []) old new refusal
+stops_untold {S} declines r b met e old new refusal each untold = record {
   taken = [];
   byte = b;
   later = [];
@@ -61,12 +61,17 @@ stops_untold {S} refuses r b met e old new refusal each untold = record {
     place : r.at ≡ r.at + 0
     place = omega arith
 
-    why : (part : List ℕ) → IsAt r.stage part → Untold refuses r.at met old new refusal
-        → FlowWhy refuses (r.at + length {A = ℕ} []) (refused_in r.limit (context_of r part) (b ∷ [])) (heard_in (context_of r part) (b ∷ [])) old new refusal
+    why : (part : List ℕ) → IsAt r.stage part → Untold declines r.at met (e ∷ []) old new refusal
+        → FlowWhy declines r.limit (r.at + length {A = ℕ} []) (so_far_for (context_of r part) b) (refused_in r.limit (context_of r part) (b ∷ [])) (heard_in (context_of r part) (b ∷ [])) old new refusal
     why part at (inl told) = let f = each part at in inl (ap (λ o. or_else o None) (f.0 ∙ told.0), told.1)
     why part at (inr told) =
         let f = each part at in
-        inr (inr (ap (λ o. or_else o None) (f.0 ∙ told.0), ap (λ o. length (put o [])) f.1, subst (λ n. RefusedBySink refuses n new refusal) place told.1))
+        inr (inr (
+          ap (λ o. or_else o None) (f.0 ∙ told.0),
+          ap (λ o. length (put o [])) f.1,
+          subst (λ n. RefusedBySink declines n (put (placed_for (context_of r part) b) []) old new refusal) place
+              (subst (λ o. RefusedBySink declines r.at (put o []) old new refusal) (sym f.1) told.1),
+        ))
 
 -- A byte of the log's header.
 pub header_advances : (r : Reading) (b : ℕ) → r.at < 8 → r.stage ≡ stages.Between → header_refusal r.at b ≡ None → Advances r (behind_header r b) (b ∷ []) []

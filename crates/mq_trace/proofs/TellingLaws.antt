@@ -20,12 +20,12 @@ told_comes agrees r r' b event old new (Ok a) tells met kept heard =
     (comes_telling agrees r (marked r event) (b ∷ []) old new (next_placed r.connections (r.records + 1) event) (tells_advances r b event tells met) heard)
 told_comes agrees r r' b event old new (Err refusal) tells met kept heard = tt
 
-pub told_stops : {S A : Type 0} (refuses : S → Refusal → Type 0) (r : Reading) (b : ℕ) (event : Event) (old new : S) (result : Result A Refusal) → Tells r b event
-    → IfErr result (λ refusal. Untold refuses r.at (met_by r.at r.connections event) old new refusal)
-    → IfErr result (λ refusal. StepStops refuses r (b ∷ []) old new refusal)
-told_stops refuses r b event old new (Ok a) tells untold = tt
-told_stops refuses r b event old new (Err refusal) tells untold =
-    stops_untold refuses r b (met_by r.at r.connections event) (next_placed r.connections (r.records + 1) event) old new refusal (λ part at. (let told = tells part at in (told.0, told.1))) untold
+pub told_stops : {S A : Type 0} (declines : S → S → List Placed → Refusal → Type 0) (r : Reading) (b : ℕ) (event : Event) (old new : S) (result : Result A Refusal) → Tells r b event
+    → IfErr result (λ refusal. Untold declines r.at (met_by r.at r.connections event) (next_placed r.connections (r.records + 1) event ∷ []) old new refusal)
+    → IfErr result (λ refusal. StepStops declines r (b ∷ []) old new refusal)
+told_stops declines r b event old new (Ok a) tells untold = tt
+told_stops declines r b event old new (Err refusal) tells untold =
+    stops_untold declines r b (met_by r.at r.connections event) (next_placed r.connections (r.records + 1) event) old new refusal (λ part at. (let told = tells part at in (told.0, told.1))) untold
 
 -- What comes behind a quiet step.
 pub result_comes : {S A : Type 0} (agrees : S → List Placed → Type 0) (r r1 r2 : Reading) (a b : List ℕ) (old new : S) (result : Result A Refusal) → Advances r r1 a []
@@ -33,7 +33,7 @@ pub result_comes : {S A : Type 0} (agrees : S → List Placed → Type 0) (r r1 
 result_comes agrees r r1 r2 a b old new (Ok x) quiet comes = comes_after agrees r r1 r2 a b old new quiet comes
 result_comes agrees r r1 r2 a b old new (Err refusal) quiet comes = tt
 
-pub result_stops : {S A : Type 0} (refuses : S → Refusal → Type 0) (r r1 : Reading) (a b : List ℕ) (old new : S) (result : Result A Refusal) → Advances r r1 a [] → r1.at ≡ r.at + length a
-    → IfErr result (λ refusal. StepStops refuses r1 b old new refusal) → IfErr result (λ refusal. StepStops refuses r (a ++ b) old new refusal)
-result_stops refuses r r1 a b old new (Ok x) quiet moved stops = tt
-result_stops refuses r r1 a b old new (Err refusal) quiet moved stops = stops_after refuses r r1 a b old new refusal quiet moved stops
+pub result_stops : {S A : Type 0} (declines : S → S → List Placed → Refusal → Type 0) (r r1 : Reading) (a b : List ℕ) (old new : S) (result : Result A Refusal) → Advances r r1 a [] → r1.at ≡ r.at + length a
+    → IfErr result (λ refusal. StepStops declines r1 b old new refusal) → IfErr result (λ refusal. StepStops declines r (a ++ b) old new refusal)
+result_stops declines r r1 a b old new (Ok x) quiet moved stops = tt
+result_stops declines r r1 a b old new (Err refusal) quiet moved stops = stops_after declines r r1 a b old new refusal quiet moved stops

@@ -1,7 +1,7 @@
 -- From steps to logs: what a reader's steps come to, and what stops them.
 use Rattle.std.proofs.Common.{◌≡◌, ℕ, ◌+◌, ◌<◌, ◌≤◌, Bool, true, false, List, [], ◌∷◌, ◌++◌, length, Option, Some, None, Result, Ok, Err, inl, inr, is_some, refl, sym, ap, ◌∙◌, arith, length-append, append_assoc, subst, take, drop, ◌-◌}
 use Rattle.std.specs.Prelude.{◌==◌, ◌||◌, not, nat_lt}
-use Rattle.std.proofs.lemmas.Bool.{eqb-true, lt-ltb}
+use Rattle.std.proofs.lemmas.Bool.{eqb-true, lt-ltb, ltb-true, ltb-false}
 use Rattle.std.proofs.lemmas.List.{append-nil, take-append-drop, length-drop, take_all, nil_from_length}
 use Rattle.mq_trace.specs.declared.refusal.Refusal.{Refusal}
 use Rattle.mq_trace.specs.declared.refusal.Refusal.TheVariants as refusals
@@ -9,17 +9,17 @@ use Rattle.mq_trace.specs.declared.stage.Stage.{Stage}
 use Rattle.mq_trace.specs.declared.stage.Stage.TheVariants as stages
 use Rattle.mq_trace.specs.declared.reading.Reading.{Reading}
 use Rattle.mq_trace.specs.Framing.{header_by, records}
-use Rattle.mq_trace.specs.Events.{Event, Placed, events, event_at}
+use Rattle.mq_trace.specs.Events.{Event, Placed, events, event_at, packet_at}
 use Rattle.mq_trace.specs.Refusals.{refused, refusal_at, or_else, is_cut_short}
 use Rattle.mq_trace.specs.Refusing.{moved}
-use Rattle.mq_trace.specs.Context.{Context, context, fresh, event_for, placed_for, placed_with, put}
+use Rattle.mq_trace.specs.Context.{Context, context, fresh, so_far_for, event_for, placed_for, placed_with, put}
 use Rattle.mq_trace.specs.Runs.{behind, refused_in, heard_in}
-use Rattle.mq_trace.specs.Hearing.{AreEvents}
+use Rattle.mq_trace.specs.Hearing.{AreEvents, Declines}
 use Rattle.mq_trace.specs.Telling.{RefusedBySink}
-use Rattle.mq_trace.specs.Directing.{FlowWhy}
+use Rattle.mq_trace.specs.Directing.{NeedsMemory, FlowWhy}
 use Rattle.mq_trace.specs.Keeping.{IsAt, context_of, Advances, Comes, StepStops}
-use Rattle.mq_trace.specs.Tracing.{Keeps, HasHeard, Why, Stops, is_between}
-use Rattle.mq_trace.proofs.ContextLaws.{at_context, part_context, context_is, context-nothing, refused-nothing, event-kept, refused-grow}
+use Rattle.mq_trace.specs.Tracing.{Keeps, HasHeard, IsRefused, LacksMemory, SinkRefuses, Why, Stops, is_between}
+use Rattle.mq_trace.proofs.ContextLaws.{at_context, part_context, context_is, context-nothing, refused-nothing, packet-kept, header-so_far, event-kept, refused-grow}
 use Rattle.mq_trace.proofs.RunLaws.{heard_append, context_run, events_run, passes, stops}
 
 -- A reader that keeps a log and comes on with some bytes keeps the log with these bytes behind it.
@@ -52,8 +52,20 @@ some_event : (c : Context) (byte : ℕ) → length (put (placed_for c byte) []) 
 unfolding placed_for
 some_event c byte one = some_placed c (event_for c byte) one
 
+-- A byte of a packet, as what is kept tells it, is one in the log.
+packet_there : (limit : ℕ) (log : List ℕ) (byte : ℕ) → NeedsMemory limit (so_far_for (context log) byte) → NeedsMemory limit (packet_at log byte)
+packet_there limit log byte needs = by_length (nat_lt (length log) 8) refl
+  where
+    by_length : (b : Bool) → nat_lt (length log) 8 ≡ b → NeedsMemory limit (packet_at log byte)
+    by_length true is =
+        let none : so_far_for (context log) byte ≡ [] = header-so_far log byte (ltb-true (length log) 8 is) in
+        let some : 0 < length (so_far_for (context log) byte) = needs.packet in
+        let nothing : length (so_far_for (context log) byte) ≡ 0 = ap length none in
+        absurd (omega arith)
+    by_length false is = subst (NeedsMemory limit) (sym (packet-kept log byte (ltb-false (length log) 8 is))) needs
+
 -- What stops a step stops the log.
-module _ {S : Type 0} (agrees : S → List Placed → Type 0) (refuses : S → Refusal → Type 0) (r : Reading) (log : List ℕ) (keeps : Keeps r log) where
+module _ {S : Type 0} (agrees : S → List Placed → Type 0) (refuses : S → List Placed → Refusal → Type 0) (r : Reading) (log : List ℕ) (keeps : Keeps r log) where
   -- the byte behind these bytes
   module _ (taken : List ℕ) (byte : ℕ) (unrefused : refused_in r.limit (context_of r keeps.part) taken ≡ None) (unheard : heard_in (context_of r keeps.part) taken ≡ []) where
     taken_in : refused r.limit (log ++ taken) ≡ None
@@ -83,14 +95,48 @@ module _ {S : Type 0} (agrees : S → List Placed → Type 0) (refuses : S → R
         let event : is_some (event_for (behind c taken) byte) ≡ true = some_event (behind c taken) byte (sym (ap length split) ∙ one) in
         ap is_some (event-kept (log ++ taken) byte ∙ ap (λ (k : Context). event_for k byte) (context_run log taken ∙ ap (λ (k : Context). behind k taken) keeps.kept)) ∙ event)
 
-    pub why_here : (old new : S) (refusal : Refusal) → FlowWhy refuses (r.at + length taken) (refused_in r.limit (context_of r keeps.part) (taken ++ byte ∷ []))
-        (heard_in (context_of r keeps.part) (taken ++ byte ∷ [])) old new refusal → Why agrees refuses r.limit log taken byte old new refusal
-    why_here old new refusal (inl x) = inl (refused_here refusal x.0, heard_nothing old new x.1)
-    why_here old new refusal (inr (inl x)) = inr (inl (x.0 ∙ ap (λ (n : ℕ). refusals.Memory n) (sym offset), heard_nothing old new x.1))
-    why_here old new refusal (inr (inr x)) =
-        inr (inr (x.2.own, x.2.refused, x.2.is ∙ ap (moved x.2.own) (sym offset), completed x.1))
+    -- a byte that meets no refusal
+    passes_here : refused_in r.limit (context_of r keeps.part) (taken ++ byte ∷ []) ≡ None → refused r.limit (log ++ (taken ++ byte ∷ [])) ≡ None
+    passes_here none = passes r.limit log (taken ++ byte ∷ []) keeps.unrefused (ap (λ (c : Context). refused_in r.limit c (taken ++ byte ∷ [])) keeps.kept ∙ none)
 
-  pub stopped : (bytes : List ℕ) (old new : S) (refusal : Refusal) → StepStops refuses r bytes old new refusal → Stops agrees refuses r.limit log bytes old new refusal
+    unmet_here : refused_in r.limit (context_of r keeps.part) (taken ++ byte ∷ []) ≡ None → refusal_at r.limit (log ++ taken) byte ≡ None
+    unmet_here none =
+        ap (λ (o : Option Refusal). or_else o (refusal_at r.limit (log ++ taken) byte)) (sym taken_in)
+        ∙ sym (refused-grow r.limit (log ++ taken) byte)
+        ∙ ap (refused r.limit) (append_assoc log taken (byte ∷ []))
+        ∙ passes_here none
+
+    -- the packet so far of the byte
+    needs_here : NeedsMemory r.limit (so_far_for (behind (context_of r keeps.part) taken) byte) → NeedsMemory r.limit (packet_at (log ++ taken) byte)
+    needs_here needs =
+        (let kept : context (log ++ taken) ≡ behind (context_of r keeps.part) taken = context_run log taken ∙ ap (λ (c : Context). behind c taken) keeps.kept in
+        packet_there r.limit (log ++ taken) byte (subst (λ (c : Context). NeedsMemory r.limit (so_far_for c byte)) (sym kept) needs))
+
+    -- What the byte completes follows the events of the log.
+    follows_here : refused_in r.limit (context_of r keeps.part) (taken ++ byte ∷ []) ≡ None → AreEvents (heard_in (context_of r keeps.part) (taken ++ byte ∷ []) ++ events log)
+    follows_here none = record {
+      limit = r.limit;
+      log = log ++ (taken ++ byte ∷ []);
+      unrefused = passes_here none;
+      are = sym (events_run log (taken ++ byte ∷ []) ∙ ap (λ (l : List Placed). l ++ events log) (ap (λ (c : Context). heard_in c (taken ++ byte ∷ [])) keeps.kept));
+    }
+
+    pub why_here : (old new : S) (refusal : Refusal) → FlowWhy (Declines agrees refuses) r.limit (r.at + length taken) (so_far_for (behind (context_of r keeps.part) taken) byte)
+        (refused_in r.limit (context_of r keeps.part) (taken ++ byte ∷ []))
+        (heard_in (context_of r keeps.part) (taken ++ byte ∷ [])) old new refusal → Why agrees refuses r.limit log taken byte old new refusal
+    why_here old new refusal (inl x) = inl (record { met = refused_here refusal x.0; heard = heard_nothing old new x.1 })
+    why_here old new refusal (inr (inl x)) =
+        inr (inl (record { is = x.0 ∙ ap (λ (n : ℕ). refusals.Memory n) (sym offset); needs = needs_here x.2; heard = heard_nothing old new x.1 }))
+    why_here old new refusal (inr (inr x)) =
+        inr (inr (record {
+          unmet = unmet_here x.0;
+          completes = completed x.1;
+          own = x.2.own;
+          refused = λ was. subst (λ (l : List Placed). refuses new l x.2.own) (sym same_events) (x.2.refused (events log) was (follows_here x.0));
+          is = x.2.is ∙ ap (moved x.2.own) (sym offset);
+        }))
+
+  pub stopped : (bytes : List ℕ) (old new : S) (refusal : Refusal) → StepStops (Declines agrees refuses) r bytes old new refusal → Stops agrees refuses r.limit log bytes old new refusal
   stopped bytes old new refusal stop =
       (let each = stop.each keeps.part keeps.stands in
       record {
@@ -140,21 +186,34 @@ ends_kept agrees first now piece rest old new goes none log keeps =
     (subst (λ (l : List ℕ). Keeps now (log ++ l)) all here.0, subst (λ (l : List ℕ). HasHeard agrees log l old new) all here.1))
 
 -- Why a byte isn't taken in behind some bytes, seen from before them.
-why_joined : {S : Type 0} (agrees : S → List Placed → Type 0) (refuses : S → Refusal → Type 0) (limit : ℕ) (log done taken : List ℕ) (byte : ℕ) (old mid new : S) (refusal : Refusal)
+why_joined : {S : Type 0} (agrees : S → List Placed → Type 0) (refuses : S → List Placed → Refusal → Type 0) (limit : ℕ) (log done taken : List ℕ) (byte : ℕ) (old mid new : S) (refusal : Refusal)
     → HasHeard agrees log done old mid → Why agrees refuses limit (log ++ done) taken byte mid new refusal → Why agrees refuses limit log (done ++ taken) byte old new refusal
 why_joined agrees refuses limit log done taken byte old mid new refusal before (inl x) =
     (let assoc : (log ++ done) ++ taken ≡ log ++ (done ++ taken) = append_assoc log done taken in
-    inl (subst (λ (l : List ℕ). refusal_at limit l byte ≡ Some refusal) assoc x.0, λ was. subst (λ (l : List ℕ). agrees new (events l)) assoc (x.1 (before was))))
+    inl (record {
+      met = subst (λ (l : List ℕ). refusal_at limit l byte ≡ Some refusal) assoc x.met;
+      heard = λ was. subst (λ (l : List ℕ). agrees new (events l)) assoc (x.heard (before was));
+    }))
 why_joined agrees refuses limit log done taken byte old mid new refusal before (inr (inl x)) =
     (let assoc : (log ++ done) ++ taken ≡ log ++ (done ++ taken) = append_assoc log done taken in
-    inr (inl (subst (λ (l : List ℕ). refusal ≡ refusals.Memory (length l)) assoc x.0, λ was. subst (λ (l : List ℕ). agrees new (events l)) assoc (x.1 (before was)))))
+    inr (inl (record {
+      is = subst (λ (l : List ℕ). refusal ≡ refusals.Memory (length l)) assoc x.is;
+      needs = subst (λ (l : List ℕ). NeedsMemory limit (packet_at l byte)) assoc x.needs;
+      heard = λ was. subst (λ (l : List ℕ). agrees new (events l)) assoc (x.heard (before was));
+    })))
 why_joined agrees refuses limit log done taken byte old mid new refusal before (inr (inr x)) =
     (let assoc : (log ++ done) ++ taken ≡ log ++ (done ++ taken) = append_assoc log done taken in
-    inr (inr (x.0, x.1, subst (λ (l : List ℕ). refusal ≡ moved x.0 (length l)) assoc x.2, subst (λ (l : List ℕ). is_some (event_at l byte) ≡ true) assoc x.3)))
+    inr (inr (record {
+      unmet = subst (λ (l : List ℕ). refusal_at limit l byte ≡ None) assoc x.unmet;
+      completes = subst (λ (l : List ℕ). is_some (event_at l byte) ≡ true) assoc x.completes;
+      own = x.own;
+      refused = λ was. subst (λ (l : List ℕ). refuses new (events l) x.own) assoc (x.refused (before was));
+      is = subst (λ (l : List ℕ). refusal ≡ moved x.own (length l)) assoc x.is;
+    })))
 
 -- What stops a step stops the piece.
-pub stops_piece : {S : Type 0} (agrees : S → List Placed → Type 0) (refuses : S → Refusal → Type 0) (first now : Reading) (piece rest : List ℕ) (old mid new : S) (refusal : Refusal)
-    → Goes agrees first now piece rest old mid → StepStops refuses now rest mid new refusal → (log : List ℕ) → Keeps first log
+pub stops_piece : {S : Type 0} (agrees : S → List Placed → Type 0) (refuses : S → List Placed → Refusal → Type 0) (first now : Reading) (piece rest : List ℕ) (old mid new : S) (refusal : Refusal)
+    → Goes agrees first now piece rest old mid → StepStops (Declines agrees refuses) now rest mid new refusal → (log : List ℕ) → Keeps first log
     → Stops agrees refuses first.limit log piece old new refusal
 stops_piece agrees refuses first now piece rest old mid new refusal goes stop log keeps =
     (let before = goes.each log keeps in

@@ -1,6 +1,9 @@
 -- What events make of a connection.
 use Rattle.std.specs.Prelude.{ℕ, Bool, true, false, ◌||◌, ◌&&◌, not, List, [], ◌∷◌}
-use Rattle.mq_packet.specs.Entries.{Entry, connack, publish, acknowledgement, request, answer}
+use Rattle.mq_packet.specs.declared.packet.PacketType.{PacketType}
+use Rattle.mq_packet.specs.declared.packet.PacketType.TheVariants as types
+use Rattle.mq_packet.specs.Entries.{Entry}
+use Rattle.mq_packet.specs.Canonical.{type_of}
 use Rattle.mq_trace.specs.Events.{Item, Event, Placed, packet, bad, lost, opened, closed, rested, released, sent, received}
 
 -- a connection begins, and ends
@@ -12,18 +15,34 @@ abbrev pub ends : Event → Bool
 ends closed = true
 ends _ = false
 
--- a packet is a CONNACK (MQTT 5.0, section 3.2)
-abbrev pub is_connack : Entry → Bool
-is_connack (connack session_present code properties) = true
-is_connack _ = false
+-- what a packet is by its type: a CONNACK (MQTT 5.0, section 3.2)
+abbrev pub is_connack_type : PacketType → Bool
+is_connack_type types.Connack = true
+is_connack_type _ = false
 
 -- a packet that needs a session: a PUBLISH, a SUBSCRIBE, an UNSUBSCRIBE, or what acknowledges one (MQTT 5.0, section 4.1)
+abbrev pub is_session_type : PacketType → Bool
+is_session_type types.Connect = false
+is_session_type types.Connack = false
+is_session_type types.Publish = true
+is_session_type types.Puback = true
+is_session_type types.Pubrec = true
+is_session_type types.Pubrel = true
+is_session_type types.Pubcomp = true
+is_session_type types.Subscribe = true
+is_session_type types.Suback = true
+is_session_type types.Unsubscribe = true
+is_session_type types.Unsuback = true
+is_session_type types.Pingreq = false
+is_session_type types.Pingresp = false
+is_session_type types.Disconnect = false
+is_session_type types.Auth = false
+
+abbrev pub is_connack : Entry → Bool
+is_connack entry = is_connack_type (type_of entry)
+
 abbrev pub needs_session : Entry → Bool
-needs_session (publish fields) = true
-needs_session (acknowledgement kind identifier code properties) = true
-needs_session (request kind identifier properties filters) = true
-needs_session (answer kind identifier properties codes) = true
-needs_session _ = false
+needs_session entry = is_session_type (type_of entry)
 
 -- the item is a packet that passes the test
 abbrev pub is_packet : (Entry → Bool) → Item → Bool

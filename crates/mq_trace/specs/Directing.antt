@@ -1,13 +1,14 @@
 -- One direction in memory: what a step takes in, and what stops it.
-use Rattle.std.specs.Prelude.{◌≡◌, ℕ, ◌+◌, ◌≤◌, ◌⊎◌, nat_le, Bool, true, ◌&&◌, List, [], ◌∷◌, ◌++◌, length, slice_index, Option, Some, None, option_map, is_some}
+use Rattle.std.specs.Prelude.{◌≡◌, ℕ, ◌+◌, ◌<◌, ◌≤◌, ◌⊎◌, nat_le, Bool, true, false, ◌&&◌, List, [], ◌∷◌, ◌++◌, length, slice_index, Option, Some, None, option_map, is_some}
+use Rattle.mq_packet.specs.Stream.{fixed_header_of}
 use Rattle.mq_trace.specs.declared.kind.Way.{Way}
 use Rattle.mq_trace.specs.declared.refusal.Refusal.{Refusal}
 use Rattle.mq_trace.specs.declared.refusal.Refusal.TheVariants as refusals
 use Rattle.mq_trace.specs.declared.connections.Connections.{Connections}
 use Rattle.mq_trace.specs.declared.direction.Bed.{Bed as BedInMemory}
 use Rattle.mq_trace.specs.Events.{Event, Placed, item_read, read_frame}
-use Rattle.mq_trace.specs.Refusals.{first_standing, is_other_version}
-use Rattle.mq_trace.specs.Context.{Half}
+use Rattle.mq_trace.specs.Refusals.{first_standing, is_too_large, is_other_version}
+use Rattle.mq_trace.specs.Context.{Half, so_far_in}
 use Rattle.mq_trace.specs.Hearing.{AreEvents}
 use Rattle.mq_trace.specs.Flows.{Bed, Flow, going, comes_early, flow_refused, flow_behind, flow_heard}
 use Rattle.mq_trace.specs.Telling.{connections_with, RefusedBySink}
@@ -35,23 +36,28 @@ abbrev pub connections_then : Bool → Connections → Option Event → Connecti
 connections_then server c None = c
 connections_then server c (Some event) = connections_with server c event
 
--- Why a byte of a direction isn't taken in, with which these events would be heard: it is refused, or memory was, and the sink heard nothing; or the sink
--- refused what it completes.
-abbrev pub FlowWhy : {S : Type 0} → (S → Refusal → Type 0) → ℕ → Option Refusal → List Placed → S → S → Refusal → Type 0
-FlowWhy refuses at met heard old new refusal =
+-- A byte may need memory, given the bytes so far of its packet, the byte included: it belongs to one, and doesn't end a fixed header that tells a size over the limit.
+pub record NeedsMemory (limit : ℕ) (so_far : List ℕ) : Type 0 where
+  pub packet : 0 < length so_far
+  pub within : is_too_large limit so_far (fixed_header_of so_far) ≡ false
+
+-- Why a byte isn't taken in, given the bytes so far of its packet, the refusal that it meets and what it completes: it is refused, or memory was, and the
+-- sink received nothing; or the sink refused what it completes.
+abbrev pub FlowWhy : {S : Type 0} → (S → S → List Placed → Refusal → Type 0) → ℕ → ℕ → List ℕ → Option Refusal → List Placed → S → S → Refusal → Type 0
+FlowWhy declines limit at so_far met completed old new refusal =
     ((met ≡ Some refusal) × (new ≡ old))
-    ⊎ ((refusal ≡ refusals.Memory at) × (new ≡ old))
-    ⊎ ((met ≡ None) × (length heard ≡ 1) × RefusedBySink refuses at new refusal)
+    ⊎ ((refusal ≡ refusals.Memory at) × (new ≡ old) × NeedsMemory limit so_far)
+    ⊎ ((met ≡ None) × (length completed ≡ 1) × RefusedBySink declines at completed old new refusal)
 
 -- Bytes of a direction aren't taken in: none before one of them is refused or completes anything, and that one isn't taken in.
-pub record FlowStops {S : Type 0} (refuses : S → Refusal → Type 0) (limit : ℕ) (bed : Bed) (f : Flow) (bytes : List ℕ) (old new : S) (refusal : Refusal) : Type 0 where
+pub record FlowStops {S : Type 0} (declines : S → S → List Placed → Refusal → Type 0) (limit : ℕ) (bed : Bed) (f : Flow) (bytes : List ℕ) (old new : S) (refusal : Refusal) : Type 0 where
   pub taken : List ℕ
   pub byte : ℕ
   pub later : List ℕ
   pub is : bytes ≡ taken ++ byte ∷ later
   pub unrefused : flow_refused limit bed f taken ≡ None
   pub unheard : flow_heard bed f taken ≡ []
-  pub why : FlowWhy refuses (f.at + length taken) (flow_refused limit bed f (taken ++ byte ∷ [])) (flow_heard bed f (taken ++ byte ∷ [])) old new refusal
+  pub why : FlowWhy declines limit (f.at + length taken) (so_far_in (flow_behind bed f taken).half byte) (flow_refused limit bed f (taken ++ byte ∷ [])) (flow_heard bed f (taken ++ byte ∷ [])) old new refusal
 
 -- These bytes bring a direction from one state to another: none of them is refused, and a sink that had heard what came before has heard the events too that they complete.
 pub record FlowComes {S : Type 0} (agrees : S → List Placed → Type 0) (limit : ℕ) (bed : Bed) (f f' : Flow) (bytes : List ℕ) (old new : S) : Type 0 where

@@ -12,7 +12,7 @@ use Rattle.mq_packet.specs.declared.header.FixedHeader.TheVariants as headers
 use Rattle.mq_packet.specs.Stream.{fixed_header_of}
 use Rattle.mq_trace.specs.Framing.{kind_of, way_of, body_length}
 use Rattle.mq_trace.specs.Events.{Placed}
-use Rattle.mq_trace.specs.Context.{Half, Context}
+use Rattle.mq_trace.specs.Context.{Half, Context, so_far_for}
 use Rattle.mq_trace.specs.Runs.{behind, refused_in, heard_in}
 use Rattle.mq_trace.specs.Hearing.{AreEvents}
 use Rattle.mq_trace.specs.Directing.{FlowWhy}
@@ -100,10 +100,10 @@ pub record Comes {S : Type 0} (agrees : S → List Placed → Type 0) (r r' : Re
   pub told : (earlier : List Placed) → agrees old earlier → AreEvents (heard ++ earlier) → agrees new (heard ++ earlier)
 
 -- These bytes aren't taken in: none before one of them is refused or completes anything, and that one isn't taken in.
-pub record StepStops {S : Type 0} (refuses : S → Refusal → Type 0) (r : Reading) (bytes : List ℕ) (old new : S) (refusal : Refusal) : Type 0 where
+pub record StepStops {S : Type 0} (declines : S → S → List Placed → Refusal → Type 0) (r : Reading) (bytes : List ℕ) (old new : S) (refusal : Refusal) : Type 0 where
   pub taken : List ℕ
   pub byte : ℕ
   pub later : List ℕ
   pub is : bytes ≡ taken ++ byte ∷ later
   pub each : (part : List ℕ) → IsAt r.stage part → (refused_in r.limit (context_of r part) taken ≡ None) × (heard_in (context_of r part) taken ≡ [])
-      × FlowWhy refuses (r.at + length taken) (refused_in r.limit (context_of r part) (taken ++ byte ∷ [])) (heard_in (context_of r part) (taken ++ byte ∷ [])) old new refusal
+      × FlowWhy declines r.limit (r.at + length taken) (so_far_for (behind (context_of r part) taken) byte) (refused_in r.limit (context_of r part) (taken ++ byte ∷ [])) (heard_in (context_of r part) (taken ++ byte ∷ [])) old new refusal

@@ -5,6 +5,7 @@ pub mod Events
 pub mod Flows
 pub mod Framing
 pub mod Hearing
+pub mod Joined
 pub mod Keeping
 pub mod Pieces
 pub mod Refusals

@@ -27,12 +27,12 @@ connections_with server connections event = record {
 abbrev pub next_placed : Connections → ℕ → Event → Placed
 next_placed connections record_no event = record { place = record { position = connections.events + 1; record_no = record_no }; event = event }
 
--- The sink refused the event that this byte completed.
-pub record RefusedBySink {S : Type 0} (refuses : S → Refusal → Type 0) (at : ℕ) (new : S) (refusal : Refusal) : Type 0 where
+-- The sink refused what this byte completed: these events, the newest first, of which there is one.
+pub record RefusedBySink {S : Type 0} (declines : S → S → List Placed → Refusal → Type 0) (at : ℕ) (completed : List Placed) (old new : S) (refusal : Refusal) : Type 0 where
   pub own : Refusal
-  pub refused : refuses new own
+  pub refused : declines old new completed own
   pub is : refusal ≡ moved own at
 
--- Why an event wasn't told: a refusal stands at its byte, and the sink didn't hear of it, or the sink refused it.
-abbrev pub Untold : {S : Type 0} → (S → Refusal → Type 0) → ℕ → Option Refusal → S → S → Refusal → Type 0
-Untold refuses at met old new refusal = ((met ≡ Some refusal) × (new ≡ old)) ⊎ ((met ≡ None) × RefusedBySink refuses at new refusal)
+-- Why what a byte completes wasn't emitted: a refusal's condition applies at the byte, and the sink received nothing; or none does, and the sink refused it.
+abbrev pub Untold : {S : Type 0} → (S → S → List Placed → Refusal → Type 0) → ℕ → Option Refusal → List Placed → S → S → Refusal → Type 0
+Untold declines at met completed old new refusal = ((met ≡ Some refusal) × (new ≡ old)) ⊎ ((met ≡ None) × RefusedBySink declines at completed old new refusal)

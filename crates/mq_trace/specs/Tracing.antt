@@ -5,10 +5,11 @@ use Rattle.mq_trace.specs.declared.refusal.Refusal.TheVariants as refusals
 use Rattle.mq_trace.specs.declared.stage.Stage.{Stage}
 use Rattle.mq_trace.specs.declared.stage.Stage.TheVariants as stages
 use Rattle.mq_trace.specs.declared.reading.Reading.{Reading}
-use Rattle.mq_trace.specs.Events.{Placed, events, event_at}
+use Rattle.mq_trace.specs.Events.{Placed, events, event_at, packet_at}
 use Rattle.mq_trace.specs.Refusals.{refused, refusal_at, is_cut_short}
 use Rattle.mq_trace.specs.Refusing.{moved}
 use Rattle.mq_trace.specs.Context.{context}
+use Rattle.mq_trace.specs.Directing.{NeedsMemory}
 use Rattle.mq_trace.specs.Keeping.{IsAt, context_of}
 
 -- a tracer: the refusal that it came to, and what it keeps of the log
@@ -32,16 +33,36 @@ pub record Follows (tracer : Traced) (log : List ℕ) : Type 0 where
 abbrev pub HasHeard : {S : Type 0} → (S → List Placed → Type 0) → List ℕ → List ℕ → S → S → Type 0
 HasHeard agrees log bytes old new = agrees old (events log) → agrees new (events (log ++ bytes))
 
--- Why a byte isn't taken in, behind this log: a condition of the refusals first stands with it, or memory was refused, and the sink has heard all events
--- before it; or the sink refused the event that it completes.
-abbrev pub Why : {S : Type 0} → (S → List Placed → Type 0) → (S → Refusal → Type 0) → ℕ → List ℕ → List ℕ → ℕ → S → S → Refusal → Type 0
+-- The byte after these is refused: this is the lowest of the refusals whose conditions apply at it. The sink has received all events before the byte, and none of it.
+pub record IsRefused {S : Type 0} (agrees : S → List Placed → Type 0) (limit : ℕ) (log bytes : List ℕ) (byte : ℕ) (old new : S) (refusal : Refusal) : Type 0 where
+  pub met : refusal_at limit (log ++ bytes) byte ≡ Some refusal
+  pub heard : HasHeard agrees log bytes old new
+
+-- Memory was refused for the byte after these, which belongs to a packet, and doesn't show it to be too large. The sink has received all events before the byte, and none of it.
+pub record LacksMemory {S : Type 0} (agrees : S → List Placed → Type 0) (limit : ℕ) (log bytes : List ℕ) (byte : ℕ) (old new : S) (refusal : Refusal) : Type 0 where
+  pub is : refusal ≡ refusals.Memory (length (log ++ bytes))
+  pub needs : NeedsMemory limit (packet_at (log ++ bytes) byte)
+  pub heard : HasHeard agrees log bytes old new
+
+-- The sink refused the event that the byte after these completes, at which no refusal's condition applies. If it had received the events of the log, it has come to what
+-- refusing behind all events before the byte is.
+pub record SinkRefuses {S : Type 0} (agrees : S → List Placed → Type 0) (refuses : S → List Placed → Refusal → Type 0) (limit : ℕ) (log bytes : List ℕ) (byte : ℕ) (old new : S)
+    (refusal : Refusal) : Type 0 where
+  pub unmet : refusal_at limit (log ++ bytes) byte ≡ None
+  pub completes : is_some (event_at (log ++ bytes) byte) ≡ true
+  pub own : Refusal
+  pub refused : agrees old (events log) → refuses new (events (log ++ bytes)) own
+  pub is : refusal ≡ moved own (length (log ++ bytes))
+
+-- Why a byte isn't taken in, after a log and these bytes.
+abbrev pub Why : {S : Type 0} → (S → List Placed → Type 0) → (S → List Placed → Refusal → Type 0) → ℕ → List ℕ → List ℕ → ℕ → S → S → Refusal → Type 0
 Why {S} agrees refuses limit log bytes byte old new refusal =
-    ((refusal_at limit (log ++ bytes) byte ≡ Some refusal) × HasHeard agrees log bytes old new)
-    ⊎ ((refusal ≡ refusals.Memory (length (log ++ bytes))) × HasHeard agrees log bytes old new)
-    ⊎ ((own : Refusal) × refuses new own × (refusal ≡ moved own (length (log ++ bytes))) × (is_some (event_at (log ++ bytes) byte) ≡ true))
+    IsRefused agrees limit log bytes byte old new refusal
+    ⊎ LacksMemory agrees limit log bytes byte old new refusal
+    ⊎ SinkRefuses agrees refuses limit log bytes byte old new refusal
 
 -- A piece behind a log isn't taken in: some byte of it isn't, and all before it are.
-pub record Stops {S : Type 0} (agrees : S → List Placed → Type 0) (refuses : S → Refusal → Type 0) (limit : ℕ) (log piece : List ℕ) (old new : S) (refusal : Refusal) : Type 0 where
+pub record Stops {S : Type 0} (agrees : S → List Placed → Type 0) (refuses : S → List Placed → Refusal → Type 0) (limit : ℕ) (log piece : List ℕ) (old new : S) (refusal : Refusal) : Type 0 where
   pub taken : List ℕ
   pub byte : ℕ
   pub later : List ℕ
@@ -50,7 +71,7 @@ pub record Stops {S : Type 0} (agrees : S → List Placed → Type 0) (refuses :
   pub why : Why agrees refuses limit log taken byte old new refusal
 
 -- What feeding a piece behind a log answers.
-abbrev pub Takes : {S : Type 0} → (S → List Placed → Type 0) → (S → Refusal → Type 0) → ℕ → List ℕ → List ℕ → S → S → Result (Unit {0}) Refusal → Type 0
+abbrev pub Takes : {S : Type 0} → (S → List Placed → Type 0) → (S → List Placed → Refusal → Type 0) → ℕ → List ℕ → List ℕ → S → S → Result (Unit {0}) Refusal → Type 0
 Takes agrees refuses limit log piece old new (Ok _) = (refused limit (log ++ piece) ≡ None) × HasHeard agrees log piece old new
 Takes agrees refuses limit log piece old new (Err refusal) = Stops agrees refuses limit log piece old new refusal
 

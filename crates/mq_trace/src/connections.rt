@@ -1,9 +1,9 @@
 //! What is kept of the events of a log, and telling a sink of the next one.
 
-ghost use Rattle.std.specs.Prelude.{◌≡◌, ◌+◌, ◌∷◌, ◌<◌, ◌&&◌, not, List, Some, None, OnOk, IfErr};
+ghost use Rattle.std.specs.Prelude.{◌≡◌, ◌+◌, [], ◌∷◌, ◌<◌, ◌&&◌, not, List, Some, None, OnOk, IfErr};
 ghost use Rattle.mq_trace.specs.Events.{Placed};
 ghost use Rattle.mq_trace.specs.Connections.{begins, ends, is_answer, needs_answer, is_packet, is_connack, needs_session};
-ghost use Rattle.mq_trace.specs.Hearing.{AreEvents, event_of, item_of};
+ghost use Rattle.mq_trace.specs.Hearing.{AreEvents, Declines, event_of, item_of};
 ghost use Rattle.mq_trace.specs.Telling.{met_by, connections_with, next_placed, Untold, RefusedBySink};
 
 use super::event::{Event, Item};
@@ -41,7 +41,7 @@ pub fn tell<S: Sink>(
     ensures ok { OnOk result ((met_by at connections.old (event_of event.entry) ≡ None) × (connections.new ≡ connections_with server connections.old (event_of event.entry))) }
     ensures heard { (earlier : List Placed) → S.agrees sink.old earlier → AreEvents (next_placed connections.old record_no (event_of event.entry) ∷ earlier)
         → OnOk result (S.agrees sink.new (next_placed connections.old record_no (event_of event.entry) ∷ earlier)) }
-    ensures err { IfErr result (λ refusal. Untold S.refuses at (met_by at connections.old (event_of event.entry)) sink.old sink.new refusal) }
+    ensures err { IfErr result (λ refusal. Untold (Declines S.agrees S.refuses) at (met_by at connections.old (event_of event.entry)) (next_placed connections.old record_no (event_of event.entry) ∷ []) sink.old sink.new refusal) }
 {
     match met_by(*connections, at, &event) {
         Some(refusal) => Err(refusal),
@@ -90,7 +90,7 @@ fn tell_next<S: Sink>(
     ensures ok { OnOk result (connections.new ≡ connections_with server connections.old (event_of event.entry)) }
     ensures heard { (earlier : List Placed) → S.agrees sink.old earlier → AreEvents (next_placed connections.old record_no (event_of event.entry) ∷ earlier)
         → OnOk result (S.agrees sink.new (next_placed connections.old record_no (event_of event.entry) ∷ earlier)) }
-    ensures err { IfErr result (λ refusal. RefusedBySink S.refuses at sink.new refusal) }
+    ensures err { IfErr result (λ refusal. RefusedBySink (Declines S.agrees S.refuses) at (next_placed connections.old record_no (event_of event.entry) ∷ []) sink.old sink.new refusal) }
 {
     let place = Place3 {
         position: connections.events + 1,

@@ -2,12 +2,13 @@
 //!
 //! What a whole packet takes on its way to the sink is inlined, so that it isn't moved; what is rare stays apart.
 
-ghost use Rattle.std.specs.Prelude.{◌≡◌, ◌+◌, ◌<◌, ◌≤◌, ◌^◌, ◌++◌, ◌⊎◌, ℕ, ◌∷◌, [], List, Some, None, OnOk, IfOk, IfErr, length, take, slice_index, option_map, true, false};
+ghost use Rattle.std.specs.Prelude.{◌≡◌, ◌+◌, ◌<◌, ◌≤◌, ◌^◌, ◌++◌, ◌⊎◌, ℕ, ◌∷◌, [], List, Some, None, OnOk, OnErr, IfOk, IfErr, length, take, slice_index, option_map, true, false};
 ghost use Rattle.mq_packet.specs.Stream.{frame_size, fixed_header_of};
 ghost use Rattle.mq_packet.specs.declared.header.FixedHeader.TheVariants as headers;
+ghost use Rattle.mq_trace.specs.Refusals.{is_too_large};
 ghost use Rattle.mq_trace.specs.Events.{Placed, lost, item_read, read_frame};
 ghost use Rattle.mq_trace.specs.Context.{put};
-ghost use Rattle.mq_trace.specs.Hearing.{AreEvents, event_of, item_of};
+ghost use Rattle.mq_trace.specs.Hearing.{AreEvents, Declines, event_of, item_of};
 ghost use Rattle.mq_trace.specs.declared.event.Item.TheVariants as items;
 ghost use Rattle.mq_trace.specs.Telling.{Untold, met_by, connections_with, next_placed};
 ghost use Rattle.mq_trace.specs.Keeping.{half_in, IsUnfinished};
@@ -106,7 +107,7 @@ impl Direction {
             AreEvents (flow_heard (bed_of bed) (flow_of at (half_in self.old) connections.old) (take n bytes.now) ++ earlier)
             → S.agrees sink.new (flow_heard (bed_of bed) (flow_of at (half_in self.old) connections.old) (take n bytes.now) ++ earlier)) }
         ensures sound { OnOk result (IsUnfinished bed.limit (half_in self.new)) }
-        ensures stops { IfErr result (λ refusal. FlowStops S.refuses bed.limit (bed_of bed) (flow_of at (half_in self.old) connections.old) bytes.now sink.old sink.new refusal) }
+        ensures stops { IfErr result (λ refusal. FlowStops (Declines S.agrees S.refuses) bed.limit (bed_of bed) (flow_of at (half_in self.old) connections.old) bytes.now sink.old sink.new refusal) }
     {
         if self.lost {
             return Ok(bytes.len());
@@ -133,6 +134,7 @@ impl Direction {
     /// What the next bytes are to the direction, which isn't lost.
     #[inline(always)]
     fn step(&self, limit: u32, bytes: &[u8]) -> Step
+        requires { IsUnfinished limit (half_in self.now) }
         ensures { IsStep (half_in self.now) limit bytes.now result }
     {
         if self.unfinished.is_empty() {
@@ -182,7 +184,7 @@ impl Direction {
         ensures comes { IfOk result (λ n. FlowComes S.agrees bed.limit (bed_of bed) (flow_of at (half_in self.old) connections.old)
             (flow_of (at + n) (half_in self.new) connections.new) (take n bytes.now) sink.old sink.new) }
         ensures sound { OnOk result (IsUnfinished bed.limit (half_in self.new)) }
-        ensures stops { IfErr result (λ refusal. FlowStops S.refuses bed.limit (bed_of bed) (flow_of at (half_in self.old) connections.old) bytes.now sink.old sink.new refusal) }
+        ensures stops { IfErr result (λ refusal. FlowStops (Declines S.agrees S.refuses) bed.limit (bed_of bed) (flow_of at (half_in self.old) connections.old) bytes.now sink.old sink.new refusal) }
     {
         let lacks = size - self.unfinished.len();
         if bytes.len() < lacks {
@@ -202,15 +204,18 @@ impl Direction {
     ///
     /// # Errors
     ///
-    /// `Memory`, at the first of them.
+    /// `Memory`, at the first of them, where there was no room for all and more wasn't to be had. Nothing is kept then.
     #[inline(never)]
     fn keep(&mut self, at: u64, bytes: &[u8]) -> Result<(), Refusal>
         ensures ok { OnOk result (half_in self.new ≡ record { unfinished = self.old.unfinished.items ++ bytes.now; lost = self.old.lost }) }
         ensures err { IfErr result (λ refusal. refusal ≡ Refusal.Memory at) }
+        ensures same { OnErr result (half_in self.new ≡ half_in self.old) }
+        ensures room { OnErr result (self.old.unfinished.spare < length bytes.now) }
     {
-        self.unfinished
-            .extend_from_slice(bytes)
-            .map_err(|_| Refusal::Memory(at))
+        match self.unfinished.extend_from_slice(bytes) {
+            Ok(()) => Ok(()),
+            Err(_) => Err(Refusal::Memory(at)),
+        }
     }
 
     /// Takes in the last bytes of an unfinished packet.
@@ -235,7 +240,7 @@ impl Direction {
         ensures comes { OnOk result (FlowComes S.agrees bed.limit (bed_of bed) (flow_of at (half_in self.old) connections.old)
             (flow_of (at + length bytes.now) (half_in self.new) connections.new) bytes.now sink.old sink.new) }
         ensures empty { OnOk result (half_in self.new ≡ record { unfinished = []; lost = false }) }
-        ensures stops { IfErr result (λ refusal. FlowStops S.refuses bed.limit (bed_of bed) (flow_of at (half_in self.old) connections.old) bytes.now sink.old sink.new refusal) }
+        ensures stops { IfErr result (λ refusal. FlowStops (Declines S.agrees S.refuses) bed.limit (bed_of bed) (flow_of at (half_in self.old) connections.old) bytes.now sink.old sink.new refusal) }
     {
         match self.keep(at, bytes) {
             Ok(()) => self.tell_kept(bed, connections, at + (bytes.len() - 1) as u64, sink),
@@ -263,7 +268,8 @@ impl Direction {
         ensures heard { (earlier : List Placed) → S.agrees sink.old earlier
             → AreEvents (put (flow_placed_with (bed_of bed) (flow_of at (record { unfinished = []; lost = false }) connections.old) (frame_event bed.way self.old.unfinished.items)) earlier)
             → OnOk result (S.agrees sink.new (put (flow_placed_with (bed_of bed) (flow_of at (record { unfinished = []; lost = false }) connections.old) (frame_event bed.way self.old.unfinished.items)) earlier)) }
-        ensures err { IfErr result (λ refusal. Untold S.refuses at (frame_met at (flow_of at (record { unfinished = []; lost = false }) connections.old) bed.way self.old.unfinished.items) sink.old sink.new refusal) }
+        ensures err { IfErr result (λ refusal. Untold (Declines S.agrees S.refuses) at (frame_met at (flow_of at (record { unfinished = []; lost = false }) connections.old) bed.way self.old.unfinished.items)
+            (put (flow_placed_with (bed_of bed) (flow_of at (record { unfinished = []; lost = false }) connections.old) (frame_event bed.way self.old.unfinished.items)) []) sink.old sink.new refusal) }
     {
         let frame = self.unfinished.as_slice();
         let told = tell_frame(bed, connections, at, header_of(frame), frame, sink);
@@ -283,15 +289,52 @@ impl Direction {
     ) -> Result<(), Refusal>
         requires unfinished { IsUnfinished bed.limit (half_in self.old) }
         requires kept { self.old.lost ≡ false }
+        requires few { length self.old.unfinished.items ≤ 4 }
         requires room { at + 1 < 2 ^ 64 }
         ensures comes { OnOk result (FlowComes S.agrees bed.limit (bed_of bed) (flow_of at (half_in self.old) connections.old)
             (flow_of (at + 1) (half_in self.new) connections.new) (byte ∷ []) sink.old sink.new) }
         ensures sound { OnOk result (IsUnfinished bed.limit (half_in self.new)) }
-        ensures stops { IfErr result (λ refusal. FlowStops S.refuses bed.limit (bed_of bed) (flow_of at (half_in self.old) connections.old) (byte ∷ []) sink.old sink.new refusal) }
+        ensures stops { IfErr result (λ refusal. FlowStops (Declines S.agrees S.refuses) bed.limit (bed_of bed) (flow_of at (half_in self.old) connections.old) (byte ∷ []) sink.old sink.new refusal) }
     {
         match self.keep(at, &[byte]) {
             Ok(()) => self.settle(bed, connections, at, sink),
-            Err(refusal) => Err(refusal),
+            Err(refusal) => {
+                // TooLarge has the lower number, and needs no memory.
+                if self.is_too_large(bed.limit, byte) {
+                    Err(Refusal::TooLarge(at))
+                } else {
+                    Err(refusal)
+                }
+            }
+        }
+    }
+
+    /// Whether the fixed header of the unfinished packet, of which at most four bytes came, ends with this byte and tells a size
+    /// over the limit.
+    fn is_too_large(&self, limit: u32, byte: u8) -> bool
+        requires { length self.now.unfinished.items ≤ 4 }
+        ensures { result ≡ is_too_large limit (self.now.unfinished.items ++ byte ∷ []) (fixed_header_of (self.now.unfinished.items ++ byte ∷ [])) }
+    {
+        match self.header_with(byte) {
+            FixedHeader::Whole { length, size } => {
+                length == self.unfinished.len() + 1 && size > limit as usize
+            }
+            FixedHeader::Short | FixedHeader::Lost => false,
+        }
+    }
+
+    /// The fixed header of the unfinished packet, of which at most four bytes came, with one byte more.
+    fn header_with(&self, byte: u8) -> FixedHeader
+        requires { length self.now.unfinished.items ≤ 4 }
+        ensures { result ≡ fixed_header_of (self.now.unfinished.items ++ byte ∷ []) }
+    {
+        match *self.unfinished.as_slice() {
+            [] => fixed_header(&[byte]),
+            [a] => fixed_header(&[a, byte]),
+            [a, b] => fixed_header(&[a, b, byte]),
+            [a, b, c] => fixed_header(&[a, b, c, byte]),
+            [a, b, c, d] => fixed_header(&[a, b, c, d, byte]),
+            _ => unreachable!(),
         }
     }
 
@@ -314,7 +357,7 @@ impl Direction {
             (flow_of (at + 1) (half_in self.new) connections.new) (byte ∷ []) sink.old sink.new) }
         ensures sound { (before : List ℕ) (byte : ℕ) → IsByteMore bed.limit before byte self.old.unfinished.items → OnOk result (IsUnfinished bed.limit (half_in self.new)) }
         ensures stops { (before : List ℕ) (byte : ℕ) → IsByteMore bed.limit before byte self.old.unfinished.items
-            → IfErr result (λ refusal. FlowStops S.refuses bed.limit (bed_of bed) (flow_of at (record { unfinished = before; lost = false }) connections.old) (byte ∷ []) sink.old sink.new refusal) }
+            → IfErr result (λ refusal. FlowStops (Declines S.agrees S.refuses) bed.limit (bed_of bed) (flow_of at (record { unfinished = before; lost = false }) connections.old) (byte ∷ []) sink.old sink.new refusal) }
     {
         match fixed_header(self.unfinished.as_slice()) {
             FixedHeader::Short => Ok(()),
@@ -349,7 +392,7 @@ impl Direction {
         ensures ok { OnOk result ((met_by at connections.old (going bed.way lost) ≡ None) × (connections.new ≡ connections_with bed.server connections.old (going bed.way lost))) }
         ensures heard { (earlier : List Placed) → S.agrees sink.old earlier → AreEvents (next_placed connections.old bed.record_no (going bed.way lost) ∷ earlier)
             → OnOk result (S.agrees sink.new (next_placed connections.old bed.record_no (going bed.way lost) ∷ earlier)) }
-        ensures err { IfErr result (λ refusal. Untold S.refuses at (met_by at connections.old (going bed.way lost)) sink.old sink.new refusal) }
+        ensures err { IfErr result (λ refusal. Untold (Declines S.agrees S.refuses) at (met_by at connections.old (going bed.way lost)) (next_placed connections.old bed.record_no (going bed.way lost) ∷ []) sink.old sink.new refusal) }
     {
         self.unfinished.clear();
         self.lost = true;
@@ -397,7 +440,7 @@ fn take_whole<S: Sink>(
     requires within { length frame.now ≤ bed.limit }
     ensures comes { OnOk result (FlowComes S.agrees bed.limit (bed_of bed) (flow_of at (record { unfinished = []; lost = false }) connections.old)
         (flow_of (at + length frame.now) (record { unfinished = []; lost = false }) connections.new) frame.now sink.old sink.new) }
-    ensures stops { IfErr result (λ refusal. FlowStops S.refuses bed.limit (bed_of bed) (flow_of at (record { unfinished = []; lost = false }) connections.old) frame.now sink.old sink.new refusal) }
+    ensures stops { IfErr result (λ refusal. FlowStops (Declines S.agrees S.refuses) bed.limit (bed_of bed) (flow_of at (record { unfinished = []; lost = false }) connections.old) frame.now sink.old sink.new refusal) }
 {
     let last = at + (frame.len() - 1) as u64;
     tell_frame(bed, connections, last, header, frame, sink)
@@ -420,7 +463,8 @@ fn tell_frame<S: Sink>(
     ensures heard { (earlier : List Placed) → S.agrees sink.old earlier
         → AreEvents (put (flow_placed_with (bed_of bed) (flow_of at (record { unfinished = []; lost = false }) connections.old) (frame_event bed.way frame.now)) earlier)
         → OnOk result (S.agrees sink.new (put (flow_placed_with (bed_of bed) (flow_of at (record { unfinished = []; lost = false }) connections.old) (frame_event bed.way frame.now)) earlier)) }
-    ensures err { IfErr result (λ refusal. Untold S.refuses at (frame_met at (flow_of at (record { unfinished = []; lost = false }) connections.old) bed.way frame.now) sink.old sink.new refusal) }
+    ensures err { IfErr result (λ refusal. Untold (Declines S.agrees S.refuses) at (frame_met at (flow_of at (record { unfinished = []; lost = false }) connections.old) bed.way frame.now)
+        (put (flow_placed_with (bed_of bed) (flow_of at (record { unfinished = []; lost = false }) connections.old) (frame_event bed.way frame.now)) []) sink.old sink.new refusal) }
 {
     let first = frame[0];
     match decode(first, &frame[header..]) {
@@ -450,7 +494,7 @@ fn tell_packet<S: Sink>(
     ensures kept { OnOk result (connections.new ≡ connections_with bed.server connections.old (going bed.way (item_of (items.Packet packet.entry)))) }
     ensures heard { (earlier : List Placed) → S.agrees sink.old earlier → AreEvents (next_placed connections.old bed.record_no (going bed.way (item_of (items.Packet packet.entry))) ∷ earlier)
         → OnOk result (S.agrees sink.new (next_placed connections.old bed.record_no (going bed.way (item_of (items.Packet packet.entry))) ∷ earlier)) }
-    ensures err { IfErr result (λ refusal. Untold S.refuses at (met_by at connections.old (going bed.way (item_of (items.Packet packet.entry)))) sink.old sink.new refusal) }
+    ensures err { IfErr result (λ refusal. Untold (Declines S.agrees S.refuses) at (met_by at connections.old (going bed.way (item_of (items.Packet packet.entry)))) (next_placed connections.old bed.record_no (going bed.way (item_of (items.Packet packet.entry))) ∷ []) sink.old sink.new refusal) }
 {
     // Each way apart, so that the packet, which is large, is moved once.
     match bed.way {
@@ -478,7 +522,7 @@ fn tell_item<S: Sink>(
     ensures kept { OnOk result (connections.new ≡ connections_with bed.server connections.old (going bed.way (item_of item.entry))) }
     ensures heard { (earlier : List Placed) → S.agrees sink.old earlier → AreEvents (next_placed connections.old bed.record_no (going bed.way (item_of item.entry)) ∷ earlier)
         → OnOk result (S.agrees sink.new (next_placed connections.old bed.record_no (going bed.way (item_of item.entry)) ∷ earlier)) }
-    ensures err { IfErr result (λ refusal. Untold S.refuses at (met_by at connections.old (going bed.way (item_of item.entry))) sink.old sink.new refusal) }
+    ensures err { IfErr result (λ refusal. Untold (Declines S.agrees S.refuses) at (met_by at connections.old (going bed.way (item_of item.entry))) (next_placed connections.old bed.record_no (going bed.way (item_of item.entry)) ∷ []) sink.old sink.new refusal) }
 {
     tell(
         connections,

@@ -6,6 +6,7 @@ mod direction;
 mod event;
 mod framing_laws;
 mod header;
+mod joined_laws;
 mod kind;
 mod place;
 mod reading;
@@ -20,6 +21,7 @@ mod writer;
 
 pub use event::{Event, Item};
 pub use header::Header;
+pub use kind::Way;
 pub use place::Place3;
 pub use refusal::Refusal;
 pub use sink::Sink;

@@ -7,7 +7,7 @@ ghost use Rattle.std.specs.Int.{w16, w32, from_be_bytes};
 ghost use Rattle.mq_trace.specs.declared.stage.Stage.TheVariants as stages;
 ghost use Rattle.mq_trace.specs.Framing.{kind_named, opens};
 ghost use Rattle.mq_trace.specs.Events.{Placed};
-ghost use Rattle.mq_trace.specs.Hearing.{AreEvents, event_of};
+ghost use Rattle.mq_trace.specs.Hearing.{AreEvents, Declines, event_of};
 ghost use Rattle.mq_trace.specs.Telling.{met_by, next_placed, Untold};
 ghost use Rattle.mq_trace.specs.Context.{fresh};
 ghost use Rattle.mq_trace.specs.Stepping.{err_of, behind_header, met_by_kind, Begins, refused_first, in_head, marked, leaving, bed_for, direction_for, flow_for, redirected};
@@ -78,7 +78,7 @@ impl Reading {
         ensures count { IfOk result (λ n. (1 ≤ n) × (n ≤ length bytes.now)) }
         ensures sound { OnOk result (IsSound self.new) }
         ensures comes { IfOk result (λ n. Comes S.agrees self.old self.new (take n bytes.now) sink.old sink.new) }
-        ensures stops { IfErr result (λ refusal. StepStops S.refuses self.old bytes.now sink.old sink.new refusal) }
+        ensures stops { IfErr result (λ refusal. StepStops (Declines S.agrees S.refuses) self.old bytes.now sink.old sink.new refusal) }
     {
         if self.at < HEADER_LENGTH {
             return match self.take_header(bytes[0]) {
@@ -137,7 +137,7 @@ impl Reading {
         ensures count { IfOk result (λ n. (1 ≤ n) × (n ≤ length bytes.now)) }
         ensures sound { OnOk result (IsSound self.new) }
         ensures comes { IfOk result (λ n. Comes S.agrees self.old self.new (take n bytes.now) sink.old sink.new) }
-        ensures stops { IfErr result (λ refusal. StepStops S.refuses self.old bytes.now sink.old sink.new refusal) }
+        ensures stops { IfErr result (λ refusal. StepStops (Declines S.agrees S.refuses) self.old bytes.now sink.old sink.new refusal) }
     {
         match self.begin_record(bytes[0]) {
             Ok(kind) => {
@@ -168,7 +168,7 @@ impl Reading {
         requires within { self.old.stage ≡ stages.Head kind 0 0 }
         ensures sound { OnOk result (IsSound self.new) }
         ensures comes { OnOk result (Comes S.agrees self.old self.new (a ∷ b ∷ c ∷ d ∷ []) sink.old sink.new) }
-        ensures stops { IfErr result (λ refusal. StepStops S.refuses self.old (a ∷ b ∷ c ∷ d ∷ []) sink.old sink.new refusal) }
+        ensures stops { IfErr result (λ refusal. StepStops (Declines S.agrees S.refuses) self.old (a ∷ b ∷ c ∷ d ∷ []) sink.old sink.new refusal) }
     {
         let length = self.skip_length(kind, a, b, c);
         self.end_head(kind, length, d, sink)
@@ -268,7 +268,7 @@ impl Reading {
         requires within { self.old.stage ≡ stages.Head kind count length }
         ensures sound { OnOk result (IsSound self.new) }
         ensures comes { OnOk result (Comes S.agrees self.old self.new (byte ∷ []) sink.old sink.new) }
-        ensures stops { IfErr result (λ refusal. StepStops S.refuses self.old (byte ∷ []) sink.old sink.new refusal) }
+        ensures stops { IfErr result (λ refusal. StepStops (Declines S.agrees S.refuses) self.old (byte ∷ []) sink.old sink.new refusal) }
     {
         if count == 3 {
             return self.end_head(kind, length, byte, sink);
@@ -295,7 +295,7 @@ impl Reading {
         requires within { self.old.stage ≡ stages.Head kind 3 length }
         ensures sound { OnOk result (IsSound self.new) }
         ensures comes { OnOk result (Comes S.agrees self.old self.new (byte ∷ []) sink.old sink.new) }
-        ensures stops { IfErr result (λ refusal. StepStops S.refuses self.old (byte ∷ []) sink.old sink.new refusal) }
+        ensures stops { IfErr result (λ refusal. StepStops (Declines S.agrees S.refuses) self.old (byte ∷ []) sink.old sink.new refusal) }
     {
         let length = length * 256 + u32::from(byte);
         if !kind.allows(length) {
@@ -333,7 +333,7 @@ impl Reading {
         ensures kept { OnOk result (self.new ≡ marked self.old (event_of event.entry)) }
         ensures heard { (earlier : List Placed) → S.agrees sink.old earlier → AreEvents (next_placed self.old.connections (self.old.records + 1) (event_of event.entry) ∷ earlier)
             → OnOk result (S.agrees sink.new (next_placed self.old.connections (self.old.records + 1) (event_of event.entry) ∷ earlier)) }
-        ensures err { IfErr result (λ refusal. Untold S.refuses self.old.at (met_by self.old.at self.old.connections (event_of event.entry)) sink.old sink.new refusal) }
+        ensures err { IfErr result (λ refusal. Untold (Declines S.agrees S.refuses) self.old.at (met_by self.old.at self.old.connections (event_of event.entry)) (next_placed self.old.connections (self.old.records + 1) (event_of event.entry) ∷ []) sink.old sink.new refusal) }
     {
         match tell(
             &mut self.connections,
@@ -357,7 +357,7 @@ impl Reading {
         requires within { self.old.stage ≡ stages.Release (Some high) }
         ensures sound { OnOk result (IsSound self.new) }
         ensures comes { OnOk result (Comes S.agrees self.old self.new (low ∷ []) sink.old sink.new) }
-        ensures stops { IfErr result (λ refusal. StepStops S.refuses self.old (low ∷ []) sink.old sink.new refusal) }
+        ensures stops { IfErr result (λ refusal. StepStops (Declines S.agrees S.refuses) self.old (low ∷ []) sink.old sink.new refusal) }
     {
         self.end_mark(Event::Release(u16::from_be_bytes([high, low])), sink)
     }
@@ -413,7 +413,7 @@ impl Reading {
         ensures count { IfOk result (λ n. (1 ≤ n) × (n ≤ length bytes.now)) }
         ensures sound { OnOk result (IsSound self.new) }
         ensures comes { IfOk result (λ n. Comes S.agrees self.old self.new (take n bytes.now) sink.old sink.new) }
-        ensures stops { IfErr result (λ refusal. StepStops S.refuses self.old bytes.now sink.old sink.new refusal) }
+        ensures stops { IfErr result (λ refusal. StepStops (Declines S.agrees S.refuses) self.old bytes.now sink.old sink.new refusal) }
     {
         let body = &bytes[..bytes.len().min(left as usize)];
         match self.pass_on(way, body, sink) {
@@ -441,7 +441,7 @@ impl Reading {
             AreEvents (flow_heard (bed_for self.old way) (flow_for self.old way) (take n body.now) ++ earlier)
             → S.agrees sink.new (flow_heard (bed_for self.old way) (flow_for self.old way) (take n body.now) ++ earlier)) }
         ensures sound { OnOk result (IsUnfinished self.old.limit (half_in (direction_for self.new way))) }
-        ensures stops { IfErr result (λ refusal. FlowStops S.refuses self.old.limit (bed_for self.old way) (flow_for self.old way) body.now sink.old sink.new refusal) }
+        ensures stops { IfErr result (λ refusal. FlowStops (Declines S.agrees S.refuses) self.old.limit (bed_for self.old way) (flow_for self.old way) body.now sink.old sink.new refusal) }
     {
         let bed = Bed {
             way,

@@ -1,4 +1,4 @@
-//! Who hears the events of a log.
+//! Who receives the events of a log.
 
 ghost use Rattle.std.specs.Prelude.{List, ◌∷◌, OnOk, IfErr};
 ghost use Rattle.mq_trace.specs.Events.{Placed};
@@ -8,22 +8,24 @@ use super::event::Event;
 use super::place::Place3;
 use super::refusal::Refusal;
 
-/// Who hears the events of a log, one after another.
+/// Who receives the events of a log, one after another.
 pub trait Sink {
     ghost use Rattle.mq_trace.specs.declared.refusal.Refusal.{Refusal};
 
-    // The sink has heard these events, the newest first.
+    // The sink has received these events, the newest first.
     ghost agrees: { Self → List Placed → Type 0 };
-    // The sink has refused an event so.
-    ghost refuses: { Self → Refusal → Type 0 };
+    // The sink, which had received these events, the newest first, has refused the next one so.
+    ghost refuses: { Self → List Placed → Refusal → Type 0 };
 
-    /// Hears the next event, which stands at this place.
+    /// Receives the next event, which stands at this place.
     ///
     /// # Errors
     ///
-    /// The sink's own refusal. Its byte doesn't matter: whoever reads the log puts the one there that completed the event.
+    /// The sink's own refusal. Its byte doesn't matter: whoever reads the log puts the one there that completed the event. No
+    /// further event comes then.
     fn event(&mut self, place: Place3, event: Event<'_>) -> Result<(), Refusal>
         ensures heard { (earlier : List Placed) → agrees self.old earlier → AreEvents (placed_at place event.entry ∷ earlier)
             → OnOk result (agrees self.new (placed_at place event.entry ∷ earlier)) }
-        ensures refused { IfErr result (λ refusal. refuses self.new refusal) };
+        ensures refused { (earlier : List Placed) → agrees self.old earlier → AreEvents (placed_at place event.entry ∷ earlier)
+            → IfErr result (λ refusal. refuses self.new earlier refusal) };
 }

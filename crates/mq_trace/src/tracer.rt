@@ -65,8 +65,11 @@ impl Tracer {
     ///
     /// # Errors
     ///
-    /// The refusal whose condition stands at the earliest byte; the sink's own refusal, with the byte that completed the event;
-    /// or `Memory`, at the byte that was being taken in. From then on each call answers the same refusal.
+    /// The refusal whose condition applies at the earliest byte, and at one byte the one with the lowest number; the sink's own
+    /// refusal, at the byte that completed the event, where no condition applies at it; or `Memory`, at a byte of a packet that
+    /// couldn't be kept. No condition applies before the byte that is named, and the sink has received all events that are complete
+    /// before it. `Memory` comes before the conditions for which the packet must be read: `OtherVersion`, `Early` and `TooLong`.
+    /// From then on each call answers the same refusal.
     pub fn feed<S: Sink>(&mut self, piece: &[u8], sink: &mut S) -> Result<(), Refusal>
         ensures answers { (log : List ℕ) → Follows self.old log → Takes S.agrees S.refuses self.old.reading.limit log piece.now sink.old sink.new result }
         ensures follows { (log : List ℕ) → Follows self.old log → OnOk result (Follows self.new (log ++ piece.now)) }

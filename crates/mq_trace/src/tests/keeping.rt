@@ -1,7 +1,7 @@
 //! What a tracer keeps: no packet past its limit, no more than unfinished packets, and a sink's refusal for ever.
 
 use super::logs::Part::{Open, Raw, Recv, Sent};
-use super::logs::{ANSWERED_LINES, CLIENT, CONNACK, LARGEST, PUBLISH, log_of};
+use super::logs::{ANSWERED_LINES, CLIENT, CONNACK, LARGEST, PUBLISH, large_log, log_of};
 use super::sessions::SESSIONS;
 use super::telling::{LIMIT, Lines, assert_tells, trace};
 use crate::{Refusal, Tracer};
@@ -96,5 +96,53 @@ fn keeps_unfinished_packets_alone(rt: HostRuntime) -> Result<(), Fail> {
     }
     assert_eq!(rt; tracer.finish(), Ok(()));
     assert_eq!(rt; told.heard, 8);
+    Ok(())
+}
+
+/// A packet that lies in several records is kept, and emitted with its last byte, up to one of the limit's size.
+#[test]
+fn keeps_large_packets(rt: HostRuntime) -> Result<(), Fail> {
+    let rows: [(&[u8], usize, &str); 2] = [
+        (
+            b"\x30\x84\x80\x80\x01\x00\x01a\x00",
+            2_097_161,
+            "4 record 6 SENT Publish 2097161\n",
+        ),
+        (
+            b"\x30\xfb\xff\xff\x07\x00\x01a\x00",
+            16_777_216,
+            "4 record 19 SENT Publish 16777216\n",
+        ),
+    ];
+    for (begin, size, line) in rows {
+        let log = large_log(rt.alloc(), begin, size)?;
+        for piece in [usize::MAX, 1000, 8192] {
+            let mut tracer = Tracer::new(rt.alloc(), LIMIT);
+            let mut told = Lines::new(rt.alloc(), true, u32::MAX);
+            let ended = trace(&rt, &mut tracer, LIMIT, log.as_slice(), piece, &mut told);
+            assert_eq!(rt; ended, Ok(()), "{size} bytes, pieces of {piece}");
+            assert!(rt; told.text.as_str().strip_prefix(ANSWERED_LINES) == Some(line));
+        }
+    }
+    Ok(())
+}
+
+/// More events than 65,536 are no reason to refuse a log.
+#[test]
+fn counts_many_events(rt: HostRuntime) -> Result<(), Fail> {
+    let mut log = log_of(rt.alloc(), true, &[], false)?;
+    for _ in 0..70_000 {
+        log.extend_from_slice(b"\x02\x00\x00\x00\x02\xc0\x00")?;
+    }
+    let mut tracer = Tracer::new(rt.alloc(), LIMIT);
+    let mut told = Lines::new(rt.alloc(), true, u32::MAX);
+    let ended = trace(&rt, &mut tracer, LIMIT, log.as_slice(), 8192, &mut told);
+    assert_eq!(rt; ended, Ok(()));
+    assert_eq!(rt; told.heard, 70_003);
+    assert!(rt;
+        told.text
+            .as_str()
+            .ends_with("\n70003 record 70003 SENT Pingreq 2\n")
+    );
     Ok(())
 }

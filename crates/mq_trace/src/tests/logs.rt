@@ -105,3 +105,15 @@ pub fn log_of(
     }
     Ok(log)
 }
+
+/// A connection that the server answered, and a packet of this size that the client sent: these bytes and then `x`, in records that are as long as may be.
+pub fn large_log(alloc: Global, begin: &[u8], size: usize) -> Result<Vec<u8>, AllocError> {
+    let mut packet = Vec::new(alloc);
+    packet.extend_from_slice(begin)?;
+    packet.resize(size, b'x')?;
+    let mut log = log_of(alloc, true, &[], false)?;
+    for body in packet.chunks(1_048_576) {
+        put_record(&mut log, 2, body)?;
+    }
+    Ok(log)
+}

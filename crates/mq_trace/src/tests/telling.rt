@@ -67,7 +67,7 @@ impl Sink for Lines {
 
     ghost agrees = { λ _ _. ⊤ };
 
-    ghost refuses = { λ _ _. ⊤ };
+    ghost refuses = { λ _ _ _. ⊤ };
 
     fn event(&mut self, place: Place3, event: Event<'_>) -> Result<(), Refusal> {
         self.heard = self.heard.saturating_add(1);

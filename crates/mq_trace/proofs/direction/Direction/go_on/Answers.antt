@@ -5,7 +5,8 @@ use Rattle.mq_trace.specs.declared.refusal.Refusal.{Refusal}
 use Rattle.mq_trace.specs.Context.{Half}
 use Rattle.mq_trace.specs.Directing.{bed_of, flow_of, FlowStops, FlowComes}
 use Rattle.mq_trace.specs.Keeping.{half_in, IsUnfinished}
-use Rattle.mq_trace.proofs.DirectionLaws.{keeps, keeps_unfinished, whole_with, stops_front, stops_memory, nothing_unfinished, short_is}
+use Rattle.mq_trace.proofs.DirectionLaws.{keeps, keeps_unfinished, whole_with, stops_front, stops_memory, small_more, nothing_unfinished, short_is}
+use Rattle.mq_trace.specs.Hearing.{Declines}
 use Rattle.mq_trace.proofs.direction.Direction.go_on.Goals as goal
 
 pub end-requires-clause-whole : goal.end-requires-clause-whole
@@ -32,14 +33,16 @@ returns-in-Ok-clause-sound g c =
 
 pub returns-in-Err-clause-stops : goal.returns-in-Err-clause-stops
 returns-in-Err-clause-stops g c =
-    subst (λ (refusal : Refusal). FlowStops {S = g.row.S.Denot} g.S.Sink.refuses c.args.bed.limit (bed_of c.args.bed) (flow_of c.args.at (half_in c.args.self.now) c.args.connections.now)
+    subst (λ (refusal : Refusal). FlowStops {S = g.row.S.Denot} (Declines g.S.Sink.agrees g.S.Sink.refuses) c.args.bed.limit (bed_of c.args.bed) (flow_of c.args.at (half_in c.args.self.now) c.args.connections.now)
     c.args.bytes.now c.args.sink.now c.args.sink.now refusal) (sym c.in-Err.ensures.err)
-    (stops_memory g.S.Sink.refuses c.args.bed.limit (bed_of c.args.bed) (flow_of c.args.at (half_in c.args.self.now) c.args.connections.now) c.args.bytes.now c.args.sink.now (omega (arith, c.requires.some)))
+    (stops_memory (Declines g.S.Sink.agrees g.S.Sink.refuses) c.args.bed.limit (bed_of c.args.bed) (flow_of c.args.at (half_in c.args.self.now) c.args.connections.now) c.args.bytes.now c.args.sink.now (omega (arith, c.requires.some)) c.requires.kept
+    (λ byte more is. small_more c.args.bed.limit c.args.self.now.unfinished.items byte c.requires.begun.0 c.args.size c.requires.begun.1
+    (short_is c.args.bed.limit c.args.self.now.unfinished.items c.requires.begun.0 c.args.size c.requires.begun.1 c.requires.unfinished.0).1))
 
 pub returns-in-Ok-end-clause-sound : goal.returns-in-Ok-end-clause-sound
 returns-in-Ok-end-clause-sound g c = subst (λ (h : Half). IsUnfinished c.args.bed.limit h) (sym c.in-Ok-end.ensures.empty) (nothing_unfinished c.args.bed.limit _)
 
 pub returns-in-Err-end-clause-stops : goal.returns-in-Err-end-clause-stops
 returns-in-Err-end-clause-stops g c =
-    stops_front g.S.Sink.refuses c.args.bed.limit (bed_of c.args.bed) (flow_of c.args.at (half_in c.args.self.now) c.args.connections.now) (c.args.size - c.len.result) c.args.bytes.now
+    stops_front (Declines g.S.Sink.agrees g.S.Sink.refuses) c.args.bed.limit (bed_of c.args.bed) (flow_of c.args.at (half_in c.args.self.now) c.args.connections.now) (c.args.size - c.len.result) c.args.bytes.now
     c.args.sink.now c.end.new.sink _ c.in-Err-end.ensures.stops

@@ -6,11 +6,11 @@ use Rattle.mq_trace.specs.Events.{Placed}
 use Rattle.mq_trace.specs.Context.{Half}
 use Rattle.mq_trace.specs.Keeping.{half_in}
 use Rattle.mq_trace.specs.declared.refusal.Refusal.{Refusal}
-use Rattle.mq_trace.specs.Hearing.{AreEvents}
+use Rattle.mq_trace.specs.Hearing.{Declines, AreEvents}
 use Rattle.mq_trace.specs.Flows.{flow_behind, flow_refused, flow_heard}
 use Rattle.mq_trace.specs.Directing.{bed_of, flow_of, FlowStops}
 use Rattle.mq_trace.proofs.FlowLaws.{lost-refused, lost-heard}
-use Rattle.mq_trace.proofs.DirectionLaws.{frame_front, header_front, first_front, lost_kept, stops_front, stops_memory, empty_half, begins, begins_unfinished}
+use Rattle.mq_trace.proofs.DirectionLaws.{frame_front, header_front, first_front, lost_kept, stops_front, stops_memory, small_first, empty_half, begins, begins_unfinished}
 use Rattle.mq_trace.proofs.direction.Direction.take.Goals as goal
 
 pub returns-then-self-clause-unrefused : goal.returns-then-self-clause-unrefused
@@ -49,16 +49,16 @@ returns-in-Ok-clause-kept g c =
 pub returns-in-Err-clause-stops : goal.returns-in-Err-clause-stops
 returns-in-Err-clause-stops g c =
     let empty = empty_half (half_in c.args.self.now) c.in-Whole.ensures.0 c.if-self.false in
-    subst (λ (h : Half). FlowStops {S = g.row.S.Denot} g.S.Sink.refuses c.args.bed.limit (bed_of c.args.bed) (flow_of c.args.at h c.args.connections.now) c.args.bytes.now
+    subst (λ (h : Half). FlowStops {S = g.row.S.Denot} (Declines g.S.Sink.agrees g.S.Sink.refuses) c.args.bed.limit (bed_of c.args.bed) (flow_of c.args.at h c.args.connections.now) c.args.bytes.now
     c.args.sink.now c.take_whole.new.sink c.in-Err.refusal) (sym empty)
-    (stops_front g.S.Sink.refuses c.args.bed.limit (bed_of c.args.bed) (flow_of c.args.at (record { unfinished = []; lost = false }) c.args.connections.now) c.in-Whole.size c.args.bytes.now
+    (stops_front (Declines g.S.Sink.agrees g.S.Sink.refuses) c.args.bed.limit (bed_of c.args.bed) (flow_of c.args.at (record { unfinished = []; lost = false }) c.args.connections.now) c.in-Whole.size c.args.bytes.now
     c.args.sink.now c.take_whole.new.sink c.in-Err.refusal c.in-Err.ensures.stops)
 
 pub returns-in-Err-take_byte-clause-stops : goal.returns-in-Err-take_byte-clause-stops
 returns-in-Err-take_byte-clause-stops g c =
-    stops_front g.S.Sink.refuses c.args.bed.limit (bed_of c.args.bed) (flow_of c.args.at (half_in c.args.self.now) c.args.connections.now) 1 c.args.bytes.now
+    stops_front (Declines g.S.Sink.agrees g.S.Sink.refuses) c.args.bed.limit (bed_of c.args.bed) (flow_of c.args.at (half_in c.args.self.now) c.args.connections.now) 1 c.args.bytes.now
     c.args.sink.now c.take_byte.new.sink _
-    (subst (λ (t : List ℕ). FlowStops {S = g.row.S.Denot} g.S.Sink.refuses c.args.bed.limit (bed_of c.args.bed) (flow_of c.args.at (half_in c.args.self.now) c.args.connections.now) t
+    (subst (λ (t : List ℕ). FlowStops {S = g.row.S.Denot} (Declines g.S.Sink.agrees g.S.Sink.refuses) c.args.bed.limit (bed_of c.args.bed) (flow_of c.args.at (half_in c.args.self.now) c.args.connections.now) t
     c.args.sink.now c.take_byte.new.sink c.in-Err-take_byte.refusal) (first_front c.args.bytes.now c.requires.some) c.in-Err-take_byte.ensures.stops)
 
 pub returns-in-Ok-keep-clause-unrefused : goal.returns-in-Ok-keep-clause-unrefused
@@ -86,6 +86,7 @@ returns-in-Ok-keep-clause-sound g c = begins_unfinished c.args.bed.limit (half_i
 
 pub returns-in-Err-keep-clause-stops : goal.returns-in-Err-keep-clause-stops
 returns-in-Err-keep-clause-stops g c =
-    subst (λ (refusal : Refusal). FlowStops {S = g.row.S.Denot} g.S.Sink.refuses c.args.bed.limit (bed_of c.args.bed) (flow_of c.args.at (half_in c.args.self.now) c.args.connections.now)
+    subst (λ (refusal : Refusal). FlowStops {S = g.row.S.Denot} (Declines g.S.Sink.agrees g.S.Sink.refuses) c.args.bed.limit (bed_of c.args.bed) (flow_of c.args.at (half_in c.args.self.now) c.args.connections.now)
     c.args.bytes.now c.args.sink.now c.args.sink.now refusal) (sym c.in-Err-keep.ensures.err)
-    (stops_memory g.S.Sink.refuses c.args.bed.limit (bed_of c.args.bed) (flow_of c.args.at (half_in c.args.self.now) c.args.connections.now) c.args.bytes.now c.args.sink.now (omega (arith, c.requires.some)))
+    (stops_memory (Declines g.S.Sink.agrees g.S.Sink.refuses) c.args.bed.limit (bed_of c.args.bed) (flow_of c.args.at (half_in c.args.self.now) c.args.connections.now) c.args.bytes.now c.args.sink.now (omega (arith, c.requires.some)) c.if-self.false
+    (small_first c.args.bed.limit c.args.self.now.unfinished.items c.args.bytes.now c.in-Beginning.ensures.0 c.in-Beginning.ensures.1))

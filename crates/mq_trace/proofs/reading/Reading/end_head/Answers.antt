@@ -12,13 +12,14 @@ use Rattle.mq_trace.proofs.ReadingLaws.{comes_quietly}
 use Rattle.mq_trace.proofs.StageLaws.{stops_refused}
 use Rattle.mq_trace.proofs.EndLaws.{length_refused, mark_tells, body_advances, release_advances}
 use Rattle.mq_trace.proofs.TellingLaws.{told_comes, told_stops}
+use Rattle.mq_trace.specs.Hearing.{Declines}
 use Rattle.mq_trace.proofs.reading.Reading.end_head.Goals as goal
 
 pub returns-then-not-allows-clause-stops : goal.returns-then-not-allows-clause-stops
 returns-then-not-allows-clause-stops g c =
     let r = c.args.self.now in
     let barred : allows (Some c.args.kind) (c.args.length * 256 + c.args.byte) ≡ false = search rules in
-    stops_refused g.S.Sink.refuses r c.args.byte c.args.sink.now (refusals.Length r.at) (length_refused r c.args.kind c.args.length c.args.byte c.requires.sound c.requires.within barred)
+    stops_refused (Declines g.S.Sink.agrees g.S.Sink.refuses) r c.args.byte c.args.sink.now (refusals.Length r.at) (length_refused r c.args.kind c.args.length c.args.byte c.requires.sound c.requires.within barred)
 
 pub returns-in-Open-clause-comes : goal.returns-in-Open-clause-comes
 returns-in-Open-clause-comes g c =
@@ -32,7 +33,7 @@ returns-in-Open-clause-stops g c =
     let r = c.args.self.now in
     let allowed : allows (Some c.args.kind) (c.args.length * 256 + c.args.byte) ≡ true = search rules in
     let s = c.end_mark.ensures in
-    told_stops g.S.Sink.refuses r c.args.byte opened _ _ _ (mark_tells r c.args.kind c.args.length c.args.byte c.requires.sound c.requires.within opened (ap event_of_head c.in-Open.is) allowed) s.err
+    told_stops (Declines g.S.Sink.agrees g.S.Sink.refuses) r c.args.byte opened _ _ _ (mark_tells r c.args.kind c.args.length c.args.byte c.requires.sound c.requires.within opened (ap event_of_head c.in-Open.is) allowed) s.err
 
 pub returns-in-Close-clause-comes : goal.returns-in-Close-clause-comes
 returns-in-Close-clause-comes g c =
@@ -46,7 +47,7 @@ returns-in-Close-clause-stops g c =
     let r = c.args.self.now in
     let allowed : allows (Some c.args.kind) (c.args.length * 256 + c.args.byte) ≡ true = search rules in
     let s = c.end_mark-in-Close.ensures in
-    told_stops g.S.Sink.refuses r c.args.byte closed _ _ _ (mark_tells r c.args.kind c.args.length c.args.byte c.requires.sound c.requires.within closed (ap event_of_head c.in-Close.is) allowed) s.err
+    told_stops (Declines g.S.Sink.agrees g.S.Sink.refuses) r c.args.byte closed _ _ _ (mark_tells r c.args.kind c.args.length c.args.byte c.requires.sound c.requires.within closed (ap event_of_head c.in-Close.is) allowed) s.err
 
 pub returns-in-Rest-clause-comes : goal.returns-in-Rest-clause-comes
 returns-in-Rest-clause-comes g c =
@@ -60,7 +61,7 @@ returns-in-Rest-clause-stops g c =
     let r = c.args.self.now in
     let allowed : allows (Some c.args.kind) (c.args.length * 256 + c.args.byte) ≡ true = search rules in
     let s = c.end_mark-in-Rest.ensures in
-    told_stops g.S.Sink.refuses r c.args.byte rested _ _ _ (mark_tells r c.args.kind c.args.length c.args.byte c.requires.sound c.requires.within rested (ap event_of_head c.in-Rest.is) allowed) s.err
+    told_stops (Declines g.S.Sink.agrees g.S.Sink.refuses) r c.args.byte rested _ _ _ (mark_tells r c.args.kind c.args.length c.args.byte c.requires.sound c.requires.within rested (ap event_of_head c.in-Rest.is) allowed) s.err
 
 pub returns-in-Sent-clause-comes : goal.returns-in-Sent-clause-comes
 returns-in-Sent-clause-comes g c =

@@ -3,6 +3,7 @@ use Rattle.std.specs.Int.{w16, from_be_bytes}
 use Rattle.mq_trace.specs.Events.{released}
 use Rattle.mq_trace.proofs.EndLaws.{Tells, release_tells}
 use Rattle.mq_trace.proofs.TellingLaws.{told_comes, told_stops}
+use Rattle.mq_trace.specs.Hearing.{Declines}
 use Rattle.mq_trace.proofs.reading.Reading.end_release.Goals as goal
 
 pub returns-clause-comes : goal.returns-clause-comes
@@ -19,4 +20,4 @@ returns-clause-stops g c =
     let s = c.end_mark.ensures in
     let same : from_be_bytes w16 (c.args.high ∷ c.args.low ∷ []) ≡ c.from_be_bytes.result = omega (arith, c.from_be_bytes.ensures) in
     let tells : Tells r c.args.low (released c.from_be_bytes.result) = subst (λ n. Tells r c.args.low (released n)) same (release_tells r c.args.high c.args.low c.requires.sound c.requires.within) in
-    told_stops g.S.Sink.refuses r c.args.low (released c.from_be_bytes.result) _ _ _ tells s.err
+    told_stops (Declines g.S.Sink.agrees g.S.Sink.refuses) r c.args.low (released c.from_be_bytes.result) _ _ _ tells s.err

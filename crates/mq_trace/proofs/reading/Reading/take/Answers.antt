@@ -6,6 +6,7 @@ use Rattle.mq_trace.specs.Keeping.{Advances}
 use Rattle.mq_trace.proofs.ReadingLaws.{comes_quietly, first_of, comes_front, stops_front}
 use Rattle.mq_trace.proofs.StageLaws.{header_advances, header_stops, stops_refused}
 use Rattle.mq_trace.proofs.EndLaws.{high_advances}
+use Rattle.mq_trace.specs.Hearing.{Declines}
 use Rattle.mq_trace.proofs.reading.Reading.take.Goals as goal
 
 pub returns-in-Ok-clause-comes : goal.returns-in-Ok-clause-comes
@@ -27,13 +28,13 @@ returns-in-Err-clause-stops g c =
     let b = slice_index bytes 0 in
     let sink = c.args.sink.now in
     let short : r.at < 8 = omega (arith, c.if-self-lt-HEADER_LENGTH.true) in
-    stops_front g.S.Sink.refuses r (b ∷ []) bytes 1 sink sink c.in-Err.refusal (first_of bytes c.requires.some)
-    (stops_refused g.S.Sink.refuses r b sink c.in-Err.refusal (header_stops r b c.in-Err.refusal short c.in-Err.ensures.refused))
+    stops_front (Declines g.S.Sink.agrees g.S.Sink.refuses) r (b ∷ []) bytes 1 sink sink c.in-Err.refusal (first_of bytes c.requires.some)
+    (stops_refused (Declines g.S.Sink.agrees g.S.Sink.refuses) r b sink c.in-Err.refusal (header_stops r b c.in-Err.refusal short c.in-Err.ensures.refused))
 
 pub returns-in-Err-go_on_head-clause-stops : goal.returns-in-Err-go_on_head-clause-stops
 returns-in-Err-go_on_head-clause-stops g c =
     let bytes = c.args.bytes.now in
-    stops_front g.S.Sink.refuses c.args.self.now (slice_index bytes 0 ∷ []) bytes 1 c.args.sink.now c.go_on_head.new.sink c.in-Err-go_on_head.refusal (first_of bytes c.requires.some)
+    stops_front (Declines g.S.Sink.agrees g.S.Sink.refuses) c.args.self.now (slice_index bytes 0 ∷ []) bytes 1 c.args.sink.now c.go_on_head.new.sink c.in-Err-go_on_head.refusal (first_of bytes c.requires.some)
     c.in-Err-go_on_head.ensures.stops
 
 pub returns-in-Release-None-clause-comes : goal.returns-in-Release-None-clause-comes
@@ -49,5 +50,5 @@ returns-in-Release-None-clause-comes g c =
 pub returns-in-Err-end_release-clause-stops : goal.returns-in-Err-end_release-clause-stops
 returns-in-Err-end_release-clause-stops g c =
     let bytes = c.args.bytes.now in
-    stops_front g.S.Sink.refuses c.args.self.now (slice_index bytes 0 ∷ []) bytes 1 c.args.sink.now c.end_release.new.sink c.in-Err-end_release.refusal (first_of bytes c.requires.some)
+    stops_front (Declines g.S.Sink.agrees g.S.Sink.refuses) c.args.self.now (slice_index bytes 0 ∷ []) bytes 1 c.args.sink.now c.end_release.new.sink c.in-Err-end_release.refusal (first_of bytes c.requires.some)
     c.in-Err-end_release.ensures.stops

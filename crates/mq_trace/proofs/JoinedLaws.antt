@@ -1,0 +1,509 @@
+-- The items of the events of one direction of a connection are what its stream of packets holds.
+use Rattle.std.proofs.Common.{◌≡◌, ℕ, ◌+◌, ◌<◌, ◌≤◌, Bool, true, false, cond, ◌&&◌, nat_lt, List, [], ◌∷◌, ◌++◌, length, drop, reverse, Option, Some, None, is_some, refl, sym, ◌∙◌, ap, subst, arith, append_assoc, length-append}
+use Rattle.std.specs.Prelude.{◌==◌, if◌then◌else◌, option_map, slice_index}
+use Rattle.std.specs.Int.{w16, from_be_bytes}
+use Rattle.std.proofs.lemmas.List.{append-nil, reverse-append, reverse-reverse, drop-append-le, drop_all}
+use Rattle.std.proofs.lemmas.Bool.{eq-eqb, ne_eqb, eqb-true, eqb-false, le-ltb, lt-ltb, ltb-true, ltb-false}
+use Rattle.mq_packet.specs.Stream.{frame_size, is_lost}
+use Rattle.mq_packet.proofs.StreamLaws.{is_lost_stays, lost_no_frame}
+use Rattle.mq_trace.specs.declared.kind.RecordKind.{RecordKind}
+use Rattle.mq_trace.specs.declared.kind.RecordKind.TheVariants as kinds
+use Rattle.mq_trace.specs.declared.kind.Way.{Way}
+use Rattle.mq_trace.specs.declared.kind.Way.TheVariants as ways
+use Rattle.mq_trace.specs.Pieces.{Pieces, pieces}
+use Rattle.mq_trace.specs.Framing.{kind_of, way_of, opens, if_way, record_size, records, begun, begun_with, carried, stream}
+use Rattle.mq_trace.specs.Events.{Item, Event, Placed, lost, opened, closed, rested, sent, received, released, item_at, item_read, read_frame, packet_with, event_by, event_in, events}
+use Rattle.mq_trace.specs.Connections.{begins}
+use Rattle.mq_trace.specs.Context.{Context, context, so_far_by, so_far_for, event_for, placed_with, placed_for, put}
+use Rattle.mq_trace.specs.Joined.{opened_records, joined, if_some, frame_item, frame_items, stream_items, opened_events, item_going, items_on}
+use Rattle.mq_trace.proofs.PiecesLaws.{grown, pieces-grow, nothing_cut}
+use Rattle.mq_trace.proofs.FramingLaws.{body_byte, if_way-nothing, if_way-append, kind_of-append, begun-grow, begun-header, rest-grow, IsRecord, record_size-is}
+use Rattle.mq_trace.proofs.HalfLaws.{frame_settles, nothing_lost}
+use Rattle.mq_trace.proofs.ContextLaws.{part_context, at_context, so_far_kept_by, events-kept, events-header}
+use Rattle.mq_trace.proofs.FlowLaws.{nothing_item, item_by}
+use Rattle.mq_trace.proofs.LiftLaws.{opens_none}
+
+-- by the newest byte of a log
+along : (P : List ℕ → Type 0) → P [] → ((log : List ℕ) (byte : ℕ) → P log → P (log ++ byte ∷ [])) → (log : List ℕ) → P log
+along P start step log = subst P (reverse-reverse log) (back (reverse log))
+  where
+    back : (bytes : List ℕ) → P (reverse bytes)
+    back [] = start
+    back (byte ∷ bytes) = subst P (sym (reverse-append (byte ∷ []) bytes)) (step (reverse bytes) byte (back bytes))
+
+-- A stream holds one item more where one byte more completes it.
+frame_items-append : (a b : List (List ℕ)) → frame_items (a ++ b) ≡ frame_items a ++ frame_items b
+frame_items-append [] b = refl
+frame_items-append (frame ∷ a) b =
+    ap (λ l. if_some (frame_item frame) ++ l) (frame_items-append a b) ∙ sym (append_assoc (if_some (frame_item frame)) (frame_items a) (frame_items b))
+
+held_by : (p : Pieces) (byte : ℕ) (b : Bool) → is_lost p.rest ≡ b → (l : Bool) → is_lost (p.rest ++ byte ∷ []) ≡ l → (o : Option ℕ) → frame_size (p.rest ++ byte ∷ []) ≡ o
+    → stream_items (grown o p byte) ≡ (frame_items p.whole ++ cond b (lost ∷ []) []) ++ if_some (item_at (cond b [] (p.rest ++ byte ∷ [])))
+held_by p byte true is false was o frame = let stays = is_lost_stays p.rest (byte ∷ []) is in absurd (cc)
+held_by p byte b is true was (Some size) frame = let none = lost_no_frame (p.rest ++ byte ∷ []) was in absurd (cc)
+held_by p byte true is true was None frame =
+    ap (λ t. frame_items p.whole ++ cond t (lost ∷ []) []) was
+    ∙ sym (append-nil (frame_items p.whole ++ lost ∷ []))
+    ∙ ap (λ o. (frame_items p.whole ++ lost ∷ []) ++ if_some o) (sym nothing_item)
+held_by p byte false is true was None frame =
+    ap (λ t. frame_items p.whole ++ cond t (lost ∷ []) []) was
+    ∙ ap (λ l. l ++ lost ∷ []) (sym (append-nil (frame_items p.whole)))
+    ∙ ap (λ o. (frame_items p.whole ++ []) ++ if_some o) (sym (item_by (p.rest ++ byte ∷ []) true None was frame))
+held_by p byte false is false was None frame =
+    ap (λ t. frame_items p.whole ++ cond t (lost ∷ []) []) was
+    ∙ sym (append-nil (frame_items p.whole ++ []))
+    ∙ ap (λ o. (frame_items p.whole ++ []) ++ if_some o) (sym (item_by (p.rest ++ byte ∷ []) false None was frame))
+held_by p byte false is false was (Some size) frame =
+    let so_far : List ℕ = p.rest ++ byte ∷ [] in
+    ap (λ t. frame_items (p.whole ++ so_far ∷ []) ++ cond t (lost ∷ []) []) nothing_lost
+    ∙ append-nil (frame_items (p.whole ++ so_far ∷ []))
+    ∙ frame_items-append p.whole (so_far ∷ [])
+    ∙ ap (λ l. frame_items p.whole ++ l) (append-nil (if_some (frame_item so_far)))
+    ∙ ap (λ l. l ++ if_some (frame_item so_far)) (sym (append-nil (frame_items p.whole)))
+    ∙ ap (λ o. (frame_items p.whole ++ []) ++ if_some o) (sym (item_by so_far false (Some size) was frame))
+
+stream_more : (bytes : List ℕ) (byte : ℕ) → stream_items (stream (bytes ++ byte ∷ [])) ≡ stream_items (stream bytes) ++ if_some (item_at (packet_with bytes byte))
+unfolding stream
+stream_more bytes byte =
+    let p : Pieces = pieces frame_size bytes in
+    ap stream_items (pieces-grow frame_size frame_settles bytes byte)
+    ∙ held_by p byte (is_lost p.rest) refl (is_lost (p.rest ++ byte ∷ [])) refl (frame_size (p.rest ++ byte ∷ [])) refl
+
+stream_nothing : stream_items (stream []) ≡ []
+unfolding stream
+stream_nothing = ap stream_items (nothing_cut frame_size frame_settles) ∙ ap (λ t. cond t (lost ∷ []) []) nothing_lost
+
+-- On the newest connection a direction carried what framing says that it carried.
+opened_more : (part : List ℕ) (before : List (List ℕ)) → opened_records before ≤ opened_records (part ∷ before)
+opened_more part before = by (opens (kind_of part))
+  where
+    by : (o : Bool) → opened_records before ≤ cond o (opened_records before + 1) (opened_records before)
+    by true = omega arith
+    by false = omega arith
+
+unbegun : (number : ℕ) (way : Way) (parts : List (List ℕ)) → opened_records parts < number → joined number way parts ≡ []
+unbegun number way [] less = refl
+unbegun number way (part ∷ before) less =
+    let more = opened_more part before in
+    let other : (opened_records (part ∷ before) == number) ≡ false = ne_eqb (opened_records (part ∷ before)) number (λ same. (omega arith)) in
+    ap (λ l. l ++ cond (opened_records (part ∷ before) == number) (if_way way (way_of (kind_of part)) (drop 5 part)) []) (unbegun number way before (omega arith))
+    ∙ ap (λ t. cond t (if_way way (way_of (kind_of part)) (drop 5 part)) []) other
+
+opening_carries_none : (kind : Option RecordKind) (way : Way) (bytes : List ℕ) → opens kind ≡ true → if_way way (way_of kind) bytes ≡ []
+opening_carries_none (Some kinds.Open) ways.Sent bytes is = refl
+opening_carries_none (Some kinds.Open) ways.Recv bytes is = refl
+opening_carries_none None way bytes is = absurd (cc)
+opening_carries_none (Some kinds.Sent) way bytes is = absurd (cc)
+opening_carries_none (Some kinds.Recv) way bytes is = absurd (cc)
+opening_carries_none (Some kinds.Close) way bytes is = absurd (cc)
+opening_carries_none (Some kinds.Rest) way bytes is = absurd (cc)
+opening_carries_none (Some kinds.Release) way bytes is = absurd (cc)
+
+newest_by : (way : Way) (part : List ℕ) (before : List (List ℕ)) (o : Bool) → opens (kind_of part) ≡ o → joined (opened_records before) way before ≡ carried way before
+    → joined (cond o (opened_records before + 1) (opened_records before)) way before ++ if_way way (way_of (kind_of part)) (drop 5 part)
+    ≡ cond o [] (carried way before ++ if_way way (way_of (kind_of part)) (drop 5 part))
+newest_by way part before true is same =
+    ap (λ l. l ++ if_way way (way_of (kind_of part)) (drop 5 part)) (unbegun (opened_records before + 1) way before (omega arith))
+    ∙ opening_carries_none (kind_of part) way (drop 5 part) is
+newest_by way part before false is same = ap (λ l. l ++ if_way way (way_of (kind_of part)) (drop 5 part)) same
+
+newest : (way : Way) (parts : List (List ℕ)) → joined (opened_records parts) way parts ≡ carried way parts
+unfolding carried
+newest way [] = refl
+newest way (part ∷ before) =
+    let n : ℕ = opened_records (part ∷ before) in
+    let body : List ℕ = if_way way (way_of (kind_of part)) (drop 5 part) in
+    ap (λ t. joined n way before ++ cond t body []) (eq-eqb n n refl)
+    ∙ newest_by way part before (opens (kind_of part)) refl (newest way before)
+
+-- What a direction of a connection carried, with one byte of the log more.
+body_more : (r : ℕ) (rest : List ℕ) (byte : ℕ) (b : Bool) → nat_lt 5 (length ((r ∷ rest) ++ byte ∷ [])) ≡ b → drop 5 ((r ∷ rest) ++ byte ∷ []) ≡ drop 5 (r ∷ rest) ++ cond b (byte ∷ []) []
+body_more r rest byte true is =
+    let l = length-append (r ∷ rest) (byte ∷ []) in
+    let long = ltb-true 5 (length ((r ∷ rest) ++ byte ∷ [])) is in
+    drop-append-le 5 (r ∷ rest) (byte ∷ []) (omega arith)
+body_more r rest byte false is =
+    let l = length-append (r ∷ rest) (byte ∷ []) in
+    let short = ltb-false 5 (length ((r ∷ rest) ++ byte ∷ [])) is in
+    drop_all 5 ((r ∷ rest) ++ byte ∷ []) short ∙ sym (ap (λ bytes. bytes ++ []) (drop_all 5 (r ∷ rest) (omega arith)))
+
+sent_on : (way : Way) (carries : Option Way) (byte : ℕ) (b : Bool) → if_way way carries (cond b (byte ∷ []) []) ≡ cond b (if_way way carries (byte ∷ [])) []
+sent_on way carries byte true = refl
+sent_on way carries byte false = if_way-nothing way carries
+
+body_grown : (way : Way) (r : ℕ) (rest : List ℕ) (byte : ℕ)
+    → if_way way (way_of (kind_of ((r ∷ rest) ++ byte ∷ []))) (drop 5 ((r ∷ rest) ++ byte ∷ [])) ≡ if_way way (way_of (kind_of (r ∷ rest))) (drop 5 (r ∷ rest)) ++ body_byte way ((r ∷ rest) ++ byte ∷ []) byte
+body_grown way r rest byte =
+    let part : List ℕ = (r ∷ rest) ++ byte ∷ [] in
+    let carries : Option Way = way_of (kind_of part) in
+    let b : Bool = nat_lt 5 (length part) in
+    ap (if_way way carries) (body_more r rest byte b refl)
+    ∙ if_way-append way carries (drop 5 (r ∷ rest)) (cond b (byte ∷ []) [])
+    ∙ ap (λ l. if_way way carries (drop 5 (r ∷ rest)) ++ l) (sent_on way carries byte b)
+    ∙ ap (λ k. if_way way (way_of k) (drop 5 (r ∷ rest)) ++ cond b (if_way way carries (byte ∷ [])) []) (kind_of-append (r ∷ rest) (byte ∷ []) (omega arith))
+
+split_by : (t : Bool) (j a b : List ℕ) → j ++ cond t (a ++ b) [] ≡ (j ++ cond t a []) ++ cond t b []
+split_by true j a b = sym (append_assoc j a b)
+split_by false j a b = sym (append-nil (j ++ []))
+
+joined_grown : (number : ℕ) (way : Way) (rest : List ℕ) (byte : ℕ) (whole : List (List ℕ))
+    → joined number way ((rest ++ byte ∷ []) ∷ whole)
+    ≡ joined number way (begun_with rest whole) ++ cond (opened_records ((rest ++ byte ∷ []) ∷ whole) == number) (body_byte way (rest ++ byte ∷ []) byte) []
+joined_grown number way [] byte whole =
+    ap (λ bytes. joined number way whole ++ cond (opened_records ((byte ∷ []) ∷ whole) == number) bytes []) (if_way-nothing way (way_of (kind_of (byte ∷ []))))
+joined_grown number way (r ∷ rest) byte whole =
+    let old : List ℕ = r ∷ rest in
+    let part : List ℕ = (r ∷ rest) ++ byte ∷ [] in
+    let n : opened_records (part ∷ whole) ≡ opened_records (old ∷ whole)
+    = ap (λ k. cond (opens k) (opened_records whole + 1) (opened_records whole)) (kind_of-append (r ∷ rest) (byte ∷ []) (omega arith)) in
+    let before : List ℕ = if_way way (way_of (kind_of old)) (drop 5 old) in
+    ap (λ bytes. joined number way whole ++ cond (opened_records (part ∷ whole) == number) bytes []) (body_grown way r rest byte)
+    ∙ split_by (opened_records (part ∷ whole) == number) (joined number way whole) before (body_byte way part byte)
+    ∙ ap (λ m. (joined number way whole ++ cond (m == number) before []) ++ cond (opened_records (part ∷ whole) == number) (body_byte way part byte) []) n
+
+joined_more : (number : ℕ) (way : Way) (log : List ℕ) (byte : ℕ) → 8 ≤ length log
+    → joined number way (begun (log ++ byte ∷ []))
+    ≡ joined number way (begun log) ++ cond (opened_records (begun (log ++ byte ∷ [])) == number) (body_byte way ((records log).rest ++ byte ∷ []) byte) []
+unfolding begun
+joined_more number way log byte h =
+    ap (joined number way) (begun-grow log byte h)
+    ∙ joined_grown number way (records log).rest byte (reverse (records log).whole)
+    ∙ ap (λ parts. joined number way (begun_with (records log).rest (reverse (records log).whole)) ++ cond (opened_records parts == number) (body_byte way ((records log).rest ++ byte ∷ []) byte) [])
+    (sym (begun-grow log byte h))
+
+-- As many events as records begin a connection, but for an OPEN whose head isn't whole.
+abbrev opening : List (List ℕ) → ℕ
+opening [] = 0
+opening (part ∷ before) = cond (opens (kind_of part) && nat_lt (length part) 5) 1 0
+
+abbrev begins_some : Option Event → Bool
+begins_some None = false
+begins_some (Some event) = begins event
+
+begins_by : (kind : Option RecordKind) (part so_far : List ℕ) → begins_some (event_by kind part so_far) ≡ (opens kind && (length part == 5))
+begins_by None part so_far = refl
+begins_by (Some kinds.Open) part so_far = by (length part == 5)
+  where
+    by : (t : Bool) → begins_some (if t then Some opened else None) ≡ t
+    by true = refl
+    by false = refl
+begins_by (Some kinds.Close) part so_far = by (length part == 5)
+  where
+    by : (t : Bool) → begins_some (if t then Some closed else None) ≡ false
+    by true = refl
+    by false = refl
+begins_by (Some kinds.Rest) part so_far = by (length part == 5)
+  where
+    by : (t : Bool) → begins_some (if t then Some rested else None) ≡ false
+    by true = refl
+    by false = refl
+begins_by (Some kinds.Release) part so_far = by (length part == 7) (from_be_bytes w16 (drop 5 part))
+  where
+    by : (t : Bool) (n : ℕ) → begins_some (if t then Some (released n) else None) ≡ false
+    by true n = refl
+    by false n = refl
+begins_by (Some kinds.Sent) part so_far = by (item_at so_far)
+  where
+    by : (item : Option Item) → begins_some (option_map sent item) ≡ false
+    by None = refl
+    by (Some item) = refl
+begins_by (Some kinds.Recv) part so_far = by (item_at so_far)
+  where
+    by : (item : Option Item) → begins_some (option_map received item) ≡ false
+    by None = refl
+    by (Some item) = refl
+
+-- the event of a byte behind the header
+event_is : (log : List ℕ) (byte : ℕ) → 8 ≤ length log
+    → event_for (context log) byte ≡ event_by (kind_of ((records log).rest ++ byte ∷ [])) ((records log).rest ++ byte ∷ []) (so_far_for (context log) byte)
+unfolding event_for event_in
+event_is log byte h =
+    let so_far : List ℕ = so_far_for (context log) byte in
+    ap (λ n. if nat_lt n 8 then None else event_in ((context log).part ++ byte ∷ []) so_far) (at_context log)
+    ∙ ap (λ t. if t then None else event_in ((context log).part ++ byte ∷ []) so_far) (le-ltb (length log) 8 h)
+    ∙ ap (λ p. event_by (kind_of (p ++ byte ∷ [])) (p ++ byte ∷ []) so_far) (part_context log)
+
+opened_put : (c : Context) (o : Option Event) (past : List Placed) → opened_events (put (placed_with c o) past) ≡ cond (begins_some o) (opened_events past + 1) (opened_events past)
+opened_put c None past = refl
+opened_put c (Some event) past = refl
+
+events_more : (log : List ℕ) (byte : ℕ) → events (log ++ byte ∷ []) ≡ put (placed_with (context log) (event_for (context log) byte)) (events log)
+unfolding placed_for
+events_more log byte = events-kept log byte
+
+opened_more_events : (log : List ℕ) (byte : ℕ) → 8 ≤ length log
+    → opened_events (events (log ++ byte ∷ []))
+    ≡ cond (opens (kind_of ((records log).rest ++ byte ∷ [])) && (length ((records log).rest ++ byte ∷ []) == 5)) (opened_events (events log) + 1) (opened_events (events log))
+opened_more_events log byte h =
+    let part : List ℕ = (records log).rest ++ byte ∷ [] in
+    let m : ℕ = opened_events (events log) in
+    ap opened_events (events_more log byte)
+    ∙ opened_put (context log) (event_for (context log) byte) (events log)
+    ∙ ap (λ o. cond (begins_some o) (m + 1) m) (event_is log byte h)
+    ∙ ap (λ t. cond t (m + 1) m) (begins_by (kind_of part) part (so_far_for (context log) byte))
+
+opened_step : (o : Bool) (n m w : ℕ) → m + cond (o && nat_lt n 5) 1 0 ≡ cond o (w + 1) w → cond (o && (n + 1 == 5)) (m + 1) m + cond (o && nat_lt (n + 1) 5) 1 0 ≡ cond o (w + 1) w
+opened_step false n m w e = e
+opened_step true n m w e = by (n + 1 == 5) refl
+  where
+    later : (t : Bool) → nat_lt n 5 ≡ t → (n + 1 ≡ 5 → ⊥) → nat_lt (n + 1) 5 ≡ t
+    later true is other = let less : n < 5 = ltb-true n 5 is in lt-ltb (n + 1) 5 (omega (arith, other))
+    later false is other = let more : 5 ≤ n = ltb-false n 5 is in le-ltb (n + 1) 5 (omega arith)
+
+    by : (t : Bool) → (n + 1 == 5) ≡ t → cond t (m + 1) m + cond (nat_lt (n + 1) 5) 1 0 ≡ w + 1
+    by true is =
+        let five : n + 1 ≡ 5 = eqb-true (n + 1) 5 is in
+        let early : nat_lt n 5 ≡ true = lt-ltb n 5 (omega arith) in
+        let was : m + 1 ≡ w + 1 = ap (λ t. m + cond t 1 0) (sym early) ∙ e in
+        ap (λ t. (m + 1) + cond t 1 0) (le-ltb (n + 1) 5 (omega arith)) ∙ (let last : (m + 1) + 0 ≡ w + 1 = omega (arith, was) in last)
+    by false is = ap (λ t. m + cond t 1 0) (later (nat_lt n 5) refl (eqb-false (n + 1) 5 is)) ∙ e
+
+first_opened : (o : Bool) (m w : ℕ) → m ≡ w → cond (o && false) (m + 1) m + cond (o && true) 1 0 ≡ cond o (w + 1) w
+first_opened true m w e = ap (λ n. n + 1) e
+first_opened false m w e = let same : m + 0 ≡ w = omega (arith, e) in same
+
+opened_grown : (rest : List ℕ) (byte m : ℕ) (whole : List (List ℕ)) → m + opening (begun_with rest whole) ≡ opened_records (begun_with rest whole)
+    → (rest ≡ [] → opening (begun_with rest whole) ≡ 0)
+    → cond (opens (kind_of (rest ++ byte ∷ [])) && (length (rest ++ byte ∷ []) == 5)) (m + 1) m + opening ((rest ++ byte ∷ []) ∷ whole) ≡ opened_records ((rest ++ byte ∷ []) ∷ whole)
+opened_grown [] byte m whole e settled =
+    let none : opening whole ≡ 0 = settled refl in
+    let was : m ≡ opened_records whole = omega (arith, e, none) in
+    first_opened (opens (kind_of (byte ∷ []))) m (opened_records whole) was
+opened_grown (r ∷ rest) byte m whole e settled =
+    let old : List ℕ = r ∷ rest in
+    let part : List ℕ = (r ∷ rest) ++ byte ∷ [] in
+    let w : ℕ = opened_records whole in
+    let kind : kind_of part ≡ kind_of old = kind_of-append (r ∷ rest) (byte ∷ []) (omega arith) in
+    let long : length part ≡ length old + 1 = length-append (r ∷ rest) (byte ∷ []) in
+    subst (λ n. cond (opens (kind_of part) && (n == 5)) (m + 1) m + cond (opens (kind_of part) && nat_lt n 5) 1 0 ≡ cond (opens (kind_of part)) (w + 1) w) (sym long)
+    (subst (λ k. cond (opens k && (length old + 1 == 5)) (m + 1) m + cond (opens k && nat_lt (length old + 1) 5) 1 0 ≡ cond (opens k) (w + 1) w) (sym kind)
+    (opened_step (opens (kind_of old)) (length old) m w e))
+
+settled_by : (part : List ℕ) (whole : List (List ℕ)) (o : Option ℕ) → record_size part ≡ o → 0 < length part → cond (is_some o) [] part ≡ [] → opening (part ∷ whole) ≡ 0
+settled_by part whole None e some none = let l : length part ≡ 0 = ap length none in absurd (omega arith)
+settled_by part whole (Some n) e some none =
+    let within = (record_size-is part n e).within in
+    let long : nat_lt (length part) 5 ≡ false = le-ltb (length part) 5 (omega (arith, within)) in
+    ap (λ t. cond (opens (kind_of part) && t) 1 0) long ∙ nothing (opens (kind_of part))
+  where
+    nothing : (o : Bool) → cond {A = ℕ} (o && false) 1 0 ≡ 0
+    nothing true = refl
+    nothing false = refl
+
+record Opened (log : List ℕ) : Type 0 where
+  same : opened_events (events log) + opening (begun log) ≡ opened_records (begun log)
+  settled : (records log).rest ≡ [] → opening (begun log) ≡ 0
+
+opened_header : (log : List ℕ) → length log ≤ 8 → Opened log
+opened_header log h = record {
+  same = subst (λ (l : List Placed). opened_events l + opening (begun log) ≡ opened_records (begun log)) (sym (events-header log h))
+      (subst (λ (b : List (List ℕ)). 0 + opening b ≡ opened_records b) (sym (begun-header log h)) refl);
+  settled = λ none. ap opening (begun-header log h);
+}
+
+opened_on : (log : List ℕ) (byte : ℕ) → Opened log → 8 ≤ length log → Opened (log ++ byte ∷ [])
+unfolding begun
+opened_on log byte before h =
+    let rest : List ℕ = (records log).rest in
+    let part : List ℕ = (records log).rest ++ byte ∷ [] in
+    let whole : List (List ℕ) = reverse (records log).whole in
+    let l = length-append (records log).rest (byte ∷ []) in
+    record {
+      same = ap (λ (b : List (List ℕ)). opened_events (events (log ++ byte ∷ [])) + opening b) (begun-grow log byte h)
+          ∙ ap (λ m. m + opening (part ∷ whole)) (opened_more_events log byte h)
+          ∙ opened_grown rest byte (opened_events (events log)) whole before.same before.settled
+          ∙ ap opened_records (sym (begun-grow log byte h));
+      settled = λ none. ap opening (begun-grow log byte h) ∙ settled_by part whole (record_size part) refl (omega arith) (sym (rest-grow log byte h) ∙ none);
+    }
+
+opened_always : (log : List ℕ) → Opened log
+opened_always = along Opened (opened_header [] (omega arith)) (λ log byte before. by_length log byte before (nat_lt (length log) 8) refl)
+  where
+    by_length : (log : List ℕ) (byte : ℕ) → Opened log → (b : Bool) → nat_lt (length log) 8 ≡ b → Opened (log ++ byte ∷ [])
+    by_length log byte before true is =
+        let l = length-append log (byte ∷ []) in
+        let short = ltb-true (length log) 8 is in
+        opened_header (log ++ byte ∷ []) (omega arith)
+    by_length log byte before false is = opened_on log byte before (ltb-false (length log) 8 is)
+
+-- the same number of both where the newest record opens nothing
+opened_kept : (rest : List ℕ) (byte : ℕ) (whole : List (List ℕ)) → opens (kind_of (rest ++ byte ∷ [])) ≡ false → opened_records ((rest ++ byte ∷ []) ∷ whole) ≡ opened_records (begun_with rest whole)
+opened_kept [] byte whole is = ap (λ t. cond t (opened_records whole + 1) (opened_records whole)) is
+opened_kept (r ∷ rest) byte whole is = ap (λ k. cond (opens k) (opened_records whole + 1) (opened_records whole)) (kind_of-append (r ∷ rest) (byte ∷ []) (omega arith))
+
+-- the items of an event that go this way
+abbrev event_items : Way → Option Event → List Item
+event_items way None = []
+event_items way (Some event) = if_some (item_going way event)
+
+abbrev if_going : Way → Option Way → List Item → List Item
+if_going ways.Sent (Some ways.Sent) items = items
+if_going ways.Recv (Some ways.Recv) items = items
+if_going _ _ items = []
+
+marks_nothing : (way : Way) (event : Event) (items : List Item) (t : Bool) → item_going way event ≡ None → event_items way (if t then Some event else None) ≡ if_going way None items
+marks_nothing ways.Sent event items true none = ap if_some none
+marks_nothing ways.Recv event items true none = ap if_some none
+marks_nothing ways.Sent event items false none = refl
+marks_nothing ways.Recv event items false none = refl
+
+event_items_by : (kind : Option RecordKind) (way : Way) (part so_far : List ℕ) → event_items way (event_by kind part so_far) ≡ if_going way (way_of kind) (if_some (item_at so_far))
+event_items_by None ways.Sent part so_far = refl
+event_items_by None ways.Recv part so_far = refl
+event_items_by (Some kinds.Open) ways.Sent part so_far = marks_nothing ways.Sent opened (if_some (item_at so_far)) (length part == 5) refl
+event_items_by (Some kinds.Open) ways.Recv part so_far = marks_nothing ways.Recv opened (if_some (item_at so_far)) (length part == 5) refl
+event_items_by (Some kinds.Close) ways.Sent part so_far = marks_nothing ways.Sent closed (if_some (item_at so_far)) (length part == 5) refl
+event_items_by (Some kinds.Close) ways.Recv part so_far = marks_nothing ways.Recv closed (if_some (item_at so_far)) (length part == 5) refl
+event_items_by (Some kinds.Rest) ways.Sent part so_far = marks_nothing ways.Sent rested (if_some (item_at so_far)) (length part == 5) refl
+event_items_by (Some kinds.Rest) ways.Recv part so_far = marks_nothing ways.Recv rested (if_some (item_at so_far)) (length part == 5) refl
+event_items_by (Some kinds.Release) ways.Sent part so_far = marks_nothing ways.Sent (released (from_be_bytes w16 (drop 5 part))) (if_some (item_at so_far)) (length part == 7) refl
+event_items_by (Some kinds.Release) ways.Recv part so_far = marks_nothing ways.Recv (released (from_be_bytes w16 (drop 5 part))) (if_some (item_at so_far)) (length part == 7) refl
+event_items_by (Some kinds.Sent) way part so_far = by way (item_at so_far)
+  where
+    by : (way : Way) (item : Option Item) → event_items way (option_map sent item) ≡ if_going way (Some ways.Sent) (if_some item)
+    by ways.Sent None = refl
+    by ways.Sent (Some item) = refl
+    by ways.Recv None = refl
+    by ways.Recv (Some item) = refl
+event_items_by (Some kinds.Recv) way part so_far = by way (item_at so_far)
+  where
+    by : (way : Way) (item : Option Item) → event_items way (option_map received item) ≡ if_going way (Some ways.Recv) (if_some item)
+    by ways.Sent None = refl
+    by ways.Sent (Some item) = refl
+    by ways.Recv None = refl
+    by ways.Recv (Some item) = refl
+
+nothing_put : {A : Type 0} (items : List A) (t : Bool) → items ++ cond t [] [] ≡ items
+nothing_put items true = append-nil items
+nothing_put items false = append-nil items
+
+items_put : (number : ℕ) (way : Way) (c : Context) (o : Option Event) (past : List Placed)
+    → items_on number way (put (placed_with c o) past) ≡ items_on number way past ++ cond (opened_events (put (placed_with c o) past) == number) (event_items way o) []
+items_put number way c None past = sym (nothing_put (items_on number way past) (opened_events past == number))
+items_put number way c (Some event) past = refl
+
+items_more : (number : ℕ) (way : Way) (log : List ℕ) (byte : ℕ) → 8 ≤ length log
+    → items_on number way (events (log ++ byte ∷ []))
+    ≡ items_on number way (events log) ++ cond (opened_events (events (log ++ byte ∷ [])) == number)
+    (if_going way (way_of (kind_of ((records log).rest ++ byte ∷ []))) (if_some (item_at (so_far_for (context log) byte)))) []
+items_more number way log byte h =
+    let part : List ℕ = (records log).rest ++ byte ∷ [] in
+    let before : List Item = items_on number way (events log) in
+    let o : Option Event = event_for (context log) byte in
+    ap (items_on number way) (events_more log byte)
+    ∙ items_put number way (context log) o (events log)
+    ∙ ap (λ (l : List Placed). before ++ cond (opened_events l == number) (event_items way o) []) (sym (events_more log byte))
+    ∙ ap (λ e. before ++ cond (opened_events (events (log ++ byte ∷ [])) == number) (event_items way e) []) (event_is log byte h)
+    ∙ ap (λ items. before ++ cond (opened_events (events (log ++ byte ∷ [])) == number) items []) (event_items_by (kind_of part) way part (so_far_for (context log) byte))
+
+-- a byte of a record, by whether it is one of its body, and which way that goes
+module _ (number : ℕ) (way : Way) (log : List ℕ) (byte : ℕ) (behind : 8 ≤ length log) where
+  abbrev part : List ℕ
+  part = (records log).rest ++ byte ∷ []
+
+  abbrev carried_so : List ℕ
+  carried_so = joined number way (begun log)
+
+  abbrev m : ℕ
+  m = opened_events (events (log ++ byte ∷ []))
+
+  abbrev n : ℕ
+  n = opened_records (begun (log ++ byte ∷ []))
+
+  abbrev item_so : Option Item
+  item_so = item_at (so_far_for (context log) byte)
+
+  so_far_is : so_far_for (context log) byte ≡ cond (nat_lt 5 (length part)) (so_far_by (way_of (kind_of part)) (context log) byte) []
+  unfolding so_far_for
+  so_far_is = ap (λ p. cond (nat_lt 5 (length (p ++ byte ∷ []))) (so_far_by (way_of (kind_of (p ++ byte ∷ []))) (context log) byte) []) (part_context log)
+
+  same_number : opens (kind_of part) ≡ false → m ≡ n
+  same_number is =
+      let both : m + opening (begun (log ++ byte ∷ [])) ≡ n = (opened_always (log ++ byte ∷ [])).same in
+      let none : opening (begun (log ++ byte ∷ [])) ≡ 0
+      = ap opening (begun-grow log byte behind) ∙ ap (λ t. cond (t && nat_lt (length part) 5) 1 0) is in
+      omega (arith, both, none)
+
+  newest_carried : opens (kind_of part) ≡ false → n ≡ number → carried_so ≡ carried way (begun log)
+  unfolding begun
+  newest_carried is same =
+      let kept : n ≡ opened_records (begun log) = ap opened_records (begun-grow log byte behind) ∙ opened_kept (records log).rest byte (reverse (records log).whole) is in
+      ap (λ k. joined k way (begun log)) (sym same ∙ kept) ∙ newest way (begun log)
+
+  item_goes : nat_lt 5 (length part) ≡ true → way_of (kind_of part) ≡ Some way → carried_so ≡ carried way (begun log) → item_so ≡ item_at (packet_with carried_so byte)
+  item_goes g w is =
+      ap item_at (so_far_is
+      ∙ ap (λ t. cond t (so_far_by (way_of (kind_of part)) (context log) byte) []) g
+      ∙ ap (λ o. so_far_by o (context log) byte) w
+      ∙ sym (so_far_kept_by (Some way) log byte)
+      ∙ ap (λ bytes. packet_with bytes byte) (sym is))
+
+  -- a byte of this direction, on some connection
+  own_byte : (t : Bool) → (n == number) ≡ t → nat_lt 5 (length part) ≡ true → way_of (kind_of part) ≡ Some way
+      → stream_items (stream carried_so) ++ cond (m == number) (if_some item_so) [] ≡ stream_items (stream (carried_so ++ cond (n == number) (byte ∷ []) []))
+  own_byte true is g w =
+      let opens_nothing = opens_none (kind_of part) way w in
+      let carried_is = newest_carried opens_nothing (eqb-true n number is) in
+      ap (λ k. stream_items (stream carried_so) ++ cond (k == number) (if_some item_so) []) (same_number opens_nothing)
+      ∙ ap (λ t. stream_items (stream carried_so) ++ cond t (if_some item_so) []) is
+      ∙ ap (λ o. stream_items (stream carried_so) ++ if_some o) (item_goes g w carried_is)
+      ∙ sym (stream_more carried_so byte)
+      ∙ ap (λ t. stream_items (stream (carried_so ++ cond t (byte ∷ []) []))) (sym is)
+  own_byte false is g w =
+      let opens_nothing = opens_none (kind_of part) way w in
+      ap (λ k. stream_items (stream carried_so) ++ cond (k == number) (if_some item_so) []) (same_number opens_nothing)
+      ∙ ap (λ t. stream_items (stream carried_so) ++ cond t (if_some item_so) []) is
+      ∙ append-nil (stream_items (stream carried_so))
+      ∙ ap (λ bytes. stream_items (stream bytes)) (sym (append-nil carried_so))
+      ∙ ap (λ t. stream_items (stream (carried_so ++ cond t (byte ∷ []) []))) (sym is)
+
+  -- a byte that this direction doesn't carry
+  other_byte : stream_items (stream carried_so) ++ cond (m == number) [] [] ≡ stream_items (stream (carried_so ++ cond (n == number) [] []))
+  other_byte = nothing_put (stream_items (stream carried_so)) (m == number) ∙ ap (λ bytes. stream_items (stream bytes)) (sym (nothing_put carried_so (n == number)))
+
+  byte_goes : (g : Bool) → nat_lt 5 (length part) ≡ g → (each : Way) → each ≡ way → (w : Option Way) → way_of (kind_of part) ≡ w
+      → stream_items (stream carried_so) ++ cond (m == number) (if_going each w (if_some item_so)) [] ≡ stream_items (stream (carried_so ++ cond (n == number) (cond g (if_way each w (byte ∷ [])) []) []))
+  byte_goes false g each same w is =
+      let none : item_so ≡ None = ap item_at (so_far_is ∙ ap (λ t. cond t (so_far_by (way_of (kind_of part)) (context log) byte) []) g) ∙ nothing_item in
+      ap (λ o. stream_items (stream carried_so) ++ cond (m == number) (if_going each w (if_some o)) []) none
+      ∙ ap (λ items. stream_items (stream carried_so) ++ cond (m == number) items []) (going_nothing each w)
+      ∙ other_byte
+    where
+      going_nothing : (each : Way) (w : Option Way) → if_going each w [] ≡ []
+      going_nothing ways.Sent None = refl
+      going_nothing ways.Sent (Some ways.Sent) = refl
+      going_nothing ways.Sent (Some ways.Recv) = refl
+      going_nothing ways.Recv None = refl
+      going_nothing ways.Recv (Some ways.Sent) = refl
+      going_nothing ways.Recv (Some ways.Recv) = refl
+  byte_goes true g ways.Sent same None is = other_byte
+  byte_goes true g ways.Sent same (Some ways.Recv) is = other_byte
+  byte_goes true g ways.Recv same None is = other_byte
+  byte_goes true g ways.Recv same (Some ways.Sent) is = other_byte
+  byte_goes true g ways.Sent same (Some ways.Sent) is = own_byte (n == number) refl g (is ∙ ap Some same)
+  byte_goes true g ways.Recv same (Some ways.Recv) is = own_byte (n == number) refl g (is ∙ ap Some same)
+
+  byte_more : items_on number way (events log) ≡ stream_items (stream carried_so) → items_on number way (events (log ++ byte ∷ [])) ≡ stream_items (stream (joined number way (begun (log ++ byte ∷ []))))
+  byte_more before =
+      items_more number way log byte behind
+      ∙ ap (λ items. items ++ cond (m == number) (if_going way (way_of (kind_of part)) (if_some item_so)) []) before
+      ∙ byte_goes (nat_lt 5 (length part)) refl way refl (way_of (kind_of part)) refl
+      ∙ ap (λ bytes. stream_items (stream bytes)) (sym (joined_more number way log byte behind))
+
+-- Nothing is on a connection in a header.
+header_items : (number : ℕ) (way : Way) (log : List ℕ) → length log ≤ 8 → items_on number way (events log) ≡ stream_items (stream (joined number way (begun log)))
+header_items number way log h =
+    ap (items_on number way) (events-header log h) ∙ sym (ap (λ parts. stream_items (stream (joined number way parts))) (begun-header log h) ∙ stream_nothing)
+
+pub items-are : (number : ℕ) (way : Way) (log : List ℕ) → items_on number way (events log) ≡ stream_items (stream (joined number way (begun log)))
+items-are number way log =
+    along (λ l. items_on number way (events l) ≡ stream_items (stream (joined number way (begun l)))) (header_items number way [] (omega arith))
+    (λ l byte before. by_length l byte before (nat_lt (length l) 8) refl) log
+  where
+    by_length : (l : List ℕ) (byte : ℕ) → items_on number way (events l) ≡ stream_items (stream (joined number way (begun l))) → (b : Bool) → nat_lt (length l) 8 ≡ b
+        → items_on number way (events (l ++ byte ∷ [])) ≡ stream_items (stream (joined number way (begun (l ++ byte ∷ []))))
+    by_length l byte before true is =
+        let more = length-append l (byte ∷ []) in
+        let short = ltb-true (length l) 8 is in
+        header_items number way (l ++ byte ∷ []) (omega arith)
+    by_length l byte before false is = byte_more number way l byte (ltb-false (length l) 8 is) before

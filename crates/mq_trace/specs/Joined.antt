@@ -1,0 +1,55 @@
+-- The events of a log, one connection and one direction at a time: they are what that direction's stream of packets holds.
+use Rattle.std.specs.Prelude.{ℕ, ◌+◌, ◌==◌, cond, List, [], ◌∷◌, ◌++◌, length, drop, slice_index, Option, Some, None}
+use Rattle.mq_trace.specs.declared.kind.Way.{Way}
+use Rattle.mq_trace.specs.declared.kind.Way.TheVariants as ways
+use Rattle.mq_packet.specs.Stream.{is_lost}
+use Rattle.mq_trace.specs.Pieces.{Pieces}
+use Rattle.mq_trace.specs.Framing.{kind_of, way_of, opens, if_way}
+use Rattle.mq_trace.specs.Events.{Item, Event, Placed, lost, sent, received, item_read, read_frame}
+use Rattle.mq_trace.specs.Connections.{begins}
+
+-- how many of these records are OPENs; that many connections have begun
+abbrev pub opened_records : List (List ℕ) → ℕ
+opened_records [] = 0
+opened_records (part ∷ before) = cond (opens (kind_of part)) (opened_records before + 1) (opened_records before)
+
+-- What one direction of the connection of this number carried: the joined bodies of its records. Connections are numbered from 1, and what comes before the first OPEN is
+-- on connection 0. The newest record comes first.
+abbrev pub joined : ℕ → Way → List (List ℕ) → List ℕ
+joined number way [] = []
+joined number way (part ∷ before) =
+    joined number way before ++ cond (opened_records (part ∷ before) == number) (if_way way (way_of (kind_of part)) (drop 5 part)) []
+
+-- the item, if there is one
+abbrev pub if_some : Option Item → List Item
+if_some None = []
+if_some (Some item) = item ∷ []
+
+-- what a frame is
+abbrev pub frame_item : List ℕ → Option Item
+frame_item frame = item_read (length frame) (slice_index frame 0) (read_frame frame)
+
+-- what frames are, in order; one of another protocol version is nothing
+abbrev pub frame_items : List (List ℕ) → List Item
+frame_items [] = []
+frame_items (frame ∷ frames) = if_some (frame_item frame) ++ frame_items frames
+
+-- What a stream holds: what its frames are, in order, and that it is lost, if it is, at the end (MQTT 5.0, sections 2.1 and 1.5.5).
+abbrev pub stream_items : Pieces → List Item
+stream_items cut = frame_items cut.whole ++ cond (is_lost cut.rest) (lost ∷ []) []
+
+-- how many of these events begin a connection
+abbrev pub opened_events : List Placed → ℕ
+opened_events [] = 0
+opened_events (e ∷ past) = cond (begins e.event) (opened_events past + 1) (opened_events past)
+
+-- the item of an event, if it goes this way
+abbrev pub item_going : Way → Event → Option Item
+item_going ways.Sent (sent item) = Some item
+item_going ways.Recv (received item) = Some item
+item_going _ _ = None
+
+-- the items of the events of one direction of the connection of this number, in order; the newest event comes first
+abbrev pub items_on : ℕ → Way → List Placed → List Item
+items_on number way [] = []
+items_on number way (e ∷ past) = items_on number way past ++ cond (opened_events (e ∷ past) == number) (if_some (item_going way e.event)) []
