@@ -1,0 +1,180 @@
+-- What is kept of a session, with one event more.
+use Rattle.std.proofs.Common.{◌≡◌, Bool, true, false, cond, ◌&&◌, not, List, [], ◌∷◌, Option, Some, None, refl, ap, sym, ◌∙◌}
+use Rattle.std.specs.Prelude.{is_some}
+use Rattle.std.proofs.lemmas.Bool.{false_from_ne_true}
+use Rattle.mq_rules.specs.declared.role.Role.{Role}
+use Rattle.mq_rules.specs.declared.fate.Fate.{Fate}
+use Rattle.mq_rules.specs.declared.fate.Fate.TheVariants.{Void, New, Resumed}
+use Rattle.mq_rules.specs.declared.note.Note.{Note}
+use Rattle.mq_rules.specs.declared.note.Note.TheVariants as notes
+use Rattle.mq_rules.specs.declared.note.Seen.{Seen}
+use Rattle.mq_rules.specs.Words.{or_else}
+use Rattle.mq_rules.specs.Notes.{is_open, is_release, decides, needs_session}
+use Rattle.mq_rules.specs.Moments.{Moment, newest, some, since, latest}
+use Rattle.mq_rules.specs.Connections.{latest_fate, accepts, begins, any_accepted, has_session, with_first, session, IsInOrder}
+use Rattle.mq_rules.specs.Folds.{folded, ByPackets, where_in, kept_by, stands_under, gained, since_by, some_by, latest_by}
+use Rattle.mq_rules.proofs.FateLaws.{latest_fate-next}
+
+-- ---- the words on moments are folds
+
+pub since-folded : (starts ends : Moment → Bool) (ms : List Moment) → since starts ends ms ≡ folded (since_by starts ends) false ms
+since-folded starts ends [] = refl
+since-folded starts ends (m ∷ ms) = ap (since_by starts ends m) (since-folded starts ends ms)
+
+pub some-folded : (test : Moment → Bool) (ms : List Moment) → some test ms ≡ folded (some_by test) false ms
+some-folded test [] = refl
+some-folded test (m ∷ ms) = ap (some_by test m) (some-folded test ms)
+
+pub latest-folded : (test : Moment → Bool) (ms : List Moment) → latest test ms ≡ folded (latest_by test) None ms
+latest-folded test [] = refl
+latest-folded test (m ∷ ms) = ap (latest_by test m) (latest-folded test ms)
+
+-- ---- under a fate, with one event more
+
+module _ {A : Type 0} (g : Moment → A → A) (z : A) where
+  with_first-folded : (b : Bool) (m : Moment) (ms : List Moment) → folded g z (with_first b m ms) ≡ where_in b (g m) (folded g z ms)
+  with_first-folded true m ms = refl
+  with_first-folded false m ms = refl
+
+  -- what an event keeps that changes nothing
+  with_first-idle : (b : Bool) (m : Moment) (ms : List Moment) → ((a : A) → g m a ≡ a) → folded g z (with_first b m ms) ≡ folded g z ms
+  with_first-idle true m ms idle = idle (folded g z ms)
+  with_first-idle false m ms idle = refl
+
+  opened-folded : (opens new : Bool) (before same : List Moment) → folded g z (cond opens (cond new [] before) same) ≡ cond opens (cond new z (folded g z before)) (folded g z same)
+  opened-folded true true before same = refl
+  opened-folded true false before same = refl
+  opened-folded false new before same = refl
+
+  pub under-next : (role : Role) (f : Option Fate) (e : Seen) (past : List Seen) → folded g z (session role f (e ∷ past))
+      ≡ where_in (has_session role f e past) (g (newest e past))
+      (cond (is_open e.note) (cond (begins f) z (folded g z (session role (latest_fate role past) past))) (folded g z (session role f past)))
+  under-next role f e past =
+      with_first-folded (has_session role f e past) (newest e past) (cond (is_open e.note) (cond (begins f) [] (session role (latest_fate role past) past)) (session role f past))
+      ∙ ap (where_in (has_session role f e past) (g (newest e past))) (opened-folded (is_open e.note) (begins f) (session role (latest_fate role past) past) (session role f past))
+
+pub stands_under-next : (role : Role) (starts ends : Moment → Bool) (f : Option Fate) (e : Seen) (past : List Seen) → stands_under role starts ends f (e ∷ past)
+    ≡ gained (has_session role f e past) (starts (newest e past)) (ends (newest e past))
+    (cond (is_open e.note) (not (begins f) && stands_under role starts ends (latest_fate role past) past) (stands_under role starts ends f past))
+stands_under-next role starts ends f e past = go (has_session role f e past) (is_open e.note) (begins f)
+  where
+    go : (inside opens new : Bool) → since starts ends (with_first inside (newest e past) (cond opens (cond new [] (session role (latest_fate role past) past)) (session role f past)))
+        ≡ gained inside (starts (newest e past)) (ends (newest e past)) (cond opens (not new && stands_under role starts ends (latest_fate role past) past) (stands_under role starts ends f past))
+    go true true true = refl
+    go true true false = refl
+    go true false new = refl
+    go false true true = refl
+    go false true false = refl
+    go false false new = refl
+
+-- ---- in a log in order, from the fate before the event
+
+open-idle : (n : Note) → is_open n ≡ true → needs_session n ≡ false
+open-idle notes.Open h = refl
+open-idle notes.Close h = absurd (cc)
+open-idle notes.Rest h = absurd (cc)
+open-idle (notes.Release identifier) h = absurd (cc)
+open-idle (notes.Sent item) h = absurd (cc)
+open-idle (notes.Recv item) h = absurd (cc)
+
+-- what needs a session comes on no undecided connection
+undecided-idle : (n : Bool) (o : Option Fate) → (n ≡ true → is_some o ≡ true) → o ≡ None → n ≡ false
+undecided-idle n o order h = false_from_ne_true n (λ t. absurd (let there = order t in let never : is_some o ≡ false = ap is_some h in cc))
+
+or_else-left : {A : Type 0} (o p : Option A) → or_else o p ≡ None → o ≡ None
+or_else-left None p h = refl
+or_else-left (Some a) p h = absurd (cc)
+
+module _ {A : Type 0} (g : Moment → A → A) (z : A) (packets : ByPackets g) (role : Role) where
+  -- on an undecided connection nothing has been of the session
+  undecided : (past : List Seen) → IsInOrder role past → latest_fate role past ≡ None → (f : Option Fate)
+      → folded g z (session role f past) ≡ cond (begins f) z (folded g z (session role None past))
+  undecided [] order h f = absurd (cc)
+  undecided (e ∷ past) order h f = go (is_open e.note) refl (sym (latest_fate-next role e past) ∙ h) (undecided past order.1)
+    where
+      Before : Type 0
+      Before = latest_fate role past ≡ None → (f : Option Fate) → folded g z (session role f past) ≡ cond (begins f) z (folded g z (session role None past))
+
+      rest : Bool → Option Fate → List Moment
+      rest b f = cond b (cond (begins f) [] (session role (latest_fate role past) past)) (session role f past)
+
+      new : (b : Bool) → folded g z (cond b [] (session role (latest_fate role past) past)) ≡ cond b z (folded g z (session role (latest_fate role past) past))
+      new true = refl
+      new false = refl
+
+      go : (b : Bool) → is_open e.note ≡ b → cond b None (or_else (latest_fate role past) (decides role e.note)) ≡ None → Before
+          → folded g z (with_first (has_session role f e past) (newest e past) (rest b f)) ≡ cond (begins f) z (folded g z (with_first (has_session role None e past) (newest e past) (rest b None)))
+      go true t h before =
+          let idle : (a : A) → g (newest e past) a ≡ a = λ a. packets.idle (newest e past) a (open-idle e.note t) in
+          with_first-idle g z (has_session role f e past) (newest e past) (cond (begins f) [] (session role (latest_fate role past) past)) idle
+          ∙ new (begins f)
+          ∙ ap (cond (begins f) z) (sym (with_first-idle g z (has_session role None e past) (newest e past) (session role (latest_fate role past) past) idle))
+      go false t h before =
+          let none = or_else-left (latest_fate role past) (decides role e.note) h in
+          let idle : (a : A) → g (newest e past) a ≡ a = λ a. packets.idle (newest e past) a (undecided-idle (needs_session e.note) (latest_fate role past) order.0 none) in
+          with_first-idle g z (has_session role f e past) (newest e past) (session role f past) idle
+          ∙ before none f
+          ∙ ap (cond (begins f) z) (sym (with_first-idle g z (has_session role None e past) (newest e past) (session role None past) idle))
+
+  -- a RELEASE on a void connection changes nothing, and no other event there is in a session
+  kept-where : (e : Seen) (past : List Seen) (f : Fate) (a : A) → where_in (has_session role (Some f) e past) (g (newest e past)) a ≡ cond (accepts f) (g (newest e past) a) a
+  kept-where e past New a = refl
+  kept-where e past Resumed a = refl
+  kept-where e past Void a = go (is_release e.note) (any_accepted role (Some Void) past) refl
+    where
+      go : (released any : Bool) → is_release e.note ≡ released → where_in (released && any) (g (newest e past)) a ≡ a
+      go true true h = packets.no_release (newest e past) a h
+      go true false h = refl
+      go false any h = refl
+
+  -- the latest connection was decided
+  next-decided : (e : Seen) (past : List Seen) (f : Fate) → is_open e.note ≡ false
+      → folded g z (session role (Some f) (e ∷ past)) ≡ kept_by role (Some f) e.note (g (newest e past)) z (folded g z (session role (Some f) past))
+  next-decided e past f t =
+      let old : A = folded g z (session role (Some f) past) in
+      let before : A = folded g z (session role (latest_fate role past) past) in
+      under-next g z role (Some f) e past
+      ∙ ap (λ b. where_in (has_session role (Some f) e past) (g (newest e past)) (cond b (cond (begins (Some f)) z before) old)) t
+      ∙ kept-where e past f old
+      ∙ sym (ap (λ b. cond b old (cond (accepts f) (g (newest e past) old) old)) t)
+
+  -- it was not, and this event may decide it
+  next-undecided : (e : Seen) (past : List Seen) → is_open e.note ≡ false → IsInOrder role (e ∷ past) → latest_fate role past ≡ None
+      → folded g z (session role (decides role e.note) (e ∷ past)) ≡ kept_by role None e.note (g (newest e past)) z (folded g z (session role None past))
+  next-undecided e past t order none =
+      let d : Option Fate = decides role e.note in
+      let old : A = folded g z (session role None past) in
+      let idle : (a : A) → g (newest e past) a ≡ a = λ a. packets.idle (newest e past) a (undecided-idle (needs_session e.note) (latest_fate role past) order.0 none) in
+      with_first-idle g z (has_session role d e past) (newest e past) (cond (is_open e.note) (cond (begins d) [] (session role (latest_fate role past) past)) (session role d past)) idle
+      ∙ ap (λ b. folded g z (cond b (cond (begins d) [] (session role (latest_fate role past) past)) (session role d past))) t
+      ∙ undecided past order.1 none d
+      ∙ sym (ap (λ b. cond b old (cond (begins d) z old)) t)
+
+  next-opened : (e : Seen) (past : List Seen) → is_open e.note ≡ true
+      → folded g z (session role None (e ∷ past)) ≡ folded g z (session role (latest_fate role past) past)
+  next-opened e past t =
+      with_first-idle g z (has_session role None e past) (newest e past) (cond (is_open e.note) (session role (latest_fate role past) past) (session role None past)) (λ a. packets.idle (newest e past) a (open-idle e.note t))
+      ∙ ap (λ b. folded g z (cond b (session role (latest_fate role past) past) (session role None past))) t
+
+  kept-open : (f : Option Fate) (n : Note) (act : A → A) (old : A) → is_open n ≡ true → kept_by role f n act z old ≡ old
+  kept-open None n act old t = ap (λ b. cond b old (cond (begins (decides role n)) z old)) t
+  kept-open (Some f) n act old t = ap (λ b. cond b old (cond (accepts f) (act old) old)) t
+
+  pub folded-next : (e : Seen) (past : List Seen) → IsInOrder role (e ∷ past)
+      → folded g z (session role (latest_fate role (e ∷ past)) (e ∷ past)) ≡ kept_by role (latest_fate role past) e.note (g (newest e past)) z (folded g z (session role (latest_fate role past) past))
+  folded-next e past order =
+      ap (λ f. folded g z (session role f (e ∷ past))) (latest_fate-next role e past) ∙ go (is_open e.note) (latest_fate role past) refl refl
+    where
+      go : (b : Bool) (o : Option Fate) → is_open e.note ≡ b → latest_fate role past ≡ o
+          → folded g z (session role (cond b None (or_else (latest_fate role past) (decides role e.note))) (e ∷ past))
+          ≡ kept_by role (latest_fate role past) e.note (g (newest e past)) z (folded g z (session role (latest_fate role past) past))
+      go true o t is =
+          next-opened e past t ∙ sym (kept-open (latest_fate role past) e.note (g (newest e past)) (folded g z (session role (latest_fate role past) past)) t)
+      go false (Some f) t is =
+          ap (λ o. folded g z (session role (or_else o (decides role e.note)) (e ∷ past))) is
+          ∙ next-decided e past f t
+          ∙ sym (ap (λ o. kept_by role o e.note (g (newest e past)) z (folded g z (session role o past))) is)
+      go false None t is =
+          ap (λ o. folded g z (session role (or_else o (decides role e.note)) (e ∷ past))) is
+          ∙ next-undecided e past t order is
+          ∙ sym (ap (λ o. kept_by role o e.note (g (newest e past)) z (folded g z (session role o past))) is)

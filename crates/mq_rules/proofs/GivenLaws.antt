@@ -1,0 +1,139 @@
+-- The fate that an event gives to the latest connection.
+use Rattle.std.proofs.Common.{◌≡◌, ℕ, ◌+◌, ◌<◌, ◌≤◌, ◌==◌, Bool, true, false, cond, List, [], ◌∷◌, Option, Some, None, is_some, refl, ap, sym, ◌∙◌, arith}
+use Rattle.std.proofs.lemmas.Bool.{eqb-true, eq-eqb}
+use Rattle.mq_rules.specs.declared.role.Role.{Role}
+use Rattle.mq_rules.specs.declared.role.Role.TheVariants.{Client, Server}
+use Rattle.mq_rules.specs.declared.fate.Fate.{Fate}
+use Rattle.mq_rules.specs.declared.fate.Fate.TheVariants.{Void}
+use Rattle.mq_rules.specs.declared.note.Note.{Note}
+use Rattle.mq_rules.specs.declared.note.Note.TheVariants as notes
+use Rattle.mq_rules.specs.declared.note.Seen.{Seen}
+use Rattle.mq_rules.specs.Words.{or_else}
+use Rattle.mq_rules.specs.Notes.{is_open, is_rest, decides, needs_session}
+use Rattle.mq_rules.specs.Moments.{Moment, newest, moment, is_next, earliest}
+use Rattle.mq_rules.specs.Connections.{number, begun, of_connection, fate, latest_fate}
+use Rattle.mq_rules.specs.Steps.{given}
+use Rattle.mq_rules.proofs.BoolLaws.{differ, not_true}
+use Rattle.mq_rules.proofs.StepLaws.{fate-step, fate-kept}
+
+-- ---- one event
+
+-- no OPEN decides, and none needs a session
+pub open-undecided : (role : Role) (n : Note) → is_open n ≡ true → decides role n ≡ None
+open-undecided Client notes.Open h = refl
+open-undecided Server notes.Open h = refl
+open-undecided role notes.Close h = absurd (cc)
+open-undecided role notes.Rest h = absurd (cc)
+open-undecided role (notes.Release i) h = absurd (cc)
+open-undecided role (notes.Sent item) h = absurd (cc)
+open-undecided role (notes.Recv item) h = absurd (cc)
+
+pub open-sessionless : (n : Note) → is_open n ≡ true → needs_session n ≡ false
+open-sessionless notes.Open h = refl
+open-sessionless notes.Close h = absurd (cc)
+open-sessionless notes.Rest h = absurd (cc)
+open-sessionless (notes.Release i) h = absurd (cc)
+open-sessionless (notes.Sent item) h = absurd (cc)
+open-sessionless (notes.Recv item) h = absurd (cc)
+
+-- no REST decides, and none is an OPEN
+pub rest-undecided : (role : Role) (n : Note) → is_rest n ≡ true → decides role n ≡ None
+rest-undecided Client notes.Rest h = refl
+rest-undecided Server notes.Rest h = refl
+rest-undecided role notes.Open h = absurd (cc)
+rest-undecided role notes.Close h = absurd (cc)
+rest-undecided role (notes.Release i) h = absurd (cc)
+rest-undecided role (notes.Sent item) h = absurd (cc)
+rest-undecided role (notes.Recv item) h = absurd (cc)
+
+pub rest-opens-nothing : (n : Note) → is_rest n ≡ true → is_open n ≡ false
+rest-opens-nothing notes.Rest h = refl
+rest-opens-nothing notes.Open h = absurd (cc)
+rest-opens-nothing notes.Close h = refl
+rest-opens-nothing (notes.Release i) h = refl
+rest-opens-nothing (notes.Sent item) h = refl
+rest-opens-nothing (notes.Recv item) h = refl
+
+-- so an event that decides is no OPEN
+pub decides-closed : (role : Role) (n : Note) (f : Fate) → decides role n ≡ Some f → is_open n ≡ false
+decides-closed role n f h = not_true (is_open n) (λ t. let none : decides role n ≡ None = open-undecided role n t in absurd (cc))
+
+-- ---- numbers of connections
+
+-- an OPEN begins one connection, and another event none
+pub begun-open : (e : Seen) (past : List Seen) → is_open e.note ≡ true → begun (e ∷ past) ≡ 1 + begun past
+begun-open e past h = ap (λ b. cond b 1 0 + begun past) h
+
+pub begun-closed : (e : Seen) (past : List Seen) → is_open e.note ≡ false → begun (e ∷ past) ≡ begun past
+begun-closed e past h = ap (λ b. cond b 1 0 + begun past) h ∙ omega arith
+
+pub begun-grows : (e : Seen) (past : List Seen) → begun past ≤ begun (e ∷ past)
+begun-grows e past = omega arith
+
+-- a moment's connection has begun in the log
+pub number-within : (log : List Seen) (k : ℕ) (m : Moment) → moment log k ≡ Some m → number m ≤ begun log
+number-within [] k m h = absurd (cc)
+number-within (e ∷ past) k m h = go (is_next past k) h (number-within past k m)
+  where
+    go : (b : Bool) → cond b (Some (newest e past)) (moment past k) ≡ Some m → (moment past k ≡ Some m → number m ≤ begun past) → number m ≤ begun (e ∷ past)
+    go true h rest = let same : newest e past ≡ m = cc in let at : begun (e ∷ past) ≡ number m = ap number same in omega arith
+    go false h rest = let le : number m ≤ begun past = rest h in let grows : begun past ≤ begun (e ∷ past) = begun-grows e past in omega arith
+
+-- a connection that has not begun has no moments
+none-of : (c : ℕ) (log : List Seen) → begun log < c → of_connection c log ≡ []
+none-of c [] h = refl
+none-of c (e ∷ past) h =
+    let grows : begun past ≤ begun (e ∷ past) = begun-grows e past in
+    ap (λ b. cond b (newest e past ∷ of_connection c past) (of_connection c past)) (differ (begun (e ∷ past)) c (λ is. omega arith))
+    ∙ none-of c past (omega arith)
+
+-- and no fate
+pub fate-unbegun : (role : Role) (c : ℕ) (log : List Seen) → begun log < c → fate role c log ≡ None
+fate-unbegun role c log h =
+    ap (λ b. cond b (Some Void) (earliest (decides role) (of_connection c log))) (differ c 0 (λ is. omega arith))
+    ∙ ap (earliest (decides role)) (none-of c log h)
+
+-- ---- the latest connection's fate with one event more
+
+nothing : (b : Bool) (o : Option Fate) → o ≡ None → cond b o None ≡ None
+nothing true o h = h
+nothing false o h = refl
+
+pub latest_fate-next : (role : Role) (e : Seen) (past : List Seen) → latest_fate role (e ∷ past) ≡ cond (is_open e.note) None (or_else (latest_fate role past) (decides role e.note))
+latest_fate-next role e past = go (is_open e.note) refl
+  where
+    c : ℕ
+    c = begun (e ∷ past)
+
+    go : (b : Bool) → is_open e.note ≡ b → fate role c (e ∷ past) ≡ cond b None (or_else (latest_fate role past) (decides role e.note))
+    go true t =
+        let more : begun (e ∷ past) ≡ 1 + begun past = begun-open e past t in
+        fate-step role c e past
+        ∙ ap (λ o. or_else o (cond (c == c) (decides role e.note) None)) (fate-unbegun role c past (omega arith))
+        ∙ nothing (c == c) (decides role e.note) (open-undecided role e.note t)
+    go false t =
+        fate-step role c e past
+        ∙ ap (λ b. or_else (fate role c past) (cond b (decides role e.note) None)) (eq-eqb c c refl)
+        ∙ ap (λ n. or_else (fate role n past) (decides role e.note)) (begun-closed e past t)
+
+-- a connection that was decided at a moment is decided so in the log
+pub fate-from : (role : Role) (c : ℕ) (f : Fate) (log : List Seen) (k : ℕ) (m : Moment) → moment log k ≡ Some m → fate role c m.past ≡ Some f → fate role c log ≡ Some f
+fate-from role c f [] k m at h = absurd (cc)
+fate-from role c f (e ∷ past) k m at h = fate-kept role c f e past (go (is_next past k) at (fate-from role c f past k m))
+  where
+    go : (b : Bool) → cond b (Some (newest e past)) (moment past k) ≡ Some m → (moment past k ≡ Some m → fate role c m.past ≡ Some f → fate role c past ≡ Some f) → fate role c past ≡ Some f
+    go true at rest = let same : newest e past ≡ m = cc in ap (λ (n : Moment). fate role c n.past) same ∙ h
+    go false at rest = rest at h
+
+-- an event gives a fate to the latest connection alone, which is undecided before it, as it decides it
+pub given-gives : (role : Role) (e : Seen) (past : List Seen) (c : ℕ) (f : Fate) → given role e past c ≡ Some f
+    → (c ≡ begun past) × (is_open e.note ≡ false) × (decides role e.note ≡ Some f) × (fate role c past ≡ None)
+given-gives role e past c f h = go (fate role c past) refl (begun (e ∷ past) == c) refl (ap (cond (is_some (fate role c past)) None) (sym (fate-step role c e past)) ∙ h)
+  where
+    go : (o : Option Fate) → fate role c past ≡ o → (b : Bool) → (begun (e ∷ past) == c) ≡ b → cond (is_some o) None (or_else o (cond b (decides role e.note) None)) ≡ Some f
+        → (c ≡ begun past) × (is_open e.note ≡ false) × (decides role e.note ≡ Some f) × (fate role c past ≡ None)
+    go (Some g) is b t h = absurd (cc)
+    go None is false t h = absurd (cc)
+    go None is true t h =
+        let closed : is_open e.note ≡ false = decides-closed role e.note f h in
+        (sym (eqb-true (begun (e ∷ past)) c t) ∙ begun-closed e past closed, closed, h, is)

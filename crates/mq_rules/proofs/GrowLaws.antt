@@ -1,0 +1,209 @@
+-- How the faults grow, by several statements and by several events.
+use Rattle.std.proofs.Common.{◌≡◌, ℕ, ◌+◌, ◌<◌, ◌==◌, Bool, true, false, cond, ◌&&◌, ◌||◌, List, [], ◌∷◌, length, take, drop, get_or, Option, Some, None, refl, ap, sym, subst, ◌∙◌, arith, add-one, zero, suc, ◌⊎◌, inl, inr}
+use mathlib.Core.List.{reverse_aux}
+use Rattle.mq_trace.specs.declared.place.Place3.{Place3}
+use Rattle.mq_rules.specs.declared.role.Tested.{Tested}
+use Rattle.mq_rules.specs.declared.rule.Rule.{Rule}
+use Rattle.mq_rules.specs.declared.rule.Rule.TheVariants.{W01}
+use Rattle.mq_rules.specs.declared.fault.Fault.{Fault}
+use Rattle.mq_rules.specs.declared.note.Seen.{Seen}
+use Rattle.mq_rules.specs.Words.{or_else}
+use Rattle.mq_rules.specs.Moments.{moment}
+use Rattle.mq_rules.specs.Rules.{same_rule}
+use Rattle.mq_rules.specs.Steps.{turns}
+use Rattle.mq_rules.specs.Marks.{FaultMap, fault_at, judged}
+use Rattle.mq_rules.specs.Faults.{reported, fault_in, Grows, GrowsWithin}
+use Rattle.mq_rules.specs.Keeping.{is_among, at_place, Judges, JudgesWithin, news, GrowsBy, GrowsByWithin}
+use Rattle.mq_rules.proofs.BoolLaws.{and_false, or_false, or_else-none}
+use Rattle.mq_rules.proofs.MarkLaws.{fault_at-judged, same_told}
+use Rattle.mq_rules.proofs.DecidedLaws.{fault_in-step, fault_in-start}
+
+-- ---- several statements at one place
+
+pub nothing_at : (place : Place3) (k : ℕ) → at_place place k false ≡ None
+nothing_at place k = ap (λ b. cond b (Some (record { decided = place.position; record_no = place.record_no; offset = None })) None) (and_false (k == place.position))
+
+-- where no statement is false, the faults are unchanged
+pub judges-none : (place : Place3) (faults : FaultMap) → Judges (λ rule. false) place faults faults
+judges-none place faults = record { each = λ k rule. sym (ap (or_else (fault_at faults k rule)) (nothing_at place k) ∙ or_else-none (fault_at faults k rule)) }
+
+pub judges-same : (f g : Rule → Bool) (place : Place3) (old new : FaultMap) → ((rule : Rule) → f rule ≡ g rule) → Judges f place old new → Judges g place old new
+judges-same f g place old new same h = record { each = λ k rule. h.each k rule ∙ ap (λ b. or_else (fault_at old k rule) (at_place place k b)) (same rule) }
+
+both_at : (place : Place3) (k : ℕ) (o : Option Fault) (f g : Bool) → or_else (or_else o (at_place place k f)) (at_place place k g) ≡ or_else o (at_place place k (f || g))
+both_at place k (Some x) f g = refl
+both_at place k None f g = go (k == place.position) f g
+  where
+    go : (t f g : Bool) → or_else {A = Fault} (cond (t && f) (Some (record { decided = place.position; record_no = place.record_no; offset = None })) None) (cond (t && g) (Some (record { decided = place.position; record_no = place.record_no; offset = None })) None)
+        ≡ cond {A = Option Fault} (t && (f || g)) (Some (record { decided = place.position; record_no = place.record_no; offset = None })) None
+    go true true g = refl
+    go true false g = refl
+    go false f g = refl
+
+-- some statements in turn, and then others
+pub judges-then : (f g : Rule → Bool) (place : Place3) (old mid new : FaultMap) → Judges f place old mid → Judges g place mid new → Judges (λ rule. f rule || g rule) place old new
+judges-then f g place old mid new p q = record {
+  each = λ k rule. q.each k rule ∙ ap (λ o. or_else o (at_place place k (g rule))) (p.each k rule) ∙ both_at place k (fault_at old k rule) (f rule) (g rule);
+}
+
+-- the first of two parts was refused
+pub within-first : (f g : Rule → Bool) (place : Place3) (old new : FaultMap) → JudgesWithin f place old new → JudgesWithin (λ rule. f rule || g rule) place old new
+within-first f g place old new p = record { each = λ k rule. go k rule (f rule) refl (p.each k rule) }
+  where
+    go : (k : ℕ) (rule : Rule) (b : Bool) → f rule ≡ b → (fault_at new k rule ≡ fault_at old k rule) ⊎ (fault_at new k rule ≡ or_else (fault_at old k rule) (at_place place k (f rule)))
+        → (fault_at new k rule ≡ fault_at old k rule) ⊎ (fault_at new k rule ≡ or_else (fault_at old k rule) (at_place place k (f rule || g rule)))
+    go k rule b is (inl same) = inl same
+    go k rule true is (inr more) = inr (more ∙ ap (λ t. or_else (fault_at old k rule) (at_place place k t)) (is ∙ sym (ap (λ t. t || g rule) is)))
+    go k rule false is (inr more) = inl (more ∙ ap (λ t. or_else (fault_at old k rule) (at_place place k t)) is ∙ ap (or_else (fault_at old k rule)) (nothing_at place k) ∙ or_else-none (fault_at old k rule))
+
+-- the second of two parts was refused
+pub within-second : (f g : Rule → Bool) (place : Place3) (old mid new : FaultMap) → Judges f place old mid → JudgesWithin g place mid new → JudgesWithin (λ rule. f rule || g rule) place old new
+within-second f g place old mid new p q = record { each = λ k rule. go k rule (f rule) refl (q.each k rule) }
+  where
+    whole : (k : ℕ) (rule : Rule) → fault_at new k rule ≡ or_else (fault_at mid k rule) (at_place place k (g rule)) → fault_at new k rule ≡ or_else (fault_at old k rule) (at_place place k (f rule || g rule))
+    whole k rule more = more ∙ ap (λ o. or_else o (at_place place k (g rule))) (p.each k rule) ∙ both_at place k (fault_at old k rule) (f rule) (g rule)
+
+    go : (k : ℕ) (rule : Rule) (b : Bool) → f rule ≡ b → (fault_at new k rule ≡ fault_at mid k rule) ⊎ (fault_at new k rule ≡ or_else (fault_at mid k rule) (at_place place k (g rule)))
+        → (fault_at new k rule ≡ fault_at old k rule) ⊎ (fault_at new k rule ≡ or_else (fault_at old k rule) (at_place place k (f rule || g rule)))
+    go k rule b is (inr more) = inr (whole k rule more)
+    go k rule true is (inl same) = inr (same ∙ p.each k rule ∙ ap (λ t. or_else (fault_at old k rule) (at_place place k t)) (is ∙ sym (ap (λ t. t || g rule) is)))
+    go k rule false is (inl same) = inl (same ∙ p.each k rule ∙ ap (λ t. or_else (fault_at old k rule) (at_place place k t)) is ∙ ap (or_else (fault_at old k rule)) (nothing_at place k) ∙ or_else-none (fault_at old k rule))
+
+-- what was judged in full is within it
+pub within-all : (f : Rule → Bool) (place : Place3) (old new : FaultMap) → Judges f place old new → JudgesWithin f place old new
+within-all f place old new p = record { each = λ k rule. inr (p.each k rule) }
+
+pub within-same : (f g : Rule → Bool) (place : Place3) (old new : FaultMap) → ((rule : Rule) → f rule ≡ g rule) → JudgesWithin f place old new → JudgesWithin g place old new
+within-same f g place old new same h = record { each = λ k rule. go k rule (h.each k rule) }
+  where
+    go : (k : ℕ) (rule : Rule) → (fault_at new k rule ≡ fault_at old k rule) ⊎ (fault_at new k rule ≡ or_else (fault_at old k rule) (at_place place k (f rule)))
+        → (fault_at new k rule ≡ fault_at old k rule) ⊎ (fault_at new k rule ≡ or_else (fault_at old k rule) (at_place place k (g rule)))
+    go k rule (inl e) = inl e
+    go k rule (inr e) = inr (e ∙ ap (λ b. or_else (fault_at old k rule) (at_place place k b)) (same rule))
+
+-- ---- a list of statements
+
+-- the value that a read of a list names where it has no such place
+abbrev pub unasked : Rule × Bool
+unasked = (W01, false)
+
+or_last : (a b c : Bool) → (a || (b || c)) ≡ ((a || b) || c)
+or_last true b c = refl
+or_last false b c = refl
+
+among_more : (vs : List (Rule × Bool)) (i : ℕ) (d : Rule × Bool) (rule : Rule) → i < length vs
+    → is_among (take (suc i) vs) rule ≡ (is_among (take i vs) rule || ((get_or vs i d).1 && same_rule rule (get_or vs i d).0))
+among_more [] i d rule h = absurd (omega arith)
+among_more (v ∷ vs) zero d rule h = or_false (v.1 && same_rule rule v.0)
+among_more (v ∷ vs) (suc i) d rule h =
+    let lt : i < length vs = omega arith in
+    ap (λ b. (v.1 && same_rule rule v.0) || b) (among_more vs i d rule lt)
+    ∙ or_last (v.1 && same_rule rule v.0) (is_among (take i vs) rule) ((get_or vs i d).1 && same_rule rule (get_or vs i d).0)
+
+among_parts : (vs : List (Rule × Bool)) (i : ℕ) (rule : Rule) → (is_among (take i vs) rule || is_among (drop i vs) rule) ≡ is_among vs rule
+among_parts [] zero rule = refl
+among_parts [] (suc i) rule = refl
+among_parts (v ∷ vs) zero rule = refl
+among_parts (v ∷ vs) (suc i) rule =
+    sym (or_last (v.1 && same_rule rule v.0) (is_among (take i vs) rule) (is_among (drop i vs) rule)) ∙ ap (λ b. (v.1 && same_rule rule v.0) || b) (among_parts vs i rule)
+
+and_turn : (a b : Bool) → (a && b) ≡ (b && a)
+and_turn true true = refl
+and_turn true false = refl
+and_turn false true = refl
+and_turn false false = refl
+
+-- one statement
+pub judges-one : (m : FaultMap) (b : Bool) (s : Rule) (place : Place3) → Judges (λ rule. b && same_rule rule s) place m (judged b s place m)
+judges-one m b s place = record {
+  each = λ k rule. fault_at-judged m b s rule place k
+      ∙ ap (or_else (fault_at m k rule)) (sym (same_told k place.position (same_rule rule s && b) (λ n. record { decided = n; record_no = place.record_no; offset = None }))
+      ∙ ap (at_place place k) (and_turn (same_rule rule s) b));
+}
+
+-- one statement more of the list
+pub judges-more : (vs : List (Rule × Bool)) (i : ℕ) (d : Rule × Bool) (place : Place3) (first old new : FaultMap) → i < length vs
+    → Judges (is_among (take i vs)) place first old → new ≡ judged (get_or vs i d).1 (get_or vs i d).0 place old → Judges (is_among (take (i + 1) vs)) place first new
+judges-more vs i d place first old new lt was now =
+    subst (Judges (is_among (take (i + 1) vs)) place first) (sym now)
+    (judges-same (λ rule. is_among (take i vs) rule || ((get_or vs i d).1 && same_rule rule (get_or vs i d).0)) (is_among (take (i + 1) vs)) place first (judged (get_or vs i d).1 (get_or vs i d).0 place old)
+    (λ rule. sym (ap (λ n. is_among (take n vs) rule) (add-one i) ∙ among_more vs i d rule lt))
+    (judges-then (is_among (take i vs)) (λ rule. (get_or vs i d).1 && same_rule rule (get_or vs i d).0) place first old (judged (get_or vs i d).1 (get_or vs i d).0 place old)
+    was (judges-one old (get_or vs i d).1 (get_or vs i d).0 place)))
+
+-- a list that was judged in part
+pub within-part : (vs : List (Rule × Bool)) (i : ℕ) (place : Place3) (old new : FaultMap) → Judges (is_among (take i vs)) place old new → JudgesWithin (is_among vs) place old new
+within-part vs i place old new h =
+    within-same (λ rule. is_among (take i vs) rule || is_among (drop i vs) rule) (is_among vs) place old new (among_parts vs i)
+    (within-first (is_among (take i vs)) (is_among (drop i vs)) place old new (within-all (is_among (take i vs)) place old new h))
+
+-- ---- one event more
+
+-- a pair's fault of the events so far, or else the one that the next event shows
+one_more : (o : Option Fault) (c : Bool) (here : Option Fault) (t : Bool) (x : Fault) → or_else (or_else o (cond c here None)) (cond (c && t) (Some x) None) ≡ or_else o (cond c (or_else here (cond t (Some x) None)) None)
+one_more (Some y) c here t x = refl
+one_more None true here t x = refl
+one_more None false here t x = refl
+
+-- with the events so far the faults are right, and with one more they have grown by what turns out to fail
+pub grows-step : (chosen : Rule → Bool) (tested : Tested) (e : Seen) (past : List Seen) (first old new : FaultMap)
+    → Grows chosen tested past first old → GrowsBy chosen tested e past old new → Grows chosen tested (e ∷ past) first new
+grows-step chosen tested e past first old new was more = record {
+  each = λ k rule. more.each k rule
+      ∙ ap (λ o. or_else o (news chosen tested e past k rule)) (was.each k rule)
+      ∙ one_more (fault_at first k rule) (chosen rule) (fault_in tested past k rule) (turns tested e past k rule) (reported tested.role (moment (e ∷ past) k) rule (length past + 1))
+      ∙ ap (λ o. or_else (fault_at first k rule) (cond (chosen rule) o None)) (sym (fault_in-step tested e past k rule));
+}
+
+pub grows-start : (chosen : Rule → Bool) (tested : Tested) (faults : FaultMap) → Grows chosen tested [] faults faults
+grows-start chosen tested faults = record {
+  each = λ k rule. sym (ap (λ o. or_else (fault_at faults k rule) (cond (chosen rule) o None)) (fault_in-start tested k rule)
+      ∙ ap (or_else (fault_at faults k rule)) (alike (chosen rule)) ∙ or_else-none (fault_at faults k rule));
+}
+  where
+    alike : (c : Bool) → cond {A = Option Fault} c None None ≡ None
+    alike true = refl
+    alike false = refl
+
+-- ---- what a refusal leaves
+
+-- the fault of a pair stays with one event more
+fault_stays : (tested : Tested) (e : Seen) (past : List Seen) (k : ℕ) (rule : Rule) (x : Fault) → fault_in tested past k rule ≡ Some x → fault_in tested (e ∷ past) k rule ≡ Some x
+fault_stays tested e past k rule x h = fault_in-step tested e past k rule ∙ ap (λ o. or_else o (cond (turns tested e past k rule) (Some (reported tested.role (moment (e ∷ past) k) rule (length past + 1))) None)) h
+
+later_or_old : (now first here whole : Option Fault) (c : Bool) → now ≡ or_else first (cond c here None) → ((x : Fault) → here ≡ Some x → whole ≡ Some x)
+    → (now ≡ first) ⊎ (now ≡ or_else first (cond c whole None))
+later_or_old now first here whole false h later = inl (h ∙ or_else-none first)
+later_or_old now first None whole true h later = inl (h ∙ or_else-none first)
+later_or_old now first (Some x) whole true h later = inr (h ∙ ap (or_else first) (sym (later x refl)))
+
+-- what is within the faults of a log is within those of the log with one event more
+within-older : (chosen : Rule → Bool) (tested : Tested) (e : Seen) (past : List Seen) (first now : FaultMap) → GrowsWithin chosen tested past first now → GrowsWithin chosen tested (e ∷ past) first now
+within-older chosen tested e past first now h = record { each = λ k rule. go k rule (h.each k rule) }
+  where
+    go : (k : ℕ) (rule : Rule) → (fault_at now k rule ≡ fault_at first k rule) ⊎ (fault_at now k rule ≡ or_else (fault_at first k rule) (cond (chosen rule) (fault_in tested past k rule) None))
+        → (fault_at now k rule ≡ fault_at first k rule) ⊎ (fault_at now k rule ≡ or_else (fault_at first k rule) (cond (chosen rule) (fault_in tested (e ∷ past) k rule) None))
+    go k rule (inl same) = inl same
+    go k rule (inr more) = later_or_old (fault_at now k rule) (fault_at first k rule) (fault_in tested past k rule) (fault_in tested (e ∷ past) k rule) (chosen rule) more (fault_stays tested e past k rule)
+
+pub within-later : (chosen : Rule → Bool) (tested : Tested) (later past : List Seen) (first now : FaultMap) → GrowsWithin chosen tested past first now → GrowsWithin chosen tested (reverse_aux later past) first now
+within-later chosen tested [] past first now h = h
+within-later chosen tested (e ∷ later) past first now h = within-later chosen tested later (e ∷ past) first now (within-older chosen tested e past first now h)
+
+pub grows-within : (chosen : Rule → Bool) (tested : Tested) (log : List Seen) (first now : FaultMap) → Grows chosen tested log first now → GrowsWithin chosen tested log first now
+grows-within chosen tested log first now h = record { each = λ k rule. inr (h.each k rule) }
+
+-- a refusal in the middle of an event
+pub within-step : (chosen : Rule → Bool) (tested : Tested) (e : Seen) (past : List Seen) (first old now : FaultMap)
+    → Grows chosen tested past first old → GrowsByWithin chosen tested e past old now → GrowsWithin chosen tested (e ∷ past) first now
+within-step chosen tested e past first old now was more = record { each = λ k rule. go k rule (more.each k rule) }
+  where
+    older : GrowsWithin chosen tested (e ∷ past) first old
+    older = within-older chosen tested e past first old (grows-within chosen tested past first old was)
+
+    go : (k : ℕ) (rule : Rule) → (fault_at now k rule ≡ fault_at old k rule) ⊎ (fault_at now k rule ≡ or_else (fault_at old k rule) (news chosen tested e past k rule))
+        → (fault_at now k rule ≡ fault_at first k rule) ⊎ (fault_at now k rule ≡ or_else (fault_at first k rule) (cond (chosen rule) (fault_in tested (e ∷ past) k rule) None))
+    go k rule (inl same) = subst (λ o. (o ≡ fault_at first k rule) ⊎ (o ≡ or_else (fault_at first k rule) (cond (chosen rule) (fault_in tested (e ∷ past) k rule) None))) (sym same) (older.each k rule)
+    go k rule (inr grown) = inr (grown ∙ ap (λ o. or_else o (news chosen tested e past k rule)) (was.each k rule)
+        ∙ one_more (fault_at first k rule) (chosen rule) (fault_in tested past k rule) (turns tested e past k rule) (reported tested.role (moment (e ∷ past) k) rule (length past + 1))
+        ∙ ap (λ o. or_else (fault_at first k rule) (cond (chosen rule) o None)) (sym (fault_in-step tested e past k rule)))

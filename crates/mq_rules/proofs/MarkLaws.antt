@@ -1,0 +1,161 @@
+-- Marks are in a total order, which tells all of them apart, and a tree map is the finite map of its entries.
+use Rattle.std.proofs.Common.{◌≡◌, ℕ, Bool, true, false, cond, ◌&&◌, List, [], ◌∷◌, length, Option, Some, None, refl, sym, ap, subst, ◌∙◌, ◌==◌, nat_eq}
+use Rattle.std.specs.Prelude.{T, is_some, Result, Ok, Err, OnErr}
+use Rattle.std.specs.declared.cmp.Ordering.{Ordering}
+use Rattle.std.specs.declared.cmp.Ordering.TheVariants.{Less, Equal, Greater}
+use Rattle.std.specs.Ordering.{is_eq, is_lt, eq_by_cmp}
+use Rattle.std.specs.Cmp.{IsTotalOrder, eq_by_cmp_equiv}
+use Rattle.std.specs.List.{AllByRecursion}
+use Rattle.std.specs.List.Sorted.{IsStrictlySortedBy}
+use Rattle.std.specs.Map.{keys_of, lookup}
+use Rattle.std.specs.BTreeMap.{is_at}
+use Rattle.std.specs.FinMap.{get, insert, entries, len, from_entries, find, is_sorted, get-from_entries, get-insert, get_tied, same_map, entries-from_sorted, get-from_sorted, len-entries}
+use Rattle.std.specs.FinMap.Entries.{below_all}
+use Rattle.std.proofs.lemmas.Map.Lookups.{CmpEqualImpliesEq}
+use Rattle.std.proofs.lemmas.Bool.{eqb-true}
+use Rattle.std.proofs.Math.Bool.{and-true}
+use denote.Enum.Bare.{same_true, sameb}
+use Rattle.mq_rules.specs.contracts.rule.Rule.{the_type}
+use Rattle.mq_rules.specs.contracts.faults.MarkOrd.TheImpl.Laws as laws
+use Rattle.mq_rules.specs.declared.rule.Rule.{Rule}
+use Rattle.mq_rules.specs.declared.faults.Mark.{Mark}
+use Rattle.mq_rules.specs.declared.fault.Fault.{Fault}
+use Rattle.mq_trace.specs.declared.place.Place3.{Place3}
+use Rattle.mq_rules.specs.Words.{or_else}
+use Rattle.mq_rules.specs.Rules.{same_rule}
+use Rattle.mq_rules.specs.Marks.{mark_cmp, FaultMap, fault_at, with_fault, judged}
+
+both_true : (a b : Bool) → (a && b) ≡ true → (a ≡ true) × (b ≡ true)
+both_true true true e = (refl, refl)
+both_true true false e = absurd (cc)
+both_true false b e = absurd (cc)
+
+and_false : (a : Bool) → (a && false) ≡ false
+and_false true = refl
+and_false false = refl
+
+or_else-none : {A : Type 0} (o : Option A) → or_else o None ≡ o
+or_else-none None = refl
+or_else-none (Some a) = refl
+
+pub marks_total : IsTotalOrder mark_cmp
+marks_total = laws.total-law
+
+-- two marks compare alike where both parts are the same
+pub ties : (x y : Mark) → (nat_eq x.position y.position && sameb the_type x.rule y.rule) ≡ is_eq (mark_cmp x y)
+ties = laws.matches_eq-law
+
+-- marks that compare alike are one
+pub exact_marks : CmpEqualImpliesEq mark_cmp
+exact_marks a b h =
+    let parts : (nat_eq a.position b.position ≡ true) × (sameb the_type a.rule b.rule ≡ true) = both_true _ _ (ties a b ∙ ap is_eq h) in
+    let position : a.position ≡ b.position = eqb-true a.position b.position parts.0 in
+    let rule : a.rule ≡ b.rule = same_true the_type tt a.rule b.rule parts.1 in
+    λ i. record { position = position i; rule = rule i }
+
+both : (a b : Bool) → T a → T b → T (a && b)
+both true true p q = tt
+both true false p q = absurd q
+both false b p q = absurd p
+
+module _ {K X : Type 0} (R : K → K → Ordering) where
+  below_each : (x : K) (es : List (K × X)) → AllByRecursion (λ y. R x y ≡ Less) (keys_of es) → T (below_all R x es)
+  below_each x [] h = tt
+  below_each x (e ∷ es) h = both _ _ (subst (λ r. T (is_lt r)) (sym h.0) tt) (below_each x es h.1)
+
+  -- keys that strictly rise
+  rising : (es : List (K × X)) → IsStrictlySortedBy R (keys_of es) → T (is_sorted R es)
+  unfolding IsStrictlySortedBy
+  rising [] h = tt
+  rising (e ∷ es) h = both _ _ (below_each e.0 es h.0) (rising es h.1)
+
+  pub find-lookup : (q : K) (es : List (K × X)) → find R q es ≡ lookup (is_at (R q)) es
+  find-lookup q [] = refl
+  find-lookup q (e ∷ es) = ap (cond (is_at (R q) e.0) (Some e.1)) (find-lookup q es)
+
+-- what the finite map of these entries has at a mark
+pub get-entries_of : (es : List (Mark × Fault)) (q : Mark) → get (from_entries {R = mark_cmp} es) q ≡ lookup (is_at (mark_cmp q)) es
+get-entries_of es q = get-from_entries marks_total es q ∙ find-lookup mark_cmp q es
+
+-- the finite map of entries in order has these entries
+pub entries-of : (es : List (Mark × Fault)) → IsStrictlySortedBy mark_cmp (keys_of es) → entries (from_entries {R = mark_cmp} es) ≡ es
+entries-of es s =
+    let t : T (is_sorted mark_cmp es) = rising mark_cmp es s in
+    ap entries (same_map marks_total exact_marks _ _ (λ q. get-from_entries marks_total es q ∙ sym (get-from_sorted mark_cmp es q t))) ∙ entries-from_sorted mark_cmp es t
+
+pub len-of : (es : List (Mark × Fault)) → IsStrictlySortedBy mark_cmp (keys_of es) → len (from_entries {R = mark_cmp} es) ≡ length es
+len-of es s = len-entries _ ∙ ap length (entries-of es s)
+
+-- entries that differ at one mark make maps that differ there
+pub one_more : (es fs : List (Mark × Fault)) (m : Mark) (v : Fault) → ((q : Mark) → lookup (is_at (mark_cmp q)) fs ≡ cond (is_at (mark_cmp m) q) (Some v) (lookup (is_at (mark_cmp q)) es)) → from_entries {R = mark_cmp} fs ≡ insert (from_entries es) m v
+one_more es fs m v h = same_map marks_total exact_marks _ _ (λ q.
+    get-entries_of fs q ∙ h q ∙ ap (λ b. cond b (Some v) (lookup (is_at (mark_cmp q)) es)) ((eq_by_cmp_equiv marks_total).symm m q)
+    ∙ sym (get-insert marks_total (from_entries es) m v q ∙ ap (cond (eq_by_cmp mark_cmp q m) (Some v)) (get-entries_of es q)))
+
+-- a mark that the faults have keeps its fault
+pub with_fault-there : (m : Mark) (v : Fault) (faults : FaultMap) → is_some (get faults m) ≡ true → faults ≡ with_fault m v faults
+with_fault-there m v faults h = ap (λ b. cond b faults (insert faults m v)) (sym h)
+
+-- a mark that they don't have takes the fault
+pub with_fault-new : (m : Mark) (v : Fault) (faults : FaultMap) → is_some (get faults m) ≡ false → insert faults m v ≡ with_fault m v faults
+with_fault-new m v faults h = ap (λ b. cond b faults (insert faults m v)) (sym h)
+
+-- what holds, holds after an error
+pub on_err : {A E : Type 0} (r : Result A E) (P : Type 0) → P → OnErr r P
+on_err (Ok a) P p = tt
+on_err (Err e) P p = p
+
+pub equal_of : (o : Ordering) → is_eq o ≡ true → o ≡ Equal
+equal_of Less h = absurd (cc)
+equal_of Equal h = refl
+equal_of Greater h = absurd (cc)
+
+get-cond : (b : Bool) (m n : FaultMap) (q : Mark) → get (cond b m n) q ≡ cond b (get m q) (get n q)
+get-cond true m n q = refl
+get-cond false m n q = refl
+
+alike : {A : Type 0} (b : Bool) (a : A) → cond b a a ≡ a
+alike true a = refl
+alike false a = refl
+
+-- a fault that is added is found under its mark, unless one was there, and under no other
+pub fault_at-with_fault : (m : FaultMap) (p k : ℕ) (s r : Rule) (f : Fault) → fault_at (with_fault (record { position = p; rule = s }) f m) k r ≡ or_else (fault_at m k r) (cond ((k == p) && same_rule r s) (Some f) None)
+fault_at-with_fault m p k s r f =
+    get-cond (is_some (get m mark)) m (insert m mark f) q
+    ∙ ap (cond (is_some (get m mark)) (get m q)) (get-insert marks_total m mark f q)
+    ∙ go (eq_by_cmp mark_cmp q mark) refl (is_some (get m mark)) refl
+    ∙ ap (λ b. or_else (get m q) (cond b (Some f) None)) (sym (ties q mark))
+  where
+    mark : Mark
+    mark = record { position = p; rule = s }
+
+    q : Mark
+    q = record { position = k; rule = r }
+
+    there : (o : Option Fault) (h : Bool) → is_some o ≡ h → cond h o (Some f) ≡ or_else o (Some f)
+    there (Some x) true e = refl
+    there (Some x) false e = absurd (cc)
+    there None true e = absurd (cc)
+    there None false e = refl
+
+    go : (t : Bool) → eq_by_cmp mark_cmp q mark ≡ t → (h : Bool) → is_some (get m mark) ≡ h → cond h (get m q) (cond t (Some f) (get m q)) ≡ or_else (get m q) (cond t (Some f) None)
+    go true e h i = subst (λ (o : Option Fault). cond h o (Some f) ≡ or_else o (Some f)) (get_tied marks_total m q mark (equal_of (mark_cmp q mark) e)) (there (get m mark) h i)
+    go false e h i = alike h (get m q) ∙ sym (or_else-none (get m q))
+
+-- where the positions are one, what is told of them is one
+pub same_told : (k p : ℕ) (b : Bool) (f : ℕ → Fault) → cond ((k == p) && b) (Some (f p)) None ≡ cond ((k == p) && b) (Some (f k)) None
+same_told k p b f = go (k == p) refl
+  where
+    go : (t : Bool) → (k == p) ≡ t → cond (t && b) (Some (f p)) None ≡ cond (t && b) (Some (f k)) None
+    go true e = ap (λ n. cond b (Some (f n)) None) (sym (eqb-true k p e))
+    go false e = refl
+
+pub fault_at-judged : (m : FaultMap) (b : Bool) (s r : Rule) (place : Place3) (k : ℕ) → fault_at (judged b s place m) k r
+    ≡ or_else (fault_at m k r) (cond ((k == place.position) && (same_rule r s && b)) (Some (record { decided = k; record_no = place.record_no; offset = None })) None)
+fault_at-judged m true s r place k =
+    fault_at-with_fault m place.position k s r (record { decided = place.position; record_no = place.record_no; offset = None })
+    ∙ ap (or_else (fault_at m k r)) (same_told k place.position (same_rule r s) (λ n. record { decided = n; record_no = place.record_no; offset = None })
+    ∙ ap (λ b. cond ((k == place.position) && b) (Some (record { decided = k; record_no = place.record_no; offset = None })) None) (sym (and-true (same_rule r s))))
+fault_at-judged m false s r place k =
+    sym (or_else-none (fault_at m k r))
+    ∙ ap (λ b. or_else (fault_at m k r) (cond b (Some (record { decided = k; record_no = place.record_no; offset = None })) None)) (sym (ap (λ b. (k == place.position) && b) (and_false (same_rule r s)) ∙ and_false (k == place.position)))

@@ -1,0 +1,238 @@
+-- The plain evaluators: a list that is read from its front, and the statements on the bytes of one packet.
+use Rattle.std.proofs.Common.{◌≡◌, ℕ, ◌+◌, ◌<◌, ◌==◌, Bool, true, false, cond, ◌&&◌, List, [], ◌∷◌, length, take, drop, get_or, Option, Some, None, refl, ap, sym, ◌∙◌, subst, arith, zero, suc, add-one, inl}
+use Rattle.std.specs.Prelude.{option_map, reverse}
+use mathlib.Core.List.{reverse_aux}
+use denote.Enum.Bare.{same_true, sameb}
+use Rattle.mq_packet.specs.declared.rule.PacketRule.{PacketRule}
+use Rattle.mq_packet.specs.declared.rule.PacketRule.TheVariants as packets
+use Rattle.mq_packet.specs.contracts.rule.PacketRule.{the_type as packet_rules}
+use Rattle.mq_packet.specs.declared.fault.BodyFault.{BodyFault}
+use Rattle.mq_rules.specs.contracts.rule.Rule.{the_type}
+use Rattle.mq_rules.specs.declared.role.Role.{Role}
+use Rattle.mq_rules.specs.declared.role.Role.TheVariants.{Client, Server}
+use Rattle.mq_rules.specs.declared.role.Tested.{Tested}
+use Rattle.mq_rules.specs.declared.rule.Rule.{Rule}
+use Rattle.mq_rules.specs.declared.rule.Rule.TheVariants.{W01, W02, W03, W04, W05, W06, W07, W08, W09, W10, W11, W12, W13, W14, W15, W16, W17, W18, W19, W20, W21}
+use Rattle.mq_rules.specs.declared.fault.Fault.{Fault}
+use Rattle.mq_rules.specs.declared.note.Seen.{Seen}
+use Rattle.mq_rules.specs.Words.{or_else, is_some_and}
+use Rattle.mq_rules.specs.Notes.{broken}
+use Rattle.mq_rules.specs.Moments.{newest, moment, IsPlaced}
+use Rattle.mq_rules.specs.Rules.{same_rule, binds, found_line, lines, line_of}
+use Rattle.mq_rules.specs.Statements.{Statement, on_bytes, on_past, in_session, at_release, at_rest, statement, breaks_bytes, is_by_bytes, is_on_bytes}
+use Rattle.mq_rules.specs.Steps.{shows, turns}
+use Rattle.mq_rules.specs.Marks.{FaultMap, fault_at, with_fault}
+use Rattle.mq_rules.specs.Faults.{record_of, offset_of, Grows, GrowsWithin}
+use Rattle.mq_rules.specs.Keeping.{GrowsBy, GrowsByWithin}
+use Rattle.mq_rules.proofs.BoolLaws.{and_false, or_else-none, same_test, not_true}
+use Rattle.mq_rules.proofs.MarkLaws.{fault_at-with_fault}
+use Rattle.mq_rules.proofs.GrowLaws.{grows-step, within-later, grows-within, within-step}
+
+-- ---- a list that is read from its front
+
+onto : (xs : List Seen) (i : ℕ) (d : Seen) (later : List Seen) → i < length xs → reverse_aux (take (suc i) xs) later ≡ get_or xs i d ∷ reverse_aux (take i xs) later
+onto [] i d later h = absurd (omega arith)
+onto (x ∷ xs) zero d later h = refl
+onto (x ∷ xs) (suc i) d later h = let lt : i < length xs = omega arith in onto xs i d (x ∷ later) lt
+
+-- one more event is the newest
+pub newest-first : (xs : List Seen) (i : ℕ) (e : Seen) → i < length xs → e ≡ get_or xs i e → reverse (take (i + 1) xs) ≡ e ∷ reverse (take i xs)
+newest-first xs i e h is = ap (λ n. reverse (take n xs)) (add-one i) ∙ onto xs i e [] h ∙ ap (λ x. x ∷ reverse (take i xs)) (sym is)
+
+parts : (xs : List Seen) (i : ℕ) (past : List Seen) → reverse_aux xs past ≡ reverse_aux (drop i xs) (reverse_aux (take i xs) past)
+parts [] zero past = refl
+parts [] (suc i) past = refl
+parts (x ∷ xs) zero past = refl
+parts (x ∷ xs) (suc i) past = parts xs i (x ∷ past)
+
+-- the list is that of its first events with the later ones before them
+pub beginning : (xs : List Seen) (i : ℕ) → reverse_aux (drop i xs) (reverse (take i xs)) ≡ reverse xs
+beginning xs i = sym (parts xs i [])
+
+placed_tail : (later past : List Seen) → IsPlaced (reverse_aux later past) → IsPlaced past
+placed_tail [] past h = h
+placed_tail (e ∷ later) past h = (placed_tail later (e ∷ past) h).1
+
+-- each event has its place
+pub next-place : (xs : List Seen) (i : ℕ) (e : Seen) → i < length xs → e ≡ get_or xs i e → IsPlaced (reverse xs) → e.place.position ≡ length (reverse (take i xs)) + 1
+next-place xs i e lt is placed =
+    (subst IsPlaced (newest-first xs i e lt is) (placed_tail (drop (i + 1) xs) (reverse (take (i + 1) xs)) (subst IsPlaced (sym (beginning xs (i + 1))) placed))).0
+
+-- ---- the statements on the bytes of one packet
+
+-- each has its own rule
+rule_of : PacketRule → Rule
+rule_of packets.W01 = W01
+rule_of packets.W02 = W02
+rule_of packets.W03 = W03
+rule_of packets.W04 = W04
+rule_of packets.W05 = W05
+rule_of packets.W06 = W06
+rule_of packets.W07 = W07
+rule_of packets.W08 = W08
+rule_of packets.W09 = W09
+rule_of packets.W10 = W10
+rule_of packets.W11 = W11
+rule_of packets.W12 = W12
+rule_of packets.W13 = W13
+rule_of packets.W14 = W14
+rule_of packets.W15 = W15
+rule_of packets.W16 = W16
+rule_of packets.W17 = W17
+rule_of packets.W18 = W18
+rule_of packets.W19 = W19
+rule_of packets.W20 = W20
+rule_of packets.W21 = W21
+
+is_own : Rule → Statement → Bool
+is_own rule (on_bytes bytes) = same_rule rule (rule_of bytes)
+is_own rule (on_past breaks) = true
+is_own rule (in_session breaks) = true
+is_own rule (at_release breaks) = true
+is_own rule (at_rest test) = true
+
+own : (role : Role) (rule : Rule) → is_own rule (statement role rule) ≡ true
+unfolding is_own rule_of
+own role W01 = refl
+own role _ = refl
+
+named : (role : Role) (rule : Rule) (bytes : PacketRule) → statement role rule ≡ on_bytes bytes → rule ≡ rule_of bytes
+unfolding is_own
+named role rule bytes is = same_true the_type tt rule (rule_of bytes) (ap (is_own rule) (sym is) ∙ own role rule)
+
+-- each binds both ends
+is_bound : Statement → Bool → Bool
+is_bound (on_bytes bytes) b = b
+is_bound (on_past breaks) b = true
+is_bound (in_session breaks) b = true
+is_bound (at_release breaks) b = true
+is_bound (at_rest test) b = true
+
+bound_for : (role : Role) (releases : Bool) (rule : Rule) → is_bound (statement role rule) (binds rule (record { role = role; releases = releases })) ≡ true
+unfolding is_bound found_line lines line_of
+bound_for Client releases W01 = refl
+bound_for Client releases _ = refl
+bound_for Server releases W01 = refl
+bound_for Server releases _ = refl
+
+bound : (tested : Tested) (rule : Rule) (bytes : PacketRule) → statement tested.role rule ≡ on_bytes bytes → binds rule tested ≡ true
+unfolding is_bound
+bound tested rule bytes is = ap (λ s. is_bound s (binds rule tested)) (sym is) ∙ bound_for tested.role tested.releases rule
+
+same_self : (bytes : PacketRule) → sameb packet_rules bytes bytes ≡ true
+same_self packets.W01 = refl
+same_self _ = refl
+
+self_same : (rule : Rule) → same_rule rule rule ≡ true
+self_same W01 = refl
+self_same _ = refl
+
+-- an event whose bytes break nothing
+news-none : (s : Statement) (b : Bool) (role : Role) (e : Seen) (past : List Seen) (k : ℕ) → broken e.note ≡ None → (is_by_bytes s && (b && shows role s e past k)) ≡ false
+unfolding breaks_bytes
+news-none (on_bytes bytes) b role e past k none =
+    ap (λ o. b && ((k == length past + 1) && is_some_and (λ (fault : BodyFault). sameb packet_rules bytes fault.rule) o)) none ∙ go b (k == length past + 1)
+  where
+    go : (b t : Bool) → (b && (t && false)) ≡ false
+    go true true = refl
+    go true false = refl
+    go false t = refl
+news-none (on_past breaks) b role e past k none = refl
+news-none (in_session breaks) b role e past k none = refl
+news-none (at_release breaks) b role e past k none = refl
+news-none (at_rest test) b role e past k none = refl
+
+pub bytes-none : (tested : Tested) (e : Seen) (past : List Seen) (m : FaultMap) → broken e.note ≡ None → GrowsBy (is_on_bytes tested) tested e past m m
+unfolding turns
+bytes-none tested e past m none = record {
+  each = λ k rule. sym (
+      ap (λ b. or_else (fault_at m k rule) (cond {A = Option Fault} b (Some (record { decided = length past + 1; record_no = record_of (moment (e ∷ past) k); offset = offset_of (statement tested.role rule) (moment (e ∷ past) k) })) None))
+      (news-none (statement tested.role rule) (binds rule tested) tested.role e past k none)
+      ∙ or_else-none (fault_at m k rule));
+}
+
+-- a rule and the packet rule that are of one statement
+same_bytes : (tested : Tested) (rule name : Rule) (bytes found : PacketRule) → statement tested.role rule ≡ on_bytes bytes → statement tested.role name ≡ on_bytes found
+    → same_rule rule name ≡ sameb packet_rules bytes found
+same_bytes tested rule name bytes found is name_is =
+    same_test (same_rule rule name) (sameb packet_rules bytes found)
+    (λ same.
+    let one : rule ≡ name = same_true the_type tt rule name same in
+    let whole : on_bytes bytes ≡ on_bytes found = sym is ∙ ap (statement tested.role) one ∙ name_is in
+    let both : bytes ≡ found = cc in
+    subst (λ b. sameb packet_rules bytes b ≡ true) both (same_self bytes))
+    (λ same.
+    let one : bytes ≡ found = same_true packet_rules tt bytes found same in
+    let both : rule ≡ name = named tested.role rule bytes is ∙ ap rule_of one ∙ sym (named tested.role name found name_is) in
+    subst (λ r. same_rule rule r ≡ true) both (self_same rule))
+
+-- a rule of another shape is not that of the packet rule
+other_shape : (tested : Tested) (rule name : Rule) (found : PacketRule) (s : Statement) → statement tested.role rule ≡ s → is_by_bytes s ≡ false → statement tested.role name ≡ on_bytes found → same_rule rule name ≡ false
+other_shape tested rule name found s is by name_is = not_true (same_rule rule name) (λ same.
+    let one : rule ≡ name = same_true the_type tt rule name same in
+    let whole : is_by_bytes s ≡ true = ap is_by_bytes (sym is ∙ ap (statement tested.role) one ∙ name_is) in
+    absurd (cc))
+
+none_of : (tested : Tested) (rule name : Rule) (e : Seen) (k : ℕ) (b : BodyFault) → same_rule rule name ≡ false
+    → cond {A = Option Fault} ((k == e.place.position) && same_rule rule name) (Some (record { decided = e.place.position; record_no = e.place.record_no; offset = Some b.at })) None ≡ None
+none_of tested rule name e k b other =
+    ap (λ t. cond {A = Option Fault} t (Some (record { decided = e.place.position; record_no = e.place.record_no; offset = Some b.at })) None) (ap (λ t. (k == e.place.position) && t) other ∙ and_false (k == e.place.position))
+
+-- an event whose bytes break a rule
+news-some : (tested : Tested) (rule name : Rule) (e : Seen) (past : List Seen) (k : ℕ) (b : BodyFault) (s : Statement)
+    → e.place.position ≡ length past + 1 → broken e.note ≡ Some b → statement tested.role name ≡ on_bytes b.rule → statement tested.role rule ≡ s
+    → cond {A = Option Fault} ((k == e.place.position) && same_rule rule name) (Some (record { decided = e.place.position; record_no = e.place.record_no; offset = Some b.at })) None
+    ≡ cond {A = Option Fault} (is_by_bytes s && (binds rule tested && shows tested.role s e past k)) (Some (record { decided = length past + 1; record_no = record_of (moment (e ∷ past) k); offset = offset_of s (moment (e ∷ past) k) })) None
+unfolding breaks_bytes
+news-some tested rule name e past k b (on_bytes bytes) placed broke name_is is =
+    ap (λ n. cond {A = Option Fault} ((k == n) && same_rule rule name) (Some (record { decided = n; record_no = e.place.record_no; offset = Some b.at })) None) placed
+    ∙ ap (λ t. cond {A = Option Fault} ((k == length past + 1) && t) (Some (record { decided = length past + 1; record_no = e.place.record_no; offset = Some b.at })) None) (same_bytes tested rule name bytes b.rule is name_is)
+    ∙ go (k == length past + 1)
+    ∙ ap (λ o. cond {A = Option Fault} ((k == length past + 1) && is_some_and (λ (fault : BodyFault). sameb packet_rules bytes fault.rule) o)
+    (Some (record { decided = length past + 1; record_no = record_of (moment (e ∷ past) k); offset = offset_of (on_bytes bytes) (moment (e ∷ past) k) })) None) (sym broke)
+    ∙ ap (λ t. cond {A = Option Fault} (t && ((k == length past + 1) && breaks_bytes bytes (newest e past)))
+    (Some (record { decided = length past + 1; record_no = record_of (moment (e ∷ past) k); offset = offset_of (on_bytes bytes) (moment (e ∷ past) k) })) None) (sym (bound tested rule bytes is))
+  where
+    at : (o : Option BodyFault) → o ≡ Some b → Some b.at ≡ option_map (λ fault. fault.at) o
+    at o h = ap (option_map (λ fault. fault.at)) (sym h)
+
+    go : (t : Bool) → cond {A = Option Fault} (t && sameb packet_rules bytes b.rule) (Some (record { decided = length past + 1; record_no = e.place.record_no; offset = Some b.at })) None
+        ≡ cond {A = Option Fault} (t && sameb packet_rules bytes b.rule) (Some (record { decided = length past + 1; record_no = record_of (cond t (Some (newest e past)) (moment past k)); offset = offset_of (on_bytes bytes) (cond t (Some (newest e past)) (moment past k)) })) None
+    go true = ap (λ o. cond {A = Option Fault} (sameb packet_rules bytes b.rule) (Some (record { decided = length past + 1; record_no = e.place.record_no; offset = o })) None) (at (broken e.note) broke)
+    go false = refl
+news-some tested rule name e past k b (on_past breaks) placed broke name_is is = none_of tested rule name e k b (other_shape tested rule name b.rule (on_past breaks) is refl name_is)
+news-some tested rule name e past k b (in_session breaks) placed broke name_is is = none_of tested rule name e k b (other_shape tested rule name b.rule (in_session breaks) is refl name_is)
+news-some tested rule name e past k b (at_release breaks) placed broke name_is is = none_of tested rule name e k b (other_shape tested rule name b.rule (at_release breaks) is refl name_is)
+news-some tested rule name e past k b (at_rest test) placed broke name_is is = none_of tested rule name e k b (other_shape tested rule name b.rule (at_rest test) is refl name_is)
+
+pub bytes-some : (tested : Tested) (e : Seen) (past : List Seen) (m : FaultMap) (name : Rule) (b : BodyFault) → e.place.position ≡ length past + 1
+    → broken e.note ≡ Some b → statement tested.role name ≡ on_bytes b.rule
+    → GrowsBy (is_on_bytes tested) tested e past m (with_fault (record { position = e.place.position; rule = name }) (record { decided = e.place.position; record_no = e.place.record_no; offset = Some b.at }) m)
+unfolding turns
+bytes-some tested e past m name b placed broke name_is = record {
+  each = λ k rule. fault_at-with_fault m e.place.position k name rule (record { decided = e.place.position; record_no = e.place.record_no; offset = Some b.at })
+      ∙ ap (or_else (fault_at m k rule)) (news-some tested rule name e past k b (statement tested.role rule) placed broke name_is refl);
+}
+
+-- a refusal that leaves the faults unchanged
+pub within-unchanged : (chosen : Rule → Bool) (tested : Tested) (e : Seen) (past : List Seen) (m : FaultMap) → GrowsByWithin chosen tested e past m m
+within-unchanged chosen tested e past m = record { each = λ k rule. inl refl }
+
+-- ---- the faults of a list, where a refusal came after its first events
+
+pub within-beginning : (chosen : Rule → Bool) (tested : Tested) (seen : List Seen) (i : ℕ) (first now : FaultMap)
+    → Grows chosen tested (reverse (take i seen)) first now → GrowsWithin chosen tested (reverse seen) first now
+within-beginning chosen tested seen i first now h =
+    subst (λ log. GrowsWithin chosen tested log first now) (beginning seen i)
+    (within-later chosen tested (drop i seen) (reverse (take i seen)) first now (grows-within chosen tested (reverse (take i seen)) first now h))
+
+pub within-next : (chosen : Rule → Bool) (tested : Tested) (seen : List Seen) (i : ℕ) (e : Seen) (first old now : FaultMap) → i < length seen → e ≡ get_or seen i e
+    → Grows chosen tested (reverse (take i seen)) first old → GrowsByWithin chosen tested e (reverse (take i seen)) old now → GrowsWithin chosen tested (reverse seen) first now
+within-next chosen tested seen i e first old now lt is was more =
+    subst (λ log. GrowsWithin chosen tested log first now) (ap (reverse_aux (drop (i + 1) seen)) (sym (newest-first seen i e lt is)) ∙ beginning seen (i + 1))
+    (within-later chosen tested (drop (i + 1) seen) (e ∷ reverse (take i seen)) first now (within-step chosen tested e (reverse (take i seen)) first old now was more))
+
+pub grows-next : (chosen : Rule → Bool) (tested : Tested) (seen : List Seen) (i : ℕ) (e : Seen) (first old now : FaultMap) → i < length seen → e ≡ get_or seen i e
+    → Grows chosen tested (reverse (take i seen)) first old → GrowsBy chosen tested e (reverse (take i seen)) old now → Grows chosen tested (reverse (take (i + 1) seen)) first now
+grows-next chosen tested seen i e first old now lt is was more =
+    subst (λ log. Grows chosen tested log first now) (sym (newest-first seen i e lt is)) (grows-step chosen tested e (reverse (take i seen)) first old now was more)

@@ -1,0 +1,7 @@
+use Rattle.std.proofs.Common.{take}
+use Rattle.mq_rules.specs.Keeping.{is_among, Judges}
+use Rattle.mq_rules.proofs.conn.judge_each.Given as goal
+
+-- the statements so far have been judged
+abbrev pub invariant-loop-rule : goal.invariant-loop-rule
+invariant-loop-rule l = Judges (is_among (take l.rule-index l.verdicts)) l.place l.initial.faults l.faults

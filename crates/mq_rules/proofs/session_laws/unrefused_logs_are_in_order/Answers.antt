@@ -1,0 +1,8 @@
+use Rattle.mq_rules.proofs.OrderLaws.{orderly}
+use Rattle.mq_rules.proofs.session_laws.unrefused_logs_are_in_order.Goals as goal
+
+pub returns-clause-placed : goal.returns-clause-placed
+returns-clause-placed c = λ limit bytes unrefused. (orderly limit bytes unrefused).placed
+
+pub returns-clause-in_order : goal.returns-clause-in_order
+returns-clause-in_order c = λ limit bytes unrefused. (orderly limit bytes unrefused).in_order

@@ -1,0 +1,284 @@
+-- What is kept of the latest connection, so that C01 to C23 are judged in one pass: what it is after these events, what one event more makes of it,
+-- and what it tells of that event.
+use Rattle.std.specs.Prelude.{ℕ, ◌≡◌, ◌+◌, ◌-◌, ◌==◌, ◌⊎◌, nat_lt, Bool, true, false, ◌&&◌, ◌||◌, not, cond, List, [], ◌∷◌, length, Option, Some, None, is_some, is_none, unwrap_or, option_map}
+use Rattle.std.specs.Option.{option_and_then}
+use Rattle.std.specs.List.{list_any}
+use Rattle.std.specs.Borrow.{Bor}
+use Rattle.std.specs.BTreeSet.{contains}
+use Rattle.std.specs.Ordering.{nat_cmp}
+use Rattle.mq_trace.specs.declared.place.Place3.{Place3}
+use Rattle.mq_packet.specs.declared.packet.PacketType.{PacketType}
+use Rattle.mq_packet.specs.declared.packet.PacketType.TheVariants as types
+use Rattle.mq_rules.specs.declared.role.Role.{Role}
+use Rattle.mq_rules.specs.declared.role.Role.TheVariants.{Client, Server}
+use Rattle.mq_rules.specs.declared.role.Tested.{Tested}
+use Rattle.mq_rules.specs.declared.rule.Rule.{Rule}
+use Rattle.mq_rules.specs.declared.rule.Rule.TheVariants.{C01, C02, C03, C04, C05, C06, C07, C08, C09, C10, C11, C12, C13, C14, C15, C16, C17, C18, C19, C20, C21, C22, C23}
+use Rattle.mq_rules.specs.declared.fault.Fault.{Fault}
+use Rattle.mq_rules.specs.declared.note.Note.{Note}
+use Rattle.mq_rules.specs.declared.note.ItemNote.{ItemNote}
+use Rattle.mq_rules.specs.declared.note.Seen.{Seen}
+use Rattle.mq_rules.specs.declared.packet_note.PacketNote.{PacketNote}
+use Rattle.mq_rules.specs.declared.packet_note.PublishNote.{PublishNote}
+use Rattle.mq_rules.specs.declared.packet_note.ConnackNote.{ConnackNote}
+use Rattle.mq_rules.specs.declared.conn.state.ConnectionState.{ConnectionState}
+use Rattle.mq_rules.specs.declared.conn.Conn.{Conn}
+use Rattle.mq_rules.specs.Words.{or_else, is_some_and, is_id, only}
+use Rattle.mq_rules.specs.Notes.{is_open, is_rest, is_typed, is_of_type, foreign_types, sent_item, sent_packet, sends_type, receives_type, sent_publish, sent_connack, sent_disconnect, disconnect_in, connect_of, connack_of, client_disconnect, decides, may_explain, resumed_by, qos_number}
+use Rattle.mq_rules.specs.Moments.{note, moment, some, earliest}
+use Rattle.mq_rules.specs.Connections.{begun, connection, first_connect, first_connack, accepted, is_alive_after}
+use Rattle.mq_rules.specs.Pasts.{sends_typed, is_sent_disconnect, is_sent_refusal, set_alias}
+use Rattle.mq_rules.specs.Rules.{same_rule}
+use Rattle.mq_rules.specs.Steps.{turns}
+use Rattle.mq_rules.specs.Marks.{FaultMap, fault_at}
+use Rattle.mq_rules.specs.Faults.{reported}
+
+-- ---- what is kept after these events
+
+unfoldable pub kept : Role → List Seen → ConnectionState
+kept role past = record {
+  has_begun = not (begun past == 0);
+  was_alive = is_alive_after role (begun past - 1) past;
+  fate = earliest (decides role) (connection past);
+  connect = first_connect role (connection past);
+  connack = first_connack role (connection past);
+  disconnect = earliest (client_disconnect role) (connection past);
+  has_sent = some sends_typed (connection past);
+  has_sent_connect = some (λ m. sends_type types.Connect (note m)) (connection past);
+  has_sent_connack = some (λ m. sends_type types.Connack (note m)) (connection past);
+  has_received_connect = some (λ m. receives_type types.Connect (note m)) (connection past);
+  has_sent_disconnect = some (λ m. is_sent_disconnect (note m)) (connection past);
+  has_sent_refusal = some (λ m. is_sent_refusal (note m)) (connection past);
+}
+
+-- a PUBLISH with a Topic Name and this Topic Alias was sent on the latest connection (MQTT 5.0, section 3.3.2.3.4)
+unfoldable pub is_alias_set : List Seen → ℕ → Bool
+is_alias_set past alias = some (λ m. is_id alias (set_alias (note m))) (connection past)
+
+-- ---- one event more
+
+-- the Session Expiry Interval of the connection, in seconds (MQTT 5.0, sections 3.1.2.11.2, 3.2.2.3.2 and 3.14.2.2.2)
+abbrev pub expiry : ConnectionState → ℕ
+expiry s = unwrap_or (or_else (option_and_then (λ d. d) s.disconnect)
+    (or_else (option_and_then (λ a. a.session_expiry) s.connack) (option_and_then (λ c. c.session_expiry) s.connect))) 0
+
+-- the session is alive after the connection (MQTT 5.0, section 4.1)
+abbrev pub stays_alive : ConnectionState → Bool
+stays_alive s = s.has_begun && cond (accepted s.fate) (not (expiry s == 0)) ((is_some s.connect && is_none s.connack) || s.was_alive)
+
+-- at an OPEN a new connection begins
+abbrev pub begun_if : Bool → ConnectionState → ConnectionState
+begun_if false s = s
+begun_if true s = record {
+  has_begun = true;
+  was_alive = stays_alive s;
+  fate = None;
+  connect = None;
+  connack = None;
+  disconnect = None;
+  has_sent = false;
+  has_sent_connect = false;
+  has_sent_connack = false;
+  has_received_connect = false;
+  has_sent_disconnect = false;
+  has_sent_refusal = false;
+}
+
+-- what the event adds
+abbrev pub followed : Role → ConnectionState → Note → ConnectionState
+followed role s n = record {
+  has_begun = s.has_begun;
+  was_alive = s.was_alive;
+  fate = or_else s.fate (decides role n);
+  connect = or_else s.connect (connect_of role n);
+  connack = or_else s.connack (connack_of role n);
+  disconnect = or_else s.disconnect (client_disconnect role n);
+  has_sent = s.has_sent || is_some_and is_typed (sent_item n);
+  has_sent_connect = s.has_sent_connect || sends_type types.Connect n;
+  has_sent_connack = s.has_sent_connack || sends_type types.Connack n;
+  has_received_connect = s.has_received_connect || receives_type types.Connect n;
+  has_sent_disconnect = s.has_sent_disconnect || is_sent_disconnect n;
+  has_sent_refusal = s.has_sent_refusal || is_sent_refusal n;
+}
+
+abbrev pub after : Role → ConnectionState → Note → ConnectionState
+after role s n = followed role (begun_if (is_open n) s) n
+
+-- ---- what it tells of the next event: whether a statement is false there. What the event is not is None.
+
+-- Maximum Packet Size, Topic Alias Maximum and Maximum QoS, as the peer announced them (MQTT 5.0, sections 3.1.2.11 and 3.2.2.3)
+abbrev pub size_limit : Role → ConnectionState → Option ℕ
+size_limit Client s = option_and_then (λ a. a.maximum_packet_size) s.connack
+size_limit Server s = option_and_then (λ c. c.maximum_packet_size) s.connect
+
+abbrev pub alias_limit : Role → ConnectionState → ℕ
+alias_limit Client s = unwrap_or (option_and_then (λ a. a.topic_alias_maximum) s.connack) 0
+alias_limit Server s = unwrap_or (option_and_then (λ c. c.topic_alias_maximum) s.connect) 0
+
+abbrev pub qos_limit : ConnectionState → ℕ
+qos_limit s = unwrap_or (option_and_then (λ a. a.maximum_qos) s.connack) 2
+
+abbrev pub may_look : Role → ConnectionState → Bool
+may_look Client s = is_some s.connack
+may_look Server s = true
+
+abbrev pub is_type : PacketType → Option ItemNote → Bool
+is_type type item = is_some_and (is_of_type type) item
+
+-- of a packet that is sent, or bytes that break a rule
+abbrev pub tells_C01 : Role → Option ItemNote → Bool
+tells_C01 role item = list_any (λ type. is_type type item) (foreign_types role)
+
+abbrev pub tells_C02 : ConnectionState → Option ItemNote → Bool
+tells_C02 s item = is_some_and is_typed item && (not (is_type types.Connect item) && not s.has_sent)
+
+abbrev pub tells_C03 : ConnectionState → Option ItemNote → Bool
+tells_C03 s item = is_type types.Connect item && s.has_sent_connect
+
+abbrev pub tells_C04 : ConnectionState → Option ItemNote → Bool
+tells_C04 s item = is_type types.Connack item && not s.has_received_connect
+
+abbrev pub tells_C05 : ConnectionState → Option ItemNote → Bool
+tells_C05 s item = is_some_and is_typed item && (not (is_type types.Connack item || is_type types.Auth item) && not s.has_sent_connack)
+
+abbrev pub tells_C06 : ConnectionState → Option ItemNote → Bool
+tells_C06 s item = is_type types.Connack item && s.has_sent_connack
+
+abbrev pub tells_C11 : ConnectionState → Option ItemNote → Bool
+tells_C11 s item = is_some_and is_typed item && s.has_sent_disconnect
+
+abbrev pub tells_C12 : ConnectionState → Option ItemNote → Bool
+tells_C12 s item = is_some_and is_typed item && s.has_sent_refusal
+
+-- of a packet that is sent
+abbrev pub tells_C13 : ConnectionState → Option PacketNote → Bool
+tells_C13 s packet = is_some packet && (not (is_some (option_and_then disconnect_in (option_map (λ p. p.fields) packet)))
+    && (is_some_and resumed_by s.connack && (is_some_and (λ c. c.clean_start) s.connect || not s.was_alive)))
+
+abbrev pub tells_C14 : Role → ConnectionState → Option PacketNote → Bool
+tells_C14 role s packet = is_some_and (λ p. is_some_and (λ most. nat_lt most p.size) (size_limit role s)) packet
+
+abbrev pub tells_C21 : ConnectionState → Option PacketNote → Bool
+tells_C21 s packet = is_some_and (λ p. (p.has_reason_string || p.has_user_property) && not (may_explain p.fields)) packet
+    && is_some_and (λ c. is_id 0 c.request_problem_information) s.connect
+
+-- of a PUBLISH that is sent; aliases are the Topic Aliases that are set
+abbrev pub tells_C15 : Role → ConnectionState → Option PublishNote → Bool
+tells_C15 role s publish = may_look role s && is_some_and (λ alias. nat_lt (alias_limit role s) alias) (option_and_then (λ p. p.topic_alias) publish)
+
+abbrev pub tells_C16 : (ℕ → Bool) → Option PublishNote → Bool
+tells_C16 aliases publish = is_some_and (λ alias. not (aliases alias)) (option_and_then (λ p. only (length p.topic == 0) p.topic_alias) publish)
+
+abbrev pub tells_C17 : ConnectionState → Option PublishNote → Bool
+tells_C17 s publish = is_some_and (λ p. nat_lt (qos_limit s) (qos_number p.qos)) publish
+
+abbrev pub tells_C18 : Option PublishNote → Bool
+tells_C18 publish = is_some_and (λ p. p.has_subscription_identifier) publish
+
+-- of a CONNACK that is sent
+abbrev pub tells_C07 : ConnectionState → Option ConnackNote → Bool
+tells_C07 s connack = is_some_and (λ c. c.session_present) connack && is_some_and (λ c. c.clean_start) s.connect
+
+abbrev pub tells_C08 : ConnectionState → Option ConnackNote → Bool
+tells_C08 s connack = is_some_and (λ c. c.session_present) connack && (is_some_and (λ c. c.code == 0) connack && not s.was_alive)
+
+abbrev pub tells_C09 : Option ConnackNote → Bool
+tells_C09 connack = is_some_and (λ c. c.session_present) connack && not (is_some_and (λ c. c.code == 0) connack)
+
+abbrev pub tells_C10 : ConnectionState → Option ConnackNote → Bool
+tells_C10 s connack = is_some_and (λ c. c.code == 0) connack && (not (is_some_and (λ c. c.has_assigned_identifier) connack) && is_some_and (λ c. c.is_unnamed) s.connect)
+
+abbrev pub tells_C22 : ConnectionState → Option ConnackNote → Bool
+tells_C22 s connack = is_some_and (λ c. c.has_response_information) connack && is_some_and (λ c. not (is_id 1 c.request_response_information)) s.connect
+
+-- of a DISCONNECT that is sent
+abbrev pub tells_C19 : Option (Option ℕ) → Bool
+tells_C19 disconnect = is_some_and is_some disconnect
+
+abbrev pub tells_C20 : ConnectionState → Option (Option ℕ) → Bool
+tells_C20 s disconnect = is_some_and (λ d. is_some_and (λ seconds. not (seconds == 0)) d) disconnect && is_some_and (λ c. unwrap_or c.session_expiry 0 == 0) s.connect
+
+-- of a REST
+abbrev pub has_left : Role → ConnectionState → Bool
+has_left Client s = s.has_sent_disconnect
+has_left Server s = s.has_sent_disconnect || s.has_sent_refusal
+
+abbrev pub tells_C23 : Role → ConnectionState → Bool → Bool
+tells_C23 role s is_rest = is_rest && has_left role s
+
+-- ---- each statement that binds the end, with whether it is false at the event
+
+-- what a reference points to, if there is one
+abbrev pub behind : {A : Type 0} → Option (Bor A) → Option A
+behind r = option_map (λ b. b.now) r
+
+abbrev pub item_verdicts : Role → ConnectionState → Option ItemNote → List (Rule × Bool)
+item_verdicts Client s item = (C01, tells_C01 Client item) ∷ (C02, tells_C02 s item) ∷ (C03, tells_C03 s item) ∷ (C11, tells_C11 s item) ∷ []
+item_verdicts Server s item = (C01, tells_C01 Server item) ∷ (C04, tells_C04 s item) ∷ (C05, tells_C05 s item) ∷ (C06, tells_C06 s item) ∷ (C11, tells_C11 s item) ∷ (C12, tells_C12 s item) ∷ []
+
+abbrev pub packet_verdicts : Role → ConnectionState → Option PacketNote → List (Rule × Bool)
+packet_verdicts Client s packet = (C13, tells_C13 s packet) ∷ (C14, tells_C14 Client s packet) ∷ []
+packet_verdicts Server s packet = (C14, tells_C14 Server s packet) ∷ (C21, tells_C21 s packet) ∷ []
+
+abbrev pub publish_verdicts : Role → ConnectionState → (ℕ → Bool) → Option PublishNote → List (Rule × Bool)
+publish_verdicts Client s aliases publish = (C15, tells_C15 Client s publish) ∷ (C16, tells_C16 aliases publish) ∷ (C17, tells_C17 s publish) ∷ (C18, tells_C18 publish) ∷ []
+publish_verdicts Server s aliases publish = (C15, tells_C15 Server s publish) ∷ (C16, tells_C16 aliases publish) ∷ []
+
+abbrev pub connack_verdicts : Role → ConnectionState → Option ConnackNote → List (Rule × Bool)
+connack_verdicts Client s connack = []
+connack_verdicts Server s connack = (C07, tells_C07 s connack) ∷ (C08, tells_C08 s connack) ∷ (C09, tells_C09 connack) ∷ (C10, tells_C10 s connack) ∷ (C22, tells_C22 s connack) ∷ []
+
+abbrev pub disconnect_verdicts : Role → ConnectionState → Option (Option ℕ) → List (Rule × Bool)
+disconnect_verdicts Client s disconnect = (C20, tells_C20 s disconnect) ∷ []
+disconnect_verdicts Server s disconnect = (C19, tells_C19 disconnect) ∷ []
+
+abbrev pub rest_verdicts : Role → ConnectionState → Bool → List (Rule × Bool)
+rest_verdicts role s is_rest = (C23, tells_C23 role s is_rest) ∷ []
+
+-- a statement is among these, and false
+abbrev pub is_among : List (Rule × Bool) → Rule → Bool
+is_among verdicts rule = list_any (λ v. v.1 && same_rule rule v.0) verdicts
+
+-- a statement is false at the event
+abbrev pub is_told : Role → ConnectionState → (ℕ → Bool) → Note → Rule → Bool
+is_told role s aliases n rule =
+    is_among (item_verdicts role s (sent_item n)) rule
+    || (is_among (packet_verdicts role s (sent_packet n)) rule
+    || (is_among (publish_verdicts role s aliases (sent_publish n)) rule
+    || (is_among (connack_verdicts role s (sent_connack n)) rule
+    || (is_among (disconnect_verdicts role s (sent_disconnect n)) rule
+    || (is_among (rest_verdicts role s (is_rest n)) rule || false)))))
+
+-- ---- faults
+
+-- the fault of a statement that is false at this place, and judged there
+abbrev pub at_place : Place3 → ℕ → Bool → Option Fault
+at_place place k broken = cond ((k == place.position) && broken) (Some (record { decided = place.position; record_no = place.record_no; offset = None })) None
+
+-- Each pair has the fault that it had, or else that of a statement that is false at this place.
+pub record Judges (is_false : Rule → Bool) (place : Place3) (old new : FaultMap) : Type 0 where
+  pub each : (k : ℕ) (rule : Rule) → fault_at new k rule ≡ or_else (fault_at old k rule) (at_place place k (is_false rule))
+
+-- Each pair has the fault that it had, and may have got that of a statement that is false at this place.
+pub record JudgesWithin (is_false : Rule → Bool) (place : Place3) (old new : FaultMap) : Type 0 where
+  pub each : (k : ℕ) (rule : Rule) → (fault_at new k rule ≡ fault_at old k rule) ⊎ (fault_at new k rule ≡ or_else (fault_at old k rule) (at_place place k (is_false rule)))
+
+-- the fault that a pair gets with this event, where it is of a chosen statement and turns out to fail
+abbrev pub news : (Rule → Bool) → Tested → Seen → List Seen → ℕ → Rule → Option Fault
+news chosen tested e past k rule = cond (chosen rule && turns tested e past k rule) (Some (reported tested.role (moment (e ∷ past) k) rule (length past + 1))) None
+
+-- Each pair has the fault that it had, or else, if it is of a chosen statement and turns out to fail with this event, that one; the others are unchanged.
+pub record GrowsBy (chosen : Rule → Bool) (tested : Tested) (e : Seen) (past : List Seen) (old new : FaultMap) : Type 0 where
+  pub each : (k : ℕ) (rule : Rule) → fault_at new k rule ≡ or_else (fault_at old k rule) (news chosen tested e past k rule)
+
+-- Each pair has the fault that it had, and those of the chosen statements that turn out to fail with this event may have got that one.
+pub record GrowsByWithin (chosen : Rule → Bool) (tested : Tested) (e : Seen) (past : List Seen) (old new : FaultMap) : Type 0 where
+  pub each : (k : ℕ) (rule : Rule) → (fault_at new k rule ≡ fault_at old k rule) ⊎ (fault_at new k rule ≡ or_else (fault_at old k rule) (news chosen tested e past k rule))
+
+-- ---- what is kept agrees with the events so far
+
+-- These events, the newest first, lead to what is kept.
+pub record Agrees (conn : Conn) (tested : Tested) (past : List Seen) : Type 0 where
+  pub same_role : conn.role ≡ tested.role
+  pub same_state : conn.state ≡ kept tested.role past
+  pub same_aliases : (alias : ℕ) → contains nat_cmp conn.aliases alias ≡ is_alias_set past alias

@@ -1,0 +1,30 @@
+-- Faults as a finite map from marks.
+use Rattle.std.specs.Prelude.{ℕ, Bool, cond, Option, None}
+use Rattle.std.specs.declared.cmp.Ordering.{Ordering}
+use Rattle.std.specs.FinMap as map
+use Rattle.mq_rules.specs.declared.rule.Rule.{Rule}
+use Rattle.mq_trace.specs.declared.place.Place3.{Place3}
+use Rattle.mq_rules.specs.declared.fault.Fault.{Fault}
+use Rattle.mq_rules.specs.declared.faults.Mark.{Mark}
+use Rattle.mq_rules.specs.contracts.faults.MarkOrd.TheImpl as mark_ord
+
+-- by position, and then by statement
+abbrev pub mark_cmp : Mark → Mark → Ordering
+mark_cmp = (mark_ord.ghosts).cmp
+
+-- the faults, each under its mark
+abbrev pub FaultMap : Type 0
+FaultMap = map.FinMap mark_cmp Fault
+
+-- the fault of a position and a statement
+abbrev pub fault_at : FaultMap → ℕ → Rule → Option Fault
+fault_at faults k rule = map.get faults (record { position = k; rule = rule })
+
+-- the faults with one more, which counts only where its mark has none
+abbrev pub with_fault : Mark → Fault → FaultMap → FaultMap
+with_fault mark fault faults = cond (map.contains_key faults mark) faults (map.insert faults mark fault)
+
+-- the faults with that of a statement that is judged at its own position, where it is broken
+abbrev pub judged : Bool → Rule → Place3 → FaultMap → FaultMap
+judged broken rule place faults =
+    cond broken (with_fault (record { position = place.position; rule = rule }) (record { decided = place.position; record_no = place.record_no; offset = None }) faults) faults

@@ -1,0 +1,576 @@
+-- What the statements look at of one event, and what one event is to them.
+use Rattle.std.specs.Prelude.{ℕ, ◌/◌, ◌==◌, nat_le, nat_lt, Bool, true, false, ◌&&◌, ◌||◌, not, cond, if◌then◌else◌, List, [], ◌∷◌, length, map, Option, Some, None, is_some, unwrap_or, option_map}
+use Rattle.std.specs.Option.{option_and_then}
+use Rattle.mq_props.specs.Listed.{Listed}
+use Rattle.mq_props.specs.Values.{Property}
+use Rattle.mq_props.specs.First.{first_byte, first_two_bytes, first_four_bytes, first_varint, first_text, first_pair}
+use Rattle.mq_packet.specs.declared.packet.Qos.{Qos}
+use Rattle.mq_packet.specs.declared.packet.Qos.TheVariants as quality
+use Rattle.mq_packet.specs.declared.packet.AcknowledgementKind.{AcknowledgementKind}
+use Rattle.mq_packet.specs.declared.packet.AcknowledgementKind.TheVariants as acknowledgements
+use Rattle.mq_packet.specs.declared.packet.RequestKind.{RequestKind}
+use Rattle.mq_packet.specs.declared.packet.RequestKind.TheVariants as requests
+use Rattle.mq_packet.specs.declared.packet.PacketType.{PacketType}
+use Rattle.mq_packet.specs.declared.packet.PacketType.TheVariants as types
+use Rattle.mq_packet.specs.Canonical.{type_number}
+use Rattle.mq_packet.specs.declared.rule.PacketRule.TheVariants as packet_rules
+use Rattle.mq_packet.specs.declared.fault.BodyFault.{BodyFault}
+use Rattle.mq_packet.specs.Entries.{Entry, AskedFilter, ConnectFields, PublishFields, connect, connack, publish, acknowledgement, request, answer, pingreq, pingresp, disconnect, auth}
+use Rattle.mq_trace.specs.declared.header.Header.{Header}
+use Rattle.mq_trace.specs.declared.kind.Way.{Way}
+use Rattle.mq_trace.specs.declared.kind.Way.TheVariants as ways
+use Rattle.mq_trace.specs.Framing.{header_by}
+use Rattle.mq_trace.specs.Connections.{is_session_type}
+use Rattle.mq_trace.specs.Events.{Item, Event, Placed, packet, bad, lost, opened, closed, rested, released, sent, received, events}
+use Rattle.mq_rules.specs.declared.role.Role.{Role}
+use Rattle.mq_rules.specs.declared.role.Role.TheVariants.{Client, Server}
+use Rattle.mq_rules.specs.declared.role.Tested.{Tested}
+use Rattle.mq_rules.specs.declared.fate.Fate.{Fate}
+use Rattle.mq_rules.specs.declared.fate.Fate.TheVariants.{Void, New, Resumed}
+use Rattle.mq_rules.specs.declared.note.Note.{Note}
+use Rattle.mq_rules.specs.declared.note.Note.TheVariants as notes
+use Rattle.mq_rules.specs.declared.note.ItemNote.{ItemNote}
+use Rattle.mq_rules.specs.declared.note.ItemNote.TheVariants as items
+use Rattle.mq_rules.specs.declared.note.Seen.{Seen}
+use Rattle.mq_rules.specs.declared.packet_note.PacketNote.{PacketNote}
+use Rattle.mq_rules.specs.declared.packet_note.PacketFields.{PacketFields}
+use Rattle.mq_rules.specs.declared.packet_note.PacketFields.TheVariants.{Connect, Connack, Publish, Puback, Pubrec, Pubrel, Pubcomp, Subscribe, Suback, Unsubscribe, Unsuback, Pingreq, Pingresp, Disconnect, Auth}
+use Rattle.mq_rules.specs.declared.packet_note.ConnectNote.{ConnectNote}
+use Rattle.mq_rules.specs.declared.packet_note.ConnackNote.{ConnackNote}
+use Rattle.mq_rules.specs.declared.packet_note.PublishNote.{PublishNote}
+use Rattle.mq_rules.specs.declared.text.NotedFilter.{NotedFilter}
+use Rattle.mq_rules.specs.Words.{only, is_some_and, is_id}
+
+-- ---- the end that a log's header names
+
+abbrev pub tested_as : Header → Tested
+tested_as header = record { role = if header.server then Server else Client; releases = header.releases }
+
+abbrev pub tested_by : List ℕ → Tested
+tested_by log = tested_as (header_by log)
+
+-- ---- the note of an event
+
+-- a list where its packet went this way; nothing is kept of one that went the other way, since no statement looks at it
+abbrev pub kept : {A : Type 0} → Bool → List A → List A
+kept true texts = texts
+kept false texts = []
+
+abbrev pub is_sent_way : Way → Bool
+is_sent_way ways.Sent = true
+is_sent_way ways.Recv = false
+
+-- of a CONNECT (MQTT 5.0, section 3.1)
+abbrev pub connect_note : ConnectFields → ConnectNote
+connect_note c = record {
+  clean_start = c.clean_start;
+  is_unnamed = length c.client_identifier == 0;
+  session_expiry = first_four_bytes 17 c.properties.items;
+  request_problem_information = first_byte 23 c.properties.items;
+  request_response_information = first_byte 25 c.properties.items;
+  receive_maximum = first_two_bytes 33 c.properties.items;
+  topic_alias_maximum = first_two_bytes 34 c.properties.items;
+  maximum_packet_size = first_four_bytes 39 c.properties.items;
+}
+
+-- of a CONNACK (MQTT 5.0, section 3.2)
+abbrev pub connack_note : Bool → ℕ → List Property → ConnackNote
+connack_note session_present code properties = record {
+  session_present = session_present;
+  code = code;
+  session_expiry = first_four_bytes 17 properties;
+  receive_maximum = first_two_bytes 33 properties;
+  topic_alias_maximum = first_two_bytes 34 properties;
+  maximum_qos = first_byte 36 properties;
+  maximum_packet_size = first_four_bytes 39 properties;
+  has_assigned_identifier = is_some (first_text 18 properties);
+  has_response_information = is_some (first_text 26 properties);
+}
+
+-- of a PUBLISH (MQTT 5.0, section 3.3)
+abbrev pub publish_note : Way → PublishFields → PublishNote
+publish_note way p = record {
+  identifier = p.identifier;
+  qos = p.qos;
+  duplicate = p.duplicate;
+  topic = kept (is_sent_way way) p.topic;
+  topic_alias = first_two_bytes 35 p.properties.items;
+  has_message_expiry = is_some (first_four_bytes 2 p.properties.items);
+  has_subscription_identifier = is_some (first_varint 11 p.properties.items);
+}
+
+-- of PUBACK, PUBREC, PUBREL and PUBCOMP (MQTT 5.0, sections 3.4 to 3.7)
+abbrev pub acknowledgement_fields : AcknowledgementKind → ℕ → ℕ → PacketFields
+acknowledgement_fields acknowledgements.Puback identifier code = Puback identifier code
+acknowledgement_fields acknowledgements.Pubrec identifier code = Pubrec identifier code
+acknowledgement_fields acknowledgements.Pubrel identifier code = Pubrel identifier code
+acknowledgement_fields acknowledgements.Pubcomp identifier code = Pubcomp identifier code
+
+-- of a Topic Filter (MQTT 5.0, section 3.8.3)
+abbrev pub filter_note : AskedFilter → NotedFilter
+filter_note f = record { filter = f.filter; options = unwrap_or f.options 0 }
+
+-- of SUBSCRIBE and UNSUBSCRIBE (MQTT 5.0, sections 3.8 and 3.10)
+abbrev pub request_fields : Way → RequestKind → ℕ → List AskedFilter → PacketFields
+request_fields way requests.Subscribe identifier filters = Subscribe identifier (kept (not (is_sent_way way)) (map filter_note filters))
+request_fields way requests.Unsubscribe identifier filters = Unsubscribe identifier (length filters)
+
+-- of SUBACK and UNSUBACK (MQTT 5.0, sections 3.9 and 3.11)
+abbrev pub answer_fields : Way → RequestKind → ℕ → List ℕ → PacketFields
+answer_fields way requests.Subscribe identifier codes = Suback identifier (kept (is_sent_way way) codes)
+answer_fields way requests.Unsubscribe identifier codes = Unsuback identifier (length codes)
+
+-- of any packet, by its type (MQTT 5.0, section 2.1.2)
+abbrev pub packet_fields : Way → Entry → PacketFields
+packet_fields way (connect fields) = Connect (connect_note fields)
+packet_fields way (connack session_present code properties) = Connack (connack_note session_present code properties.items)
+packet_fields way (publish fields) = Publish (publish_note way fields)
+packet_fields way (acknowledgement kind identifier code properties) = acknowledgement_fields kind identifier code
+packet_fields way (request kind identifier properties filters) = request_fields way kind identifier filters
+packet_fields way (answer kind identifier properties codes) = answer_fields way kind identifier codes
+packet_fields way pingreq = Pingreq
+packet_fields way pingresp = Pingresp
+packet_fields way (disconnect code properties) = Disconnect (first_four_bytes 17 properties.items)
+packet_fields way (auth code properties) = Auth
+
+-- a packet's own property list, where it has one (MQTT 5.0, section 2.2.2)
+abbrev pub properties_of : Entry → List Property
+properties_of (connect fields) = fields.properties.items
+properties_of (connack session_present code properties) = properties.items
+properties_of (publish fields) = fields.properties.items
+properties_of (acknowledgement kind identifier code properties) = properties.items
+properties_of (request kind identifier properties filters) = properties.items
+properties_of (answer kind identifier properties codes) = properties.items
+properties_of pingreq = []
+properties_of pingresp = []
+properties_of (disconnect code properties) = properties.items
+properties_of (auth code properties) = properties.items
+
+abbrev pub packet_note : Way → ℕ → Entry → PacketNote
+packet_note way size entry = record {
+  size = size;
+  has_reason_string = is_some (first_text 31 (properties_of entry));
+  has_user_property = is_some (first_pair 38 (properties_of entry));
+  fields = packet_fields way entry;
+}
+
+-- of an item that went this way, and of an event
+abbrev pub item_note : Way → Item → ItemNote
+item_note way (packet size entry) = items.Packet (packet_note way size entry)
+item_note way (bad first rule at) = items.Bad first rule at
+item_note way lost = items.Lost
+
+abbrev pub note_of : Event → Note
+note_of opened = notes.Open
+note_of closed = notes.Close
+note_of rested = notes.Rest
+note_of (released identifier) = notes.Release identifier
+note_of (sent item) = notes.Sent (item_note ways.Sent item)
+note_of (received item) = notes.Recv (item_note ways.Recv item)
+
+abbrev pub seen : Placed → Seen
+seen placed = record { place = placed.place; note = note_of placed.event }
+
+-- what the statements look at of a log, the newest event first
+unfoldable pub seen_in : List ℕ → List Seen
+seen_in bytes = map seen (events bytes)
+
+-- ---- what an event is
+
+abbrev pub is_open : Note → Bool
+is_open notes.Open = true
+is_open _ = false
+
+abbrev pub is_close : Note → Bool
+is_close notes.Close = true
+is_close _ = false
+
+abbrev pub is_rest : Note → Bool
+is_rest notes.Rest = true
+is_rest _ = false
+
+abbrev pub is_release : Note → Bool
+is_release (notes.Release identifier) = true
+is_release _ = false
+
+-- the identifier of the QoS 2 message that the tested end released for onward delivery (MQTT 5.0, section 4.3.3)
+abbrev pub released_id : Note → Option ℕ
+released_id (notes.Release identifier) = Some identifier
+released_id _ = None
+
+-- the item that the tested end sent, and the one that it received
+abbrev pub sent_item : Note → Option ItemNote
+sent_item (notes.Sent item) = Some item
+sent_item _ = None
+
+abbrev pub received_item : Note → Option ItemNote
+received_item (notes.Recv item) = Some item
+received_item _ = None
+
+-- the packet that an item is
+abbrev pub packet_in : ItemNote → Option PacketNote
+packet_in (items.Packet p) = Some p
+packet_in _ = None
+
+abbrev pub sent_packet : Note → Option PacketNote
+sent_packet note = option_and_then packet_in (sent_item note)
+
+abbrev pub received_packet : Note → Option PacketNote
+received_packet note = option_and_then packet_in (received_item note)
+
+-- what the packet says
+abbrev pub sent_fields : Note → Option PacketFields
+sent_fields note = option_map (λ p. p.fields) (sent_packet note)
+
+abbrev pub received_fields : Note → Option PacketFields
+received_fields note = option_map (λ p. p.fields) (received_packet note)
+
+-- what a packet from the client, and one from the server, says: each is sent or received by the tested end's role
+abbrev pub from_client : Role → Note → Option PacketFields
+from_client Client note = sent_fields note
+from_client Server note = received_fields note
+
+abbrev pub from_server : Role → Note → Option PacketFields
+from_server Client note = received_fields note
+from_server Server note = sent_fields note
+
+-- a packet or bytes that break a rule: what is not Lost has a type
+abbrev pub is_typed : ItemNote → Bool
+is_typed items.Lost = false
+is_typed _ = true
+
+-- Lost, or bytes that break a rule
+abbrev pub is_broken : ItemNote → Bool
+is_broken (items.Packet p) = false
+is_broken _ = true
+
+-- ---- the types of packets (MQTT 5.0, section 2.1.2)
+
+abbrev pub type_of : PacketFields → PacketType
+type_of (Connect c) = types.Connect
+type_of (Connack c) = types.Connack
+type_of (Publish p) = types.Publish
+type_of (Puback identifier code) = types.Puback
+type_of (Pubrec identifier code) = types.Pubrec
+type_of (Pubrel identifier code) = types.Pubrel
+type_of (Pubcomp identifier code) = types.Pubcomp
+type_of (Subscribe identifier filters) = types.Subscribe
+type_of (Suback identifier codes) = types.Suback
+type_of (Unsubscribe identifier filters) = types.Unsubscribe
+type_of (Unsuback identifier codes) = types.Unsuback
+type_of Pingreq = types.Pingreq
+type_of Pingresp = types.Pingresp
+type_of (Disconnect session_expiry) = types.Disconnect
+type_of Auth = types.Auth
+
+-- The number of an item's type, which stands in the high four bits of its first byte: bytes that break a rule have one too.
+abbrev pub type_in : ItemNote → Option ℕ
+type_in (items.Packet p) = Some (type_number (type_of p.fields))
+type_in (items.Bad first rule at) = Some (first / 16)
+type_in items.Lost = None
+
+abbrev pub is_of_type : PacketType → ItemNote → Bool
+is_of_type type item = is_id (type_number type) (type_in item)
+
+-- the types that this end may not send, since they come from the other end alone
+abbrev pub foreign_types : Role → List PacketType
+foreign_types Client = types.Connack ∷ types.Suback ∷ types.Unsuback ∷ types.Pingresp ∷ []
+foreign_types Server = types.Connect ∷ types.Subscribe ∷ types.Unsubscribe ∷ types.Pingreq ∷ []
+
+-- the tested end sent, or received, an item of this type
+abbrev pub sends_type : PacketType → Note → Bool
+sends_type type note = is_some_and (is_of_type type) (sent_item note)
+
+abbrev pub receives_type : PacketType → Note → Bool
+receives_type type note = is_some_and (is_of_type type) (received_item note)
+
+-- ---- what a packet is, by its type
+
+abbrev pub connect_in : PacketFields → Option ConnectNote
+connect_in (Connect c) = Some c
+connect_in _ = None
+
+abbrev pub connack_in : PacketFields → Option ConnackNote
+connack_in (Connack c) = Some c
+connack_in _ = None
+
+abbrev pub publish_in : PacketFields → Option PublishNote
+publish_in (Publish p) = Some p
+publish_in _ = None
+
+-- the Session Expiry Interval of a DISCONNECT, which may have none
+abbrev pub disconnect_in : PacketFields → Option (Option ℕ)
+disconnect_in (Disconnect session_expiry) = Some session_expiry
+disconnect_in _ = None
+
+abbrev pub sent_publish : Note → Option PublishNote
+sent_publish note = option_and_then publish_in (sent_fields note)
+
+abbrev pub received_publish : Note → Option PublishNote
+received_publish note = option_and_then publish_in (received_fields note)
+
+abbrev pub sent_disconnect : Note → Option (Option ℕ)
+sent_disconnect note = option_and_then disconnect_in (sent_fields note)
+
+abbrev pub sent_connack : Note → Option ConnackNote
+sent_connack note = option_and_then connack_in (sent_fields note)
+
+-- the client's CONNECT and DISCONNECT, and the server's CONNACK: of another end none counts
+abbrev pub connect_of : Role → Note → Option ConnectNote
+connect_of role note = option_and_then connect_in (from_client role note)
+
+abbrev pub connack_of : Role → Note → Option ConnackNote
+connack_of role note = option_and_then connack_in (from_server role note)
+
+abbrev pub client_disconnect : Role → Note → Option (Option ℕ)
+client_disconnect role note = option_and_then disconnect_in (from_client role note)
+
+-- a packet that may have a Reason String or User Properties whatever the client asked for (MQTT 5.0, section 3.1.2.11.7)
+abbrev pub may_explain : PacketFields → Bool
+may_explain fields = is_some (publish_in fields) || (is_some (connack_in fields) || is_some (disconnect_in fields))
+
+-- a Reason Code that refuses (MQTT 5.0, section 2.4)
+abbrev pub refuses : ℕ → Bool
+refuses code = nat_le 128 code
+
+-- ---- what an event makes of its connection (MQTT 5.0, section 3.2.2)
+
+-- Any Reason Code but 0x00 refuses the connection; Session Present 1 resumes a session.
+abbrev pub fate_by : ConnackNote → Fate
+fate_by c = cond (c.code == 0) (cond c.session_present Resumed New) Void
+
+-- it accepts, and resumes a session
+abbrev pub resumed_by : ConnackNote → Bool
+resumed_by c = (c.code == 0) && c.session_present
+
+-- The server's CONNACK decides, and where it has not come a CLOSE does.
+abbrev pub decides : Role → Note → Option Fate
+decides role note = cond (is_close note) (Some Void) (option_map fate_by (connack_of role note))
+
+-- ---- Packet Identifiers (MQTT 5.0, section 2.2.1)
+
+-- a QoS above 0, at which a PUBLISH is acknowledged (MQTT 5.0, section 4.3)
+abbrev pub is_acknowledged : Qos → Bool
+is_acknowledged quality.AtMostOnce = false
+is_acknowledged quality.AtLeastOnce = true
+is_acknowledged quality.ExactlyOnce = true
+
+abbrev pub qos_number : Qos → ℕ
+qos_number quality.AtMostOnce = 0
+qos_number quality.AtLeastOnce = 1
+qos_number quality.ExactlyOnce = 2
+
+abbrev pub is_exactly_once : Qos → Bool
+is_exactly_once quality.AtMostOnce = false
+is_exactly_once quality.AtLeastOnce = false
+is_exactly_once quality.ExactlyOnce = true
+
+abbrev pub is_at_least_once : Qos → Bool
+is_at_least_once quality.AtMostOnce = false
+is_at_least_once quality.AtLeastOnce = true
+is_at_least_once quality.ExactlyOnce = false
+
+-- the identifier of a PUBLISH of QoS above 0; a new one has DUP 0, and one that is sent again has DUP 1
+abbrev pub delivery_in : PublishNote → Option ℕ
+delivery_in p = only (is_acknowledged p.qos) p.identifier
+
+abbrev pub delivery_of : Note → Option ℕ
+delivery_of note = option_and_then delivery_in (sent_publish note)
+
+abbrev pub opener_in : PublishNote → Option ℕ
+opener_in p = only (not p.duplicate) (delivery_in p)
+
+abbrev pub resend_in : PublishNote → Option ℕ
+resend_in p = only p.duplicate (delivery_in p)
+
+-- An opener of an identifier: a PUBLISH of QoS above 0 with DUP 0 is sent.
+abbrev pub opener_of : Note → Option ℕ
+opener_of note = option_and_then opener_in (sent_publish note)
+
+-- A resend: a PUBLISH of QoS above 0 with DUP 1 is sent.
+abbrev pub resend_of : Note → Option ℕ
+resend_of note = option_and_then resend_in (sent_publish note)
+
+-- what a PUBACK, a PUBCOMP or a PUBREC of 0x80 or more sets free (MQTT 5.0, sections 4.3.2 and 4.3.3)
+abbrev pub settled_in : PacketFields → Option ℕ
+settled_in (Puback identifier code) = Some identifier
+settled_in (Pubrec identifier code) = only (refuses code) (Some identifier)
+settled_in (Pubcomp identifier code) = Some identifier
+settled_in _ = None
+
+-- A closer of an identifier: a PUBACK, a PUBCOMP, or a PUBREC of 0x80 or more is received.
+abbrev pub closer_of : Note → Option ℕ
+closer_of note = option_and_then settled_in (received_fields note)
+
+-- a PUBREL, and a PUBREC below 0x80
+abbrev pub pubrel_in : PacketFields → Option ℕ
+pubrel_in (Pubrel identifier code) = Some identifier
+pubrel_in _ = None
+
+abbrev pub accepting_pubrec_in : PacketFields → Option ℕ
+accepting_pubrec_in (Pubrec identifier code) = only (not (refuses code)) (Some identifier)
+accepting_pubrec_in _ = None
+
+abbrev pub is_pingreq : PacketFields → Bool
+is_pingreq Pingreq = true
+is_pingreq _ = false
+
+abbrev pub is_pingresp : PacketFields → Bool
+is_pingresp Pingresp = true
+is_pingresp _ = false
+
+abbrev pub puback_in : PacketFields → Option ℕ
+puback_in (Puback identifier code) = Some identifier
+puback_in _ = None
+
+abbrev pub pubrec_in : PacketFields → Option ℕ
+pubrec_in (Pubrec identifier code) = Some identifier
+pubrec_in _ = None
+
+abbrev pub pubcomp_in : PacketFields → Option ℕ
+pubcomp_in (Pubcomp identifier code) = Some identifier
+pubcomp_in _ = None
+
+abbrev pub subscribe_in : PacketFields → Option ℕ
+subscribe_in (Subscribe identifier filters) = Some identifier
+subscribe_in _ = None
+
+abbrev pub suback_in : PacketFields → Option ℕ
+suback_in (Suback identifier codes) = Some identifier
+suback_in _ = None
+
+abbrev pub unsubscribe_in : PacketFields → Option ℕ
+unsubscribe_in (Unsubscribe identifier filters) = Some identifier
+unsubscribe_in _ = None
+
+abbrev pub unsuback_in : PacketFields → Option ℕ
+unsuback_in (Unsuback identifier codes) = Some identifier
+unsuback_in _ = None
+
+-- what the tested end sent, or received, so
+abbrev pub sent_as : (PacketFields → Option ℕ) → Note → Option ℕ
+sent_as found note = option_and_then found (sent_fields note)
+
+abbrev pub received_as : (PacketFields → Option ℕ) → Note → Option ℕ
+received_as found note = option_and_then found (received_fields note)
+
+-- a PUBLISH of QoS 1, and one of QoS 2, that was received
+abbrev pub received_once_acknowledged : Note → Option ℕ
+received_once_acknowledged note = option_and_then (λ p. only (is_at_least_once p.qos) p.identifier) (received_publish note)
+
+abbrev pub received_exactly_once : Note → Option ℕ
+received_exactly_once note = option_and_then (λ p. only (is_exactly_once p.qos) p.identifier) (received_publish note)
+
+abbrev pub is_sent_pingresp : Note → Bool
+is_sent_pingresp note = is_some_and is_pingresp (sent_fields note)
+
+abbrev pub is_received_pingreq : Note → Bool
+is_received_pingreq note = is_some_and is_pingreq (received_fields note)
+
+-- what ends the exchange of a received QoS 2 PUBLISH: a PUBCOMP, or a PUBREC of 0x80 or more (MQTT 5.0, section 4.3.3)
+abbrev pub ended_in : PacketFields → Option ℕ
+ended_in (Pubcomp identifier code) = Some identifier
+ended_in (Pubrec identifier code) = only (refuses code) (Some identifier)
+ended_in _ = None
+
+-- a PUBREC of 0x10 (No matching subscribers), and a PUBCOMP of 0x00
+abbrev pub unmatched_pubrec_in : PacketFields → Option ℕ
+unmatched_pubrec_in (Pubrec identifier code) = only (code == 16) (Some identifier)
+unmatched_pubrec_in _ = None
+
+abbrev pub success_pubcomp_in : PacketFields → Option ℕ
+success_pubcomp_in (Pubcomp identifier code) = only (code == 0) (Some identifier)
+success_pubcomp_in _ = None
+
+-- ---- subscriptions (MQTT 5.0, sections 3.8 to 3.11)
+
+-- an identifier, and the filters of a SUBSCRIBE; the Reason Codes of a SUBACK; how many there are in an UNSUBSCRIBE or UNSUBACK
+pub record Subscription : Type 0 where
+  pub identifier : ℕ
+  pub filters : List NotedFilter
+
+pub record Grant : Type 0 where
+  pub identifier : ℕ
+  pub codes : List ℕ
+
+pub record Number : Type 0 where
+  pub identifier : ℕ
+  pub count : ℕ
+
+abbrev pub subscription_in : PacketFields → Option Subscription
+subscription_in (Subscribe identifier filters) = Some (record { identifier = identifier; filters = filters })
+subscription_in _ = None
+
+abbrev pub grant_in : PacketFields → Option Grant
+grant_in (Suback identifier codes) = Some (record { identifier = identifier; codes = codes })
+grant_in _ = None
+
+abbrev pub unsubscription_in : PacketFields → Option Number
+unsubscription_in (Unsubscribe identifier filters) = Some (record { identifier = identifier; count = filters })
+unsubscription_in _ = None
+
+abbrev pub unsuback_count_in : PacketFields → Option Number
+unsuback_count_in (Unsuback identifier codes) = Some (record { identifier = identifier; count = codes })
+unsuback_count_in _ = None
+
+-- a SUBSCRIBE and an UNSUBSCRIBE that were received, and a SUBACK and an UNSUBACK that were sent
+abbrev pub received_subscription : Note → Option Subscription
+received_subscription note = option_and_then subscription_in (received_fields note)
+
+abbrev pub sent_grant : Note → Option Grant
+sent_grant note = option_and_then grant_in (sent_fields note)
+
+abbrev pub received_unsubscription : Note → Option Number
+received_unsubscription note = option_and_then unsubscription_in (received_fields note)
+
+abbrev pub sent_unsuback : Note → Option Number
+sent_unsuback note = option_and_then unsuback_count_in (sent_fields note)
+
+-- ---- sessions (MQTT 5.0, section 4.1)
+
+-- PUBLISH, SUBSCRIBE, UNSUBSCRIBE and what acknowledges them need a session.
+abbrev pub is_session_packet : PacketFields → Bool
+is_session_packet fields = is_session_type (type_of fields)
+
+-- a session packet of either direction, or a RELEASE
+abbrev pub needs_session : Note → Bool
+needs_session note = is_release note || (is_some_and is_session_packet (sent_fields note) || is_some_and is_session_packet (received_fields note))
+
+-- ---- memory
+
+-- The note has a text or a list of its own, which takes memory: the Topic Name of a PUBLISH that was sent, the Topic Filters of a SUBSCRIBE that was received, or the
+-- Reason Codes of a SUBACK that was sent.
+abbrev pub keeps_text : PacketFields → Bool
+keeps_text (Connect c) = false
+keeps_text (Connack c) = false
+keeps_text (Publish p) = not (length p.topic == 0)
+keeps_text (Puback identifier code) = false
+keeps_text (Pubrec identifier code) = false
+keeps_text (Pubrel identifier code) = false
+keeps_text (Pubcomp identifier code) = false
+keeps_text (Subscribe identifier filters) = not (length filters == 0)
+keeps_text (Suback identifier codes) = not (length codes == 0)
+keeps_text (Unsubscribe identifier filters) = false
+keeps_text (Unsuback identifier codes) = false
+keeps_text Pingreq = false
+keeps_text Pingresp = false
+keeps_text (Disconnect session_expiry) = false
+keeps_text Auth = false
+
+abbrev pub item_keeps_text : ItemNote → Bool
+item_keeps_text item = is_some_and (λ p. keeps_text p.fields) (packet_in item)
+
+abbrev pub note_keeps_text : Note → Bool
+note_keeps_text note = is_some_and item_keeps_text (sent_item note) || is_some_and item_keeps_text (received_item note)
+
+-- ---- bytes that break a rule
+
+-- The rule that the bytes of what the tested end sent break, and where: a stream that is lost has a Remaining Length that breaks W03,
+-- and that stands at the packet's second byte.
+abbrev pub broken_in : ItemNote → Option BodyFault
+broken_in (items.Packet p) = None
+broken_in (items.Bad first rule at) = Some (record { at = at; rule = rule })
+broken_in items.Lost = Some (record { at = 1; rule = packet_rules.W03 })
+
+abbrev pub broken : Note → Option BodyFault
+broken note = option_and_then broken_in (sent_item note)

@@ -1,0 +1,68 @@
+-- The table of the statements: how reports name each, where it stands in MQTT 5.0, and whom it binds.
+use Rattle.std.specs.Prelude.{ℕ, ◌==◌, Bool, false, ◌&&◌, ◌||◌, not, List, [], length, map, Option, Some, None, unwrap_or}
+use Rattle.std.specs.Borrow.{Bor}
+use Rattle.std.specs.declared.cmp.Ordering.{Ordering}
+use Rattle.std.specs.List.{find}
+use denote.Enum.Bare.{sameb}
+use Rattle.mq_rules.specs.declared.role.Role.{Role}
+use Rattle.mq_rules.specs.declared.role.Role.TheVariants.{Client, Server}
+use Rattle.mq_rules.specs.declared.role.Tested.{Tested}
+use Rattle.mq_rules.specs.declared.rule.Rule.{Rule}
+use Rattle.mq_rules.specs.contracts.rule.Rule.{the_type}
+use Rattle.mq_rules.specs.contracts.rule.RuleOrd.TheImpl as rule_ord
+use Rattle.mq_rules.specs.declared.table.TheConstants.{TABLE}
+
+-- A line of the table: a statement, its code, its citation for a client and for a server, and whether it is judged only where the log records releases. An empty
+-- citation says that the statement doesn't bind that end.
+pub record Line : Type 0 where
+  pub rule : Rule
+  pub code : List ℕ
+  pub client : List ℕ
+  pub server : List ℕ
+  pub needs_releases : Bool
+
+-- whether two statements are one
+abbrev pub same_rule : Rule → Rule → Bool
+same_rule a b = sameb the_type a b
+
+-- the order of statements, which is that of their values
+abbrev pub rule_cmp : Rule → Rule → Ordering
+rule_cmp = (rule_ord.ghosts).cmp
+
+-- a line as the source has it
+abbrev pub line_view : Rule × Bor (List ℕ) × Bor (List ℕ) × Bor (List ℕ) × Bool → Line
+line_view row = record { rule = row.0; code = row.1.now; client = row.2.now; server = row.3.now; needs_releases = row.4 }
+
+abbrev pub lines_of : List (Rule × Bor (List ℕ) × Bor (List ℕ) × Bor (List ℕ) × Bool) → List Line
+lines_of rows = map line_view rows
+
+-- the lines of the table, in the order of reports
+unfoldable pub lines : List Line
+lines = map (λ row. record { rule = row.0; code = row.1.now; client = row.2.now; server = row.3.now; needs_releases = row.4 }) TABLE
+
+-- the statements, in the order of reports
+abbrev pub all_rules : List Rule
+all_rules = map (λ line. line.rule) lines
+
+-- the line of a statement
+unfoldable pub found_line : Rule → Option Line
+found_line rule = find (λ line. same_rule line.rule rule) lines
+
+unfoldable pub line_of : Rule → Line
+line_of rule = unwrap_or (found_line rule) (record { rule = rule; code = []; client = []; server = []; needs_releases = false })
+
+-- a statement's code
+abbrev pub code_of : Rule → List ℕ
+code_of rule = (line_of rule).code
+
+-- where a line's statement stands in MQTT 5.0 for this end
+abbrev pub cites : Role → Line → List ℕ
+cites Client line = line.client
+cites Server line = line.server
+
+abbrev pub citation_of : Rule → Role → List ℕ
+citation_of rule role = cites role (line_of rule)
+
+-- Whether a statement binds the tested end: it is cited for that end, and where it needs releases the log records them.
+abbrev pub binds : Rule → Tested → Bool
+binds rule tested = not (length (citation_of rule tested.role) == 0) && (not (line_of rule).needs_releases || tested.releases)

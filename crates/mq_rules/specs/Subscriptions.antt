@@ -1,0 +1,106 @@
+-- Subscriptions: what a server may send to whom (B01 to B04; MQTT 5.0, sections 3.3.2.1, 3.8 to 3.11 and 4.7). Each statement says when it is false at a moment k
+-- whose connection is accepted and has the fate f.
+use Rattle.std.specs.Prelude.{ℕ, ◌%◌, ◌==◌, nat_le, Bool, true, false, ◌&&◌, ◌||◌, not, cond, List, [], ◌∷◌, ◌++◌, length, take, codes, Option, Some, None, unwrap_or, option_map}
+use Rattle.std.specs.Option.{option_and_then}
+use Rattle.std.specs.Str.{bytes_eq}
+use Rattle.std.specs.List.{list_any}
+use Rattle.mq_topic.specs.Matching.{matches}
+use Rattle.mq_rules.specs.declared.role.Role.{Role}
+use Rattle.mq_rules.specs.declared.fate.Fate.{Fate}
+use Rattle.mq_rules.specs.declared.note.Note.{Note}
+use Rattle.mq_rules.specs.declared.text.NotedFilter.{NotedFilter}
+use Rattle.mq_rules.specs.declared.packet_note.PublishNote.{PublishNote}
+use Rattle.mq_rules.specs.Words.{is_some_and, is_id, only, or_else}
+use Rattle.mq_rules.specs.Notes.{sent_publish, received_subscription, sent_grant, received_unsubscription, sent_unsuback, refuses, qos_number}
+use Rattle.mq_rules.specs.Moments.{Moment, note, is_after, some, those, earliest}
+use Rattle.mq_rules.specs.Connections.{number, of_connection, connection}
+use Rattle.mq_rules.specs.Pasts.{set_alias}
+use Rattle.mq_rules.specs.Identifiers.{session_before}
+use Rattle.mq_rules.specs.Exchanges.{subscribe_suback, unsubscribe_unsuback, first_unanswered}
+
+-- ---- standing filters
+
+-- A filter with the greatest QoS that a server may send at for it.
+pub record Standing : Type 0 where
+  pub filter : List ℕ
+  pub ceiling : ℕ
+
+-- the Maximum QoS that a filter's options ask for (MQTT 5.0, section 3.8.3.1)
+abbrev pub requested : NotedFilter → ℕ
+requested f = f.options % 4
+
+-- What stands of a SUBSCRIBE's filters, given the Reason Codes of its SUBACK: a code of 0x80 or more refuses its filter, another one is its ceiling, and a filter
+-- without a code has the QoS that it asked for.
+abbrev pub granted : List NotedFilter → List ℕ → List Standing
+granted [] codes = []
+granted (f ∷ filters) [] = record { filter = f.filter; ceiling = requested f } ∷ granted filters []
+granted (f ∷ filters) (code ∷ codes) = cond (refuses code) (granted filters codes) (record { filter = f.filter; ceiling = code } ∷ granted filters codes)
+
+-- the Reason Codes of a SUBACK that is sent under this identifier
+abbrev pub codes_under : ℕ → Note → Option (List ℕ)
+codes_under i n = option_map (λ a. a.codes) (option_and_then (λ a. only (a.identifier == i) (Some a)) (sent_grant n))
+
+-- The Reason Codes of the SUBACK of a SUBSCRIBE j, where it was sent before k: the first SUBACK under the identifier after j on j's connection.
+abbrev pub codes_for : ℕ → Moment → Moment → List ℕ
+codes_for i j k = unwrap_or (earliest (codes_under i) (those (λ m. is_after m j) (of_connection (number j) k.past))) []
+
+-- what stands at k of the filters of the moment j, if that is a SUBSCRIBE which was received
+abbrev pub standing_from : Moment → Moment → List Standing
+standing_from k j = unwrap_or (option_map (λ s. granted s.filters (codes_for s.identifier j k)) (received_subscription (note j))) []
+
+-- The standing filters at k: those of all SUBSCRIBEs received before it in its session.
+abbrev pub standing_of : Moment → List Moment → List Standing
+standing_of k [] = []
+standing_of k (j ∷ js) = standing_from k j ++ standing_of k js
+
+abbrev pub standing_at : Role → Fate → Moment → List Standing
+standing_at role f k = standing_of k (session_before role f k)
+
+-- ---- topics
+
+-- the Topic Name that a PUBLISH sets for this alias
+abbrev pub topic_set : ℕ → Note → Option (List ℕ)
+topic_set alias n = only (is_id alias (set_alias n)) (option_map (λ p. p.topic) (sent_publish n))
+
+-- the one that was last set for the alias, among these
+abbrev pub last_set : ℕ → List Moment → Option (List ℕ)
+last_set alias [] = None
+last_set alias (m ∷ ms) = or_else (topic_set alias (note m)) (last_set alias ms)
+
+-- The topic of a PUBLISH at k: its Topic Name, or where that is empty the last one set for its alias on the connection (MQTT 5.0, section 3.3.2.3.4).
+abbrev pub topic_of : Moment → PublishNote → Option (List ℕ)
+topic_of k p = cond (length p.topic == 0) (option_and_then (λ alias. last_set alias (connection k.past)) p.topic_alias) (Some p.topic)
+
+-- ---- shared subscriptions (MQTT 5.0, section 4.8.2)
+
+-- the filter begins with `$share/`
+abbrev pub is_shared : NotedFilter → Bool
+is_shared f = bytes_eq (take 7 f.filter) (codes "$share/")
+
+abbrev pub asks_to_share : Moment → Bool
+asks_to_share m = is_some_and (λ s. list_any is_shared s.filters) (received_subscription (note m))
+
+-- ---- the statements
+
+-- at k a PUBLISH with DUP 0 is sent, whose topic is known, in a session without shared subscriptions so far; and it passes the test
+abbrev pub is_delivered_so : Role → Fate → Moment → (PublishNote → List ℕ → Bool) → Bool
+is_delivered_so role f k test = is_some_and (λ p. not p.duplicate && (not (some asks_to_share (session_before role f k)) && is_some_and (test p) (topic_of k p))) (sent_publish (note k))
+
+-- B01: no standing filter matches its topic.
+unfoldable pub breaks_B01 : Role → Fate → Moment → Bool
+breaks_B01 role f k = is_delivered_so role f k (λ p topic. not (list_any (λ s. matches s.filter topic) (standing_at role f k)))
+
+-- B02: some standing filter matches its topic, and none that does has a ceiling of at least its QoS.
+unfoldable pub breaks_B02 : Role → Fate → Moment → Bool
+breaks_B02 role f k = is_delivered_so role f k (λ p topic. list_any (λ s. matches s.filter topic) (standing_at role f k)
+    && not (list_any (λ s. matches s.filter topic && nat_le (qos_number p.qos) s.ceiling) (standing_at role f k)))
+
+-- B03: a SUBACK whose first unanswered SUBSCRIBE has not as many filters as it has Reason Codes.
+unfoldable pub breaks_B03 : Moment → Bool
+breaks_B03 k = is_some_and (λ a. is_some_and (λ j. is_some_and (λ s. not (length s.filters == length a.codes)) (received_subscription (note j)))
+    (first_unanswered subscribe_suback a.identifier k)) (sent_grant (note k))
+
+-- B04: an UNSUBACK whose first unanswered UNSUBSCRIBE has not as many filters as it has Reason Codes.
+unfoldable pub breaks_B04 : Moment → Bool
+breaks_B04 k = is_some_and (λ a. is_some_and (λ j. is_some_and (λ u. not (u.count == a.count)) (received_unsubscription (note j)))
+    (first_unanswered unsubscribe_unsuback a.identifier k)) (sent_unsuback (note k))

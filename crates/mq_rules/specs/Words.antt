@@ -1,0 +1,22 @@
+-- Words on what may be absent.
+use Rattle.std.specs.Prelude.{ℕ, ◌==◌, Bool, true, false, Option, Some, None}
+
+-- the first if there is one, else the second
+abbrev pub or_else : {A : Type 0} → Option A → Option A → Option A
+or_else (Some a) other = Some a
+or_else None other = other
+
+-- there is one, and it passes the test
+abbrev pub is_some_and : {A : Type 0} → (A → Bool) → Option A → Bool
+is_some_and test None = false
+is_some_and test (Some a) = test a
+
+-- it is there, and it is this number
+abbrev pub is_id : ℕ → Option ℕ → Bool
+is_id i None = false
+is_id i (Some j) = i == j
+
+-- it, where it passes the test
+abbrev pub only : {A : Type 0} → Bool → Option A → Option A
+only true o = o
+only false o = None

@@ -1,0 +1,153 @@
+-- Words for short logs, whose faults are computed from the definitions.
+use Rattle.std.specs.Prelude.{ℕ, ◌+◌, Bool, true, false, cond, List, [], ◌∷◌, length, Option, Some, None}
+use Rattle.mq_packet.specs.declared.packet.Qos.TheVariants as quality
+use Rattle.mq_packet.specs.declared.rule.PacketRule.{PacketRule}
+use Rattle.mq_rules.specs.declared.role.Role.TheVariants.{Client, Server}
+use Rattle.mq_rules.specs.declared.role.Tested.{Tested}
+use Rattle.mq_rules.specs.declared.rule.Rule.{Rule}
+use Rattle.mq_rules.specs.declared.note.Note.{Note}
+use Rattle.mq_rules.specs.declared.note.Note.TheVariants as notes
+use Rattle.mq_rules.specs.declared.note.ItemNote.TheVariants as items
+use Rattle.mq_rules.specs.declared.note.Seen.{Seen}
+use Rattle.mq_rules.specs.declared.packet_note.PacketNote.{PacketNote}
+use Rattle.mq_rules.specs.declared.packet_note.PacketFields.{PacketFields}
+use Rattle.mq_rules.specs.declared.packet_note.PacketFields.TheVariants.{Connect, Connack, Publish, Subscribe}
+use Rattle.mq_rules.specs.declared.packet_note.ConnectNote.{ConnectNote}
+use Rattle.mq_rules.specs.Statements.{fails}
+
+-- ---- logs
+
+-- each end, with releases recorded
+abbrev pub client : Tested
+client = record { role = Client; releases = true }
+
+abbrev pub server : Tested
+server = record { role = Server; releases = true }
+
+-- a log with these events after it, each in a record of its own
+abbrev pub followed : List Seen → List Note → List Seen
+followed past [] = past
+followed past (n ∷ ns) = followed (record { place = record { position = length past + 1; record_no = length past + 1 }; note = n } ∷ past) ns
+
+-- the log of these events, of which the first comes first
+abbrev pub log_of : List Note → List Seen
+log_of ns = followed [] ns
+
+-- the positions up to the last of these events at which the statement fails in the log, the latest first
+abbrev pub failing_at : Tested → Rule → List Seen → List Seen → List ℕ
+failing_at tested rule log [] = []
+failing_at tested rule log (e ∷ past) = cond (fails tested log (length past + 1) rule) ((length past + 1) ∷ failing_at tested rule log past) (failing_at tested rule log past)
+
+-- all positions of a log at which the statement fails, the latest first
+abbrev pub failing : Tested → Rule → List Note → List ℕ
+failing tested rule ns = failing_at tested rule (log_of ns) (log_of ns)
+
+-- ---- events
+
+abbrev pub packet_of : ℕ → Bool → PacketFields → PacketNote
+packet_of size explains fields = record { size = size; has_reason_string = explains; has_user_property = false; fields = fields }
+
+-- a packet of 10 bytes that is sent, or received
+abbrev pub sends : PacketFields → Note
+sends fields = notes.Sent (items.Packet (packet_of 10 false fields))
+
+abbrev pub gets : PacketFields → Note
+gets fields = notes.Recv (items.Packet (packet_of 10 false fields))
+
+-- a packet that is sent, of this size; with a Reason String
+abbrev pub sends_sized : ℕ → PacketFields → Note
+sends_sized size fields = notes.Sent (items.Packet (packet_of size false fields))
+
+abbrev pub sends_explained : PacketFields → Note
+sends_explained fields = notes.Sent (items.Packet (packet_of 10 true fields))
+
+-- bytes that break a rule, with this first byte
+abbrev pub sends_bad : ℕ → PacketRule → Note
+sends_bad first rule = notes.Sent (items.Bad first rule 2)
+
+abbrev pub gets_bad : ℕ → PacketRule → Note
+gets_bad first rule = notes.Recv (items.Bad first rule 2)
+
+-- a stream that is lost
+abbrev pub sends_lost : Note
+sends_lost = notes.Sent items.Lost
+
+abbrev pub gets_lost : Note
+gets_lost = notes.Recv items.Lost
+
+-- ---- packets
+
+-- of Clean Start or not, with this Session Expiry Interval, and a Client Identifier
+abbrev pub connect : Bool → Option ℕ → ConnectNote
+connect clean expiry = record { clean_start = clean; is_unnamed = false; session_expiry = expiry; request_problem_information = None; request_response_information = None; receive_maximum = None; topic_alias_maximum = None; maximum_packet_size = None }
+
+-- a session that is begun and kept for a minute; one that is asked for again; one that ends with its connection
+abbrev pub kept : PacketFields
+kept = Connect (connect true (Some 60))
+
+abbrev pub again : PacketFields
+again = Connect (connect false (Some 60))
+
+abbrev pub fleeting : PacketFields
+fleeting = Connect (connect true None)
+
+-- of a client without an identifier
+abbrev pub unnamed : PacketFields
+unnamed = Connect (record { clean_start = true; is_unnamed = true; session_expiry = None; request_problem_information = None; request_response_information = None; receive_maximum = None; topic_alias_maximum = None; maximum_packet_size = None })
+
+-- of a client that asks for these: Request Problem Information, Request Response Information, Receive Maximum, Topic Alias Maximum, Maximum Packet Size
+abbrev pub asking : Option ℕ → Option ℕ → Option ℕ → Option ℕ → Option ℕ → PacketFields
+asking problem response receive aliases size = Connect (record { clean_start = true; is_unnamed = false; session_expiry = Some 60; request_problem_information = problem; request_response_information = response; receive_maximum = receive; topic_alias_maximum = aliases; maximum_packet_size = size })
+
+-- with Session Present or not, and this Reason Code
+abbrev pub connack : Bool → ℕ → PacketFields
+connack present code = Connack (record { session_present = present; code = code; session_expiry = None; receive_maximum = None; topic_alias_maximum = None; maximum_qos = None; maximum_packet_size = None; has_assigned_identifier = false; has_response_information = false })
+
+abbrev pub accepted : PacketFields
+accepted = connack false 0
+
+abbrev pub resumed : PacketFields
+resumed = connack true 0
+
+-- of a server that is not authorized to let the client in
+abbrev pub refused : PacketFields
+refused = connack false 135
+
+-- with these: Session Present, Receive Maximum, Topic Alias Maximum, Maximum QoS, Maximum Packet Size
+abbrev pub limiting : Bool → Option ℕ → Option ℕ → Option ℕ → Option ℕ → PacketFields
+limiting present receive aliases qos size = Connack (record { session_present = present; code = 0; session_expiry = None; receive_maximum = receive; topic_alias_maximum = aliases; maximum_qos = qos; maximum_packet_size = size; has_assigned_identifier = false; has_response_information = false })
+
+-- with an Assigned Client Identifier, and with Response Information
+abbrev pub assigning : PacketFields
+assigning = Connack (record { session_present = false; code = 0; session_expiry = None; receive_maximum = None; topic_alias_maximum = None; maximum_qos = None; maximum_packet_size = None; has_assigned_identifier = true; has_response_information = false })
+
+abbrev pub informing : PacketFields
+informing = Connack (record { session_present = false; code = 0; session_expiry = None; receive_maximum = None; topic_alias_maximum = None; maximum_qos = None; maximum_packet_size = None; has_assigned_identifier = false; has_response_information = true })
+
+-- a PUBLISH of QoS 0, 1 and 2 on the topic `a`; with DUP or not
+abbrev pub publish : PacketFields
+publish = Publish (record { identifier = None; qos = quality.AtMostOnce; duplicate = false; topic = 97 ∷ []; topic_alias = None; has_message_expiry = false; has_subscription_identifier = false })
+
+abbrev pub once : Bool → ℕ → PacketFields
+once dup i = Publish (record { identifier = Some i; qos = quality.AtLeastOnce; duplicate = dup; topic = 97 ∷ []; topic_alias = None; has_message_expiry = false; has_subscription_identifier = false })
+
+abbrev pub exactly : Bool → ℕ → PacketFields
+exactly dup i = Publish (record { identifier = Some i; qos = quality.ExactlyOnce; duplicate = dup; topic = 97 ∷ []; topic_alias = None; has_message_expiry = false; has_subscription_identifier = false })
+
+-- one of QoS 2 that may expire
+abbrev pub expiring : ℕ → PacketFields
+expiring i = Publish (record { identifier = Some i; qos = quality.ExactlyOnce; duplicate = false; topic = 97 ∷ []; topic_alias = None; has_message_expiry = true; has_subscription_identifier = false })
+
+-- one of QoS 0 with a Topic Alias, on this topic; one with a Subscription Identifier
+abbrev pub aliased : List ℕ → ℕ → PacketFields
+aliased topic alias = Publish (record { identifier = None; qos = quality.AtMostOnce; duplicate = false; topic = topic; topic_alias = Some alias; has_message_expiry = false; has_subscription_identifier = false })
+
+abbrev pub subscribed : PacketFields
+subscribed = Publish (record { identifier = None; qos = quality.AtMostOnce; duplicate = false; topic = 97 ∷ []; topic_alias = None; has_message_expiry = false; has_subscription_identifier = true })
+
+-- a SUBSCRIBE to `a`, and one to `b`, of a greatest QoS
+abbrev pub asks_a : ℕ → ℕ → PacketFields
+asks_a i qos = Subscribe i (record { filter = 97 ∷ []; options = qos } ∷ [])
+
+abbrev pub asks_b : ℕ → ℕ → PacketFields
+asks_b i qos = Subscribe i (record { filter = 98 ∷ []; options = qos } ∷ [])

@@ -1,0 +1,311 @@
+//! The statements C01 to C23, in one pass: what is kept of the latest connection tells each of its next event.
+ghost use Rattle.std.specs.Prelude.{◌≡◌, ◌==◌, ◌∷◌, [], ◌+◌, ◌&&◌, ◌||◌, ℕ, not, length, List, Some, OnOk, OnErr};
+ghost use Rattle.std.specs.BTreeSet.{contains};
+ghost use Rattle.std.specs.Ordering.{nat_cmp};
+ghost use Rattle.mq_rules.specs.declared.role.Role.TheVariants as roles;
+ghost use Rattle.mq_rules.specs.declared.role.Tested.{Tested as TheTested};
+ghost use Rattle.mq_rules.specs.declared.note.Seen.{Seen as TheSeen};
+ghost use Rattle.mq_rules.specs.Words.{is_id, only};
+ghost use Rattle.mq_rules.specs.Notes.{is_open as opens};
+ghost use Rattle.mq_rules.specs.Pasts.{set_alias as sets};
+ghost use Rattle.mq_rules.specs.Statements.{is_on_past};
+ghost use Rattle.mq_rules.specs.Keeping as told;
+ghost use Rattle.mq_rules.specs.Keeping.{Agrees, Judges, JudgesWithin, GrowsBy, GrowsByWithin, is_among};
+
+mod state;
+mod verdicts;
+
+use crate::faults::{Faults, Memory};
+use crate::note::{ItemNote, Note};
+use crate::packet_note::{ConnackNote, PacketNote, PublishNote};
+use crate::role::Role;
+use crate::rule::Rule;
+use mq_trace::Place3;
+pub use state::ConnectionState;
+use std::alloc::Global;
+use std::collections::BTreeSet;
+use verdicts::Verdict;
+
+/// What is kept of the latest connection, to judge C01 to C23 event by event.
+#[derive(Drop)]
+pub struct Conn {
+    role: Role,
+    state: ConnectionState,
+    /// The Topic Aliases that the tested end set (MQTT 5.0, section 3.3.2.3.4).
+    aliases: BTreeSet<u16>,
+}
+
+impl Conn {
+    /// What is kept before the first event, for a tested end of this role.
+    #[tactic(auto, unfolding(crate::specs::Keeping::is_alias_set))]
+    pub fn new(alloc: Global, role: Role) -> Self
+        ensures { (tested : TheTested) → role ≡ tested.role → Agrees result tested [] }
+    {
+        Conn {
+            role,
+            state: ConnectionState::new(),
+            aliases: BTreeSet::new(alloc),
+        }
+    }
+
+    /// Judges an event by what is kept, and then takes it.
+    ///
+    /// # Errors
+    ///
+    /// `Memory` where room for a fault or a Topic Alias was refused. The faults may then have got some of the event's, and no
+    /// others, and what is kept is not to be used any more.
+    pub fn step(&mut self, place: Place3, note: &Note, faults: &mut Faults) -> Result<(), Memory>
+        ensures agrees { OnOk result ((tested : TheTested) (past : List TheSeen) → Agrees self.old tested past → Agrees self.new tested (record { place = place; note = note.now } ∷ past)) }
+        ensures grows { OnOk result ((tested : TheTested) (past : List TheSeen) → Agrees self.old tested past → place.position ≡ length past + 1 → GrowsBy (is_on_past tested) tested (record { place = place; note = note.now }) past faults.old faults.new) }
+        ensures memory { OnErr result ((tested : TheTested) (past : List TheSeen) → Agrees self.old tested past → place.position ≡ length past + 1 → GrowsByWithin (is_on_past tested) tested (record { place = place; note = note.now }) past faults.old faults.new) }
+    {
+        self.judge(place, note, faults)?;
+        self.take(note)?;
+        Ok(())
+    }
+
+    /// Takes an event.
+    fn take(&mut self, note: &Note) -> Result<(), Memory>
+        ensures role { OnOk result (self.new.role ≡ self.old.role) }
+        ensures state { OnOk result (self.new.state ≡ told.after self.old.role self.old.state note.now) }
+        ensures aliases { OnOk result ((alias : ℕ) → contains nat_cmp self.new.aliases alias ≡ ((not (opens note.now) && contains nat_cmp self.old.aliases alias) || is_id alias (sets note.now))) }
+    {
+        self.clear_aliases_if(note.is_open());
+        self.set_alias(alias_set_by(note))?;
+        self.state.take(self.role, note);
+        Ok(())
+    }
+
+    /// At an OPEN no Topic Alias is set.
+    fn clear_aliases_if(&mut self, begins: bool)
+        ensures role { self.new.role ≡ self.old.role }
+        ensures state { self.new.state ≡ self.old.state }
+        ensures aliases { (alias : ℕ) → contains nat_cmp self.new.aliases alias ≡ (not begins && contains nat_cmp self.old.aliases alias) }
+    {
+        if begins {
+            self.aliases.clear();
+        }
+    }
+
+    /// Adds a Topic Alias, if there is one.
+    fn set_alias(&mut self, set: Option<u16>) -> Result<(), Memory>
+        ensures role { OnOk result (self.new.role ≡ self.old.role) }
+        ensures state { OnOk result (self.new.state ≡ self.old.state) }
+        ensures aliases { OnOk result ((alias : ℕ) → contains nat_cmp self.new.aliases alias ≡ (contains nat_cmp self.old.aliases alias || is_id alias set)) }
+    {
+        if let Some(alias) = set {
+            self.aliases.insert(alias)?;
+        }
+        Ok(())
+    }
+}
+
+/// The Topic Alias that the event sets: a PUBLISH is sent with it and a Topic Name.
+#[inline]
+fn alias_set_by(note: &Note) -> Option<u16>
+    ensures { result ≡ sets note.now }
+{
+    match note.sent_publish() {
+        Some(publish) => named_alias(publish),
+        None => None,
+    }
+}
+
+#[inline]
+fn named_alias(publish: &PublishNote) -> Option<u16>
+    ensures { result ≡ only (not (length publish.now.topic == 0)) publish.now.topic_alias }
+{
+    if publish.topic.is_empty() {
+        None
+    } else {
+        publish.topic_alias
+    }
+}
+
+/// Judging an event by what is kept.
+impl Conn {
+    /// Judges each statement that binds the end.
+    fn judge(&self, place: Place3, note: &Note, faults: &mut Faults) -> Result<(), Memory>
+        ensures ok { OnOk result (Judges (told.is_told self.now.role self.now.state (contains nat_cmp self.now.aliases) note.now) place faults.old faults.new) }
+        ensures memory { OnErr result (JudgesWithin (told.is_told self.now.role self.now.state (contains nat_cmp self.now.aliases) note.now) place faults.old faults.new) }
+    {
+        self.judge_item(place, note.sent_item(), faults)?;
+        self.judge_packet(place, note.sent_packet(), faults)?;
+        self.judge_publish(place, note.sent_publish(), faults)?;
+        self.judge_connack(place, note.sent_connack(), faults)?;
+        self.judge_disconnect(place, note.sent_disconnect(), faults)?;
+        self.judge_rest(place, note.is_rest(), faults)?;
+        Ok(())
+    }
+
+    /// Judges a packet that is sent, or bytes that break a rule.
+    #[inline]
+    fn judge_item(
+        &self,
+        place: Place3,
+        item: Option<&ItemNote>,
+        faults: &mut Faults,
+    ) -> Result<(), Memory>
+        ensures ok { OnOk result (Judges (is_among (told.item_verdicts self.now.role self.now.state (told.behind item.entry))) place faults.old faults.new) }
+        ensures memory { OnErr result (JudgesWithin (is_among (told.item_verdicts self.now.role self.now.state (told.behind item.entry))) place faults.old faults.new) }
+    {
+        let Some(item) = item else {
+            return Ok(());
+        };
+        match self.role {
+            Role::Client => judge_each(place, &self.state.client_item(item), faults),
+            Role::Server => judge_each(place, &self.state.server_item(item), faults),
+        }
+    }
+
+    /// Judges a packet that is sent.
+    #[inline]
+    fn judge_packet(
+        &self,
+        place: Place3,
+        packet: Option<&PacketNote>,
+        faults: &mut Faults,
+    ) -> Result<(), Memory>
+        ensures ok { OnOk result (Judges (is_among (told.packet_verdicts self.now.role self.now.state (told.behind packet.entry))) place faults.old faults.new) }
+        ensures memory { OnErr result (JudgesWithin (is_among (told.packet_verdicts self.now.role self.now.state (told.behind packet.entry))) place faults.old faults.new) }
+    {
+        let Some(packet) = packet else {
+            return Ok(());
+        };
+        match self.role {
+            Role::Client => judge_each(place, &self.state.client_packet(packet), faults),
+            Role::Server => judge_each(place, &self.state.server_packet(packet), faults),
+        }
+    }
+
+    /// Judges a PUBLISH that is sent.
+    #[inline]
+    fn judge_publish(
+        &self,
+        place: Place3,
+        publish: Option<&PublishNote>,
+        faults: &mut Faults,
+    ) -> Result<(), Memory>
+        ensures ok { OnOk result (Judges (is_among (told.publish_verdicts self.now.role self.now.state (contains nat_cmp self.now.aliases) (told.behind publish.entry))) place faults.old faults.new) }
+        ensures memory { OnErr result (JudgesWithin (is_among (told.publish_verdicts self.now.role self.now.state (contains nat_cmp self.now.aliases) (told.behind publish.entry))) place faults.old faults.new) }
+    {
+        let Some(publish) = publish else {
+            return Ok(());
+        };
+        match self.role {
+            Role::Client => judge_each(place, &self.client_publish(publish), faults),
+            Role::Server => judge_each(place, &self.server_publish(publish), faults),
+        }
+    }
+
+    #[inline]
+    fn client_publish(&self, publish: &PublishNote) -> [Verdict; 4]
+        ensures { result ≡ told.publish_verdicts roles.Client self.now.state (contains nat_cmp self.now.aliases) (Some publish.now) }
+    {
+        [
+            (Rule::C15, self.state.breaks_c15(Role::Client, publish)),
+            (Rule::C16, self.breaks_c16(publish)),
+            (Rule::C17, self.state.breaks_c17(publish)),
+            (Rule::C18, publish.has_subscription_identifier),
+        ]
+    }
+
+    #[inline]
+    fn server_publish(&self, publish: &PublishNote) -> [Verdict; 2]
+        ensures { result ≡ told.publish_verdicts roles.Server self.now.state (contains nat_cmp self.now.aliases) (Some publish.now) }
+    {
+        [
+            (Rule::C15, self.state.breaks_c15(Role::Server, publish)),
+            (Rule::C16, self.breaks_c16(publish)),
+        ]
+    }
+
+    #[inline]
+    fn breaks_c16(&self, publish: &PublishNote) -> bool
+        ensures { result ≡ told.tells_C16 (contains nat_cmp self.now.aliases) (Some publish.now) }
+    {
+        match used_alias(publish) {
+            Some(alias) => !self.aliases.contains(&alias),
+            None => false,
+        }
+    }
+
+    /// Judges a CONNACK that is sent.
+    #[inline]
+    fn judge_connack(
+        &self,
+        place: Place3,
+        connack: Option<&ConnackNote>,
+        faults: &mut Faults,
+    ) -> Result<(), Memory>
+        ensures ok { OnOk result (Judges (is_among (told.connack_verdicts self.now.role self.now.state (told.behind connack.entry))) place faults.old faults.new) }
+        ensures memory { OnErr result (JudgesWithin (is_among (told.connack_verdicts self.now.role self.now.state (told.behind connack.entry))) place faults.old faults.new) }
+    {
+        let Some(connack) = connack else {
+            return Ok(());
+        };
+        match self.role {
+            Role::Client => Ok(()),
+            Role::Server => judge_each(place, &self.state.server_connack(connack), faults),
+        }
+    }
+
+    /// Judges a DISCONNECT that is sent, with its Session Expiry Interval.
+    #[inline]
+    fn judge_disconnect(
+        &self,
+        place: Place3,
+        disconnect: Option<Option<u32>>,
+        faults: &mut Faults,
+    ) -> Result<(), Memory>
+        ensures ok { OnOk result (Judges (is_among (told.disconnect_verdicts self.now.role self.now.state disconnect)) place faults.old faults.new) }
+        ensures memory { OnErr result (JudgesWithin (is_among (told.disconnect_verdicts self.now.role self.now.state disconnect)) place faults.old faults.new) }
+    {
+        let Some(expiry) = disconnect else {
+            return Ok(());
+        };
+        match self.role {
+            Role::Client => {
+                judge_each(place, &[(Rule::C20, self.state.breaks_c20(expiry))], faults)
+            }
+            Role::Server => judge_each(place, &[(Rule::C19, expiry.is_some())], faults),
+        }
+    }
+
+    /// Judges an event that is a REST, or isn't.
+    #[inline]
+    fn judge_rest(&self, place: Place3, is_rest: bool, faults: &mut Faults) -> Result<(), Memory>
+        ensures ok { OnOk result (Judges (is_among (told.rest_verdicts self.now.role self.now.state is_rest)) place faults.old faults.new) }
+        ensures memory { OnErr result (JudgesWithin (is_among (told.rest_verdicts self.now.role self.now.state is_rest)) place faults.old faults.new) }
+    {
+        judge_each(
+            place,
+            &[(Rule::C23, self.state.breaks_c23(self.role, is_rest))],
+            faults,
+        )
+    }
+}
+
+/// The Topic Alias that a PUBLISH without a Topic Name uses.
+#[inline]
+fn used_alias(publish: &PublishNote) -> Option<u16>
+    ensures { result ≡ only (length publish.now.topic == 0) publish.now.topic_alias }
+{
+    if publish.topic.is_empty() {
+        publish.topic_alias
+    } else {
+        None
+    }
+}
+
+/// Puts a fault for each of these statements that is false.
+#[inline]
+fn judge_each(place: Place3, verdicts: &[Verdict], faults: &mut Faults) -> Result<(), Memory>
+    ensures ok { OnOk result (Judges (is_among verdicts.now) place faults.old faults.new) }
+    ensures memory { OnErr result (JudgesWithin (is_among verdicts.now) place faults.old faults.new) }
+{
+    for (rule, broken) in verdicts {
+        faults.judge(*rule, place, *broken)?;
+    }
+    Ok(())
+}

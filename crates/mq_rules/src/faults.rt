@@ -1,0 +1,137 @@
+//! The faults that were found: at most one for each pair of a position and a statement.
+ghost use Rattle.std.specs.Prelude.{◌≡◌, ◌==◌, OnOk, OnErr, Option, None, true};
+ghost use Rattle.std.specs.FinMap as map;
+ghost use Rattle.std.specs.Map.Iter.{ShowsInOrder, deref_pair};
+ghost use Rattle.mq_rules.specs.Marks.{fault_at, with_fault, judged};
+
+use crate::fault::Fault;
+use crate::rule::Rule;
+use mq_trace::Place3;
+use std::alloc::{AllocError, AllocFailed, Global};
+use std::collections::BTreeMap;
+use std::collections::btree_map::Iter;
+use std::marker::Model;
+
+/// A growth was refused: there is no memory left.
+#[derive(Clone, Copy, Debug, PartialEq, Eq)]
+pub struct Memory;
+
+impl<T: Drop> From<AllocFailed<T>> for Memory {
+    fn from(_: AllocFailed<T>) -> Self {
+        Memory
+    }
+}
+
+impl From<AllocError> for Memory {
+    fn from(_: AllocError) -> Self {
+        Memory
+    }
+}
+
+/// A pair of a position and a statement. Marks are ordered by position, and then by statement, as reports are.
+#[derive(Clone, Copy, Debug, PartialEq, Eq, PartialOrd, Ord)]
+pub struct Mark {
+    /// The event's number among the events, counted from 1.
+    pub position: u32,
+    /// The statement that is false there.
+    pub rule: Rule,
+}
+
+/// The faults that were found, each under its mark.
+#[derive(Drop)]
+pub struct Faults {
+    found: BTreeMap<Mark, Fault>,
+}
+
+impl Model for Faults {
+    ghost use Rattle.std.specs.FinMap as map;
+    ghost use Rattle.mq_rules.specs.Marks.{mark_cmp};
+    ghost use Rattle.mq_rules.specs.declared.fault.Fault.{Fault};
+    ghost use Rattle.mq_rules.specs.contracts.faults.Mark as mark;
+    ghost use Rattle.mq_rules.specs.contracts.fault.Fault as fault;
+
+    ghost Value = { map.FinMap mark_cmp Fault };
+
+    ghost coded = { map.code mark.the_row.coded fault.the_row.coded };
+
+    ghost view = { λ a. map.from_entries a.found.entries };
+}
+
+impl Faults {
+    /// No faults.
+    pub fn new(alloc: Global) -> Self
+        ensures { result ≡ map.empty }
+    {
+        Faults {
+            found: BTreeMap::new(alloc),
+        }
+    }
+
+    /// Puts a fault under its mark, unless one stands there already: the first one stays.
+    ///
+    /// # Errors
+    ///
+    /// `Memory` where room for a new mark was refused. The faults are then unchanged.
+    pub fn add(&mut self, mark: Mark, fault: Fault) -> Result<(), Memory>
+        ensures ok { OnOk result (self.new ≡ with_fault mark fault self.old) }
+        ensures absent { OnErr result (map.get self.old mark ≡ None) }
+        ensures unchanged { OnErr result (self.new ≡ self.old) }
+    {
+        if self.found.contains_key(&mark) {
+            return Ok(());
+        }
+        self.found.insert(mark, fault)?;
+        Ok(())
+    }
+
+    /// Puts the fault of a statement that is judged at its own position, where it is broken and none stands there already.
+    ///
+    /// # Errors
+    ///
+    /// `Memory` where room for a new mark was refused. The faults are then unchanged.
+    pub fn judge(&mut self, rule: Rule, place: Place3, broken: bool) -> Result<(), Memory>
+        ensures ok { OnOk result (self.new ≡ judged broken rule place self.old) }
+        ensures needed { OnErr result (broken ≡ true) }
+        ensures absent { OnErr result (fault_at self.old place.position rule ≡ None) }
+        ensures unchanged { OnErr result (self.new ≡ self.old) }
+    {
+        if !broken {
+            return Ok(());
+        }
+        let mark = Mark {
+            position: place.position,
+            rule,
+        };
+        self.add(mark, Fault::at_once(place, None))?;
+        Ok(())
+    }
+
+    /// The fault under a mark, if there is one.
+    pub fn get(&self, mark: Mark) -> Option<Fault>
+        ensures { result ≡ map.get self.now mark }
+    {
+        self.found.get(&mark).copied()
+    }
+
+    /// How many faults there are.
+    pub fn len(&self) -> usize
+        ensures { result ≡ map.len self.now }
+    {
+        self.found.len()
+    }
+
+    /// Whether there are none.
+    pub fn is_empty(&self) -> bool
+        ensures { result ≡ (map.len self.now == 0) }
+    {
+        self.len() == 0
+    }
+
+    /// The faults with their marks, in ascending order: by position, and then in the order of the statements.
+    pub fn iter(&self) -> Iter<'_, Mark, Fault>
+        ensures rest { result ≡ map.entries self.now }
+        ensures runs { ShowsInOrder (deref_pair {K = Mark} {X = Fault}) }
+    {
+        self.found.iter()
+    }
+}

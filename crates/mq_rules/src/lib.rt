@@ -1,0 +1,53 @@
+//! The chosen statements of MQTT 5.0: what they look at of a log's events, where each is false, and the faults that follow.
+//!
+//! A reader of the statements needs the definitions in `specs/` alone: `Notes` (one event), `Moments` (words on what stands before
+//! an event), `Connections`, and then a family each: `Pasts`, `Identifiers`, `Exchanges`, `Releases` and `Subscriptions`;
+//! `Statements` gives each statement its line, and `Faults` says what is reported.
+#![tactic(auto)]
+
+mod conn;
+mod copying;
+mod fate;
+mod fault;
+mod faults;
+mod laws;
+mod note;
+mod noting;
+mod packet_note;
+mod plain;
+mod position_laws;
+mod role;
+mod rule;
+mod session_laws;
+mod statement_laws;
+mod table;
+mod table_laws;
+mod text;
+mod worked;
+
+pub use fate::Fate;
+pub use fault::Fault;
+pub use faults::{Faults, Mark, Memory};
+pub use laws::{
+    decided_is_shortest, entries_are_listed, failing_is_decided, failing_stays, failing_turns,
+    fated_failing_turns, faults_grow, given_fate_is_decided, late_is_judged_at_once,
+    latest_fate_goes_on, listed_is_failing, open_decides_nothing, past_is_judged_at_once,
+    session_packets_are_late, sessions_are_judged_at_once,
+};
+pub use note::{ItemNote, Note, Seen};
+pub use packet_note::{ConnackNote, ConnectNote, PacketFields, PacketNote, PublishNote};
+pub use plain::{plain_c, plain_w};
+pub use position_laws::{
+    earliest_by_positions, earliest_since_by_positions, latest_by_positions, moments_by_positions,
+    scopes_descend, since_by_positions, some_stretch_by_positions, tests_by_positions,
+};
+pub use role::{Role, Tested};
+pub use rule::Rule;
+pub use session_laws::{
+    alive_by_connections, connection_goes_on, event_decides_its_connection, fate_stays,
+    fold_goes_on, session_by_positions, since_goes_on, unrefused_logs_are_in_order,
+    words_are_folds,
+};
+pub use statement_laws::{first_rest_decides, in_flight_by_a_counter};
+pub use table_laws::{each_statement_has_its_row, rows_ascend};
+pub use text::{CodeList, FilterList, NotedFilter, Text};

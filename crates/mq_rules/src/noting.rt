@@ -1,0 +1,334 @@
+//! What the statements look at of the packets and events of a log, copied out of the bytes that they were read from.
+//!
+//! Memory is taken only for a text that some statement looks at: the Topic Name of a PUBLISH that was sent, the Topic Filters of a
+//! SUBSCRIBE that was received, and the Reason Codes of a SUBACK that was sent.
+ghost use Rattle.std.specs.Prelude.{◌≡◌, ◌<◌, ℕ, List, [], true, is_some, length, option_map, unwrap_or, IfOk, OnErr};
+ghost use Rattle.mq_props.specs.First.{first_text, first_pair};
+ghost use Rattle.mq_packet.specs.declared.packet.RequestKind.TheVariants as requests;
+ghost use Rattle.mq_packet.specs.Reading.{view, connect_view, publish_view};
+ghost use Rattle.mq_packet.specs.Sizes.{size_with, remaining_length};
+ghost use Rattle.mq_trace.specs.Hearing.{item_of, event_of};
+ghost use Rattle.mq_rules.specs.Notes.{kept, is_sent_way, connect_note, connack_note, publish_note, packet_fields, properties_of, packet_note, item_note, note_of, request_fields, answer_fields, keeps_text, item_keeps_text, note_keeps_text};
+
+use crate::faults::Memory;
+use crate::note::{ItemNote, Note};
+use crate::packet_note::{ConnackNote, ConnectNote, PacketFields, PacketNote, PublishNote};
+use crate::text::{CodeList, FilterList, Text};
+use mq_packet::{Codes, Connack, Connect, Filters, Packet, Publish};
+use mq_props::Props;
+use mq_trace::{Event, Item, Way};
+use std::alloc::Global;
+
+/// Whether there is a text.
+#[inline]
+fn is_text(text: Option<&str>) -> bool
+    ensures { result ≡ is_some (option_map (λ text. text.now) text.entry) }
+{
+    text.is_some()
+}
+
+/// Whether there is a pair of texts.
+#[inline]
+fn is_pair(pair: Option<(&str, &str)>) -> bool
+    ensures { result ≡ is_some {T = List ℕ × List ℕ} (option_map (λ texts. (texts.0.now, texts.1.now)) pair.entry) }
+{
+    pair.is_some()
+}
+
+/// Whether there is a list, and it has a Reason String (MQTT 5.0, section 3.2.2.3.9).
+#[inline]
+fn has_reason_string(list: Option<&Props<'_>>) -> bool
+    ensures { result ≡ is_some (first_text 31 (unwrap_or (option_map (λ list. list.now.items) list.entry) [])) }
+{
+    match list {
+        Some(list) => is_text(list.get_reason_string()),
+        None => false,
+    }
+}
+
+/// Whether there is a list, and it has a User Property (MQTT 5.0, section 3.2.2.3.10).
+#[inline]
+fn has_user_property(list: Option<&Props<'_>>) -> bool
+    ensures { result ≡ is_some (first_pair 38 (unwrap_or (option_map (λ list. list.now.items) list.entry) [])) }
+{
+    match list {
+        Some(list) => is_pair(list.get_user_property()),
+        None => false,
+    }
+}
+
+impl ConnectNote {
+    /// What the statements look at of this CONNECT.
+    pub fn of(connect: &Connect<'_>) -> ConnectNote
+        ensures { result ≡ connect_note (connect_view connect.now) }
+    {
+        let properties = &connect.properties;
+        ConnectNote {
+            clean_start: connect.clean_start,
+            is_unnamed: connect.client_identifier.is_empty(),
+            session_expiry: properties.get_session_expiry_interval(),
+            request_problem_information: properties.get_request_problem_information(),
+            request_response_information: properties.get_request_response_information(),
+            receive_maximum: properties.get_receive_maximum(),
+            topic_alias_maximum: properties.get_topic_alias_maximum(),
+            maximum_packet_size: properties.get_maximum_packet_size(),
+        }
+    }
+}
+
+impl ConnackNote {
+    /// What the statements look at of this CONNACK.
+    pub fn of(connack: &Connack<'_>) -> ConnackNote
+        ensures { result ≡ connack_note connack.now.session_present connack.now.code connack.now.properties.items }
+    {
+        let properties = &connack.properties;
+        ConnackNote {
+            session_present: connack.session_present,
+            code: connack.code,
+            session_expiry: properties.get_session_expiry_interval(),
+            receive_maximum: properties.get_receive_maximum(),
+            topic_alias_maximum: properties.get_topic_alias_maximum(),
+            maximum_qos: properties.get_maximum_qos(),
+            maximum_packet_size: properties.get_maximum_packet_size(),
+            has_assigned_identifier: is_text(properties.get_assigned_client_identifier()),
+            has_response_information: is_text(properties.get_response_information()),
+        }
+    }
+}
+
+/// The Topic Name, where its PUBLISH was sent.
+#[inline]
+fn kept_topic(alloc: Global, way: Way, topic: &str) -> Result<Text, Memory>
+    ensures exact { IfOk result (λ text. text ≡ kept (is_sent_way way) topic.now) }
+    ensures needed { OnErr result (0 < length (kept (is_sent_way way) topic.now)) }
+{
+    match way {
+        Way::Sent => Text::of(alloc, topic),
+        Way::Recv => Ok(Text::empty(alloc)),
+    }
+}
+
+impl PublishNote {
+    /// What the statements look at of this PUBLISH, which went this way.
+    ///
+    /// # Errors
+    ///
+    /// `Memory` where room for its Topic Name was refused, which is kept of a PUBLISH that was sent.
+    #[inline]
+    pub fn of(alloc: Global, way: Way, publish: &Publish<'_>) -> Result<PublishNote, Memory>
+        ensures exact { IfOk result (λ note. note ≡ publish_note way (publish_view publish.now)) }
+        ensures needed { OnErr result (0 < length (publish_note way (publish_view publish.now)).topic) }
+    {
+        let topic = kept_topic(alloc, way, publish.topic)?;
+        let properties = &publish.properties;
+        Ok(PublishNote {
+            identifier: publish.identifier,
+            qos: publish.qos,
+            duplicate: publish.duplicate,
+            topic,
+            topic_alias: properties.get_topic_alias(),
+            has_message_expiry: properties.get_message_expiry_interval().is_some(),
+            has_subscription_identifier: properties.get_subscription_identifier().is_some(),
+        })
+    }
+}
+
+/// What the statements look at of a SUBSCRIBE with these filters, which went this way.
+fn subscribe_fields(
+    alloc: Global,
+    way: Way,
+    identifier: u16,
+    filters: &Filters<'_>,
+) -> Result<PacketFields, Memory>
+    ensures exact { IfOk result (λ fields. fields ≡ request_fields way requests.Subscribe identifier filters.now) }
+    ensures needed { OnErr result (keeps_text (request_fields way requests.Subscribe identifier filters.now) ≡ true) }
+{
+    let filters = match way {
+        Way::Sent => FilterList::empty(alloc),
+        Way::Recv => FilterList::of(alloc, filters)?,
+    };
+    Ok(PacketFields::Subscribe {
+        identifier,
+        filters,
+    })
+}
+
+/// What the statements look at of a SUBACK with these Reason Codes, which went this way.
+fn suback_fields(
+    alloc: Global,
+    way: Way,
+    identifier: u16,
+    codes: &Codes<'_>,
+) -> Result<PacketFields, Memory>
+    ensures exact { IfOk result (λ fields. fields ≡ answer_fields way requests.Subscribe identifier codes.now) }
+    ensures needed { OnErr result (keeps_text (answer_fields way requests.Subscribe identifier codes.now) ≡ true) }
+{
+    let codes = match way {
+        Way::Sent => CodeList::of(alloc, codes)?,
+        Way::Recv => CodeList::empty(alloc),
+    };
+    Ok(PacketFields::Suback { identifier, codes })
+}
+
+/// How many filters an UNSUBSCRIBE has.
+fn filter_count(filters: &Filters<'_>) -> usize
+    ensures { result ≡ length filters.now }
+{
+    filters.iter().count()
+}
+
+impl PacketFields {
+    /// What the statements look at of what this packet says, which went this way.
+    ///
+    /// # Errors
+    ///
+    /// `Memory` where room was refused for a text that is kept.
+    #[inline]
+    pub fn of(alloc: Global, way: Way, packet: &Packet<'_>) -> Result<PacketFields, Memory>
+        ensures exact { IfOk result (λ fields. fields ≡ packet_fields way (view packet.now)) }
+        ensures needed { OnErr result (keeps_text (packet_fields way (view packet.now)) ≡ true) }
+    {
+        match packet {
+            Packet::Publish(publish) => {
+                let note = PublishNote::of(alloc, way, publish)?;
+                Ok(PacketFields::Publish(note))
+            }
+            Packet::Puback(puback) => Ok(PacketFields::Puback {
+                identifier: puback.identifier,
+                code: puback.code,
+            }),
+            Packet::Pubrec(pubrec) => Ok(PacketFields::Pubrec {
+                identifier: pubrec.identifier,
+                code: pubrec.code,
+            }),
+            Packet::Pubrel(pubrel) => Ok(PacketFields::Pubrel {
+                identifier: pubrel.identifier,
+                code: pubrel.code,
+            }),
+            Packet::Pubcomp(pubcomp) => Ok(PacketFields::Pubcomp {
+                identifier: pubcomp.identifier,
+                code: pubcomp.code,
+            }),
+            Packet::Pingreq => Ok(PacketFields::Pingreq),
+            Packet::Pingresp => Ok(PacketFields::Pingresp),
+            Packet::Connect(connect) => Ok(PacketFields::Connect(ConnectNote::of(connect))),
+            Packet::Connack(connack) => Ok(PacketFields::Connack(ConnackNote::of(connack))),
+            Packet::Subscribe(request) => subscribe_fields(
+                alloc,
+                way,
+                request.identifier,
+                &request.filters,
+            ),
+            Packet::Suback(answer) => suback_fields(alloc, way, answer.identifier, &answer.codes),
+            Packet::Unsubscribe(request) => Ok(PacketFields::Unsubscribe {
+                identifier: request.identifier,
+                filters: filter_count(&request.filters),
+            }),
+            Packet::Unsuback(answer) => Ok(PacketFields::Unsuback {
+                identifier: answer.identifier,
+                codes: answer.codes.as_bytes().len(),
+            }),
+            Packet::Disconnect(disconnect) => Ok(PacketFields::Disconnect {
+                session_expiry: disconnect.properties.get_session_expiry_interval(),
+            }),
+            Packet::Auth(_) => Ok(PacketFields::Auth),
+        }
+    }
+}
+
+/// The packet's own property list, where it has one (MQTT 5.0, section 2.2.2).
+#[inline]
+fn list_of<'p, 'a>(packet: &'p Packet<'a>) -> Option<&'p Props<'a>>
+    ensures { unwrap_or (option_map (λ list. list.now.items) result) [] ≡ properties_of (view packet.now) }
+{
+    match packet {
+        Packet::Connect(packet) => Some(&packet.properties),
+        Packet::Connack(packet) => Some(&packet.properties),
+        Packet::Publish(packet) => Some(&packet.properties),
+        Packet::Puback(packet)
+        | Packet::Pubrec(packet)
+        | Packet::Pubrel(packet)
+        | Packet::Pubcomp(packet) => Some(&packet.properties),
+        Packet::Subscribe(packet) | Packet::Unsubscribe(packet) => Some(&packet.properties),
+        Packet::Suback(packet) | Packet::Unsuback(packet) => Some(&packet.properties),
+        Packet::Pingreq | Packet::Pingresp => None,
+        Packet::Disconnect(packet) | Packet::Auth(packet) => Some(&packet.properties),
+    }
+}
+
+impl PacketNote {
+    /// What the statements look at of this packet, which went this way. Its size is 0 where no Remaining Length can say it, as of no
+    /// packet that was read.
+    ///
+    /// # Errors
+    ///
+    /// `Memory` where room was refused for a text that is kept.
+    #[inline]
+    pub fn of(alloc: Global, way: Way, packet: &Packet<'_>) -> Result<PacketNote, Memory>
+        ensures exact { IfOk result (λ note. note ≡ packet_note way (unwrap_or (size_with (remaining_length packet.now)) 0) (view packet.now)) }
+        ensures needed { OnErr result (keeps_text (packet_fields way (view packet.now)) ≡ true) }
+    {
+        let fields = PacketFields::of(alloc, way, packet)?;
+        Ok(PacketNote {
+            size: packet.size().unwrap_or(0),
+            has_reason_string: has_reason_string(list_of(packet)),
+            has_user_property: has_user_property(list_of(packet)),
+            fields,
+        })
+    }
+}
+
+impl ItemNote {
+    /// What the statements look at of this item, which went this way.
+    ///
+    /// # Errors
+    ///
+    /// `Memory` where room was refused for a text that is kept.
+    #[inline]
+    pub fn of(alloc: Global, way: Way, item: &Item<'_>) -> Result<ItemNote, Memory>
+        ensures exact { IfOk result (λ note. note ≡ item_note way (item_of item.now)) }
+        ensures needed { OnErr result (item_keeps_text (item_note way (item_of item.now)) ≡ true) }
+    {
+        match item {
+            Item::Packet(packet) => {
+                let note = PacketNote::of(alloc, way, packet)?;
+                Ok(ItemNote::Packet(note))
+            }
+            Item::Bad { first, rule, at } => Ok(ItemNote::Bad {
+                first: *first,
+                rule: *rule,
+                at: *at,
+            }),
+            Item::Lost => Ok(ItemNote::Lost),
+        }
+    }
+}
+
+impl Note {
+    /// What the statements look at of this event.
+    ///
+    /// # Errors
+    ///
+    /// `Memory` where room was refused for a text that is kept: the Topic Name of a PUBLISH that was sent, the Topic Filters of a
+    /// SUBSCRIBE that was received, or the Reason Codes of a SUBACK that was sent. Any other event takes no memory.
+    #[inline]
+    pub fn of(alloc: Global, event: &Event<'_>) -> Result<Note, Memory>
+        ensures exact { IfOk result (λ note. note ≡ note_of (event_of event.now)) }
+        ensures needed { OnErr result (note_keeps_text (note_of (event_of event.now)) ≡ true) }
+    {
+        match event {
+            Event::Sent(item) => {
+                let note = ItemNote::of(alloc, Way::Sent, item)?;
+                Ok(Note::Sent(note))
+            }
+            Event::Recv(item) => {
+                let note = ItemNote::of(alloc, Way::Recv, item)?;
+                Ok(Note::Recv(note))
+            }
+            Event::Open => Ok(Note::Open),
+            Event::Close => Ok(Note::Close),
+            Event::Rest => Ok(Note::Rest),
+            Event::Release(identifier) => Ok(Note::Release(*identifier)),
+        }
+    }
+}

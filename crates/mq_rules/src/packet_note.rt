@@ -1,0 +1,541 @@
+//! What the statements look at of a packet.
+ghost use Rattle.std.specs.Prelude.{◌≡◌, option_map};
+ghost use Rattle.std.specs.Option.{option_and_then};
+ghost use Rattle.mq_rules.specs.Words.{only, or_else};
+ghost use Rattle.mq_rules.specs.Notes.{fate_by, resumed_by, refuses as is_refusing, delivery_in, opener_in, resend_in, is_at_least_once, is_exactly_once, type_of, connect_in, connack_in, publish_in, disconnect_in, puback_in, pubrec_in, accepting_pubrec_in, pubrel_in, pubcomp_in, subscribe_in, suback_in, unsubscribe_in, unsuback_in, settled_in, ended_in, unmatched_pubrec_in, success_pubcomp_in, is_pingreq as pings, is_pingresp as answers_ping, is_session_packet as needs_a_session, may_explain as explains};
+
+use crate::fate::Fate;
+use crate::text::{CodeList, FilterList, Text};
+use mq_packet::{PacketType, Qos};
+
+/// The least Reason Code that refuses (MQTT 5.0, section 2.4).
+const REFUSING: u8 = 0x80;
+
+/// No matching subscribers, of a PUBREC (MQTT 5.0, section 3.5.2.1).
+const NO_MATCH: u8 = 0x10;
+
+/// Success (MQTT 5.0, section 2.4).
+const SUCCESS: u8 = 0x00;
+
+/// What the statements look at of a CONNECT (MQTT 5.0, section 3.1).
+#[derive(Clone, Copy, Debug, PartialEq, Eq)]
+pub struct ConnectNote {
+    /// Whether the client asks for a new session.
+    pub clean_start: bool,
+    /// Whether the Client Identifier is empty, so that the server is to assign one.
+    pub is_unnamed: bool,
+    /// The Session Expiry Interval, in seconds.
+    pub session_expiry: Option<u32>,
+    /// The Request Problem Information, 0 or 1.
+    pub request_problem_information: Option<u8>,
+    /// The Request Response Information, 0 or 1.
+    pub request_response_information: Option<u8>,
+    /// The Receive Maximum, 1 to 65,535.
+    pub receive_maximum: Option<u16>,
+    /// The Topic Alias Maximum.
+    pub topic_alias_maximum: Option<u16>,
+    /// The Maximum Packet Size, in bytes; not 0.
+    pub maximum_packet_size: Option<u32>,
+}
+
+/// What the statements look at of a CONNACK (MQTT 5.0, section 3.2).
+#[derive(Clone, Copy, Debug, PartialEq, Eq)]
+pub struct ConnackNote {
+    /// Whether the server resumed a session that it had.
+    pub session_present: bool,
+    /// The Reason Code: 0x00 accepts the connection, 0x80 or more refuses it.
+    pub code: u8,
+    /// The Session Expiry Interval, in seconds.
+    pub session_expiry: Option<u32>,
+    /// The Receive Maximum, 1 to 65,535.
+    pub receive_maximum: Option<u16>,
+    /// The Topic Alias Maximum.
+    pub topic_alias_maximum: Option<u16>,
+    /// The Maximum QoS, 0 or 1.
+    pub maximum_qos: Option<u8>,
+    /// The Maximum Packet Size, in bytes; not 0.
+    pub maximum_packet_size: Option<u32>,
+    /// Whether it has an Assigned Client Identifier.
+    pub has_assigned_identifier: bool,
+    /// Whether it has Response Information.
+    pub has_response_information: bool,
+}
+
+/// What the statements look at of a PUBLISH (MQTT 5.0, section 3.3).
+#[derive(Debug, Drop)]
+pub struct PublishNote {
+    /// The Packet Identifier, where the QoS is above 0.
+    pub identifier: Option<u16>,
+    /// The Quality of Service.
+    pub qos: Qos,
+    /// The DUP flag.
+    pub duplicate: bool,
+    /// The Topic Name of a PUBLISH that the tested end sent, empty where a Topic Alias stands for it. Of a PUBLISH that it
+    /// received no statement looks at it, and it isn't kept: it is empty.
+    pub topic: Text,
+    /// The Topic Alias, 1 to 65,535.
+    pub topic_alias: Option<u16>,
+    /// Whether it has a Message Expiry Interval.
+    pub has_message_expiry: bool,
+    /// Whether it has a Subscription Identifier.
+    pub has_subscription_identifier: bool,
+}
+
+/// What the statements look at of a packet, by its type (MQTT 5.0, section 2.1.2).
+#[derive(Debug, Drop)]
+pub enum PacketFields {
+    /// CONNECT.
+    Connect(ConnectNote),
+    /// CONNACK.
+    Connack(ConnackNote),
+    /// PUBLISH.
+    Publish(PublishNote),
+    /// PUBACK.
+    Puback {
+        /// The Packet Identifier of the PUBLISH that it answers.
+        identifier: u16,
+        /// The Reason Code.
+        code: u8,
+    },
+    /// PUBREC.
+    Pubrec {
+        /// The Packet Identifier of the PUBLISH that it answers.
+        identifier: u16,
+        /// The Reason Code: 0x80 or more refuses the PUBLISH.
+        code: u8,
+    },
+    /// PUBREL.
+    Pubrel {
+        /// The Packet Identifier of the PUBLISH that it is about.
+        identifier: u16,
+        /// The Reason Code.
+        code: u8,
+    },
+    /// PUBCOMP.
+    Pubcomp {
+        /// The Packet Identifier of the PUBLISH that it is about.
+        identifier: u16,
+        /// The Reason Code.
+        code: u8,
+    },
+    /// SUBSCRIBE.
+    Subscribe {
+        /// The Packet Identifier.
+        identifier: u16,
+        /// The Topic Filters of a SUBSCRIBE that the tested end received. Of one that it sent no statement looks at them, and
+        /// they aren't kept: there is none.
+        filters: FilterList,
+    },
+    /// SUBACK.
+    Suback {
+        /// The Packet Identifier of the SUBSCRIBE that it answers.
+        identifier: u16,
+        /// The Reason Codes of a SUBACK that the tested end sent. Of one that it received no statement looks at them, and they
+        /// aren't kept: there is none.
+        codes: CodeList,
+    },
+    /// UNSUBSCRIBE.
+    Unsubscribe {
+        /// The Packet Identifier.
+        identifier: u16,
+        /// How many Topic Filters it has.
+        filters: usize,
+    },
+    /// UNSUBACK.
+    Unsuback {
+        /// The Packet Identifier of the UNSUBSCRIBE that it answers.
+        identifier: u16,
+        /// How many Reason Codes it has.
+        codes: usize,
+    },
+    /// PINGREQ.
+    Pingreq,
+    /// PINGRESP.
+    Pingresp,
+    /// DISCONNECT.
+    Disconnect {
+        /// The Session Expiry Interval, in seconds.
+        session_expiry: Option<u32>,
+    },
+    /// AUTH.
+    Auth,
+}
+
+/// What the statements look at of a packet.
+#[derive(Debug, Drop)]
+pub struct PacketNote {
+    /// How many bytes the whole packet has.
+    pub size: u32,
+    /// Whether it has a Reason String, in its own property list.
+    pub has_reason_string: bool,
+    /// Whether it has a User Property, in its own property list.
+    pub has_user_property: bool,
+    /// What it says, by its type.
+    pub fields: PacketFields,
+}
+
+impl ConnackNote {
+    /// What this CONNACK of the server makes of the connection (MQTT 5.0, section 3.2.2): a code other than 0x00 refuses it.
+    #[inline]
+    pub fn fate(&self) -> Fate
+        ensures { result ≡ fate_by self.now }
+    {
+        if self.code != SUCCESS {
+            return Fate::Void;
+        }
+        if self.session_present {
+            Fate::Resumed
+        } else {
+            Fate::New
+        }
+    }
+
+    /// Whether it accepts the connection and resumes a session (MQTT 5.0, section 3.2.2.1.1).
+    #[inline]
+    pub fn resumes(&self) -> bool
+        ensures { result ≡ resumed_by self.now }
+    {
+        self.code == SUCCESS && self.session_present
+    }
+
+    /// Whether its Reason Code is 0x80 or more: the server then closes the connection (MQTT 5.0, section 3.2.2.2).
+    #[inline]
+    pub fn refuses(&self) -> bool
+        ensures { result ≡ is_refusing self.now.code }
+    {
+        self.code >= REFUSING
+    }
+}
+
+impl PublishNote {
+    /// The Packet Identifier, where the QoS is above 0 (MQTT 5.0, section 2.2.1).
+    #[inline]
+    pub fn delivery(&self) -> Option<u16>
+        ensures { result ≡ delivery_in self.now }
+    {
+        match self.qos {
+            Qos::AtMostOnce => None,
+            Qos::AtLeastOnce | Qos::ExactlyOnce => self.identifier,
+        }
+    }
+
+    /// The Packet Identifier that it opens: its QoS is above 0, and it isn't sent again (MQTT 5.0, section 2.2.1).
+    #[inline]
+    pub fn opener(&self) -> Option<u16>
+        ensures { result ≡ opener_in self.now }
+    {
+        if self.duplicate {
+            None
+        } else {
+            self.delivery()
+        }
+    }
+
+    /// The Packet Identifier under which it is sent again: its QoS is above 0, and DUP is 1 (MQTT 5.0, section 4.4).
+    #[inline]
+    pub fn resend(&self) -> Option<u16>
+        ensures { result ≡ resend_in self.now }
+    {
+        if self.duplicate {
+            self.delivery()
+        } else {
+            None
+        }
+    }
+
+    /// The Packet Identifier of a PUBLISH of QoS 1 (MQTT 5.0, section 4.3.2).
+    #[inline]
+    pub fn at_least_once(&self) -> Option<u16>
+        ensures { result ≡ only (is_at_least_once self.now.qos) self.now.identifier }
+    {
+        match self.qos {
+            Qos::AtLeastOnce => self.identifier,
+            Qos::AtMostOnce | Qos::ExactlyOnce => None,
+        }
+    }
+
+    /// The Packet Identifier of a PUBLISH of QoS 2 (MQTT 5.0, section 4.3.3).
+    #[inline]
+    pub fn exactly_once(&self) -> Option<u16>
+        ensures { result ≡ only (is_exactly_once self.now.qos) self.now.identifier }
+    {
+        match self.qos {
+            Qos::ExactlyOnce => self.identifier,
+            Qos::AtMostOnce | Qos::AtLeastOnce => None,
+        }
+    }
+}
+
+impl PacketFields {
+    /// The packet's type (MQTT 5.0, section 2.1.2).
+    #[inline]
+    pub fn kind(&self) -> PacketType
+        ensures { result ≡ type_of self.now }
+    {
+        match self {
+            PacketFields::Connect(_) => PacketType::Connect,
+            PacketFields::Connack(_) => PacketType::Connack,
+            PacketFields::Publish(_) => PacketType::Publish,
+            PacketFields::Puback { .. } => PacketType::Puback,
+            PacketFields::Pubrec { .. } => PacketType::Pubrec,
+            PacketFields::Pubrel { .. } => PacketType::Pubrel,
+            PacketFields::Pubcomp { .. } => PacketType::Pubcomp,
+            PacketFields::Subscribe { .. } => PacketType::Subscribe,
+            PacketFields::Suback { .. } => PacketType::Suback,
+            PacketFields::Unsubscribe { .. } => PacketType::Unsubscribe,
+            PacketFields::Unsuback { .. } => PacketType::Unsuback,
+            PacketFields::Pingreq => PacketType::Pingreq,
+            PacketFields::Pingresp => PacketType::Pingresp,
+            PacketFields::Disconnect { .. } => PacketType::Disconnect,
+            PacketFields::Auth => PacketType::Auth,
+        }
+    }
+
+    /// What is noted of a CONNECT.
+    #[inline]
+    pub fn connect(&self) -> Option<&ConnectNote>
+        ensures { option_map (λ note. note.now) result ≡ connect_in self.now }
+    {
+        match self {
+            PacketFields::Connect(note) => Some(note),
+            _ => None,
+        }
+    }
+
+    /// What is noted of a CONNACK.
+    #[inline]
+    pub fn connack(&self) -> Option<&ConnackNote>
+        ensures { option_map (λ note. note.now) result ≡ connack_in self.now }
+    {
+        match self {
+            PacketFields::Connack(note) => Some(note),
+            _ => None,
+        }
+    }
+
+    /// What is noted of a PUBLISH.
+    #[inline]
+    pub fn publish(&self) -> Option<&PublishNote>
+        ensures { option_map (λ note. note.now) result ≡ publish_in self.now }
+    {
+        match self {
+            PacketFields::Publish(note) => Some(note),
+            _ => None,
+        }
+    }
+
+    /// The Session Expiry Interval of a DISCONNECT, in seconds, which may have none (MQTT 5.0, section 3.14.2.2.2).
+    #[inline]
+    pub fn disconnect(&self) -> Option<Option<u32>>
+        ensures { result ≡ disconnect_in self.now }
+    {
+        match self {
+            PacketFields::Disconnect { session_expiry } => Some(*session_expiry),
+            _ => None,
+        }
+    }
+
+    /// The Packet Identifier of a PUBACK.
+    #[inline]
+    pub fn puback(&self) -> Option<u16>
+        ensures { result ≡ puback_in self.now }
+    {
+        match self {
+            PacketFields::Puback { identifier, .. } => Some(*identifier),
+            _ => None,
+        }
+    }
+
+    /// The Packet Identifier of a PUBREC.
+    #[inline]
+    pub fn pubrec(&self) -> Option<u16>
+        ensures { result ≡ pubrec_in self.now }
+    {
+        match self {
+            PacketFields::Pubrec { identifier, .. } => Some(*identifier),
+            _ => None,
+        }
+    }
+
+    /// The Packet Identifier of a PUBREL.
+    #[inline]
+    pub fn pubrel(&self) -> Option<u16>
+        ensures { result ≡ pubrel_in self.now }
+    {
+        match self {
+            PacketFields::Pubrel { identifier, .. } => Some(*identifier),
+            _ => None,
+        }
+    }
+
+    /// The Packet Identifier of a PUBCOMP.
+    #[inline]
+    pub fn pubcomp(&self) -> Option<u16>
+        ensures { result ≡ pubcomp_in self.now }
+    {
+        match self {
+            PacketFields::Pubcomp { identifier, .. } => Some(*identifier),
+            _ => None,
+        }
+    }
+
+    /// The Packet Identifier of a SUBSCRIBE.
+    #[inline]
+    pub fn subscribe(&self) -> Option<u16>
+        ensures { result ≡ subscribe_in self.now }
+    {
+        match self {
+            PacketFields::Subscribe { identifier, .. } => Some(*identifier),
+            _ => None,
+        }
+    }
+
+    /// The Packet Identifier of a SUBACK.
+    #[inline]
+    pub fn suback(&self) -> Option<u16>
+        ensures { result ≡ suback_in self.now }
+    {
+        match self {
+            PacketFields::Suback { identifier, .. } => Some(*identifier),
+            _ => None,
+        }
+    }
+
+    /// The Packet Identifier of an UNSUBSCRIBE.
+    #[inline]
+    pub fn unsubscribe(&self) -> Option<u16>
+        ensures { result ≡ unsubscribe_in self.now }
+    {
+        match self {
+            PacketFields::Unsubscribe { identifier, .. } => Some(*identifier),
+            _ => None,
+        }
+    }
+
+    /// The Packet Identifier of an UNSUBACK.
+    #[inline]
+    pub fn unsuback(&self) -> Option<u16>
+        ensures { result ≡ unsuback_in self.now }
+    {
+        match self {
+            PacketFields::Unsuback { identifier, .. } => Some(*identifier),
+            _ => None,
+        }
+    }
+
+    /// The Packet Identifier of a PUBREC below 0x80, which accepts the PUBLISH (MQTT 5.0, section 4.3.3).
+    #[inline]
+    pub fn accepting_pubrec(&self) -> Option<u16>
+        ensures { result ≡ accepting_pubrec_in self.now }
+    {
+        match self {
+            PacketFields::Pubrec { identifier, code } => (*code < REFUSING).then_some(*identifier),
+            _ => None,
+        }
+    }
+
+    /// The Packet Identifier of a PUBREC of 0x10, No matching subscribers (MQTT 5.0, section 3.5.2.1).
+    #[inline]
+    pub fn unmatched_pubrec(&self) -> Option<u16>
+        ensures { result ≡ unmatched_pubrec_in self.now }
+    {
+        match self {
+            PacketFields::Pubrec { identifier, code } => (*code == NO_MATCH).then_some(*identifier),
+            _ => None,
+        }
+    }
+
+    /// The Packet Identifier of a PUBCOMP of 0x00 (MQTT 5.0, section 3.7.2.1).
+    #[inline]
+    pub fn success_pubcomp(&self) -> Option<u16>
+        ensures { result ≡ success_pubcomp_in self.now }
+    {
+        match self {
+            PacketFields::Pubcomp { identifier, code } => (*code == SUCCESS).then_some(*identifier),
+            _ => None,
+        }
+    }
+
+    /// The Packet Identifier that a PUBACK, a PUBCOMP or a refusing PUBREC sets free (MQTT 5.0, sections 4.3.2 and 4.3.3).
+    #[inline]
+    pub fn settled(&self) -> Option<u16>
+        ensures { result ≡ settled_in self.now }
+    {
+        match self {
+            PacketFields::Puback { identifier, .. } | PacketFields::Pubcomp { identifier, .. } =>
+                Some(*identifier),
+            PacketFields::Pubrec { identifier, code } => (*code >= REFUSING).then_some(*identifier),
+            _ => None,
+        }
+    }
+
+    /// The Packet Identifier of the received QoS 2 PUBLISH whose exchange a PUBCOMP or a refusing PUBREC ends (MQTT 5.0, section 4.3.3).
+    #[inline]
+    pub fn ended(&self) -> Option<u16>
+        ensures { result ≡ ended_in self.now }
+    {
+        match self {
+            PacketFields::Pubcomp { identifier, .. } => Some(*identifier),
+            PacketFields::Pubrec { identifier, code } => (*code >= REFUSING).then_some(*identifier),
+            _ => None,
+        }
+    }
+
+    /// The Packet Identifier that a client takes by the packet: that of a new PUBLISH of QoS above 0, of a SUBSCRIBE or of an UNSUBSCRIBE
+    /// (MQTT 5.0, section 2.2.1).
+    #[inline]
+    pub(crate) fn client_takes(&self) -> Option<u16>
+        ensures { result ≡ or_else (option_and_then opener_in (publish_in self.now)) (or_else (subscribe_in self.now) (unsubscribe_in self.now)) }
+    {
+        match self {
+            PacketFields::Publish(publish) => publish.opener(),
+            PacketFields::Subscribe { identifier, .. }
+            | PacketFields::Unsubscribe { identifier, .. } => Some(*identifier),
+            _ => None,
+        }
+    }
+
+    /// Whether it is a PINGREQ.
+    #[inline]
+    pub fn is_pingreq(&self) -> bool
+        ensures { result ≡ pings self.now }
+    {
+        matches!(self, PacketFields::Pingreq)
+    }
+
+    /// Whether it is a PINGRESP.
+    #[inline]
+    pub fn is_pingresp(&self) -> bool
+        ensures { result ≡ answers_ping self.now }
+    {
+        matches!(self, PacketFields::Pingresp)
+    }
+
+    /// Whether it is a PUBLISH, SUBSCRIBE or UNSUBSCRIBE, or acknowledges one: such a packet needs a session (MQTT 5.0, section 4.1).
+    #[inline]
+    pub fn is_session_packet(&self) -> bool
+        ensures { result ≡ needs_a_session self.now }
+    {
+        !matches!(
+            self,
+            PacketFields::Connect(_)
+                | PacketFields::Connack(_)
+                | PacketFields::Pingreq
+                | PacketFields::Pingresp
+                | PacketFields::Disconnect { .. }
+                | PacketFields::Auth
+        )
+    }
+
+    /// Whether it may have a Reason String or User Properties whatever the client asked for: a PUBLISH, a CONNACK or a DISCONNECT
+    /// (MQTT 5.0, section 3.1.2.11.7).
+    #[inline]
+    pub fn may_explain(&self) -> bool
+        ensures { result ≡ explains self.now }
+    {
+        matches!(
+            self,
+            PacketFields::Publish(_) | PacketFields::Connack(_) | PacketFields::Disconnect { .. }
+        )
+    }
+}

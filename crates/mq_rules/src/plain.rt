@@ -1,0 +1,80 @@
+//! The plain evaluators: each judges a list of events from its first to its last.
+ghost use Rattle.std.specs.Prelude.{◌≡◌, ◌+◌, length, reverse, List, OnOk, OnErr};
+ghost use Rattle.mq_rules.specs.declared.role.Tested.{Tested as TheTested};
+ghost use Rattle.mq_rules.specs.declared.note.Seen.{Seen as TheSeen};
+ghost use Rattle.mq_rules.specs.Moments.{IsPlaced};
+ghost use Rattle.mq_rules.specs.Statements.{is_on_bytes, is_on_past};
+ghost use Rattle.mq_rules.specs.Faults.{Grows, GrowsWithin};
+ghost use Rattle.mq_rules.specs.Keeping.{GrowsBy};
+
+use crate::conn::Conn;
+use crate::fault::Fault;
+use crate::faults::{Faults, Mark, Memory};
+use crate::note::Seen;
+use crate::role::Tested;
+use crate::rule::Rule;
+use std::alloc::Global;
+
+/// Judges W01 to W21, the statements on the bytes of one packet, at each event of the list. A mark that the faults have already
+/// keeps its fault. The faults are the right ones where each event has its place in the list as its position, counted from 1.
+///
+/// # Errors
+///
+/// `Memory` where room for a fault was refused. The faults may then have got some of the list's, and no others.
+pub fn plain_w(
+    _alloc: Global,
+    tested: Tested,
+    seen: &[Seen],
+    faults: &mut Faults,
+) -> Result<(), Memory>
+    ensures ok { IsPlaced (reverse seen.now) → OnOk result (Grows (is_on_bytes tested) tested (reverse seen.now) faults.old faults.new) }
+    ensures memory { IsPlaced (reverse seen.now) → OnErr result (GrowsWithin (is_on_bytes tested) tested (reverse seen.now) faults.old faults.new) }
+{
+    for event in seen {
+        judge_bytes(event, faults)?;
+    }
+    Ok(())
+}
+
+/// Judges C01 to C23, the statements on the past of a connection, at each event of the list, in one pass. A mark that the faults
+/// have already keeps its fault. The faults are the right ones where each event has its place in the list as its position, counted
+/// from 1.
+///
+/// # Errors
+///
+/// `Memory` where room for a fault or a Topic Alias was refused. The faults may then have got some of the list's, and no others.
+pub fn plain_c(
+    alloc: Global,
+    tested: Tested,
+    seen: &[Seen],
+    faults: &mut Faults,
+) -> Result<(), Memory>
+    ensures ok { IsPlaced (reverse seen.now) → OnOk result (Grows (is_on_past tested) tested (reverse seen.now) faults.old faults.new) }
+    ensures memory { IsPlaced (reverse seen.now) → OnErr result (GrowsWithin (is_on_past tested) tested (reverse seen.now) faults.old faults.new) }
+{
+    let mut conn = Conn::new(alloc, tested.role);
+    for event in seen {
+        conn.step(event.place, &event.note, faults)?;
+    }
+    Ok(())
+}
+
+/// Judges the bytes of one event: they break one rule at most.
+///
+/// # Errors
+///
+/// `Memory` where room for a fault was refused. The faults are then unchanged.
+fn judge_bytes(event: &Seen, faults: &mut Faults) -> Result<(), Memory>
+    ensures ok { OnOk result ((tested : TheTested) (past : List TheSeen) → event.now.place.position ≡ length past + 1 → GrowsBy (is_on_bytes tested) tested event.now past faults.old faults.new) }
+    ensures unchanged { OnErr result (faults.new ≡ faults.old) }
+{
+    let Some(broken) = event.note.broken() else {
+        return Ok(());
+    };
+    let mark = Mark {
+        position: event.place.position,
+        rule: Rule::of(broken.rule),
+    };
+    faults.add(mark, Fault::at_once(event.place, Some(broken.at)))?;
+    Ok(())
+}

@@ -1,0 +1,41 @@
+//! Laws of statements, which say them in other words. Each is proved as the contract of a function that does nothing.
+ghost use Rattle.std.specs.Prelude.{◌≡◌, ◌+◌, ◌==◌, ◌∷◌, ◌&&◌, ◌↔◌, nat_lt, nat_le, ℕ, true, false, List, Option, Some};
+ghost use Rattle.mq_rules.specs.declared.role.Role.{Role};
+ghost use Rattle.mq_rules.specs.declared.fate.Fate.{Fate};
+ghost use Rattle.mq_rules.specs.declared.note.Seen.{Seen};
+ghost use Rattle.mq_rules.specs.Words.{is_some_and};
+ghost use Rattle.mq_rules.specs.Moments.{Moment, moments, moment, is_after, some, those, count, some_stretch, Among};
+ghost use Rattle.mq_rules.specs.Connections.{connection, is_binding};
+ghost use Rattle.mq_rules.specs.Pasts.{receive_maximum};
+ghost use Rattle.mq_rules.specs.Identifiers.{is_delivery, is_closer, counts, passes, breaks_S07, is_used_up};
+ghost use Rattle.mq_rules.specs.Exchanges.{Exchange, shows_R};
+ghost use Rattle.mq_rules.specs.Statements.{at_rest, is_false};
+ghost use Rattle.mq_rules.specs.Counter.{in_flight, in_flight_before, quota, keeps_quota};
+ghost use Rattle.mq_rules.specs.FirstRests.{binds_after, first_rest, IsFirstRest};
+
+/// The send quota by a counter (MQTT 5.0, section 4.9). Over the stretches that end with the newest of some moments, the greatest surplus of PUBLISHes
+/// over closers is what a counter of those in flight has come to. So S07 is false at a PUBLISH that is sent while as many as the Receive Maximum are in
+/// flight, and the quota is used up where as many are. Up to the first PUBLISH that is sent where the quota is 0, the quota and those in flight make the
+/// Receive Maximum; so that PUBLISH is the first one with too many in flight.
+pub fn in_flight_by_a_counter()
+    ensures apart { (m : Moment) → is_delivery m ≡ true → is_closer m ≡ false }
+    ensures more { (most : ℕ) (ms : List Moment) → passes most ms ≡ nat_lt most (in_flight ms) }
+    ensures as_many { (most : ℕ) (ms : List Moment) → some_stretch (λ stretch. nat_le (most + count is_closer stretch) (count is_delivery stretch)) ms ≡ nat_le most (in_flight ms) }
+    ensures after { (role : Role) (k : Moment) → breaks_S07 role k ≡ (is_delivery k && (counts role k && nat_lt (receive_maximum role k) (in_flight (k ∷ those (counts role) (connection k.past))))) }
+    ensures before { (role : Role) (k : Moment) → breaks_S07 role k ≡ (is_delivery k && (counts role k && nat_le (receive_maximum role k) (in_flight_before role k))) }
+    ensures left { (most : ℕ) (ms : List Moment) → keeps_quota most ms ≡ true → quota most ms + in_flight ms ≡ most }
+    ensures first { (most : ℕ) (m : Moment) (ms : List Moment) → keeps_quota most ms ≡ true → passes most (m ∷ ms) ≡ (is_delivery m && (quota most ms == 0)) }
+    ensures used_up { (role : Role) (t : Moment) → is_used_up role t ≡ nat_le (receive_maximum role t) (in_flight_before role t) }
+{}
+
+/// E1R to E6R, by the first REST that binds after a cause on the cause's connection (MQTT 5.0, sections 4.3, 3.8.4 and 3.10.4). What a later REST shows, each
+/// earlier one after the cause shows too. So the statement is false at a cause exactly where there is a first one, and it shows that.
+pub fn first_rest_decides()
+    ensures earlier { (role : Role) (x : Exchange) (log : List Seen) (k t u : Moment) → Among k (moments log) → Among t (moments log) → Among u (moments log)
+        → binds_after role k u ≡ true → is_after t u ≡ true → shows_R x t k ≡ true → shows_R x u k ≡ true }
+    ensures first { (role : Role) (k : Moment) (log : List Seen) (t : Moment) → (first_rest role k log ≡ Some t) ↔ IsFirstRest role k log t }
+    ensures shown { (role : Role) (x : Exchange) (log : List Seen) (k : Moment) → Among k (moments log)
+        → some (λ t. is_after t k && (is_binding role t && shows_R x t k)) (moments log) ≡ is_some_and (λ t. shows_R x t k) (first_rest role k log) }
+    ensures at { (role : Role) (fates : ℕ → Option Fate) (x : Exchange) (log : List Seen) (n : ℕ)
+        → is_false role fates (at_rest (shows_R x)) log n ≡ is_some_and (λ k. is_some_and (λ t. shows_R x t k) (first_rest role k log)) (moment log n) }
+{}

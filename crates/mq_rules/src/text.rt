@@ -1,0 +1,216 @@
+//! Texts and lists that notes own. A contract sees each as a plain list.
+//!
+//! An empty one takes no memory, so it can't be refused any.
+
+use crate::copying::{copied, copied_text, noted};
+use crate::faults::Memory;
+use mq_packet::{Codes, Filters};
+use std::alloc::Global;
+use std::marker::Model;
+
+/// A text, of at most 65,535 bytes. A contract sees the bytes of its UTF-8 encoding.
+#[derive(Debug, Drop)]
+pub struct Text {
+    text: String,
+}
+
+impl Model for Text {
+    ghost use Rattle.std.specs.Prelude.{List, ℕ, string_bytes};
+
+    ghost Value = { List ℕ };
+
+    ghost view = { λ t. string_bytes t.text };
+}
+
+impl Text {
+    ghost use Rattle.std.specs.Prelude.{◌≡◌, ◌<◌, ◌==◌, [], length, IfOk, OnErr};
+
+    /// No text.
+    #[inline]
+    pub fn empty(alloc: Global) -> Text
+        ensures { result ≡ [] }
+    {
+        Text {
+            text: String::new(alloc),
+        }
+    }
+
+    /// A copy of the text.
+    ///
+    /// # Errors
+    ///
+    /// `Memory` where room for it was refused. An empty text needs none.
+    #[inline]
+    pub fn of(alloc: Global, text: &str) -> Result<Text, Memory>
+        ensures exact { IfOk result (λ copy. copy ≡ text.now) }
+        ensures needed { OnErr result (0 < length text.now) }
+    {
+        let text = copied_text(alloc, text)?;
+        Ok(Text { text })
+    }
+
+    /// The text.
+    #[inline]
+    pub fn as_str(&self) -> &str
+        ensures { result.now ≡ self.now }
+    {
+        self.text.as_str()
+    }
+
+    /// How many bytes it has.
+    #[inline]
+    pub fn len(&self) -> usize
+        ensures { result ≡ length self.now }
+    {
+        self.text.len()
+    }
+
+    /// Whether it is empty.
+    #[inline]
+    pub fn is_empty(&self) -> bool
+        ensures { result ≡ (length self.now == 0) }
+    {
+        self.text.is_empty()
+    }
+}
+
+/// A Topic Filter of a SUBSCRIBE, with its Subscription Options (MQTT 5.0, section 3.8.3).
+#[derive(Debug, Drop)]
+pub struct NotedFilter {
+    /// The Topic Filter.
+    pub filter: Text,
+    /// The Subscription Options. Bits 1 and 0 are the Maximum QoS, 0 to 2.
+    pub options: u8,
+}
+
+/// The Topic Filters of a SUBSCRIBE, in order.
+#[derive(Debug, Drop)]
+pub struct FilterList {
+    filters: Vec<NotedFilter>,
+}
+
+impl Model for FilterList {
+    ghost use Rattle.std.specs.Prelude.{List};
+    ghost use Rattle.mq_rules.specs.declared.text.NotedFilter.{NotedFilter};
+
+    ghost Value = { List NotedFilter };
+
+    ghost view = { λ l. l.filters.items };
+}
+
+impl FilterList {
+    ghost use Rattle.std.specs.Prelude.{◌≡◌, ◌<◌, ◌==◌, [], length, map, IfOk, OnErr};
+    ghost use Rattle.mq_rules.specs.Notes.{filter_note};
+
+    /// No filters.
+    #[inline]
+    pub fn empty(alloc: Global) -> FilterList
+        ensures { result ≡ [] }
+    {
+        FilterList {
+            filters: Vec::new(alloc),
+        }
+    }
+
+    /// Copies of the filters, with their Subscription Options. Where a filter has none, as in an UNSUBSCRIBE, they are 0.
+    ///
+    /// # Errors
+    ///
+    /// `Memory` where room for them was refused. No filters need none.
+    pub fn of(alloc: Global, filters: &Filters<'_>) -> Result<FilterList, Memory>
+        ensures exact { IfOk result (λ copies. copies ≡ map filter_note filters.now) }
+        ensures needed { OnErr result (0 < length filters.now) }
+    {
+        let filters = noted(alloc, filters)?;
+        Ok(FilterList { filters })
+    }
+
+    /// The filters, in order.
+    #[inline]
+    pub fn as_slice(&self) -> &[NotedFilter]
+        ensures { result.now ≡ self.now }
+    {
+        self.filters.as_slice()
+    }
+
+    /// How many there are.
+    #[inline]
+    pub fn len(&self) -> usize
+        ensures { result ≡ length self.now }
+    {
+        self.filters.len()
+    }
+
+    /// Whether there are none.
+    #[inline]
+    pub fn is_empty(&self) -> bool
+        ensures { result ≡ (length self.now == 0) }
+    {
+        self.filters.is_empty()
+    }
+}
+
+/// The Reason Codes of a SUBACK, in order.
+#[derive(Debug, Drop)]
+pub struct CodeList {
+    codes: Vec<u8>,
+}
+
+impl Model for CodeList {
+    ghost use Rattle.std.specs.Prelude.{List, ℕ};
+
+    ghost Value = { List ℕ };
+
+    ghost view = { λ l. l.codes.items };
+}
+
+impl CodeList {
+    ghost use Rattle.std.specs.Prelude.{◌≡◌, ◌<◌, ◌==◌, [], length, IfOk, OnErr};
+
+    /// No Reason Codes.
+    #[inline]
+    pub fn empty(alloc: Global) -> CodeList
+        ensures { result ≡ [] }
+    {
+        CodeList {
+            codes: Vec::new(alloc),
+        }
+    }
+
+    /// Copies of the Reason Codes.
+    ///
+    /// # Errors
+    ///
+    /// `Memory` where room for them was refused. No Reason Codes need none.
+    pub fn of(alloc: Global, codes: &Codes<'_>) -> Result<CodeList, Memory>
+        ensures exact { IfOk result (λ copies. copies ≡ codes.now) }
+        ensures needed { OnErr result (0 < length codes.now) }
+    {
+        let codes = copied(alloc, codes.as_bytes())?;
+        Ok(CodeList { codes })
+    }
+
+    /// The Reason Codes, in order.
+    #[inline]
+    pub fn as_slice(&self) -> &[u8]
+        ensures { result.now ≡ self.now }
+    {
+        self.codes.as_slice()
+    }
+
+    /// How many there are.
+    #[inline]
+    pub fn len(&self) -> usize
+        ensures { result ≡ length self.now }
+    {
+        self.codes.len()
+    }
+
+    /// Whether there are none.
+    #[inline]
+    pub fn is_empty(&self) -> bool
+        ensures { result ≡ (length self.now == 0) }
+    {
+        self.codes.is_empty()
+    }
+}
