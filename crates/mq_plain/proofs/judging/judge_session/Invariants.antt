@@ -1,0 +1,14 @@
+use Rattle.std.proofs.Common.{◌≡◌, take}
+use Rattle.std.specs.Prelude.{reverse}
+use Rattle.mq_rules.specs.Moments.{IsPlaced}
+use Rattle.mq_rules.specs.Connections.{IsInOrder, latest_fate}
+use Rattle.mq_rules.specs.Rules.{same_rule}
+use Rattle.mq_rules.specs.Faults.{Grows}
+use Rattle.mq_plain.proofs.judging.judge_session.Given as goal
+
+-- the statement's faults are those of the events so far, and this is the fate of the connection that these end on
+abbrev pub invariant-loop-i : goal.invariant-loop-i
+invariant-loop-i g l = record {
+  grown : IsPlaced (reverse l.seen) → IsInOrder l.tested.role (reverse l.seen) → Grows (λ r. same_rule r g.T.SessionStatement.judged) l.tested (reverse (take l.i l.seen)) l.initial.faults l.faults;
+  decided : l.fate ≡ latest_fate l.tested.role (reverse (take l.i l.seen));
+}

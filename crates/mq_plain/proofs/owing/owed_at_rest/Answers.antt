@@ -1,0 +1,29 @@
+use Rattle.std.proofs.Common.{rules, ◌≡◌, Some, sym, ap, subst, ◌∙◌, true, false}
+use Rattle.std.specs.Prelude.{reverse}
+use Rattle.std.proofs.lemmas.Result.{IfOk-weaker}
+use Rattle.mq_rules.specs.declared.fate.Fate.TheVariants.{Resumed}
+use Rattle.mq_rules.specs.Moments.{newest}
+use Rattle.mq_rules.specs.Connections.{latest_fate, session, resumed}
+use Rattle.mq_rules.specs.Identifiers.{shows_S06}
+use Rattle.mq_plain.specs.Owing.{owes}
+use Rattle.mq_plain.specs.Shown.{IsShown}
+use Rattle.mq_plain.specs.Tables.{at}
+use Rattle.mq_plain.proofs.OwingLaws.{resumed-is, shown-owed, shown-none}
+use Rattle.mq_plain.proofs.owing.owed_at_rest.Goals as goal
+
+pub returns-then-not-is_resumed : goal.returns-then-not-is_resumed
+returns-then-not-is_resumed c = λ rest placed.
+    let past = reverse c.args.before.now in
+    let isnt : c.is_resumed.result ≡ false = search rules in
+    let none : resumed (latest_fate c.args.role past) ≡ false = ap resumed (sym c.latest_fate_of.ensures) ∙ sym c.is_resumed.ensures ∙ isnt in
+    subst (IsShown (shows_S06 c.args.role (newest rest past)) past) (sym c.new.ensures.items) (shown-none c.args.role rest past none)
+
+pub returns : goal.returns
+returns c = λ rest placed.
+    let past = reverse c.args.before.now in
+    let is : c.is_resumed.result ≡ true = search rules in
+    let fate : latest_fate c.args.role past ≡ Some Resumed = sym c.latest_fate_of.ensures ∙ resumed-is c.latest_fate_of.result (sym c.is_resumed.ensures ∙ is) in
+    IfOk-weaker c.owed_in_session.result (λ places. IsShown (owes c.is_lenient.result (at c.in_ok-again.again) (session c.args.role (Some Resumed) past)) past places.items)
+    (λ places. IsShown (shows_S06 c.args.role (newest rest past)) past places.items)
+    (λ places shown. shown-owed c.args.role rest past (at c.in_ok-again.again) c.is_lenient.result places.items fate c.in_ok-again.ensures (c.is_lenient.ensures rest) shown)
+    (c.owed_in_session.ensures placed)

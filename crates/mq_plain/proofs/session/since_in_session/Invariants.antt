@@ -1,0 +1,13 @@
+use Rattle.std.proofs.Common.{◌≡◌, length}
+use Rattle.std.specs.Prelude.{reverse}
+use Rattle.mq_rules.specs.Moments.{note, since}
+use Rattle.mq_rules.specs.Connections.{session}
+use Rattle.mq_plain.proofs.session.since_in_session.Given as goal
+
+-- what is left to look at decides
+abbrev pub invariant-loop-event : goal.invariant-loop-event
+invariant-loop-event g l = since (λ m. g.S.NoteTest.test l.starts (note m)) (λ m. g.E.NoteTest.test l.ends (note m)) (session l.role l.fate (reverse l.earlier))
+    ≡ since (λ m. g.S.NoteTest.test l.starts (note m)) (λ m. g.E.NoteTest.test l.ends (note m)) (session l.role l.fn.fate (reverse l.before))
+
+abbrev pub decreases-loop-event : goal.decreases-loop-event
+decreases-loop-event g l = length l.earlier

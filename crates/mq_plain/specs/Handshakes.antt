@@ -1,0 +1,27 @@
+-- What the latest connection was begun with, and what that says of the peer.
+use Rattle.std.specs.Prelude.{ℕ, Bool, true, ◌||◌, List, is_some, unwrap_or}
+use Rattle.std.specs.Option.{option_and_then}
+use Rattle.mq_rules.specs.declared.role.Role.{Role}
+use Rattle.mq_rules.specs.declared.role.Role.TheVariants.{Client, Server}
+use Rattle.mq_rules.specs.declared.note.Seen.{Seen}
+use Rattle.mq_rules.specs.Connections.{connection, first_connect, first_connack}
+use Rattle.mq_plain.specs.declared.handshake.Handshake.{Handshake}
+
+-- the first CONNECT from the client, and the first CONNACK from the server, on the latest connection
+abbrev pub handshake : Role → List Seen → Handshake
+handshake role past = record { connect = first_connect role (connection past); connack = first_connack role (connection past) }
+
+-- the peer's Receive Maximum, 65,535 by default (MQTT 5.0, sections 3.1.2.11.3 and 3.2.2.3.3)
+abbrev pub receive_maximum_in : Role → Handshake → ℕ
+receive_maximum_in Client h = unwrap_or (option_and_then (λ a. a.receive_maximum) h.connack) 65535
+receive_maximum_in Server h = unwrap_or (option_and_then (λ c. c.receive_maximum) h.connect) 65535
+
+-- what comes next may be counted: a client counts after its CONNACK alone
+abbrev pub counts_after : Role → Handshake → Bool
+counts_after Client h = is_some h.connack
+counts_after Server h = true
+
+-- the peer announced a Maximum Packet Size or a Maximum QoS, whatever its value
+abbrev pub bounds_sending : Role → Handshake → Bool
+bounds_sending Client h = is_some (option_and_then (λ a. a.maximum_packet_size) h.connack) || is_some (option_and_then (λ a. a.maximum_qos) h.connack)
+bounds_sending Server h = is_some (option_and_then (λ c. c.maximum_packet_size) h.connect)

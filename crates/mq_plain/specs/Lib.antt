@@ -1,0 +1,13 @@
+pub mod Lookback
+pub mod Chosen
+pub mod Shown
+pub mod Tables
+pub mod Blames
+pub mod Received
+pub mod Unanswered
+pub mod Resends
+pub mod Handshakes
+pub mod Quota
+pub mod Finding
+pub mod Owing
+pub mod Deliveries

@@ -1,0 +1,99 @@
+//! Each answer was asked for.
+ghost use Rattle.std.specs.Prelude.{◌≡◌, ◌==◌, ◌&&◌, not, reverse};
+ghost use Rattle.mq_rules.specs.Words.{is_id};
+ghost use Rattle.mq_rules.specs.Notes.{is_open};
+ghost use Rattle.mq_rules.specs.Moments.{newest, since};
+ghost use Rattle.mq_rules.specs.Connections.{begun, number, session};
+ghost use Rattle.mq_rules.specs.Exchanges.{causes, answers, breaks_A};
+ghost use Rattle.mq_plain.specs.Lookback.{answer_by};
+
+use crate::exchanges::Exchange;
+use crate::judging::SessionStatement;
+use crate::session::{begins_at, fate_before, is_accepted};
+use mq_rules::{Fate, Memory, Note, Role, Rule, Seen};
+use std::alloc::Global;
+use std::marker::PhantomData;
+
+/// E1A to E6A: an answer stands after what asks for it in the session, and no other answer of its connection between them.
+pub struct Asked<X: Exchange>(PhantomData<X>);
+
+impl<X: Exchange> SessionStatement for Asked<X> {
+    ghost use Rattle.mq_rules.specs.Exchanges.{breaks_A};
+
+    ghost judged = { X.asked };
+
+    ghost breaks = { breaks_A X.exchange };
+
+    fn rule() -> Rule {
+        X::asked_rule()
+    }
+
+    fn is_broken(
+        _alloc: Global,
+        role: Role,
+        fate: Fate,
+        event: &Seen,
+        before: &[Seen],
+    ) -> Result<bool, Memory> {
+        Ok(lacks_cause::<X>(role, fate, event, before))
+    }
+
+    ghost says = { X.says_asked };
+}
+
+/// Whether an event is an answer that nothing asked for, where the latest connection has this fate.
+#[tactic(auto, unfolding(mq_rules::specs::Exchanges::breaks_A))]
+fn lacks_cause<X: Exchange>(role: Role, fate: Fate, event: &Seen, before: &[Seen]) -> bool
+    ensures { result ≡ breaks_A X.exchange role fate (newest event.now (reverse before.now)) }
+{
+    match X::answer(&event.note) {
+        Some(identifier) => !is_asked::<X>(role, fate, identifier, before),
+        None => false,
+    }
+}
+
+/// Whether in the session that is on after these events, where the latest connection has this fate, some event asks under an identifier,
+/// and no later one on the latest connection answers.
+fn is_asked<X: Exchange>(role: Role, fate: Fate, identifier: u16, before: &[Seen]) -> bool
+    ensures { result ≡ since (causes X.exchange identifier) (λ m. answers X.exchange identifier m && (number m == begun (reverse before.now))) (session role (Some fate) (reverse before.now)) }
+{
+    let mut earlier = before;
+    let mut fate = Some(fate);
+    let mut is_latest = true;
+    while let Some((event, rest)) = earlier.split_last() {
+        let is_in = is_accepted(fate);
+        if let Some(answer) = told_by::<X>(is_in, is_latest, identifier, &event.note) {
+            return answer;
+        }
+        if begins_at(fate, &event.note) {
+            return false;
+        }
+        is_latest = is_latest_before(is_latest, &event.note);
+        fate = fate_before(role, fate, &event.note, rest);
+        earlier = rest;
+    }
+    false
+}
+
+/// What an event tells by itself, if its connection is accepted: it asks under the identifier, or it answers on the latest connection.
+fn told_by<X: Exchange>(is_in: bool, is_latest: bool, identifier: u16, note: &Note) -> Option<bool>
+    ensures { result ≡ answer_by (is_in && is_id identifier (X.exchange.cause note.now)) (is_in && (is_id identifier (X.exchange.answer note.now) && is_latest)) }
+{
+    if !is_in {
+        return None;
+    }
+    if X::cause(note) == Some(identifier) {
+        return Some(true);
+    }
+    if is_latest && X::answer(note) == Some(identifier) {
+        return Some(false);
+    }
+    None
+}
+
+/// Whether what stands before an event is on the latest connection, where this says it of the event.
+fn is_latest_before(is_latest: bool, note: &Note) -> bool
+    ensures { result ≡ (is_latest && not (is_open note.now)) }
+{
+    is_latest && !note.is_open()
+}

@@ -1,0 +1,25 @@
+//! Plain evaluators of the statements on sessions: they look back over the whole list of events, as the definitions do.
+#![tactic(auto)]
+
+mod answers;
+mod binding;
+mod connection;
+mod deliveries;
+mod earliest;
+mod evaluator;
+mod exchanges;
+mod handshake;
+mod identifiers;
+mod judging;
+mod lookback;
+mod owing;
+mod plain;
+mod quota;
+mod releases;
+mod releasing;
+mod resends;
+mod resting;
+mod session;
+mod table;
+
+pub use plain::{plain_lb, plain_se};

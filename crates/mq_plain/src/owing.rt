@@ -1,0 +1,203 @@
+//! What a resumed session owes (MQTT 5.0, section 4.4).
+ghost use Rattle.std.specs.Prelude.{ℕ, ◌≡◌, ◌&&◌, ◌||◌, Some, IfOk, cond, ◌++◌, ◌∷◌, [], reverse};
+ghost use Rattle.mq_rules.specs.declared.fate.Fate.TheVariants.{Resumed};
+ghost use Rattle.mq_rules.specs.declared.note.Seen.{Seen as TheSeen};
+ghost use Rattle.mq_rules.specs.Words.{is_id, only};
+ghost use Rattle.mq_rules.specs.Moments.{newest, note, some, IsPlaced};
+ghost use Rattle.mq_rules.specs.Connections.{connection, session, resumed};
+ghost use Rattle.mq_rules.specs.Identifiers.{shows_S06, is_used_up as uses_up, has_announced};
+ghost use Rattle.mq_plain.specs.Owing.{moves, confirms, sends, is_owed as owed_so, owes};
+ghost use Rattle.mq_plain.specs.Shown.{IsShown};
+ghost use Rattle.mq_plain.specs.Tables.{at};
+
+use crate::connection::latest_fate_of;
+use crate::handshake::handshake_of;
+use crate::quota::is_used_up;
+use crate::resting::RestStatement;
+use crate::session::{begins_at, fate_before, is_accepted};
+use crate::table::Table;
+use mq_rules::{Fate, Memory, Note, Role, Rule, Seen};
+use mq_trace::Place3;
+use std::alloc::Global;
+
+/// Marks an identifier, if there is one.
+fn mark(marked: &mut Table<bool>, identifier: Option<u16>)
+    ensures { (i : ℕ) → at marked.new i ≡ (is_id i identifier || at marked.old i) }
+{
+    if let Some(identifier) = identifier {
+        marked.set(identifier, true);
+    }
+}
+
+/// The identifiers of which a PUBLISH or a PUBREL was sent on the latest connection.
+///
+/// # Errors
+///
+/// `Memory` where room for them was refused.
+fn sent_again(alloc: Global, before: &[Seen]) -> Result<Table<bool>, Memory>
+    ensures { IfOk result (λ again. (i : ℕ) → at again i ≡ some (λ m. sends i (note m)) (connection (reverse before.now))) }
+{
+    let mut again = Table::new(alloc, false)?;
+    let mut earlier = before;
+    while let Some((event, rest)) = earlier.split_last() {
+        mark(&mut again, event.note.delivery());
+        mark(&mut again, event.note.sent_pubrel());
+        if event.note.is_open() {
+            return Ok(again);
+        }
+        earlier = rest;
+    }
+    Ok(again)
+}
+
+/// An identifier, where its event is in the session.
+fn only_if(is_in: bool, identifier: Option<u16>) -> Option<u16>
+    ensures { result ≡ only is_in identifier }
+{
+    if is_in {
+        return identifier;
+    }
+    None
+}
+
+/// Marks the identifier that an event opens or closes, if it is in the session.
+fn mark_moved(moved: &mut Table<bool>, is_in: bool, note: &Note)
+    ensures { (i : ℕ) → at moved.new i ≡ ((is_in && moves i note.now) || at moved.old i) }
+{
+    mark(moved, only_if(is_in, note.opener()));
+    mark(moved, only_if(is_in, note.closer()));
+}
+
+/// Marks the identifier that an event confirms, if it is in the session.
+fn mark_confirmed(confirmed: &mut Table<bool>, is_in: bool, note: &Note)
+    ensures { (i : ℕ) → at confirmed.new i ≡ ((is_in && confirms i note.now) || at confirmed.old i) }
+{
+    mark(confirmed, only_if(is_in, note.received_accepting_pubrec()));
+}
+
+/// Whether the opener of an identifier is owed, if there is one, where these were sent again, and these moved and confirmed after it.
+fn is_owed(
+    is_lenient: bool,
+    again: &Table<bool>,
+    moved: &Table<bool>,
+    confirmed: &Table<bool>,
+    opener: Option<u16>,
+) -> bool
+    ensures { result ≡ owed_so is_lenient (at again.now) (at moved.now) (at confirmed.now) opener }
+{
+    match opener {
+        Some(identifier) => {
+            !moved.get(identifier)
+                && !again.get(identifier)
+                && (confirmed.get(identifier) || !is_lenient)
+        }
+        None => false,
+    }
+}
+
+/// Adds a place, if its event is owed.
+fn push_if(places: &mut Vec<Place3>, place: Place3, is_due: bool) -> Result<(), Memory>
+    ensures { IfOk result (λ _. places.new.items ≡ cond is_due (places.old.items ++ place ∷ []) places.old.items) }
+{
+    if is_due {
+        places.push(place)?;
+    }
+    Ok(())
+}
+
+/// The places of what is owed in the session that is on after these events, where the latest connection resumed it, and these
+/// identifiers were sent again there.
+///
+/// # Errors
+///
+/// `Memory` where room for them, or to look back, was refused.
+fn owed_in_session(
+    alloc: Global,
+    role: Role,
+    is_lenient: bool,
+    again: &Table<bool>,
+    before: &[Seen],
+) -> Result<Vec<Place3>, Memory>
+    ensures { IsPlaced (reverse before.now) → IfOk result (λ places. IsShown (owes is_lenient (at again.now) (session role (Some Resumed) (reverse before.now))) (reverse before.now) places.items) }
+{
+    let mut moved = Table::new(alloc, false)?;
+    let mut confirmed = Table::new(alloc, false)?;
+    let mut places = Vec::new(alloc);
+    let mut fate = Some(Fate::Resumed);
+    let mut earlier = before;
+    while let Some((event, rest)) = earlier.split_last() {
+        let is_in = is_accepted(fate);
+        let opener = only_if(is_in, event.note.opener());
+        let is_due = is_owed(is_lenient, again, &moved, &confirmed, opener);
+        push_if(&mut places, event.place, is_due)?;
+        if begins_at(fate, &event.note) {
+            return Ok(places);
+        }
+        mark_moved(&mut moved, is_in, &event.note);
+        mark_confirmed(&mut confirmed, is_in, &event.note);
+        fate = fate_before(role, fate, &event.note, rest);
+        earlier = rest;
+    }
+    Ok(places)
+}
+
+/// Whether not all need be sent again that wasn't confirmed: the send quota is used up, or the peer announced a Maximum Packet Size or
+/// a Maximum QoS.
+fn is_lenient(role: Role, before: &[Seen]) -> bool
+    ensures { (rest : TheSeen) → result ≡ (uses_up role (newest rest (reverse before.now)) || has_announced role (newest rest (reverse before.now))) }
+{
+    if is_used_up(role, before) {
+        return true;
+    }
+    handshake_of(role, before).bounds_sending(role)
+}
+
+/// Whether a connection with this fate resumed a session.
+fn is_resumed(fate: Option<Fate>) -> bool
+    ensures { result ≡ resumed fate }
+{
+    matches!(fate, Some(Fate::Resumed))
+}
+
+/// The places of what is owed as a REST after these events shows.
+///
+/// # Errors
+///
+/// `Memory` where room for them, or to look back, was refused.
+fn owed_at_rest(alloc: Global, role: Role, before: &[Seen]) -> Result<Vec<Place3>, Memory>
+    ensures { (rest : TheSeen) → IsPlaced (reverse before.now) → IfOk result (λ places. IsShown (shows_S06 role (newest rest (reverse before.now))) (reverse before.now) places.items) }
+{
+    if !is_resumed(latest_fate_of(role, before)) {
+        return Ok(Vec::new(alloc));
+    }
+    let again = sent_again(alloc, before)?;
+    owed_in_session(alloc, role, is_lenient(role, before), &again, before)
+}
+
+/// S06: where a session is resumed, each PUBLISH or PUBREL of it that is unacknowledged is sent again.
+pub struct Resends;
+
+impl RestStatement for Resends {
+    ghost use Rattle.std.specs.Prelude.{refl};
+    ghost use Rattle.mq_rules.specs.declared.rule.Rule.TheVariants.{S06};
+    ghost use Rattle.mq_rules.specs.Identifiers.{shows_S06};
+
+    ghost judged = { S06 };
+
+    ghost shows = { shows_S06 };
+
+    fn rule() -> Rule {
+        Rule::S06
+    }
+
+    fn shown(
+        alloc: Global,
+        role: Role,
+        _rest: &Seen,
+        before: &[Seen],
+    ) -> Result<Vec<Place3>, Memory> {
+        owed_at_rest(alloc, role, before)
+    }
+
+    ghost says = { λ role. refl };
+}

@@ -1,0 +1,116 @@
+//! Judging all events of a list by one statement that a later REST shows.
+ghost use Rattle.std.specs.Prelude.{◌≡◌, ◌∷◌, reverse, OnOk, OnErr};
+ghost use Rattle.mq_rules.specs.Moments.{IsPlaced};
+ghost use Rattle.mq_rules.specs.Rules.{same_rule};
+ghost use Rattle.mq_rules.specs.Faults.{Grows, GrowsWithin};
+ghost use Rattle.mq_rules.specs.Keeping.{GrowsBy, GrowsByWithin};
+ghost use Rattle.mq_plain.specs.Blames.{Blames, BlamesWithin};
+
+use crate::binding::is_binding_rest;
+use mq_rules::{Fault, Faults, Mark, Memory, Role, Rule, Seen, Tested};
+use mq_trace::Place3;
+use std::alloc::Global;
+
+/// A statement that is false at an event where a later binding REST of a session shows it.
+pub trait RestStatement {
+    ghost use Rattle.std.specs.Prelude.{◌≡◌, Bool, IfOk, reverse};
+    ghost use Rattle.mq_rules.specs.declared.role.Role.{Role};
+    ghost use Rattle.mq_rules.specs.declared.rule.Rule.{Rule};
+    ghost use Rattle.mq_rules.specs.Moments.{Moment, newest, IsPlaced};
+    ghost use Rattle.mq_rules.specs.Statements.{statement, at_rest};
+    ghost use Rattle.mq_plain.specs.Shown.{IsShown};
+
+    // The statement that is judged.
+    ghost judged: { Rule };
+    // Where it is false, as the first moment shows: a binding REST that comes after the second.
+    ghost shows: { Role → Moment → Moment → Bool };
+
+    /// The statement.
+    fn rule() -> Rule
+        ensures { result ≡ judged };
+
+    /// The places of the events that break the statement as a REST shows, which has these events before it.
+    ///
+    /// # Errors
+    ///
+    /// `Memory` where room for them, or to look back, was refused.
+    fn shown(alloc: Global, role: Role, rest: &Seen, before: &[Seen]) -> Result<Vec<Place3>, Memory>
+        ensures { IsPlaced (reverse before.now) → IfOk result (λ places. IsShown (shows role (newest rest.now (reverse before.now))) (reverse before.now) places.items) };
+
+    // It is the statement of this rule.
+    ghost says: { (role : Role) → statement role judged ≡ at_rest (shows role) };
+}
+
+/// Judges the events of a list by what each binding REST among them shows. A pair that is among the faults keeps its fault; so the
+/// first REST that shows it decides a pair.
+///
+/// # Errors
+///
+/// `Memory` where room for a fault, or to look back, was refused. Some of the statement's faults may have been added then, and no
+/// others.
+pub fn judge_rest<T: RestStatement>(
+    alloc: Global,
+    tested: Tested,
+    seen: &[Seen],
+    faults: &mut Faults,
+) -> Result<(), Memory>
+    ensures ok { IsPlaced (reverse seen.now) → OnOk result (Grows (λ r. same_rule r T.judged) tested (reverse seen.now) faults.old faults.new) }
+    ensures memory { IsPlaced (reverse seen.now) → OnErr result (GrowsWithin (λ r. same_rule r T.judged) tested (reverse seen.now) faults.old faults.new) }
+{
+    for (i, event) in seen.iter().enumerate() {
+        let before = &seen[..i];
+        judge_at::<T>(alloc, tested, event, before, faults)?;
+    }
+    Ok(())
+}
+
+/// Puts the faults of the events that a REST shows to break the statement, if it binds the tested end. An event that is no binding
+/// REST shows nothing.
+///
+/// # Errors
+///
+/// `Memory` where room for a fault, or to look back, was refused. Some of the faults may have been put then, and no others.
+fn judge_at<T: RestStatement>(
+    alloc: Global,
+    tested: Tested,
+    event: &Seen,
+    before: &[Seen],
+    faults: &mut Faults,
+) -> Result<(), Memory>
+    ensures ok { IsPlaced (event.now ∷ reverse before.now) → OnOk result (GrowsBy (λ r. same_rule r T.judged) tested event.now (reverse before.now) faults.old faults.new) }
+    ensures memory { IsPlaced (event.now ∷ reverse before.now) → OnErr result (GrowsByWithin (λ r. same_rule r T.judged) tested event.now (reverse before.now) faults.old faults.new) }
+{
+    if !T::rule().is_judged(tested) {
+        return Ok(());
+    }
+    if !is_binding_rest(tested.role, event, before) {
+        return Ok(());
+    }
+    let places = T::shown(alloc, tested.role, event, before)?;
+    blame(T::rule(), event.place.position, &places, faults)?;
+    Ok(())
+}
+
+/// Puts a fault of a statement at each of these places, decided at this position. A pair that is among the faults keeps its fault.
+///
+/// # Errors
+///
+/// `Memory` where room for a fault was refused. Some of the faults may have been put then, and no others.
+fn blame(rule: Rule, decided: u32, places: &[Place3], faults: &mut Faults) -> Result<(), Memory>
+    ensures ok { OnOk result (Blames rule decided places.now faults.old faults.new) }
+    ensures memory { OnErr result (BlamesWithin rule decided places.now faults.old faults.new) }
+{
+    for place in places {
+        let mark = Mark {
+            position: place.position,
+            rule,
+        };
+        let fault = Fault {
+            decided,
+            record_no: place.record_no,
+            offset: None,
+        };
+        faults.add(mark, fault)?;
+    }
+    Ok(())
+}

@@ -1,0 +1,152 @@
+//! Looking back over a session.
+ghost use Rattle.std.specs.Prelude.{◌≡◌, ◌∷◌, ◌&&◌, cond, reverse};
+ghost use Rattle.mq_rules.specs.Notes.{is_open};
+ghost use Rattle.mq_rules.specs.Moments.{note, since};
+ghost use Rattle.mq_rules.specs.Connections.{accepts as is_accepting, any_accepted, accepted, begins, has_session, latest_fate, session, voided};
+ghost use Rattle.mq_plain.specs.Lookback.{answer_by};
+
+use crate::connection::latest_fate_of;
+use crate::lookback::NoteTest;
+use mq_rules::{Fate, Note, Role, Seen};
+
+/// Whether in the session that is on after these events, where the latest connection has this fate, some event passes the first
+/// test, and no later one the second.
+pub fn since_in_session<S: NoteTest, E: NoteTest>(
+    role: Role,
+    fate: Option<Fate>,
+    starts: &S,
+    ends: &E,
+    before: &[Seen],
+) -> bool
+    ensures { result ≡ since (λ m. S.test starts.now (note m)) (λ m. E.test ends.now (note m)) (session role fate (reverse before.now)) }
+{
+    let mut earlier = before;
+    let mut fate = fate;
+    while let Some((event, rest)) = earlier.split_last() {
+        if let Some(answer) = answer_at(role, fate, starts, ends, event, rest) {
+            return answer;
+        }
+        if begins_at(fate, &event.note) {
+            return false;
+        }
+        fate = fate_before(role, fate, &event.note, rest);
+        earlier = rest;
+    }
+    false
+}
+
+/// The answer that an event gives by itself, if it is in the session. It is tested first, since few events pass.
+fn answer_at<S: NoteTest, E: NoteTest>(
+    role: Role,
+    fate: Option<Fate>,
+    starts: &S,
+    ends: &E,
+    event: &Seen,
+    before: &[Seen],
+) -> Option<bool>
+    ensures { result ≡ answer_by (has_session role fate event.now (reverse before.now) && S.test starts.now event.now.note) (has_session role fate event.now (reverse before.now) && E.test ends.now event.now.note) }
+{
+    let is_start = starts.passes(&event.note);
+    if !is_start && !ends.passes(&event.note) {
+        return None;
+    }
+    if is_in_session(role, fate, event, before) {
+        return Some(is_start);
+    }
+    None
+}
+
+/// Whether the session begins with the connection, which has this fate, at this event.
+pub fn begins_at(fate: Option<Fate>, note: &Note) -> bool
+    ensures { result ≡ (is_open note.now && begins fate) }
+{
+    note.is_open() && matches!(fate, Some(Fate::New))
+}
+
+/// The fate of the connection that is the latest one before an event, where this one is the fate of the latest one after it.
+pub fn fate_before(role: Role, fate: Option<Fate>, note: &Note, before: &[Seen]) -> Option<Fate>
+    ensures { result ≡ cond (is_open note.now) (latest_fate role (reverse before.now)) fate }
+{
+    if note.is_open() {
+        return latest_fate_of(role, before);
+    }
+    fate
+}
+
+/// Whether an event on or after the latest connection, which has this fate, is in a session.
+fn is_in_session(role: Role, fate: Option<Fate>, event: &Seen, before: &[Seen]) -> bool
+    ensures { result ≡ has_session role fate event.now (reverse before.now) }
+{
+    is_accepted(fate)
+        || (event.note.is_release() && is_voided(fate) && is_any_accepted(role, fate, before))
+}
+
+/// Whether an event on or after the latest connection, which has this fate, is in a session, where this tells whether some
+/// connection up to the event is accepted.
+#[tactic(auto, using(crate::proofs::LookbackLaws::in_known))]
+pub fn is_in_known_session(
+    role: Role,
+    fate: Option<Fate>,
+    any: bool,
+    event: &Seen,
+    before: &[Seen],
+) -> bool
+    ensures { any ≡ any_accepted role fate (event.now ∷ reverse before.now) → result ≡ has_session role fate event.now (reverse before.now) }
+{
+    is_accepted(fate) || (event.note.is_release() && is_voided(fate) && any)
+}
+
+/// Whether some connection before an event is accepted, where this tells it of those up to the event, and the latest one has this
+/// fate.
+pub fn any_before(role: Role, fate: Option<Fate>, any: bool, note: &Note, before: &[Seen]) -> bool
+    ensures { result ≡ cond (is_open note.now && accepted fate) (any_accepted role (latest_fate role (reverse before.now)) (reverse before.now)) any }
+{
+    if accepts_at(fate, note) {
+        return is_any_accepted(role, latest_fate_of(role, before), before);
+    }
+    any
+}
+
+/// Whether the connection is accepted.
+pub fn is_accepted(fate: Option<Fate>) -> bool
+    ensures { result ≡ accepted fate }
+{
+    matches!(fate, Some(Fate::New | Fate::Resumed))
+}
+
+/// Whether the connection is decided, and not accepted.
+pub fn is_voided(fate: Option<Fate>) -> bool
+    ensures { result ≡ voided fate }
+{
+    matches!(fate, Some(Fate::Void))
+}
+
+/// Whether some connection of these events is accepted, where the latest one has this fate.
+pub fn is_any_accepted(role: Role, fate: Option<Fate>, before: &[Seen]) -> bool
+    ensures { result ≡ any_accepted role fate (reverse before.now) }
+{
+    let mut earlier = before;
+    let mut fate = fate;
+    while let Some((event, rest)) = earlier.split_last() {
+        if accepts_at(fate, &event.note) {
+            return true;
+        }
+        fate = fate_before(role, fate, &event.note, rest);
+        earlier = rest;
+    }
+    false
+}
+
+/// Whether a connection begins at this event, and is accepted.
+fn accepts_at(fate: Option<Fate>, note: &Note) -> bool
+    ensures { result ≡ (is_open note.now && accepted fate) }
+{
+    note.is_open() && is_accepted(fate)
+}
+
+/// Whether a connection with this fate is accepted.
+pub fn accepts(fate: Fate) -> bool
+    ensures { result ≡ is_accepting fate }
+{
+    matches!(fate, Fate::New | Fate::Resumed)
+}
