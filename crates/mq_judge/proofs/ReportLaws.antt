@@ -3,11 +3,11 @@ use Rattle.std.proofs.Common.{◌≡◌, ℕ, List, [], ◌∷◌, ◌++◌, len
 use Rattle.std.specs.Io.KnownBytes.{Appends}
 use Rattle.mq_judge.specs.declared.report.RunFault.{RunFault}
 use Rattle.mq_judge.specs.declared.report.RunFault.TheVariants.{Write}
-use Rattle.mq_judge.specs.declared.rules.role.Role.{Role}
-use Rattle.mq_judge.specs.declared.rules.fault.Fault.{Fault}
-use Rattle.mq_judge.specs.declared.rules.faults.Mark.{Mark}
-use Rattle.mq_judge.specs.Report.{line, fault_text, verdict_text, fault_lines, report_on, AppendsBeginning}
-use Rattle.mq_judge.proofs.Writes.{LeavesToWrite, all-left, piece-written, last-written, stopped-in-piece, stopped-in-last}
+use Rattle.mq_rules.specs.declared.role.Role.{Role}
+use Rattle.mq_rules.specs.declared.fault.Fault.{Fault}
+use Rattle.mq_rules.specs.declared.faults.Mark.{Mark}
+use Rattle.mq_judge.specs.Report.{line, fault_text, verdict_text, fault_lines, report_on, AppendsBeginning, LeavesToWrite}
+use Rattle.mq_judge.proofs.Writes.{all-left, piece-written, last-written, stopped-in-piece, stopped-in-last}
 
 -- before the first line
 pub report-begins : (x : Option (List ℕ)) (role : Role) (faults left : List (Mark × Fault)) (events : ℕ) → left ≡ faults

@@ -6,7 +6,7 @@ use Rattle.std.proofs.Common.{◌≡◌, ℕ, zero, suc, ◌-◌, ◌<◌, subst
 use Rattle.std.specs.Io.KnownBytes.{Appends, Keeps}
 use Rattle.mq_judge.specs.declared.report.RunFault.{RunFault}
 use Rattle.mq_judge.specs.declared.report.RunFault.TheVariants.{Write}
-use Rattle.mq_judge.specs.Report.{line, AppendsBeginning}
+use Rattle.mq_judge.specs.Report.{line, AppendsBeginning, LeavesToWrite}
 
 pub appends-nothing : (x : Option (List ℕ)) → Appends x x []
 appends-nothing None = tt
@@ -30,12 +30,6 @@ take-drop-whole (suc n) (x ∷ xs) = ap (λ z. x ∷ z) (take-drop-whole n xs)
 
 pub take-left : (n : ℕ) (xs : List ℕ) → take (length xs - n) (drop n xs) ≡ drop n xs
 take-left n xs = take_all (length xs - n) (drop n xs) (omega (arith, length-drop n xs))
-
--- Of the whole text, the known bytes have grown by all but the rest.
-pub record LeavesToWrite (old new : Option (List ℕ)) (whole rest : List ℕ) : Type 0 where
-  pub written : List ℕ
-  pub parts : whole ≡ written ++ rest
-  pub appended : Appends old new written
 
 pub all-left : (x : Option (List ℕ)) (whole : List ℕ) → LeavesToWrite x x whole whole
 all-left x whole = record { written = []; parts = refl; appended = appends-nothing x }

@@ -1,21 +1,17 @@
 -- The text of what is sent or received: a packet with its size, bytes that break a rule, or a direction that is lost.
-use Rattle.std.specs.Prelude.{ℕ, Bool, true, false, List, [], ◌∷◌, ◌++◌, codes, decimal, Option, Some, None, unwrap_or}
+use Rattle.std.specs.Prelude.{ℕ, Bool, true, false, List, [], ◌∷◌, ◌++◌, codes, decimal, Option, Some, None}
 use Rattle.mq_packet.specs.declared.packet.Qos.{Qos}
 use Rattle.mq_packet.specs.declared.packet.Qos.TheVariants as quality
 use Rattle.mq_packet.specs.declared.rule.PacketRule.{PacketRule}
-use Rattle.mq_packet.specs.Reading.{view}
-use Rattle.mq_packet.specs.Sizes.{size_with, remaining_length}
-use Rattle.mq_trace.specs.declared.event.Item.{Item}
-use Rattle.mq_trace.specs.declared.event.Item.TheVariants as items
-use Rattle.mq_judge.specs.declared.rules.packet_note.PacketNote.{PacketNote}
-use Rattle.mq_judge.specs.declared.rules.packet_note.PacketNote.TheVariants.{Connect, Connack, Publish, Puback, Pubrec, Pubrel, Pubcomp, Subscribe, Suback, Unsubscribe, Unsuback, Pingreq, Pingresp, Disconnect, Auth}
-use Rattle.mq_judge.specs.Notes.{packet_note}
-use Rattle.mq_judge.specs.Rules.{code_of}
-use Rattle.mq_judge.specs.Statements.{statement_of}
+use Rattle.mq_packet.specs.declared.rule.PacketRule.TheVariants as packet_rules
+use Rattle.mq_trace.specs.Events.{Item, packet as whole_item, bad as broken_item, lost as lost_item}
+use Rattle.mq_judge.specs.declared.report.summary.PacketSummary.{PacketSummary}
+use Rattle.mq_judge.specs.declared.report.summary.PacketSummary.TheVariants.{Connect, Connack, Publish, Puback, Pubrec, Pubrel, Pubcomp, Subscribe, Suback, Unsubscribe, Unsuback, Pingreq, Pingresp, Disconnect, Auth}
+use Rattle.mq_judge.specs.Summaries.{packet_summary}
 use Rattle.mq_trace.specs.Refusing.{spaced}
 
 -- the name of a packet's type (MQTT 5.0, section 2.1.2)
-abbrev pub type_name : PacketNote → List ℕ
+abbrev pub type_name : PacketSummary → List ℕ
 type_name Connect = codes "CONNECT"
 type_name (Connack session_present code) = codes "CONNACK"
 type_name (Publish identifier qos duplicate) = codes "PUBLISH"
@@ -33,7 +29,7 @@ type_name (Disconnect code) = codes "DISCONNECT"
 type_name (Auth code) = codes "AUTH"
 
 -- the Packet Identifier, where the packet has one (MQTT 5.0, section 2.2.1)
-abbrev pub identifier_of : PacketNote → Option ℕ
+abbrev pub identifier_of : PacketSummary → Option ℕ
 identifier_of (Publish identifier qos duplicate) = identifier
 identifier_of (Puback identifier code) = Some identifier
 identifier_of (Pubrec identifier code) = Some identifier
@@ -56,7 +52,7 @@ flag_number false = 0
 flag_number true = 1
 
 -- both, where the packet is a PUBLISH
-abbrev pub delivery_of : PacketNote → Option (ℕ × ℕ)
+abbrev pub delivery_of : PacketSummary → Option (ℕ × ℕ)
 delivery_of (Publish identifier qos duplicate) = Some (qos_number qos, flag_number duplicate)
 delivery_of _ = None
 
@@ -75,20 +71,44 @@ behind_spaces [] = []
 behind_spaces (word ∷ words) = 32 ∷ (word ++ behind_spaces words)
 
 -- a packet: its type and its size in bytes, of a PUBLISH the QoS and the DUP flag, and the Packet Identifier, if it has one
-abbrev pub packet_text : PacketNote → ℕ → List ℕ
+abbrev pub packet_text : PacketSummary → ℕ → List ℕ
 packet_text packet size = spaced (type_name packet ∷ codes "size" ∷ decimal size
     ∷ (delivery_words (delivery_of packet) ++ identifier_words (identifier_of packet)))
 
+-- the code of a rule on a packet's bytes
+abbrev pub packet_rule_code : PacketRule → List ℕ
+packet_rule_code packet_rules.W01 = codes "W01"
+packet_rule_code packet_rules.W02 = codes "W02"
+packet_rule_code packet_rules.W03 = codes "W03"
+packet_rule_code packet_rules.W04 = codes "W04"
+packet_rule_code packet_rules.W05 = codes "W05"
+packet_rule_code packet_rules.W06 = codes "W06"
+packet_rule_code packet_rules.W07 = codes "W07"
+packet_rule_code packet_rules.W08 = codes "W08"
+packet_rule_code packet_rules.W09 = codes "W09"
+packet_rule_code packet_rules.W10 = codes "W10"
+packet_rule_code packet_rules.W11 = codes "W11"
+packet_rule_code packet_rules.W12 = codes "W12"
+packet_rule_code packet_rules.W13 = codes "W13"
+packet_rule_code packet_rules.W14 = codes "W14"
+packet_rule_code packet_rules.W15 = codes "W15"
+packet_rule_code packet_rules.W16 = codes "W16"
+packet_rule_code packet_rules.W17 = codes "W17"
+packet_rule_code packet_rules.W18 = codes "W18"
+packet_rule_code packet_rules.W19 = codes "W19"
+packet_rule_code packet_rules.W20 = codes "W20"
+packet_rule_code packet_rules.W21 = codes "W21"
+
 -- bytes that break a rule: the rule, and where the field begins that breaks it
 abbrev pub broken_text : PacketRule → ℕ → List ℕ
-broken_text rule at = spaced (codes "BAD" ∷ code_of (statement_of rule) ∷ codes "offset" ∷ decimal at ∷ [])
+broken_text rule at = spaced (codes "BAD" ∷ packet_rule_code rule ∷ codes "offset" ∷ decimal at ∷ [])
 
 -- a direction that can't be cut into packets
 abbrev pub lost_text : List ℕ
 lost_text = codes "LOST"
 
--- an item: a packet that was read is as long as it is when it is written
+-- an item: a packet with its size, bytes that break a rule, or the end of what can be cut into packets
 abbrev pub item_text : Item → List ℕ
-item_text (items.Packet packet) = packet_text (packet_note (view packet)) (unwrap_or (size_with (remaining_length packet)) 0)
-item_text (items.Bad first rule at) = broken_text rule at
-item_text items.Lost = lost_text
+item_text (whole_item size entry) = packet_text (packet_summary entry) size
+item_text (broken_item first rule at) = broken_text rule at
+item_text lost_item = lost_text

@@ -1,47 +1,67 @@
 -- What a judge has come to, and what its calls answer.
-use Rattle.std.specs.Prelude.{◌≡◌, ℕ, ◌<◌, ◌≤◌, true, false, List, ◌++◌, length, ◌⊎◌, Some, None, Result, Ok, Err}
+use Rattle.std.specs.Prelude.{◌≡◌, ℕ, nat_lt, false, List, ◌++◌, length, Option, Some, None, if◌then◌else◌, Result, Ok, Err}
 use Rattle.mq_trace.specs.declared.refusal.Refusal.{Refusal}
-use Rattle.mq_trace.specs.declared.refusal.Refusal.TheVariants as refusals
 use Rattle.mq_trace.specs.Tracing.{Traced, Follows as IsTracedTo}
 use Rattle.mq_trace.specs.Events.{events}
 use Rattle.mq_trace.specs.Refusals.{refused, is_cut_short}
-use Rattle.mq_judge.specs.declared.rules.note.Seen.{Seen}
-use Rattle.mq_judge.specs.declared.rules.rule.Rule.{Rule}
-use Rattle.mq_judge.specs.Seeing.{tested_by, seen_in}
-use Rattle.mq_judge.specs.Faults.{fault_in}
-use Rattle.mq_judge.specs.Marks.{FaultMap, fault_at}
+use Rattle.mq_rules.specs.declared.note.Seen.{Seen}
+use Rattle.mq_rules.specs.declared.role.Tested.{Tested}
+use Rattle.mq_rules.specs.declared.rule.Rule.{Rule}
+use Rattle.mq_rules.specs.Notes.{tested_by, seen_in}
+use Rattle.mq_rules.specs.Faults.{chosen_fault}
+use Rattle.mq_judge.specs.Chosen.{is_judged}
+use Rattle.mq_rules.specs.Marks.{FaultMap, fault_at}
+use Rattle.mq_judge.specs.Stopping.{StopsIn, IsRefusedEnd}
 
--- a judge: its limit, what has become of the log, and the events that were seen, the newest first
+-- a judge: its limit, the end that is tested, once that is known, what has become of the log, and the events that were seen, the newest first
 pub record Judged : Type 0 where
   pub limit : ℕ
+  pub tested : Option Tested
   pub tracer : Traced
   pub seen : List Seen
 
--- The tracer has taken in this log, with this limit, and refused none of it; and these are its events, the newest first.
-pub record Keeps (limit : ℕ) (tracer : Traced) (seen : List Seen) (log : List ℕ) : Type 0 where
-  pub traced : IsTracedTo tracer log
-  pub within : tracer.reading.limit ≡ limit
-  pub events : seen ≡ seen_in log
+abbrev pub judge_of : ℕ → Option Tested → Traced → List Seen → Judged
+judge_of limit tested tracer seen = record { limit = limit; tested = tested; tracer = tracer; seen = seen }
+
+-- the end that the first bytes of a log name, once the header is whole
+abbrev pub tested_in : List ℕ → Option Tested
+tested_in log = if nat_lt (length log) 8 then None else Some (tested_by log)
+
+-- All that a judge knows of a log is what these first bytes of it say: which end is tested, and the events that they complete.
+pub record Knows (judge : Judged) (taken : List ℕ) : Type 0 where
+  pub tested : judge.tested ≡ tested_in taken
+  pub events : judge.seen ≡ seen_in taken
 
 -- The judge has taken in this log, and refused none of it.
 pub record Follows (judge : Judged) (log : List ℕ) : Type 0 where
-  pub keeps : Keeps judge.limit judge.tracer judge.seen log
+  pub traced : IsTracedTo judge.tracer log
+  pub within : judge.tracer.reading.limit ≡ judge.limit
+  pub knows : Knows judge log
 
--- A growth was refused while one of the bytes from `start` on and before `end` was taken in.
-abbrev pub IsMemoryWithin : ℕ → ℕ → Refusal → Type 0
-IsMemoryWithin start end (refusals.Memory at) = (start ≤ at) × (at < end)
-IsMemoryWithin start end _ = ⊥
+-- The judge has refused the byte after these bytes of its log, and knows nothing of that byte. It answers this refusal for ever.
+pub record HasRefused (judge : Judged) (taken : List ℕ) (refusal : Refusal) : Type 0 where
+  pub answers : judge.tracer.refusal ≡ Some refusal
+  pub knows : Knows judge taken
 
--- What feeding a piece behind a log answers: Ok where nothing is refused, else the refusal, or that memory was refused.
-abbrev pub Takes : {A : Type 0} → ℕ → List ℕ → List ℕ → Result A Refusal → Type 0
-Takes limit log piece (Ok answer) = refused limit (log ++ piece) ≡ None
-Takes limit log piece (Err refusal) = IsMemoryWithin (length log) (length (log ++ piece)) refusal ⊎ (refused limit (log ++ piece) ≡ Some refusal)
+-- A judge with this limit has refused, after this log, a byte of this piece, and nothing before that byte.
+abbrev pub Refuses : ℕ → Judged → List ℕ → List ℕ → Refusal → Type 0
+Refuses limit judge log piece refusal = (stops : StopsIn limit log piece refusal) × HasRefused judge (log ++ stops.taken) refusal
+
+-- What feeding a piece after a log answers, and what the judge has come to: Ok where nothing is refused, else the refusal.
+abbrev pub Takes : List ℕ → List ℕ → Judged → Result (Unit {0}) Refusal → Type 0
+Takes log piece judge (Ok _) = (refused judge.limit (log ++ piece) ≡ None) × Follows judge (log ++ piece)
+Takes log piece judge (Err refusal) = Refuses judge.limit judge log piece refusal
+
+-- The same of a tracer with this limit and of the events that were noted.
+abbrev pub TakesEvents : ℕ → List ℕ → List ℕ → Traced → List Seen → Result (Unit {0}) Refusal → Type 0
+TakesEvents limit log piece tracer seen (Ok _) = IsTracedTo tracer (log ++ piece) × (tracer.reading.limit ≡ limit) × (seen ≡ seen_in (log ++ piece))
+TakesEvents limit log piece tracer seen (Err refusal) = (stops : StopsIn limit log piece refusal) × (seen ≡ seen_in (log ++ stops.taken))
 
 -- The faults are exactly the pairs of a position and a statement that fail in the whole log, each with where it was decided.
 abbrev pub AreFaultsOf : List ℕ → FaultMap → Type 0
-AreFaultsOf log faults = (k : ℕ) (rule : Rule) → fault_at faults k rule ≡ fault_in (tested_by log) (seen_in log) k rule
+AreFaultsOf log faults = (k : ℕ) (rule : Rule) → fault_at faults k rule ≡ chosen_fault (is_judged (tested_by log)) (tested_by log) (seen_in log) k rule
 
--- What finishing a log that wasn't refused so far answers: its verdict where the log is whole, else that it was cut short, or that memory was refused.
+-- What finishing a log that wasn't refused so far answers: its verdict where the log is whole, else why its end is refused.
 abbrev pub Finishes : {A : Type 0} → (A → ℕ) → (A → FaultMap) → List ℕ → Result A Refusal → Type 0
 Finishes events_in faults_in log (Ok verdict) = (is_cut_short log ≡ false) × (events_in verdict ≡ length (events log)) × AreFaultsOf log (faults_in verdict)
-Finishes events_in faults_in log (Err refusal) = (refusal ≡ refusals.Memory (length log)) ⊎ ((refusal ≡ refusals.Cut (length log)) × (is_cut_short log ≡ true))
+Finishes events_in faults_in log (Err refusal) = IsRefusedEnd log refusal

@@ -10,14 +10,14 @@ use Rattle.mq_packet.specs.Decoding.{decoded}
 use Rattle.mq_packet.specs.Spelled.{IsSpelled}
 use Rattle.mq_judge.specs.declared.packet_line.Finding.{Finding}
 use Rattle.mq_judge.specs.declared.packet_line.Finding.TheVariants.{NeedMore, LeftOver, Packet, Broken, Lost, OtherVersion}
-use Rattle.mq_judge.specs.Notes.{packet_note}
+use Rattle.mq_judge.specs.Summaries.{packet_summary}
 use Rattle.mq_judge.specs.ItemText.{packet_text, broken_text, lost_text}
 use Rattle.mq_trace.specs.Refusing.{spaced}
 use Rattle.mq_judge.specs.Report.{line}
 
 -- what one frame is that has this first byte and this size, by what its body comes to
 abbrev pub frame_finding : ℕ → ℕ → Result Entry DecodeFault → Finding
-frame_finding first size (Ok entry) = Packet (packet_note entry) size
+frame_finding first size (Ok entry) = Packet (packet_summary entry) size
 frame_finding first size (Err (faults.Broken fault)) = Broken fault.rule fault.at
 frame_finding first size (Err (faults.OtherVersion version)) = OtherVersion version
 

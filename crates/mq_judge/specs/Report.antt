@@ -1,16 +1,17 @@
 -- The text of a report, and the line that stands in its place for a log that is refused.
-use Rattle.std.specs.Prelude.{◌≡◌, ℕ, ◌<◌, ◌==◌, List, [], ◌∷◌, ◌++◌, length, codes, decimal, Option, Some, None, if◌then◌else◌}
+use Rattle.std.specs.Prelude.{◌≡◌, ℕ, Bool, true, false, ◌<◌, ◌==◌, List, [], ◌∷◌, ◌++◌, length, codes, decimal, Option, Some, None, if◌then◌else◌}
 use Rattle.std.specs.List.{flat_map}
 use Rattle.std.specs.Io.KnownBytes.{Appends}
 use Rattle.mq_trace.specs.declared.refusal.Refusal.{Refusal}
 use Rattle.mq_trace.specs.Refusing.{spaced, refused_text}
 use Rattle.mq_trace.specs.Events.{events}
-use Rattle.mq_judge.specs.declared.rules.role.Role as roles
-use Rattle.mq_judge.specs.declared.rules.fault.Fault.{Fault}
-use Rattle.mq_judge.specs.declared.rules.faults.Mark.{Mark}
-use Rattle.mq_judge.specs.Seeing.{tested_by, seen_in}
-use Rattle.mq_judge.specs.Faults.{listed}
-use Rattle.mq_judge.specs.Rules.{code_of, citation_of}
+use Rattle.mq_rules.specs.declared.role.Role as roles
+use Rattle.mq_rules.specs.declared.fault.Fault.{Fault}
+use Rattle.mq_rules.specs.declared.faults.Mark.{Mark}
+use Rattle.mq_rules.specs.Notes.{tested_by, seen_in}
+use Rattle.mq_rules.specs.Faults.{listed}
+use Rattle.mq_judge.specs.Chosen.{is_judged}
+use Rattle.mq_rules.specs.Rules.{code_of, citation_of}
 
 -- a line: its text, and a line feed
 abbrev pub line : List ℕ → List ℕ
@@ -41,7 +42,7 @@ report_on role faults events = fault_lines role faults ++ line (verdict_text (le
 
 -- the report on a log
 unfoldable pub report : List ℕ → List ℕ
-report log = report_on (tested_by log).role (listed (tested_by log) (seen_in log)) (length (events log))
+report log = report_on (tested_by log).role (listed (is_judged (tested_by log)) (tested_by log) (seen_in log)) (length (events log))
 
 -- all that is written for a log that is refused
 abbrev pub refused_line : Refusal → List ℕ
@@ -54,3 +55,14 @@ pub record AppendsBeginning (old new : Option (List ℕ)) (text : List ℕ) : Ty
   pub whole : text ≡ written ++ unwritten
   pub some : 0 < length unwritten
   pub appended : Appends old new written
+
+-- Of the whole text, the known bytes have grown by all but the rest.
+pub record LeavesToWrite (old new : Option (List ℕ)) (whole rest : List ℕ) : Type 0 where
+  pub written : List ℕ
+  pub parts : whole ≡ written ++ rest
+  pub appended : Appends old new written
+
+-- A write failed before, and nothing was written now; or it failed now, and a beginning of the text was written, and not all of it.
+abbrev pub StopsWriting : Bool → Option (List ℕ) → Option (List ℕ) → List ℕ → Type 0
+StopsWriting true old new text = new ≡ old
+StopsWriting false old new text = AppendsBeginning old new text

@@ -1,45 +1,48 @@
 -- The lines that show a log's events, and what showing a whole log, from a reader to a writer, comes to.
-use Rattle.std.specs.Prelude.{ℕ, List, [], ◌∷◌, codes, decimal, Option, Result, Ok, Err, ⊤, ◌⊎◌}
-use Rattle.std.specs.Io.KnownBytes.{Consumes, IsAtEnd}
-use Rattle.mq_trace.specs.declared.event.Event.{Event}
-use Rattle.mq_trace.specs.declared.event.Event.TheVariants as heard
-use Rattle.mq_trace.specs.declared.place.Place3.{Place3}
-use Rattle.mq_trace.specs.Tracing.{Traced, Follows}
+use Rattle.std.specs.Prelude.{◌≡◌, ℕ, List, [], ◌∷◌, ◌++◌, codes, decimal, Option, None, Result, Ok, Err}
+use Rattle.std.specs.Io.KnownBytes.{Appends}
+use Rattle.mq_trace.specs.Events.{Event, Placed, opened, closed, rested, released, sent, received, events}
+use Rattle.mq_trace.specs.Refusals.{refused}
+use Rattle.mq_trace.specs.Refusing.{spaced}
 use Rattle.mq_judge.specs.declared.report.RunFault.{RunFault}
 use Rattle.mq_judge.specs.declared.report.RunFault.TheVariants as run_faults
 use Rattle.mq_judge.specs.ItemText.{item_text}
-use Rattle.mq_judge.specs.Report.{line}
-use Rattle.mq_trace.specs.Refusing.{spaced}
-use Rattle.mq_trace.specs.declared.refusal.Refusal.{Refusal}
-use Rattle.mq_judge.specs.Running.{IsJudged, RefusesLog, StoppedAt}
+use Rattle.mq_judge.specs.Report.{line, AppendsBeginning}
+use Rattle.mq_judge.specs.Running.{default_limit, IsJudged}
+use Rattle.mq_judge.specs.Stopping.{IsRefusedAt}
 
 -- the text of an event
 abbrev pub event_text : Event → List ℕ
-event_text heard.Open = codes "OPEN"
-event_text heard.Close = codes "CLOSE"
-event_text heard.Rest = codes "REST"
-event_text (heard.Release identifier) = spaced (codes "RELEASE" ∷ decimal identifier ∷ [])
-event_text (heard.Sent item) = spaced (codes "SENT" ∷ item_text item ∷ [])
-event_text (heard.Recv item) = spaced (codes "RECV" ∷ item_text item ∷ [])
+event_text opened = codes "OPEN"
+event_text closed = codes "CLOSE"
+event_text rested = codes "REST"
+event_text (released identifier) = spaced (codes "RELEASE" ∷ decimal identifier ∷ [])
+event_text (sent item) = spaced (codes "SENT" ∷ item_text item ∷ [])
+event_text (received item) = spaced (codes "RECV" ∷ item_text item ∷ [])
 
 -- the line of an event at its place: its position, its record, and its text
-abbrev pub event_line : Place3 → Event → List ℕ
-event_line place event = line (spaced (decimal place.position ∷ codes "record" ∷ decimal place.record_no ∷ event_text event ∷ []))
+abbrev pub event_line : Placed → List ℕ
+event_line placed =
+    line (spaced (decimal placed.place.position ∷ codes "record" ∷ decimal placed.place.record_no ∷ event_text placed.event ∷ []))
 
--- What showing this log answered: it can be judged; or it is refused, or couldn't be read; or writing failed.
-abbrev pub ShowsLog : List ℕ → Result (Unit {0}) RunFault → Type 0
-ShowsLog log (Ok _) = IsJudged log
-ShowsLog log (Err (run_faults.Refused refusal)) = RefusesLog log refusal
-ShowsLog log (Err run_faults.Write) = ⊤
-ShowsLog log (Err run_faults.Memory) = ⊥
+-- the lines of events: these are given the newest first, and their lines stand the oldest first
+abbrev pub lines_of : List Placed → List ℕ
+lines_of [] = []
+lines_of (newest ∷ earlier) = lines_of earlier ++ event_line newest
 
--- A tracer has taken in all that a reader had left, and refused none of it.
-pub record TracedAll (old new : Option (List ℕ)) (tracer : Traced) : Type 0 where
-  pub log : List ℕ
-  pub consumed : Consumes old new log
-  pub ended : IsAtEnd new
-  pub followed : Follows tracer log
+-- A beginning of the lines of the events of these first bytes of a log was written, and not all of it. Nothing is refused in them.
+pub record WritesBeginning (log : List ℕ) (old new : Option (List ℕ)) : Type 0 where
+  pub taken : List ℕ
+  pub later : List ℕ
+  pub is : log ≡ taken ++ later
+  pub unrefused : refused default_limit taken ≡ None
+  pub written : AppendsBeginning old new (lines_of (events taken))
 
--- A tracer with this limit has taken in some of what a reader had left, and then there was this refusal; or the sink refused an event.
-pub record TraceStops {S : Type 0} (refuses : S → Refusal → Type 0) (old new : Option (List ℕ)) (limit : ℕ) (sink : S) (refusal : Refusal) : Type 0 where
-  pub why : StoppedAt old new limit refusal ⊎ ((own : Refusal) × refuses sink own)
+-- What showing this log did, by what it answered and what the reader has left. It wrote the lines of the log's events and nothing else; where the log is
+-- refused, those of the events that are complete before the refused byte; where writing failed, a beginning of them.
+abbrev pub ShowsLog : List ℕ → Option (List ℕ) → Result (Unit {0}) RunFault → Option (List ℕ) → Option (List ℕ) → Type 0
+ShowsLog log left (Ok _) old new = IsJudged log × Appends old new (lines_of (events log))
+ShowsLog log left (Err (run_faults.Refused refusal)) old new =
+    (stops : IsRefusedAt default_limit log left refusal) × Appends old new (lines_of (events stops.taken))
+ShowsLog log left (Err run_faults.Write) old new = WritesBeginning log old new
+ShowsLog log left (Err run_faults.Memory) old new = ⊥

@@ -1,12 +1,13 @@
 //! The judge: it is fed a log, in any pieces, and answers the verdict on it.
-ghost use Rattle.std.specs.Prelude.{◌≡◌, ℕ, ◌≤◌, List, [], ◌++◌, nat_lt, length, Some, None, Err, IfErr, IfSome, OnOk, reverse, if◌then◌else◌};
-ghost use Rattle.mq_judge.specs.Judging.{Keeps, Follows, Takes, Finishes};
-ghost use Rattle.mq_judge.specs.Seeing.{tested_by};
+ghost use Rattle.std.specs.Prelude.{◌≡◌, ℕ, ◌-◌, ◌≤◌, min, List, [], nat_lt, length, Some, None, Err, IfErr, IfSome, reverse, if◌then◌else◌};
+ghost use Rattle.mq_judge.specs.Judging.{Knows, Follows, Takes, TakesEvents, Finishes, judge_of, tested_in};
+ghost use Rattle.mq_rules.specs.Notes.{tested_by, seen_in};
+ghost use Rattle.mq_trace.specs.Tracing.{Follows as IsTracedTo};
 
+use super::evaluating::judge_all;
+use super::feeding::Feed;
 use super::noting::Notes;
-use super::rules::faults::Faults;
-use super::rules::plain::judge_all;
-use super::rules::role::{Role, Tested};
+use mq_rules::{Faults, Role, Tested};
 use mq_trace::{Refusal, Tracer};
 use std::alloc::Global;
 use std::marker::Model;
@@ -38,15 +39,15 @@ pub struct Verdict {
 }
 
 /// How many bytes a log's header has.
-const HEADER_LENGTH: usize = 8;
+const HEADER_LENGTH: u64 = 8;
 
 /// Judges one log.
 #[derive(Drop)]
 pub struct Judge {
     alloc: Global,
     limit: u32,
-    // How many bytes of the log's header haven't come yet.
-    header_left: usize,
+    // The end that is judged, once the log's header is whole.
+    tested: Option<Tested>,
     tracer: Tracer,
     notes: Notes,
 }
@@ -57,7 +58,7 @@ impl Model for Judge {
 
     ghost Value = { Judged };
 
-    ghost view = { λ j. record { limit = j.limit; tracer = j.tracer; seen = reverse j.notes.seen.items } };
+    ghost view = { λ j. record { limit = j.limit; tested = j.tested; tracer = j.tracer; seen = reverse j.notes.seen.items } };
 }
 
 impl Judge {
@@ -69,43 +70,41 @@ impl Judge {
         Judge {
             alloc,
             limit: options.limit,
-            header_left: HEADER_LENGTH,
+            tested: None,
             tracer: Tracer::new(alloc, options.limit),
             notes: Notes::new(alloc),
         }
     }
 
-    /// Which end is judged, once the log's header is whole.
+    /// Which end is judged, once the log's header is whole. After a refusal it is the answer on the bytes before the refused one.
     pub fn role(&self) -> Option<Role>
-        ensures { (log : List ℕ) → Follows self.now log → result ≡ (if nat_lt (length log) 8 then None else Some (tested_by log).role) }
+        ensures { (taken : List ℕ) → Knows self.now taken → result ≡ (if nat_lt (length taken) 8 then None else Some (tested_by taken).role) }
     {
-        let header = self.tracer.header()?;
-        Some(Tested::of(header).role)
+        let tested = self.tested?;
+        Some(tested.role)
     }
 
     /// Takes in the next piece of the log. It doesn't matter how the log is cut into pieces.
     ///
     /// # Errors
     ///
-    /// The refusal whose condition stands at the earliest byte; or `Memory`, at the byte that was being taken in. From then on each call answers
-    /// the same refusal.
+    /// The refusal whose condition applies at the earliest byte; or `Memory`, at the byte that was being taken in, where nothing is refused before it.
+    /// From then on each call answers the same refusal.
     pub fn feed(&mut self, piece: &[u8]) -> Result<(), Refusal>
-        ensures answers { (log : List ℕ) → Follows self.old log → Takes self.old.limit log piece.now result }
-        ensures follows { (log : List ℕ) → Follows self.old log → OnOk result (Follows self.new (log ++ piece.now)) }
+        ensures answers { (log : List ℕ) → Follows self.old log → Takes log piece.now self.new result }
         ensures limit { self.new.limit ≡ self.old.limit }
         ensures refuses { IfErr result (λ refusal. self.new.tracer.refusal ≡ Some refusal) }
         ensures for_ever { IfSome self.old.tracer.refusal (λ refusal. (result ≡ Err refusal) × (self.new ≡ self.old)) }
     {
-        let count = self.header_left.min(piece.len());
-        self.header_left -= count;
-        take_in(&mut self.tracer, &mut self.notes, piece, count)
+        take_in(&mut self.tested, &mut self.tracer, &mut self.notes, piece)
     }
 
     /// Ends the log, and answers the verdict on it.
     ///
     /// # Errors
     ///
-    /// The refusal that an earlier call answered; `Cut`, at the log's length, where it ends inside its header or a record; `Memory`, at the log's length.
+    /// The refusal that an earlier call answered; `Cut`, at the log's length, where it ends inside its header or a record; `Memory`, at the log's length,
+    /// where it doesn't.
     pub fn finish(self) -> Result<Verdict, Refusal>
         ensures verdict { (log : List ℕ) → Follows self log → Finishes (λ v. v.events) (λ v. v.faults) log result }
         ensures for_ever { IfSome self.tracer.refusal (λ refusal. result ≡ Err refusal) }
@@ -113,12 +112,11 @@ impl Judge {
         let mut tracer = self.tracer;
         tracer.finish()?;
         let at = tracer.taken();
-        let Some(header) = tracer.header() else {
+        let Some(tested) = self.tested else {
             return Err(Refusal::Cut(at));
         };
-        let tested = Tested::of(header);
         let mut faults = Faults::new(self.alloc);
-        let judged = judge_all(tested, self.notes.seen.as_slice(), &mut faults);
+        let judged = judge_all(self.alloc, tested, self.notes.seen.as_slice(), &mut faults);
         judged.map_err(|_| Refusal::Memory(at))?;
         Ok(Verdict {
             events: self.notes.count(),
@@ -127,30 +125,63 @@ impl Judge {
     }
 }
 
-/// Takes in a piece of a log, and notes the events that it completes: the first so many bytes, those of the log's header, apart from the others.
+impl Feed<()> for Judge {
+    ghost use Rattle.mq_judge.specs.Judging.{Follows, Refuses};
+
+    ghost limit = { λ judge. judge.limit };
+
+    ghost follows = { λ judge _. Follows judge };
+
+    ghost stops = { λ limit judge _. Refuses limit judge };
+
+    fn feed(&mut self, _sink: &mut (), piece: &[u8]) -> Result<(), Refusal> {
+        Judge::feed(self, piece)
+    }
+}
+
+/// Takes in a piece of a log: first what belongs to the header, which names the end that is judged, and then the rest.
 fn take_in(
+    tested: &mut Option<Tested>,
     tracer: &mut Tracer,
     notes: &mut Notes,
     piece: &[u8],
-    header_count: usize,
 ) -> Result<(), Refusal>
-    requires { header_count ≤ length piece.now }
-    ensures answers { (limit : ℕ) (log : List ℕ) → Keeps limit tracer.old (reverse notes.old.seen.items) log → Takes limit log piece.now result }
-    ensures keeps { (limit : ℕ) (log : List ℕ) → Keeps limit tracer.old (reverse notes.old.seen.items) log
-        → OnOk result (Keeps limit tracer.new (reverse notes.new.seen.items) (log ++ piece.now)) }
+    ensures answers { (limit : ℕ) (log : List ℕ) → Follows (judge_of limit tested.old tracer.old (reverse notes.old.seen.items)) log
+        → Takes log piece.now (judge_of limit tested.new tracer.new (reverse notes.new.seen.items)) result }
     ensures refuses { IfErr result (λ refusal. tracer.new.refusal ≡ Some refusal) }
-    ensures for_ever { IfSome tracer.old.refusal (λ refusal. (result ≡ Err refusal) × (tracer.new ≡ tracer.old) × (notes.new ≡ notes.old)) }
+    ensures for_ever { IfSome tracer.old.refusal (λ refusal. (result ≡ Err refusal) × (tested.new ≡ tested.old) × (tracer.new ≡ tracer.old) × (notes.new ≡ notes.old)) }
 {
-    let (header, rest) = piece.split_at(header_count);
-    feed_notes(tracer, notes, header)?;
-    feed_notes(tracer, notes, rest)
+    let (header, rest) = piece.split_at(header_count(tracer, piece.len()));
+    match feed_notes(tracer, notes, header) {
+        Ok(()) => {
+            *tested = tested_end(tracer);
+            feed_notes(tracer, notes, rest)
+        }
+        Err(refusal) => Err(refusal),
+    }
+}
+
+/// How many of so many further bytes of a log belong to its header.
+fn header_count(tracer: &Tracer, count: usize) -> usize
+    ensures within { result ≤ count }
+    ensures count { (log : List ℕ) → IsTracedTo tracer.now log → result ≡ min (8 - length log) count }
+{
+    let left = HEADER_LENGTH.saturating_sub(tracer.taken());
+    (left as usize).min(count)
+}
+
+/// The end that the header names of what was traced, once it is whole.
+fn tested_end(tracer: &Tracer) -> Option<Tested>
+    ensures { (log : List ℕ) → IsTracedTo tracer.now log → result ≡ tested_in log }
+{
+    let header = tracer.header()?;
+    Some(Tested::of(header))
 }
 
 /// Takes in a piece of a log, and notes the events that it completes.
 fn feed_notes(tracer: &mut Tracer, notes: &mut Notes, piece: &[u8]) -> Result<(), Refusal>
-    ensures answers { (limit : ℕ) (log : List ℕ) → Keeps limit tracer.old (reverse notes.old.seen.items) log → Takes limit log piece.now result }
-    ensures keeps { (limit : ℕ) (log : List ℕ) → Keeps limit tracer.old (reverse notes.old.seen.items) log
-        → OnOk result (Keeps limit tracer.new (reverse notes.new.seen.items) (log ++ piece.now)) }
+    ensures answers { (log : List ℕ) → IsTracedTo tracer.old log → reverse notes.old.seen.items ≡ seen_in log
+        → TakesEvents tracer.old.reading.limit log piece.now tracer.new (reverse notes.new.seen.items) result }
     ensures refuses { IfErr result (λ refusal. tracer.new.refusal ≡ Some refusal) }
     ensures for_ever { IfSome tracer.old.refusal (λ refusal. (result ≡ Err refusal) × (tracer.new ≡ tracer.old) × (notes.new ≡ notes.old)) }
 {

@@ -1,5 +1,5 @@
 //! Lines of text that wait to be written together.
-ghost use Rattle.std.specs.Prelude.{◌≡◌, ◌+◌, ◌<◌, nat_le, [], ◌++◌, IfErr, OnOk, length, decimal};
+ghost use Rattle.std.specs.Prelude.{◌≡◌, ◌+◌, ◌<◌, ◌≤◌, nat_le, [], ◌++◌, IfErr, OnOk, length, decimal};
 
 use std::fmt;
 use std::marker::Model;
@@ -86,6 +86,7 @@ impl Lines {
     pub fn put_number(&mut self, number: u32) -> fmt::Result
         ensures puts { OnOk result (self.new ≡ self.old ++ decimal number) }
         ensures full { IfErr result (λ _. (self.new ≡ self.old) × (8192 < length self.old + length (decimal number))) }
+        ensures short { length (decimal number) ≤ 10 }
     {
         let count = digit_count(number);
         if count > ROOM - self.len {
@@ -108,7 +109,8 @@ impl fmt::Write for Lines {
 
 // How many decimal digits a number has.
 fn digit_count(number: u32) -> usize
-    ensures { result ≡ length (decimal number) }
+    ensures count { result ≡ length (decimal number) }
+    ensures short { result ≤ 10 }
 {
     match number {
         0..10 => 1,

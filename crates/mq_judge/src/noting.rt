@@ -1,14 +1,17 @@
 //! What is noted of the events of a log.
-ghost use Rattle.std.specs.Prelude.{◌≡◌, [], length, reverse};
-ghost use Rattle.mq_judge.specs.Moments.{IsPlaced};
+ghost use Rattle.std.specs.Prelude.{◌≡◌, ◌≤◌, ◌⊎◌, [], ◌∷◌, length, reverse, true, vec_len, vec_capacity, OnOk, OnErr};
+ghost use Rattle.mq_trace.specs.Hearing.{event_of, placed_at};
+ghost use Rattle.mq_rules.specs.Notes.{note_keeps_text, note_of, seen};
+ghost use Rattle.mq_rules.specs.Moments.{IsPlaced};
 
-use super::rules::note::{Note, Seen};
+use mq_rules::{Memory, Note, Seen};
 use mq_trace::{Event, Place3, Refusal, Sink};
 use std::alloc::Global;
 
 /// The events that were heard, the oldest first.
 #[derive(Drop)]
 pub struct Notes {
+    alloc: Global,
     /// What the statements look at of each.
     pub seen: Vec<Seen>,
 }
@@ -19,8 +22,25 @@ impl Notes {
         ensures { reverse result.seen.items ≡ [] }
     {
         Notes {
+            alloc,
             seen: Vec::new(alloc),
         }
+    }
+
+    /// Notes the next event, which stands at this place.
+    ///
+    /// # Errors
+    ///
+    /// `Memory` where there is no room for one more note, or none for a text that the note keeps. The notes are then unchanged.
+    fn note(&mut self, place: Place3, event: &Event<'_>) -> Result<(), Memory>
+        ensures noted { OnOk result (reverse self.new.seen.items ≡ seen (placed_at place event.now) ∷ reverse self.old.seen.items) }
+        ensures needed { OnErr result ((vec_capacity self.old.seen ≤ vec_len self.old.seen) ⊎ (note_keeps_text (note_of (event_of event.now)) ≡ true)) }
+        ensures unchanged { OnErr result (self.new.seen.items ≡ self.old.seen.items) }
+    {
+        self.seen.reserve(1)?;
+        let note = Note::of(self.alloc, event)?;
+        self.seen.push(Seen { place, note }).unwrap();
+        Ok(())
     }
 
     /// How many events were heard: the newest one's position.
@@ -36,18 +56,18 @@ impl Notes {
 
 impl Sink for Notes {
     ghost use Rattle.std.specs.Prelude.{◌≡◌, map, reverse};
-    ghost use Rattle.mq_judge.specs.Seeing.{seen};
+    ghost use Rattle.mq_rules.specs.Notes.{seen};
     ghost use Rattle.mq_trace.specs.declared.refusal.Refusal.TheVariants.{Memory};
 
-    ghost agrees = { λ notes heard. reverse notes.seen.items ≡ map seen heard };
+    ghost agrees = { λ notes received. reverse notes.seen.items ≡ map seen received };
 
-    ghost refuses = { λ notes refusal. refusal ≡ Memory 0 };
+    // Memory was refused, and the notes are those of the events before.
+    ghost refuses = { λ notes received refusal. (refusal ≡ Memory 0) × (reverse notes.seen.items ≡ map seen received) };
 
     fn event(&mut self, place: Place3, event: Event<'_>) -> Result<(), Refusal> {
-        let note = Note::of(&event);
-        self.seen
-            .push(Seen { place, note })
-            .map_err(|_| Refusal::Memory(0))?;
-        Ok(())
+        match self.note(place, &event) {
+            Ok(()) => Ok(()),
+            Err(Memory) => Err(Refusal::Memory(0)),
+        }
     }
 }

@@ -11,7 +11,7 @@ use super::lines::Lines;
 use super::report::RunFault;
 use super::report::item::{LOST, put_broken, put_packet};
 use super::report::line::write_bytes;
-use super::rules::packet_note::PacketNote;
+use super::report::summary::PacketSummary;
 use mq_packet::{Cut, DecodeFault, PacketRule, cut, decode};
 use std::fmt;
 use std::fmt::Write as _;
@@ -25,7 +25,7 @@ enum Finding {
     /// This many bytes follow a whole frame.
     LeftOver(usize),
     /// One frame that is a packet of this size.
-    Packet(PacketNote, u32),
+    Packet(PacketSummary, u32),
     /// One frame that breaks this rule, in the field that begins there.
     Broken(PacketRule, u32),
     /// The beginning of no frame.
@@ -64,7 +64,7 @@ impl Finding {
         ensures spells { (finds_packet result ≡ true) ↔ ((packet : Entry) × IsSpelled first body.now packet) }
     {
         match decode(first, body) {
-            Ok(packet) => Finding::Packet(PacketNote::of(&packet), size),
+            Ok(packet) => Finding::Packet(PacketSummary::of(&packet), size),
             Err(DecodeFault::Broken(fault)) => Finding::Broken(fault.rule, fault.at),
             Err(DecodeFault::OtherVersion(version)) => Finding::OtherVersion(version),
         }

@@ -6,12 +6,11 @@ ghost use Rattle.mq_judge.specs.Report.{offset_text, fault_text, verdict_text, r
 
 pub mod item;
 pub mod line;
+pub mod summary;
 
 use self::line::write_line;
 use super::judge::Verdict;
-use super::rules::fault::Fault;
-use super::rules::faults::Mark;
-use super::rules::role::Role;
+use mq_rules::{Fault, Mark, Role};
 use mq_trace::Refusal;
 use std::fmt;
 use std::io::Write;
@@ -164,9 +163,8 @@ pub fn write_refused<W: Write>(
 
 #[cfg(test)]
 mod tests {
-    use super::super::rules::faults::Faults;
-    use super::super::rules::rule::Rule;
     use super::*;
+    use mq_rules::{Faults, Rule};
     use std::io;
     use std::io::ErrorKind;
     use std::process::Abort;

@@ -1,71 +1,54 @@
 //! Judges a log from a reader, and writes the report on it.
-ghost use Rattle.std.specs.Prelude.{◌≡◌, ◌==◌, [], IfSome, IfErr, OnOk, Err, if◌then◌else◌};
+ghost use Rattle.std.specs.Prelude.{◌≡◌, ◌==◌, IfSome, IfErr, OnOk, Err, if◌then◌else◌};
 ghost use Rattle.std.specs.FinMap as map;
 ghost use Rattle.std.specs.Io.KnownBytes.{Appends};
 ghost use Rattle.mq_judge.specs.declared.report.RunFault.TheVariants as run_faults;
 ghost use Rattle.mq_trace.specs.declared.refusal.Refusal.{Refusal as AnyRefusal};
-ghost use Rattle.mq_judge.specs.Judging.{Follows};
 ghost use Rattle.mq_judge.specs.Report.{report_on, AppendsBeginning};
-ghost use Rattle.mq_judge.specs.Running.{RunsOver, TookAll, StoppedAt};
+ghost use Rattle.mq_judge.specs.Running.{RunsOver};
 
+use super::feeding::feed_all;
 use super::judge::{Judge, Options, Verdict};
 use super::report::{Form, Outcome, RunFault, write_text};
-use super::rules::role::Role;
-use mq_trace::Refusal;
+use mq_rules::Role;
 use std::alloc::Global;
-use std::io::{ErrorKind, Read, Write};
+use std::io::{Read, Write};
 
-/// Judges the log that a reader gives, and writes the report on it.
+/// Judges the log that a reader gives, and writes the report on it. It reads at most 8,192 bytes a turn, and for 4,294,967,295 turns at most.
 ///
 /// # Errors
 ///
-/// `Refused` where the log is refused, where the reader fails, where it hasn't ended after 4,294,967,295 turns, or where the judge is refused memory. Nothing was written then.
-/// `Write` where a write failed. A beginning of the report was written then, and not all of it.
+/// `Refused` where the log is refused, where the reader fails, where it hasn't ended when its turns run out, or where the judge is refused memory.
+/// Nothing was written then. `Write` where a write failed. A beginning of the report was written then, and not all of it.
 pub fn run<R: Read, W: Write>(
     alloc: Global,
     reader: &mut R,
     writer: &mut W,
     form: Form,
 ) -> Result<Outcome, RunFault>
-    ensures runs { IfSome (R.remaining reader.old) (λ log. RunsOver log result (W.contents writer.old) (W.contents writer.new)) }
+    ensures runs { IfSome (R.remaining reader.old) (λ log. RunsOver log (R.remaining reader.new) result (W.contents writer.old) (W.contents writer.new)) }
+    ensures unwritten { (refusal : AnyRefusal) → result ≡ Err (run_faults.Refused refusal) → writer.new ≡ writer.old }
+{
+    run_bounded(alloc, reader, writer, form, u32::MAX)
+}
+
+/// The same for at most so many turns.
+pub fn run_bounded<R: Read, W: Write>(
+    alloc: Global,
+    reader: &mut R,
+    writer: &mut W,
+    form: Form,
+    turns: u32,
+) -> Result<Outcome, RunFault>
+    ensures runs { IfSome (R.remaining reader.old) (λ log. RunsOver log (R.remaining reader.new) result (W.contents writer.old) (W.contents writer.new)) }
     ensures unwritten { (refusal : AnyRefusal) → result ≡ Err (run_faults.Refused refusal) → writer.new ≡ writer.old }
 {
     let mut judge = Judge::new(alloc, Options::default());
-    feed_all(&mut judge, reader)?;
+    feed_all(&mut judge, &mut (), reader, turns)?;
     let role = judge.role();
     let verdict = judge.finish()?;
     write_report(&verdict, role.unwrap(), form, writer)?;
     Ok(outcome(&verdict))
-}
-
-/// Feeds a judge all that a reader gives, at most 8,192 bytes a turn. An interrupted read is tried again, in a turn of its own.
-///
-/// # Errors
-///
-/// The judge's refusal; `Read`, at how many bytes were fed, where the reader fails or hasn't ended after 4,294,967,295 turns.
-fn feed_all<R: Read>(judge: &mut Judge, reader: &mut R) -> Result<(), Refusal>
-    requires { Follows judge.old [] }
-    ensures all { OnOk result (TookAll (R.remaining reader.old) (R.remaining reader.new) judge.new) }
-    ensures limit { judge.new.limit ≡ judge.old.limit }
-    ensures stopped { IfErr result (StoppedAt (R.remaining reader.old) (R.remaining reader.new) judge.old.limit) }
-{
-    let mut buffer = [0; 8192];
-    let mut fed = 0;
-    for _turn in 0..u32::MAX {
-        match reader.read(&mut buffer) {
-            Ok(0) => return Ok(()),
-            Ok(count) => {
-                judge.feed(&buffer[..count])?;
-                fed += count as u64;
-            }
-            Err(error) => {
-                if error.kind() != ErrorKind::Interrupted {
-                    return Err(Refusal::Read(fed));
-                }
-            }
-        }
-    }
-    Err(Refusal::Read(fed))
 }
 
 /// Writes the report on a verdict in this form.
@@ -103,7 +86,9 @@ fn outcome(verdict: &Verdict) -> Outcome
 #[cfg(test)]
 mod tests {
     use super::*;
+    use mq_trace::Refusal;
     use std::io;
+    use std::io::ErrorKind;
     use std::process::Abort;
 
     const HEADER: &[u8] = b"MQTR\x01\x00\x01\x00";

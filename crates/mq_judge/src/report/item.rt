@@ -1,11 +1,12 @@
 //! The text of what is sent or received.
-ghost use Rattle.std.specs.Prelude.{◌≡◌, ◌<◌, ◌+◌, ◌++◌, Some, IfErr, OnOk, length};
-ghost use Rattle.mq_judge.specs.ItemText.{type_name, identifier_of, delivery_of, qos_number, flag_number, delivery_words, identifier_words, behind_spaces, packet_text, broken_text, item_text};
+ghost use Rattle.std.specs.Prelude.{◌≡◌, ◌<◌, ◌≤◌, ◌+◌, ◌++◌, Some, IfErr, OnOk, length};
+ghost use Rattle.mq_trace.specs.Hearing.{item_of};
+ghost use Rattle.mq_judge.specs.ItemText.{type_name, identifier_of, delivery_of, qos_number, flag_number, delivery_words, identifier_words, behind_spaces, packet_rule_code, packet_text, broken_text, item_text};
 
 use super::super::lines::Lines;
-use super::super::rules::packet_note::PacketNote;
-use super::super::rules::rule::Rule;
+use super::summary::PacketSummary;
 use mq_packet::{PacketRule, Qos};
+use mq_rules::Rule;
 use mq_trace::Item;
 use std::fmt;
 
@@ -19,12 +20,13 @@ pub const LOST: &str = "LOST";
 /// Where they have no room for it. A beginning of it stands there then.
 #[inline(always)]
 pub fn put_item(lines: &mut Lines, item: &Item<'_>) -> fmt::Result
-    ensures puts { OnOk result (lines.new ≡ lines.old ++ item_text item.now) }
-    ensures full { IfErr result (λ _. 8192 < length lines.old + length (item_text item.now)) }
+    ensures puts { OnOk result (lines.new ≡ lines.old ++ item_text (item_of item.now)) }
+    ensures short { OnOk result (length (item_text (item_of item.now)) ≤ 71) }
+    ensures full { IfErr result (λ _. 8192 < length lines.old + 71) }
 {
     match item {
         Item::Packet(packet) => {
-            put_packet(lines, PacketNote::of(packet), packet.size().unwrap_or(0))
+            put_packet(lines, PacketSummary::of(packet), packet.size().unwrap_or(0))
         }
         Item::Bad { rule, at, .. } => put_broken(lines, *rule, *at),
         Item::Lost => lines.put(LOST),
@@ -37,9 +39,10 @@ pub fn put_item(lines: &mut Lines, item: &Item<'_>) -> fmt::Result
 ///
 /// Where they have no room for it. A beginning of it stands there then.
 #[inline(always)]
-pub fn put_packet(lines: &mut Lines, packet: PacketNote, size: u32) -> fmt::Result
+pub fn put_packet(lines: &mut Lines, packet: PacketSummary, size: u32) -> fmt::Result
     ensures puts { OnOk result (lines.new ≡ lines.old ++ packet_text packet size) }
-    ensures full { IfErr result (λ _. 8192 < length lines.old + length (packet_text packet size)) }
+    ensures short { OnOk result (length (packet_text packet size) ≤ 71) }
+    ensures full { IfErr result (λ _. 8192 < length lines.old + 71) }
 {
     lines.put(type_name(packet))?;
     lines.put(" size ")?;
@@ -55,18 +58,27 @@ pub fn put_packet(lines: &mut Lines, packet: PacketNote, size: u32) -> fmt::Resu
 /// Where they have no room for it. A beginning of it stands there then.
 pub fn put_broken(lines: &mut Lines, rule: PacketRule, at: u32) -> fmt::Result
     ensures puts { OnOk result (lines.new ≡ lines.old ++ broken_text rule at) }
-    ensures full { IfErr result (λ _. 8192 < length lines.old + length (broken_text rule at)) }
+    ensures short { OnOk result (length (broken_text rule at) ≤ 71) }
+    ensures full { IfErr result (λ _. 8192 < length lines.old + 71) }
 {
     lines.put("BAD ")?;
-    lines.put(Rule::of(rule).code())?;
+    lines.put(rule_code(rule))?;
     lines.put(" offset ")?;
     lines.put_number(at)
+}
+
+// The code of a rule on a packet's bytes.
+fn rule_code(rule: PacketRule) -> &'static str
+    ensures { result.now ≡ packet_rule_code rule }
+{
+    Rule::of(rule).code()
 }
 
 // Puts the words on a PUBLISH's delivery, if it is one, each behind a space.
 fn put_delivery(lines: &mut Lines, delivery: Option<(u8, u8)>) -> fmt::Result
     ensures puts { OnOk result (lines.new ≡ lines.old ++ behind_spaces (delivery_words delivery)) }
-    ensures full { IfErr result (λ _. 8192 < length lines.old + length (behind_spaces (delivery_words delivery))) }
+    ensures short { OnOk result (length (behind_spaces (delivery_words delivery)) ≤ 30) }
+    ensures full { IfErr result (λ _. 8192 < length lines.old + 30) }
 {
     match delivery {
         Some((qos, duplicate)) => {
@@ -82,7 +94,8 @@ fn put_delivery(lines: &mut Lines, delivery: Option<(u8, u8)>) -> fmt::Result
 // Puts the words on a Packet Identifier, if there is one, each behind a space.
 fn put_identifier(lines: &mut Lines, identifier: Option<u16>) -> fmt::Result
     ensures puts { OnOk result (lines.new ≡ lines.old ++ behind_spaces (identifier_words identifier)) }
-    ensures full { IfErr result (λ _. 8192 < length lines.old + length (behind_spaces (identifier_words identifier))) }
+    ensures short { OnOk result (length (behind_spaces (identifier_words identifier)) ≤ 14) }
+    ensures full { IfErr result (λ _. 8192 < length lines.old + 14) }
 {
     match identifier {
         Some(identifier) => {
@@ -94,57 +107,58 @@ fn put_identifier(lines: &mut Lines, identifier: Option<u16>) -> fmt::Result
 }
 
 // The name of the packet's type (MQTT 5.0, section 2.1.2).
-fn type_name(packet: PacketNote) -> &'static str
-    ensures { result.now ≡ type_name packet }
+fn type_name(packet: PacketSummary) -> &'static str
+    ensures name { result.now ≡ type_name packet }
+    ensures short { length result.now ≤ 11 }
 {
     match packet {
-        PacketNote::Connect => "CONNECT",
-        PacketNote::Connack { .. } => "CONNACK",
-        PacketNote::Publish { .. } => "PUBLISH",
-        PacketNote::Puback { .. } => "PUBACK",
-        PacketNote::Pubrec { .. } => "PUBREC",
-        PacketNote::Pubrel { .. } => "PUBREL",
-        PacketNote::Pubcomp { .. } => "PUBCOMP",
-        PacketNote::Subscribe(_) => "SUBSCRIBE",
-        PacketNote::Suback(_) => "SUBACK",
-        PacketNote::Unsubscribe(_) => "UNSUBSCRIBE",
-        PacketNote::Unsuback(_) => "UNSUBACK",
-        PacketNote::Pingreq => "PINGREQ",
-        PacketNote::Pingresp => "PINGRESP",
-        PacketNote::Disconnect(_) => "DISCONNECT",
-        PacketNote::Auth(_) => "AUTH",
+        PacketSummary::Connect => "CONNECT",
+        PacketSummary::Connack { .. } => "CONNACK",
+        PacketSummary::Publish { .. } => "PUBLISH",
+        PacketSummary::Puback { .. } => "PUBACK",
+        PacketSummary::Pubrec { .. } => "PUBREC",
+        PacketSummary::Pubrel { .. } => "PUBREL",
+        PacketSummary::Pubcomp { .. } => "PUBCOMP",
+        PacketSummary::Subscribe(_) => "SUBSCRIBE",
+        PacketSummary::Suback(_) => "SUBACK",
+        PacketSummary::Unsubscribe(_) => "UNSUBSCRIBE",
+        PacketSummary::Unsuback(_) => "UNSUBACK",
+        PacketSummary::Pingreq => "PINGREQ",
+        PacketSummary::Pingresp => "PINGRESP",
+        PacketSummary::Disconnect(_) => "DISCONNECT",
+        PacketSummary::Auth(_) => "AUTH",
     }
 }
 
 // The Packet Identifier, where the packet has one (MQTT 5.0, section 2.2.1).
-fn identifier_of(packet: PacketNote) -> Option<u16>
+fn identifier_of(packet: PacketSummary) -> Option<u16>
     ensures { result ≡ identifier_of packet }
 {
     match packet {
-        PacketNote::Publish { identifier, .. } => identifier,
-        PacketNote::Puback { identifier, .. }
-        | PacketNote::Pubrec { identifier, .. }
-        | PacketNote::Pubrel { identifier, .. }
-        | PacketNote::Pubcomp { identifier, .. }
-        | PacketNote::Subscribe(identifier)
-        | PacketNote::Suback(identifier)
-        | PacketNote::Unsubscribe(identifier)
-        | PacketNote::Unsuback(identifier) => Some(identifier),
-        PacketNote::Connect
-        | PacketNote::Connack { .. }
-        | PacketNote::Pingreq
-        | PacketNote::Pingresp
-        | PacketNote::Disconnect(_)
-        | PacketNote::Auth(_) => None,
+        PacketSummary::Publish { identifier, .. } => identifier,
+        PacketSummary::Puback { identifier, .. }
+        | PacketSummary::Pubrec { identifier, .. }
+        | PacketSummary::Pubrel { identifier, .. }
+        | PacketSummary::Pubcomp { identifier, .. }
+        | PacketSummary::Subscribe(identifier)
+        | PacketSummary::Suback(identifier)
+        | PacketSummary::Unsubscribe(identifier)
+        | PacketSummary::Unsuback(identifier) => Some(identifier),
+        PacketSummary::Connect
+        | PacketSummary::Connack { .. }
+        | PacketSummary::Pingreq
+        | PacketSummary::Pingresp
+        | PacketSummary::Disconnect(_)
+        | PacketSummary::Auth(_) => None,
     }
 }
 
 // The QoS of a PUBLISH and its DUP flag, as numbers (MQTT 5.0, section 3.3.1).
-fn delivery_of(packet: PacketNote) -> Option<(u8, u8)>
+fn delivery_of(packet: PacketSummary) -> Option<(u8, u8)>
     ensures { result ≡ delivery_of packet }
 {
     match packet {
-        PacketNote::Publish { qos, duplicate, .. } => {
+        PacketSummary::Publish { qos, duplicate, .. } => {
             Some((qos_number(qos), u8::from(duplicate)))
         }
         _ => None,

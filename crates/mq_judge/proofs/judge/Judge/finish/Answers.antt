@@ -1,38 +1,58 @@
-use Rattle.std.proofs.Common.{◌≡◌, ℕ, List, length, nat_lt, reverse, sym, ◌∙◌, ap, subst, inr, true, is_ok, OnOk}
+use Rattle.std.proofs.Common.{◌≡◌, ℕ, List, length, reverse, sym, ◌∙◌, ap, subst, inl, inr, true, is_ok, OnOk, rules}
 use Rattle.std.specs.FinMap.{get-empty}
+use Rattle.std.proofs.lemmas.Result.{err_from_is_err_and}
 use Rattle.mq_trace.specs.declared.refusal.Refusal.TheVariants as refusals
-use Rattle.mq_trace.specs.Framing.{header_by}
 use Rattle.mq_trace.specs.Tracing.{Traced, Follows as IsTracedTo}
-use Rattle.mq_judge.specs.declared.rules.rule.Rule.{Rule}
-use Rattle.mq_judge.specs.declared.rules.note.Seen.{Seen}
-use Rattle.mq_judge.specs.Moments.{or_else, IsPlaced}
-use Rattle.mq_judge.specs.Connections.{IsInOrder}
-use Rattle.mq_judge.specs.Faults.{fault_in}
-use Rattle.mq_judge.specs.Marks.{fault_at, mark_cmp}
-use Rattle.mq_judge.specs.Seeing.{tested_as}
-use Rattle.mq_judge.specs.Judging.{Judged, Keeps}
+use Rattle.mq_rules.specs.declared.rule.Rule.{Rule}
+use Rattle.mq_rules.specs.declared.note.Seen.{Seen}
+use Rattle.mq_rules.specs.Moments.{IsPlaced}
+use Rattle.mq_rules.specs.Connections.{IsInOrder}
+use Rattle.mq_rules.specs.Faults.{Grows}
+use Rattle.mq_judge.specs.Chosen.{is_judged}
+use Rattle.mq_rules.specs.Marks.{fault_at, mark_cmp}
+use Rattle.mq_judge.specs.Judging.{Judged, Follows, judge_of}
 use Rattle.mq_judge.proofs.JudgeLaws.{untold, told_as, counted, faults-of, where_ok}
 use Rattle.mq_judge.proofs.judge.Judge.finish.Goals as goal
 
+pub returns-in_err-finish-clause-verdict : goal.returns-in_err-finish-clause-verdict
+returns-in_err-finish-clause-verdict c = λ log h.
+    let k : Follows (judge_of c.self.inside.limit c.self.inside.tested c.self.inside.tracer (reverse c.self.inside.notes.seen.items)) log
+    = subst (λ (j : Judged). Follows j log) (sym c.self.view_is) h in
+    let p = err_from_is_err_and c.from_residual.result c.from_residual.ensures.1 in
+    let ends = c.in_err-finish.ensures.ends log k.traced in
+    rw (p.1, p.2) (inl (ends.1, ends.0))
+
 pub returns-in_default-clause-verdict : goal.returns-in_default-clause-verdict
 returns-in_default-clause-verdict c = λ log h.
-    let k : Keeps c.self.inside.limit c.self.inside.tracer (reverse c.self.inside.notes.seen.items) log = subst (λ (j : Judged). Keeps j.limit j.tracer j.seen log) (sym c.self.view_is) h.keeps in
+    let k : Follows (judge_of c.self.inside.limit c.self.inside.tested c.self.inside.tracer (reverse c.self.inside.notes.seen.items)) log
+    = subst (λ (j : Judged). Follows j log) (sym c.self.view_is) h in
     let traced : IsTracedTo c.finish.new.self log = subst (λ (t : Traced). IsTracedTo t log) (sym c.in_ok-finish.ensures.same) k.traced in
-    inr (ap refusals.Cut (c.taken-at.ensures log traced), untold log (c.in_default.ensures log traced))
+    inl (untold log (sym c.in_default.is ∙ k.knows.tested), ap refusals.Cut (c.taken-at.ensures log traced))
+
+pub returns-in_err-map_err-clause-verdict : goal.returns-in_err-map_err-clause-verdict
+returns-in_err-map_err-clause-verdict c = λ log h.
+    let k : Follows (judge_of c.self.inside.limit c.self.inside.tested c.self.inside.tracer (reverse c.self.inside.notes.seen.items)) log
+    = subst (λ (j : Judged). Follows j log) (sym c.self.view_is) h in
+    let traced : IsTracedTo c.finish.new.self log = subst (λ (t : Traced). IsTracedTo t log) (sym c.in_ok-finish.ensures.same) k.traced in
+    let at : c.taken-at.result ≡ length log = c.taken-at.ensures log traced in
+    let whole = c.in_ok-finish.ensures.ends log k.traced in
+    let p = err_from_is_err_and c.from_residual-in_err-map_err.result c.from_residual-in_err-map_err.ensures.1 in
+    let memory : c.in_err-map_err.field-0.0 ≡ refusals.Memory c.taken-at.result = search rules in
+    rw (p.1, p.2) (inr (whole, memory ∙ ap refusals.Memory at))
 
 pub returns-clause-verdict : goal.returns-clause-verdict
 returns-clause-verdict c = λ log h.
-    let k : Keeps c.self.inside.limit c.self.inside.tracer (reverse c.self.inside.notes.seen.items) log = subst (λ (j : Judged). Keeps j.limit j.tracer j.seen log) (sym c.self.view_is) h.keeps in
-    let traced : IsTracedTo c.finish.new.self log = subst (λ (t : Traced). IsTracedTo t log) (sym c.in_ok-finish.ensures.same) k.traced in
+    let k : Follows (judge_of c.self.inside.limit c.self.inside.tested c.self.inside.tracer (reverse c.self.inside.notes.seen.items)) log
+    = subst (λ (j : Judged). Follows j log) (sym c.self.view_is) h in
     let unrefused = k.traced.keeps.unrefused in
     let judged : is_ok c.judge_all-judged.result ≡ true = sym c.map_err.ensures.variant ∙ ap is_ok c.in_ok-map_err.was in
-    let whom = c.of-tested.ensures ∙ ap tested_as (told_as (nat_lt (length log) 8) (header_by log) c.in-Some.header (c.in-Some.ensures log traced)) in
-    let grown = subst (λ (s : List Seen). IsPlaced (reverse s) → IsInOrder c.of-tested.result.role (reverse s)
-    → OnOk c.judge_all-judged.result ((p : ℕ) (rule : Rule) → fault_at c.judge_all-judged.new.faults p rule ≡ or_else (fault_at c.new-faults.result p rule) (fault_in c.of-tested.result (reverse s) p rule)))
-    c.as_slice.ensures.value c.judge_all-judged.ensures.ok in (
+    let whom = told_as log c.in-Some.tested (sym c.in-Some.is ∙ k.knows.tested) in
+    let grown = subst (λ (s : List Seen). IsPlaced (reverse s) → IsInOrder c.in-Some.tested.role (reverse s)
+    → OnOk c.judge_all-judged.result (Grows (is_judged c.in-Some.tested) c.in-Some.tested (reverse s) c.new-faults.result c.judge_all-judged.new.faults))
+    c.as_slice.ensures.value c.judge_all-judged.ensures in (
       c.in_ok-finish.ensures.ends log k.traced,
-      counted c.self.inside.tracer.reading.limit c.self.inside.notes.seen.items log c.count.result unrefused k.events c.count.ensures,
-      faults-of c.self.inside.tracer.reading.limit (reverse c.self.inside.notes.seen.items) log c.of-tested.result c.new-faults.result c.judge_all-judged.new.faults unrefused k.events whom
+      counted c.self.inside.tracer.reading.limit c.self.inside.notes.seen.items log c.count.result unrefused k.knows.events c.count.ensures,
+      faults-of c.self.inside.tracer.reading.limit (reverse c.self.inside.notes.seen.items) log c.in-Some.tested c.new-faults.result c.judge_all-judged.new.faults unrefused k.knows.events whom
           (λ p rule. ap (λ m. fault_at m p rule) c.new-faults.ensures ∙ get-empty mark_cmp (record { position = p; rule = rule }))
-          (λ placed in_order. where_ok c.judge_all-judged.result judged (grown placed in_order)),
+          (λ placed in_order. (where_ok c.judge_all-judged.result judged (grown placed in_order)).each),
     )

@@ -1,8 +1,6 @@
 use Rattle.std.proofs.Common.{reverse}
-use Rattle.mq_judge.proofs.JudgeLaws.{keeps-nothing}
+use Rattle.mq_judge.proofs.JudgeLaws.{follows-nothing}
 use Rattle.mq_judge.proofs.judge.Judge.new.Goals as goal
 
 pub returns-clause-follows : goal.returns-clause-follows
-returns-clause-follows c = record {
-  keeps = keeps-nothing c.args.options.limit c.new.result (reverse c.new-2.result.seen.items) c.new.ensures.follows c.new.ensures.limit c.new-2.ensures;
-}
+returns-clause-follows c = follows-nothing c.args.options.limit c.new.result (reverse c.new-2.result.seen.items) c.new.ensures.follows c.new.ensures.limit c.new-2.ensures

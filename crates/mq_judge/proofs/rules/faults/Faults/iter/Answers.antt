@@ -1,7 +1,0 @@
-use Rattle.std.proofs.Common.{sym, ap, ◌∙◌}
-use Rattle.std.specs.FinMap as map
-use Rattle.mq_judge.proofs.MarkLaws.{entries-of}
-use Rattle.mq_judge.proofs.rules.faults.Faults.iter.Goals as goal
-
-pub returns-clause-rest : goal.returns-clause-rest
-returns-clause-rest c = c.iter.ensures.rest ∙ sym (entries-of _ c.iter.ensures.ordered) ∙ ap map.entries c.self.view_is

@@ -1,7 +1,0 @@
-use Rattle.std.proofs.Common.{sym, ap, ◌∙◌}
-use Rattle.std.specs.FinMap as map
-use Rattle.mq_judge.proofs.MarkLaws.{len-of}
-use Rattle.mq_judge.proofs.rules.faults.Faults.len.Goals as goal
-
-pub returns : goal.returns
-returns c = c.len.ensures.len ∙ sym (len-of _ c.len.ensures.ordered) ∙ ap map.len c.self.view_is

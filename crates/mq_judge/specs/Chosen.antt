@@ -1,0 +1,8 @@
+-- The statements that are judged.
+use Rattle.std.specs.Prelude.{Bool, true}
+use Rattle.mq_rules.specs.declared.role.Tested.{Tested}
+use Rattle.mq_rules.specs.declared.rule.Rule.{Rule}
+
+-- all 74
+abbrev pub is_judged : Tested → Rule → Bool
+is_judged tested rule = true

@@ -1,0 +1,48 @@
+-- How far a log is taken in: the bytes in which nothing is refused, and why the byte after them, or the log's end, is refused.
+use Rattle.std.specs.Prelude.{◌≡◌, ℕ, true, false, List, [], ◌∷◌, ◌++◌, length, ◌⊎◌, Option, Some, None, is_some}
+use Rattle.mq_trace.specs.declared.refusal.Refusal.{Refusal}
+use Rattle.mq_trace.specs.declared.refusal.Refusal.TheVariants as refusals
+use Rattle.mq_trace.specs.Directing.{NeedsMemory}
+use Rattle.mq_trace.specs.Events.{event_at, packet_at}
+use Rattle.mq_trace.specs.Refusals.{refused, refusal_at, is_cut_short}
+
+-- A byte may need memory after these bytes: it belongs to a packet that is not too large; or no condition applies to it, and it completes an event.
+abbrev pub MayLackMemory : ℕ → List ℕ → ℕ → Type 0
+MayLackMemory limit taken byte = NeedsMemory limit (packet_at taken byte) ⊎ ((refusal_at limit taken byte ≡ None) × (is_some (event_at taken byte) ≡ true))
+
+-- Why a byte is refused after these bytes: a condition applies to it, the one of the lowest number; or memory was refused while it was taken in.
+abbrev pub IsRefusedByte : ℕ → List ℕ → ℕ → Refusal → Type 0
+IsRefusedByte limit taken byte refusal = (refusal_at limit taken byte ≡ Some refusal)
+    ⊎ ((refusal ≡ refusals.Memory (length taken)) × MayLackMemory limit taken byte)
+
+-- Why the end is refused of a log of these bytes: it is cut short; or it isn't, and memory was refused.
+abbrev pub IsRefusedEnd : List ℕ → Refusal → Type 0
+IsRefusedEnd log refusal = ((is_cut_short log ≡ true) × (refusal ≡ refusals.Cut (length log)))
+    ⊎ ((is_cut_short log ≡ false) × (refusal ≡ refusals.Memory (length log)))
+
+-- A byte of a piece that follows a log is refused, and nothing is refused before that byte.
+pub record StopsIn (limit : ℕ) (log piece : List ℕ) (refusal : Refusal) : Type 0 where
+  pub taken : List ℕ
+  pub byte : ℕ
+  pub later : List ℕ
+  pub is : piece ≡ taken ++ byte ∷ later
+  pub unrefused : refused limit (log ++ taken) ≡ None
+  pub why : IsRefusedByte limit (log ++ taken) byte refusal
+
+-- Why no more is taken in after these bytes of a log, of which these are still to come: the next one is refused, or the end is where none is to come.
+abbrev pub IsRefusedNext : ℕ → List ℕ → List ℕ → Refusal → Type 0
+IsRefusedNext limit taken [] refusal = IsRefusedEnd taken refusal
+IsRefusedNext limit taken (byte ∷ later) refusal = IsRefusedByte limit taken byte refusal
+
+-- These bytes were read, and then reading failed or the turns ran out: the refusal names their number, and the reader has left what is still to come.
+abbrev pub IsUnread : List ℕ → List ℕ → Option (List ℕ) → Refusal → Type 0
+IsUnread taken later left refusal = (refusal ≡ refusals.Read (length taken)) × (left ≡ Some later)
+
+-- A log from a reader is refused, and nothing is refused before that byte. The reader has these bytes left, where that is known.
+pub record IsRefusedAt (limit : ℕ) (log : List ℕ) (left : Option (List ℕ)) (refusal : Refusal) : Type 0 where
+  -- the bytes before the refused one
+  pub taken : List ℕ
+  pub later : List ℕ
+  pub is : log ≡ taken ++ later
+  pub unrefused : refused limit taken ≡ None
+  pub why : IsRefusedNext limit taken later refusal ⊎ IsUnread taken later left refusal

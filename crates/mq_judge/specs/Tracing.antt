@@ -1,0 +1,18 @@
+-- What feeding a tracer and its sink comes to where a byte is refused.
+use Rattle.std.specs.Prelude.{◌≡◌, ℕ, List, ◌∷◌, ◌++◌, ◌⊎◌, None}
+use Rattle.mq_trace.specs.declared.refusal.Refusal.{Refusal}
+use Rattle.mq_trace.specs.Events.{Placed, events}
+use Rattle.mq_trace.specs.Refusals.{refused}
+use Rattle.mq_judge.specs.Stopping.{IsRefusedByte}
+
+-- A byte of a piece that follows a log is refused, and nothing is refused before that byte. The sink has received all events before it; it has taken them
+-- in, or it has refused the one that this byte completes.
+pub record TraceStops {S : Type 0} (agrees : S → List Placed → Type 0) (refuses : S → List Placed → Refusal → Type 0) (limit : ℕ) (sink : S) (log piece : List ℕ)
+    (refusal : Refusal) : Type 0 where
+  pub taken : List ℕ
+  pub byte : ℕ
+  pub later : List ℕ
+  pub is : piece ≡ taken ++ byte ∷ later
+  pub unrefused : refused limit (log ++ taken) ≡ None
+  pub why : (IsRefusedByte limit (log ++ taken) byte refusal × agrees sink (events (log ++ taken)))
+      ⊎ ((own : Refusal) × refuses sink (events (log ++ taken)) own)

@@ -1,0 +1,30 @@
+//! Judging the events of a whole log by the plain evaluators.
+ghost use Rattle.std.specs.Prelude.{reverse, OnOk};
+ghost use Rattle.mq_rules.specs.Moments.{IsPlaced};
+ghost use Rattle.mq_rules.specs.Connections.{IsInOrder};
+ghost use Rattle.mq_rules.specs.Faults.{Grows};
+ghost use Rattle.mq_judge.specs.Chosen.{is_judged};
+
+use mq_plain::{plain_lb, plain_se};
+use mq_rules::{Faults, Memory, Seen, Tested, plain_c, plain_w};
+use std::alloc::Global;
+
+/// Judges the events of a log, the oldest first, by all 74 statements: those on the bytes of packets, on the past
+/// of a connection, on identifiers, resends, the send quota and exchanges, and on releases and subscriptions.
+///
+/// # Errors
+///
+/// `Memory` where room for a fault was refused.
+pub fn judge_all(
+    alloc: Global,
+    tested: Tested,
+    seen: &[Seen],
+    faults: &mut Faults,
+) -> Result<(), Memory>
+    ensures { IsPlaced (reverse seen.now) → IsInOrder tested.role (reverse seen.now) → OnOk result (Grows (is_judged tested) tested (reverse seen.now) faults.old faults.new) }
+{
+    plain_w(alloc, tested, seen, faults)?;
+    plain_c(alloc, tested, seen, faults)?;
+    plain_se(alloc, tested, seen, faults)?;
+    plain_lb(alloc, tested, seen, faults)
+}

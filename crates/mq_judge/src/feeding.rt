@@ -1,0 +1,94 @@
+//! Feeding a log from a reader to what takes it in piece by piece.
+ghost use Rattle.std.specs.Prelude.{◌≡◌, [], ◌++◌, ℕ, List, OnOk, IfErr};
+ghost use Rattle.mq_judge.specs.Feeding.{FedAll, FedSome, HaltsAt};
+
+use super::turns::Turns;
+use mq_trace::Refusal;
+use std::io::{ErrorKind, Read};
+
+/// What takes in a log, piece by piece, and hands what it finds to a sink.
+pub trait Feed<S> {
+    ghost use Rattle.mq_trace.specs.declared.refusal.Refusal.{Refusal};
+
+    // The largest packet that it reads.
+    ghost limit: { Self → ℕ };
+    // It has taken in this log, and refused none of it; and the sink has received all that is in it.
+    ghost follows: { Self → S → List ℕ → Type 0 };
+    // Where it reads packets of at most so many bytes: after this log it has refused a byte of this piece so, and this is what the sink has come to.
+    ghost stops: { ℕ → Self → S → List ℕ → List ℕ → Refusal → Type 0 };
+
+    /// Takes in the next piece of the log.
+    ///
+    /// # Errors
+    ///
+    /// Why a byte of the piece is refused.
+    fn feed(&mut self, sink: &mut S, piece: &[u8]) -> Result<(), Refusal>
+        ensures limit { OnOk result (limit self.new ≡ limit self.old) }
+        ensures follows { (log : List ℕ) → follows self.old sink.old log → OnOk result (follows self.new sink.new (log ++ piece.now)) }
+        ensures stops { (log : List ℕ) → follows self.old sink.old log → IfErr result (λ refusal. stops (limit self.old) self.new sink.new log piece.now refusal) };
+}
+
+/// Why feeding ended before the reader did, and how many bytes were fed by then.
+enum Halt {
+    /// A byte is refused.
+    Refused(Refusal),
+    /// The reader failed.
+    Failed(u64),
+    /// The turns ran out.
+    RanOut(u64),
+}
+
+/// Feeds all that a reader gives, at most 8,192 bytes a turn, for at most so many turns. An interrupted read is tried again, in a turn of its own.
+///
+/// # Errors
+///
+/// The feeder's refusal; `Read`, at how many bytes were fed, where the reader fails or its turns ran out before it ended.
+pub fn feed_all<R: Read, S, F: Feed<S>>(
+    feeder: &mut F,
+    sink: &mut S,
+    reader: &mut R,
+    turns: u32,
+) -> Result<(), Refusal>
+    requires { F.follows feeder.old sink.old [] }
+    ensures all { OnOk result (FedAll F.limit F.follows (F.limit feeder.old) (R.remaining reader.old) (R.remaining reader.new) feeder.new sink.new) }
+    ensures some { IfErr result (FedSome F.limit F.follows F.stops (F.limit feeder.old) (R.remaining reader.old) (R.remaining reader.new) feeder.new sink.new) }
+{
+    let mut turns = Turns::new(turns);
+    match take_turns(feeder, sink, reader, &mut turns) {
+        Ok(()) => Ok(()),
+        Err(Halt::Refused(refusal)) => Err(refusal),
+        Err(Halt::Failed(fed) | Halt::RanOut(fed)) => Err(Refusal::Read(fed)),
+    }
+}
+
+/// Feeds until the reader ends, a turn after another.
+fn take_turns<R: Read, S, F: Feed<S>>(
+    feeder: &mut F,
+    sink: &mut S,
+    reader: &mut R,
+    turns: &mut Turns,
+) -> Result<(), Halt>
+    requires { F.follows feeder.old sink.old [] }
+    ensures all { OnOk result (FedAll F.limit F.follows (F.limit feeder.old) (R.remaining reader.old) (R.remaining reader.new) feeder.new sink.new) }
+    ensures some { IfErr result (HaltsAt (FedSome F.limit F.follows F.stops (F.limit feeder.old) (R.remaining reader.old) (R.remaining reader.new) feeder.new sink.new) turns.new.left) }
+{
+    let mut buffer = [0; 8192];
+    let mut fed = 0;
+    'turns: while turns.are_left() {
+        match turns.read(reader, &mut buffer) {
+            Ok(0) => return Ok(()),
+            Ok(count) => {
+                match feeder.feed(sink, &buffer[..count]) {
+                    Ok(()) => fed += count as u64,
+                    Err(refusal) => return Err(Halt::Refused(refusal)),
+                }
+            }
+            Err(error) => {
+                if error.kind() != ErrorKind::Interrupted {
+                    return Err(Halt::Failed(fed));
+                }
+            }
+        }
+    }
+    Err(Halt::RanOut(fed))
+}
