@@ -1,5 +1,5 @@
 -- Words in which the definition finds no fault name a subcommand.
-use Rattle.std.proofs.Common.{◌≡◌, ◌∙◌, ◌&&◌, ◌||◌, Bool, true, false, true≢false, not, cond, refl, sym, ap, ap₂, subst, ◌⊎◌, ℕ, suc, arith, inl, inr, Result, Ok, Err, MatchResult, List, [], ◌∷◌, fold, Option, Some, None, is_some, codes, option_map, unwrap_or}
+use Rattle.std.proofs.Common.{◌≡◌, ◌∙◌, ◌&&◌, ◌||◌, Bool, true, false, true≢false, not, cond, refl, sym, ap, ap₂, subst, ◌⊎◌, ℕ, suc, arith, inl, inr, Result, Ok, Err, IfOk, MatchResult, List, [], ◌∷◌, fold, Option, Some, None, is_some, codes, option_map, unwrap_or}
 use Rattle.std.specs.Str.{bytes_eq}
 use Rattle.std.specs.List.{Any}
 use Rattle.std.proofs.lemmas.Slice.Eq.{bytes_eq-Decides}
@@ -19,7 +19,7 @@ use Rattle.clap.specs.declared.error.kind.ErrorKind.{ErrorKind}
 use Rattle.clap.specs.declared.error.kind.ErrorKind.TheVariants.{OutOfMemory}
 use Rattle.mq_cli.specs.declared.command_line.Stop.{Stop}
 use Rattle.mq_cli.specs.declared.command_line.Stop.TheVariants.{Help, Memory, Usage}
-use Rattle.clap.specs.Kinds.{HasKind, IsAmong, Kinds, or_else}
+use Rattle.clap.specs.Kinds.{FailsBy, HasKind, IsAmong, Kinds, or_else}
 use Rattle.clap.specs.Faults.{defaults_fault, turn_fault, walk_fault, word_fault, step_fault, entered_fault, settle_fault, check_fault, other_fault}
 use Rattle.mq_cli.specs.CommandLine.{IsShown, StopsFor, check_request, faults_of, mqjudge, packet_request, request_in, request_of, show_request}
 
@@ -257,3 +257,8 @@ pub StopsFor-misused : {E : Type 0} (error : Error) (stop : Stop) (text : Result
 StopsFor-misused error stop (Err e) misused not_memory is kinds h = subst (StopsFor kinds) (sym is) tt
 StopsFor-misused error stop (Ok t) misused not_memory is kinds (inl h) = absurd (not_memory h)
 StopsFor-misused error stop (Ok t) misused not_memory is kinds (inr h) = subst (StopsFor kinds) (sym is) (among (λ kind. ¬ IsShown kind) kinds (kind_of error) h misused)
+
+-- what is taken has no fault
+pub taken-faultless : {T : Type 0} (kinds : Kinds) (r : Result T Error) → FailsBy kinds r → IfOk r (λ _. kinds ≡ [])
+taken-faultless kinds (Ok matches) h = h
+taken-faultless kinds (Err error) h = tt

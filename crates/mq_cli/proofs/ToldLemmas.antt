@@ -1,94 +1,160 @@
--- What a status for a refusal tells of the log.
-use Rattle.std.proofs.Common.{◌≡◌, ◌∙◌, ℕ, List, [], append-nil, length, Option, Some, None, Result, Ok, Err, IfErr, IfOk, IfSome, OnOk, subst, sym, inl, inr}
+-- What a status tells of a log, and what was written where a line couldn't be flushed.
+use Rattle.std.proofs.Common.{◌≡◌, ℕ, List, [], append-nil, Option, Some, None, Result, Ok, Err, IfErr, IfOk, IfSome, OnOk, ◌⊎◌, refl, subst, sym, inl, inr}
+use Rattle.std.proofs.KnownBytes.{Appends-kept}
 use Rattle.std.specs.Io.KnownBytes.{Appends, Keeps}
-use Rattle.mq_judge.specs.Report.{refused_line}
-use Rattle.mq_judge.specs.Running.{IsFailureWithin, RefusesLog, RunsOver}
-use Rattle.mq_judge.specs.Showing.{ShowsLog}
+use Rattle.mq_trace.specs.Events.{events}
+use Rattle.mq_judge.specs.declared.Outcome.{Outcome}
 use Rattle.mq_judge.specs.declared.Refusal.{Refusal}
 use Rattle.mq_judge.specs.declared.Refusal.TheVariants as refusals
-use Rattle.mq_judge.specs.declared.RunFault.TheVariants.{Refused}
-use Rattle.mq_cli.specs.Told.{AppendsPart, BeginsOnLog, BeginsRefusal, EndsIn, HasFailed, HasPassed, IsOfLog, IsRefusedBy, IsReportedOn}
-use Rattle.mq_cli.specs.declared.command_line.Task.{Task}
-use Rattle.mq_cli.specs.declared.command_line.Task.TheVariants.{Check, Packet, Show}
+use Rattle.mq_judge.specs.declared.RunFault.TheVariants as run_faults
+use Rattle.mq_judge.specs.Report.{AppendsBeginning, refused_line, report}
+use Rattle.mq_judge.specs.Running.{RunsOver, default_limit}
+use Rattle.mq_judge.specs.Showing.{ShowsLog, lines_of}
+use Rattle.mq_judge.specs.Stopping.{IsRefusedAt, IsRefusedNext, IsUnread}
+use Rattle.mq_judge.proofs.Writes.{appends-kept, appends-then}
+use Rattle.mq_cli.specs.Told.{AppendsAfter, AppendsPart, BeginsRefusal, IsOfLog, IsRefusedBy, RefusesCheck, RefusesShow, StopsCheck, StopsShow, failure_of}
+use Rattle.mq_cli.specs.declared.failure.Failure.{Failure}
+use Rattle.mq_cli.specs.declared.failure.Failure.TheVariants as failures
 
 -- what holds of a log holds of what a reader has left, where that is known
 for_log : (remaining : Option (List ℕ)) (P Q : List ℕ → Type 0) → ((log : List ℕ) → P log → Q log) → IfSome remaining P → IfSome remaining Q
 for_log None P Q f h = tt
 for_log (Some log) P Q f h = f log h
 
--- neither a failure of reading nor want of memory lies in the log
-no_failure : (len : ℕ) (refusal : Refusal) → IsOfLog refusal → IsFailureWithin len refusal → ⊥
-no_failure len (refusals.Read at) own h = own
-no_failure len (refusals.Memory at) own h = own
-no_failure len _ own h = h
+-- ---- parts of a text
 
--- such a refusal is the log's own
-own_refusal : (log : List ℕ) (refusal : Refusal) → IsOfLog refusal → RefusesLog log refusal → IsRefusedBy log refusal
-own_refusal log refusal own (inl failed) = absurd (no_failure (length log) refusal own failed)
-own_refusal log refusal own (inr h) = h
+-- nothing of it was written
+part-kept : (old new : Option (List ℕ)) (text : List ℕ) → Keeps old new → AppendsPart old new text
+part-kept old new text kept = record { written = []; unwritten = text; whole = refl; appended = appends-kept old new kept }
 
--- a status for a refusal says which one the log's own is, and that its line was written and nothing else
-pub refusal_is_told : {E : Type 0} (remaining old middle new : Option (List ℕ)) (refusal : Refusal) (status : Result ℕ E)
-    → IfSome remaining (λ log. RunsOver log (Err (Refused refusal)) old middle) → middle ≡ old
-    → OnOk status (IsOfLog refusal) → OnOk status (Appends middle new (refused_line refusal))
-    → IfOk status (λ s. s ≡ 2 → IfSome remaining (λ log. (r : Refusal) × IsRefusedBy log r × Appends old new (refused_line r)))
-refusal_is_told remaining old middle new refusal (Ok s) ran unwritten own written = λ is.
-    for_log remaining (λ log. RunsOver log (Err (Refused refusal)) old middle) (λ log. (r : Refusal) × IsRefusedBy log r × Appends old new (refused_line r))
-    (λ log h. (refusal, own_refusal log refusal own h, subst (λ v. Appends v new (refused_line refusal)) unwritten written)) ran
-refusal_is_told remaining old middle new refusal (Err e) ran unwritten own written = tt
+-- all of it was
+part-whole : (old new : Option (List ℕ)) (text : List ℕ) → Appends old new text → AppendsPart old new text
+part-whole old new text h = record { written = text; unwritten = []; whole = sym (append-nil text); appended = h }
 
--- the same of a log that was shown: its line was written last
-pub shown_refusal_is_told : {E : Type 0} (remaining middle new : Option (List ℕ)) (refusal : Refusal) (status : Result ℕ E)
-    → IfSome remaining (λ log. ShowsLog log (Err (Refused refusal))) → OnOk status (IsOfLog refusal) → OnOk status (Appends middle new (refused_line refusal))
-    → IfOk status (λ s. s ≡ 2 → IfSome remaining (λ log. (r : Refusal) × IsRefusedBy log r × EndsIn new (refused_line r)))
-shown_refusal_is_told remaining middle new refusal (Ok s) shown own written = λ is.
-    for_log remaining (λ log. ShowsLog log (Err (Refused refusal))) (λ log. (r : Refusal) × IsRefusedBy log r × EndsIn new (refused_line r))
-    (λ log h. (refusal, own_refusal log refusal own h, (middle, written))) shown
-shown_refusal_is_told remaining middle new refusal (Err e) shown own written = tt
+-- a beginning of it was
+part-begun : (old new : Option (List ℕ)) (text : List ℕ) → AppendsBeginning old new text → AppendsPart old new text
+part-begun old new text h = record { written = h.written; unwritten = h.unwritten; whole = h.whole; appended = h.appended }
 
--- where that line couldn't be written, part of it was, or nothing
-pub refusal_is_begun : {E : Type 0} (remaining old middle new : Option (List ℕ)) (refusal : Refusal) (status : Result ℕ E)
-    → IfSome remaining (λ log. RunsOver log (Err (Refused refusal)) old middle) → middle ≡ old
-    → IfErr status (λ _. BeginsRefusal refusal middle new)
-    → IfErr status (λ _. IfSome remaining (λ log. BeginsOnLog log old new))
-refusal_is_begun remaining old middle new refusal (Ok s) ran unwritten begun = tt
-refusal_is_begun remaining old middle new refusal (Err e) ran unwritten begun =
-    for_log remaining (λ log. RunsOver log (Err (Refused refusal)) old middle) (λ log. BeginsOnLog log old new)
-    (λ log h. on_log log h (subst (λ v. BeginsRefusal refusal v new) unwritten begun)) ran
-  where
-    on_log : (log : List ℕ) → RefusesLog log refusal → BeginsRefusal refusal old new → BeginsOnLog log old new
-    on_log log h (inl kept) = inl kept
-    on_log log h (inr (own, part)) = inr (inr (refusal, own_refusal log refusal own h, part))
+-- part of it was, after another text
+part-after : (old middle new : Option (List ℕ)) (before text : List ℕ) → Appends old middle before → AppendsPart middle new text → AppendsAfter old new before text
+part-after old middle new before text first part = record {
+  written = part.written;
+  unwritten = part.unwritten;
+  whole = part.whole;
+  appended = appends-then old middle new before part.written first part.appended;
+}
 
--- ---- what was written where a line couldn't be seen out
-
--- what was appended stays so where the known bytes are kept
-appends_kept : (old middle new : Option (List ℕ)) (bytes : List ℕ) → Appends old middle bytes → Keeps middle new → Appends old new bytes
-appends_kept None middle new bytes a k = tt
-appends_kept (Some xs) None new bytes a k = absurd a
-appends_kept (Some xs) (Some ys) None bytes a k = absurd k
-appends_kept (Some xs) (Some ys) (Some zs) bytes a k = k ∙ a
-
--- all of it was written
+-- all of it was written, and then not flushed
 pub whole_is_begun : {E : Type 0} (old middle new : Option (List ℕ)) (text : List ℕ) (status : Result ℕ E) → Appends old middle text → Keeps middle new
     → IfErr status (λ _. AppendsPart old new text)
 whole_is_begun old middle new text (Ok s) a k = tt
-whole_is_begun old middle new text (Err e) a k =
-    record { written = text; unwritten = []; whole = sym (append-nil text); appended = appends_kept old middle new text a k }
+whole_is_begun old middle new text (Err e) a k = part-whole old new text (Appends-kept old middle new text a k)
 
--- ---- what a status tells where nothing is known of the input
+-- ---- refusals
 
-pub passed_unread : (task : Task) (input : Option (List ℕ)) → HasPassed task input → HasPassed task None
-passed_unread (Check file json) input h = tt
-passed_unread (Show file) input h = tt
-passed_unread (Packet hex) input h = h
+-- a refusal that lies in the log isn't that reading failed
+next_refused : (taken later : List ℕ) (left : Option (List ℕ)) (refusal : Refusal) → IsOfLog refusal
+    → IsRefusedNext default_limit taken later refusal ⊎ IsUnread taken later left refusal → IsRefusedNext default_limit taken later refusal
+next_refused taken later left refusal own (inl why) = why
+next_refused taken later left refusal own (inr unread) = absurd (subst IsOfLog unread.0 own)
 
-pub faulty_unread : (task : Task) (input : Option (List ℕ)) → HasFailed task input → HasFailed task None
-faulty_unread (Check file json) input h = tt
-faulty_unread (Show file) input h = h
-faulty_unread (Packet hex) input h = h
+abbrev own_refusal : (log : List ℕ) (left : Option (List ℕ)) (refusal : Refusal) → IsOfLog refusal → IsRefusedAt default_limit log left refusal
+    → IsRefusedBy log refusal
+own_refusal log left refusal own stops = record {
+  own = own;
+  taken = stops.taken;
+  later = stops.later;
+  is = stops.is;
+  unrefused = stops.unrefused;
+  why = next_refused stops.taken stops.later left refusal own stops.why;
+}
 
-pub reported_unread : (task : Task) (input old new : Option (List ℕ)) → IsReportedOn task input old new → IsReportedOn task None old new
-reported_unread (Check file json) input old new h = tt
-reported_unread (Show file) input old new h = tt
-reported_unread (Packet hex) input old new h = h
+-- ---- a check
+
+-- a status for a refusal says which one it is, and that its line was written and nothing else
+pub refusal_is_told : {E : Type 0} (remaining left old middle new : Option (List ℕ)) (refusal : Refusal) (status : Result ℕ E)
+    → IfSome remaining (λ log. RunsOver log left (Err (run_faults.Refused refusal)) old middle) → middle ≡ old
+    → OnOk status (IsOfLog refusal) → OnOk status (Appends middle new (refused_line refusal))
+    → IfOk status (λ s. s ≡ 2 → IfSome remaining (λ log. RefusesCheck log old new))
+refusal_is_told remaining left old middle new refusal (Ok s) ran unwritten own written = λ is.
+    for_log remaining (λ log. RunsOver log left (Err (run_faults.Refused refusal)) old middle) (λ log. RefusesCheck log old new)
+    (λ log h. (refusal, own_refusal log left refusal own h, subst (λ v. Appends v new (refused_line refusal)) unwritten written)) ran
+refusal_is_told remaining left old middle new refusal (Err e) ran unwritten own written = tt
+
+-- where it can't be told, that is why
+pub refusal_stops : (remaining left old middle new : Option (List ℕ)) (refusal : Refusal) (status : Result ℕ Failure)
+    → IfSome remaining (λ log. RunsOver log left (Err (run_faults.Refused refusal)) old middle) → middle ≡ old
+    → IfErr status (λ failure. failure ≡ failure_of refusal) → IfErr status (λ _. BeginsRefusal refusal middle new)
+    → IfErr status (λ failure. IfSome remaining (λ log. StopsCheck failure log left old new))
+refusal_stops remaining left old middle new refusal (Ok s) ran unwritten failed begun = tt
+refusal_stops remaining left old middle new refusal (Err failure) ran unwritten failed begun =
+    for_log remaining (λ log. RunsOver log left (Err (run_faults.Refused refusal)) old middle) (λ log. StopsCheck failure log left old new)
+    (λ log h. subst (λ f. StopsCheck f log left old new) (sym failed) (on_log refusal log h (subst (λ v. BeginsRefusal refusal v new) unwritten begun))) ran
+  where
+    on_log : (r : Refusal) (log : List ℕ) → IsRefusedAt default_limit log left r → BeginsRefusal r old new → StopsCheck (failure_of r) log left old new
+    on_log (refusals.Read at) log h (inl kept) = (at, h, kept)
+    on_log (refusals.Read at) log h (inr (own, part)) = absurd own
+    on_log (refusals.Memory at) log h (inl kept) = (at, h, kept)
+    on_log (refusals.Memory at) log h (inr (own, part)) = absurd own
+    on_log r log h (inl kept) = inr (r, own_refusal log left r tt h, part-kept old new (refused_line r) kept)
+    on_log r log h (inr (own, part)) = inr (r, own_refusal log left r own h, part)
+
+-- the report was written, and then not flushed
+pub report_stops : (remaining left old middle new : Option (List ℕ)) (outcome : Outcome) (status : Result ℕ Failure)
+    → IfSome remaining (λ log. RunsOver log left (Ok outcome) old middle) → Keeps middle new → IfErr status (λ failure. failure ≡ failures.Write)
+    → IfErr status (λ failure. IfSome remaining (λ log. StopsCheck failure log left old new))
+report_stops remaining left old middle new outcome (Ok s) ran kept failed = tt
+report_stops remaining left old middle new outcome (Err failure) ran kept failed =
+    for_log remaining (λ log. RunsOver log left (Ok outcome) old middle) (λ log. StopsCheck failure log left old new)
+    (λ log h. subst (λ f. StopsCheck f log left old new) (sym failed)
+    (inl (h.0, part-whole old new (report log) (Appends-kept old middle new (report log) h.2 kept)))) ran
+
+-- a beginning of the report was written
+pub run_stops : (remaining left old new : Option (List ℕ)) → IfSome remaining (λ log. RunsOver log left (Err run_faults.Write) old new)
+    → IfSome remaining (λ log. StopsCheck failures.Write log left old new)
+run_stops remaining left old new ran =
+    for_log remaining (λ log. RunsOver log left (Err run_faults.Write) old new) (λ log. StopsCheck failures.Write log left old new)
+    (λ log h. inl (h.0, part-begun old new (report log) h.1)) ran
+
+-- ---- a log that is shown
+
+-- a status for a refusal says which one it is, and that its line was written after those of the events before, and nothing else
+pub shown_refusal_is_told : {E : Type 0} (remaining left old middle new : Option (List ℕ)) (refusal : Refusal) (status : Result ℕ E)
+    → IfSome remaining (λ log. ShowsLog log left (Err (run_faults.Refused refusal)) old middle)
+    → OnOk status (IsOfLog refusal) → OnOk status (Appends middle new (refused_line refusal))
+    → IfOk status (λ s. s ≡ 2 → IfSome remaining (λ log. RefusesShow log old new))
+shown_refusal_is_told remaining left old middle new refusal (Ok s) shown own written = λ is.
+    for_log remaining (λ log. ShowsLog log left (Err (run_faults.Refused refusal)) old middle) (λ log. RefusesShow log old new)
+    (λ log h. (refusal, own_refusal log left refusal own h.0, appends-then old middle new (lines_of (events h.0.taken)) (refused_line refusal) h.1 written)) shown
+shown_refusal_is_told remaining left old middle new refusal (Err e) shown own written = tt
+
+-- where it can't be told, that is why
+pub shown_refusal_stops : (remaining left old middle new : Option (List ℕ)) (refusal : Refusal) (status : Result ℕ Failure)
+    → IfSome remaining (λ log. ShowsLog log left (Err (run_faults.Refused refusal)) old middle)
+    → IfErr status (λ failure. failure ≡ failure_of refusal) → IfErr status (λ _. BeginsRefusal refusal middle new)
+    → IfErr status (λ failure. IfSome remaining (λ log. StopsShow failure log left old new))
+shown_refusal_stops remaining left old middle new refusal (Ok s) shown failed begun = tt
+shown_refusal_stops remaining left old middle new refusal (Err failure) shown failed begun =
+    for_log remaining (λ log. ShowsLog log left (Err (run_faults.Refused refusal)) old middle) (λ log. StopsShow failure log left old new)
+    (λ log h. subst (λ f. StopsShow f log left old new) (sym failed) (on_log refusal log h.0 h.1 begun)) shown
+  where
+    on_log : (r : Refusal) (log : List ℕ) (stops : IsRefusedAt default_limit log left r) → Appends old middle (lines_of (events stops.taken))
+        → BeginsRefusal r middle new → StopsShow (failure_of r) log left old new
+    on_log (refusals.Read at) log stops lines (inl kept) = (at, stops, Appends-kept old middle new (lines_of (events stops.taken)) lines kept)
+    on_log (refusals.Read at) log stops lines (inr (own, part)) = absurd own
+    on_log (refusals.Memory at) log stops lines (inl kept) = (at, stops, Appends-kept old middle new (lines_of (events stops.taken)) lines kept)
+    on_log (refusals.Memory at) log stops lines (inr (own, part)) = absurd own
+    on_log r log stops lines (inl kept) =
+        inr (inr (r, own_refusal log left r tt stops, part-after old middle new (lines_of (events stops.taken)) (refused_line r) lines (part-kept middle new (refused_line r) kept)))
+    on_log r log stops lines (inr (own, part)) =
+        inr (inr (r, own_refusal log left r own stops, part-after old middle new (lines_of (events stops.taken)) (refused_line r) lines part))
+
+-- all lines were written, and then not flushed
+pub lines_stop : (remaining left old middle new : Option (List ℕ)) (status : Result ℕ Failure)
+    → IfSome remaining (λ log. ShowsLog log left (Ok tt) old middle) → Keeps middle new → IfErr status (λ failure. failure ≡ failures.Write)
+    → IfErr status (λ failure. IfSome remaining (λ log. StopsShow failure log left old new))
+lines_stop remaining left old middle new (Ok s) shown kept failed = tt
+lines_stop remaining left old middle new (Err failure) shown kept failed =
+    for_log remaining (λ log. ShowsLog log left (Ok tt) old middle) (λ log. StopsShow failure log left old new)
+    (λ log h. subst (λ f. StopsShow f log left old new) (sym failed)
+    (inr (inl (h.0, Appends-kept old middle new (lines_of (events log)) h.1 kept)))) shown

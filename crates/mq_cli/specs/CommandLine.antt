@@ -1,5 +1,5 @@
 -- The command line of `mqjudge`, and what its definition makes of the words.
-use Rattle.std.specs.Prelude.{◌≡◌, ◌⊎◌, Bool, true, false, if◌then◌else◌, List, [], Option, Some, codes, option_map, string_bytes, unwrap_or, ⊤}
+use Rattle.std.specs.Prelude.{◌≡◌, ◌⊎◌, Bool, true, false, if◌then◌else◌, List, [], Option, Some, None, codes, option_map, string_bytes, unwrap_or, ⊤}
 use Rattle.std.specs.Str.{bytes_eq}
 use Rattle.std.specs.List.{Any}
 use Rattle.clap.specs.Words.{App, Kinds, Row, Text, fault_of, first_of, new_app, new_rule, subcommand_of, with_rule, with_subcommand}
@@ -81,3 +81,14 @@ abbrev pub StopsFor : Kinds → Stop → Type 0
 StopsFor kinds (Help text) = Any IsShown kinds
 StopsFor kinds (Usage text) = Any (λ kind. ¬ IsShown kind) kinds
 StopsFor kinds Memory = ⊤
+
+-- the path that an operand names: an operand that is left out names none, and neither does `-`
+abbrev pub path_named : Option Text → Option Text
+path_named None = None
+path_named (Some operand) = if bytes_eq operand (codes "-") then None else Some operand
+
+-- the path of the log that a task reads: none where it reads standard input, or no log
+abbrev pub path_of : Task → Option Text
+path_of (Check file json) = path_named (option_map string_bytes file)
+path_of (Show file) = path_named (option_map string_bytes file)
+path_of (Packet hex) = None

@@ -1,26 +1,27 @@
 //! The words of a command line, read into a task.
-ghost use Rattle.std.specs.Prelude.{◌≡◌, [], Some, false, IfOk, IfErr, map, option_map};
+ghost use Rattle.std.specs.Prelude.{◌≡◌, [], Some, false, IfOk, IfErr, map, option_map, string_bytes};
 ghost use Rattle.clap.specs.Words.{HasKind, Kinds, app_of, subcommand_of, subcommand_rows_of};
 ghost use Rattle.clap.specs.declared.builder.command.Command.TheViews.{out-Command};
 ghost use Rattle.mq_cli.specs.CommandLine.{StopsFor, check_command, check_request, faults_of};
-ghost use Rattle.mq_cli.specs.CommandLine.{mqjudge, packet_command, packet_request};
+ghost use Rattle.mq_cli.specs.CommandLine.{mqjudge, packet_command, packet_request, path_named, path_of};
 ghost use Rattle.mq_cli.specs.CommandLine.{request_by, request_of, show_command, show_request};
 
 use clap::error::ErrorKind;
 use clap::{Arg, ArgMatches, Command, Error};
 use std::alloc::{AllocError, Global};
+use std::convert::AsStr;
 
 /// What the program is asked to do.
 #[derive(Debug, Drop)]
 pub enum Task {
-    /// Judge the log in `file`, or on standard input where there is none.
+    /// Judge the log in `file`, or on standard input where there is none or it is `-`.
     Check {
         /// The log's path.
         file: Option<String>,
         /// Report as JSON in place of text.
         json: bool,
     },
-    /// Show the events of the log in `file`, or on standard input where there is none.
+    /// Show the events of the log in `file`, or on standard input where there is none or it is `-`.
     Show {
         /// The log's path.
         file: Option<String>,
@@ -30,6 +31,30 @@ pub enum Task {
         /// Two hexadecimal digits for each byte.
         hex: String,
     },
+}
+
+impl Task {
+    /// The path of the log that the task reads: none where it reads standard input, which `-` means
+    /// too, and none for a packet.
+    pub fn path(&self) -> Option<&str>
+        ensures { option_map (λ path. path.now) result ≡ path_of self.now }
+    {
+        match self {
+            Task::Check { file, .. } => path_named(file),
+            Task::Show { file } => path_named(file),
+            Task::Packet { .. } => None,
+        }
+    }
+}
+
+// The path that an operand names, where it names one.
+fn path_named(file: &Option<String>) -> Option<&str>
+    ensures { option_map (λ path. path.now) result ≡ path_named (option_map string_bytes file.now) }
+{
+    match file {
+        Some(path) if path.as_str() != "-" => Some(path.as_str()),
+        _ => None,
+    }
 }
 
 /// Why there is no task to do.
@@ -47,11 +72,11 @@ pub enum Stop {
 /// Reads the words of a command line, `mqjudge check [FILE]`, `mqjudge show [FILE]` or
 /// `mqjudge packet HEX`, of which the first is the program's name. A request for help or the
 /// version comes as a `Stop`, and so do words that are no such command line.
-pub fn parse(alloc: Global, words: &[&str]) -> Result<Task, Stop>
-    ensures taken { IfOk result (λ _. faults_of (map (λ word. word.now) words.now) ≡ []) }
+pub fn parse<S: AsStr>(alloc: Global, words: &[S]) -> Result<Task, Stop>
+    ensures taken { IfOk result (λ _. faults_of (map S.text words.now) ≡ []) }
     ensures task { IfOk result (λ task.
-        request_of (map (λ word. word.now) words.now) ≡ Some (request_by task)) }
-    ensures stop { IfErr result (StopsFor (faults_of (map (λ word. word.now) words.now))) }
+        request_of (map S.text words.now) ≡ Some (request_by task)) }
+    ensures stop { IfErr result (StopsFor (faults_of (map S.text words.now))) }
 {
     match matches_of(alloc, words) {
         Ok(matches) => match matches.subcommand_matches("check") {
@@ -69,11 +94,11 @@ pub fn parse(alloc: Global, words: &[&str]) -> Result<Task, Stop>
 }
 
 // What the definition of the command line makes of the words.
-fn matches_of<'a>(alloc: Global, words: &'a [&'a str]) -> Result<ArgMatches<'a>, Error>
-    ensures taken { IfOk result (λ _. faults_of (map (λ word. word.now) words.now) ≡ []) }
+fn matches_of<'a, S: AsStr>(alloc: Global, words: &'a [S]) -> Result<ArgMatches<'a>, Error>
+    ensures taken { IfOk result (λ _. faults_of (map S.text words.now) ≡ []) }
     ensures met { IfOk result (λ matches.
-        subcommand_rows_of matches ≡ subcommand_of mqjudge (map (λ word. word.now) words.now)) }
-    ensures fault { IfErr result (HasKind (faults_of (map (λ word. word.now) words.now))) }
+        subcommand_rows_of matches ≡ subcommand_of mqjudge (map S.text words.now)) }
+    ensures fault { IfErr result (HasKind (faults_of (map S.text words.now))) }
 {
     command_line(alloc)?.try_get_matches_from(words)
 }
@@ -99,7 +124,7 @@ fn check_command<'a>(alloc: Global) -> Result<Command<'a>, AllocError>
     ensures app { IfOk result (λ command. app_of command ≡ check_command) }
     ensures local { IfOk result (λ command. (out-Command command).has_globals ≡ false) }
 {
-    let file = Arg::new(alloc, "FILE").help("The log; standard input where it is left out");
+    let file = Arg::new(alloc, "FILE").help("The log; standard input where it is left out or `-`");
     Command::new(alloc, "check")
         .about("Judges a log and reports each fault")
         .arg(file)
@@ -110,7 +135,7 @@ fn show_command<'a>(alloc: Global) -> Result<Command<'a>, AllocError>
     ensures app { IfOk result (λ command. app_of command ≡ show_command) }
     ensures local { IfOk result (λ command. (out-Command command).has_globals ≡ false) }
 {
-    let file = Arg::new(alloc, "FILE").help("The log; standard input where it is left out");
+    let file = Arg::new(alloc, "FILE").help("The log; standard input where it is left out or `-`");
     Command::new(alloc, "show")
         .about("Shows each event of a log")
         .arg(file)

@@ -1,11 +1,11 @@
 //! What keeps the program from its task, and the statuses that it exits with.
-ghost use Rattle.std.specs.Prelude.{◌≡◌, Some};
-ghost use Rattle.mq_cli.specs.Told.{failure_text};
+ghost use Rattle.std.specs.Prelude.{◌≡◌};
+ghost use Rattle.mq_cli.specs.Told.{AppendsPart, failure_line};
 
-use std::fmt;
+use crate::writing::write_out;
 use std::io::Write;
 
-/// The status where a log was judged and no fault was found, or where bytes are one packet.
+/// The status where a log was judged and no fault was found, where it was shown, and where bytes are one packet.
 pub const PASSED: u8 = 0;
 
 /// The status where a log was judged and has faults, or where bytes aren't one packet.
@@ -24,7 +24,7 @@ pub const FAILED: u8 = 4;
 /// What kept the program from its task.
 #[derive(Clone, Copy, Debug, PartialEq, Eq)]
 pub enum Failure {
-    /// The log couldn't be opened or read.
+    /// The words or the log couldn't be read, or the file couldn't be opened.
     Read,
     /// What was to be written couldn't be.
     Write,
@@ -32,25 +32,25 @@ pub enum Failure {
     Memory,
 }
 
-impl fmt::Display for Failure {
-    ghost output = { λ failure. Some (failure_text failure) };
-
-    fn fmt<W: fmt::Write>(&self, f: &mut fmt::Formatter<W>) -> fmt::Result {
-        f.write_str(match self {
-            Failure::Read => "read failed",
-            Failure::Write => "write failed",
-            Failure::Memory => "out of memory",
-        })
-    }
-}
-
 impl Failure {
-    /// Says on `error` what failed, and gives the status to exit with. Nothing more can be done
-    /// where `error` fails too.
+    /// Says on `error` what failed, as far as `error` takes it, and gives the status to exit with.
     pub fn report<E: Write>(self, error: &mut E) -> u8
-        ensures { result ≡ FAILED }
+        ensures status { result ≡ 4 }
+        ensures told { AppendsPart (E.contents error.old) (E.contents error.new) (failure_line self) }
     {
-        let _ = writeln!(error, "mqjudge: {self}");
+        // Nothing more can be done where `error` fails too.
+        let _ = write_out(self.line(), error);
         FAILED
+    }
+
+    // The line that says what failed.
+    fn line(self) -> &'static str
+        ensures { result.now ≡ failure_line self }
+    {
+        match self {
+            Failure::Read => "mqjudge: read failed\n",
+            Failure::Write => "mqjudge: write failed\n",
+            Failure::Memory => "mqjudge: out of memory\n",
+        }
     }
 }

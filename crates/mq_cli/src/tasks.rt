@@ -1,18 +1,21 @@
 //! Doing what a command line asks for.
-ghost use Rattle.std.specs.Prelude.{◌≡◌, ◌≢◌, ◌≤◌, ◌⊎◌, [], IfOk, IfErr, IfSome, IsErr, OnOk};
+ghost use Rattle.std.specs.Prelude.{◌≡◌, ◌≤◌, ◌⊎◌, IfOk, IfErr, IfSome, IsErr, OnOk};
 ghost use Rattle.std.specs.Io.KnownBytes.{Appends, Keeps};
 ghost use Rattle.hex.specs.Hex.{decode_of};
-ghost use Rattle.mq_cli.specs.Told.{AppendsLineOf, AppendsPart, BeginsLineOf, BeginsOnLog, BeginsRefusal};
-ghost use Rattle.mq_cli.specs.Told.{EndsIn, HasFailed, HasPassed, IsFaultless, IsNotHex};
-ghost use Rattle.mq_cli.specs.Told.{IsOfLog, IsRefusedBy, IsRefusedOn, IsReportedOn, IsShownOn};
-ghost use Rattle.mq_cli.specs.Told.{IsBegunOn, IsToldOn, SpellsNoPacket, SpellsPacket, failure_of, not_hex_line};
-ghost use Rattle.mq_judge.specs.declared.Refusal.{Refusal};
+ghost use Rattle.mq_cli.specs.Told.{AppendsLineOf, AppendsPart, BeginsRefusal, FailsNotHex, FailsPacket};
+ghost use Rattle.mq_cli.specs.Told.{FailsStop, FailsTask, HasFailed, HasPassed, IsNotHex};
+ghost use Rattle.mq_cli.specs.Told.{IsOfLog, IsRefusedOn, IsReportedOn, IsShownOn, IsToldOn, RefusesCheck};
+ghost use Rattle.mq_cli.specs.Told.{RefusesShow, SpellsNoPacket, SpellsPacket, StopsCheck, StopsShow};
+ghost use Rattle.mq_cli.specs.Told.{failure_of, not_hex_line};
 ghost use Rattle.mq_judge.specs.OnePacket.{IsOnePacket, packet_report};
 ghost use Rattle.mq_judge.specs.Report.{refused_line, report};
-ghost use Rattle.mq_judge.specs.Running.{IsJudged};
+ghost use Rattle.mq_judge.specs.Running.{IsFaultless, IsJudged};
+ghost use Rattle.mq_judge.specs.Showing.{lines_of};
+ghost use Rattle.mq_trace.specs.Events.{events};
 
 use crate::command_line::{Stop, Task};
 use crate::failure::{FAILED, FAULTY, Failure, MISUSED, PASSED, REFUSED};
+use crate::writing::{flush, write_out};
 use hex::{FromHexError, decode};
 use mq_judge::{Form, Outcome, Refusal, RunFault, run, show, write_packet, write_refused};
 use std::alloc::Global;
@@ -34,21 +37,23 @@ pub fn perform<R: Read, W: Write, E: Write>(
     output: &mut W,
     error: &mut E,
 ) -> u8
-    ensures passed { result ≡ PASSED → HasPassed task.now (R.remaining input.old) }
-    ensures faulty { result ≡ FAULTY → HasFailed task.now (R.remaining input.old) }
-    ensures reported { result ≤ FAULTY → IsReportedOn task.now (R.remaining input.old)
+    ensures passed { result ≡ 0 → HasPassed task.now (R.remaining input.old) }
+    ensures faulty { result ≡ 1 → HasFailed task.now (R.remaining input.old) }
+    ensures reported { result ≤ 1 → IsReportedOn task.now (R.remaining input.old)
         (W.contents output.old) (W.contents output.new) }
-    ensures refused { result ≡ REFUSED → IsRefusedOn task.now (R.remaining input.old)
+    ensures refused { result ≡ 2 → IsRefusedOn task.now (R.remaining input.old)
         (W.contents output.old) (W.contents output.new) }
-    ensures misused { result ≡ MISUSED → IsNotHex task.now
+    ensures misused { result ≡ 3 → IsNotHex task.now
         × Appends (E.contents error.old) (E.contents error.new) not_hex_line }
-    ensures failed { result ≡ FAILED → IsBegunOn task.now (R.remaining input.old)
-        (W.contents output.old) (W.contents output.new) }
-    ensures statuses { result ≤ FAILED }
+    ensures failed { result ≡ 4 → FailsTask task.now (R.remaining input.old) (R.remaining input.new)
+        (W.contents output.old) (W.contents output.new) (E.contents error.old) (E.contents error.new)
+        ⊎ FailsNotHex task.now
+        (W.contents output.old) (W.contents output.new) (E.contents error.old) (E.contents error.new) }
+    ensures statuses { result ≤ 4 }
 
     // Nothing goes to `error` but what failed, and nothing to `output` where there is nothing to do.
-    ensures quiet { result ≤ REFUSED → Keeps (E.contents error.old) (E.contents error.new) }
-    ensures untold { result ≡ MISUSED → Keeps (W.contents output.old) (W.contents output.new) }
+    ensures quiet { result ≤ 2 → Keeps (E.contents error.old) (E.contents error.new) }
+    ensures untold { result ≡ 3 → Keeps (W.contents output.old) (W.contents output.new) }
 {
     match task {
         Task::Check { .. } => match check(alloc, input, output) {
@@ -56,7 +61,7 @@ pub fn perform<R: Read, W: Write, E: Write>(
             Err(failure) => failure.report(error),
         },
         Task::Show { .. } => match show_log(alloc, input, output) {
-            Ok(shown) => shown,
+            Ok(status) => status,
             Err(failure) => failure.report(error),
         },
         Task::Packet { hex } => packet(alloc, hex.as_str(), output, error),
@@ -72,10 +77,9 @@ fn check<R: Read, W: Write>(alloc: Global, input: &mut R, output: &mut W) -> Res
     ensures reported { IfOk result (λ status. status ≤ FAULTY → IfSome (R.remaining input.old)
         (λ log. Appends (W.contents output.old) (W.contents output.new) (report log))) }
     ensures refused { IfOk result (λ status. status ≡ REFUSED → IfSome (R.remaining input.old)
-        (λ log. (refusal : Refusal) × IsRefusedBy log refusal
-        × Appends (W.contents output.old) (W.contents output.new) (refused_line refusal))) }
-    ensures begun { IfErr result (λ _. IfSome (R.remaining input.old)
-        (λ log. BeginsOnLog log (W.contents output.old) (W.contents output.new))) }
+        (λ log. RefusesCheck log (W.contents output.old) (W.contents output.new))) }
+    ensures stops { IfErr result (λ failure. IfSome (R.remaining input.old)
+        (λ log. StopsCheck failure log (R.remaining input.new) (W.contents output.old) (W.contents output.new))) }
     ensures statuses { IfOk result (λ status. status ≤ REFUSED) }
 {
     match run(alloc, input, output, Form::Text) {
@@ -90,14 +94,17 @@ fn check<R: Read, W: Write>(alloc: Global, input: &mut R, output: &mut W) -> Res
 // Shows the events of a log.
 fn show_log<R: Read, W: Write>(alloc: Global, input: &mut R, output: &mut W) -> Result<u8, Failure>
     ensures passed { IfOk result (λ status. status ≡ PASSED → IfSome (R.remaining input.old) IsJudged) }
+    ensures shown { IfOk result (λ status. status ≡ PASSED → IfSome (R.remaining input.old)
+        (λ log. Appends (W.contents output.old) (W.contents output.new) (lines_of (events log)))) }
     ensures refused { IfOk result (λ status. status ≡ REFUSED → IfSome (R.remaining input.old)
-        (λ log. (refusal : Refusal) × IsRefusedBy log refusal
-        × EndsIn (W.contents output.new) (refused_line refusal))) }
+        (λ log. RefusesShow log (W.contents output.old) (W.contents output.new))) }
+    ensures stops { IfErr result (λ failure. IfSome (R.remaining input.old)
+        (λ log. StopsShow failure log (R.remaining input.new) (W.contents output.old) (W.contents output.new))) }
     ensures statuses { IfOk result (λ status. (status ≡ PASSED) ⊎ (status ≡ REFUSED)) }
 {
     match show(alloc, input, output) {
         Ok(()) => see_out(PASSED, output),
-        Err(RunFault::Refused(refusal)) => refuse(&refusal, output),
+        Err(RunFault::Refused(why)) => refuse(&why, output),
         Err(RunFault::Write) => Err(Failure::Write),
         Err(RunFault::Memory) => Err(Failure::Memory),
     }
@@ -131,14 +138,15 @@ fn packet<W: Write, E: Write>(alloc: Global, hex: &str, output: &mut W, error: &
         → AppendsLineOf hex.now (W.contents output.old) (W.contents output.new) }
     ensures misused { result ≡ MISUSED → IsErr (decode_of hex.now)
         × Appends (E.contents error.old) (E.contents error.new) not_hex_line }
-    ensures failed { result ≡ FAILED → BeginsLineOf hex.now (W.contents output.old) (W.contents output.new) }
+    ensures failed { result ≡ FAILED → FailsPacket hex.now
+        (W.contents output.old) (W.contents output.new) (E.contents error.old) (E.contents error.new) }
     ensures statuses { (result ≤ FAULTY) ⊎ ((result ≡ MISUSED) ⊎ (result ≡ FAILED)) }
     ensures quiet { result ≤ FAULTY → Keeps (E.contents error.old) (E.contents error.new) }
     ensures untold { result ≡ MISUSED → Keeps (W.contents output.old) (W.contents output.new) }
 {
     match decode(alloc, hex) {
         Ok(bytes) => match tell_packet(bytes.as_slice(), output) {
-            Ok(told) => told,
+            Ok(status) => status,
             Err(failure) => failure.report(error),
         },
         Err(FromHexError::OutOfMemory) => Failure::Memory.report(error),
@@ -168,12 +176,14 @@ fn tell_packet<W: Write>(bytes: &[u8], output: &mut W) -> Result<u8, Failure>
 fn refuse_hex<E: Write>(error: &mut E) -> u8
     ensures told { result ≡ MISUSED
         → Appends (E.contents error.old) (E.contents error.new) not_hex_line }
+    ensures failed { result ≡ FAILED
+        → AppendsPart (E.contents error.old) (E.contents error.new) not_hex_line }
     ensures statuses { (result ≡ MISUSED) ⊎ (result ≡ FAILED) }
 {
-    let Ok(()) = put_out("mqjudge: not hex\n", error) else {
-        return FAILED;
-    };
-    MISUSED
+    match write_out("mqjudge: not hex\n", error) {
+        Ok(()) => MISUSED,
+        Err(_) => FAILED,
+    }
 }
 
 // Sees to it that what was written goes out, and gives the status.
@@ -182,41 +192,32 @@ fn see_out<W: Write>(status: u8, output: &mut W) -> Result<u8, Failure>
     ensures kept { Keeps (W.contents output.old) (W.contents output.new) }
     ensures failed { IfErr result (λ failure. failure ≡ Failure.Write) }
 {
-    output.flush().map_err(|_| Failure::Write)?;
+    flush(output)?;
     Ok(status)
 }
 
 /// Tells the caller why there is no task, and gives the status to exit with: 0 after help or the
 /// version, 3 after a misuse, and 4 where memory ran out or the text couldn't be written.
 pub fn stop<W: Write, E: Write>(stop: &Stop, output: &mut W, error: &mut E) -> u8
-    ensures shown { result ≡ PASSED → IsShownOn stop.now (W.contents output.old) (W.contents output.new) }
-    ensures told { result ≡ MISUSED → IsToldOn stop.now (E.contents error.old) (E.contents error.new) }
-    ensures statuses { (result ≡ PASSED) ⊎ ((result ≡ MISUSED) ⊎ (result ≡ FAILED)) }
+    ensures shown { result ≡ 0 → IsShownOn stop.now (W.contents output.old) (W.contents output.new) }
+    ensures told { result ≡ 3 → IsToldOn stop.now (E.contents error.old) (E.contents error.new) }
+    ensures failed { result ≡ 4 → FailsStop stop.now
+        (W.contents output.old) (W.contents output.new) (E.contents error.old) (E.contents error.new) }
+    ensures statuses { (result ≡ 0) ⊎ ((result ≡ 3) ⊎ (result ≡ 4)) }
 
     // A text goes to one of the two alone.
-    ensures quiet { result ≡ PASSED → Keeps (E.contents error.old) (E.contents error.new) }
-    ensures untold { result ≡ MISUSED → Keeps (W.contents output.old) (W.contents output.new) }
+    ensures quiet { result ≡ 0 → Keeps (E.contents error.old) (E.contents error.new) }
+    ensures untold { result ≡ 3 → Keeps (W.contents output.old) (W.contents output.new) }
 {
     match stop {
-        Stop::Help(text) => match put_out(text.as_str(), output) {
+        Stop::Help(text) => match write_out(text.as_str(), output) {
             Ok(()) => PASSED,
             Err(failure) => failure.report(error),
         },
-        Stop::Usage(text) => match put_out(text.as_str(), error) {
+        Stop::Usage(text) => match write_out(text.as_str(), error) {
             Ok(()) => MISUSED,
             Err(_) => FAILED,
         },
         Stop::Memory => Failure::Memory.report(error),
     }
-}
-
-// Writes the text, and sees it out.
-fn put_out<W: Write>(text: &str, writer: &mut W) -> Result<(), Failure>
-    ensures written { OnOk result (Appends (W.contents writer.old) (W.contents writer.new) text.now) }
-    ensures failed { IfErr result (λ failure. failure ≡ Failure.Write) }
-{
-    writer
-        .write_all(text.as_bytes())
-        .map_err(|_| Failure::Write)?;
-    writer.flush().map_err(|_| Failure::Write)
 }

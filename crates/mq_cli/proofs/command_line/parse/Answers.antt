@@ -6,8 +6,8 @@ use Rattle.mq_cli.proofs.CommandLineLemmas.{subcommand_is_named, request_is_chec
 use Rattle.mq_cli.proofs.command_line.parse.Goals as goal
 
 pub unreachable-requires : goal.unreachable-requires
-unreachable-requires c =
-    let named = subcommand_is_named (map (λ word. word.now) c.args.words.now) c.in-Ok.matches c.in-Ok.ensures.taken c.in-Ok.ensures.met in
+unreachable-requires g c =
+    let named = subcommand_is_named (map g.S.AsStr.text c.args.words.now) c.in-Ok.matches c.in-Ok.ensures.taken c.in-Ok.ensures.met in
     elim named [
       | inl h ↦ true≢false (sym (c.in-None.ensures.found.1 h))
       | inr (inl h) ↦ true≢false (sym (c.in-None-subcommand_matches.ensures.found.1 h))
@@ -15,22 +15,22 @@ unreachable-requires c =
     ]
 
 pub returns-in-Some-clause-task : goal.returns-in-Some-clause-task
-returns-in-Some-clause-task c =
-    let words = map (λ word. word.now) c.args.words.now in
+returns-in-Some-clause-task g c =
+    let words = map g.S.AsStr.text c.args.words.now in
     let asked = request_is_check words c.in-Ok.matches c.in-Some.check.now c.in-Ok.ensures.met (c.in-Some.ensures.found.0 refl) c.in-Some.ensures.rows in
     IfOk-weaker c.check_task.result _ _ (λ task h. asked ∙ ap (λ (f : Option Text). Some (check_request f)) (sym c.get_str.ensures) ∙ ap Some (sym h)) c.check_task.ensures.task
 
 pub returns-in-Some-subcommand_matches-clause-task : goal.returns-in-Some-subcommand_matches-clause-task
-returns-in-Some-subcommand_matches-clause-task c =
-    let words = map (λ word. word.now) c.args.words.now in
+returns-in-Some-subcommand_matches-clause-task g c =
+    let words = map g.S.AsStr.text c.args.words.now in
     let met = c.in-Some-subcommand_matches in
     let given = c.get_str-in-Some-subcommand_matches.ensures in
     let asked = request_is_show words c.in-Ok.matches met.show.now c.in-Ok.ensures.met (met.ensures.found.0 refl) met.ensures.rows in
     IfOk-weaker c.show_task.result _ _ (λ task h. asked ∙ ap (λ (f : Option Text). Some (show_request f)) (sym given) ∙ ap Some (sym h)) c.show_task.ensures.task
 
 pub returns-in-Some-subcommand_matches-2-clause-task : goal.returns-in-Some-subcommand_matches-2-clause-task
-returns-in-Some-subcommand_matches-2-clause-task c =
-    let words = map (λ word. word.now) c.args.words.now in
+returns-in-Some-subcommand_matches-2-clause-task g c =
+    let words = map g.S.AsStr.text c.args.words.now in
     let met = c.in-Some-subcommand_matches-2 in
     let given = c.get_str-in-Some-subcommand_matches-2.ensures in
     let asked = request_is_packet words c.in-Ok.matches met.packet.now c.in-Ok.ensures.met (met.ensures.found.0 refl) met.ensures.rows in

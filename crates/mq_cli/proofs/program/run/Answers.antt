@@ -1,0 +1,31 @@
+use Rattle.std.proofs.Common.{List, inr}
+use Rattle.clap.specs.Words.{Text}
+use Rattle.mq_cli.specs.Program.{Fails, FindsFaults, IsMisuse, Passes, Refuses}
+use Rattle.mq_cli.proofs.ProgramLemmas.{known_words}
+use Rattle.mq_cli.proofs.program.run.Goals as goal
+
+pub returns-in-Ok-clause-passed : goal.returns-in-Ok-clause-passed
+returns-in-Ok-clause-passed g c = λ e.
+    let P : List Text → Type 0 = λ words. Passes words (g.H.Host.gives c.args.host.now) (g.W.Write.contents c.args.output.now) (g.W.Write.contents c.respond.new.output) in
+    known_words _ _ _ _ P c.in-Ok.ensures.words c.as_slice.ensures.value (c.respond.ensures.passed e)
+
+pub returns-in-Ok-clause-faulty : goal.returns-in-Ok-clause-faulty
+returns-in-Ok-clause-faulty g c = λ e.
+    let P : List Text → Type 0 = λ words. FindsFaults words (g.H.Host.gives c.args.host.now) (g.W.Write.contents c.args.output.now) (g.W.Write.contents c.respond.new.output) in
+    known_words _ _ _ _ P c.in-Ok.ensures.words c.as_slice.ensures.value (c.respond.ensures.faulty e)
+
+pub returns-in-Ok-clause-refused : goal.returns-in-Ok-clause-refused
+returns-in-Ok-clause-refused g c = λ e.
+    let P : List Text → Type 0 = λ words. Refuses words (g.H.Host.gives c.args.host.now) (g.W.Write.contents c.args.output.now) (g.W.Write.contents c.respond.new.output) in
+    known_words _ _ _ _ P c.in-Ok.ensures.words c.as_slice.ensures.value (c.respond.ensures.refused e)
+
+pub returns-in-Ok-clause-misused : goal.returns-in-Ok-clause-misused
+returns-in-Ok-clause-misused g c = λ e.
+    let P : List Text → Type 0 = λ words. IsMisuse words (g.E.Write.contents c.args.error.now) (g.E.Write.contents c.respond.new.error) in
+    known_words _ _ _ _ P c.in-Ok.ensures.words c.as_slice.ensures.value (c.respond.ensures.misused e)
+
+pub returns-in-Ok-clause-failed : goal.returns-in-Ok-clause-failed
+returns-in-Ok-clause-failed g c = λ e.
+    let P : List Text → Type 0 = λ words. Fails words (g.H.Host.gives c.args.host.now) (g.W.Write.contents c.args.output.now) (g.W.Write.contents c.respond.new.output)
+    (g.E.Write.contents c.args.error.now) (g.E.Write.contents c.respond.new.error) in
+    inr (known_words _ _ _ _ P c.in-Ok.ensures.words c.as_slice.ensures.value (c.respond.ensures.failed e))
