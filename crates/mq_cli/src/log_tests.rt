@@ -116,8 +116,9 @@ static ROWS: [Row; 27] = [
             Sent(CONNACK),
             Sent(PUBLISH_ONCE),
         ],
-        status: PASSED,
-        report: "pass 9 events\n",
+        status: FAULTY,
+        report: "fault 4 B01 MQTT-3.3.2-3 decided 4 record 4 offset -\n\
+            fault 9 B01 MQTT-3.3.2-3 decided 9 record 9 offset -\nfail 2 faults 9 events\n",
     },
     Row {
         role: SERVER,
@@ -138,7 +139,9 @@ static ROWS: [Row; 27] = [
             Sent(PUBLISH_ONCE),
         ],
         status: FAULTY,
-        report: "fault 14 S01 MQTT-2.2.1-4 decided 14 record 14 offset -\nfail 1 faults 14 events\n",
+        report: "fault 4 B01 MQTT-3.3.2-3 decided 4 record 4 offset -\n\
+            fault 14 S01 MQTT-2.2.1-4 decided 14 record 14 offset -\n\
+            fault 14 B01 MQTT-3.3.2-3 decided 14 record 14 offset -\nfail 3 faults 14 events\n",
     },
     // Each of the fifteen packets.
     Row {
@@ -236,7 +239,10 @@ static ROWS: [Row; 27] = [
             Sent(PUBLISH_ONCE),
         ],
         status: FAULTY,
-        report: "fault 6 S01 MQTT-2.2.1-4 decided 6 record 6 offset -\nfail 1 faults 6 events\n",
+        report: "fault 4 B01 MQTT-3.3.2-3 decided 4 record 4 offset -\n\
+            fault 5 E1A MQTT-2.2.1-5 decided 5 record 5 offset -\n\
+            fault 6 S01 MQTT-2.2.1-4 decided 6 record 6 offset -\n\
+            fault 6 B01 MQTT-3.3.2-3 decided 6 record 6 offset -\nfail 4 faults 6 events\n",
     },
     // On a connection that was refused only the bytes of packets are judged.
     Row {
@@ -477,11 +483,13 @@ static ROWS: [Row; 27] = [
     },
 ];
 
-// The bytes of one packet that the tested end sends, the rule that they break, and the place where.
+// The bytes of one packet that a client sends after its CONNACK, the rule that they break and where, and the
+// statement that its type breaks there, if any.
 struct Broken {
     packet: &'static [u8],
     statement: &'static str,
     offset: u8,
+    also: Option<&'static str>,
 }
 
 static BROKEN: [Broken; 23] = [
@@ -489,116 +497,139 @@ static BROKEN: [Broken; 23] = [
         packet: b"\x41\x02\x00\x01",
         statement: "W01 MQTT-2.1.3-1",
         offset: 0,
+        also: None,
     },
     Broken {
         packet: b"\x00\x00",
         statement: "W02 sec-2.1.2",
         offset: 0,
+        also: None,
     },
     Broken {
         packet: b"\x30\x06\x00\x01a\x80\x00x",
         statement: "W03 MQTT-1.5.5-1",
         offset: 5,
+        also: None,
     },
     Broken {
         packet: b"\x30\x04\x00\x01\xff\x00",
         statement: "W04 MQTT-1.5.4-1",
         offset: 2,
+        also: None,
     },
     Broken {
         packet: b"\x30\x04\x00\x01\x00\x00",
         statement: "W05 MQTT-1.5.4-2",
         offset: 2,
+        also: None,
     },
     Broken {
         packet: b"\xc0\x01\x00",
         statement: "W06 sec-2.1.4",
         offset: 2,
+        also: None,
     },
     Broken {
         packet: b"\x30\x07\x00\x01a\xff\xff\xff\x7f",
         statement: "W06 sec-2.1.4",
         offset: 5,
+        also: None,
     },
     Broken {
         packet: b"\x36\x07\x00\x01a\x00\x01\x00x",
         statement: "W07 MQTT-3.3.1-4",
         offset: 0,
+        also: None,
     },
     Broken {
         packet: b"\x38\x05\x00\x01a\x00x",
         statement: "W08 MQTT-3.3.1-2",
         offset: 0,
+        also: None,
     },
     Broken {
         packet: b"\x40\x02\x00\x00",
         statement: "W09 sec-2.2.1",
         offset: 2,
+        also: None,
     },
     Broken {
         packet: b"\x30\x08\x00\x01a\x03\x21\x00\x01x",
         statement: "W10 sec-2.2.2.2",
         offset: 6,
+        also: None,
     },
     Broken {
         packet: b"\x30\x09\x00\x01a\x04\x01\x00\x01\x00x",
         statement: "W11 sec-2.2.2.2",
         offset: 8,
+        also: None,
     },
     Broken {
         packet: b"\x30\x08\x00\x01a\x03\x23\x00\x00x",
         statement: "W12 sec-2.2.2.2",
         offset: 7,
+        also: None,
     },
     Broken {
         packet: b"\x40\x03\x00\x01\x01",
         statement: "W13 sec-2.4",
         offset: 4,
+        also: None,
     },
     Broken {
         packet: b"\x30\x04\x00\x01#\x00",
         statement: "W14 sec-3.3.2",
         offset: 2,
+        also: None,
     },
     Broken {
         packet: b"\x82\x08\x00\x01\x00\x00\x02a#\x00",
         statement: "W15 sec-4.7",
         offset: 5,
+        also: None,
     },
     Broken {
         packet: b"\x82\x03\x00\x01\x00",
         statement: "W16 MQTT-3.8.3-2,MQTT-3.10.3-2",
         offset: 5,
+        also: None,
     },
     Broken {
         packet: b"\x82\x07\x00\x01\x00\x00\x01a\x03",
         statement: "W17 sec-3.8.3",
         offset: 8,
+        also: None,
     },
     Broken {
         packet: b"\x10\x0d\x00\x04MQTX\x05\x02\x00\x3c\x00\x00\x00",
         statement: "W18 sec-3.1.2",
         offset: 2,
+        also: Some("C03 sec-3.1"),
     },
     Broken {
         packet: b"\x10\x0d\x00\x04MQTT\x05\x03\x00\x3c\x00\x00\x00",
         statement: "W19 sec-3.1.2",
         offset: 9,
+        also: Some("C03 sec-3.1"),
     },
     Broken {
         packet: b"\x20\x03\x02\x00\x00",
         statement: "W20 MQTT-3.2.2-1",
         offset: 2,
+        also: Some("C01 sec-2.1.2"),
     },
     Broken {
         packet: b"\x30\x04\x00\x00\x00x",
         statement: "W21 sec-3.3.2",
         offset: 4,
+        also: None,
     },
     Broken {
         packet: b"\x30\xff\xff\xff\xff",
         statement: "W03 MQTT-1.5.5-1",
         offset: 1,
+        also: None,
     },
 ];
 
@@ -642,15 +673,30 @@ fn judges_packets_whole_and_byte_by_byte(rt: HostRuntime) -> Result<(), Fail> {
     Ok(())
 }
 
+// The report on that packet.
+fn report_on(alloc: Global, broken: &Broken) -> Result<String, AllocError> {
+    let Broken {
+        statement,
+        offset,
+        ..
+    } = broken;
+    match broken.also {
+        Some(also) => format!(in alloc;
+            "fault 4 {statement} decided 4 record 4 offset {offset}\n\
+            fault 4 {also} decided 4 record 4 offset -\nfail 2 faults 4 events\n"
+        ),
+        None => format!(in alloc;
+            "fault 4 {statement} decided 4 record 4 offset {offset}\nfail 1 faults 4 events\n"
+        ),
+    }
+}
+
 #[test]
 fn names_the_rule_that_bytes_break(rt: HostRuntime) -> Result<(), Fail> {
     for broken in &BROKEN {
         let parts = [Open, Sent(CONNECT), Recv(CONNACK), Sent(broken.packet)];
         let log = log_of(rt.alloc(), CLIENT, &parts)?;
-        let report = format!(in rt.alloc();
-            "fault 4 {} decided 4 record 4 offset {}\nfail 1 faults 4 events\n",
-            broken.statement, broken.offset
-        )?;
+        let report = report_on(rt.alloc(), broken)?;
         assert!(rt;
             is_told(rt.alloc(), &log, FAULTY, report.as_str())?,
             "{report}"

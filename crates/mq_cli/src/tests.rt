@@ -430,12 +430,11 @@ fn tells_why_there_is_no_task(rt: HostRuntime) -> Result<(), Fail> {
     assert!(rt; is_stopped(rt.alloc(), &help, PASSED, text, ""));
     assert!(rt; is_stopped(rt.alloc(), &usage, MISUSED, "", text));
     assert!(rt; is_stopped(rt.alloc(), &Stop::Memory, FAILED, "", memory));
-    let mut error = Vec::new(rt.alloc());
-    let mut output = Narrow {
-        room: 5,
-        stays: false,
-    };
-    assert_eq!(rt; stop(&help, &mut output, &mut error), FAILED);
-    assert_eq!(rt; error.as_slice(), &b"mqjudge: write failed\n"[..]);
+    for (room, stays) in [(5, false), (100, true)] {
+        let mut error = Vec::new(rt.alloc());
+        let mut output = Narrow { room, stays };
+        assert_eq!(rt; stop(&help, &mut output, &mut error), FAILED);
+        assert_eq!(rt; error.as_slice(), &b"mqjudge: write failed\n"[..]);
+    }
     Ok(())
 }

@@ -1,0 +1,231 @@
+use crate::failure::Failure;
+use crate::host::Host;
+use crate::program::run;
+use std::alloc::Global;
+
+// A session of four events.
+const GOOD: &[u8] = b"MQTR\x01\x00\x01\x00\
+    \x01\x00\x00\x00\x00\
+    \x02\x00\x00\x00\x0f\x10\x0d\x00\x04MQTT\x05\x02\x00\x3c\x00\x00\x00\
+    \x03\x00\x00\x00\x05\x20\x03\x00\x00\x00\
+    \x02\x00\x00\x00\x09\x32\x07\x00\x01a\x00\x01\x00x";
+
+// The same with a Packet Identifier of 0.
+const FAULTY: &[u8] = b"MQTR\x01\x00\x01\x00\
+    \x01\x00\x00\x00\x00\
+    \x02\x00\x00\x00\x0f\x10\x0d\x00\x04MQTT\x05\x02\x00\x3c\x00\x00\x00\
+    \x03\x00\x00\x00\x05\x20\x03\x00\x00\x00\
+    \x02\x00\x00\x00\x09\x32\x07\x00\x01a\x00\x00\x00x";
+
+// Two connections at once.
+const NESTED: &[u8] = b"MQTR\x01\x00\x01\x00\x01\x00\x00\x00\x00\x01\x00\x00\x00\x00";
+
+const PASS: &str = "pass 4 events\n";
+
+const FAIL: &str = "fault 4 W09 sec-2.2.1 decided 4 record 4 offset 5\nfail 1 faults 4 events\n";
+
+const LINES: &str = "1 record 1 OPEN\n\
+    2 record 2 SENT CONNECT size 15\n\
+    3 record 3 RECV CONNACK size 5\n\
+    4 record 4 SENT PUBLISH size 9 qos 1 dup 0 id 1\n";
+
+const REFUSED: &str = "refused 7 Nested at 13\n";
+
+const REFUSED_LINES: &str = "1 record 1 OPEN\nrefused 7 Nested at 13\n";
+
+const MISUSE: &str = "error: unexpected argument 'b' found\n\n\
+    Usage: mqjudge check [FILE]\n\n\
+    For more information, try '--help'.\n";
+
+const READ_FAILED: &str = "mqjudge: read failed\n";
+
+const NO_MEMORY: &str = "mqjudge: out of memory\n";
+
+// A host with these words, which fail where there are none; with one file, at `a.log`; and with a standard input. Where it can't
+// open a file, or has no words, it fails so.
+#[derive(Drop)]
+struct Desk {
+    alloc: Global,
+    words: &'static [&'static str],
+    file: &'static [u8],
+    input: &'static [u8],
+    failure: Failure,
+}
+
+impl Host for Desk {
+    ghost use Rattle.std.specs.Prelude.{None, ⊤};
+
+    type File = &'static [u8];
+
+    type Stdin = &'static [u8];
+
+    ghost gives = { λ _. record {
+      words = None;
+      file = λ _. None;
+      standard = None;
+      unread = λ _. ⊤;
+      unopened = λ _ _. ⊤;
+    } };
+
+    fn arguments(&self) -> Result<Vec<String>, Failure> {
+        let mut arguments = Vec::new(self.alloc);
+        for word in self.words {
+            let word = String::from_str(self.alloc, word).map_err(|_| Failure::Memory)?;
+            arguments.push(word).map_err(|_| Failure::Memory)?;
+        }
+        if arguments.is_empty() {
+            return Err(self.failure);
+        }
+        Ok(arguments)
+    }
+
+    fn open(&self, path: &str) -> Result<&'static [u8], Failure> {
+        if path == "a.log" {
+            Ok(self.file)
+        } else {
+            Err(self.failure)
+        }
+    }
+
+    fn input(&self) -> &'static [u8] {
+        self.input
+    }
+}
+
+// The words, the file and standard input; and the status, the output and the errors.
+type Row = (
+    &'static [&'static str],
+    [&'static [u8]; 2],
+    u8,
+    &'static str,
+    &'static str,
+);
+
+static ROWS: [Row; 18] = [
+    (&["mqjudge", "check", "a.log"], [GOOD, FAULTY], 0, PASS, ""),
+    (&["mqjudge", "check", "a.log"], [FAULTY, GOOD], 1, FAIL, ""),
+    (
+        &["mqjudge", "check", "a.log"],
+        [NESTED, GOOD],
+        2,
+        REFUSED,
+        "",
+    ),
+    (
+        &["mqjudge", "check", "b.log"],
+        [GOOD, GOOD],
+        4,
+        "",
+        READ_FAILED,
+    ),
+    (&["mqjudge", "check"], [FAULTY, GOOD], 0, PASS, ""),
+    (&["mqjudge", "check", "-"], [FAULTY, GOOD], 0, PASS, ""),
+    (
+        &["mqjudge", "check", "./-"],
+        [GOOD, GOOD],
+        4,
+        "",
+        READ_FAILED,
+    ),
+    (
+        &["mqjudge", "check", "a.log", "b"],
+        [GOOD, GOOD],
+        3,
+        "",
+        MISUSE,
+    ),
+    (&["mqjudge", "show", "a.log"], [GOOD, NESTED], 0, LINES, ""),
+    (
+        &["mqjudge", "show", "a.log"],
+        [NESTED, GOOD],
+        2,
+        REFUSED_LINES,
+        "",
+    ),
+    (
+        &["mqjudge", "show", "b.log"],
+        [GOOD, GOOD],
+        4,
+        "",
+        READ_FAILED,
+    ),
+    (&["mqjudge", "show"], [NESTED, GOOD], 0, LINES, ""),
+    (&["mqjudge", "show", "-"], [NESTED, GOOD], 0, LINES, ""),
+    (
+        &["mqjudge", "packet", "C000"],
+        [GOOD, GOOD],
+        0,
+        "PINGREQ size 2\n",
+        "",
+    ),
+    (
+        &["mqjudge", "packet", "C100"],
+        [GOOD, GOOD],
+        1,
+        "BAD W01 offset 0\n",
+        "",
+    ),
+    (
+        &["mqjudge", "packet", "C"],
+        [GOOD, GOOD],
+        3,
+        "",
+        "mqjudge: not hex\n",
+    ),
+    (
+        &["mqjudge", "--version"],
+        [GOOD, GOOD],
+        0,
+        "mqjudge 0.1.0\n",
+        "",
+    ),
+    (&[], [GOOD, GOOD], 4, "", READ_FAILED),
+];
+
+// Whether the program, with these words and this file and standard input, does this; `failure` is why the host fails, where it does.
+fn does(alloc: Global, failure: Failure, row: &Row) -> bool {
+    let (words, [file, input], status, shown, told) = *row;
+    let desk = Desk {
+        alloc,
+        words,
+        file,
+        input,
+        failure,
+    };
+    let mut output = Vec::new(alloc);
+    let mut error = Vec::new(alloc);
+    run(alloc, &desk, &mut output, &mut error) == status
+        && output.as_slice() == shown.as_bytes()
+        && error.as_slice() == told.as_bytes()
+}
+
+#[test]
+fn does_what_the_words_ask_for(rt: HostRuntime) {
+    for row in &ROWS {
+        assert!(rt; does(rt.alloc(), Failure::Read, row), "{:?}", row.0);
+    }
+}
+
+#[test]
+fn names_what_the_host_failed_at(rt: HostRuntime) {
+    let rows: [Row; 3] = [
+        (
+            &["mqjudge", "check", "b.log"],
+            [GOOD, GOOD],
+            4,
+            "",
+            NO_MEMORY,
+        ),
+        (
+            &["mqjudge", "show", "b.log"],
+            [GOOD, GOOD],
+            4,
+            "",
+            NO_MEMORY,
+        ),
+        (&[], [GOOD, GOOD], 4, "", NO_MEMORY),
+    ];
+    for row in &rows {
+        assert!(rt; does(rt.alloc(), Failure::Memory, row), "{:?}", row.0);
+    }
+}

@@ -1,0 +1,254 @@
+//! Worked logs: for each statement, and each end that it binds, a log that breaks it and the nearest one that doesn't, with
+//! the whole text that `check` writes of it. Each is written from the statement's words, and not from what the program does.
+//!
+//! A log is a row of words. The first names the tested end: `client` or `server`, or `silent-client` where no releases are
+//! recorded. Each other word is a record: `OPEN`, `CLOSE`, `REST`, `RELEASE:1`, and `>CONNECT` or `<CONNACK` for bytes that
+//! the tested end sent or received, by a name of `packets` or in hexadecimal.
+//!
+//! A table of logs is a text with a row a line: what the row is there to tell, the log, and the report, with a semicolon between its
+//! lines.
+
+mod choices;
+mod corners;
+mod early;
+mod exchanges;
+mod identifiers;
+mod later;
+mod packets;
+mod pasts;
+mod releases;
+mod resends;
+mod shapes;
+mod subscriptions;
+mod worked;
+
+use crate::failure::{FAULTY, PASSED, REFUSED};
+use crate::tests::is_told;
+use hex::decode;
+use packets::PACKETS;
+use std::alloc::{AllocError, Global};
+use std::test::Fail;
+
+// Puts a record into the log; its body is shorter than 256 bytes.
+fn add_record(log: &mut Vec<u8>, kind: u8, body: &[u8]) -> Result<(), AllocError> {
+    let Ok(length) = u8::try_from(body.len()) else {
+        return Ok(());
+    };
+    log.extend_from_slice(&[kind, 0, 0, 0, length])?;
+    log.extend_from_slice(body)
+}
+
+// The digits of the bytes that a word names, or is.
+fn digits_of(word: &'static str) -> &'static str {
+    for (name, digits) in &PACKETS {
+        if *name == word {
+            return digits;
+        }
+    }
+    word
+}
+
+// Puts what was sent or received into the log.
+fn add_bytes(
+    alloc: Global,
+    log: &mut Vec<u8>,
+    kind: u8,
+    word: &'static str,
+) -> Result<(), AllocError> {
+    match decode(alloc, digits_of(word)) {
+        Ok(bytes) => add_record(log, kind, bytes.as_slice()),
+        Err(_) => Err(AllocError),
+    }
+}
+
+// Puts what the word says into the log: its header, or a record.
+fn add_word(alloc: Global, log: &mut Vec<u8>, word: &'static str) -> Result<(), AllocError> {
+    if let Some(packet) = word.strip_prefix('>') {
+        return add_bytes(alloc, log, 2, packet);
+    }
+    if let Some(packet) = word.strip_prefix('<') {
+        return add_bytes(alloc, log, 3, packet);
+    }
+    match word {
+        "client" => log.extend_from_slice(b"MQTR\x01\x00\x01\x00"),
+        "silent-client" => log.extend_from_slice(b"MQTR\x01\x00\x00\x00"),
+        "server" => log.extend_from_slice(b"MQTR\x01\x01\x01\x00"),
+        "OPEN" => add_record(log, 1, &[]),
+        "CLOSE" => add_record(log, 4, &[]),
+        "REST" => add_record(log, 5, &[]),
+        "RELEASE:0" => add_record(log, 6, &[0, 0]),
+        "RELEASE:1" => add_record(log, 6, &[0, 1]),
+        "RELEASE:2" => add_record(log, 6, &[0, 2]),
+        _ => Err(AllocError),
+    }
+}
+
+fn log_of(alloc: Global, words: &'static str) -> Result<Vec<u8>, AllocError> {
+    let mut log = Vec::new(alloc);
+    for word in words.split_whitespace() {
+        add_word(alloc, &mut log, word)?;
+    }
+    Ok(log)
+}
+
+// The status that a report is written with.
+fn status_of(report: &str) -> u8 {
+    if report.starts_with("pass") {
+        PASSED
+    } else if report.starts_with("refused") {
+        REFUSED
+    } else {
+        FAULTY
+    }
+}
+
+// The report of these lines, between which there are semicolons.
+fn report_of(alloc: Global, lines: &'static str) -> Result<String, AllocError> {
+    let mut report = String::new(alloc);
+    for line in lines.split(';') {
+        report.push_str(line.trim())?;
+        report.push('\n')?;
+    }
+    Ok(report)
+}
+
+fn is_judged_so(alloc: Global, words: &'static str, lines: &'static str) -> Result<bool, Fail> {
+    let log = log_of(alloc, words)?;
+    let report = report_of(alloc, lines)?;
+    Ok(is_told(alloc, &log, status_of(report.as_str()), report.as_str())?)
+}
+
+// Whether the log of a row is judged as the row says, which has three parts.
+fn is_row_right(alloc: Global, row: &'static str) -> Result<bool, Fail> {
+    let Some((_, rest)) = row.split_once('|') else {
+        return Ok(false);
+    };
+    let Some((words, lines)) = rest.split_once('|') else {
+        return Ok(false);
+    };
+    is_judged_so(alloc, words, lines)
+}
+
+// The first row whose log is judged otherwise.
+fn first_wrong(alloc: Global, rows: &'static str) -> Result<Option<&'static str>, Fail> {
+    for row in rows.split('\n') {
+        if !is_row_right(alloc, row)? {
+            return Ok(Some(row));
+        }
+    }
+    Ok(None)
+}
+
+#[test]
+fn judges_worked_logs(rt: HostRuntime) -> Result<(), Fail> {
+    assert_eq!(rt; first_wrong(rt.alloc(), worked::ROWS)?, None);
+    Ok(())
+}
+
+#[test]
+fn judges_the_spelling_of_packets(rt: HostRuntime) -> Result<(), Fail> {
+    assert_eq!(rt; first_wrong(rt.alloc(), shapes::FRAMING)?, None);
+    Ok(())
+}
+
+#[test]
+fn judges_flags_identifiers_and_properties(rt: HostRuntime) -> Result<(), Fail> {
+    assert_eq!(rt; first_wrong(rt.alloc(), shapes::FIELDS)?, None);
+    Ok(())
+}
+
+#[test]
+fn judges_topics_and_filters(rt: HostRuntime) -> Result<(), Fail> {
+    assert_eq!(rt; first_wrong(rt.alloc(), shapes::TEXTS)?, None);
+    Ok(())
+}
+
+#[test]
+fn judges_how_a_connection_begins(rt: HostRuntime) -> Result<(), Fail> {
+    assert_eq!(rt; first_wrong(rt.alloc(), pasts::BEGINNINGS)?, None);
+    Ok(())
+}
+
+#[test]
+fn judges_sessions_that_are_resumed(rt: HostRuntime) -> Result<(), Fail> {
+    assert_eq!(rt; first_wrong(rt.alloc(), pasts::SESSIONS)?, None);
+    Ok(())
+}
+
+#[test]
+fn judges_by_what_the_peer_announced(rt: HostRuntime) -> Result<(), Fail> {
+    assert_eq!(rt; first_wrong(rt.alloc(), pasts::LIMITS)?, None);
+    Ok(())
+}
+
+#[test]
+fn judges_properties_and_rest(rt: HostRuntime) -> Result<(), Fail> {
+    assert_eq!(rt; first_wrong(rt.alloc(), pasts::PROPERTIES)?, None);
+    Ok(())
+}
+
+#[test]
+fn judges_identifiers_of_messages(rt: HostRuntime) -> Result<(), Fail> {
+    assert_eq!(rt; first_wrong(rt.alloc(), identifiers::ROWS)?, None);
+    Ok(())
+}
+
+#[test]
+fn judges_what_the_requests_ask(rt: HostRuntime) -> Result<(), Fail> {
+    assert_eq!(rt; first_wrong(rt.alloc(), resends::REQUESTS)?, None);
+    Ok(())
+}
+
+#[test]
+fn judges_what_is_sent_again(rt: HostRuntime) -> Result<(), Fail> {
+    assert_eq!(rt; first_wrong(rt.alloc(), resends::RESENDS)?, None);
+    Ok(())
+}
+
+#[test]
+fn judges_what_a_resumed_session_owes(rt: HostRuntime) -> Result<(), Fail> {
+    assert_eq!(rt; first_wrong(rt.alloc(), resends::REDELIVERY)?, None);
+    Ok(())
+}
+
+#[test]
+fn judges_exchanges(rt: HostRuntime) -> Result<(), Fail> {
+    assert_eq!(rt; first_wrong(rt.alloc(), exchanges::EXCHANGES)?, None);
+    Ok(())
+}
+
+#[test]
+fn judges_the_corners_of_exchanges(rt: HostRuntime) -> Result<(), Fail> {
+    assert_eq!(rt; first_wrong(rt.alloc(), exchanges::CASES)?, None);
+    Ok(())
+}
+
+#[test]
+fn judges_releases(rt: HostRuntime) -> Result<(), Fail> {
+    assert_eq!(rt; first_wrong(rt.alloc(), releases::ROWS)?, None);
+    Ok(())
+}
+
+#[test]
+fn judges_subscriptions(rt: HostRuntime) -> Result<(), Fail> {
+    assert_eq!(rt; first_wrong(rt.alloc(), subscriptions::ROWS)?, None);
+    Ok(())
+}
+
+#[test]
+fn judges_sessions_over_several_connections(rt: HostRuntime) -> Result<(), Fail> {
+    assert_eq!(rt; first_wrong(rt.alloc(), later::ROWS)?, None);
+    Ok(())
+}
+
+#[test]
+fn judges_corners_of_sessions(rt: HostRuntime) -> Result<(), Fail> {
+    assert_eq!(rt; first_wrong(rt.alloc(), corners::ROWS)?, None);
+    Ok(())
+}
+
+#[test]
+fn settles_what_the_standard_leaves_open(rt: HostRuntime) -> Result<(), Fail> {
+    assert_eq!(rt; first_wrong(rt.alloc(), choices::ROWS)?, None);
+    Ok(())
+}
