@@ -1,0 +1,269 @@
+#!/usr/bin/env python3
+"""Runs the built program and compares its status, its output and its errors with what is written down here.
+
+It covers what no proof reaches: `main`, files, the standard streams and the words of the command line. Each run has files and a
+standard input of its own, and one where the wrong one is read gives the wrong answer.
+
+usage: bench/program.py [PROGRAM]      (crates/mq_cli/out/mq_cli where it is left out)
+"""
+import os
+import subprocess
+import sys
+import tempfile
+from collections.abc import Callable
+from dataclasses import dataclass
+from pathlib import Path
+
+HERE = Path(__file__).resolve().parent
+PROGRAM = HERE.parent / "crates" / "mq_cli" / "out" / "mq_cli"
+SECONDS = 60
+
+HEADER = b"MQTR\x01\x00\x01\x00"
+OPEN = b"\x01\x00\x00\x00\x00"
+CONNECT = b"\x02\x00\x00\x00\x0f\x10\x0d\x00\x04MQTT\x05\x02\x00\x3c\x00\x00\x00"
+CONNACK = b"\x03\x00\x00\x00\x05\x20\x03\x00\x00\x00"
+PUBLISH = b"\x02\x00\x00\x00\x09\x32\x07\x00\x01a\x00\x01\x00x"
+
+# A session of four events, one whose client takes an identifier that is in use, and a log that opens two connections at once.
+GOOD = HEADER + OPEN + CONNECT + CONNACK + PUBLISH
+FAULTY = GOOD + PUBLISH
+NESTED = HEADER + OPEN + OPEN
+PINGS = 70_000
+MANY = HEADER + OPEN + CONNECT + CONNACK + b"\x02" + (2 * PINGS).to_bytes(4, "big") + b"\xc0\x00" * PINGS
+
+PASS = "pass 4 events\n"
+FAIL = "fault 5 S01 MQTT-2.2.1-3 decided 5 record 5 offset -\nfail 1 faults 5 events\n"
+REFUSED = "refused 7 Nested at 13\n"
+FIRST_LINES = "1 record 1 OPEN\n2 record 2 SENT CONNECT size 15\n3 record 3 RECV CONNACK size 5\n"
+LINES = FIRST_LINES + "4 record 4 SENT PUBLISH size 9 qos 1 dup 0 id 1\n"
+MANY_LINES = FIRST_LINES + "".join(f"{at} record 4 SENT PINGREQ size 2\n" for at in range(4, PINGS + 4))
+READ_FAILED = "mqjudge: read failed\n"
+WRITE_FAILED = "mqjudge: write failed\n"
+NOT_HEX = "mqjudge: not hex\n"
+
+HELP = """\
+Judges the log of one end of an MQTT 5.0 session
+
+Usage: mqjudge <COMMAND>
+
+Commands:
+  check   Judges a log and reports each fault
+  show    Shows each event of a log
+  packet  Says which packet some bytes are
+  help    Print this message or the help of the given subcommand(s)
+
+Options:
+  -h, --help     Print help
+  -V, --version  Print version
+"""
+CHECK_HELP = """\
+Judges a log and reports each fault
+
+Usage: mqjudge check [FILE]
+
+Arguments:
+  [FILE]  The log; standard input where it is left out or `-`
+
+Options:
+  -h, --help  Print help
+"""
+VERSION = "mqjudge 0.1.0\n"
+FURTHER_OPERAND = """\
+error: unexpected argument 'b' found
+
+Usage: mqjudge check [FILE]
+
+For more information, try '--help'.
+"""
+UNKNOWN_WORD = """\
+error: unrecognized subcommand 'judge'
+
+Usage: mqjudge <COMMAND>
+
+For more information, try '--help'.
+"""
+NO_WORD = """\
+error: 'mqjudge' requires a subcommand but one was not provided
+  [subcommands: check, show, packet, help]
+
+Usage: mqjudge <COMMAND>
+
+For more information, try '--help'.
+"""
+NO_OPERAND = """\
+error: the following required arguments were not provided:
+  <HEX>
+
+Usage: mqjudge packet <HEX>
+
+For more information, try '--help'.
+"""
+
+
+@dataclass
+class Run:
+    """The words, what they are to give, and the standard input; the files of `FILES` lie where it runs."""
+
+    words: list[str | bytes]
+    status: int
+    output: str = ""
+    errors: str = ""
+    stdin: bytes | Path = b""
+
+
+FILES = {"good.log": GOOD, "faulty.log": FAULTY, "nested.log": NESTED, "short.log": GOOD[:-1], "many.log": MANY, "-": FAULTY}
+
+RUNS = [
+    # A file is read, and not standard input.
+    Run(["check", "good.log"], 0, PASS, stdin=FAULTY),
+    Run(["check", "faulty.log"], 1, FAIL, stdin=GOOD),
+    Run(["check", "nested.log"], 2, REFUSED, stdin=GOOD),
+    Run(["check", "short.log"], 2, f"refused 10 Cut at {len(GOOD) - 1}\n"),
+    Run(["check", "many.log"], 0, f"pass {PINGS + 3} events\n"),
+    Run(["show", "good.log"], 0, LINES, stdin=NESTED),
+    Run(["show", "nested.log"], 2, "1 record 1 OPEN\n" + REFUSED, stdin=GOOD),
+    Run(["show", "many.log"], 0, MANY_LINES),
+    # Without a file, or with `-`, standard input is.
+    Run(["check"], 0, PASS, stdin=GOOD),
+    Run(["check"], 1, FAIL, stdin=FAULTY),
+    Run(["check"], 2, REFUSED, stdin=NESTED),
+    Run(["check"], 2, "refused 10 Cut at 0\n"),
+    Run(["check", "-"], 0, PASS, stdin=GOOD),
+    Run(["check", "--", "-"], 0, PASS, stdin=GOOD),
+    Run(["check", "./-"], 1, FAIL, stdin=GOOD),
+    Run(["show"], 0, LINES, stdin=GOOD),
+    Run(["show"], 2, "1 record 1 OPEN\n" + REFUSED, stdin=NESTED),
+    Run(["show"], 0, MANY_LINES, stdin=MANY),
+    Run(["show", "-"], 0, LINES, stdin=GOOD),
+    Run(["check"], 0, PASS, stdin=Path("good.log")),
+    Run(["show", "-"], 0, LINES, stdin=Path("good.log")),
+    # What can't be opened or read.
+    Run(["check", "missing.log"], 4, errors=READ_FAILED, stdin=GOOD),
+    Run(["show", "missing.log"], 4, errors=READ_FAILED, stdin=GOOD),
+    Run(["check", ""], 4, errors=READ_FAILED, stdin=GOOD),
+    Run(["check", "."], 4, errors=READ_FAILED, stdin=GOOD),
+    Run(["show", "."], 4, errors=READ_FAILED, stdin=GOOD),
+    Run(["check"], 4, errors=READ_FAILED, stdin=Path(".")),
+    Run(["show"], 4, errors=READ_FAILED, stdin=Path(".")),
+    Run(["check", b"\xff.log"], 4, errors=READ_FAILED, stdin=GOOD),
+    # A packet's bytes are in the words.
+    Run(["packet", "40020001"], 0, "PUBACK size 4 id 1\n", stdin=NESTED),
+    Run(["packet", "41020001"], 1, "BAD W01 offset 0\n"),
+    Run(["packet", ""], 1, "need more bytes\n"),
+    Run(["packet", "4002000"], 3, errors=NOT_HEX),
+    Run(["packet", "4002000g"], 3, errors=NOT_HEX),
+    Run(["packet", "-"], 3, errors=NOT_HEX, stdin=b"40020001"),
+    # Help and the version are for standard output, a misuse is for standard error.
+    Run(["--help"], 0, HELP),
+    Run(["help"], 0, HELP),
+    Run(["check", "--help"], 0, CHECK_HELP),
+    Run(["--version"], 0, VERSION),
+    Run(["-V"], 0, VERSION),
+    Run(["check", "good.log", "b"], 3, errors=FURTHER_OPERAND),
+    Run(["check", "-", "b"], 3, errors=FURTHER_OPERAND, stdin=GOOD),
+    Run(["judge"], 3, errors=UNKNOWN_WORD),
+    Run([], 3, errors=NO_WORD),
+    Run(["packet"], 3, errors=NO_OPERAND),
+]
+
+# Where standard output takes nothing: the words, and whether they read standard input.
+UNWRITTEN = [
+    ["check", "good.log"],
+    ["check", "faulty.log"],
+    ["check", "nested.log"],
+    ["show", "good.log"],
+    ["show", "nested.log"],
+    ["show", "many.log"],
+    ["packet", "40020001"],
+    ["packet", "41020001"],
+    ["--help"],
+    ["--version"],
+]
+
+# Where standard error takes nothing: the words, and the status.
+UNTOLD = [(["judge"], 4), ([], 4), (["packet", "4"], 4), (["check", "missing.log"], 4), (["check", "good.log"], 0)]
+
+
+class Tally:
+    def __init__(self) -> None:
+        self.passed = 0
+        self.failed = 0
+
+    def compare(self, name: str, found: tuple, wanted: tuple) -> None:
+        if found == wanted:
+            self.passed += 1
+            return
+        self.failed += 1
+        print(f"{name}:")
+        for what, is_now, was_wanted in zip(("status", "output", "errors"), found, wanted):
+            if is_now != was_wanted:
+                print(f"  {what}: {str(is_now)[:300]!r}\n  wanted: {str(was_wanted)[:300]!r}")
+
+
+def start(program: Path, words: list[str | bytes], **streams) -> subprocess.Popen:
+    return subprocess.Popen(["mqjudge", *words], executable=program, env={}, **streams)
+
+
+def run(program: Path, words: list[str | bytes], stdin: bytes | Path) -> tuple[int, str, str]:
+    """Its status, output and errors, with these bytes in a pipe, or this file, as standard input."""
+    streams = {"stdout": subprocess.PIPE, "stderr": subprocess.PIPE}
+    if isinstance(stdin, Path):
+        file = os.open(stdin, os.O_RDONLY)
+        try:
+            process = start(program, words, stdin=file, **streams)
+        finally:
+            os.close(file)
+        output, errors = process.communicate(timeout=SECONDS)
+    else:
+        process = start(program, words, stdin=subprocess.PIPE, **streams)
+        output, errors = process.communicate(stdin, timeout=SECONDS)
+    return process.returncode, output.decode(), errors.decode()
+
+
+def full_disk() -> int:
+    return os.open("/dev/full", os.O_WRONLY)
+
+
+def closed_pipe() -> int:
+    reader, writer = os.pipe()
+    os.close(reader)
+    return writer
+
+
+def run_on(program: Path, words: list[str | bytes], stream: str, make: Callable[[], int]) -> tuple[int, str]:
+    """Its status and what the other stream got, where this stream takes nothing."""
+    other = "stderr" if stream == "stdout" else "stdout"
+    taken = make()
+    try:
+        process = start(program, words, stdin=subprocess.DEVNULL, **{stream: taken, other: subprocess.PIPE})
+    finally:
+        os.close(taken)
+    output, errors = process.communicate(timeout=SECONDS)
+    return process.returncode, ((output or b"") + (errors or b"")).decode()
+
+
+def main() -> int:
+    program = Path(sys.argv[1] if len(sys.argv) > 1 else PROGRAM).resolve()
+    tally = Tally()
+    with tempfile.TemporaryDirectory() as folder:
+        os.chdir(folder)
+        for name, data in FILES.items():
+            Path(name).write_bytes(data)
+        for case in RUNS:
+            found = run(program, case.words, case.stdin)
+            tally.compare(f"{case.words}", found, (case.status, case.output, case.errors))
+        for make in (full_disk, closed_pipe):
+            for words in UNWRITTEN:
+                found = run_on(program, words, "stdout", make)
+                tally.compare(f"{words} with standard output on a {make.__name__}", (found[0], "", found[1]), (4, "", WRITE_FAILED))
+            for words, status in UNTOLD:
+                found = run_on(program, words, "stderr", make)
+                output = PASS if status == 0 else ""
+                tally.compare(f"{words} with standard error on a {make.__name__}", (*found, ""), (status, output, ""))
+        os.chdir(HERE)
+    print(f"{tally.passed} passed, {tally.failed} failed")
+    return 1 if tally.failed else 0
+
+
+if __name__ == "__main__":
+    sys.exit(main())

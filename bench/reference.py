@@ -1,0 +1,1461 @@
+#!/usr/bin/env python3
+"""Judges a log of one end of an MQTT 5.0 session, and prints what `mqjudge check` is to print.
+
+This is a second opinion, and no part of the program. It was written from the words of the statements alone. It looks at the whole
+log for each position and statement: it keeps no state from one position to the next, so it takes time that grows with the square
+of the log's length. What it shares with the program is nothing but the standard: where the two differ, one of them is wrong.
+
+usage: bench/reference.py check [FILE] [--held] [--limit 16777216]
+
+--held takes session packets before the CONNACK, at most 4,096 events of them on a connection. Without it they are refused.
+"""
+import argparse
+import sys
+from bisect import bisect_left
+from collections.abc import Callable
+from dataclasses import dataclass, field
+from functools import cached_property
+from pathlib import Path
+
+# ---- names and citations, in the order of reports: code, citation for a client, citation for a server (None: isn't bound)
+
+SHAPES = """
+W01 MQTT-2.1.3-1
+W02 sec-2.1.2
+W03 MQTT-1.5.5-1
+W04 MQTT-1.5.4-1
+W05 MQTT-1.5.4-2
+W06 sec-2.1.4
+W07 MQTT-3.3.1-4
+W08 MQTT-3.3.1-2
+W09 sec-2.2.1
+W10 sec-2.2.2.2
+W11 sec-2.2.2.2
+W12 sec-2.2.2.2
+W13 sec-2.4
+W14 sec-3.3.2
+W15 sec-4.7
+W16 MQTT-3.8.3-2,MQTT-3.10.3-2
+W17 sec-3.8.3
+W18 sec-3.1.2
+W19 sec-3.1.2
+W20 MQTT-3.2.2-1
+W21 sec-3.3.2
+C01 sec-2.1.2
+C02 MQTT-3.1.0-1 -
+C03 sec-3.1 -
+C04 - sec-3.2
+C05 - MQTT-3.2.0-1
+C06 - MQTT-3.2.0-2
+C07 - MQTT-3.2.2-2
+C08 - MQTT-3.2.2-3
+C09 - MQTT-3.2.2-6
+C10 - MQTT-3.2.2-16
+C11 MQTT-3.14.4-1
+C12 - MQTT-3.2.2-7
+C13 MQTT-3.2.2-4 -
+C14 MQTT-3.2.2-15 MQTT-3.1.2-24
+C15 MQTT-3.2.2-17 MQTT-3.1.2-26
+C16 sec-3.3.2
+C17 MQTT-3.2.2-11 -
+C18 MQTT-3.3.4-6 -
+C19 - MQTT-3.14.2-2
+C20 sec-3.14.2 -
+C21 - MQTT-3.1.2-29
+C22 - MQTT-3.1.2-28
+C23 MQTT-3.14.4-2 MQTT-3.14.4-2,MQTT-3.2.2-7
+S01 MQTT-2.2.1-3 MQTT-2.2.1-4
+S02 MQTT-4.3.2-2,MQTT-4.3.3-2
+S03 MQTT-4.4.0-1
+S04 MQTT-4.3.3-6
+S05 MQTT-4.6.0-1 -
+S06 MQTT-4.4.0-1
+S07 MQTT-4.9.0-2
+E1A MQTT-2.2.1-5
+E1R MQTT-4.3.2-4
+E1O MQTT-4.6.0-2 -
+E2A MQTT-2.2.1-5
+E2R MQTT-4.3.3-8
+E2O MQTT-4.6.0-3 -
+E3A MQTT-2.2.1-5
+E3R MQTT-4.3.3-4
+E3O MQTT-4.6.0-4 -
+E4A MQTT-2.2.1-5
+E4R MQTT-4.3.3-11
+E5A - MQTT-2.2.1-6
+E5R - MQTT-3.8.4-1
+E6A - MQTT-2.2.1-6
+E6R - MQTT-3.10.4-4
+E7R - MQTT-3.12.4-1
+L1 sec-4.3.3
+L2 MQTT-4.3.3-10
+L3 sec-4.3.3
+B01 - MQTT-3.3.2-3
+B02 - MQTT-3.8.4-8
+B03 - MQTT-3.8.4-6
+B04 - sec-3.11.3
+"""
+CITATIONS: dict[str, dict[str, str]] = {}
+for line in SHAPES.split("\n"):
+    match line.split():
+        case [code, both]:
+            CITATIONS[code] = {"client": both, "server": both}
+        case [code, client, server]:
+            CITATIONS[code] = {role: text for role, text in (("client", client), ("server", server)) if text != "-"}
+
+# ---- packets (MQTT 5.0, sections 1.5, 2 and 3)
+
+(CONNECT, CONNACK, PUBLISH, PUBACK, PUBREC, PUBREL, PUBCOMP, SUBSCRIBE, SUBACK, UNSUBSCRIBE, UNSUBACK, PINGREQ, PINGRESP,
+ DISCONNECT, AUTH) = range(1, 16)
+NAMES = ("", "CONNECT", "CONNACK", "PUBLISH", "PUBACK", "PUBREC", "PUBREL", "PUBCOMP", "SUBSCRIBE", "SUBACK", "UNSUBSCRIBE", "UNSUBACK",
+         "PINGREQ", "PINGRESP", "DISCONNECT", "AUTH")
+FROM_CLIENT_ALONE = {CONNECT, SUBSCRIBE, UNSUBSCRIBE, PINGREQ}
+FROM_SERVER_ALONE = {CONNACK, SUBACK, UNSUBACK, PINGRESP}
+OF_SESSIONS = {PUBLISH, PUBACK, PUBREC, PUBREL, PUBCOMP, SUBSCRIBE, SUBACK, UNSUBSCRIBE, UNSUBACK}
+WILL = 0  # the list of a Will's properties, beside those of the packets' types
+ACKNOWLEDGEMENTS = (PUBACK, PUBREC, PUBREL, PUBCOMP)
+WITH_REASON = {CONNACK, *ACKNOWLEDGEMENTS, SUBACK, UNSUBACK, DISCONNECT, AUTH}
+ALL_LISTS = {CONNECT, CONNACK, PUBLISH, *ACKNOWLEDGEMENTS, SUBSCRIBE, SUBACK, UNSUBSCRIBE, UNSUBACK, DISCONNECT, AUTH, WILL}
+
+# identifier: the reader of its value, and the lists that it may stand in
+PROPERTIES: dict[int, tuple[str, set[int]]] = {
+    0x01: ("u8", {PUBLISH, WILL}),
+    0x02: ("u32", {PUBLISH, WILL}),
+    0x03: ("text", {PUBLISH, WILL}),
+    0x08: ("text", {PUBLISH, WILL}),
+    0x09: ("binary", {PUBLISH, WILL}),
+    0x0B: ("varint", {PUBLISH, SUBSCRIBE}),
+    0x11: ("u32", {CONNECT, CONNACK, DISCONNECT}),
+    0x12: ("text", {CONNACK}),
+    0x13: ("u16", {CONNACK}),
+    0x15: ("text", {CONNECT, CONNACK, AUTH}),
+    0x16: ("binary", {CONNECT, CONNACK, AUTH}),
+    0x17: ("u8", {CONNECT}),
+    0x18: ("u32", {WILL}),
+    0x19: ("u8", {CONNECT}),
+    0x1A: ("text", {CONNACK}),
+    0x1C: ("text", {CONNACK, DISCONNECT}),
+    0x1F: ("text", WITH_REASON),
+    0x21: ("u16", {CONNECT, CONNACK}),
+    0x22: ("u16", {CONNECT, CONNACK}),
+    0x23: ("u16", {PUBLISH}),
+    0x24: ("u8", {CONNACK}),
+    0x25: ("u8", {CONNACK}),
+    0x26: ("pair", ALL_LISTS),
+    0x27: ("u32", {CONNECT, CONNACK}),
+    0x28: ("u8", {CONNACK}),
+    0x29: ("u8", {CONNACK}),
+    0x2A: ("u8", {CONNACK}),
+}
+NOT_ZERO = {0x0B, 0x21, 0x23, 0x27}
+ZERO_OR_ONE = {0x17, 0x19, 0x24, 0x25, 0x28, 0x29, 0x2A}
+
+
+def codes(text: str) -> set[int]:
+    """Numbers and ranges of them, in hexadecimal."""
+    out: set[int] = set()
+    for word in text.split():
+        first, _, last = word.partition("-")
+        out |= set(range(int(first, 16), int(last or first, 16) + 1))
+    return out
+
+
+REASON_CODES = {
+    CONNACK: codes("00 80-8A 8C 90 95 97 99 9A 9B 9C 9D 9F"),
+    PUBACK: codes("00 10 80 83 87 90 91 97 99"),
+    PUBREC: codes("00 10 80 83 87 90 91 97 99"),
+    PUBREL: codes("00 92"),
+    PUBCOMP: codes("00 92"),
+    SUBACK: codes("00 01 02 80 83 87 8F 91 97 9E A1 A2"),
+    UNSUBACK: codes("00 11 80 83 87 8F 91"),
+    DISCONNECT: codes("00 04 80 81 82 83 87 89 8B-90 93-A2"),
+    AUTH: codes("00 18 19"),
+}
+
+
+@dataclass
+class Packet:
+    type: int
+    size: int = 0
+    identifier: int | None = None
+    code: int = 0
+    qos: int = 0
+    dup: bool = False
+    topic: bytes = b""
+    filters: list[tuple[bytes, int]] = field(default_factory=list)
+    codes: list[int] = field(default_factory=list)
+    clean_start: bool = False
+    client_identifier: bytes = b""
+    session_present: bool = False
+    properties: list[tuple[int, object]] = field(default_factory=list)
+
+    def get(self, identifier: int):
+        """The first property of this kind."""
+        return next((value for kind, value in self.properties if kind == identifier), None)
+
+
+@dataclass
+class Bad(Exception):
+    rule: str
+    at: int
+    first: int = 0
+
+
+@dataclass
+class OtherVersion(Exception):
+    version: int
+
+
+class Lost:
+    pass
+
+
+class Reader:
+    """Reads a packet's fields in turn; a field that isn't spelled raises Bad at its beginning."""
+
+    def __init__(self, packet: bytes, at: int):
+        self.packet, self.at, self.end = packet, at, len(packet)
+
+    def take(self, count: int, at: int) -> bytes:
+        if self.at + count > self.end:
+            raise Bad("W06", at)
+        self.at += count
+        return self.packet[self.at - count : self.at]
+
+    def number(self, count: int) -> int:
+        return int.from_bytes(self.take(count, self.at), "big")
+
+    def u8(self) -> int:
+        return self.number(1)
+
+    def u16(self) -> int:
+        return self.number(2)
+
+    def u32(self) -> int:
+        return self.number(4)
+
+    def varint(self) -> int:
+        begin, value = self.at, 0
+        for n in range(4):
+            byte = self.take(1, begin)[0]
+            value |= (byte & 0x7F) << (7 * n)
+            if byte < 0x80:
+                if n > 0 and byte == 0:
+                    raise Bad("W03", begin)
+                return value
+        raise Bad("W03", begin)
+
+    def binary(self) -> bytes:
+        begin = self.at
+        count = int.from_bytes(self.take(2, begin), "big")
+        return self.take(count, begin)
+
+    def text(self) -> bytes:
+        begin = self.at
+        value = self.binary()
+        check_text(value, begin)
+        return value
+
+    def pair(self) -> tuple[bytes, bytes]:
+        begin = self.at
+        try:
+            return self.text(), self.text()
+        except Bad as bad:
+            raise Bad(bad.rule, begin) from None
+
+
+def check_text(value: bytes, at: int) -> None:
+    try:
+        value.decode("utf-8")
+    except UnicodeDecodeError:
+        raise Bad("W04", at) from None
+    if b"\0" in value:
+        raise Bad("W05", at)
+
+
+def read_properties(reader: Reader, place: int) -> list[tuple[int, object]]:
+    begin = reader.at
+    length = reader.varint()
+    if reader.at + length > reader.end:
+        raise Bad("W06", begin)
+    outer, reader.end = reader.end, reader.at + length
+    out: list[tuple[int, object]] = []
+    while reader.at < reader.end:
+        at = reader.at
+        kind = reader.varint()
+        if kind not in PROPERTIES or place not in PROPERTIES[kind][1]:
+            raise Bad("W10", at)
+        repeats = kind == 0x26 or (kind == 0x0B and place == PUBLISH)
+        if not repeats and any(kind == other for other, _ in out):
+            raise Bad("W11", at)
+        at = reader.at
+        value = getattr(reader, PROPERTIES[kind][0])()
+        if (kind in NOT_ZERO and value == 0) or (kind in ZERO_OR_ONE and value not in (0, 1)):
+            raise Bad("W12", at)
+        if kind == 0x08 and place == PUBLISH and has_wildcard(value):
+            raise Bad("W14", at)
+        out.append((kind, value))
+    reader.end = outer
+    return out
+
+
+def has_wildcard(name: bytes) -> bool:
+    return b"#" in name or b"+" in name
+
+
+def is_filter(text: bytes) -> bool:
+    """A Topic Filter that MQTT 5.0, section 4.7 allows."""
+    levels = text.split(b"/")
+    return text != b"" and all(
+        not has_wildcard(level) or level == b"+" or (level == b"#" and n == len(levels) - 1) for n, level in enumerate(levels)
+    )
+
+
+def decode(packet: bytes, begin: int) -> Packet:
+    """Reads a whole packet, whose body begins there. It raises Bad or OtherVersion where it has to."""
+    first = packet[0]
+    try:
+        return decode_fields(first, Reader(packet, begin))
+    except Bad as bad:
+        raise Bad(bad.rule, bad.at, first) from None
+
+
+def decode_fields(first: int, reader: Reader) -> Packet:
+    kind, flags = first >> 4, first & 15
+    p = Packet(kind, len(reader.packet))
+    if kind == 0:
+        raise Bad("W02", 0)
+    if kind == PUBLISH:
+        p.qos, p.dup = flags >> 1 & 3, flags >= 8
+        if p.qos == 3:
+            raise Bad("W07", 0)
+        if p.dup and p.qos == 0:
+            raise Bad("W08", 0)
+    elif flags != (2 if kind in (PUBREL, SUBSCRIBE, UNSUBSCRIBE) else 0):
+        raise Bad("W01", 0)
+    BODIES[kind](p, reader)
+    if reader.at < reader.end:
+        raise Bad("W06", reader.at)
+    return p
+
+
+def read_connect(p: Packet, reader: Reader) -> None:
+    at = reader.at
+    if reader.text() != b"MQTT":
+        raise Bad("W18", at)
+    version = reader.u8()
+    if version != 5:
+        raise OtherVersion(version)
+    at = reader.at
+    flags = reader.u8()
+    has_will, will_qos = bool(flags & 4), flags >> 3 & 3
+    if flags & 1 or will_qos == 3 or (not has_will and (will_qos or flags & 0x20)):
+        raise Bad("W19", at)
+    p.clean_start = bool(flags & 2)
+    reader.u16()
+    p.properties = read_properties(reader, CONNECT)
+    p.client_identifier = reader.text()
+    if has_will:
+        read_properties(reader, WILL)
+        reader.text()
+        reader.binary()
+    if flags & 0x80:
+        reader.text()
+    if flags & 0x40:
+        reader.binary()
+
+
+def read_connack(p: Packet, reader: Reader) -> None:
+    at = reader.at
+    flags = reader.u8()
+    if flags > 1:
+        raise Bad("W20", at)
+    p.session_present = flags == 1
+    p.code = read_code(p, reader)
+    p.properties = read_properties(reader, CONNACK)
+
+
+def read_code(p: Packet, reader: Reader) -> int:
+    at = reader.at
+    value = reader.u8()
+    if value not in REASON_CODES[p.type]:
+        raise Bad("W13", at)
+    return value
+
+
+def read_identifier(p: Packet, reader: Reader) -> None:
+    at = reader.at
+    p.identifier = reader.u16()
+    if p.identifier == 0:
+        raise Bad("W09", at)
+
+
+def read_publish(p: Packet, reader: Reader) -> None:
+    at = reader.at
+    p.topic = reader.text()
+    if has_wildcard(p.topic):
+        raise Bad("W14", at)
+    if p.qos > 0:
+        read_identifier(p, reader)
+    at = reader.at
+    p.properties = read_properties(reader, PUBLISH)
+    if p.topic == b"" and p.get(0x23) is None:
+        raise Bad("W21", at)
+    reader.at = reader.end
+
+
+def read_acknowledgement(p: Packet, reader: Reader) -> None:
+    read_identifier(p, reader)
+    read_reason(p, reader)
+
+
+def read_reason(p: Packet, reader: Reader) -> None:
+    """A Reason Code and a property list, each of which may be absent at the packet's end."""
+    if reader.at < reader.end:
+        p.code = read_code(p, reader)
+    if reader.at < reader.end:
+        p.properties = read_properties(reader, p.type)
+
+
+def read_request(p: Packet, reader: Reader) -> None:
+    read_identifier(p, reader)
+    p.properties = read_properties(reader, p.type)
+    while reader.at < reader.end:
+        at = reader.at
+        text = reader.text()
+        if not is_filter(text):
+            raise Bad("W15", at)
+        at, options = reader.at, 0
+        if p.type == SUBSCRIBE:
+            options = reader.u8()
+            if options & 3 == 3 or options >> 4 & 3 == 3 or options & 0xC0:
+                raise Bad("W17", at)
+        p.filters.append((text, options))
+    if not p.filters:
+        raise Bad("W16", reader.end)
+
+
+def read_answer(p: Packet, reader: Reader) -> None:
+    read_identifier(p, reader)
+    p.properties = read_properties(reader, p.type)
+    while reader.at < reader.end:
+        p.codes.append(read_code(p, reader))
+
+
+def read_nothing(p: Packet, reader: Reader) -> None:
+    pass
+
+
+BODIES: dict[int, Callable[[Packet, Reader], None]] = {
+    CONNECT: read_connect,
+    CONNACK: read_connack,
+    PUBLISH: read_publish,
+    **dict.fromkeys(ACKNOWLEDGEMENTS, read_acknowledgement),
+    SUBSCRIBE: read_request,
+    UNSUBSCRIBE: read_request,
+    SUBACK: read_answer,
+    UNSUBACK: read_answer,
+    PINGREQ: read_nothing,
+    PINGRESP: read_nothing,
+    DISCONNECT: read_reason,
+    AUTH: read_reason,
+}
+
+# ---- the log: its records and events, and why it may be refused
+
+REFUSALS = ("", "Header", "Version", "Role", "Flags", "Kind", "Length", "Nested", "NotOpen", "ReleaseUnrecorded", "Cut", "TooLarge",
+            "OtherVersion", "Early")
+TOO_MANY_EARLY = "TooManyEarly"
+MOST_EARLY = 4_096
+OPEN, SENT, RECV, CLOSE, REST, RELEASE = range(1, 7)
+MOST_IN_RECORD = 1_048_576
+
+
+@dataclass
+class Event:
+    kind: int
+    record: int
+    item: Packet | Bad | Lost | None = None
+    released: int = 0
+
+
+@dataclass
+class Refusal(Exception):
+    number: int
+    at: int
+    name: str = ""
+
+    def text(self) -> str:
+        return f"refused {self.number} {self.name or REFUSALS[self.number]} at {self.at}"
+
+
+def frame(stream: bytes) -> tuple[int, int] | Lost | None:
+    """How many bytes the first packet's fixed header and the whole packet have. None: more bytes are needed to tell."""
+    length = 0
+    for n in range(4):
+        if len(stream) < n + 2:
+            return None
+        byte = stream[n + 1]
+        length |= (byte & 0x7F) << (7 * n)
+        if byte < 0x80:
+            return Lost() if n > 0 and byte == 0 else (n + 2, n + 2 + length)
+    return Lost()
+
+
+class Recording:
+    """The events of a log's bytes. The bytes are looked at in turn, so the first refusal that is met is the earliest."""
+
+    def __init__(self, log: bytes, limit: int, held: bool):
+        self.log, self.limit, self.held = log, limit, held
+        self.role, self.releases = "client", False
+        self.events: list[Event] = []
+        self.is_open, self.has_connack, self.begun_at = False, False, 0
+        # What has come of an unfinished packet in each direction; None after Lost.
+        self.streams: dict[int, bytearray | None] = {}
+        self.frames: dict[int, tuple[int, int] | Lost | None] = {}
+        self.read()
+
+    def byte(self, at: int) -> int:
+        if at >= len(self.log):
+            raise Refusal(10, len(self.log))
+        return self.log[at]
+
+    def read(self) -> None:
+        self.read_header()
+        at, record = 8, 0
+        while at < len(self.log):
+            record += 1
+            kind = self.log[at]
+            self.check_kind(kind, at)
+            for n in range(1, 5):
+                self.byte(at + n)
+            length = int.from_bytes(self.log[at + 1 : at + 5], "big")
+            most = MOST_IN_RECORD if kind in (SENT, RECV) else 2 if kind == RELEASE else 0
+            if length > most or (kind == RELEASE and length != 2):
+                raise Refusal(6, at + 4)
+            at += 5
+            self.read_body(kind, record, at, length)
+            at += length
+
+    def read_header(self) -> None:
+        for at, wanted in enumerate(b"MQTR"):
+            if self.byte(at) != wanted:
+                raise Refusal(1, at)
+        for at, number, taken in ((4, 2, (1,)), (5, 3, (0, 1)), (6, 4, (0, 1)), (7, 4, (0,))):
+            if self.byte(at) not in taken:
+                raise Refusal(number, at)
+        self.role, self.releases = ("client", "server")[self.log[5]], self.log[6] == 1
+
+    def check_kind(self, kind: int, at: int) -> None:
+        if not 1 <= kind <= 6:
+            raise Refusal(5, at)
+        if kind == OPEN and self.is_open:
+            raise Refusal(7, at)
+        if kind in (SENT, RECV, CLOSE, REST) and not self.is_open:
+            raise Refusal(8, at)
+        if kind == RELEASE and not self.releases:
+            raise Refusal(9, at)
+
+    def read_body(self, kind: int, record: int, begin: int, length: int) -> None:
+        if kind in (SENT, RECV):
+            for at in range(begin, begin + length):
+                self.take(kind, record, at)
+            return
+        self.byte(begin + length - 1)
+        if kind == OPEN:
+            self.is_open, self.has_connack, self.begun_at = True, False, len(self.events)
+            self.streams = {SENT: bytearray(), RECV: bytearray()}
+        released = int.from_bytes(self.log[begin : begin + length], "big")
+        self.add(Event(kind, record, None, released), begin + length - 1, kind == RELEASE)
+        if kind == CLOSE:
+            self.is_open = False
+
+    def take(self, way: int, record: int, at: int) -> None:
+        """One byte of a stream of packets."""
+        byte = self.byte(at)
+        stream = self.streams[way]
+        if stream is None:
+            return
+        stream.append(byte)
+        if len(stream) <= 5:
+            self.frames[way] = frame(stream)
+        match self.frames[way]:
+            case Lost() as lost:
+                self.streams[way] = None
+                self.add(Event(way, record, lost), at, False)
+            case (header, size):
+                if len(stream) == header and size > self.limit:
+                    raise Refusal(11, at)
+                if len(stream) == size:
+                    self.streams[way] = bytearray()
+                    self.end_packet(bytes(stream), header, way, record, at)
+
+    def end_packet(self, packet: bytes, begin: int, way: int, record: int, at: int) -> None:
+        try:
+            item: Packet | Bad = decode(packet, begin)
+        except OtherVersion:
+            raise Refusal(12, at) from None
+        except Bad as bad:
+            item = bad
+        is_packet = isinstance(item, Packet)
+        from_server = (way == SENT) == (self.role == "server")
+        if is_packet and item.type == CONNACK and from_server:
+            self.has_connack = True
+        self.add(Event(way, record, item), at, is_packet and item.type in OF_SESSIONS)
+
+    def add(self, event: Event, at: int, needs_session: bool) -> None:
+        is_early = self.is_open and not self.has_connack
+        if is_early and needs_session and not self.held:
+            raise Refusal(13, at)
+        if is_early and self.held and event.kind != CLOSE and len(self.events) - self.begun_at >= MOST_EARLY:
+            raise Refusal(13, at, TOO_MANY_EARLY)
+        self.events.append(event)
+
+# ---- connections and sessions (MQTT 5.0, sections 3.1.2.4, 3.2 and 4.1)
+
+VOID, NEW, RESUMED = "void", "new", "resumed"
+RECEIVE_MAXIMUM, TOPIC_ALIAS_MAXIMUM, MAXIMUM_QOS, MAXIMUM_PACKET_SIZE = 0x21, 0x22, 0x24, 0x27
+DEFAULTS = {0x21: 65_535, 0x22: 0, 0x24: 2, 0x27: None, 0x17: 1, 0x19: 0}
+
+
+class Log:
+    """A list of events, whose positions count from 1."""
+
+    def __init__(self, events: list[Event], role: str, releases: bool):
+        self.events, self.role, self.releases = events, role, releases
+        self.last = len(events)
+        self.numbers = [0]  # the number of the latest connection at each position
+        for e in events:
+            self.numbers.append(self.numbers[-1] + (e.kind == OPEN))
+        self.spans: list[list[int]] = [[] for _ in range(self.numbers[-1] + 1)]
+        for k in range(1, self.last + 1):
+            self.spans[self.numbers[k]].append(k)
+
+    # -- what stands at a position
+
+    def event(self, k: int) -> Event:
+        return self.events[k - 1]
+
+    def sent(self, k: int) -> Packet | Bad | Lost | None:
+        e = self.event(k)
+        return e.item if e.kind == SENT else None
+
+    def received(self, k: int) -> Packet | Bad | Lost | None:
+        e = self.event(k)
+        return e.item if e.kind == RECV else None
+
+    def sent_packet(self, k: int, *types: int) -> Packet | None:
+        item = self.sent(k)
+        return item if isinstance(item, Packet) and (not types or item.type in types) else None
+
+    def received_packet(self, k: int, *types: int) -> Packet | None:
+        item = self.received(k)
+        return item if isinstance(item, Packet) and (not types or item.type in types) else None
+
+    def sends(self, k: int, type: int, i: int) -> bool:
+        p = self.sent_packet(k, type)
+        return p is not None and p.identifier == i
+
+    def receives(self, k: int, type: int, i: int) -> bool:
+        p = self.received_packet(k, type)
+        return p is not None and p.identifier == i
+
+    def from_client(self, k: int, type: int) -> Packet | None:
+        return self.sent_packet(k, type) if self.role == "client" else self.received_packet(k, type)
+
+    def from_server(self, k: int, type: int) -> Packet | None:
+        return self.received_packet(k, type) if self.role == "client" else self.sent_packet(k, type)
+
+    def is_rest(self, k: int) -> bool:
+        return self.event(k).kind == REST
+
+    # -- connections
+
+    def on(self, c: int) -> list[int]:
+        """The positions of a connection: from its OPEN to its CLOSE, or to the end. RELEASEs may follow the CLOSE; they aren't on it."""
+        out = []
+        for k in self.spans[c]:
+            out.append(k)
+            if self.event(k).kind == CLOSE:
+                break
+        return out if c > 0 else []
+
+    @cached_property
+    def connection_positions(self) -> list[list[int]]:
+        return [self.on(c) for c in range(len(self.spans))]
+
+    @cached_property
+    def places(self) -> list[int]:
+        """For each position the number of the connection that it is on, 0 for a RELEASE between connections."""
+        out = [0] * (self.last + 1)
+        for c, positions in enumerate(self.connection_positions):
+            for k in positions:
+                out[k] = c
+        return out
+
+    def before_on(self, k: int) -> list[int]:
+        """The positions before k on its connection."""
+        positions = self.connection_positions[self.places[k]]
+        return positions[: bisect_left(positions, k)]
+
+    def first_connect(self, c: int) -> int | None:
+        return next((k for k in self.connection_positions[c] if self.from_client(k, CONNECT)), None)
+
+    @cached_property
+    def first_connacks(self) -> list[int | None]:
+        return [next((k for k in ks if self.from_server(k, CONNACK)), None) for ks in self.connection_positions]
+
+    def connack_code(self, k: int) -> Packet:
+        p = self.from_server(k, CONNACK)
+        assert p is not None
+        return p
+
+    @cached_property
+    def fates(self) -> list[str | None]:
+        return [self.fate(c) for c in range(len(self.spans))]
+
+    def fate(self, c: int) -> str | None:
+        k = self.first_connacks[c]
+        if k is not None:
+            connack = self.connack_code(k)
+            return VOID if connack.code != 0 else RESUMED if connack.session_present else NEW
+        is_closed = any(self.event(k).kind == CLOSE for k in self.connection_positions[c])
+        return VOID if is_closed else None
+
+    def is_accepted(self, c: int) -> bool:
+        return self.fates[c] in (NEW, RESUMED)
+
+    def latest_accepted(self, before: int) -> int | None:
+        """The latest accepted connection whose number is below this."""
+        return next((c for c in range(before - 1, 0, -1) if self.is_accepted(c)), None)
+
+    def expiry(self, c: int) -> int:
+        """The Session Expiry Interval of a connection."""
+        disconnect = next((p for k in self.connection_positions[c] if (p := self.from_client(k, DISCONNECT))), None)
+        connack, connect = self.first_connacks[c], self.first_connect(c)
+        values = [disconnect and disconnect.get(0x11)]
+        values.append(None if connack is None else self.connack_code(connack).get(0x11))
+        values.append(None if connect is None else self.from_client(connect, CONNECT).get(0x11))
+        return next((v for v in values if v is not None), 0)
+
+    def alive_before(self, c: int) -> bool:
+        last = self.latest_accepted(c)
+        if last is not None and self.expiry(last) != 0:
+            return True
+        return any(
+            self.first_connect(d) is not None and self.first_connacks[d] is None
+            and any(self.event(k).kind == CLOSE for k in self.connection_positions[d])
+            for d in range((last or 0) + 1, c)
+        )
+
+    # -- sessions
+
+    @cached_property
+    def sessions_of_connections(self) -> list[int | None]:
+        """For each accepted connection, the number of the first connection of its session."""
+        out: list[int | None] = []
+        first = None
+        for c in range(len(self.spans)):
+            if self.is_accepted(c):
+                if self.fates[c] == NEW or first is None:
+                    first = c
+                out.append(first)
+            else:
+                out.append(None)
+        return out
+
+    @cached_property
+    def sessions(self) -> list[int | None]:
+        """The session of each position, by the first connection of the session."""
+        return [None] + [self.session_of(k) for k in range(1, self.last + 1)]
+
+    def session_of(self, k: int) -> int | None:
+        c = self.places[k]
+        if self.is_accepted(c):
+            return self.sessions_of_connections[c]
+        if self.event(k).kind != RELEASE or (c > 0 and self.fates[c] is None):
+            return None
+        # Between connections, before the first one, or on a void one.
+        latest = self.latest_accepted(self.numbers[k] + 1)
+        return None if latest is None else self.sessions_of_connections[latest]
+
+    @cached_property
+    def session_positions(self) -> dict[int, list[int]]:
+        out: dict[int, list[int]] = {}
+        for k in range(1, self.last + 1):
+            session = self.sessions[k]
+            if session is not None:
+                out.setdefault(session, []).append(k)
+        return out
+
+    def before_in(self, k: int) -> list[int]:
+        """The positions before k in its session."""
+        session = self.sessions[k]
+        positions = [] if session is None else self.session_positions[session]
+        return positions[: bisect_left(positions, k)]
+
+    # -- parameters
+
+    def parameter(self, identifier: int, k: int) -> int | None:
+        """What the tested end's peer has asked for on k's connection before k, else the default."""
+        c = self.places[k]
+        at = self.first_connacks[c] if self.role == "client" else self.first_connect(c)
+        if at is None or at >= k:
+            return DEFAULTS[identifier]
+        value = (self.from_server(at, CONNACK) or self.from_client(at, CONNECT)).get(identifier)
+        return DEFAULTS[identifier] if value is None else value
+
+    def announced(self, identifier: int, k: int) -> bool:
+        c = self.places[k]
+        at = self.first_connacks[c] if self.role == "client" else self.first_connect(c)
+        return at is not None and at < k and (self.from_server(at, CONNACK) or self.from_client(at, CONNECT)).get(identifier) is not None
+
+    def is_after_connack(self, k: int) -> bool:
+        at = self.first_connacks[self.places[k]]
+        return at is not None and at < k
+
+    def connect_before(self, k: int) -> Packet | None:
+        """The CONNECT of k's connection, if it stands before k."""
+        at = self.first_connect(self.places[k])
+        return self.from_client(at, CONNECT) if at is not None and at < k else None
+
+    # -- REST
+
+    def is_binding(self, t: int) -> bool:
+        c = self.places[t]
+        if not self.is_rest(t) or not self.is_accepted(c) or not self.is_after_connack(t):
+            return False
+        return not any(isinstance(self.event(j).item, (Bad, Lost)) or self.sent_packet(j, DISCONNECT) or self.received_packet(j, DISCONNECT)
+                       for j in self.before_on(t))
+
+# ---- the statements: each answers whether it is false at position k of the log
+
+Statement = Callable[[Log, int], bool]
+STATEMENTS: dict[str, Statement] = {}
+
+
+def says(*rules: str) -> Callable[[Statement], Statement]:
+    def keep(statement: Statement) -> Statement:
+        for rule in rules:
+            STATEMENTS[rule] = statement
+        return statement
+
+    return keep
+
+
+# -- W, on a packet's bytes: `Bad` names its rule, and Lost breaks W03
+
+
+def breaks_bytes(rule: str) -> Statement:
+    def breaks(log: Log, k: int) -> bool:
+        item = log.sent(k)
+        return (isinstance(item, Bad) and item.rule == rule) or (rule == "W03" and isinstance(item, Lost))
+
+    return breaks
+
+
+for number in range(1, 22):
+    STATEMENTS[f"W{number:02}"] = breaks_bytes(f"W{number:02}")
+
+# -- C, on the past of a connection. In C01 to C06 bytes that break a rule count by their type.
+
+
+def type_of(item: Packet | Bad | Lost | None) -> int | None:
+    match item:
+        case Packet():
+            return item.type
+        case Bad():
+            return item.first >> 4
+    return None
+
+
+@says("C01")
+def sends_a_foreign_type(log: Log, k: int) -> bool:
+    return type_of(log.sent(k)) in (FROM_SERVER_ALONE if log.role == "client" else FROM_CLIENT_ALONE)
+
+
+@says("C02")
+def begins_without_connect(log: Log, k: int) -> bool:
+    kind = type_of(log.sent(k))
+    is_first = all(type_of(log.sent(j)) is None for j in log.before_on(k))
+    return kind is not None and is_first and kind != CONNECT
+
+
+@says("C03")
+def sends_a_second_connect(log: Log, k: int) -> bool:
+    return type_of(log.sent(k)) == CONNECT and any(type_of(log.sent(j)) == CONNECT for j in log.before_on(k))
+
+
+@says("C04")
+def answers_no_connect(log: Log, k: int) -> bool:
+    return type_of(log.sent(k)) == CONNACK and all(type_of(log.received(j)) != CONNECT for j in log.before_on(k))
+
+
+@says("C05")
+def sends_before_connack(log: Log, k: int) -> bool:
+    return type_of(log.sent(k)) not in (None, CONNACK, AUTH) and all(type_of(log.sent(j)) != CONNACK for j in log.before_on(k))
+
+
+@says("C06")
+def sends_a_second_connack(log: Log, k: int) -> bool:
+    return type_of(log.sent(k)) == CONNACK and any(type_of(log.sent(j)) == CONNACK for j in log.before_on(k))
+
+
+@says("C07")
+def resumes_a_clean_start(log: Log, k: int) -> bool:
+    connack, connect = log.sent_packet(k, CONNACK), log.connect_before(k)
+    return connack is not None and connack.session_present and connect is not None and connect.clean_start
+
+
+@says("C08")
+def resumes_no_session(log: Log, k: int) -> bool:
+    connack = log.sent_packet(k, CONNACK)
+    return connack is not None and connack.code == 0 and connack.session_present and not log.alive_before(log.places[k])
+
+
+@says("C09")
+def refuses_with_a_session(log: Log, k: int) -> bool:
+    connack = log.sent_packet(k, CONNACK)
+    return connack is not None and connack.code != 0 and connack.session_present
+
+
+@says("C10")
+def assigns_no_identifier(log: Log, k: int) -> bool:
+    connack, connect = log.sent_packet(k, CONNACK), log.connect_before(k)
+    is_unnamed = connect is not None and connect.client_identifier == b""
+    return connack is not None and connack.code == 0 and is_unnamed and connack.get(0x12) is None
+
+
+def is_subject(item: Packet | Bad | Lost | None) -> bool:
+    return isinstance(item, (Packet, Bad))
+
+
+def has_refused(log: Log, k: int) -> bool:
+    """A CONNACK of 0x80 or more was sent on k's connection before k."""
+    return any((p := log.sent_packet(j, CONNACK)) is not None and p.code >= 0x80 for j in log.before_on(k))
+
+
+def has_disconnected(log: Log, k: int) -> bool:
+    return any(log.sent_packet(j, DISCONNECT) for j in log.before_on(k))
+
+
+@says("C11")
+def sends_after_disconnect(log: Log, k: int) -> bool:
+    return is_subject(log.sent(k)) and has_disconnected(log, k)
+
+
+@says("C12")
+def sends_after_refusing(log: Log, k: int) -> bool:
+    return is_subject(log.sent(k)) and has_refused(log, k)
+
+
+@says("C13")
+def goes_on_without_its_session(log: Log, k: int) -> bool:
+    p, c = log.sent_packet(k), log.places[k]
+    if p is None or p.type == DISCONNECT or not log.is_after_connack(k) or log.fates[c] != RESUMED:
+        return False
+    connect = log.connect_before(k)
+    return (connect is not None and connect.clean_start) or not log.alive_before(c)
+
+
+def is_bound_by_peer(log: Log, k: int) -> bool:
+    """A client looks at what the server asks for in its CONNACK, so it is bound only after it."""
+    return log.role == "server" or log.is_after_connack(k)
+
+
+@says("C14")
+def is_too_large(log: Log, k: int) -> bool:
+    p, most = log.sent_packet(k), log.parameter(MAXIMUM_PACKET_SIZE, k)
+    return p is not None and is_bound_by_peer(log, k) and most is not None and p.size > most
+
+
+@says("C15")
+def takes_too_high_an_alias(log: Log, k: int) -> bool:
+    p = log.sent_packet(k, PUBLISH)
+    alias = p and p.get(0x23)
+    return alias is not None and is_bound_by_peer(log, k) and alias > log.parameter(TOPIC_ALIAS_MAXIMUM, k)
+
+
+def sets_alias(log: Log, j: int, alias: int) -> bool:
+    p = log.sent_packet(j, PUBLISH)
+    return p is not None and p.topic != b"" and p.get(0x23) == alias
+
+
+@says("C16")
+def takes_an_unset_alias(log: Log, k: int) -> bool:
+    p = log.sent_packet(k, PUBLISH)
+    return p is not None and p.topic == b"" and not any(sets_alias(log, j, p.get(0x23)) for j in log.before_on(k))
+
+
+@says("C17")
+def takes_too_high_a_qos(log: Log, k: int) -> bool:
+    p = log.sent_packet(k, PUBLISH)
+    return p is not None and is_bound_by_peer(log, k) and p.qos > log.parameter(MAXIMUM_QOS, k)
+
+
+@says("C18")
+def names_a_subscription(log: Log, k: int) -> bool:
+    p = log.sent_packet(k, PUBLISH)
+    return p is not None and p.get(0x0B) is not None
+
+
+@says("C19")
+def sets_expiry_as_server(log: Log, k: int) -> bool:
+    p = log.sent_packet(k, DISCONNECT)
+    return p is not None and p.get(0x11) is not None
+
+
+@says("C20")
+def revives_its_session(log: Log, k: int) -> bool:
+    p, connect = log.sent_packet(k, DISCONNECT), log.connect_before(k)
+    return p is not None and p.get(0x11) not in (None, 0) and connect is not None and connect.get(0x11) in (None, 0)
+
+
+@says("C21")
+def explains_unasked(log: Log, k: int) -> bool:
+    p, connect = log.sent_packet(k), log.connect_before(k)
+    if p is None or p.type in (PUBLISH, CONNACK, DISCONNECT) or connect is None or connect.get(0x17) != 0:
+        return False
+    return p.get(0x1F) is not None or p.get(0x26) is not None
+
+
+@says("C22")
+def informs_unasked(log: Log, k: int) -> bool:
+    p, connect = log.sent_packet(k, CONNACK), log.connect_before(k)
+    return p is not None and p.get(0x1A) is not None and connect is not None and connect.get(0x19) != 1
+
+
+@says("C23")
+def rests_unclosed(log: Log, k: int) -> bool:
+    return log.is_rest(k) and (has_disconnected(log, k) or (log.role == "server" and has_refused(log, k)))
+
+
+# -- S, on packet identifiers. All that follow are judged on accepted connections, L also at each RELEASE that is on no undecided one.
+
+
+def publish_id(log: Log, k: int, dup: bool | None = None) -> int | None:
+    """The identifier of a sent PUBLISH of QoS above 0."""
+    p = log.sent_packet(k, PUBLISH)
+    return p.identifier if p is not None and p.qos > 0 and dup in (None, p.dup) else None
+
+
+def opener(log: Log, k: int) -> int | None:
+    return publish_id(log, k, dup=False)
+
+
+def resend(log: Log, k: int) -> int | None:
+    return publish_id(log, k, dup=True)
+
+
+def closer(log: Log, k: int) -> int | None:
+    p = log.received_packet(k, PUBACK, PUBCOMP, PUBREC)
+    return None if p is None or (p.type == PUBREC and p.code < 0x80) else p.identifier
+
+
+def latest_opener(log: Log, k: int, i: int) -> int | None:
+    return next((j for j in reversed(log.before_in(k)) if opener(log, j) == i), None)
+
+
+def open_by(log: Log, k: int, i: int) -> int | None:
+    """The latest opener of i before k, if i is open at k."""
+    for j in reversed(log.before_in(k)):
+        if opener(log, j) == i:
+            return j
+        if closer(log, j) == i:
+            return None
+    return None
+
+
+def is_busy(log: Log, k: int, i: int) -> bool:
+    before = log.before_on(k)
+    for asked, answered in ((SUBSCRIBE, SUBACK), (UNSUBSCRIBE, UNSUBACK)):
+        for j in before:
+            if log.sends(j, asked, i) and not any(log.receives(m, answered, i) for m in before if m > j):
+                return True
+    return open_by(log, k, i) is not None
+
+
+@says("S01")
+def takes_a_used_identifier(log: Log, k: int) -> bool:
+    i = opener(log, k)
+    if i is None and log.role == "client" and (p := log.sent_packet(k, SUBSCRIBE, UNSUBSCRIBE)):
+        i = p.identifier
+    return i is not None and is_busy(log, k, i)
+
+
+@says("S02")
+def resends_what_is_not_open(log: Log, k: int) -> bool:
+    i = resend(log, k)
+    if i is None or open_by(log, k, i) is not None:
+        return False
+    return not any(publish_id(log, j) == i and log.fates[log.places[j]] == VOID for j in range(1, k) if log.places[j] > 0)
+
+
+@says("S03")
+def resends_on_one_connection(log: Log, k: int) -> bool:
+    i, before = resend(log, k), log.before_on(k)
+    return i is not None and any(publish_id(log, j) == i and not any(closer(log, m) == i for m in before if m > j) for j in before)
+
+
+@says("S04")
+def resends_after_pubrel(log: Log, k: int) -> bool:
+    i = resend(log, k)
+    j = None if i is None else open_by(log, k, i)
+    return j is not None and log.sent_packet(j).qos == 2 and any(log.sends(m, PUBREL, i) for m in log.before_in(k) if m > j)
+
+
+@says("S05")
+def resends_out_of_order(log: Log, k: int) -> bool:
+    i = resend(log, k)
+    own = None if i is None else open_by(log, k, i)
+    if own is None:
+        return False
+    others = [(j, resend(log, j)) for j in log.before_on(k)]
+    return any(other is not None and (by := open_by(log, j, other)) is not None and by > own for j, other in others)
+
+
+def stretches_used(log: Log, end: int) -> int:
+    """The greatest of sent PUBLISHes of QoS above 0 minus closers received over all stretches of end's connection that end there."""
+    greatest = difference = 0
+    first = (log.first_connacks[log.places[end]] or log.last) if log.role == "client" else 0
+    for j in reversed([j for j in [*log.before_on(end), end] if j > first]):
+        difference += publish_id(log, j) is not None
+        difference -= closer(log, j) is not None
+        greatest = max(greatest, difference)
+    return greatest
+
+
+@says("S06")
+def does_not_send_again(log: Log, k: int) -> bool:
+    i = opener(log, k)
+    if i is None:
+        return False
+    return any(is_owed_again(log, k, i, t) for t in range(k + 1, log.last + 1) if log.is_rest(t))
+
+
+def is_owed_again(log: Log, k: int, i: int, t: int) -> bool:
+    c = log.places[t]
+    if log.sessions[t] != log.sessions[k] or c <= log.places[k] or log.fates[c] != RESUMED or not log.is_binding(t):
+        return False
+    if latest_opener(log, t, i) != k or open_by(log, t, i) is None:
+        return False
+    if any(publish_id(log, j) == i or log.sends(j, PUBREL, i) for j in log.before_on(t)):
+        return False
+    between = [j for j in log.before_in(t) if j > k]
+    if any(log.receives(j, PUBREC, i) and log.received_packet(j).code < 0x80 for j in between):
+        return True
+    quota = log.parameter(RECEIVE_MAXIMUM, t) - stretches_used(log, t)
+    return not (quota <= 0 or log.announced(MAXIMUM_PACKET_SIZE, t) or log.announced(MAXIMUM_QOS, t))
+
+
+@says("S07")
+def passes_the_quota(log: Log, k: int) -> bool:
+    return publish_id(log, k) is not None and is_bound_by_peer(log, k) and stretches_used(log, k) > log.parameter(RECEIVE_MAXIMUM, k)
+
+
+# -- E, on exchanges: what is received is a cause, and what is sent an answer
+
+Named = Callable[[Log, int], int | None]
+
+
+def received_publish(qos: int) -> Named:
+    def named(log: Log, k: int) -> int | None:
+        p = log.received_packet(k, PUBLISH)
+        return p.identifier if p is not None and p.qos == qos else None
+
+    return named
+
+
+def received_of(type: int, below: int = 0x100) -> Named:
+    def named(log: Log, k: int) -> int | None:
+        p = log.received_packet(k, type)
+        return p.identifier if p is not None and p.code < below else None
+
+    return named
+
+
+def sent_of(type: int) -> Named:
+    def named(log: Log, k: int) -> int | None:
+        p = log.sent_packet(k, type)
+        return p.identifier if p is not None else None
+
+    return named
+
+
+EXCHANGES: dict[str, tuple[Named, Named]] = {
+    "E1": (received_publish(1), sent_of(PUBACK)),
+    "E2": (received_publish(2), sent_of(PUBREC)),
+    "E3": (received_of(PUBREC, 0x80), sent_of(PUBREL)),
+    "E4": (received_of(PUBREL), sent_of(PUBCOMP)),
+    "E5": (received_of(SUBSCRIBE), sent_of(SUBACK)),
+    "E6": (received_of(UNSUBSCRIBE), sent_of(UNSUBACK)),
+}
+
+
+def first_unanswered(log: Log, exchange: str, k: int, i: int) -> int | None:
+    """The earliest cause i before k on its connection with no answer i between."""
+    cause, answer = EXCHANGES[exchange]
+    first = None
+    for j in reversed(log.before_on(k)):
+        if answer(log, j) == i:
+            break
+        if cause(log, j) == i:
+            first = j
+    return first
+
+
+def breaks_answered(exchange: str) -> Statement:
+    cause, answer = EXCHANGES[exchange]
+
+    def breaks(log: Log, k: int) -> bool:
+        i = answer(log, k)
+        if i is None:
+            return False
+        answers = [j for j in log.before_on(k) if answer(log, j) == i]
+        last_answer = answers[-1] if answers else 0
+        return not any(cause(log, j) == i and j > last_answer for j in log.before_in(k))
+
+    return breaks
+
+
+def breaks_owed(exchange: str) -> Statement:
+    cause, answer = EXCHANGES[exchange]
+
+    def breaks(log: Log, k: int) -> bool:
+        i = cause(log, k)
+        if i is None or first_unanswered(log, exchange, k, i) is not None:
+            return False
+        rest = next((t for t in log.connection_positions[log.places[k]] if t > k and log.is_binding(t)), None)
+        return rest is not None and not any(answer(log, j) == i for j in range(k + 1, rest))
+
+    return breaks
+
+
+def breaks_order(exchange: str) -> Statement:
+    cause, answer = EXCHANGES[exchange]
+
+    def breaks(log: Log, k: int) -> bool:
+        i = answer(log, k)
+        first = None if i is None else first_unanswered(log, exchange, k, i)
+        if first is None:
+            return False
+        others = {cause(log, j) for j in log.before_on(k)} - {None, i}
+        firsts = [first_unanswered(log, exchange, k, j) for j in others]
+        return any(other is not None and other < first for other in firsts)
+
+    return breaks
+
+
+for exchange in EXCHANGES:
+    STATEMENTS[exchange + "A"] = breaks_answered(exchange)
+    STATEMENTS[exchange + "R"] = breaks_owed(exchange)
+    if exchange in ("E1", "E2", "E3"):
+        STATEMENTS[exchange + "O"] = breaks_order(exchange)
+
+
+@says("E7R")
+def leaves_pings_unanswered(log: Log, k: int) -> bool:
+    if not log.is_rest(k) or not log.is_binding(k):
+        return False
+    before = log.before_on(k)
+    asked = sum(log.received_packet(j, PINGREQ) is not None for j in before)
+    return sum(log.sent_packet(j, PINGRESP) is not None for j in before) < asked
+
+
+# -- L, on releases
+
+
+def is_brought(log: Log, k: int, i: int) -> bool:
+    return received_publish(2)(log, k) == i
+
+
+def ender(log: Log, k: int) -> int | None:
+    p = log.sent_packet(k, PUBCOMP, PUBREC)
+    return None if p is None or (p.type == PUBREC and p.code < 0x80) else p.identifier
+
+
+def not_ended(log: Log, k: int, i: int) -> list[int]:
+    """The positions before k in its session with no ender of i between them and k."""
+    before = log.before_in(k)
+    last_ender = max((j for j in before if ender(log, j) == i), default=0)
+    return [j for j in before if j >= last_ender]
+
+
+def is_release(log: Log, k: int, i: int) -> bool:
+    return log.event(k).kind == RELEASE and log.event(k).released == i
+
+
+@says("L1")
+def releases_nothing(log: Log, k: int) -> bool:
+    i = log.event(k).released
+    return log.event(k).kind == RELEASE and not any(is_brought(log, j, i) for j in not_ended(log, k, i))
+
+
+@says("L2")
+def releases_twice(log: Log, k: int) -> bool:
+    i = log.event(k).released
+    return log.event(k).kind == RELEASE and any(is_release(log, j, i) for j in not_ended(log, k, i))
+
+
+@says("L3")
+def completes_unreleased(log: Log, k: int) -> bool:
+    p = log.sent_packet(k, PUBCOMP)
+    if p is None or p.code != 0:
+        return False
+    i = p.identifier
+    candidates = not_ended(log, k, i)
+    first = next((j for j in candidates if is_brought(log, j, i)), None)
+    if first is None or any(is_release(log, j, i) for j in candidates):
+        return False
+    may_expire = log.received_packet(first).get(0x02) is not None
+    is_unmatched = any(log.sends(j, PUBREC, i) and log.sent_packet(j).code == 0x10 for j in log.before_in(k) if j > first)
+    return not (may_expire or is_unmatched)
+
+
+# -- B, on subscriptions
+
+
+def matches(filter: bytes, name: bytes) -> bool:
+    if filter[:1] in (b"#", b"+") and name[:1] == b"$":
+        return False
+    return levels_match(filter.split(b"/"), name.split(b"/"))
+
+
+def levels_match(filter: list[bytes], name: list[bytes]) -> bool:
+    if filter == [b"#"]:
+        return True
+    if not filter or not name:
+        return not filter and not name
+    return filter[0] in (b"+", name[0]) and levels_match(filter[1:], name[1:])
+
+
+def standing(log: Log, k: int) -> list[tuple[bytes, int]]:
+    """The standing filters at k, with their ceilings."""
+    out = []
+    for j in log.before_in(k):
+        p = log.received_packet(j, SUBSCRIBE)
+        if p is None:
+            continue
+        later = [m for m in log.connection_positions[log.places[j]] if m > j]
+        at = next((m for m in later if log.sends(m, SUBACK, p.identifier)), None)
+        granted = log.sent_packet(at).codes if at is not None and at < k else []
+        for n, (filter, options) in enumerate(p.filters):
+            ceiling = granted[n] if n < len(granted) else options & 3
+            if ceiling < 0x80:
+                out.append((filter, ceiling))
+    return out
+
+
+def topic_of(log: Log, k: int) -> bytes | None:
+    p = log.sent_packet(k, PUBLISH)
+    if p.topic != b"":
+        return p.topic
+    return next((log.sent_packet(j).topic for j in reversed(log.before_on(k)) if sets_alias(log, j, p.get(0x23))), None)
+
+
+def matching(log: Log, k: int) -> list[int] | None:
+    """The ceilings of the standing filters that match a sent PUBLISH with DUP 0; None where nothing is said of it."""
+    p = log.sent_packet(k, PUBLISH)
+    if p is None or p.dup:
+        return None
+    asked = [log.received_packet(j, SUBSCRIBE) for j in log.before_in(k)]
+    is_shared = any(filter.startswith(b"$share/") for s in asked if s is not None for filter, _ in s.filters)
+    topic = topic_of(log, k)
+    if is_shared or topic is None:
+        return None
+    return [ceiling for filter, ceiling in standing(log, k) if matches(filter, topic)]
+
+
+@says("B01")
+def sends_what_nobody_asked_for(log: Log, k: int) -> bool:
+    return matching(log, k) == []
+
+
+@says("B02")
+def sends_above_the_granted_qos(log: Log, k: int) -> bool:
+    ceilings = matching(log, k)
+    return bool(ceilings) and max(ceilings) < log.sent_packet(k).qos
+
+
+def breaks_count(exchange: str, type: int) -> Statement:
+    def breaks(log: Log, k: int) -> bool:
+        p = log.sent_packet(k, type)
+        first = None if p is None else first_unanswered(log, exchange, k, p.identifier)
+        return first is not None and len(log.received_packet(first).filters) != len(p.codes)
+
+    return breaks
+
+
+STATEMENTS["B03"] = breaks_count("E5", SUBACK)
+STATEMENTS["B04"] = breaks_count("E6", UNSUBACK)
+
+# ---- faults and the report
+
+
+def is_judged(log: Log, k: int, rule: str) -> bool:
+    if log.role not in CITATIONS[rule] or (rule[0] == "L" and not log.releases):
+        return False
+    if rule[0] in "WC" or log.is_accepted(log.places[k]):
+        return True
+    is_loose = log.event(k).kind == RELEASE and (log.places[k] == 0 or log.fates[log.places[k]] is not None)
+    return rule[0] == "L" and is_loose
+
+
+def fails(log: Log, k: int, rule: str) -> bool:
+    return is_judged(log, k, rule) and STATEMENTS[rule](log, k)
+
+
+def decided(log: Log, k: int, rule: str) -> int:
+    """The length of the shortest beginning of the log in which the statement fails at k."""
+    lengths = range(k, log.last + 1)
+    return next(n for n in lengths if fails(beginning(log, n), k, rule))
+
+
+def beginning(log: Log, length: int) -> Log:
+    kept = log.__dict__.setdefault("beginnings", {})
+    if length not in kept:
+        kept[length] = Log(log.events[:length], log.role, log.releases)
+    return kept[length]
+
+
+def faults(log: Log) -> list[tuple[int, str]]:
+    return [(k, rule) for k in range(1, log.last + 1) for rule in CITATIONS if fails(log, k, rule)]
+
+
+def offset(log: Log, k: int, rule: str) -> str:
+    item = log.event(k).item
+    if rule[0] != "W":
+        return "-"
+    return str(item.at) if isinstance(item, Bad) else "1"
+
+
+def report(bytes: bytes, limit: int = 16_777_216, held: bool = False) -> str:
+    try:
+        recording = Recording(bytes, limit, held)
+    except Refusal as refusal:
+        return refusal.text() + "\n"
+    log = Log(recording.events, recording.role, recording.releases)
+    lines = []
+    for k, rule in faults(log):
+        e = log.event(k)
+        lines.append(f"fault {k} {rule} {CITATIONS[rule][log.role]} decided {decided(log, k, rule)} record {e.record} offset {offset(log, k, rule)}")
+    lines.append(f"fail {len(lines)} faults {log.last} events" if lines else f"pass {log.last} events")
+    return "\n".join(lines) + "\n"
+
+
+def main() -> None:
+    parser = argparse.ArgumentParser(description=(__doc__ or "").partition("\n")[0])
+    parser.add_argument("task", choices=["check"])
+    parser.add_argument("file", nargs="?")
+    parser.add_argument("--held", action="store_true")
+    parser.add_argument("--limit", type=int, default=16_777_216)
+    arguments = parser.parse_args()
+    log = Path(arguments.file).read_bytes() if arguments.file else sys.stdin.buffer.read()
+    text = report(log, arguments.limit, arguments.held)
+    sys.stdout.write(text)
+    sys.exit({"pass": 0, "fail": 1, "refused": 2}[text.splitlines()[-1].split()[0]])
+
+
+if __name__ == "__main__":
+    assert list(STATEMENTS) and set(STATEMENTS) == set(CITATIONS)
+    main()

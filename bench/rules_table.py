@@ -1,0 +1,76 @@
+#!/usr/bin/env python3
+"""Checks that the README's table of statements is the one that the program has.
+
+The rows are those of `TABLE` in crates/mq_rules/src/table.rt, and what each statement says is its doc comment in
+crates/mq_rules/src/rule.rt. In the README the table stands between the lines `<!-- rules -->` and `<!-- /rules -->`.
+Where it differs, the first line that does is printed, and the status is 1; with --write the table is written instead.
+
+usage: bench/rules_table.py [--write]
+"""
+import argparse
+import re
+import sys
+from pathlib import Path
+
+TOP = Path(__file__).resolve().parent.parent
+README = TOP / "README.md"
+SOURCES = TOP / "crates" / "mq_rules" / "src"
+BEGIN, END = "<!-- rules -->\n", "<!-- /rules -->\n"
+HEAD = ["| Code | A statement of the tested end | Citation for a client | For a server |", "|---|---|---|---|"]
+ROW = re.compile(r'\(\s*Rule::(\w+),\s*"(\w+)",\s*"([^"]*)",\s*"([^"]*)",\s*(true|false),?\s*\)')
+VALUE = re.compile(r"((?:^ +///.*\n)+)^ +(\w+),$", re.MULTILINE)
+SECTION = re.compile(r" \(MQTT 5\.0, sections? [^()]*\)\.$")
+
+
+def sentences() -> dict[str, str]:
+    """What each statement says, by its name in the source: its doc comment without the section of the standard."""
+    enum = re.search(r"pub enum Rule \{\n(.*?)^\}", (SOURCES / "rule.rt").read_text(), re.DOTALL | re.MULTILINE)
+    if enum is None:
+        sys.exit("rules_table.py: rule.rt has no enum of rules")
+    said = {}
+    for comment, name in VALUE.findall(enum[1]):
+        text = " ".join(line.strip().removeprefix("///").strip() for line in comment.splitlines())
+        if not SECTION.search(text):
+            sys.exit(f"rules_table.py: the comment of {name} ends with no section of the standard")
+        said[name] = SECTION.sub("", text)
+    return said
+
+
+def table() -> str:
+    source = (SOURCES / "table.rt").read_text()
+    size = re.search(r"pub const TABLE: \[Row; (\d+)\]", source)
+    rows = ROW.findall(source)
+    said = sentences()
+    if size is None or int(size[1]) != len(rows) or [row[0] for row in rows] != list(said):
+        sys.exit("rules_table.py: the rows of the table aren't the values of the enum, in their order")
+    lines = HEAD.copy()
+    for name, code, client, server, needs_releases in rows:
+        where = ", where the log records releases" if needs_releases == "true" else ""
+        lines.append(f"| {code} | {said[name]}{where} | {client or '-'} | {server or '-'} |")
+    return "\n".join(lines) + "\n"
+
+
+def main() -> None:
+    options = argparse.ArgumentParser(description="Checks the README's table of statements.")
+    options.add_argument("--write", action="store_true", help="write the table into the README")
+    write = options.parse_args().write
+    readme = README.read_text()
+    if readme.count(BEGIN) != 1 or readme.count(END) != 1:
+        sys.exit("rules_table.py: the README has not one place for the table")
+    before, rest = readme.split(BEGIN)
+    there, after = rest.split(END)
+    wanted = table()
+    if there == wanted:
+        return
+    if write:
+        README.write_text(before + BEGIN + wanted + END + after)
+        return
+    for have, want in zip(there.splitlines() + [""], wanted.splitlines() + [""]):
+        if have != want:
+            print(f"the README has:    {have}\nthe program has:   {want}")
+            break
+    sys.exit(1)
+
+
+if __name__ == "__main__":
+    main()
