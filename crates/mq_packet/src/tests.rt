@@ -1,11 +1,15 @@
-//! Packets by their bytes, as MQTT 5.0 spells them.
+//! The codec by its bytes, as MQTT 5.0 spells them: packets, and the fields, topics and property lists below them. All its tests stand here, since the
+//! functions of a crate that has tests are proved once more for them.
 
 mod changed;
 mod cuts;
 mod encoding;
 mod lists;
 mod packets;
+mod props;
 mod rows;
+mod topic;
 mod validity;
 mod whole;
+mod wire;
 mod written;

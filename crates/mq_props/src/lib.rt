@@ -18,6 +18,3 @@ pub use laws::{properties_are_exact, property_faults_are_exact};
 pub use prop::Prop;
 pub use props::{Props, PropsIter};
 pub use table::Place;
-
-#[cfg(test)]
-mod tests;

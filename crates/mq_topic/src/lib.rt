@@ -11,6 +11,3 @@ pub use aliases::{AliasTable, Memory};
 pub use filter::{FilterFault, check_filter};
 pub use matching::matches;
 pub use name::check_name;
-
-#[cfg(test)]
-mod tests;

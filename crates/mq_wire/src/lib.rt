@@ -15,6 +15,3 @@ pub use laws::{
     two_bytes_is_exact, two_bytes_is_refused, varint_is_exact, varint_is_refused,
 };
 pub use put::{put_binary, put_pair, put_text, put_u8, put_u16, put_u32, put_varint};
-
-#[cfg(test)]
-mod tests;

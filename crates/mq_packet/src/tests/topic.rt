@@ -1,4 +1,4 @@
-use super::*;
+use mq_topic::*;
 
 #[test]
 fn filters(rt: HostRuntime) {

@@ -1,5 +1,5 @@
-use super::*;
-use crate::Place::*;
+use mq_props::Place::*;
+use mq_props::*;
 use mq_wire::{Cursor, Reason, put_varint};
 use std::alloc::Global;
 use std::test::Fail;

@@ -1,4 +1,4 @@
-use super::*;
+use mq_wire::*;
 use std::test::Fail;
 
 fn fault<T: Drop>(read: Result<T, WireFault>) -> Option<(usize, Reason)> {
