@@ -194,6 +194,7 @@ fn auth_len(packet: &Ending<'_>) -> Option<u32>
 }
 
 /// How many bytes the body has, if a Remaining Length can say it (MQTT 5.0, section 2.1.4).
+#[inline(always)]
 pub fn body_len(packet: &Packet<'_>) -> Option<u32>
     ensures { result ≡ within (length (canonical_body (view packet.now))) }
 {

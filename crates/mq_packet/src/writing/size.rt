@@ -12,6 +12,7 @@ use crate::packet::{Packet, PacketType};
 const MAX_REMAINING: u32 = 268_435_455;
 
 // The length of the body as it was read, where the packet keeps it.
+#[inline(always)]
 fn read_len(packet: &Packet<'_>) -> Option<u32>
     ensures { result ≡ read_length packet.now }
 {
@@ -29,6 +30,7 @@ fn read_len(packet: &Packet<'_>) -> Option<u32>
 }
 
 // The length of the body, if a Remaining Length can say it.
+#[inline(always)]
 fn remaining_len(packet: &Packet<'_>) -> Option<u32>
     ensures { result ≡ within (remaining_length packet.now) }
 {
@@ -65,6 +67,7 @@ impl<'a> Packet<'a> {
 
     /// How many bytes the whole packet has (MQTT 5.0, section 2.1): as it was read, where that is known by `read_len`, else as
     /// `encode` writes it. None where its Remaining Length would be over 268,435,455.
+    #[inline(always)]
     pub fn size(&self) -> Option<u32>
         ensures { result ≡ size_with (remaining_length self.now) }
     {
