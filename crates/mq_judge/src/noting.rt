@@ -32,6 +32,7 @@ impl Notes {
     /// # Errors
     ///
     /// `Memory` where there is no room for one more note, or none for a text that the note keeps. The notes are then unchanged.
+    #[inline(always)]
     fn note(&mut self, place: Place3, event: &Event<'_>) -> Result<(), Memory>
         ensures noted { OnOk result (reverse self.new.seen.items ≡ seen (placed_at place event.now) ∷ reverse self.old.seen.items) }
         ensures needed { OnErr result ((vec_capacity self.old.seen ≤ vec_len self.old.seen) ⊎ (note_keeps_text (note_of (event_of event.now)) ≡ true)) }
@@ -64,6 +65,7 @@ impl Sink for Notes {
     // Memory was refused, and the notes are those of the events before.
     ghost refuses = { λ notes received refusal. (refusal ≡ Memory 0) × (reverse notes.seen.items ≡ map seen received) };
 
+    #[inline(always)]
     fn event(&mut self, place: Place3, event: Event<'_>) -> Result<(), Refusal> {
         match self.note(place, &event) {
             Ok(()) => Ok(()),

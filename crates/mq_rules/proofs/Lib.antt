@@ -24,3 +24,5 @@ pub mod AliveLaws
 pub mod PlainLaws
 pub mod CounterLaws
 pub mod FirstRestLaws
+pub mod PropertyLaws
+pub mod NamingLaws

@@ -1,4 +1,5 @@
 pub mod Words
+pub mod Texts
 pub mod Notes
 pub mod Moments
 pub mod Connections
@@ -17,3 +18,4 @@ pub mod Keeping
 pub mod Worked
 pub mod Counter
 pub mod FirstRests
+pub mod Naming

@@ -11,6 +11,7 @@ mod fate;
 mod fault;
 mod faults;
 mod laws;
+mod naming;
 mod note;
 mod noting;
 mod packet_note;
@@ -19,6 +20,7 @@ mod position_laws;
 mod role;
 mod rule;
 mod session_laws;
+mod short_text;
 mod statement_laws;
 mod table;
 mod table_laws;
@@ -34,6 +36,7 @@ pub use laws::{
     latest_fate_goes_on, listed_is_failing, open_decides_nothing, past_is_judged_at_once,
     session_packets_are_late, sessions_are_judged_at_once,
 };
+pub use naming::each_statement_is_named;
 pub use note::{ItemNote, Note, Seen};
 pub use packet_note::{ConnackNote, ConnectNote, PacketFields, PacketNote, PublishNote};
 pub use plain::{plain_c, plain_w};

@@ -3,7 +3,7 @@
 //! Memory is taken only for a text that some statement looks at: the Topic Name of a PUBLISH that was sent, the Topic Filters of a
 //! SUBSCRIBE that was received, and the Reason Codes of a SUBACK that was sent.
 ghost use Rattle.std.specs.Prelude.{◌≡◌, ◌<◌, ℕ, List, [], true, is_some, length, option_map, unwrap_or, IfOk, OnErr};
-ghost use Rattle.mq_props.specs.First.{first_text, first_pair};
+ghost use Rattle.mq_props.specs.First.{first_two_bytes, first_four_bytes, first_varint, first_text, first_pair};
 ghost use Rattle.mq_packet.specs.declared.packet.RequestKind.TheVariants as requests;
 ghost use Rattle.mq_packet.specs.Reading.{view, connect_view, publish_view};
 ghost use Rattle.mq_packet.specs.Sizes.{size_with, remaining_length};
@@ -35,8 +35,20 @@ fn is_pair(pair: Option<(&str, &str)>) -> bool
     pair.is_some()
 }
 
+/// The list, where it has properties. In most packets it has none, and then nothing needs to be looked for in it.
+#[inline(always)]
+fn filled<'p, 'a>(list: &'p Props<'a>) -> Option<&'p Props<'a>>
+    ensures { unwrap_or (option_map (λ list. list.now.items) result) [] ≡ list.now.items }
+{
+    if list.as_bytes().is_empty() {
+        None
+    } else {
+        Some(list)
+    }
+}
+
 /// Whether there is a list, and it has a Reason String (MQTT 5.0, section 3.2.2.3.9).
-#[inline]
+#[inline(always)]
 fn has_reason_string(list: Option<&Props<'_>>) -> bool
     ensures { result ≡ is_some (first_text 31 (unwrap_or (option_map (λ list. list.now.items) list.entry) [])) }
 {
@@ -47,12 +59,45 @@ fn has_reason_string(list: Option<&Props<'_>>) -> bool
 }
 
 /// Whether there is a list, and it has a User Property (MQTT 5.0, section 3.2.2.3.10).
-#[inline]
+#[inline(always)]
 fn has_user_property(list: Option<&Props<'_>>) -> bool
     ensures { result ≡ is_some (first_pair 38 (unwrap_or (option_map (λ list. list.now.items) list.entry) [])) }
 {
     match list {
         Some(list) => is_pair(list.get_user_property()),
+        None => false,
+    }
+}
+
+/// The Topic Alias, where there is a list, and it has one (MQTT 5.0, section 3.3.2.3.4).
+#[inline(always)]
+fn topic_alias(list: Option<&Props<'_>>) -> Option<u16>
+    ensures { result ≡ first_two_bytes 35 (unwrap_or (option_map (λ list. list.now.items) list.entry) []) }
+{
+    match list {
+        Some(list) => list.get_topic_alias(),
+        None => None,
+    }
+}
+
+/// Whether there is a list, and it has a Message Expiry Interval (MQTT 5.0, section 3.3.2.3.3).
+#[inline(always)]
+fn has_message_expiry(list: Option<&Props<'_>>) -> bool
+    ensures { result ≡ is_some (first_four_bytes 2 (unwrap_or (option_map (λ list. list.now.items) list.entry) [])) }
+{
+    match list {
+        Some(list) => list.get_message_expiry_interval().is_some(),
+        None => false,
+    }
+}
+
+/// Whether there is a list, and it has a Subscription Identifier (MQTT 5.0, section 3.3.2.3.8).
+#[inline(always)]
+fn has_subscription_identifier(list: Option<&Props<'_>>) -> bool
+    ensures { result ≡ is_some (first_varint 11 (unwrap_or (option_map (λ list. list.now.items) list.entry) [])) }
+{
+    match list {
+        Some(list) => list.get_subscription_identifier().is_some(),
         None => false,
     }
 }
@@ -97,14 +142,14 @@ impl ConnackNote {
 }
 
 /// The Topic Name, where its PUBLISH was sent.
-#[inline]
+#[inline(always)]
 fn kept_topic(alloc: Global, way: Way, topic: &str) -> Result<Text, Memory>
     ensures exact { IfOk result (λ text. text ≡ kept (is_sent_way way) topic.now) }
     ensures needed { OnErr result (0 < length (kept (is_sent_way way) topic.now)) }
 {
     match way {
         Way::Sent => Text::of(alloc, topic),
-        Way::Recv => Ok(Text::empty(alloc)),
+        Way::Recv => Ok(Text::empty()),
     }
 }
 
@@ -114,21 +159,21 @@ impl PublishNote {
     /// # Errors
     ///
     /// `Memory` where room for its Topic Name was refused, which is kept of a PUBLISH that was sent.
-    #[inline]
+    #[inline(always)]
     pub fn of(alloc: Global, way: Way, publish: &Publish<'_>) -> Result<PublishNote, Memory>
         ensures exact { IfOk result (λ note. note ≡ publish_note way (publish_view publish.now)) }
         ensures needed { OnErr result (0 < length (publish_note way (publish_view publish.now)).topic) }
     {
         let topic = kept_topic(alloc, way, publish.topic)?;
-        let properties = &publish.properties;
+        let properties = filled(&publish.properties);
         Ok(PublishNote {
             identifier: publish.identifier,
             qos: publish.qos,
             duplicate: publish.duplicate,
             topic,
-            topic_alias: properties.get_topic_alias(),
-            has_message_expiry: properties.get_message_expiry_interval().is_some(),
-            has_subscription_identifier: properties.get_subscription_identifier().is_some(),
+            topic_alias: topic_alias(properties),
+            has_message_expiry: has_message_expiry(properties),
+            has_subscription_identifier: has_subscription_identifier(properties),
         })
     }
 }
@@ -183,7 +228,7 @@ impl PacketFields {
     /// # Errors
     ///
     /// `Memory` where room was refused for a text that is kept.
-    #[inline]
+    #[inline(always)]
     pub fn of(alloc: Global, way: Way, packet: &Packet<'_>) -> Result<PacketFields, Memory>
         ensures exact { IfOk result (λ fields. fields ≡ packet_fields way (view packet.now)) }
         ensures needed { OnErr result (keeps_text (packet_fields way (view packet.now)) ≡ true) }
@@ -236,23 +281,23 @@ impl PacketFields {
     }
 }
 
-/// The packet's own property list, where it has one (MQTT 5.0, section 2.2.2).
-#[inline]
-fn list_of<'p, 'a>(packet: &'p Packet<'a>) -> Option<&'p Props<'a>>
+/// The packet's own property list, where it has one and there are properties in it (MQTT 5.0, section 2.2.2).
+#[inline(always)]
+fn properties_in<'p, 'a>(packet: &'p Packet<'a>) -> Option<&'p Props<'a>>
     ensures { unwrap_or (option_map (λ list. list.now.items) result) [] ≡ properties_of (view packet.now) }
 {
     match packet {
-        Packet::Connect(packet) => Some(&packet.properties),
-        Packet::Connack(packet) => Some(&packet.properties),
-        Packet::Publish(packet) => Some(&packet.properties),
+        Packet::Connect(packet) => filled(&packet.properties),
+        Packet::Connack(packet) => filled(&packet.properties),
+        Packet::Publish(packet) => filled(&packet.properties),
         Packet::Puback(packet)
         | Packet::Pubrec(packet)
         | Packet::Pubrel(packet)
-        | Packet::Pubcomp(packet) => Some(&packet.properties),
-        Packet::Subscribe(packet) | Packet::Unsubscribe(packet) => Some(&packet.properties),
-        Packet::Suback(packet) | Packet::Unsuback(packet) => Some(&packet.properties),
+        | Packet::Pubcomp(packet) => filled(&packet.properties),
+        Packet::Subscribe(packet) | Packet::Unsubscribe(packet) => filled(&packet.properties),
+        Packet::Suback(packet) | Packet::Unsuback(packet) => filled(&packet.properties),
         Packet::Pingreq | Packet::Pingresp => None,
-        Packet::Disconnect(packet) | Packet::Auth(packet) => Some(&packet.properties),
+        Packet::Disconnect(packet) | Packet::Auth(packet) => filled(&packet.properties),
     }
 }
 
@@ -263,16 +308,17 @@ impl PacketNote {
     /// # Errors
     ///
     /// `Memory` where room was refused for a text that is kept.
-    #[inline]
+    #[inline(always)]
     pub fn of(alloc: Global, way: Way, packet: &Packet<'_>) -> Result<PacketNote, Memory>
         ensures exact { IfOk result (λ note. note ≡ packet_note way (unwrap_or (size_with (remaining_length packet.now)) 0) (view packet.now)) }
         ensures needed { OnErr result (keeps_text (packet_fields way (view packet.now)) ≡ true) }
     {
         let fields = PacketFields::of(alloc, way, packet)?;
+        let properties = properties_in(packet);
         Ok(PacketNote {
             size: packet.size().unwrap_or(0),
-            has_reason_string: has_reason_string(list_of(packet)),
-            has_user_property: has_user_property(list_of(packet)),
+            has_reason_string: has_reason_string(properties),
+            has_user_property: has_user_property(properties),
             fields,
         })
     }
@@ -284,7 +330,7 @@ impl ItemNote {
     /// # Errors
     ///
     /// `Memory` where room was refused for a text that is kept.
-    #[inline]
+    #[inline(always)]
     pub fn of(alloc: Global, way: Way, item: &Item<'_>) -> Result<ItemNote, Memory>
         ensures exact { IfOk result (λ note. note ≡ item_note way (item_of item.now)) }
         ensures needed { OnErr result (item_keeps_text (item_note way (item_of item.now)) ≡ true) }
@@ -311,7 +357,7 @@ impl Note {
     ///
     /// `Memory` where room was refused for a text that is kept: the Topic Name of a PUBLISH that was sent, the Topic Filters of a
     /// SUBSCRIBE that was received, or the Reason Codes of a SUBACK that was sent. Any other event takes no memory.
-    #[inline]
+    #[inline(always)]
     pub fn of(alloc: Global, event: &Event<'_>) -> Result<Note, Memory>
         ensures exact { IfOk result (λ note. note ≡ note_of (event_of event.now)) }
         ensures needed { OnErr result (note_keeps_text (note_of (event_of event.now)) ≡ true) }

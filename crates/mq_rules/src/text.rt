@@ -1,37 +1,48 @@
 //! Texts and lists that notes own. A contract sees each as a plain list.
 //!
-//! An empty one takes no memory, so it can't be refused any.
+//! A short text lies in the value itself, and an empty list takes no memory, so neither can be refused any.
 
 use crate::copying::{copied, copied_text, noted};
 use crate::faults::Memory;
+use crate::short_text::{ROOM, ShortText};
 use mq_packet::{Codes, Filters};
 use std::alloc::Global;
 use std::marker::Model;
 
+/// Where the bytes of a text lie.
+#[derive(Debug, Drop)]
+enum Form {
+    Short(ShortText),
+    Long(String),
+}
+
 /// A text, of at most 65,535 bytes. A contract sees the bytes of its UTF-8 encoding.
+///
+/// Most Topic Names are short: they lie in the value itself, so that a note of one takes no memory of its own.
 #[derive(Debug, Drop)]
 pub struct Text {
-    text: String,
+    form: Form,
 }
 
 impl Model for Text {
-    ghost use Rattle.std.specs.Prelude.{List, ℕ, string_bytes};
+    ghost use Rattle.std.specs.Prelude.{List, ℕ};
+    ghost use Rattle.mq_rules.specs.Texts.{form_bytes};
 
     ghost Value = { List ℕ };
 
-    ghost view = { λ t. string_bytes t.text };
+    ghost view = { λ t. form_bytes t.form };
 }
 
 impl Text {
     ghost use Rattle.std.specs.Prelude.{◌≡◌, ◌<◌, ◌==◌, [], length, IfOk, OnErr};
 
     /// No text.
-    #[inline]
-    pub fn empty(alloc: Global) -> Text
+    #[inline(always)]
+    pub fn empty() -> Text
         ensures { result ≡ [] }
     {
         Text {
-            text: String::new(alloc),
+            form: Form::Short(ShortText::empty()),
         }
     }
 
@@ -39,14 +50,29 @@ impl Text {
     ///
     /// # Errors
     ///
-    /// `Memory` where room for it was refused. An empty text needs none.
-    #[inline]
+    /// `Memory` where room for it was refused. A text of at most 30 bytes needs none.
+    #[inline(always)]
     pub fn of(alloc: Global, text: &str) -> Result<Text, Memory>
         ensures exact { IfOk result (λ copy. copy ≡ text.now) }
-        ensures needed { OnErr result (0 < length text.now) }
+        ensures needed { OnErr result (30 < length text.now) }
+    {
+        if text.len() > ROOM {
+            return Text::long(alloc, text);
+        }
+        Ok(Text {
+            form: Form::Short(ShortText::of(text)),
+        })
+    }
+
+    /// A copy of the text, in memory of its own.
+    #[inline(never)]
+    fn long(alloc: Global, text: &str) -> Result<Text, Memory>
+        ensures { IfOk result (λ copy. copy ≡ text.now) }
     {
         let text = copied_text(alloc, text)?;
-        Ok(Text { text })
+        Ok(Text {
+            form: Form::Long(text),
+        })
     }
 
     /// The text.
@@ -54,7 +80,10 @@ impl Text {
     pub fn as_str(&self) -> &str
         ensures { result.now ≡ self.now }
     {
-        self.text.as_str()
+        match &self.form {
+            Form::Short(text) => text.as_str(),
+            Form::Long(text) => text.as_str(),
+        }
     }
 
     /// How many bytes it has.
@@ -62,7 +91,10 @@ impl Text {
     pub fn len(&self) -> usize
         ensures { result ≡ length self.now }
     {
-        self.text.len()
+        match &self.form {
+            Form::Short(text) => text.len(),
+            Form::Long(text) => text.len(),
+        }
     }
 
     /// Whether it is empty.
@@ -70,7 +102,7 @@ impl Text {
     pub fn is_empty(&self) -> bool
         ensures { result ≡ (length self.now == 0) }
     {
-        self.text.is_empty()
+        self.len() == 0
     }
 }
 

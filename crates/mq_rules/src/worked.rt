@@ -195,9 +195,11 @@ pub fn resends()
     ensures same_breaks { failing client S03 (Open ∷ sends kept ∷ gets accepted ∷ sends (once false 1) ∷ sends (once true 1) ∷ []) ≡ 5 ∷ [] }
     ensures same_keeps { failing client S03 (Open ∷ sends kept ∷ gets accepted ∷ sends (once false 1) ∷ Close ∷ Open ∷ sends again ∷ gets resumed ∷ sends (once true 1) ∷ []) ≡ [] }
     ensures server_same_breaks { failing server S03 (Open ∷ gets kept ∷ sends accepted ∷ sends (once false 1) ∷ sends (once true 1) ∷ []) ≡ 5 ∷ [] }
+    ensures server_same_keeps { failing server S03 (Open ∷ gets kept ∷ sends accepted ∷ sends (once false 1) ∷ Close ∷ Open ∷ gets again ∷ sends resumed ∷ sends (once true 1) ∷ []) ≡ [] }
     ensures released_breaks { failing client S04 (Open ∷ sends kept ∷ gets accepted ∷ sends (exactly false 1) ∷ gets (Pubrec 1 0) ∷ sends (Pubrel 1 0) ∷ Close ∷ Open ∷ sends again ∷ gets resumed ∷ sends (exactly true 1) ∷ []) ≡ 11 ∷ [] }
     ensures released_keeps { failing client S04 (Open ∷ sends kept ∷ gets accepted ∷ sends (exactly false 1) ∷ gets (Pubrec 1 0) ∷ Close ∷ Open ∷ sends again ∷ gets resumed ∷ sends (exactly true 1) ∷ []) ≡ [] }
     ensures server_released_breaks { failing server S04 (Open ∷ gets kept ∷ sends accepted ∷ sends (exactly false 1) ∷ gets (Pubrec 1 0) ∷ sends (Pubrel 1 0) ∷ Close ∷ Open ∷ gets again ∷ sends resumed ∷ sends (exactly true 1) ∷ []) ≡ 11 ∷ [] }
+    ensures server_released_keeps { failing server S04 (Open ∷ gets kept ∷ sends accepted ∷ sends (exactly false 1) ∷ gets (Pubrec 1 0) ∷ Close ∷ Open ∷ gets again ∷ sends resumed ∷ sends (exactly true 1) ∷ []) ≡ [] }
     ensures order_breaks { failing client S05 (Open ∷ sends kept ∷ gets accepted ∷ sends (once false 1) ∷ sends (once false 2) ∷ Close ∷ Open ∷ sends again ∷ gets resumed ∷ sends (once true 2) ∷ sends (once true 1) ∷ []) ≡ 11 ∷ [] }
     ensures order_keeps { failing client S05 (Open ∷ sends kept ∷ gets accepted ∷ sends (once false 1) ∷ sends (once false 2) ∷ Close ∷ Open ∷ sends again ∷ gets resumed ∷ sends (once true 1) ∷ sends (once true 2) ∷ []) ≡ [] }
 {}
@@ -308,11 +310,13 @@ pub fn released_messages()
     ensures twice_keeps { failing client L2 (Open ∷ sends kept ∷ gets accepted ∷ gets (exactly false 1) ∷ Release 1 ∷ gets (exactly true 1) ∷ []) ≡ [] }
     ensures before_keeps { failing client L2 (Release 1 ∷ Release 1 ∷ []) ≡ [] }
     ensures server_twice_breaks { failing server L2 (Open ∷ gets kept ∷ sends accepted ∷ gets (exactly false 1) ∷ Release 1 ∷ Release 1 ∷ []) ≡ 6 ∷ [] }
+    ensures server_twice_keeps { failing server L2 (Open ∷ gets kept ∷ sends accepted ∷ gets (exactly false 1) ∷ Release 1 ∷ []) ≡ [] }
     ensures completed_breaks { failing client L3 (Open ∷ sends kept ∷ gets accepted ∷ gets (exactly false 1) ∷ gets (Pubrel 1 0) ∷ sends (Pubcomp 1 0) ∷ []) ≡ 6 ∷ [] }
     ensures completed_keeps { failing client L3 (Open ∷ sends kept ∷ gets accepted ∷ gets (exactly false 1) ∷ Release 1 ∷ sends (Pubcomp 1 0) ∷ []) ≡ [] }
     ensures expiring_keeps { failing client L3 (Open ∷ sends kept ∷ gets accepted ∷ gets (expiring 1) ∷ gets (Pubrel 1 0) ∷ sends (Pubcomp 1 0) ∷ []) ≡ [] }
     ensures unmatched_keeps { failing client L3 (Open ∷ sends kept ∷ gets accepted ∷ gets (exactly false 1) ∷ sends (Pubrec 1 16) ∷ sends (Pubcomp 1 0) ∷ []) ≡ [] }
     ensures server_completed_breaks { failing server L3 (Open ∷ gets kept ∷ sends accepted ∷ gets (exactly false 1) ∷ gets (Pubrel 1 0) ∷ sends (Pubcomp 1 0) ∷ []) ≡ 6 ∷ [] }
+    ensures server_completed_keeps { failing server L3 (Open ∷ gets kept ∷ sends accepted ∷ gets (exactly false 1) ∷ gets (Pubrel 1 0) ∷ Release 1 ∷ sends (Pubcomp 1 0) ∷ []) ≡ [] }
 {}
 
 /// What a server sends to whom (B01 to B04).

@@ -63,3 +63,11 @@ returns-clause-unmatched_keeps c = refl
 pub returns-clause-server_completed_breaks : goal.returns-clause-server_completed_breaks
 unfolding fails found_line lines line_of breaks_L3
 returns-clause-server_completed_breaks c = refl
+
+pub returns-clause-server_twice_keeps : goal.returns-clause-server_twice_keeps
+unfolding fails found_line lines line_of breaks_L2
+returns-clause-server_twice_keeps c = refl
+
+pub returns-clause-server_completed_keeps : goal.returns-clause-server_completed_keeps
+unfolding fails found_line lines line_of breaks_L3
+returns-clause-server_completed_keeps c = refl

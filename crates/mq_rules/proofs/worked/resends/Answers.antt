@@ -55,3 +55,11 @@ returns-clause-order_breaks c = refl
 pub returns-clause-order_keeps : goal.returns-clause-order_keeps
 unfolding fails found_line lines line_of breaks_S05
 returns-clause-order_keeps c = refl
+
+pub returns-clause-server_same_keeps : goal.returns-clause-server_same_keeps
+unfolding fails found_line lines line_of breaks_S03
+returns-clause-server_same_keeps c = refl
+
+pub returns-clause-server_released_keeps : goal.returns-clause-server_released_keeps
+unfolding fails found_line lines line_of breaks_S04
+returns-clause-server_released_keeps c = refl

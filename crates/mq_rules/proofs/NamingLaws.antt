@@ -1,0 +1,39 @@
+-- The sentences and codes of the statements: a row that is found in the source is found in its view, and each statement has its own.
+use Rattle.std.proofs.Common.{◌≡◌, ℕ, Bool, true, false, cond, List, [], ◌∷◌, Option, Some, Bor, map, refl}
+use Rattle.std.specs.Option.{option_map}
+use Rattle.std.specs.List.{find}
+use Rattle.std.specs.Char.{to_ascii_lowercase}
+use Rattle.std.specs.Str.{str_eq_ignore_ascii_case}
+use Rattle.mq_rules.specs.declared.rule.Rule.{Rule}
+use Rattle.mq_rules.specs.declared.rule.Rule.TheVariants.{W01}
+use Rattle.mq_rules.specs.Naming.{Said, coded_line, coded_rule, saying_view, sayings_of, sentences}
+use Rattle.mq_rules.specs.Rules.{Line, all_rules, code_of, found_line, line_of, line_view, lines, lines_of, same_rule}
+
+cond-map : {A B : Type 0} (view : A → B) (b : Bool) (x : A) (o : Option A) (q : Option B) → option_map view o ≡ q → option_map view (cond b (Some x) o) ≡ cond b (Some (view x)) q
+cond-map view true x o q h = refl
+cond-map view false x o q h = h
+
+pub find-saying : (rule : Rule) (rows : List (Rule × Bor (List ℕ)))
+    → option_map saying_view (find (λ row. same_rule row.0 rule) rows) ≡ find (λ (said : Said). same_rule said.rule rule) (sayings_of rows)
+find-saying rule [] = refl
+find-saying rule (row ∷ rows) = cond-map saying_view (same_rule row.0 rule) row (find (λ r. same_rule r.0 rule) rows) (find (λ (s : Said). same_rule s.rule rule) (sayings_of rows)) (find-saying rule rows)
+
+pub find-coded : (code : List ℕ) (rows : List (Rule × Bor (List ℕ) × Bor (List ℕ) × Bor (List ℕ) × Bool))
+    → option_map line_view (find (λ row. str_eq_ignore_ascii_case row.1.now code) rows) ≡ find (λ (line : Line). str_eq_ignore_ascii_case line.code code) (lines_of rows)
+find-coded code [] = refl
+find-coded code (row ∷ rows) = cond-map line_view (str_eq_ignore_ascii_case row.1.now code) row (find (λ r. str_eq_ignore_ascii_case r.1.now code) rows)
+    (find (λ (l : Line). str_eq_ignore_ascii_case l.code code) (lines_of rows)) (find-coded code rows)
+
+pub sentences_said : map (λ said. said.rule) sentences ≡ all_rules
+unfolding sentences lines
+sentences_said = refl
+
+pub codes_named : (rule : Rule) → coded_rule (code_of rule) ≡ Some rule
+unfolding coded_rule coded_line line_of found_line lines
+codes_named W01 = refl
+codes_named _ = refl
+
+pub small_codes_named : (rule : Rule) → coded_rule (map to_ascii_lowercase (code_of rule)) ≡ Some rule
+unfolding coded_rule coded_line line_of found_line lines
+small_codes_named W01 = refl
+small_codes_named _ = refl

@@ -1,0 +1,280 @@
+//! What each statement says, in a sentence, and the statement that a code names.
+ghost use Rattle.std.specs.Prelude.{◌≡◌, Some, map, option_map};
+ghost use Rattle.std.specs.Char.{to_ascii_lowercase};
+ghost use Rattle.std.specs.Str.{str_eq_ignore_ascii_case};
+ghost use Rattle.std.specs.List.{find};
+ghost use Rattle.mq_rules.specs.declared.rule.Rule.{Rule};
+ghost use Rattle.mq_rules.specs.Naming.{coded_line, coded_rule, found_sentence, saying_view, sayings_of, sentence_of, sentences};
+ghost use Rattle.mq_rules.specs.Rules.{Line, all_rules, code_of, line_view, lines_of, same_rule};
+
+use crate::rule::Rule;
+use crate::table::{Row, TABLE};
+
+/// A statement, and what it says.
+pub type Saying = (Rule, &'static str);
+
+/// What each statement says, in the order of reports: each of these is to hold of the tested end.
+pub const SENTENCES: [Saying; 74] = [
+    (
+        Rule::W01,
+        "The flags of a packet other than PUBLISH are those of its type.",
+    ),
+    (Rule::W02, "The type isn't 0."),
+    (
+        Rule::W03,
+        "A variable byte integer is at most four bytes long, and no longer than need be.",
+    ),
+    (Rule::W04, "A text is well-formed UTF-8."),
+    (Rule::W05, "A text doesn't hold U+0000."),
+    (
+        Rule::W06,
+        "Each field lies within the packet or the list that it is in, and no bytes are left over.",
+    ),
+    (Rule::W07, "The QoS of a PUBLISH isn't 3."),
+    (Rule::W08, "DUP is 0 in a PUBLISH of QoS 0."),
+    (Rule::W09, "A Packet Identifier isn't 0."),
+    (Rule::W10, "A property is known, and allowed in its list."),
+    (
+        Rule::W11,
+        "A property stands in a list once, but for those that may be repeated.",
+    ),
+    (Rule::W12, "A property has a value that it may have."),
+    (Rule::W13, "A Reason Code is one of the packet's."),
+    (
+        Rule::W14,
+        "A Topic Name, and the Response Topic of a PUBLISH, has no wildcard.",
+    ),
+    (Rule::W15, "A Topic Filter is valid."),
+    (Rule::W16, "A SUBSCRIBE or UNSUBSCRIBE has a filter."),
+    (
+        Rule::W17,
+        "The Subscription Options name a Maximum QoS and a Retain Handling that exist, and have no reserved bit.",
+    ),
+    (Rule::W18, "The protocol's name is `MQTT`."),
+    (
+        Rule::W19,
+        "The Connect Flags have no reserved bit, no Will QoS 3, and no Will QoS or Will Retain without a Will.",
+    ),
+    (
+        Rule::W20,
+        "The Connect Acknowledge Flags have no reserved bit.",
+    ),
+    (Rule::W21, "A PUBLISH has a Topic Name or a Topic Alias."),
+    (Rule::C01, "A packet has a type that this end may send."),
+    (
+        Rule::C02,
+        "The first packet that a client sends on a connection is a CONNECT.",
+    ),
+    (Rule::C03, "A client sends one CONNECT on a connection."),
+    (
+        Rule::C04,
+        "A server sends a CONNACK only after a CONNECT was received.",
+    ),
+    (
+        Rule::C05,
+        "A server sends a CONNACK before any packet other than AUTH.",
+    ),
+    (Rule::C06, "A server sends one CONNACK on a connection."),
+    (Rule::C07, "Session Present is 0 where Clean Start was 1."),
+    (
+        Rule::C08,
+        "Session Present is 1 only where the server has a session.",
+    ),
+    (Rule::C09, "Session Present is 0 in a CONNACK that refuses."),
+    (
+        Rule::C10,
+        "A client whose Client Identifier was empty is assigned one.",
+    ),
+    (Rule::C11, "Nothing is sent after a DISCONNECT."),
+    (
+        Rule::C12,
+        "A server sends nothing after a CONNACK that refuses.",
+    ),
+    (
+        Rule::C13,
+        "A client that has no session goes on with none: it only sends a DISCONNECT.",
+    ),
+    (
+        Rule::C14,
+        "A packet isn't larger than the peer's Maximum Packet Size.",
+    ),
+    (
+        Rule::C15,
+        "A Topic Alias isn't above the peer's Topic Alias Maximum.",
+    ),
+    (
+        Rule::C16,
+        "A Topic Alias that stands for a Topic Name was set on this connection.",
+    ),
+    (
+        Rule::C17,
+        "A PUBLISH isn't sent at a QoS above the server's Maximum QoS.",
+    ),
+    (
+        Rule::C18,
+        "A client sends no Subscription Identifier in a PUBLISH.",
+    ),
+    (
+        Rule::C19,
+        "A server sends no Session Expiry Interval in a DISCONNECT.",
+    ),
+    (Rule::C20, "A Session Expiry Interval of 0 stays 0."),
+    (
+        Rule::C21,
+        "No Reason String and no User Property is sent where the client asked for none.",
+    ),
+    (
+        Rule::C22,
+        "Response Information is sent only where the client asked for it.",
+    ),
+    (
+        Rule::C23,
+        "An end that sent a DISCONNECT, or a CONNACK that refuses, closes the connection.",
+    ),
+    (
+        Rule::S01,
+        "A new PUBLISH, SUBSCRIBE or UNSUBSCRIBE takes no Packet Identifier that is in use.",
+    ),
+    (
+        Rule::S02,
+        "A PUBLISH with DUP 1 was sent before with DUP 0.",
+    ),
+    (
+        Rule::S03,
+        "A PUBLISH isn't sent again on the same connection.",
+    ),
+    (
+        Rule::S04,
+        "A PUBLISH isn't sent again once its PUBREL was sent.",
+    ),
+    (
+        Rule::S05,
+        "A client sends PUBLISHes again in their original order.",
+    ),
+    (
+        Rule::S06,
+        "What is unacknowledged is sent again when a session is resumed.",
+    ),
+    (
+        Rule::S07,
+        "No more PUBLISHes are in flight than the peer's Receive Maximum.",
+    ),
+    (Rule::E1A, "A PUBACK answers a PUBLISH of QoS 1."),
+    (Rule::E1R, "A PUBLISH of QoS 1 is answered by a PUBACK."),
+    (
+        Rule::E1O,
+        "A client sends PUBACKs in the order of the PUBLISHes.",
+    ),
+    (Rule::E2A, "A PUBREC answers a PUBLISH of QoS 2."),
+    (Rule::E2R, "A PUBLISH of QoS 2 is answered by a PUBREC."),
+    (
+        Rule::E2O,
+        "A client sends PUBRECs in the order of the PUBLISHes.",
+    ),
+    (Rule::E3A, "A PUBREL answers a PUBREC that accepts."),
+    (Rule::E3R, "A PUBREC that accepts is answered by a PUBREL."),
+    (
+        Rule::E3O,
+        "A client sends PUBRELs in the order of the PUBRECs.",
+    ),
+    (Rule::E4A, "A PUBCOMP answers a PUBREL."),
+    (Rule::E4R, "A PUBREL is answered by a PUBCOMP."),
+    (Rule::E5A, "A SUBACK answers a SUBSCRIBE."),
+    (Rule::E5R, "A SUBSCRIBE is answered by a SUBACK."),
+    (Rule::E6A, "An UNSUBACK answers an UNSUBSCRIBE."),
+    (Rule::E6R, "An UNSUBSCRIBE is answered by an UNSUBACK."),
+    (Rule::E7R, "A PINGREQ is answered by a PINGRESP."),
+    (
+        Rule::L1,
+        "A release is of a QoS 2 message that was received and whose exchange isn't over.",
+    ),
+    (Rule::L2, "A QoS 2 message is released once."),
+    (Rule::L3, "A QoS 2 message is released before its PUBCOMP."),
+    (
+        Rule::B01,
+        "A PUBLISH from the server matches a subscription.",
+    ),
+    (
+        Rule::B02,
+        "A PUBLISH from the server isn't at a QoS above what was granted.",
+    ),
+    (Rule::B03, "A SUBACK has a Reason Code for each filter."),
+    (Rule::B04, "An UNSUBACK has a Reason Code for each filter."),
+];
+
+/// The row of a statement among these, if it has one.
+fn found_saying(sayings: &[Saying], rule: Rule) -> Option<Saying>
+    ensures { result ≡ find (λ row. same_rule row.0 rule) sayings.now }
+{
+    sayings.iter().copied().find(|row| row.0 == rule)
+}
+
+/// The same, as contracts see rows.
+fn found_saying_in(sayings: &[Saying], rule: Rule) -> Option<Saying>
+    ensures { option_map saying_view result ≡ find (λ said. same_rule said.rule rule) (sayings_of sayings.now) }
+{
+    found_saying(sayings, rule)
+}
+
+/// The row of a statement, if it has one.
+#[tactic(auto, unfolding(crate::specs::Naming::found_sentence, crate::specs::Naming::sentences))]
+fn find_saying(rule: Rule) -> Option<Saying>
+    ensures { option_map saying_view result ≡ found_sentence rule }
+{
+    found_saying_in(&SENTENCES, rule)
+}
+
+/// The first row with this code, in capitals or not.
+fn coded(table: &[Row], code: &str) -> Option<Row>
+    ensures { result ≡ find (λ row. str_eq_ignore_ascii_case row.1.now code.now) table.now }
+{
+    table
+        .iter()
+        .copied()
+        .find(|row| row.1.eq_ignore_ascii_case(code))
+}
+
+/// The same, as contracts see rows.
+fn coded_in(table: &[Row], code: &str) -> Option<Row>
+    ensures { option_map line_view result
+        ≡ find (λ line. str_eq_ignore_ascii_case line.code code.now) (lines_of table.now) }
+{
+    coded(table, code)
+}
+
+/// The row with this code, if there is one.
+#[tactic(auto, unfolding(crate::specs::Naming::coded_line, crate::specs::Rules::lines))]
+fn find_coded(code: &str) -> Option<Row>
+    ensures { option_map line_view result ≡ coded_line code.now }
+{
+    coded_in(&TABLE, code)
+}
+
+impl Rule {
+    /// What the statement says, in one sentence.
+    #[tactic(auto, unfolding(crate::specs::Naming::sentence_of))]
+    pub fn sentence(self) -> &'static str
+        ensures { result.now ≡ sentence_of self }
+    {
+        match find_saying(self) {
+            Some(row) => row.1,
+            None => "",
+        }
+    }
+
+    /// The statement that has this code, whose letters may be small ones. There is none where no statement's code is the
+    /// text in capitals.
+    #[tactic(auto, unfolding(crate::specs::Naming::coded_rule))]
+    pub fn of_code(code: &str) -> Option<Rule>
+        ensures { result ≡ coded_rule code.now }
+    {
+        find_coded(code).map(|row| row.0)
+    }
+}
+
+/// Each statement has its sentence, in the order of reports; and its code, in capitals or not, names it.
+pub fn each_statement_is_named()
+    ensures said { map (λ said. said.rule) sentences ≡ all_rules }
+    ensures named { (rule : Rule) → coded_rule (code_of rule) ≡ Some rule }
+    ensures small { (rule : Rule) → coded_rule (map to_ascii_lowercase (code_of rule)) ≡ Some rule }
+{}
