@@ -8,3 +8,5 @@ pub mod ShowingLaws
 pub mod Writes
 pub mod EvaluatingLaws
 pub mod CodeLaws
+pub mod JsonLaws
+pub mod SummaryLaws

@@ -6,13 +6,13 @@ use Rattle.mq_judge.specs.declared.report.RunFault.TheVariants.{Write}
 use Rattle.mq_rules.specs.declared.role.Role.{Role}
 use Rattle.mq_rules.specs.declared.fault.Fault.{Fault}
 use Rattle.mq_rules.specs.declared.faults.Mark.{Mark}
-use Rattle.mq_judge.specs.Report.{line, fault_text, verdict_text, fault_lines, report_on, AppendsBeginning, LeavesToWrite}
+use Rattle.mq_judge.specs.Report.{line, fault_text, verdict_text, fault_lines, text_report, AppendsBeginning, LeavesToWrite}
 use Rattle.mq_judge.proofs.Writes.{all-left, piece-written, last-written, stopped-in-piece, stopped-in-last}
 
 -- before the first line
 pub report-begins : (x : Option (List ℕ)) (role : Role) (faults left : List (Mark × Fault)) (events : ℕ) → left ≡ faults
-    → LeavesToWrite x x (report_on role faults events) (fault_lines role left ++ line (verdict_text (length faults) events))
-unfolding report_on
+    → LeavesToWrite x x (text_report role faults events) (fault_lines role left ++ line (verdict_text (length faults) events))
+unfolding text_report
 report-begins x role faults left events e = rw e (all-left x (fault_lines role faults ++ line (verdict_text (length faults) events)))
 
 -- a fault's line

@@ -4,6 +4,7 @@ use Rattle.std.specs.FinMap as map
 use Rattle.std.specs.Io.KnownBytes.{Appends}
 use Rattle.mq_trace.specs.declared.refusal.Refusal.{Refusal}
 use Rattle.mq_trace.specs.declared.refusal.Refusal.TheVariants as refusals
+use Rattle.mq_judge.specs.declared.report.Form.{Form}
 use Rattle.mq_judge.specs.declared.report.Outcome.{Outcome}
 use Rattle.mq_judge.specs.declared.report.Outcome.TheVariants.{Pass, Fail}
 use Rattle.mq_judge.specs.declared.report.RunFault.{RunFault}
@@ -14,7 +15,7 @@ use Rattle.mq_trace.specs.Refusals.{refused, is_cut_short}
 use Rattle.mq_trace.specs.Events.{events}
 use Rattle.mq_rules.specs.Notes.{tested_by, seen_in}
 use Rattle.mq_rules.specs.Marks.{FaultMap}
-use Rattle.mq_judge.specs.Report.{report, report_on, AppendsBeginning}
+use Rattle.mq_judge.specs.Report.{report, report_on, FailsToWrite}
 use Rattle.mq_judge.specs.Feeding.{FedAll, FedSome}
 use Rattle.mq_judge.specs.Stopping.{IsRefusedByte, IsRefusedEnd, IsRefusedAt}
 use Rattle.mq_judge.specs.Running.{default_limit, outcome_of, IsJudged, RunsOver}
@@ -52,48 +53,53 @@ pub is-named : {first : ℕ} {judge : Judged} {x y : Option (List ℕ)} (named :
 is-named {first} {judge} named count faults took default verdict names =
     rw (role-known judge took.log named took.followed (verdict took.log took.followed).0 names) (search rules)
 
-pub report-is : (log : List ℕ) (count : ℕ) (faults : FaultMap) → IsVerdictOn log count faults
-    → report_on (tested_by log).role (map.entries faults) count ≡ report log
+pub report-is : (form : Form) (log : List ℕ) (count : ℕ) (faults : FaultMap) → IsVerdictOn log count faults
+    → report_on form (tested_by log).role (map.entries faults) count ≡ report form log
 unfolding report
-report-is log count faults v = rw (entries-listed (is_judged (tested_by log)) (tested_by log) (seen_in log) faults v.2, v.1) refl
+report-is form log count faults v = rw (entries-listed (is_judged (tested_by log)) (tested_by log) (seen_in log) faults v.2, v.1) refl
 
 pub outcome-is : (log : List ℕ) (count : ℕ) (faults : FaultMap) → IsVerdictOn log count faults
     → (if map.len faults == 0 then Pass else Fail) ≡ outcome_of log
 outcome-is log count faults v = rw (map.len-entries faults, entries-listed (is_judged (tested_by log)) (tested_by log) (seen_in log) faults v.2) refl
 
 -- a run that came to an outcome
-pub run-reports : {first : ℕ} {x y : Option (List ℕ)} (w z : Option (List ℕ)) {judge : Judged} (count : ℕ) (faults : FaultMap) (role : Role) (outcome : Outcome)
+pub run-reports : {first : ℕ} {x y : Option (List ℕ)} (form : Form) (w z : Option (List ℕ)) {judge : Judged} (count : ℕ) (faults : FaultMap) (role : Role) (outcome : Outcome)
     → FedAll {S = Unit {0}} (λ j. j.limit) (λ j _. Follows j) first x y judge tt → first ≡ default_limit → ((log : List ℕ) → Follows judge log → IsVerdictOn log count faults)
     → IsNamed judge (Some role)
-    → Appends w z (report_on role (map.entries faults) count) → outcome ≡ (if map.len faults == 0 then Pass else Fail)
-    → IfSome x (λ log. RunsOver log y (Ok outcome) w z)
-run-reports {first} {x} {y} w z {judge} count faults role outcome took default verdict named wrote says =
+    → Appends w z (report_on form role (map.entries faults) count) → outcome ≡ (if map.len faults == 0 then Pass else Fail)
+    → IfSome x (λ log. RunsOver form log y (Ok outcome) w z)
+run-reports {first} {x} {y} form w z {judge} count faults role outcome took default verdict named wrote says =
     let log = took.log in
     let v : IsVerdictOn log count faults = verdict log took.followed in
     let known : Some role ≡ Some (tested_by log).role = role-known judge log (Some role) took.followed v.0 named in
     let same : role ≡ (tested_by log).role = cc in
     let judged : IsJudged log = record { unrefused = unrefused-yet log (took.within ∙ default) took.followed; whole = v.0 } in
-    let text : report_on role (map.entries faults) count ≡ report log =
-    ap (λ (r : Role). report_on r (map.entries faults) count) same ∙ report-is log count faults v in
-    whole-taken x y log (λ l. RunsOver l y (Ok outcome) w z) took.consumed took.ended
+    let text : report_on form role (map.entries faults) count ≡ report form log =
+    ap (λ (r : Role). report_on form r (map.entries faults) count) same ∙ report-is form log count faults v in
+    whole-taken x y log (λ l. RunsOver form l y (Ok outcome) w z) took.consumed took.ended
     (judged, says ∙ outcome-is log count faults v, subst (Appends w z) text wrote)
 
--- a run whose writer failed
-pub run-stops-writing : {first : ℕ} {x y : Option (List ℕ)} (w z : Option (List ℕ)) {judge : Judged} (count : ℕ) (faults : FaultMap) (role : Role) (fault : RunFault)
+-- a run whose report couldn't be written
+stops-with : (form : Form) (log : List ℕ) (y w z : Option (List ℕ)) (fault : RunFault) → IsJudged log → FailsToWrite form w z (report form log) fault → RunsOver form log y (Err fault) w z
+stops-with form log y w z (run_faults.Refused refusal) judged failed = absurd failed
+stops-with form log y w z run_faults.Write judged failed = (judged, failed)
+stops-with form log y w z run_faults.Memory judged failed = (judged, failed.0, failed.1)
+
+pub run-stops-writing : {first : ℕ} {x y : Option (List ℕ)} (form : Form) (w z : Option (List ℕ)) {judge : Judged} (count : ℕ) (faults : FaultMap) (role : Role) (fault : RunFault)
     → FedAll {S = Unit {0}} (λ j. j.limit) (λ j _. Follows j) first x y judge tt → first ≡ default_limit → ((log : List ℕ) → Follows judge log → IsVerdictOn log count faults)
     → IsNamed judge (Some role)
-    → (fault ≡ run_faults.Write) × AppendsBeginning w z (report_on role (map.entries faults) count)
-    → IfSome x (λ log. RunsOver log y (Err fault) w z)
-run-stops-writing {first} {x} {y} w z {judge} count faults role fault took default verdict named stopped =
+    → FailsToWrite form w z (report_on form role (map.entries faults) count) fault
+    → IfSome x (λ log. RunsOver form log y (Err fault) w z)
+run-stops-writing {first} {x} {y} form w z {judge} count faults role fault took default verdict named stopped =
     let log = took.log in
     let v : IsVerdictOn log count faults = verdict log took.followed in
     let known : Some role ≡ Some (tested_by log).role = role-known judge log (Some role) took.followed v.0 named in
     let same : role ≡ (tested_by log).role = cc in
     let judged : IsJudged log = record { unrefused = unrefused-yet log (took.within ∙ default) took.followed; whole = v.0 } in
-    let text : report_on role (map.entries faults) count ≡ report log =
-    ap (λ (r : Role). report_on r (map.entries faults) count) same ∙ report-is log count faults v in
-    whole-taken x y log (λ l. RunsOver l y (Err fault) w z) took.consumed took.ended
-    (subst (λ f. RunsOver log y (Err f) w z) (sym stopped.0) (judged, subst (AppendsBeginning w z) text stopped.1))
+    let text : report_on form role (map.entries faults) count ≡ report form log =
+    ap (λ (r : Role). report_on form r (map.entries faults) count) same ∙ report-is form log count faults v in
+    whole-taken x y log (λ l. RunsOver form l y (Err fault) w z) took.consumed took.ended
+    (stops-with form log y w z fault judged (subst (λ (t : List ℕ). FailsToWrite form w z t fault) text stopped))
 
 -- a run whose judge refused the log at its end
 pub run-refused-at-end : {first : ℕ} {x y : Option (List ℕ)} {judge : Judged} (refusal : Refusal) → FedAll {S = Unit {0}} (λ j. j.limit) (λ j _. Follows j) first x y judge tt → first ≡ default_limit

@@ -1,6 +1,8 @@
 -- What judging a whole log, from a reader to a writer, comes to.
 use Rattle.std.specs.Prelude.{◌≡◌, ℕ, ◌==◌, false, List, [], length, Option, None, Result, Ok, Err, if◌then◌else◌}
 use Rattle.std.specs.Io.KnownBytes.{Appends}
+use Rattle.mq_judge.specs.declared.report.Form.{Form}
+use Rattle.mq_judge.specs.declared.report.Form.TheVariants.{Json}
 use Rattle.mq_judge.specs.declared.report.Outcome.{Outcome}
 use Rattle.mq_judge.specs.declared.report.Outcome.TheVariants.{Pass, Fail}
 use Rattle.mq_judge.specs.declared.report.RunFault.{RunFault}
@@ -29,10 +31,10 @@ pub record IsJudged (log : List ℕ) : Type 0 where
   pub unrefused : refused default_limit log ≡ None
   pub whole : is_cut_short log ≡ false
 
--- What a run over this log did, by what it answered and what the reader has left: it wrote the report and nothing else; or, where writing failed, a
--- beginning of it.
-abbrev pub RunsOver : List ℕ → Option (List ℕ) → Result Outcome RunFault → Option (List ℕ) → Option (List ℕ) → Type 0
-RunsOver log left (Ok outcome) old new = IsJudged log × (outcome ≡ outcome_of log) × Appends old new (report log)
-RunsOver log left (Err (run_faults.Refused refusal)) old new = IsRefusedAt default_limit log left refusal
-RunsOver log left (Err run_faults.Write) old new = IsJudged log × AppendsBeginning old new (report log)
-RunsOver log left (Err run_faults.Memory) old new = ⊥
+-- What a run over this log did, by the form of its report, what it answered and what the reader has left: it wrote the report and nothing else; or, where
+-- writing failed, a beginning of it; or nothing, where the log is refused or memory was refused for a JSON value.
+abbrev pub RunsOver : Form → List ℕ → Option (List ℕ) → Result Outcome RunFault → Option (List ℕ) → Option (List ℕ) → Type 0
+RunsOver form log left (Ok outcome) old new = IsJudged log × (outcome ≡ outcome_of log) × Appends old new (report form log)
+RunsOver form log left (Err (run_faults.Refused refusal)) old new = IsRefusedAt default_limit log left refusal
+RunsOver form log left (Err run_faults.Write) old new = IsJudged log × AppendsBeginning old new (report form log)
+RunsOver form log left (Err run_faults.Memory) old new = IsJudged log × (form ≡ Json) × (new ≡ old)

@@ -16,8 +16,10 @@ pub use judge::{Judge, Options, Verdict};
 pub use mq_rules::{Fault, Faults, Mark, Memory, Role, Rule, Tested};
 pub use mq_trace::Refusal;
 pub use packet_line::write_packet;
+pub use report::json::write_json;
+pub use report::summing::write_summary;
 pub use report::{Form, Outcome, RunFault, write_refused, write_text};
-pub use running::run;
+pub use running::{run, run_bounded};
 pub use showing::show;
 
 #[cfg(test)]

@@ -2,24 +2,32 @@
 ghost use Rattle.std.specs.Prelude.{◌≡◌, Some, IfErr, OnOk};
 ghost use Rattle.std.specs.FinMap as map;
 ghost use Rattle.std.specs.Io.KnownBytes.{Appends};
-ghost use Rattle.mq_judge.specs.Report.{offset_text, fault_text, verdict_text, refused_line, report_on, AppendsBeginning};
+ghost use Rattle.mq_judge.specs.Report.{offset_text, fault_text, verdict_text, refused_report, report_on, AppendsBeginning, FailsToWrite};
 
 pub mod item;
+pub mod json;
 pub mod line;
 pub mod summary;
+pub mod summing;
 
+use self::json::write_refusal;
 use self::line::write_line;
 use super::judge::Verdict;
 use mq_rules::{Fault, Mark, Role};
 use mq_trace::Refusal;
+use std::alloc::Global;
 use std::fmt;
 use std::io::Write;
 
 /// The form that a report is written in.
 #[derive(Clone, Copy, Debug, PartialEq, Eq)]
 pub enum Form {
-    /// Lines of words.
+    /// Lines of words: one for each fault, and a last one.
     Text,
+    /// One line of JSON, without spaces and with its keys in ascending order.
+    Json,
+    /// Lines of words: one for each statement that has faults, and a last one.
+    Summary,
 }
 
 /// What a report says in short.
@@ -38,7 +46,7 @@ pub enum RunFault {
     Refused(Refusal),
     /// A write failed: the writer answered an error, an interruption too, or it took no byte.
     Write,
-    /// A growth was refused: there is no memory left.
+    /// Memory was refused for a report as JSON.
     Memory,
 }
 
@@ -123,9 +131,9 @@ impl fmt::Display for Counts {
 /// `Write` where a write failed: the writer answered an error, an interruption too, or took no byte. A beginning of the report was written then, and not all of it.
 pub fn write_text<W: Write>(verdict: &Verdict, role: Role, writer: &mut W) -> Result<(), RunFault>
     ensures ok { OnOk result (Appends (W.contents writer.old) (W.contents writer.new)
-        (report_on role (map.entries verdict.now.faults) verdict.now.events)) }
+        (report_on Form.Text role (map.entries verdict.now.faults) verdict.now.events)) }
     ensures write { IfErr result (λ fault. (fault ≡ RunFault.Write) × AppendsBeginning (W.contents writer.old) (W.contents writer.new)
-        (report_on role (map.entries verdict.now.faults) verdict.now.events)) }
+        (report_on Form.Text role (map.entries verdict.now.faults) verdict.now.events)) }
 {
     for (mark, fault) in verdict.faults.iter() {
         let found = Found {
@@ -142,27 +150,31 @@ pub fn write_text<W: Write>(verdict: &Verdict, role: Role, writer: &mut W) -> Re
     write_line(counts, writer)
 }
 
-/// Writes the line that stands in a report's place for a log that is refused. It takes no memory.
+/// Writes the line that stands in a report's place for a log that is refused. It takes memory in the form `Json` alone.
 ///
 /// # Errors
 ///
 /// `Write` where a write failed: the writer answered an error, an interruption too, or took no byte. A beginning of the line was written then, and not all of it.
+/// `Memory` where memory was refused for the JSON. Nothing was written then.
 pub fn write_refused<W: Write>(
+    alloc: Global,
     refusal: &Refusal,
     form: Form,
     writer: &mut W,
 ) -> Result<(), RunFault>
-    ensures ok { OnOk result (Appends (W.contents writer.old) (W.contents writer.new) (refused_line refusal.now)) }
-    ensures write { IfErr result (λ fault. (fault ≡ RunFault.Write)
-        × AppendsBeginning (W.contents writer.old) (W.contents writer.new) (refused_line refusal.now)) }
+    ensures ok { OnOk result (Appends (W.contents writer.old) (W.contents writer.new) (refused_report form refusal.now)) }
+    ensures err { IfErr result (FailsToWrite form (W.contents writer.old) (W.contents writer.new) (refused_report form refusal.now)) }
 {
     match form {
-        Form::Text => write_line(*refusal, writer),
+        Form::Text | Form::Summary => write_line(*refusal, writer),
+        Form::Json => write_refusal(alloc, *refusal, writer),
     }
 }
 
 #[cfg(test)]
 mod tests {
+    use super::json::write_json;
+    use super::summing::write_summary;
     use super::*;
     use mq_rules::{Faults, Rule};
     use std::io;
@@ -202,6 +214,30 @@ mod tests {
             decided: 4,
             record_no: 4,
             offset: Some(1),
+        },
+    );
+
+    const W03_AT_7: (Mark, Fault) = (
+        Mark {
+            position: 7,
+            rule: Rule::W03,
+        },
+        Fault {
+            decided: 7,
+            record_no: 9,
+            offset: Some(3),
+        },
+    );
+
+    const E1R_AT_4: (Mark, Fault) = (
+        Mark {
+            position: 4,
+            rule: Rule::E1R,
+        },
+        Fault {
+            decided: 5,
+            record_no: 4,
+            offset: None,
         },
     );
 
@@ -286,9 +322,64 @@ mod tests {
             ),
         ] {
             let mut written = Vec::new(rt.alloc());
-            assert_eq!(rt; write_refused(&refusal, Form::Text, &mut written), Ok(()));
+            assert_eq!(rt;
+                write_refused(rt.alloc(), &refusal, Form::Text, &mut written),
+                Ok(())
+            );
             assert!(rt; written.as_slice() == text.as_bytes(), "{text}");
         }
+    }
+
+    #[test]
+    fn writes_json(rt: HostRuntime) {
+        let one =
+            "{\"events\":5,\"faults\":[{\"citation\":\"MQTT-4.3.2-4\",\"code\":\"E1R\",\"decided\":5,\"offset\":null,\"position\":4,\"record\":4}],\"verdict\":\"fail\"}\n";
+        let none = "{\"events\":0,\"faults\":[],\"verdict\":\"pass\"}\n";
+        for (events, count, text) in [(5, 1, one), (0, 0, none)] {
+            let mut written = Vec::new(rt.alloc());
+            let verdict = verdict_of(&rt, events, &[E1R_AT_4][..count]);
+            assert_eq!(rt;
+                write_json(rt.alloc(), &verdict, Role::Client, &mut written),
+                Ok(())
+            );
+            assert!(rt; written.as_slice() == text.as_bytes(), "{text}");
+        }
+    }
+
+    #[test]
+    fn writes_a_line_for_each_statement_that_has_faults(rt: HostRuntime) {
+        let verdict = verdict_of(&rt, 9, &[W09_AT_5, S01_AT_5, W03_AT_4, W03_AT_7]);
+        let text = "W03 MQTT-1.5.5-1 faults 2 first 4 record 4\n\
+            W09 sec-2.2.1 faults 1 first 5 record 13\n\
+            S01 MQTT-2.2.1-3 faults 1 first 5 record 5\n\
+            fail 4 faults 9 events\n";
+        let mut written = Vec::new(rt.alloc());
+        assert_eq!(rt; write_summary(&verdict, Role::Client, &mut written), Ok(()));
+        assert!(rt; written.as_slice() == text.as_bytes());
+    }
+
+    #[test]
+    fn writes_a_refusal_as_json(rt: HostRuntime) {
+        let mut written = Vec::new(rt.alloc());
+        let refused = write_refused(rt.alloc(), &Refusal::Cut(7), Form::Json, &mut written);
+        assert_eq!(rt; refused, Ok(()));
+        assert!(rt;
+            written.as_slice() == b"{\"at\":7,\"name\":\"Cut\",\"refused\":10}\n".as_slice()
+        );
+    }
+
+    #[test]
+    fn stops_where_the_writer_fails_in_json(rt: HostRuntime) {
+        let text = b"{\"events\":6,\"faults\":[],\"verdict\":\"pass\"}\n";
+        let mut writer = Failing {
+            taken: Vec::new(rt.alloc()),
+            room: 20,
+            error: None,
+        };
+        let verdict = verdict_of(&rt, 6, &[]);
+        let written = write_json(rt.alloc(), &verdict, Role::Client, &mut writer);
+        assert_eq!(rt; written, Err(RunFault::Write));
+        assert!(rt; writer.taken.as_slice() == &text[..20]);
     }
 
     #[test]

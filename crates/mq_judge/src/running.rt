@@ -4,35 +4,43 @@ ghost use Rattle.std.specs.FinMap as map;
 ghost use Rattle.std.specs.Io.KnownBytes.{Appends};
 ghost use Rattle.mq_judge.specs.declared.report.RunFault.TheVariants as run_faults;
 ghost use Rattle.mq_trace.specs.declared.refusal.Refusal.{Refusal as AnyRefusal};
-ghost use Rattle.mq_judge.specs.Report.{report_on, AppendsBeginning};
+ghost use Rattle.mq_judge.specs.Report.{report_on, FailsToWrite};
 ghost use Rattle.mq_judge.specs.Running.{RunsOver};
 
 use super::feeding::feed_all;
 use super::judge::{Judge, Options, Verdict};
+use super::report::json::write_json;
+use super::report::summing::write_summary;
 use super::report::{Form, Outcome, RunFault, write_text};
 use mq_rules::Role;
 use std::alloc::Global;
 use std::io::{Read, Write};
 
-/// Judges the log that a reader gives, and writes the report on it. It reads at most 8,192 bytes a turn, and for 4,294,967,295 turns at most.
+/// Judges the log that a reader gives, and writes the report on it in this form: `run_bounded` with 4,294,967,295 turns.
 ///
 /// # Errors
 ///
-/// `Refused` where the log is refused, where the reader fails, where it hasn't ended when its turns run out, or where the judge is refused memory.
-/// Nothing was written then. `Write` where a write failed. A beginning of the report was written then, and not all of it.
+/// As `run_bounded`.
 pub fn run<R: Read, W: Write>(
     alloc: Global,
     reader: &mut R,
     writer: &mut W,
     form: Form,
 ) -> Result<Outcome, RunFault>
-    ensures runs { IfSome (R.remaining reader.old) (λ log. RunsOver log (R.remaining reader.new) result (W.contents writer.old) (W.contents writer.new)) }
+    ensures runs { IfSome (R.remaining reader.old) (λ log. RunsOver form log (R.remaining reader.new) result (W.contents writer.old) (W.contents writer.new)) }
     ensures unwritten { (refusal : AnyRefusal) → result ≡ Err (run_faults.Refused refusal) → writer.new ≡ writer.old }
 {
     run_bounded(alloc, reader, writer, form, u32::MAX)
 }
 
-/// The same for at most so many turns.
+/// Judges the log that a reader gives, and writes the report on it in this form. It reads at most so many times, an interrupted read too, and at most 8,192
+/// bytes each time.
+///
+/// # Errors
+///
+/// `Refused` where the log is refused, where the reader fails, where so many reads were made and none told the end (refusal 15), or where the judge is
+/// refused memory. Nothing was written then. `Write` where a write failed. A beginning of the report was written then, and not all of it. `Memory` where
+/// memory was refused for a report as JSON. Nothing was written then.
 pub fn run_bounded<R: Read, W: Write>(
     alloc: Global,
     reader: &mut R,
@@ -40,14 +48,14 @@ pub fn run_bounded<R: Read, W: Write>(
     form: Form,
     turns: u32,
 ) -> Result<Outcome, RunFault>
-    ensures runs { IfSome (R.remaining reader.old) (λ log. RunsOver log (R.remaining reader.new) result (W.contents writer.old) (W.contents writer.new)) }
+    ensures runs { IfSome (R.remaining reader.old) (λ log. RunsOver form log (R.remaining reader.new) result (W.contents writer.old) (W.contents writer.new)) }
     ensures unwritten { (refusal : AnyRefusal) → result ≡ Err (run_faults.Refused refusal) → writer.new ≡ writer.old }
 {
     let mut judge = Judge::new(alloc, Options::default());
     feed_all(&mut judge, &mut (), reader, turns)?;
     let role = judge.role();
     let verdict = judge.finish()?;
-    write_report(&verdict, role.unwrap(), form, writer)?;
+    write_report(alloc, &verdict, role.unwrap(), form, writer)?;
     Ok(outcome(&verdict))
 }
 
@@ -55,20 +63,23 @@ pub fn run_bounded<R: Read, W: Write>(
 ///
 /// # Errors
 ///
-/// `Write` where a write failed. A beginning of the report was written then, and not all of it.
+/// `Write` where a write failed. A beginning of the report was written then, and not all of it. `Memory` where memory was refused for a report as JSON.
 fn write_report<W: Write>(
+    alloc: Global,
     verdict: &Verdict,
     role: Role,
     form: Form,
     writer: &mut W,
 ) -> Result<(), RunFault>
     ensures ok { OnOk result (Appends (W.contents writer.old) (W.contents writer.new)
-        (report_on role (map.entries verdict.now.faults) verdict.now.events)) }
-    ensures write { IfErr result (λ fault. (fault ≡ RunFault.Write) × AppendsBeginning (W.contents writer.old) (W.contents writer.new)
-        (report_on role (map.entries verdict.now.faults) verdict.now.events)) }
+        (report_on form role (map.entries verdict.now.faults) verdict.now.events)) }
+    ensures err { IfErr result (FailsToWrite form (W.contents writer.old) (W.contents writer.new)
+        (report_on form role (map.entries verdict.now.faults) verdict.now.events)) }
 {
     match form {
         Form::Text => write_text(verdict, role, writer),
+        Form::Json => write_json(alloc, verdict, role, writer),
+        Form::Summary => write_summary(verdict, role, writer),
     }
 }
 

@@ -133,3 +133,21 @@ fn stops_when_its_turns_run_out(rt: HostRuntime) {
     }
     assert_eq!(rt; run_for(rt.alloc(), 18), Ok(Outcome::Pass));
 }
+
+/// Is interrupted at each read.
+#[derive(Drop)]
+struct Interrupted;
+
+impl Read for Interrupted {
+    fn read(&mut self, _: &mut [u8]) -> io::Result<usize> {
+        Err(io::Error::from(ErrorKind::Interrupted))
+    }
+}
+
+#[test]
+fn refuses_after_as_many_reads_as_it_was_given(rt: HostRuntime) {
+    let mut written = Vec::new(rt.alloc());
+    let answer = run_bounded(rt.alloc(), &mut Interrupted, &mut written, Form::Json, 2);
+    assert_eq!(rt; answer, Err(RunFault::Refused(Refusal::Read(0))));
+    assert!(rt; written.is_empty());
+}

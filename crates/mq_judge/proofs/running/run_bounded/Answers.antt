@@ -16,10 +16,10 @@ unwrap-requires g c =
 pub returns-in_err-write_report-clause-runs : goal.returns-in_err-write_report-clause-runs
 returns-in_err-write_report-clause-runs g c =
     let p = err_from_is_err_and c.from_residual-in_err-write_report.result c.from_residual-in_err-write_report.ensures.1 in
-    rw (p.1, p.2) (run-stops-writing _ _ _ _ _ _ c.in_ok-feed_all.ensures.all (c.new-judge.ensures.limit ∙ c.default.ensures)
-    c.in_ok-verdict.ensures.verdict (subst (IsNamed _) c.unwrap.ensures c.role-role.ensures) c.in_err-write_report.ensures.write)
+    rw (p.1, p.2) (run-stops-writing c.args.form _ _ _ _ _ _ c.in_ok-feed_all.ensures.all (c.new-judge.ensures.limit ∙ c.default.ensures)
+    c.in_ok-verdict.ensures.verdict (subst (IsNamed _) c.unwrap.ensures c.role-role.ensures) c.in_err-write_report.ensures.err)
 
 pub returns-clause-runs : goal.returns-clause-runs
 returns-clause-runs g c =
-    run-reports _ _ _ _ _ _ c.in_ok-feed_all.ensures.all (c.new-judge.ensures.limit ∙ c.default.ensures)
+    run-reports c.args.form _ _ _ _ _ _ c.in_ok-feed_all.ensures.all (c.new-judge.ensures.limit ∙ c.default.ensures)
     c.in_ok-verdict.ensures.verdict (subst (IsNamed _) c.unwrap.ensures c.role-role.ensures) c.in_ok-write_report.ensures.ok c.outcome.ensures

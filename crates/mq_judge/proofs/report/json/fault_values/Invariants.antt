@@ -1,0 +1,8 @@
+use Rattle.std.proofs.Common.{◌≡◌, ◌++◌, map}
+use Rattle.std.specs.FinMap as fin_map
+use Rattle.serde_json.specs.View.{view}
+use Rattle.mq_judge.proofs.JsonLaws.{fault_datas}
+use Rattle.mq_judge.proofs.report.json.fault_values.Given as goal
+
+abbrev pub invariant-loop-mark : goal.invariant-loop-mark
+invariant-loop-mark l = map view l.values.items ++ fault_datas l.role l.mark-iterator ≡ fault_datas l.role (fin_map.entries l.faults)

@@ -1,0 +1,142 @@
+//! Reports as JSON. Each is built as a value, and written as one line without spaces.
+ghost use Rattle.std.specs.Prelude.{◌≡◌, false, length, IfOk, IfErr, OnOk};
+ghost use Rattle.std.specs.FinMap as map;
+ghost use Rattle.std.specs.Io.KnownBytes.{Appends};
+ghost use Rattle.serde_json.specs.View.{view, items_view};
+ghost use Rattle.serde_json.specs.Written.{compact_text, has_float};
+ghost use Rattle.mq_judge.specs.declared.report.Form.TheVariants.{Json};
+ghost use Rattle.mq_judge.specs.Report.{line, fault_data, fault_items, verdict_word, report_data, refused_data, refused_report, report_on, FailsToWrite};
+
+use super::RunFault;
+use super::line::write_bytes;
+use crate::judge::Verdict;
+use mq_rules::{Fault, Faults, Mark, Role};
+use mq_trace::Refusal;
+use serde_json::{Value, json, push};
+use std::alloc::{AllocError, Global};
+use std::io::Write;
+
+/// Writes the report on a verdict for an end in this role as one line of JSON: how many events there are, the faults, ascending by position and then by
+/// statement, and whether there are any. The value stands in memory whole before anything is written.
+///
+/// # Errors
+///
+/// `Write` where a write failed: the writer answered an error, an interruption too, or took no byte. A beginning of the report was written then, and not all of it.
+/// `Memory` where memory was refused for the value or its text. Nothing was written then.
+#[tactic(auto, unfolding(crate::specs::Report::json_report))]
+pub fn write_json<W: Write>(
+    alloc: Global,
+    verdict: &Verdict,
+    role: Role,
+    writer: &mut W,
+) -> Result<(), RunFault>
+    ensures ok { OnOk result (Appends (W.contents writer.old) (W.contents writer.new)
+        (report_on Json role (map.entries verdict.now.faults) verdict.now.events)) }
+    ensures err { IfErr result (FailsToWrite Json (W.contents writer.old) (W.contents writer.new)
+        (report_on Json role (map.entries verdict.now.faults) verdict.now.events)) }
+{
+    match report_value(alloc, verdict, role) {
+        Ok(value) => write_value(alloc, &value, writer),
+        Err(_) => Err(RunFault::Memory),
+    }
+}
+
+/// Writes a refusal as one line of JSON: its byte, its name and its number.
+///
+/// # Errors
+///
+/// As `write_json`.
+pub fn write_refusal<W: Write>(
+    alloc: Global,
+    refusal: Refusal,
+    writer: &mut W,
+) -> Result<(), RunFault>
+    ensures ok { OnOk result (Appends (W.contents writer.old) (W.contents writer.new) (refused_report Json refusal)) }
+    ensures err { IfErr result (FailsToWrite Json (W.contents writer.old) (W.contents writer.new) (refused_report Json refusal)) }
+{
+    match refused_value(alloc, refusal) {
+        Ok(value) => write_value(alloc, &value, writer),
+        Err(_) => Err(RunFault::Memory),
+    }
+}
+
+/// A refusal as a value.
+fn refused_value(alloc: Global, refusal: Refusal) -> Result<Value, AllocError>
+    ensures { IfOk result (λ value. view value ≡ refused_data refusal) }
+{
+    json!(in alloc; {
+        "at": refusal.byte(),
+        "name": refusal.name(),
+        "refused": refusal.number()
+    })
+}
+
+/// The report on a verdict as a value.
+fn report_value(alloc: Global, verdict: &Verdict, role: Role) -> Result<Value, AllocError>
+    ensures { IfOk result (λ value. view value ≡ report_data role (map.entries verdict.now.faults) verdict.now.events) }
+{
+    let faults = fault_values(alloc, &verdict.faults, role)?;
+    json!(in alloc; {
+        "events": verdict.events,
+        "faults": faults,
+        "verdict": verdict_word(&verdict.faults)
+    })
+}
+
+/// The verdict in a word.
+fn verdict_word(faults: &Faults) -> &'static str
+    ensures { result.now ≡ verdict_word (length (map.entries faults.now)) }
+{
+    if faults.is_empty() { "pass" } else { "fail" }
+}
+
+/// The faults as values, in their order.
+fn fault_values(alloc: Global, faults: &Faults, role: Role) -> Result<Vec<Value>, AllocError>
+    ensures { IfOk result (λ values. items_view values.items ≡ fault_items role (map.entries faults.now)) }
+{
+    let mut values = Vec::new(alloc);
+    for (mark, fault) in faults.iter() {
+        let value = fault_value(alloc, role, *mark, *fault)?;
+        push(&mut values, value)?;
+    }
+    Ok(values)
+}
+
+/// A fault as a value.
+fn fault_value(alloc: Global, role: Role, mark: Mark, fault: Fault) -> Result<Value, AllocError>
+    ensures { IfOk result (λ value. view value ≡ fault_data role mark fault) }
+{
+    json!(in alloc; {
+        "citation": mark.rule.citation(role),
+        "code": mark.rule.code(),
+        "decided": fault.decided,
+        "offset": fault.offset,
+        "position": mark.position,
+        "record": fault.record_no
+    })
+}
+
+/// Writes a value as one line of JSON.
+///
+/// # Errors
+///
+/// As `write_json`.
+fn write_value<W: Write>(alloc: Global, value: &Value, writer: &mut W) -> Result<(), RunFault>
+    requires { has_float (view value.now) ≡ false }
+    ensures ok { OnOk result (Appends (W.contents writer.old) (W.contents writer.new) (line (compact_text (view value.now)))) }
+    ensures err { IfErr result (FailsToWrite Json (W.contents writer.old) (W.contents writer.new) (line (compact_text (view value.now)))) }
+{
+    match line_of(alloc, value) {
+        Ok(text) => write_bytes(text.as_slice(), writer),
+        Err(_) => Err(RunFault::Memory),
+    }
+}
+
+/// A value as one line of JSON.
+fn line_of(alloc: Global, value: &Value) -> Result<Vec<u8>, AllocError>
+    ensures { IfOk result (λ text. has_float (view value.now) ≡ false → text.items ≡ line (compact_text (view value.now))) }
+{
+    let mut text = value.to_vec(alloc)?;
+    text.push(b'\n')?;
+    Ok(text)
+}

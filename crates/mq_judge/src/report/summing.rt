@@ -1,0 +1,217 @@
+//! Reports in short: a line for each statement that has faults.
+ghost use Rattle.std.specs.Prelude.{◌≡◌, length, Some, IfErr, OnOk};
+ghost use Rattle.std.specs.FinMap as map;
+ghost use Rattle.std.specs.Io.KnownBytes.{Appends};
+ghost use Rattle.mq_judge.specs.declared.report.Form.TheVariants.{Summary};
+ghost use Rattle.mq_judge.specs.declared.report.RunFault.TheVariants as run_faults;
+ghost use Rattle.mq_judge.specs.Report.{faults_of, first_of, rule_text, rule_line, rule_lines, report_on, AppendsBeginning};
+
+use super::line::write_line;
+use super::{Counts, RunFault};
+use crate::judge::Verdict;
+use mq_rules::{Fault, Faults, Mark, Role, Rule};
+use std::fmt;
+use std::io::Write;
+
+/// The statements, in the order of reports.
+const RULES: [Rule; 74] = [
+    Rule::W01,
+    Rule::W02,
+    Rule::W03,
+    Rule::W04,
+    Rule::W05,
+    Rule::W06,
+    Rule::W07,
+    Rule::W08,
+    Rule::W09,
+    Rule::W10,
+    Rule::W11,
+    Rule::W12,
+    Rule::W13,
+    Rule::W14,
+    Rule::W15,
+    Rule::W16,
+    Rule::W17,
+    Rule::W18,
+    Rule::W19,
+    Rule::W20,
+    Rule::W21,
+    Rule::C01,
+    Rule::C02,
+    Rule::C03,
+    Rule::C04,
+    Rule::C05,
+    Rule::C06,
+    Rule::C07,
+    Rule::C08,
+    Rule::C09,
+    Rule::C10,
+    Rule::C11,
+    Rule::C12,
+    Rule::C13,
+    Rule::C14,
+    Rule::C15,
+    Rule::C16,
+    Rule::C17,
+    Rule::C18,
+    Rule::C19,
+    Rule::C20,
+    Rule::C21,
+    Rule::C22,
+    Rule::C23,
+    Rule::S01,
+    Rule::S02,
+    Rule::S03,
+    Rule::S04,
+    Rule::S05,
+    Rule::S06,
+    Rule::S07,
+    Rule::E1A,
+    Rule::E1R,
+    Rule::E1O,
+    Rule::E2A,
+    Rule::E2R,
+    Rule::E2O,
+    Rule::E3A,
+    Rule::E3R,
+    Rule::E3O,
+    Rule::E4A,
+    Rule::E4R,
+    Rule::E5A,
+    Rule::E5R,
+    Rule::E6A,
+    Rule::E6R,
+    Rule::E7R,
+    Rule::L1,
+    Rule::L2,
+    Rule::L3,
+    Rule::B01,
+    Rule::B02,
+    Rule::B03,
+    Rule::B04,
+];
+
+/// The faults of a statement: how many there are, and the first one.
+struct Tally {
+    count: usize,
+    first: Option<(Mark, Fault)>,
+}
+
+/// A statement that has faults, as a report in short shows it.
+#[derive(Clone, Copy)]
+struct Broken {
+    role: Role,
+    rule: Rule,
+    count: usize,
+    mark: Mark,
+    fault: Fault,
+}
+
+impl fmt::Display for Broken {
+    ghost output = { λ broken. Some (rule_text broken.role broken.rule broken.count broken.mark broken.fault) };
+
+    fn fmt<W: fmt::Write>(&self, f: &mut fmt::Formatter<W>) -> fmt::Result {
+        let code = self.rule.code();
+        let citation = self.rule.citation(self.role);
+        let count = self.count;
+        let position = self.mark.position;
+        let record_no = self.fault.record_no;
+        write!(
+            f,
+            "{code} {citation} faults {count} first {position} record {record_no}"
+        )
+    }
+}
+
+/// Writes the report in short on a verdict for an end in this role: a line for each statement that has faults, in the order of the statements, and a last line
+/// as in the form `Text`. It takes no memory.
+///
+/// # Errors
+///
+/// `Write` where a write failed: the writer answered an error, an interruption too, or took no byte. A beginning of the report was written then, and not all of it.
+pub fn write_summary<W: Write>(
+    verdict: &Verdict,
+    role: Role,
+    writer: &mut W,
+) -> Result<(), RunFault>
+    ensures ok { OnOk result (Appends (W.contents writer.old) (W.contents writer.new)
+        (report_on Summary role (map.entries verdict.now.faults) verdict.now.events)) }
+    ensures write { IfErr result (λ fault. (fault ≡ run_faults.Write) × AppendsBeginning (W.contents writer.old) (W.contents writer.new)
+        (report_on Summary role (map.entries verdict.now.faults) verdict.now.events)) }
+{
+    write_rules(&RULES, &verdict.faults, role, writer)?;
+    let counts = Counts {
+        faults: verdict.faults.len(),
+        events: verdict.events,
+    };
+    write_line(counts, writer)
+}
+
+/// Writes a line for each of these statements that has faults.
+///
+/// # Errors
+///
+/// `Write` where a write failed.
+fn write_rules<W: Write>(
+    rules: &[Rule],
+    faults: &Faults,
+    role: Role,
+    writer: &mut W,
+) -> Result<(), RunFault>
+    ensures ok { OnOk result (Appends (W.contents writer.old) (W.contents writer.new) (rule_lines role (map.entries faults.now) rules.now)) }
+    ensures write { IfErr result (λ fault. (fault ≡ run_faults.Write)
+        × AppendsBeginning (W.contents writer.old) (W.contents writer.new) (rule_lines role (map.entries faults.now) rules.now)) }
+{
+    for rule in rules {
+        write_rule(*rule, faults, role, writer)?;
+    }
+    Ok(())
+}
+
+/// Writes the line of a statement, where it has faults.
+///
+/// # Errors
+///
+/// `Write` where a write failed.
+fn write_rule<W: Write>(
+    rule: Rule,
+    faults: &Faults,
+    role: Role,
+    writer: &mut W,
+) -> Result<(), RunFault>
+    ensures ok { OnOk result (Appends (W.contents writer.old) (W.contents writer.new) (rule_line role rule (faults_of rule (map.entries faults.now)))) }
+    ensures write { IfErr result (λ fault. (fault ≡ run_faults.Write)
+        × AppendsBeginning (W.contents writer.old) (W.contents writer.new) (rule_line role rule (faults_of rule (map.entries faults.now)))) }
+{
+    let Tally { count, first } = tally_of(rule, faults);
+    match first {
+        Some((mark, fault)) => {
+            let broken = Broken {
+                role,
+                rule,
+                count,
+                mark,
+                fault,
+            };
+            write_line(broken, writer)
+        }
+        None => Ok(()),
+    }
+}
+
+/// Counts the faults of a statement: from all of them it takes away those of other statements.
+fn tally_of(rule: Rule, faults: &Faults) -> Tally
+    ensures count { result.count ≡ length (faults_of rule (map.entries faults.now)) }
+    ensures first { result.first ≡ first_of (faults_of rule (map.entries faults.now)) }
+{
+    let mut count = faults.len();
+    let mut first = None;
+    for (mark, fault) in faults.iter() {
+        if mark.rule == rule {
+            first = first.or(Some((*mark, *fault)));
+        } else {
+            count -= 1;
+        }
+    }
+    Tally { count, first }
+}
