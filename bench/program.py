@@ -47,31 +47,45 @@ Judges the log of one end of an MQTT 5.0 session
 Usage: mqjudge <COMMAND>
 
 Commands:
-  check   Judges a log and reports each fault
-  show    Shows each event of a log
-  packet  Says which packet some bytes are
-  help    Print this message or the help of the given subcommand(s)
+  check    Judges a log and reports each fault
+  show     Shows each event of a log
+  packet   Says which packet some bytes are
+  rules    Lists the statements
+  explain  Explains a statement
+  help     Print this message or the help of the given subcommand(s)
 
 Options:
   -h, --help     Print help
   -V, --version  Print version
+
+Statuses: 0 for a pass, 1 for faults, 2 for a log that is refused, 3 for misuse,
+4 where reading or writing failed or memory ran out.
+Example: mqjudge check session.log
+The log's format: docs/LOG_FORMAT.md
 """
 CHECK_HELP = """\
 Judges a log and reports each fault
 
-Usage: mqjudge check [FILE]
+Usage: mqjudge check [OPTIONS] [FILE]
 
 Arguments:
   [FILE]  The log; standard input where it is left out or `-`
 
 Options:
-  -h, --help  Print help
+      --json     Report all in one line of JSON, with --summary too
+      --summary  Report a line for each statement that has faults
+  -h, --help     Print help
+
+Statuses: 0 for no fault, 1 for faults, 2 for a log that is refused, 3 for misuse,
+4 where reading or writing failed or memory ran out.
+Example: mqjudge check --json session.log
+The log's format: docs/LOG_FORMAT.md
 """
-VERSION = "mqjudge 0.1.0\n"
+VERSION = "mqjudge 0.1.0 (reads log version 1, judges 74 statements)\n"
 FURTHER_OPERAND = """\
 error: unexpected argument 'b' found
 
-Usage: mqjudge check [FILE]
+Usage: mqjudge check [OPTIONS] [FILE]
 
 For more information, try '--help'.
 """
@@ -84,7 +98,7 @@ For more information, try '--help'.
 """
 NO_WORD = """\
 error: 'mqjudge' requires a subcommand but one was not provided
-  [subcommands: check, show, packet, help]
+  [subcommands: check, show, packet, rules, explain, help]
 
 Usage: mqjudge <COMMAND>
 

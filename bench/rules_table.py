@@ -2,8 +2,8 @@
 """Checks that the README's table of statements is the one that the program has.
 
 The rows are those of `TABLE` in crates/mq_rules/src/table.rt, and what each statement says is its doc comment in
-crates/mq_rules/src/rule.rt. In the README the table stands between the lines `<!-- rules -->` and `<!-- /rules -->`.
-Where it differs, the first line that does is printed, and the status is 1; with --write the table is written instead.
+crates/mq_rules/src/rule.rt, which is also its sentence in `SENTENCES` of crates/mq_rules/src/naming.rt. In the README
+the table stands between the lines `<!-- rules -->` and `<!-- /rules -->`. Where it differs, the first line that does is printed, and the status is 1; with --write the table is written instead.
 
 usage: bench/rules_table.py [--write]
 """
@@ -18,6 +18,7 @@ SOURCES = TOP / "crates" / "mq_rules" / "src"
 BEGIN, END = "<!-- rules -->\n", "<!-- /rules -->\n"
 HEAD = ["| Code | A statement of the tested end | Citation for a client | For a server |", "|---|---|---|---|"]
 ROW = re.compile(r'\(\s*Rule::(\w+),\s*"(\w+)",\s*"([^"]*)",\s*"([^"]*)",\s*(true|false),?\s*\)')
+SENTENCE = re.compile(r'\(\s*Rule::(\w+),\s*"([^"]*)",?\s*\)')
 VALUE = re.compile(r"((?:^ +///.*\n)+)^ +(\w+),$", re.MULTILINE)
 SECTION = re.compile(r" \(MQTT 5\.0, sections? [^()]*\)\.$")
 
@@ -43,6 +44,9 @@ def table() -> str:
     said = sentences()
     if size is None or int(size[1]) != len(rows) or [row[0] for row in rows] != list(said):
         sys.exit("rules_table.py: the rows of the table aren't the values of the enum, in their order")
+    told = SENTENCE.findall((SOURCES / "naming.rt").read_text())
+    if told != [(name, text + ".") for name, text in said.items()]:
+        sys.exit("rules_table.py: the sentences aren't the comments of the enum's values, in their order")
     lines = HEAD.copy()
     for name, code, client, server, needs_releases in rows:
         where = ", where the log records releases" if needs_releases == "true" else ""

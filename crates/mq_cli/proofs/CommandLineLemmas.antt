@@ -21,7 +21,7 @@ use Rattle.mq_cli.specs.declared.command_line.Stop.{Stop}
 use Rattle.mq_cli.specs.declared.command_line.Stop.TheVariants.{Help, Memory, Usage}
 use Rattle.clap.specs.Kinds.{FailsBy, HasKind, IsAmong, Kinds, or_else}
 use Rattle.clap.specs.Faults.{defaults_fault, turn_fault, walk_fault, word_fault, step_fault, entered_fault, settle_fault, check_fault, other_fault}
-use Rattle.mq_cli.specs.CommandLine.{IsShown, StopsFor, check_request, faults_of, mqjudge, packet_request, request_in, request_of, show_request}
+use Rattle.mq_cli.specs.CommandLine.{IsShown, StopsFor, check_request, explain_request, faults_of, is_true, mqjudge, packet_request, request_in, request_of, rules_request, show_request}
 
 -- ---- lists of kinds
 
@@ -140,22 +140,29 @@ subcommand_is_there rows false e = cc
 is_symmetric : (xs ys : List ℕ) → bytes_eq xs ys ≡ false → bytes_eq ys xs ≡ false
 is_symmetric xs ys e = false_from_ne_true _ (λ same. true≢false (sym ((bytes_eq-Decides xs ys).1 (sym ((bytes_eq-Decides ys xs).0 same))) ∙ e))
 
--- of `check`, `show`, `packet` and `help`, the one that was entered
-the_first : {X Y : Type 0} (f : X → Y) (b c d h : Bool) (w x y z : X) → h ≡ false
-    → is_some (option_map f (cond b (Some w) (cond c (Some x) (cond d (Some y) (cond h (Some z) None))))) ≡ true
-    → (option_map f (cond b (Some w) (cond c (Some x) (cond d (Some y) (cond h (Some z) None)))) ≡ Some (f w))
-    ⊎ ((option_map f (cond b (Some w) (cond c (Some x) (cond d (Some y) (cond h (Some z) None)))) ≡ Some (f x))
-    ⊎ (option_map f (cond b (Some w) (cond c (Some x) (cond d (Some y) (cond h (Some z) None)))) ≡ Some (f y)))
-the_first f true c d h w x y z other some = inl refl
-the_first f false true d h w x y z other some = inr (inl refl)
-the_first f false false true h w x y z other some = inr (inr refl)
-the_first f false false false true w x y z other some = absurd (true≢false other)
-the_first f false false false false w x y z other some = absurd (true≢false (sym some))
+-- of `check`, `show`, `packet`, `rules`, `explain` and `help`, the one that was entered
+the_first : {X Y : Type 0} (g : X → Y) (b c d e f h : Bool) (v w x y z u : X) → h ≡ false
+    → is_some (option_map g (cond b (Some v) (cond c (Some w) (cond d (Some x) (cond e (Some y) (cond f (Some z) (cond h (Some u) None))))))) ≡ true
+    → (option_map g (cond b (Some v) (cond c (Some w) (cond d (Some x) (cond e (Some y) (cond f (Some z) (cond h (Some u) None)))))) ≡ Some (g v))
+    ⊎ ((option_map g (cond b (Some v) (cond c (Some w) (cond d (Some x) (cond e (Some y) (cond f (Some z) (cond h (Some u) None)))))) ≡ Some (g w))
+    ⊎ ((option_map g (cond b (Some v) (cond c (Some w) (cond d (Some x) (cond e (Some y) (cond f (Some z) (cond h (Some u) None)))))) ≡ Some (g x))
+    ⊎ ((option_map g (cond b (Some v) (cond c (Some w) (cond d (Some x) (cond e (Some y) (cond f (Some z) (cond h (Some u) None)))))) ≡ Some (g y))
+    ⊎ (option_map g (cond b (Some v) (cond c (Some w) (cond d (Some x) (cond e (Some y) (cond f (Some z) (cond h (Some u) None)))))) ≡ Some (g z)))))
+the_first g true c d e f h v w x y z u other some = inl refl
+the_first g false true d e f h v w x y z u other some = inr (inl refl)
+the_first g false false true e f h v w x y z u other some = inr (inr (inl refl))
+the_first g false false false true f h v w x y z u other some = inr (inr (inr (inl refl)))
+the_first g false false false false true h v w x y z u other some = inr (inr (inr (inr refl)))
+the_first g false false false false false true v w x y z u other some = absurd (true≢false other)
+the_first g false false false false false false v w x y z u other some = absurd (true≢false (sym some))
 
 -- a subcommand that asks for something was met
 abbrev NamesTask : Option (Text × List Row) → Type 0
 NamesTask met = ((rows : List Row) × (met ≡ Some (codes "check", rows)))
-    ⊎ (((rows : List Row) × (met ≡ Some (codes "show", rows))) ⊎ ((rows : List Row) × (met ≡ Some (codes "packet", rows))))
+    ⊎ (((rows : List Row) × (met ≡ Some (codes "show", rows)))
+    ⊎ (((rows : List Row) × (met ≡ Some (codes "packet", rows)))
+    ⊎ (((rows : List Row) × (met ≡ Some (codes "rules", rows)))
+    ⊎ ((rows : List Row) × (met ≡ Some (codes "explain", rows))))))
 
 entered_names : (stop : Option (Text × List Text)) → StoppedElsewhere stop → is_some (entered (built mqjudge) stop) ≡ true
     → NamesTask (entered (built mqjudge) stop)
@@ -163,13 +170,15 @@ entered_names None e some = absurd (true≢false (sym some))
 entered_names (Some p) e some =
     let other : answers_to p.0 (codes "help", []) ≡ false = ap (λ (b : Bool). b || false) (is_symmetric p.0 (codes "help") e) in
     elim (the_first (λ s. rows_at s p.1) (answers_to p.0 (codes "check", [])) (answers_to p.0 (codes "show", [])) (answers_to p.0 (codes "packet", []))
-    (answers_to p.0 (codes "help", [])) _ _ _ _ other some) [
+    (answers_to p.0 (codes "rules", [])) (answers_to p.0 (codes "explain", [])) (answers_to p.0 (codes "help", [])) _ _ _ _ _ _ other some) [
       | inl h ↦ inl (_, h)
       | inr (inl h) ↦ inr (inl (_, h))
-      | inr (inr h) ↦ inr (inr (_, h))
+      | inr (inr (inl h)) ↦ inr (inr (inl (_, h)))
+      | inr (inr (inr (inl h))) ↦ inr (inr (inr (inl (_, h))))
+      | inr (inr (inr (inr h))) ↦ inr (inr (inr (inr (_, h))))
     ]
 
--- words in which the definition finds no fault name `check`, `show` or `packet`
+-- words in which the definition finds no fault name a subcommand that asks for something
 subcommand_is_met : (words : List Text) → faults_of words ≡ [] → NamesTask (subcommand_of mqjudge words)
 subcommand_is_met words none =
     let a = built mqjudge in
@@ -190,16 +199,21 @@ name_met : {Z : Type 0} (o : Option (Box SubCommand Z)) → option_map (λ p. p.
 name_met None = refl
 name_met (Some b) = refl
 
--- matches of such words are those of `check`, of `show` or of `packet`
+-- matches of such words are those of one of these subcommands
 pub subcommand_is_named : (words : List Text) (m : ArgMatches) → faults_of words ≡ [] → subcommand_rows_of m ≡ subcommand_of mqjudge words
     → (subcommand_name_of m ≡ Some (codes "check"))
-    ⊎ ((subcommand_name_of m ≡ Some (codes "show")) ⊎ (subcommand_name_of m ≡ Some (codes "packet")))
+    ⊎ ((subcommand_name_of m ≡ Some (codes "show"))
+    ⊎ ((subcommand_name_of m ≡ Some (codes "packet"))
+    ⊎ ((subcommand_name_of m ≡ Some (codes "rules"))
+    ⊎ (subcommand_name_of m ≡ Some (codes "explain")))))
 subcommand_is_named words m none same =
     let named = sym (name_met (out-ArgMatches m).subcommand) ∙ ap (option_map (λ (p : Text × List Row). p.0)) same in
     elim (subcommand_is_met words none) [
       | inl h ↦ inl (named ∙ ap (option_map (λ (p : Text × List Row). p.0)) h.1)
       | inr (inl h) ↦ inr (inl (named ∙ ap (option_map (λ (p : Text × List Row). p.0)) h.1))
-      | inr (inr h) ↦ inr (inr (named ∙ ap (option_map (λ (p : Text × List Row). p.0)) h.1))
+      | inr (inr (inl h)) ↦ inr (inr (inl (named ∙ ap (option_map (λ (p : Text × List Row). p.0)) h.1)))
+      | inr (inr (inr (inl h))) ↦ inr (inr (inr (inl (named ∙ ap (option_map (λ (p : Text × List Row). p.0)) h.1))))
+      | inr (inr (inr (inr h))) ↦ inr (inr (inr (inr (named ∙ ap (option_map (λ (p : Text × List Row). p.0)) h.1))))
     ]
 
 -- a name and rows are what was met
@@ -216,11 +230,18 @@ met_by : (words : List Text) (m sub : ArgMatches) (name : Text) → subcommand_r
 met_by words m sub name same named rows =
     sym same ∙ both_met (subcommand_rows_of m) name (rows_of (found_of sub)) (name_met (out-ArgMatches m).subcommand ∙ named) rows
 
+pub same_check : {file file' : Option Text} {json json' summary summary' : Bool} → file ≡ file' → json ≡ json' → summary ≡ summary'
+    → Some (check_request file json summary) ≡ Some (check_request file' json' summary')
+same_check {file} {file'} {json} {json'} {summary} {summary'} f j s = ap (λ (x : Option Text). Some (check_request x json summary)) f
+    ∙ ap (λ (x : Bool). Some (check_request file' x summary)) j ∙ ap (λ (x : Bool). Some (check_request file' json' x)) s
+
 pub request_is_check : (words : List Text) (m check : ArgMatches) → subcommand_rows_of m ≡ subcommand_of mqjudge words → subcommand_name_of m ≡ Some (codes "check")
-    → option_map (λ p. p.1) (subcommand_rows_of m) ≡ Some (rows_of (found_of check)) → request_of words ≡ Some (check_request (first_value (found_of check) (codes "FILE")))
+    → option_map (λ p. p.1) (subcommand_rows_of m) ≡ Some (rows_of (found_of check)) → request_of words ≡ Some (check_request (first_value (found_of check) (codes "FILE"))
+    (is_true (first_value (found_of check) (codes "json"))) (is_true (first_value (found_of check) (codes "summary"))))
 request_is_check words m check same named rows =
     ap (option_map request_in) (met_by words m check (codes "check") same named rows)
-    ∙ ap (λ (f : Option Text). Some (check_request f)) (sym (first_value-rows (found_of check) (codes "FILE")))
+    ∙ same_check (sym (first_value-rows (found_of check) (codes "FILE"))) (ap is_true (sym (first_value-rows (found_of check) (codes "json"))))
+    (ap is_true (sym (first_value-rows (found_of check) (codes "summary"))))
 
 pub request_is_show : (words : List Text) (m shown : ArgMatches) → subcommand_rows_of m ≡ subcommand_of mqjudge words → subcommand_name_of m ≡ Some (codes "show")
     → option_map (λ p. p.1) (subcommand_rows_of m) ≡ Some (rows_of (found_of shown)) → request_of words ≡ Some (show_request (first_value (found_of shown) (codes "FILE")))
@@ -233,6 +254,18 @@ pub request_is_packet : (words : List Text) (m packet : ArgMatches) → subcomma
 request_is_packet words m packet same named rows =
     ap (option_map request_in) (met_by words m packet (codes "packet") same named rows)
     ∙ ap (λ (f : Option Text). Some (packet_request f)) (sym (first_value-rows (found_of packet) (codes "HEX")))
+
+pub request_is_rules : (words : List Text) (m listed : ArgMatches) → subcommand_rows_of m ≡ subcommand_of mqjudge words → subcommand_name_of m ≡ Some (codes "rules")
+    → option_map (λ p. p.1) (subcommand_rows_of m) ≡ Some (rows_of (found_of listed)) → request_of words ≡ Some (rules_request (first_value (found_of listed) (codes "role")))
+request_is_rules words m listed same named rows =
+    ap (option_map request_in) (met_by words m listed (codes "rules") same named rows)
+    ∙ ap (λ (f : Option Text). Some (rules_request f)) (sym (first_value-rows (found_of listed) (codes "role")))
+
+pub request_is_explain : (words : List Text) (m explained : ArgMatches) → subcommand_rows_of m ≡ subcommand_of mqjudge words → subcommand_name_of m ≡ Some (codes "explain")
+    → option_map (λ p. p.1) (subcommand_rows_of m) ≡ Some (rows_of (found_of explained)) → request_of words ≡ Some (explain_request (first_value (found_of explained) (codes "CODE")))
+request_is_explain words m explained same named rows =
+    ap (option_map request_in) (met_by words m explained (codes "explain") same named rows)
+    ∙ ap (λ (f : Option Text). Some (explain_request f)) (sym (first_value-rows (found_of explained) (codes "CODE")))
 
 -- ---- kinds of error
 

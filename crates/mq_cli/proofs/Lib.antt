@@ -1,3 +1,4 @@
 pub mod CommandLineLemmas
+pub mod ExplainingLemmas
 pub mod ProgramLemmas
 pub mod ToldLemmas

@@ -1,18 +1,20 @@
 -- What a status tells of a log, and what was written where a line couldn't be flushed.
-use Rattle.std.proofs.Common.{◌≡◌, ℕ, List, [], append-nil, Option, Some, None, Result, Ok, Err, IfErr, IfOk, IfSome, OnOk, ◌⊎◌, refl, subst, sym, inl, inr}
-use Rattle.std.proofs.KnownBytes.{Appends-kept}
+use Rattle.std.proofs.Common.{◌≡◌, ℕ, List, [], append-nil, Option, Some, None, Result, Ok, Err, IfErr, IfOk, IfSome, OnOk, ◌⊎◌, refl, subst, sym, inl, inr, ◌∙◌}
+use Rattle.std.proofs.KnownBytes.{Appends-kept, Keeps-refl}
 use Rattle.std.specs.Io.KnownBytes.{Appends, Keeps}
 use Rattle.mq_trace.specs.Events.{events}
+use Rattle.mq_judge.specs.declared.Form.{Form}
+use Rattle.mq_judge.specs.declared.Form.TheVariants.{Text, Json}
 use Rattle.mq_judge.specs.declared.Outcome.{Outcome}
 use Rattle.mq_judge.specs.declared.Refusal.{Refusal}
 use Rattle.mq_judge.specs.declared.Refusal.TheVariants as refusals
 use Rattle.mq_judge.specs.declared.RunFault.TheVariants as run_faults
-use Rattle.mq_judge.specs.Report.{AppendsBeginning, refused_line, report}
+use Rattle.mq_judge.specs.Report.{AppendsBeginning, refused_line, refused_report, report}
 use Rattle.mq_judge.specs.Running.{RunsOver, default_limit}
 use Rattle.mq_judge.specs.Showing.{ShowsLog, lines_of}
 use Rattle.mq_judge.specs.Stopping.{IsRefusedAt, IsRefusedNext, IsUnread}
 use Rattle.mq_judge.proofs.Writes.{appends-kept, appends-then}
-use Rattle.mq_cli.specs.Told.{AppendsAfter, AppendsPart, BeginsRefusal, IsOfLog, IsRefusedBy, RefusesCheck, RefusesShow, StopsCheck, StopsShow, failure_of}
+use Rattle.mq_cli.specs.Told.{AppendsAfter, AppendsPart, BeginsRefusal, IsOfLog, LacksMemory, IsRefusedBy, RefusesCheck, RefusesShow, StopsCheck, StopsShow, failure_of}
 use Rattle.mq_cli.specs.declared.failure.Failure.{Failure}
 use Rattle.mq_cli.specs.declared.failure.Failure.TheVariants as failures
 
@@ -69,52 +71,85 @@ own_refusal log left refusal own stops = record {
   why = next_refused stops.taken stops.later left refusal own stops.why;
 }
 
+-- a refusal that lies in the log and wasn't flushed is a failed write
+own_fails : (refusal : Refusal) → IsOfLog refusal → failures.Write ≡ failure_of refusal
+own_fails (refusals.Read at) own = absurd own
+own_fails (refusals.Memory at) own = absurd own
+own_fails r own = refl
+
+pub unflushed_refusal : (X : Failure → Type 0) (refusal : Refusal) (status : Result ℕ Failure) → IsOfLog refusal
+    → IfErr status (λ failure. failure ≡ failures.Write) → IfErr status (λ failure. (failure ≡ failure_of refusal) ⊎ X failure)
+unflushed_refusal X refusal (Ok s) own failed = tt
+unflushed_refusal X refusal (Err failure) own failed = inl (failed ∙ own_fails refusal own)
+
+-- nor is it more than begun
+pub unflushed_begun : (form : Form) (refusal : Refusal) (old middle new : Option (List ℕ)) (status : Result ℕ Failure) → IsOfLog refusal
+    → Appends old middle (refused_report form refusal) → Keeps middle new → IfErr status (λ _. BeginsRefusal form refusal old new)
+unflushed_begun form refusal old middle new (Ok s) own a k = tt
+unflushed_begun form refusal old middle new (Err failure) own a k =
+    inr (own, part-whole old new (refused_report form refusal) (Appends-kept old middle new (refused_report form refusal) a k))
+
 -- ---- a check
 
--- a status for a refusal says which one it is, and that its line was written and nothing else
-pub refusal_is_told : {E : Type 0} (remaining left old middle new : Option (List ℕ)) (refusal : Refusal) (status : Result ℕ E)
-    → IfSome remaining (λ log. RunsOver log left (Err (run_faults.Refused refusal)) old middle) → middle ≡ old
-    → OnOk status (IsOfLog refusal) → OnOk status (Appends middle new (refused_line refusal))
-    → IfOk status (λ s. s ≡ 2 → IfSome remaining (λ log. RefusesCheck log old new))
-refusal_is_told remaining left old middle new refusal (Ok s) ran unwritten own written = λ is.
-    for_log remaining (λ log. RunsOver log left (Err (run_faults.Refused refusal)) old middle) (λ log. RefusesCheck log old new)
-    (λ log h. (refusal, own_refusal log left refusal own h, subst (λ v. Appends v new (refused_line refusal)) unwritten written)) ran
-refusal_is_told remaining left old middle new refusal (Err e) ran unwritten own written = tt
+-- a status for a refusal says which one it is, and that it was written and nothing else
+pub refusal_is_told : {E : Type 0} (form : Form) (remaining left old middle new : Option (List ℕ)) (refusal : Refusal) (status : Result ℕ E)
+    → IfSome remaining (λ log. RunsOver form log left (Err (run_faults.Refused refusal)) old middle) → middle ≡ old
+    → OnOk status (IsOfLog refusal) → OnOk status (Appends middle new (refused_report form refusal))
+    → IfOk status (λ s. s ≡ 2 → IfSome remaining (λ log. RefusesCheck form log old new))
+refusal_is_told form remaining left old middle new refusal (Ok s) ran unwritten own written = λ is.
+    for_log remaining (λ log. RunsOver form log left (Err (run_faults.Refused refusal)) old middle) (λ log. RefusesCheck form log old new)
+    (λ log h. (refusal, own_refusal log left refusal own h, subst (λ v. Appends v new (refused_report form refusal)) unwritten written)) ran
+refusal_is_told form remaining left old middle new refusal (Err e) ran unwritten own written = tt
 
 -- where it can't be told, that is why
-pub refusal_stops : (remaining left old middle new : Option (List ℕ)) (refusal : Refusal) (status : Result ℕ Failure)
-    → IfSome remaining (λ log. RunsOver log left (Err (run_faults.Refused refusal)) old middle) → middle ≡ old
-    → IfErr status (λ failure. failure ≡ failure_of refusal) → IfErr status (λ _. BeginsRefusal refusal middle new)
-    → IfErr status (λ failure. IfSome remaining (λ log. StopsCheck failure log left old new))
-refusal_stops remaining left old middle new refusal (Ok s) ran unwritten failed begun = tt
-refusal_stops remaining left old middle new refusal (Err failure) ran unwritten failed begun =
-    for_log remaining (λ log. RunsOver log left (Err (run_faults.Refused refusal)) old middle) (λ log. StopsCheck failure log left old new)
-    (λ log h. subst (λ f. StopsCheck f log left old new) (sym failed) (on_log refusal log h (subst (λ v. BeginsRefusal refusal v new) unwritten begun))) ran
+pub refusal_stops : (form : Form) (remaining left old middle new : Option (List ℕ)) (refusal : Refusal) (status : Result ℕ Failure)
+    → IfSome remaining (λ log. RunsOver form log left (Err (run_faults.Refused refusal)) old middle) → middle ≡ old
+    → IfErr status (λ failure. (failure ≡ failure_of refusal) ⊎ ((failure ≡ failures.Memory) × LacksMemory form refusal middle new))
+    → IfErr status (λ _. BeginsRefusal form refusal middle new)
+    → IfErr status (λ failure. IfSome remaining (λ log. StopsCheck form failure log left old new))
+refusal_stops form remaining left old middle new refusal (Ok s) ran unwritten failed begun = tt
+refusal_stops form remaining left old middle new refusal (Err failure) ran unwritten failed begun =
+    for_log remaining (λ log. RunsOver form log left (Err (run_faults.Refused refusal)) old middle) (λ log. StopsCheck form failure log left old new)
+    (λ log h. by_why log h failed) ran
   where
-    on_log : (r : Refusal) (log : List ℕ) → IsRefusedAt default_limit log left r → BeginsRefusal r old new → StopsCheck (failure_of r) log left old new
+    on_log : (r : Refusal) (log : List ℕ) → IsRefusedAt default_limit log left r → BeginsRefusal form r old new → StopsCheck form (failure_of r) log left old new
     on_log (refusals.Read at) log h (inl kept) = (at, h, kept)
     on_log (refusals.Read at) log h (inr (own, part)) = absurd own
-    on_log (refusals.Memory at) log h (inl kept) = (at, h, kept)
+    on_log (refusals.Memory at) log h (inl kept) = inl (at, h, kept)
     on_log (refusals.Memory at) log h (inr (own, part)) = absurd own
-    on_log r log h (inl kept) = inr (r, own_refusal log left r tt h, part-kept old new (refused_line r) kept)
+    on_log r log h (inl kept) = inr (r, own_refusal log left r tt h, part-kept old new (refused_report form r) kept)
     on_log r log h (inr (own, part)) = inr (r, own_refusal log left r own h, part)
 
+    by_why : (log : List ℕ) → IsRefusedAt default_limit log left refusal
+        → (failure ≡ failure_of refusal) ⊎ ((failure ≡ failures.Memory) × LacksMemory form refusal middle new) → StopsCheck form failure log left old new
+    by_why log h (inl why) = subst (λ f. StopsCheck form f log left old new) (sym why)
+        (on_log refusal log h (subst (λ v. BeginsRefusal form refusal v new) unwritten begun))
+    by_why log h (inr (is, lacks)) = subst (λ f. StopsCheck form f log left old new) (sym is)
+        (inr (lacks.0, inr (refusal, own_refusal log left refusal lacks.1 h), subst (λ v. Keeps v new) unwritten lacks.2))
+
 -- the report was written, and then not flushed
-pub report_stops : (remaining left old middle new : Option (List ℕ)) (outcome : Outcome) (status : Result ℕ Failure)
-    → IfSome remaining (λ log. RunsOver log left (Ok outcome) old middle) → Keeps middle new → IfErr status (λ failure. failure ≡ failures.Write)
-    → IfErr status (λ failure. IfSome remaining (λ log. StopsCheck failure log left old new))
-report_stops remaining left old middle new outcome (Ok s) ran kept failed = tt
-report_stops remaining left old middle new outcome (Err failure) ran kept failed =
-    for_log remaining (λ log. RunsOver log left (Ok outcome) old middle) (λ log. StopsCheck failure log left old new)
-    (λ log h. subst (λ f. StopsCheck f log left old new) (sym failed)
-    (inl (h.0, part-whole old new (report log) (Appends-kept old middle new (report log) h.2 kept)))) ran
+pub report_stops : (form : Form) (remaining left old middle new : Option (List ℕ)) (outcome : Outcome) (status : Result ℕ Failure)
+    → IfSome remaining (λ log. RunsOver form log left (Ok outcome) old middle) → Keeps middle new → IfErr status (λ failure. failure ≡ failures.Write)
+    → IfErr status (λ failure. IfSome remaining (λ log. StopsCheck form failure log left old new))
+report_stops form remaining left old middle new outcome (Ok s) ran kept failed = tt
+report_stops form remaining left old middle new outcome (Err failure) ran kept failed =
+    for_log remaining (λ log. RunsOver form log left (Ok outcome) old middle) (λ log. StopsCheck form failure log left old new)
+    (λ log h. subst (λ f. StopsCheck form f log left old new) (sym failed)
+    (inl (h.0, part-whole old new (report form log) (Appends-kept old middle new (report form log) h.2 kept)))) ran
 
 -- a beginning of the report was written
-pub run_stops : (remaining left old new : Option (List ℕ)) → IfSome remaining (λ log. RunsOver log left (Err run_faults.Write) old new)
-    → IfSome remaining (λ log. StopsCheck failures.Write log left old new)
-run_stops remaining left old new ran =
-    for_log remaining (λ log. RunsOver log left (Err run_faults.Write) old new) (λ log. StopsCheck failures.Write log left old new)
-    (λ log h. inl (h.0, part-begun old new (report log) h.1)) ran
+pub run_stops : (form : Form) (remaining left old new : Option (List ℕ)) → IfSome remaining (λ log. RunsOver form log left (Err run_faults.Write) old new)
+    → IfSome remaining (λ log. StopsCheck form failures.Write log left old new)
+run_stops form remaining left old new ran =
+    for_log remaining (λ log. RunsOver form log left (Err run_faults.Write) old new) (λ log. StopsCheck form failures.Write log left old new)
+    (λ log h. inl (h.0, part-begun old new (report form log) h.1)) ran
+
+-- memory ran out for the report
+pub run_lacks : (form : Form) (remaining left old new : Option (List ℕ)) → IfSome remaining (λ log. RunsOver form log left (Err run_faults.Memory) old new)
+    → IfSome remaining (λ log. StopsCheck form failures.Memory log left old new)
+run_lacks form remaining left old new ran =
+    for_log remaining (λ log. RunsOver form log left (Err run_faults.Memory) old new) (λ log. StopsCheck form failures.Memory log left old new)
+    (λ log h. inr (h.1, inl h.0, subst (λ v. Keeps old v) (sym h.2) (Keeps-refl old))) ran
 
 -- ---- a log that is shown
 
@@ -131,15 +166,20 @@ shown_refusal_is_told remaining left old middle new refusal (Err e) shown own wr
 -- where it can't be told, that is why
 pub shown_refusal_stops : (remaining left old middle new : Option (List ℕ)) (refusal : Refusal) (status : Result ℕ Failure)
     → IfSome remaining (λ log. ShowsLog log left (Err (run_faults.Refused refusal)) old middle)
-    → IfErr status (λ failure. failure ≡ failure_of refusal) → IfErr status (λ _. BeginsRefusal refusal middle new)
+    → IfErr status (λ failure. (failure ≡ failure_of refusal) ⊎ ((failure ≡ failures.Memory) × LacksMemory Text refusal middle new))
+    → IfErr status (λ _. BeginsRefusal Text refusal middle new)
     → IfErr status (λ failure. IfSome remaining (λ log. StopsShow failure log left old new))
 shown_refusal_stops remaining left old middle new refusal (Ok s) shown failed begun = tt
-shown_refusal_stops remaining left old middle new refusal (Err failure) shown failed begun =
+shown_refusal_stops remaining left old middle new refusal (Err failure) shown (inr (is, lacks)) begun = absurd (text_is_text lacks.0)
+  where
+    text_is_text : Text ≡ Json → ⊥
+    text_is_text e = cc
+shown_refusal_stops remaining left old middle new refusal (Err failure) shown (inl failed) begun =
     for_log remaining (λ log. ShowsLog log left (Err (run_faults.Refused refusal)) old middle) (λ log. StopsShow failure log left old new)
     (λ log h. subst (λ f. StopsShow f log left old new) (sym failed) (on_log refusal log h.0 h.1 begun)) shown
   where
     on_log : (r : Refusal) (log : List ℕ) (stops : IsRefusedAt default_limit log left r) → Appends old middle (lines_of (events stops.taken))
-        → BeginsRefusal r middle new → StopsShow (failure_of r) log left old new
+        → BeginsRefusal Text r middle new → StopsShow (failure_of r) log left old new
     on_log (refusals.Read at) log stops lines (inl kept) = (at, stops, Appends-kept old middle new (lines_of (events stops.taken)) lines kept)
     on_log (refusals.Read at) log stops lines (inr (own, part)) = absurd own
     on_log (refusals.Memory at) log stops lines (inl kept) = (at, stops, Appends-kept old middle new (lines_of (events stops.taken)) lines kept)

@@ -2,18 +2,23 @@
 use Rattle.std.specs.Prelude.{◌≡◌, ◌⊎◌, Bool, true, false, if◌then◌else◌, List, [], Option, Some, None, codes, option_map, string_bytes, unwrap_or, ⊤}
 use Rattle.std.specs.Str.{bytes_eq}
 use Rattle.std.specs.List.{Any}
-use Rattle.clap.specs.Words.{App, Kinds, Row, Text, fault_of, first_of, new_app, new_rule, subcommand_of, with_rule, with_subcommand}
+use Rattle.clap.specs.Words.{App, Kinds, Row, Rule, Text, fault_of, first_of, new_app, new_rule, subcommand_of, with_rule, with_subcommand}
 use Rattle.clap.specs.Simple.{on_top}
+use Rattle.clap.specs.declared.builder.action.ArgAction.TheVariants.{SetTrue}
 use Rattle.clap.specs.declared.error.kind.ErrorKind.{ErrorKind}
 use Rattle.clap.specs.declared.error.kind.ErrorKind.TheVariants.{DisplayHelp, DisplayVersion}
 use Rattle.mq_cli.specs.declared.command_line.Task.{Task}
-use Rattle.mq_cli.specs.declared.command_line.Task.TheVariants.{Check, Show, Packet}
+use Rattle.mq_cli.specs.declared.command_line.Task.TheVariants.{Check, Show, Packet, Rules, Explain}
 use Rattle.mq_cli.specs.declared.command_line.Stop.{Stop}
 use Rattle.mq_cli.specs.declared.command_line.Stop.TheVariants.{Help, Usage, Memory}
 
--- `check [FILE]`
+-- a flag of this name: its value is `true` where it is given, and else `false`
+abbrev pub flag : Text → Rule
+flag name = record (new_rule name) { long = Some name; action = Some SetTrue }
+
+-- `check [--json] [--summary] [FILE]`
 abbrev pub check_command : App
-check_command = with_rule (new_app (codes "check")) (new_rule (codes "FILE"))
+check_command = with_rule (with_rule (with_rule (new_app (codes "check")) (new_rule (codes "FILE"))) (flag (codes "json"))) (flag (codes "summary"))
 
 -- `show [FILE]`
 abbrev pub show_command : App
@@ -23,38 +28,68 @@ show_command = with_rule (new_app (codes "show")) (new_rule (codes "FILE"))
 abbrev pub packet_command : App
 packet_command = with_rule (new_app (codes "packet")) (record (new_rule (codes "HEX")) { required = true })
 
+-- `rules [--role ROLE]`
+abbrev pub rules_command : App
+rules_command = with_rule (new_app (codes "rules")) (record (new_rule (codes "role")) { long = Some (codes "role") })
+
+-- `explain CODE`
+abbrev pub explain_command : App
+explain_command = with_rule (new_app (codes "explain")) (record (new_rule (codes "CODE")) { required = true })
+
 -- `mqjudge`, which has a version and whose subcommand may not be left out
 abbrev pub mqjudge : App
 mqjudge = with_subcommand
     (with_subcommand
     (with_subcommand
+    (with_subcommand
+    (with_subcommand
     (on_top (λ s. record s { has_version = true; subcommand_required = true }) (new_app (codes "mqjudge")))
     check_command.top)
     show_command.top)
-    packet_command.top
+    packet_command.top)
+    rules_command.top)
+    explain_command.top
 
--- what a command line asks for: a subcommand, its operand and its flag
+-- what a command line asks for: a subcommand, its operand, its flags, and the end that it is for
 pub record Request : Type 0 where
   pub subcommand : Text
   pub operand : Option Text
   pub json : Bool
+  pub summary : Bool
+  pub role : Option Text
 
--- `check` on this file, with a report as text
-abbrev pub check_request : Option Text → Request
-check_request file = record { subcommand = codes "check"; operand = file; json = false }
+-- `check` on this file, with these flags
+abbrev pub check_request : Option Text → Bool → Bool → Request
+check_request file json summary = record { subcommand = codes "check"; operand = file; json = json; summary = summary; role = None }
 
 -- `show` of this file
 abbrev pub show_request : Option Text → Request
-show_request file = record { subcommand = codes "show"; operand = file; json = false }
+show_request file = record { subcommand = codes "show"; operand = file; json = false; summary = false; role = None }
 
 -- `packet` on these digits; the operand may not be left out
 abbrev pub packet_request : Option Text → Request
-packet_request hex = record { subcommand = codes "packet"; operand = Some (unwrap_or hex []); json = false }
+packet_request hex = record { subcommand = codes "packet"; operand = Some (unwrap_or hex []); json = false; summary = false; role = None }
+
+-- `rules` for the end that this word names
+abbrev pub rules_request : Option Text → Request
+rules_request role = record { subcommand = codes "rules"; operand = None; json = false; summary = false; role = role }
+
+-- `explain` of this code; the operand may not be left out
+abbrev pub explain_request : Option Text → Request
+explain_request code = record { subcommand = codes "explain"; operand = Some (unwrap_or code []); json = false; summary = false; role = None }
+
+-- the value of a flag is `true`
+abbrev pub is_true : Option Text → Bool
+is_true None = false
+is_true (Some value) = bytes_eq value (codes "true")
 
 -- the request in a subcommand's name and matches
 abbrev pub request_in : Text × List Row → Request
-request_in met = if bytes_eq met.0 (codes "packet") then packet_request (first_of (codes "HEX") met.1)
-    else record { subcommand = met.0; operand = first_of (codes "FILE") met.1; json = false }
+request_in met = if bytes_eq met.0 (codes "check") then check_request (first_of (codes "FILE") met.1) (is_true (first_of (codes "json") met.1)) (is_true (first_of (codes "summary") met.1))
+    else (if bytes_eq met.0 (codes "show") then show_request (first_of (codes "FILE") met.1)
+    else (if bytes_eq met.0 (codes "packet") then packet_request (first_of (codes "HEX") met.1)
+    else (if bytes_eq met.0 (codes "rules") then rules_request (first_of (codes "role") met.1)
+    else explain_request (first_of (codes "CODE") met.1))))
 
 -- what the definition makes of the words, where it takes them
 abbrev pub request_of : List Text → Option Request
@@ -66,10 +101,11 @@ faults_of words = fault_of mqjudge words
 
 -- the request that a task stands for
 abbrev pub request_by : Task → Request
-request_by (Check file json) =
-    record { subcommand = codes "check"; operand = option_map string_bytes file; json = json }
+request_by (Check file json summary) = check_request (option_map string_bytes file) json summary
 request_by (Show file) = show_request (option_map string_bytes file)
 request_by (Packet hex) = packet_request (Some (string_bytes hex))
+request_by (Rules role) = rules_request (option_map string_bytes role)
+request_by (Explain code) = explain_request (Some (string_bytes code))
 
 -- the kind asks for a text to be shown: help, or the version
 abbrev pub IsShown : ErrorKind → Type 0
@@ -89,6 +125,8 @@ path_named (Some operand) = if bytes_eq operand (codes "-") then None else Some 
 
 -- the path of the log that a task reads: none where it reads standard input, or no log
 abbrev pub path_of : Task → Option Text
-path_of (Check file json) = path_named (option_map string_bytes file)
+path_of (Check file json summary) = path_named (option_map string_bytes file)
 path_of (Show file) = path_named (option_map string_bytes file)
 path_of (Packet hex) = None
+path_of (Rules role) = None
+path_of (Explain code) = None

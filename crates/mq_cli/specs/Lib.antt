@@ -1,3 +1,5 @@
 pub mod CommandLine
-pub mod Program
+pub mod Explaining
+pub mod Listing
 pub mod Told
+pub mod Program

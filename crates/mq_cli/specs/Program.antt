@@ -6,7 +6,7 @@ use Rattle.mq_cli.specs.declared.command_line.Stop.{Stop}
 use Rattle.mq_cli.specs.declared.command_line.Task.{Task}
 use Rattle.mq_cli.specs.declared.failure.Failure.{Failure}
 use Rattle.mq_cli.specs.CommandLine.{StopsFor, faults_of, path_of, request_by, request_of}
-use Rattle.mq_cli.specs.Told.{AppendsPart, FailsNotHex, FailsStop, FailsTask, HasFailed, HasPassed, IsNotHex, IsRefusedOn, IsReportedOn, IsShownOn, IsToldOn, failure_line, not_hex_line}
+use Rattle.mq_cli.specs.Told.{AppendsPart, FailsMisnamed, FailsStop, FailsTask, HasFailed, HasPassed, IsMisnamed, IsRefusedOn, IsReportedOn, IsShownOn, IsToldOn, failure_line, misnamed_line}
 
 -- What the program is given: the words of its command line, the bytes of the file at a path and those of standard input, each where
 -- they are known; and why the words may not be read, and the file at a path not be opened.
@@ -42,7 +42,7 @@ FailsPerforming given task old new error_old error_new = (left : Option (List �
 -- 4: the task's file couldn't be opened, or the task failed
 abbrev pub FailsRead : Given → Task → Option (List ℕ) → Option (List ℕ) → Option (List ℕ) → Option (List ℕ) → Type 0
 FailsRead given task old new error_old error_new = IsUnopened given task old new error_old error_new
-    ⊎ (FailsPerforming given task old new error_old error_new ⊎ FailsNotHex task old new error_old error_new)
+    ⊎ (FailsPerforming given task old new error_old error_new ⊎ FailsMisnamed task old new error_old error_new)
 
 -- ---- of these words
 
@@ -68,10 +68,10 @@ FindsFaults words given old new =
 abbrev pub Refuses : List Text → Given → Option (List ℕ) → Option (List ℕ) → Type 0
 Refuses words given old new = (task : Task) × AsksFor words task × IsRefusedOn task (input_of given task) old new
 
--- 3: they are no command line, or ask for a packet whose digits are none, and the error stream took the text that says so
+-- 3: they are no command line, or ask for a packet whose digits are none, or for an end or a statement that there isn't, and the error stream took the text that says so
 abbrev pub IsMisuse : List Text → Option (List ℕ) → Option (List ℕ) → Type 0
 IsMisuse words error_old error_new = ((stop : Stop) × StopsAt words stop × IsToldOn stop error_old error_new)
-    ⊎ ((task : Task) × AsksFor words task × IsNotHex task × Appends error_old error_new not_hex_line)
+    ⊎ ((task : Task) × AsksFor words task × IsMisnamed task × Appends error_old error_new (misnamed_line task))
 
 -- 4: the text for words that ask for no task couldn't be written; or they ask for a task that failed, or whose file couldn't be opened
 abbrev pub Fails : List Text → Given → Option (List ℕ) → Option (List ℕ) → Option (List ℕ) → Option (List ℕ) → Type 0

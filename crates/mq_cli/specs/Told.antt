@@ -1,18 +1,22 @@
 -- What the caller is told, and where.
-use Rattle.std.specs.Prelude.{◌≡◌, ◌⊎◌, ⊤, List, ℕ, Option, None, [], ◌∷◌, ◌++◌, codes, string_bytes, IfSome, IsErr, Ok}
+use Rattle.std.specs.Prelude.{Bool, true, false, ◌≡◌, ◌⊎◌, ⊤, List, ℕ, Option, None, [], ◌∷◌, ◌++◌, codes, string_bytes, unwrap_or, option_map, IfSome, IsSome, IsSomeAnd, IsErr, Ok}
 use Rattle.std.specs.Io.KnownBytes.{Appends, Keeps}
 use Rattle.hex.specs.Hex.{decode_of}
+use Rattle.mq_judge.specs.declared.Form.{Form}
+use Rattle.mq_judge.specs.declared.Form.TheVariants.{Text, Json, Summary}
 use Rattle.mq_judge.specs.declared.Refusal.{Refusal}
 use Rattle.mq_judge.specs.declared.Refusal.TheVariants as refusals
 use Rattle.mq_judge.specs.OnePacket.{IsOnePacket, packet_report}
-use Rattle.mq_judge.specs.Report.{refused_line, report}
+use Rattle.mq_judge.specs.Report.{refused_line, refused_report, report}
 use Rattle.mq_judge.specs.Running.{IsFaultless, IsJudged, default_limit}
 use Rattle.mq_judge.specs.Showing.{WritesBeginning, lines_of}
 use Rattle.mq_judge.specs.Stopping.{IsRefusedAt, IsRefusedNext}
 use Rattle.mq_trace.specs.Events.{events}
 use Rattle.mq_trace.specs.Refusals.{refused}
+use Rattle.mq_cli.specs.Explaining.{explained_for}
+use Rattle.mq_cli.specs.Listing.{listed_for}
 use Rattle.mq_cli.specs.declared.command_line.Task.{Task}
-use Rattle.mq_cli.specs.declared.command_line.Task.TheVariants.{Check, Show, Packet}
+use Rattle.mq_cli.specs.declared.command_line.Task.TheVariants.{Check, Show, Packet, Rules, Explain}
 use Rattle.mq_cli.specs.declared.command_line.Stop.{Stop}
 use Rattle.mq_cli.specs.declared.command_line.Stop.TheVariants.{Help, Usage, Memory}
 use Rattle.mq_cli.specs.declared.failure.Failure.{Failure}
@@ -58,9 +62,13 @@ failure_of (refusals.Read at) = failures.Read
 failure_of (refusals.Memory at) = failures.Memory
 failure_of _ = failures.Write
 
--- nothing was written, or part of the line on this refusal, which lies in the log
-abbrev pub BeginsRefusal : Refusal → Option (List ℕ) → Option (List ℕ) → Type 0
-BeginsRefusal refusal old new = Keeps old new ⊎ (IsOfLog refusal × AppendsPart old new (refused_line refusal))
+-- nothing was written, or part of what is told of this refusal, which lies in the log
+abbrev pub BeginsRefusal : Form → Refusal → Option (List ℕ) → Option (List ℕ) → Type 0
+BeginsRefusal form refusal old new = Keeps old new ⊎ (IsOfLog refusal × AppendsPart old new (refused_report form refusal))
+
+-- memory ran out for a refusal as JSON, which lies in the log: nothing was written
+abbrev pub LacksMemory : Form → Refusal → Option (List ℕ) → Option (List ℕ) → Type 0
+LacksMemory form refusal old new = (form ≡ Json) × IsOfLog refusal × Keeps old new
 
 -- The log is refused by this, and nothing is refused before that byte: the condition of the lowest number applies to the byte after
 -- those that were taken in, or the log is cut short after them.
@@ -72,9 +80,15 @@ pub record IsRefusedBy (log : List ℕ) (refusal : Refusal) : Type 0 where
   pub unrefused : refused default_limit taken ≡ None
   pub why : IsRefusedNext default_limit taken later refusal
 
--- A check of the log was refused: the line on the refusal was written and nothing else.
-abbrev pub RefusesCheck : List ℕ → (old new : Option (List ℕ)) → Type 0
-RefusesCheck log old new = (refusal : Refusal) × IsRefusedBy log refusal × Appends old new (refused_line refusal)
+-- the form of the report that these flags ask for, JSON and summary: both together ask for JSON, which has all
+abbrev pub form_of : Bool → Bool → Form
+form_of true summary = Json
+form_of false true = Summary
+form_of false false = Text
+
+-- A check of the log was refused: the refusal was written in this form and nothing else.
+abbrev pub RefusesCheck : Form → List ℕ → (old new : Option (List ℕ)) → Type 0
+RefusesCheck form log old new = (refusal : Refusal) × IsRefusedBy log refusal × Appends old new (refused_report form refusal)
 
 -- Showing the log was refused: the lines of the events that are complete before the refused byte were written, then the line on the
 -- refusal, and nothing else.
@@ -84,13 +98,18 @@ RefusesShow log old new = (refusal : Refusal) × (by : IsRefusedBy log refusal)
 
 -- In what follows, `left` are the bytes that the log's reader has left, where that is known.
 
--- A check of the log failed. Reading it failed, or memory ran out: nothing was written. Or writing failed: part of the report was
--- written, or of the line on its refusal.
-abbrev pub StopsCheck : Failure → List ℕ → (left old new : Option (List ℕ)) → Type 0
-StopsCheck failures.Read log left old new = (at : ℕ) × IsRefusedAt default_limit log left (refusals.Read at) × Keeps old new
-StopsCheck failures.Memory log left old new = (at : ℕ) × IsRefusedAt default_limit log left (refusals.Memory at) × Keeps old new
-StopsCheck failures.Write log left old new = (IsJudged log × AppendsPart old new (report log))
-    ⊎ ((refusal : Refusal) × IsRefusedBy log refusal × AppendsPart old new (refused_line refusal))
+-- the log was judged, or is refused
+abbrev pub IsDecided : List ℕ → Type 0
+IsDecided log = IsJudged log ⊎ ((refusal : Refusal) × IsRefusedBy log refusal)
+
+-- A check of the log failed. Reading it failed, or memory ran out, for the log or for the report or refusal as JSON: nothing was
+-- written. Or writing failed: part of the report was written, or of its refusal.
+abbrev pub StopsCheck : Form → Failure → List ℕ → (left old new : Option (List ℕ)) → Type 0
+StopsCheck form failures.Read log left old new = (at : ℕ) × IsRefusedAt default_limit log left (refusals.Read at) × Keeps old new
+StopsCheck form failures.Memory log left old new = ((at : ℕ) × IsRefusedAt default_limit log left (refusals.Memory at) × Keeps old new)
+    ⊎ ((form ≡ Json) × IsDecided log × Keeps old new)
+StopsCheck form failures.Write log left old new = (IsJudged log × AppendsPart old new (report form log))
+    ⊎ ((refusal : Refusal) × IsRefusedBy log refusal × AppendsPart old new (refused_report form refusal))
 
 -- Showing the log failed. Reading it failed, or memory ran out: the lines of the events before were written. Or writing failed: a
 -- beginning of the lines was written; or all of them, where only a flush failed; or those before the refused byte, and part of the
@@ -128,37 +147,72 @@ AppendsLineOf hex old new = (bytes : List ℕ) × (decode_of hex ≡ Ok bytes) �
 abbrev pub not_hex_line : List ℕ
 not_hex_line = codes "mqjudge: not hex" ++ 10 ∷ []
 
+-- ---- the statements
+
+-- there is such a text, and it was written and nothing else
+abbrev pub Tells : Option (List ℕ) → Option (List ℕ) → Option (List ℕ) → Type 0
+Tells text old new = IsSomeAnd text (λ told. Appends old new told)
+
+-- there is such a text, and part of it was written
+abbrev pub TellsPart : Option (List ℕ) → Option (List ℕ) → Option (List ℕ) → Type 0
+TellsPart text old new = IsSomeAnd text (λ told. AppendsPart old new told)
+
+-- what is told where a word names no end, and where it is no statement's code
+abbrev pub no_role_line : List ℕ → List ℕ
+no_role_line word = codes "mqjudge: no role " ++ word ++ 10 ∷ []
+
+abbrev pub no_statement_line : List ℕ → List ℕ
+no_statement_line code = codes "mqjudge: no statement " ++ code ++ 10 ∷ []
+
 -- ---- what a status tells of a task, whose input gives these bytes and then has these left, each where it is known
 
--- 0: the log is judged and has no fault; the log that is shown can be judged; the bytes are one packet
+-- 0: the log is judged and has no fault; the log that is shown can be judged; the bytes are one packet; the word names an end, or a statement
 abbrev pub HasPassed : Task → Option (List ℕ) → Type 0
-HasPassed (Check file json) input = IfSome input (λ log. IsJudged log × IsFaultless log)
+HasPassed (Check file json summary) input = IfSome input (λ log. IsJudged log × IsFaultless log)
 HasPassed (Show file) input = IfSome input IsJudged
 HasPassed (Packet hex) input = SpellsPacket (string_bytes hex)
+HasPassed (Rules role) input = IsSome (listed_for (option_map string_bytes role))
+HasPassed (Explain code) input = IsSome (explained_for (string_bytes code))
 
 -- 1: the log is judged and has faults; the bytes are no packet, or not one alone
 abbrev pub HasFailed : Task → Option (List ℕ) → Type 0
-HasFailed (Check file json) input = IfSome input (λ log. IsJudged log × (¬ IsFaultless log))
+HasFailed (Check file json summary) input = IfSome input (λ log. IsJudged log × (¬ IsFaultless log))
 HasFailed (Show file) input = ⊥
 HasFailed (Packet hex) input = SpellsNoPacket (string_bytes hex)
+HasFailed (Rules role) input = ⊥
+HasFailed (Explain code) input = ⊥
 
--- 0 and 1: the report was written, or the lines of the log's events, or the line on the packet, and nothing else
+-- 0 and 1: the report was written, or the lines of the log's events, the line on the packet, the lines of the statements, or what explains one, and nothing else
 abbrev pub IsReportedOn : Task → Option (List ℕ) → Option (List ℕ) → Option (List ℕ) → Type 0
-IsReportedOn (Check file json) input old new = IfSome input (λ log. Appends old new (report log))
+IsReportedOn (Check file json summary) input old new = IfSome input (λ log. Appends old new (report (form_of json summary) log))
 IsReportedOn (Show file) input old new = IfSome input (λ log. Appends old new (lines_of (events log)))
 IsReportedOn (Packet hex) input old new = AppendsLineOf (string_bytes hex) old new
+IsReportedOn (Rules role) input old new = Tells (listed_for (option_map string_bytes role)) old new
+IsReportedOn (Explain code) input old new = Tells (explained_for (string_bytes code)) old new
 
 -- 2: the log is refused, and the line that says so was written: alone by a check, after those of the events before where it is shown
 abbrev pub IsRefusedOn : Task → (input old new : Option (List ℕ)) → Type 0
-IsRefusedOn (Check file json) input old new = IfSome input (λ log. RefusesCheck log old new)
+IsRefusedOn (Check file json summary) input old new = IfSome input (λ log. RefusesCheck (form_of json summary) log old new)
 IsRefusedOn (Show file) input old new = IfSome input (λ log. RefusesShow log old new)
 IsRefusedOn (Packet hex) input old new = ⊥
+IsRefusedOn (Rules role) input old new = ⊥
+IsRefusedOn (Explain code) input old new = ⊥
 
--- 3: the digits of a packet are none
-abbrev pub IsNotHex : Task → Type 0
-IsNotHex (Check file json) = ⊥
-IsNotHex (Show file) = ⊥
-IsNotHex (Packet hex) = IsErr (decode_of (string_bytes hex))
+-- 3: the digits of a packet are none, or a word names no end, or no statement
+abbrev pub IsMisnamed : Task → Type 0
+IsMisnamed (Check file json summary) = ⊥
+IsMisnamed (Show file) = ⊥
+IsMisnamed (Packet hex) = IsErr (decode_of (string_bytes hex))
+IsMisnamed (Rules role) = listed_for (option_map string_bytes role) ≡ None
+IsMisnamed (Explain code) = explained_for (string_bytes code) ≡ None
+
+-- what is told then
+abbrev pub misnamed_line : Task → List ℕ
+misnamed_line (Check file json summary) = []
+misnamed_line (Show file) = []
+misnamed_line (Packet hex) = not_hex_line
+misnamed_line (Rules role) = no_role_line (unwrap_or (option_map string_bytes role) [])
+misnamed_line (Explain code) = no_statement_line (string_bytes code)
 
 -- 4, for a packet: the line on its bytes couldn't be written or flushed, or memory ran out first
 abbrev pub StopsPacket : Failure → List ℕ → Option (List ℕ) → Option (List ℕ) → Type 0
@@ -173,11 +227,26 @@ FailsPacket hex old new error_old error_new =
     ((failure : Failure) × StopsPacket failure hex old new × AppendsPart error_old error_new (failure_line failure))
     ⊎ (IsErr (decode_of hex) × Keeps old new × AppendsPart error_old error_new not_hex_line)
 
+-- 4, for the statements: the text couldn't be written or flushed, or memory ran out first
+abbrev pub StopsTelling : Failure → Option (List ℕ) → Option (List ℕ) → Option (List ℕ) → Type 0
+StopsTelling failures.Read text old new = ⊥
+StopsTelling failures.Write text old new = TellsPart text old new
+StopsTelling failures.Memory text old new = Keeps old new
+
+-- 4, for this text, or this line where there is none: what failed is told on the error stream, as far as that took it; or there is
+-- no text, and the error stream didn't take the line that says so
+abbrev pub FailsTelling : (text : Option (List ℕ)) → (line : List ℕ) → Option (List ℕ) → Option (List ℕ) → Option (List ℕ) → Option (List ℕ) → Type 0
+FailsTelling text line old new error_old error_new =
+    ((failure : Failure) × StopsTelling failure text old new × AppendsPart error_old error_new (failure_line failure))
+    ⊎ ((text ≡ None) × Keeps old new × AppendsPart error_old error_new line)
+
 -- 4: what failed, and what was written until then
 abbrev pub StopsTask : Failure → Task → (input left old new : Option (List ℕ)) → Type 0
-StopsTask failure (Check file json) input left old new = IfSome input (λ log. StopsCheck failure log left old new)
+StopsTask failure (Check file json summary) input left old new = IfSome input (λ log. StopsCheck (form_of json summary) failure log left old new)
 StopsTask failure (Show file) input left old new = IfSome input (λ log. StopsShow failure log left old new)
 StopsTask failure (Packet hex) input left old new = StopsPacket failure (string_bytes hex) old new
+StopsTask failure (Rules role) input left old new = StopsTelling failure (listed_for (option_map string_bytes role)) old new
+StopsTask failure (Explain code) input left old new = StopsTelling failure (explained_for (string_bytes code)) old new
 
 -- 4: what failed is told on the error stream, as far as that took it
 pub record FailsTask (task : Task) (input left old new error_old error_new : Option (List ℕ)) : Type 0 where
@@ -185,11 +254,11 @@ pub record FailsTask (task : Task) (input left old new error_old error_new : Opt
   pub stops : StopsTask failure task input left old new
   pub told : AppendsPart error_old error_new (failure_line failure)
 
--- 4: the digits of a packet are none, and the error stream didn't take the line that says so
-pub record FailsNotHex (task : Task) (old new error_old error_new : Option (List ℕ)) : Type 0 where
-  pub not_hex : IsNotHex task
+-- 4: the digits of a packet are none, or a word names no end, or no statement; and the error stream didn't take the line that says so
+pub record FailsMisnamed (task : Task) (old new error_old error_new : Option (List ℕ)) : Type 0 where
+  pub misnamed : IsMisnamed task
   pub unwritten : Keeps old new
-  pub told : AppendsPart error_old error_new not_hex_line
+  pub told : AppendsPart error_old error_new (misnamed_line task)
 
 -- ---- what a status tells where the words ask for no task
 

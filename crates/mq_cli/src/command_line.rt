@@ -2,14 +2,49 @@
 ghost use Rattle.std.specs.Prelude.{◌≡◌, [], Some, false, IfOk, IfErr, map, option_map, string_bytes};
 ghost use Rattle.clap.specs.Words.{HasKind, Kinds, app_of, subcommand_of, subcommand_rows_of};
 ghost use Rattle.clap.specs.declared.builder.command.Command.TheViews.{out-Command};
-ghost use Rattle.mq_cli.specs.CommandLine.{StopsFor, check_command, check_request, faults_of};
-ghost use Rattle.mq_cli.specs.CommandLine.{mqjudge, packet_command, packet_request, path_named, path_of};
-ghost use Rattle.mq_cli.specs.CommandLine.{request_by, request_of, show_command, show_request};
+ghost use Rattle.mq_cli.specs.CommandLine.{StopsFor, check_command, check_request, explain_command};
+ghost use Rattle.mq_cli.specs.CommandLine.{explain_request, faults_of, is_true, mqjudge, packet_command, packet_request};
+ghost use Rattle.mq_cli.specs.CommandLine.{path_named, path_of, request_by, request_of, rules_command};
+ghost use Rattle.mq_cli.specs.CommandLine.{rules_request, show_command, show_request};
 
 use clap::error::ErrorKind;
-use clap::{Arg, ArgMatches, Command, Error};
+use clap::{Arg, ArgAction, ArgMatches, Command, Error};
 use std::alloc::{AllocError, Global};
 use std::convert::AsStr;
+
+const HELP: &str =
+    "Statuses: 0 for a pass, 1 for faults, 2 for a log that is refused, 3 for misuse,\n\
+    4 where reading or writing failed or memory ran out.\n\
+    Example: mqjudge check session.log\n\
+    The log's format: docs/LOG_FORMAT.md";
+
+const CHECK_HELP: &str =
+    "Statuses: 0 for no fault, 1 for faults, 2 for a log that is refused, 3 for misuse,\n\
+    4 where reading or writing failed or memory ran out.\n\
+    Example: mqjudge check --json session.log\n\
+    The log's format: docs/LOG_FORMAT.md";
+
+const SHOW_HELP: &str =
+    "Statuses: 0 where the log was shown, 2 for a log that is refused, 3 for misuse,\n\
+    4 where reading or writing failed or memory ran out.\n\
+    Example: mqjudge show session.log\n\
+    The log's format: docs/LOG_FORMAT.md";
+
+const PACKET_HELP: &str = "Statuses: 0 for one packet, 1 for bytes that aren't, 3 for misuse,\n\
+    4 where writing failed or memory ran out.\n\
+    Example: mqjudge packet 40020001\n\
+    The log's format: docs/LOG_FORMAT.md";
+
+const RULES_HELP: &str = "Statuses: 0 where they were listed, 3 for misuse,\n\
+    4 where writing failed or memory ran out.\n\
+    Example: mqjudge rules --role client\n\
+    The log's format: docs/LOG_FORMAT.md";
+
+const EXPLAIN_HELP: &str =
+    "Statuses: 0 where it was explained, 3 for misuse or a code of no statement,\n\
+    4 where writing failed or memory ran out.\n\
+    Example: mqjudge explain S01\n\
+    The log's format: docs/LOG_FORMAT.md";
 
 /// What the program is asked to do.
 #[derive(Debug, Drop)]
@@ -18,8 +53,10 @@ pub enum Task {
     Check {
         /// The log's path.
         file: Option<String>,
-        /// Report as JSON in place of text.
+        /// Report as JSON, whatever `summary` says.
         json: bool,
+        /// Report a line for each statement that has faults, in place of one for each fault.
+        summary: bool,
     },
     /// Show the events of the log in `file`, or on standard input where there is none or it is `-`.
     Show {
@@ -31,18 +68,28 @@ pub enum Task {
         /// Two hexadecimal digits for each byte.
         hex: String,
     },
+    /// List the statements: those that bind the end that `role` names, or all where there is none.
+    Rules {
+        /// `client` or `server`.
+        role: Option<String>,
+    },
+    /// Explain a statement.
+    Explain {
+        /// Its code, in capitals or not.
+        code: String,
+    },
 }
 
 impl Task {
     /// The path of the log that the task reads: none where it reads standard input, which `-` means
-    /// too, and none for a packet.
+    /// too, and none for a packet and for the statements.
     pub fn path(&self) -> Option<&str>
         ensures { option_map (λ path. path.now) result ≡ path_of self.now }
     {
         match self {
             Task::Check { file, .. } => path_named(file),
             Task::Show { file } => path_named(file),
-            Task::Packet { .. } => None,
+            Task::Packet { .. } | Task::Rules { .. } | Task::Explain { .. } => None,
         }
     }
 }
@@ -69,9 +116,11 @@ pub enum Stop {
     Memory,
 }
 
-/// Reads the words of a command line, `mqjudge check [FILE]`, `mqjudge show [FILE]` or
-/// `mqjudge packet HEX`, of which the first is the program's name. A request for help or the
-/// version comes as a `Stop`, and so do words that are no such command line.
+/// Reads the words of a command line, `mqjudge check [--json] [--summary] [FILE]`,
+/// `mqjudge show [FILE]`,
+/// `mqjudge packet HEX`, `mqjudge rules [--role ROLE]` or `mqjudge explain CODE`, of which the
+/// first is the program's name. A request for help or the version comes as a `Stop`, and so do
+/// words that are no such command line.
 pub fn parse<S: AsStr>(alloc: Global, words: &[S]) -> Result<Task, Stop>
     ensures taken { IfOk result (λ _. faults_of (map S.text words.now) ≡ []) }
     ensures task { IfOk result (λ task.
@@ -80,12 +129,23 @@ pub fn parse<S: AsStr>(alloc: Global, words: &[S]) -> Result<Task, Stop>
 {
     match matches_of(alloc, words) {
         Ok(matches) => match matches.subcommand_matches("check") {
-            Some(check) => check_task(alloc, check.get_str("FILE")),
+            Some(check) => check_task(
+                alloc,
+                check.get_str("FILE"),
+                is_true(check.get_str("json")),
+                is_true(check.get_str("summary")),
+            ),
             None => match matches.subcommand_matches("show") {
                 Some(show) => show_task(alloc, show.get_str("FILE")),
                 None => match matches.subcommand_matches("packet") {
                     Some(packet) => packet_task(alloc, packet.get_str("HEX")),
-                    None => unreachable!(),
+                    None => match matches.subcommand_matches("rules") {
+                        Some(rules) => rules_task(alloc, rules.get_str("role")),
+                        None => match matches.subcommand_matches("explain") {
+                            Some(explain) => explain_task(alloc, explain.get_str("CODE")),
+                            None => unreachable!(),
+                        },
+                    },
                 },
             },
         },
@@ -110,13 +170,18 @@ fn command_line<'a>(alloc: Global) -> Result<Command<'a>, AllocError>
     let check = check_command(alloc)?;
     let show = show_command(alloc)?;
     let packet = packet_command(alloc)?;
+    let rules = rules_command(alloc)?;
+    let explain = explain_command(alloc)?;
     let with_check = Command::new(alloc, "mqjudge")
         .about("Judges the log of one end of an MQTT 5.0 session")
-        .version("0.1.0")
+        .version("0.1.0 (reads log version 1, judges 74 statements)")
+        .after_help(HELP)
         .subcommand_required(true)
         .subcommand(check)?;
     let with_show = with_check.subcommand(show)?;
-    with_show.subcommand(packet)
+    let with_packet = with_show.subcommand(packet)?;
+    let with_rules = with_packet.subcommand(rules)?;
+    with_rules.subcommand(explain)
 }
 
 // The definition of `check`.
@@ -125,9 +190,20 @@ fn check_command<'a>(alloc: Global) -> Result<Command<'a>, AllocError>
     ensures local { IfOk result (λ command. (out-Command command).has_globals ≡ false) }
 {
     let file = Arg::new(alloc, "FILE").help("The log; standard input where it is left out or `-`");
+    let json = Arg::new(alloc, "json")
+        .help("Report all in one line of JSON, with --summary too")
+        .long("json")
+        .action(ArgAction::SetTrue);
+    let summary = Arg::new(alloc, "summary")
+        .help("Report a line for each statement that has faults")
+        .long("summary")
+        .action(ArgAction::SetTrue);
     Command::new(alloc, "check")
         .about("Judges a log and reports each fault")
-        .arg(file)
+        .after_help(CHECK_HELP)
+        .arg(file)?
+        .arg(json)?
+        .arg(summary)
 }
 
 // The definition of `show`.
@@ -138,6 +214,7 @@ fn show_command<'a>(alloc: Global) -> Result<Command<'a>, AllocError>
     let file = Arg::new(alloc, "FILE").help("The log; standard input where it is left out or `-`");
     Command::new(alloc, "show")
         .about("Shows each event of a log")
+        .after_help(SHOW_HELP)
         .arg(file)
 }
 
@@ -151,13 +228,52 @@ fn packet_command<'a>(alloc: Global) -> Result<Command<'a>, AllocError>
         .required(true);
     Command::new(alloc, "packet")
         .about("Says which packet some bytes are")
+        .after_help(PACKET_HELP)
         .arg(hex)
 }
 
-// The task of `check` on this operand.
-fn check_task(alloc: Global, file: Option<&str>) -> Result<Task, Stop>
+// The definition of `rules`.
+fn rules_command<'a>(alloc: Global) -> Result<Command<'a>, AllocError>
+    ensures app { IfOk result (λ command. app_of command ≡ rules_command) }
+    ensures local { IfOk result (λ command. (out-Command command).has_globals ≡ false) }
+{
+    let role = Arg::new(alloc, "role")
+        .help("Only the statements that bind this end: client or server")
+        .long("role");
+    Command::new(alloc, "rules")
+        .about("Lists the statements")
+        .after_help(RULES_HELP)
+        .arg(role)
+}
+
+// The definition of `explain`.
+fn explain_command<'a>(alloc: Global) -> Result<Command<'a>, AllocError>
+    ensures app { IfOk result (λ command. app_of command ≡ explain_command) }
+    ensures local { IfOk result (λ command. (out-Command command).has_globals ≡ false) }
+{
+    let code = Arg::new(alloc, "CODE")
+        .required(true)
+        .help("The statement's code, such as S01");
+    Command::new(alloc, "explain")
+        .about("Explains a statement")
+        .after_help(EXPLAIN_HELP)
+        .arg(code)
+}
+
+// Whether the value of a flag is `true`: it is where the flag is given, and else `false`.
+fn is_true(value: Option<&str>) -> bool
+    ensures { result ≡ is_true (option_map (λ text. text.now) value.entry) }
+{
+    match value {
+        Some(text) => text == "true",
+        None => false,
+    }
+}
+
+// The task of `check` on this operand and these flags.
+fn check_task(alloc: Global, file: Option<&str>, json: bool, summary: bool) -> Result<Task, Stop>
     ensures task { IfOk result (λ task.
-        request_by task ≡ check_request (option_map (λ path. path.now) file.entry)) }
+        request_by task ≡ check_request (option_map (λ path. path.now) file.entry) json summary) }
     ensures stop { IfErr result (λ stop. stop ≡ Stop.Memory) }
 {
     let file = match file {
@@ -167,7 +283,11 @@ fn check_task(alloc: Global, file: Option<&str>) -> Result<Task, Stop>
         },
         None => None,
     };
-    Ok(Task::Check { file, json: false })
+    Ok(Task::Check {
+        file,
+        json,
+        summary,
+    })
 }
 
 // The task of `show` on this operand.
@@ -194,6 +314,34 @@ fn packet_task(alloc: Global, hex: Option<&str>) -> Result<Task, Stop>
 {
     match String::from_str(alloc, hex.unwrap_or("")) {
         Ok(hex) => Ok(Task::Packet { hex }),
+        Err(_) => Err(Stop::Memory),
+    }
+}
+
+// The task of `rules` for this end.
+fn rules_task(alloc: Global, role: Option<&str>) -> Result<Task, Stop>
+    ensures task { IfOk result (λ task.
+        request_by task ≡ rules_request (option_map (λ word. word.now) role.entry)) }
+    ensures stop { IfErr result (λ stop. stop ≡ Stop.Memory) }
+{
+    let role = match role {
+        Some(word) => match String::from_str(alloc, word) {
+            Ok(word) => Some(word),
+            Err(_) => return Err(Stop::Memory),
+        },
+        None => None,
+    };
+    Ok(Task::Rules { role })
+}
+
+// The task of `explain` on this operand; an operand that is left out counts as an empty one.
+fn explain_task(alloc: Global, code: Option<&str>) -> Result<Task, Stop>
+    ensures task { IfOk result (λ task.
+        request_by task ≡ explain_request (option_map (λ text. text.now) code.entry)) }
+    ensures stop { IfErr result (λ stop. stop ≡ Stop.Memory) }
+{
+    match String::from_str(alloc, code.unwrap_or("")) {
+        Ok(code) => Ok(Task::Explain { code }),
         Err(_) => Err(Stop::Memory),
     }
 }

@@ -2,10 +2,12 @@
 #![tactic(auto)]
 
 mod command_line;
+mod explanations;
 mod failure;
 mod host;
 #[cfg(test)]
 mod large_tests;
+mod listing;
 #[cfg(test)]
 mod log_tests;
 #[cfg(test)]
@@ -18,6 +20,8 @@ mod show_tests;
 #[cfg(test)]
 mod statement_tests;
 mod tasks;
+#[cfg(test)]
+mod telling_tests;
 #[cfg(test)]
 mod tests;
 mod writing;

@@ -2,7 +2,7 @@
 ghost use Rattle.std.specs.Prelude.{◌≡◌, ◌≤◌, ◌⊎◌, IfSome, map};
 ghost use Rattle.std.specs.Io.KnownBytes.{Appends, Keeps};
 ghost use Rattle.mq_cli.specs.Program.{Fails, FailsRead, FindsFaults, IsMisuse, IsUnread, Passes, Refuses, input_of};
-ghost use Rattle.mq_cli.specs.Told.{HasFailed, HasPassed, IsNotHex, IsRefusedOn, IsReportedOn, not_hex_line};
+ghost use Rattle.mq_cli.specs.Told.{HasFailed, HasPassed, IsMisnamed, IsRefusedOn, IsReportedOn, misnamed_line};
 
 use crate::command_line::{Task, parse};
 use crate::host::Host;
@@ -87,8 +87,8 @@ fn read_and_perform<H: Host, W: Write, E: Write>(
         (W.contents output.old) (W.contents output.new) }
     ensures refused { result ≡ 2 → IsRefusedOn task.now (input_of (H.gives host.now) task.now)
         (W.contents output.old) (W.contents output.new) }
-    ensures misused { result ≡ 3 → IsNotHex task.now
-        × Appends (E.contents error.old) (E.contents error.new) not_hex_line }
+    ensures misused { result ≡ 3 → IsMisnamed task.now
+        × Appends (E.contents error.old) (E.contents error.new) (misnamed_line task.now) }
     ensures failed { result ≡ 4 → FailsRead (H.gives host.now) task.now
         (W.contents output.old) (W.contents output.new) (E.contents error.old) (E.contents error.new) }
 {

@@ -34,7 +34,7 @@ const REFUSED: &str = "refused 7 Nested at 13\n";
 const REFUSED_LINES: &str = "1 record 1 OPEN\nrefused 7 Nested at 13\n";
 
 const MISUSE: &str = "error: unexpected argument 'b' found\n\n\
-    Usage: mqjudge check [FILE]\n\n\
+    Usage: mqjudge check [OPTIONS] [FILE]\n\n\
     For more information, try '--help'.\n";
 
 const READ_FAILED: &str = "mqjudge: read failed\n";
@@ -101,7 +101,7 @@ type Row = (
     &'static str,
 );
 
-static ROWS: [Row; 18] = [
+static ROWS: [Row; 27] = [
     (&["mqjudge", "check", "a.log"], [GOOD, FAULTY], 0, PASS, ""),
     (&["mqjudge", "check", "a.log"], [FAULTY, GOOD], 1, FAIL, ""),
     (
@@ -176,10 +176,74 @@ static ROWS: [Row; 18] = [
         &["mqjudge", "--version"],
         [GOOD, GOOD],
         0,
-        "mqjudge 0.1.0\n",
+        "mqjudge 0.1.0 (reads log version 1, judges 74 statements)\n",
         "",
     ),
     (&[], [GOOD, GOOD], 4, "", READ_FAILED),
+    (
+        &["mqjudge", "check", "--json"],
+        [GOOD, b"MQTR\x01\x00\x01\x00"],
+        0,
+        "{\"events\":0,\"faults\":[],\"verdict\":\"pass\"}\n",
+        "",
+    ),
+    (
+        &["mqjudge", "check", "--json", "--summary"],
+        [GOOD, b"MQTR\x01\x00\x01"],
+        2,
+        "{\"at\":7,\"name\":\"Cut\",\"refused\":10}\n",
+        "",
+    ),
+    (
+        &["mqjudge", "check", "--json", "a.log"],
+        [FAULTY, GOOD],
+        1,
+        "{\"events\":4,\"faults\":[{\"citation\":\"sec-2.2.1\",\"code\":\"W09\",\"decided\":4,\
+        \"offset\":5,\"position\":4,\"record\":4}],\"verdict\":\"fail\"}\n",
+        "",
+    ),
+    (
+        &["mqjudge", "check", "--summary", "a.log"],
+        [FAULTY, GOOD],
+        1,
+        "W09 sec-2.2.1 faults 1 first 4 record 4\nfail 1 faults 4 events\n",
+        "",
+    ),
+    (
+        &["mqjudge", "check", "--summary", "a.log"],
+        [NESTED, GOOD],
+        2,
+        REFUSED,
+        "",
+    ),
+    (
+        &["mqjudge", "explain", "X99"],
+        [GOOD, GOOD],
+        3,
+        "",
+        "mqjudge: no statement X99\n",
+    ),
+    (
+        &["mqjudge", "explain", "w9"],
+        [GOOD, GOOD],
+        3,
+        "",
+        "mqjudge: no statement w9\n",
+    ),
+    (
+        &["mqjudge", "rules", "--role", "broker"],
+        [GOOD, GOOD],
+        3,
+        "",
+        "mqjudge: no role broker\n",
+    ),
+    (
+        &["mqjudge", "packet", "4"],
+        [GOOD, GOOD],
+        3,
+        "",
+        "mqjudge: not hex\n",
+    ),
 ];
 
 // Whether the program, with these words and this file and standard input, does this; `failure` is why the host fails, where it does.

@@ -1,24 +1,29 @@
 //! Doing what a command line asks for.
-ghost use Rattle.std.specs.Prelude.{◌≡◌, ◌≤◌, ◌⊎◌, IfOk, IfErr, IfSome, IsErr, OnOk};
+ghost use Rattle.std.specs.Prelude.{◌≡◌, ◌≤◌, ◌⊎◌, ◌++◌, [], None, Some, codes, string_bytes, IfOk, IfErr, IfSome, IsErr, OnOk};
 ghost use Rattle.std.specs.Io.KnownBytes.{Appends, Keeps};
 ghost use Rattle.hex.specs.Hex.{decode_of};
-ghost use Rattle.mq_cli.specs.Told.{AppendsLineOf, AppendsPart, BeginsRefusal, FailsNotHex, FailsPacket};
-ghost use Rattle.mq_cli.specs.Told.{FailsStop, FailsTask, HasFailed, HasPassed, IsNotHex};
+ghost use Rattle.mq_cli.specs.Explaining.{explained_for};
+ghost use Rattle.mq_cli.specs.Listing.{listed_for, statement_lines};
+ghost use Rattle.mq_cli.specs.Told.{AppendsLineOf, AppendsPart, BeginsRefusal, FailsMisnamed, FailsPacket, FailsTelling, LacksMemory};
+ghost use Rattle.mq_cli.specs.Told.{FailsStop, FailsTask, HasFailed, HasPassed, IsMisnamed};
 ghost use Rattle.mq_cli.specs.Told.{IsOfLog, IsRefusedOn, IsReportedOn, IsShownOn, IsToldOn, RefusesCheck};
 ghost use Rattle.mq_cli.specs.Told.{RefusesShow, SpellsNoPacket, SpellsPacket, StopsCheck, StopsShow};
-ghost use Rattle.mq_cli.specs.Told.{failure_of, not_hex_line};
+ghost use Rattle.mq_cli.specs.Told.{Tells, failure_line, failure_of, form_of, misnamed_line, no_role_line, no_statement_line, not_hex_line};
 ghost use Rattle.mq_judge.specs.OnePacket.{IsOnePacket, packet_report};
-ghost use Rattle.mq_judge.specs.Report.{refused_line, report};
+ghost use Rattle.mq_judge.specs.Report.{refused_report, report};
 ghost use Rattle.mq_judge.specs.Running.{IsFaultless, IsJudged};
 ghost use Rattle.mq_judge.specs.Showing.{lines_of};
 ghost use Rattle.mq_trace.specs.Events.{events};
 
 use crate::command_line::{Stop, Task};
+use crate::explanations::explanation;
 use crate::failure::{FAILED, FAULTY, Failure, MISUSED, PASSED, REFUSED};
+use crate::listing::{listing, role_named};
 use crate::writing::{flush, write_out};
 use hex::{FromHexError, decode};
 use mq_judge::{Form, Outcome, Refusal, RunFault, run, show, write_packet, write_refused};
-use std::alloc::Global;
+use mq_rules::{Role, Rule};
+use std::alloc::{AllocError, Global};
 use std::io::{Read, Write};
 
 /// Does the task, and gives the status to exit with.
@@ -27,7 +32,9 @@ use std::io::{Read, Write};
 /// to `output`: 0 for no fault, 1 for faults, 2 for a refused log. To show a log is to write a line
 /// for each event to `output`: 0, or 2 for a refused log, with the line on it behind those of the
 /// events before. A packet's line is written to `output`: 0 where the bytes are one packet, else 1;
-/// where `hex` spells no bytes the status is 3, which is told on `error`. Where reading or writing
+/// where `hex` spells no bytes the status is 3, which is told on `error`. The lines of the
+/// statements, or what explains one, are written to `output`: 0, or 3 where the word names no end,
+/// or no statement, which is told on `error`. Where reading or writing
 /// failed or memory ran out the status is 4, and what failed is told on `error`; what was written
 /// until then is part of what would have been.
 pub fn perform<R: Read, W: Write, E: Write>(
@@ -43,11 +50,11 @@ pub fn perform<R: Read, W: Write, E: Write>(
         (W.contents output.old) (W.contents output.new) }
     ensures refused { result ≡ 2 → IsRefusedOn task.now (R.remaining input.old)
         (W.contents output.old) (W.contents output.new) }
-    ensures misused { result ≡ 3 → IsNotHex task.now
-        × Appends (E.contents error.old) (E.contents error.new) not_hex_line }
+    ensures misused { result ≡ 3 → IsMisnamed task.now
+        × Appends (E.contents error.old) (E.contents error.new) (misnamed_line task.now) }
     ensures failed { result ≡ 4 → FailsTask task.now (R.remaining input.old) (R.remaining input.new)
         (W.contents output.old) (W.contents output.new) (E.contents error.old) (E.contents error.new)
-        ⊎ FailsNotHex task.now
+        ⊎ FailsMisnamed task.now
         (W.contents output.old) (W.contents output.new) (E.contents error.old) (E.contents error.new) }
     ensures statuses { result ≤ 4 }
 
@@ -56,7 +63,12 @@ pub fn perform<R: Read, W: Write, E: Write>(
     ensures untold { result ≡ 3 → Keeps (W.contents output.old) (W.contents output.new) }
 {
     match task {
-        Task::Check { .. } => match check(alloc, input, output) {
+        Task::Check { json, summary, .. } => match check(
+            alloc,
+            form_of(*json, *summary),
+            input,
+            output,
+        ) {
             Ok(status) => status,
             Err(failure) => failure.report(error),
         },
@@ -65,27 +77,45 @@ pub fn perform<R: Read, W: Write, E: Write>(
             Err(failure) => failure.report(error),
         },
         Task::Packet { hex } => packet(alloc, hex.as_str(), output, error),
+        Task::Rules { role: None } => tell_all(alloc, output, error),
+        Task::Rules { role: Some(word) } => tell_rules(alloc, word.as_str(), output, error),
+        Task::Explain { code } => explain(alloc, code.as_str(), output, error),
     }
 }
 
-// Judges a log, with a report as text.
-fn check<R: Read, W: Write>(alloc: Global, input: &mut R, output: &mut W) -> Result<u8, Failure>
+// The form of the report that these flags ask for.
+fn form_of(json: bool, summary: bool) -> Form
+    ensures { result ≡ form_of json summary }
+{
+    if json {
+        return Form::Json;
+    }
+    if summary { Form::Summary } else { Form::Text }
+}
+
+// Judges a log, with a report in this form.
+fn check<R: Read, W: Write>(
+    alloc: Global,
+    form: Form,
+    input: &mut R,
+    output: &mut W,
+) -> Result<u8, Failure>
     ensures passed { IfOk result (λ status. status ≡ PASSED → IfSome (R.remaining input.old)
         (λ log. IsJudged log × IsFaultless log)) }
     ensures faulty { IfOk result (λ status. status ≡ FAULTY → IfSome (R.remaining input.old)
         (λ log. IsJudged log × (¬ IsFaultless log))) }
     ensures reported { IfOk result (λ status. status ≤ FAULTY → IfSome (R.remaining input.old)
-        (λ log. Appends (W.contents output.old) (W.contents output.new) (report log))) }
+        (λ log. Appends (W.contents output.old) (W.contents output.new) (report form log))) }
     ensures refused { IfOk result (λ status. status ≡ REFUSED → IfSome (R.remaining input.old)
-        (λ log. RefusesCheck log (W.contents output.old) (W.contents output.new))) }
+        (λ log. RefusesCheck form log (W.contents output.old) (W.contents output.new))) }
     ensures stops { IfErr result (λ failure. IfSome (R.remaining input.old)
-        (λ log. StopsCheck failure log (R.remaining input.new) (W.contents output.old) (W.contents output.new))) }
+        (λ log. StopsCheck form failure log (R.remaining input.new) (W.contents output.old) (W.contents output.new))) }
     ensures statuses { IfOk result (λ status. status ≤ REFUSED) }
 {
-    match run(alloc, input, output, Form::Text) {
+    match run(alloc, input, output, form) {
         Ok(Outcome::Pass) => see_out(PASSED, output),
         Ok(Outcome::Fail) => see_out(FAULTY, output),
-        Err(RunFault::Refused(refusal)) => refuse(&refusal, output),
+        Err(RunFault::Refused(refusal)) => refuse(alloc, &refusal, form, output),
         Err(RunFault::Write) => Err(Failure::Write),
         Err(RunFault::Memory) => Err(Failure::Memory),
     }
@@ -104,25 +134,32 @@ fn show_log<R: Read, W: Write>(alloc: Global, input: &mut R, output: &mut W) -> 
 {
     match show(alloc, input, output) {
         Ok(()) => see_out(PASSED, output),
-        Err(RunFault::Refused(why)) => refuse(&why, output),
+        Err(RunFault::Refused(why)) => refuse(alloc, &why, Form::Text, output),
         Err(RunFault::Write) => Err(Failure::Write),
         Err(RunFault::Memory) => Err(Failure::Memory),
     }
 }
 
-// Writes why the log is refused, where that lies in the log.
-fn refuse<W: Write>(refusal: &Refusal, output: &mut W) -> Result<u8, Failure>
+// Writes why the log is refused in this form, where that lies in the log.
+fn refuse<W: Write>(
+    alloc: Global,
+    refusal: &Refusal,
+    form: Form,
+    output: &mut W,
+) -> Result<u8, Failure>
     ensures status { IfOk result (λ status. status ≡ REFUSED) }
     ensures own { OnOk result (IsOfLog refusal.now) }
     ensures written { OnOk result
-        (Appends (W.contents output.old) (W.contents output.new) (refused_line refusal.now)) }
-    ensures failed { IfErr result (λ failure. failure ≡ failure_of refusal.now) }
-    ensures begun { IfErr result (λ _. BeginsRefusal refusal.now (W.contents output.old) (W.contents output.new)) }
+        (Appends (W.contents output.old) (W.contents output.new) (refused_report form refusal.now)) }
+    ensures failed { IfErr result (λ failure. (failure ≡ failure_of refusal.now)
+        ⊎ ((failure ≡ Failure.Memory) × LacksMemory form refusal.now (W.contents output.old) (W.contents output.new))) }
+    ensures begun { IfErr result (λ _.
+        BeginsRefusal form refusal.now (W.contents output.old) (W.contents output.new)) }
 {
     match refusal {
         Refusal::Read(_) => Err(Failure::Read),
         Refusal::Memory(_) => Err(Failure::Memory),
-        _ => match write_refused(refusal, Form::Text, output) {
+        _ => match write_refused(alloc, refusal, form, output) {
             Ok(()) => see_out(REFUSED, output),
             Err(RunFault::Memory) => Err(Failure::Memory),
             Err(_) => Err(Failure::Write),
@@ -184,6 +221,113 @@ fn refuse_hex<E: Write>(error: &mut E) -> u8
         Ok(()) => MISUSED,
         Err(_) => FAILED,
     }
+}
+
+// Lists all statements.
+fn tell_all<W: Write, E: Write>(alloc: Global, output: &mut W, error: &mut E) -> u8
+    ensures told { result ≡ PASSED
+        → Appends (W.contents output.old) (W.contents output.new) (statement_lines None) }
+    ensures failed { result ≡ FAILED → FailsTelling (Some (statement_lines None)) []
+        (W.contents output.old) (W.contents output.new) (E.contents error.old) (E.contents error.new) }
+    ensures statuses { (result ≡ PASSED) ⊎ (result ≡ FAILED) }
+    ensures quiet { result ≡ PASSED → Keeps (E.contents error.old) (E.contents error.new) }
+{
+    list(alloc, None, output, error)
+}
+
+// Lists the statements that bind the end that the word names.
+fn tell_rules<W: Write, E: Write>(alloc: Global, word: &str, output: &mut W, error: &mut E) -> u8
+    ensures told { result ≡ PASSED
+        → Tells (listed_for (Some word.now)) (W.contents output.old) (W.contents output.new) }
+    ensures misused { result ≡ MISUSED → (listed_for (Some word.now) ≡ None)
+        × Appends (E.contents error.old) (E.contents error.new) (no_role_line word.now) }
+    ensures failed { result ≡ FAILED → FailsTelling (listed_for (Some word.now)) (no_role_line word.now)
+        (W.contents output.old) (W.contents output.new) (E.contents error.old) (E.contents error.new) }
+    ensures statuses { (result ≡ PASSED) ⊎ ((result ≡ MISUSED) ⊎ (result ≡ FAILED)) }
+    ensures quiet { result ≡ PASSED → Keeps (E.contents error.old) (E.contents error.new) }
+    ensures untold { result ≡ MISUSED → Keeps (W.contents output.old) (W.contents output.new) }
+{
+    match role_named(word) {
+        Some(role) => list(alloc, Some(role), output, error),
+        None => refuse_word(alloc, "mqjudge: no role ", word, error),
+    }
+}
+
+// Lists the statements, for one end or for both.
+fn list<W: Write, E: Write>(alloc: Global, role: Option<Role>, output: &mut W, error: &mut E) -> u8
+    ensures told { result ≡ PASSED
+        → Appends (W.contents output.old) (W.contents output.new) (statement_lines role) }
+    ensures failed { result ≡ FAILED → FailsTelling (Some (statement_lines role)) []
+        (W.contents output.old) (W.contents output.new) (E.contents error.old) (E.contents error.new) }
+    ensures statuses { (result ≡ PASSED) ⊎ (result ≡ FAILED) }
+    ensures quiet { result ≡ PASSED → Keeps (E.contents error.old) (E.contents error.new) }
+{
+    match listing(alloc, role) {
+        Ok(text) => tell(text.as_str(), output, error),
+        Err(_) => Failure::Memory.report(error),
+    }
+}
+
+// Tells what explains the statement with this code.
+fn explain<W: Write, E: Write>(alloc: Global, code: &str, output: &mut W, error: &mut E) -> u8
+    ensures told { result ≡ PASSED
+        → Tells (explained_for code.now) (W.contents output.old) (W.contents output.new) }
+    ensures misused { result ≡ MISUSED → (explained_for code.now ≡ None)
+        × Appends (E.contents error.old) (E.contents error.new) (no_statement_line code.now) }
+    ensures failed { result ≡ FAILED → FailsTelling (explained_for code.now) (no_statement_line code.now)
+        (W.contents output.old) (W.contents output.new) (E.contents error.old) (E.contents error.new) }
+    ensures statuses { (result ≡ PASSED) ⊎ ((result ≡ MISUSED) ⊎ (result ≡ FAILED)) }
+    ensures quiet { result ≡ PASSED → Keeps (E.contents error.old) (E.contents error.new) }
+    ensures untold { result ≡ MISUSED → Keeps (W.contents output.old) (W.contents output.new) }
+{
+    match Rule::of_code(code) {
+        Some(rule) => tell(explanation(rule), output, error),
+        None => refuse_word(alloc, "mqjudge: no statement ", code, error),
+    }
+}
+
+// Writes a text to the end, and gives the status.
+fn tell<W: Write, E: Write>(text: &str, output: &mut W, error: &mut E) -> u8
+    ensures told { result ≡ PASSED → Appends (W.contents output.old) (W.contents output.new) text.now }
+    ensures part { result ≡ FAILED → AppendsPart (W.contents output.old) (W.contents output.new) text.now }
+    ensures failed { result ≡ FAILED
+        → AppendsPart (E.contents error.old) (E.contents error.new) (failure_line Failure.Write) }
+    ensures statuses { (result ≡ PASSED) ⊎ (result ≡ FAILED) }
+    ensures quiet { result ≡ PASSED → Keeps (E.contents error.old) (E.contents error.new) }
+{
+    match write_out(text, output) {
+        Ok(()) => PASSED,
+        Err(failure) => failure.report(error),
+    }
+}
+
+// Tells that a word names nothing, in a line that begins so, and gives the status.
+fn refuse_word<E: Write>(alloc: Global, start: &str, word: &str, error: &mut E) -> u8
+    ensures told { result ≡ MISUSED
+        → Appends (E.contents error.old) (E.contents error.new) (start.now ++ word.now ++ codes "\n") }
+    ensures failed { result ≡ FAILED
+        → AppendsPart (E.contents error.old) (E.contents error.new) (start.now ++ word.now ++ codes "\n")
+        ⊎ AppendsPart (E.contents error.old) (E.contents error.new) (failure_line Failure.Memory) }
+    ensures statuses { (result ≡ MISUSED) ⊎ (result ≡ FAILED) }
+{
+    match line_on(alloc, start, word) {
+        Ok(line) => match write_out(line.as_str(), error) {
+            Ok(()) => MISUSED,
+            Err(_) => FAILED,
+        },
+        Err(_) => Failure::Memory.report(error),
+    }
+}
+
+// A line that begins so and ends with the word.
+fn line_on(alloc: Global, start: &str, word: &str) -> Result<String, AllocError>
+    ensures { IfOk result (λ line. string_bytes line ≡ start.now ++ word.now ++ codes "\n") }
+{
+    let mut line = String::new(alloc);
+    line.push_str(start)?;
+    line.push_str(word)?;
+    line.push_str("\n")?;
+    Ok(line)
 }
 
 // Sees to it that what was written goes out, and gives the status.

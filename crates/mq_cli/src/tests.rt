@@ -54,6 +54,8 @@ const TAKEN_TWICE: &[u8] = b"MQTR\x01\x00\x01\x00\
     \x02\x00\x00\x00\x09\x32\x07\x00\x01a\x00\x01\x00x\
     \x03\x00\x00\x00\x04\x40\x02\x00\x01";
 
+const VERSION: &str = "mqjudge 0.1.0 (reads log version 1, judges 74 statements)\n";
+
 // A log, in parts, and what is made of it.
 struct Row {
     log: &'static [&'static [u8]],
@@ -331,45 +333,81 @@ fn tells_of_want_of_memory(rt: HostRuntime) {
     assert!(rt; error.get_ref().starts_with(complaint));
 }
 
-// Whether these words ask for a check of this file, or of the input.
-fn is_check_of(alloc: Global, words: &[&str], wanted: Option<&str>) -> Result<bool, Stop> {
-    let Task::Check { file, json } = parse(alloc, words)? else {
+// Whether these words ask for a check of this file, or of the input, with these flags.
+fn is_check_of(
+    alloc: Global,
+    words: &[&str],
+    wanted: Option<&str>,
+    flags: (bool, bool),
+) -> Result<bool, Stop> {
+    let Task::Check {
+        file,
+        json,
+        summary,
+    } = parse(alloc, words)?
+    else {
         return Ok(false);
     };
     let path = file.as_ref().map(|path| path.as_str());
-    Ok(path == wanted && !json)
+    Ok(path == wanted && (json, summary) == flags)
 }
 
 #[test]
 fn reads_the_words_of_a_check(rt: HostRuntime) -> Result<(), Fail> {
-    let rows: [(&[&str], Option<&str>); 3] = [
-        (&["mqjudge", "check"], None),
-        (&["mqjudge", "check", "a.log"], Some("a.log")),
-        (&["mqjudge", "check", "--", "--help"], Some("--help")),
+    let rows: [(&[&str], Option<&str>, (bool, bool)); 5] = [
+        (&["mqjudge", "check"], None, (false, false)),
+        (
+            &["mqjudge", "check", "a.log"],
+            Some("a.log"),
+            (false, false),
+        ),
+        (
+            &["mqjudge", "check", "--", "--help"],
+            Some("--help"),
+            (false, false),
+        ),
+        (&["mqjudge", "check", "--json"], None, (true, false)),
+        (
+            &["mqjudge", "check", "--summary", "a.log", "--json"],
+            Some("a.log"),
+            (true, true),
+        ),
     ];
-    for (words, wanted) in rows {
-        assert!(rt; is_check_of(rt.alloc(), words, wanted)?, "{words:?}");
+    for (words, wanted, flags) in rows {
+        assert!(rt; is_check_of(rt.alloc(), words, wanted, flags)?, "{words:?}");
     }
     Ok(())
 }
 
 #[test]
 fn shows_help_and_the_version(rt: HostRuntime) -> Result<(), Fail> {
-    let requests: [(&[&str], &str); 8] = [
+    let requests: [(&[&str], &str); 11] = [
         (&["mqjudge", "--help"], "Usage: mqjudge <COMMAND>"),
         (&["mqjudge", "-h"], "Usage: mqjudge <COMMAND>"),
         (&["mqjudge", "help"], "Usage: mqjudge <COMMAND>"),
-        (&["mqjudge", "help", "check"], "Usage: mqjudge check [FILE]"),
+        (
+            &["mqjudge", "help", "check"],
+            "Usage: mqjudge check [OPTIONS] [FILE]",
+        ),
         (
             &["mqjudge", "check", "--help"],
-            "Usage: mqjudge check [FILE]",
+            "Usage: mqjudge check [OPTIONS] [FILE]",
         ),
         (
             &["mqjudge", "packet", "--help"],
             "Usage: mqjudge packet <HEX>",
         ),
-        (&["mqjudge", "--version"], "mqjudge 0.1.0\n"),
-        (&["mqjudge", "-V"], "mqjudge 0.1.0\n"),
+        (
+            &["mqjudge", "rules", "--help"],
+            "Example: mqjudge rules --role client\n",
+        ),
+        (
+            &["mqjudge", "explain", "--help"],
+            "3 for misuse or a code of no statement",
+        ),
+        (&["mqjudge", "show", "--help"], "docs/LOG_FORMAT.md"),
+        (&["mqjudge", "--version"], VERSION),
+        (&["mqjudge", "-V"], VERSION),
     ];
     for (words, part) in requests {
         let Err(Stop::Help(text)) = parse(rt.alloc(), words) else {
@@ -395,8 +433,8 @@ fn refuses_other_words(rt: HostRuntime) -> Result<(), Fail> {
             "unexpected argument 'b' found",
         ),
         (
-            &["mqjudge", "check", "--json"],
-            "unexpected argument '--json' found",
+            &["mqjudge", "check", "--quiet"],
+            "unexpected argument '--quiet' found",
         ),
         (
             &["mqjudge", "--quick", "check"],

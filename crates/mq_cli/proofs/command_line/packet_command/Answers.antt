@@ -12,10 +12,10 @@ required r = record r { required = true }
 pub returns-clause-app : goal.returns-clause-app
 returns-clause-app c =
     let hex_is : rule_of c.required-hex.result ≡ required (new_rule (codes "HEX")) = search rules in
-    let about_is : app_of c.about.result ≡ new_app (codes "packet") = ap app_of_fields c.about.ensures ∙ c.new-2.ensures.app in
+    let about_is : app_of c.after_help.result ≡ new_app (codes "packet") = ap app_of_fields c.after_help.ensures ∙ ap app_of_fields c.about.ensures ∙ c.new-2.ensures.app in
     IfOk-weaker c.arg.result _ _ (λ r h. h.shape (search rules) ∙ ap₂ with_rule about_is hex_is) c.arg.ensures
 
 pub returns-clause-local : goal.returns-clause-local
 returns-clause-local c =
-    let before = ap (λ (f : Command-F Command). f.has_globals) c.about.ensures ∙ c.new-2.ensures.local in
+    let before = ap (λ (f : Command-F Command). f.has_globals) c.after_help.ensures ∙ ap (λ (f : Command-F Command). f.has_globals) c.about.ensures ∙ c.new-2.ensures.local in
     IfOk-weaker c.arg.result _ _ (λ r h. h.globals ∙ ap₂ (λ x y. x || y) before (search rules)) c.arg.ensures

@@ -1,8 +1,8 @@
 use Rattle.std.proofs.Common.{ap, map, refl, sym, true≢false, Some, Option, ◌∙◌, inl, inr}
 use Rattle.std.proofs.lemmas.Result.{IfOk-weaker}
 use Rattle.clap.specs.Words.{Text}
-use Rattle.mq_cli.specs.CommandLine.{check_request, packet_request, show_request}
-use Rattle.mq_cli.proofs.CommandLineLemmas.{subcommand_is_named, request_is_check, request_is_packet, request_is_show}
+use Rattle.mq_cli.specs.CommandLine.{explain_request, is_true, packet_request, rules_request, show_request}
+use Rattle.mq_cli.proofs.CommandLineLemmas.{subcommand_is_named, request_is_check, request_is_explain, request_is_packet, request_is_rules, request_is_show, same_check}
 use Rattle.mq_cli.proofs.command_line.parse.Goals as goal
 
 pub unreachable-requires : goal.unreachable-requires
@@ -11,14 +11,18 @@ unreachable-requires g c =
     elim named [
       | inl h ↦ true≢false (sym (c.in-None.ensures.found.1 h))
       | inr (inl h) ↦ true≢false (sym (c.in-None-subcommand_matches.ensures.found.1 h))
-      | inr (inr h) ↦ true≢false (sym (c.in-None-subcommand_matches-2.ensures.found.1 h))
+      | inr (inr (inl h)) ↦ true≢false (sym (c.in-None-subcommand_matches-2.ensures.found.1 h))
+      | inr (inr (inr (inl h))) ↦ true≢false (sym (c.in-None-subcommand_matches-3.ensures.found.1 h))
+      | inr (inr (inr (inr h))) ↦ true≢false (sym (c.in-None-subcommand_matches-4.ensures.found.1 h))
     ]
 
 pub returns-in-Some-clause-task : goal.returns-in-Some-clause-task
 returns-in-Some-clause-task g c =
     let words = map g.S.AsStr.text c.args.words.now in
     let asked = request_is_check words c.in-Ok.matches c.in-Some.check.now c.in-Ok.ensures.met (c.in-Some.ensures.found.0 refl) c.in-Some.ensures.rows in
-    IfOk-weaker c.check_task.result _ _ (λ task h. asked ∙ ap (λ (f : Option Text). Some (check_request f)) (sym c.get_str.ensures) ∙ ap Some (sym h)) c.check_task.ensures.task
+    let json = c.is_true.ensures ∙ ap is_true c.get_str-in-Some.ensures in
+    let summary = c.is_true-in-Some.ensures ∙ ap is_true c.get_str-in-Some-2.ensures in
+    IfOk-weaker c.check_task.result _ _ (λ task h. asked ∙ same_check (sym c.get_str.ensures) (sym json) (sym summary) ∙ ap Some (sym h)) c.check_task.ensures.task
 
 pub returns-in-Some-subcommand_matches-clause-task : goal.returns-in-Some-subcommand_matches-clause-task
 returns-in-Some-subcommand_matches-clause-task g c =
@@ -35,3 +39,19 @@ returns-in-Some-subcommand_matches-2-clause-task g c =
     let given = c.get_str-in-Some-subcommand_matches-2.ensures in
     let asked = request_is_packet words c.in-Ok.matches met.packet.now c.in-Ok.ensures.met (met.ensures.found.0 refl) met.ensures.rows in
     IfOk-weaker c.packet_task.result _ _ (λ task h. asked ∙ ap (λ (f : Option Text). Some (packet_request f)) (sym given) ∙ ap Some (sym h)) c.packet_task.ensures.task
+
+pub returns-in-Some-subcommand_matches-3-clause-task : goal.returns-in-Some-subcommand_matches-3-clause-task
+returns-in-Some-subcommand_matches-3-clause-task g c =
+    let words = map g.S.AsStr.text c.args.words.now in
+    let met = c.in-Some-subcommand_matches-3 in
+    let given = c.get_str-in-Some-subcommand_matches-3.ensures in
+    let asked = request_is_rules words c.in-Ok.matches met.rules.now c.in-Ok.ensures.met (met.ensures.found.0 refl) met.ensures.rows in
+    IfOk-weaker c.rules_task.result _ _ (λ task h. asked ∙ ap (λ (f : Option Text). Some (rules_request f)) (sym given) ∙ ap Some (sym h)) c.rules_task.ensures.task
+
+pub returns-in-Some-subcommand_matches-4-clause-task : goal.returns-in-Some-subcommand_matches-4-clause-task
+returns-in-Some-subcommand_matches-4-clause-task g c =
+    let words = map g.S.AsStr.text c.args.words.now in
+    let met = c.in-Some-subcommand_matches-4 in
+    let given = c.get_str-in-Some-subcommand_matches-4.ensures in
+    let asked = request_is_explain words c.in-Ok.matches met.explain.now c.in-Ok.ensures.met (met.ensures.found.0 refl) met.ensures.rows in
+    IfOk-weaker c.explain_task.result _ _ (λ task h. asked ∙ ap (λ (f : Option Text). Some (explain_request f)) (sym given) ∙ ap Some (sym h)) c.explain_task.ensures.task

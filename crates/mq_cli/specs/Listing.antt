@@ -1,0 +1,53 @@
+-- The list of the statements: a line for each.
+use Rattle.std.specs.Prelude.{ℕ, ◌==◌, Bool, true, not, List, [], ◌∷◌, ◌++◌, length, codes, Option, Some, None, option_map, if◌then◌else◌}
+use Rattle.std.specs.List.{filter, flat_map}
+use Rattle.std.specs.Str.{bytes_eq}
+use Rattle.mq_rules.specs.declared.role.Role.{Role}
+use Rattle.mq_rules.specs.declared.role.Role.TheVariants.{Client, Server}
+use Rattle.mq_rules.specs.declared.rule.Rule.{Rule}
+use Rattle.mq_rules.specs.Rules.{all_rules, citation_of, code_of}
+use Rattle.mq_rules.specs.Naming.{sentence_of}
+
+-- the statement binds this end: it is cited for it
+abbrev pub binds_end : Role → Rule → Bool
+binds_end role rule = not (length (citation_of rule role) == 0)
+
+-- whom a statement binds, in a word
+abbrev pub bound_ends : Rule → List ℕ
+bound_ends rule = if binds_end Client rule then (if binds_end Server rule then codes "both" else codes "client") else codes "server"
+
+-- both citations, the client's first, where both ends are bound and they differ; else the one that there is
+abbrev pub both_citations : List ℕ → List ℕ → List ℕ
+both_citations client server = if length client == 0 then server else (if length server == 0 then client
+    else (if bytes_eq client server then client else client ++ codes ";" ++ server))
+
+-- where a statement stands in MQTT 5.0, for one end, or for those that it binds
+abbrev pub citation_for : Option Role → Rule → List ℕ
+citation_for None rule = both_citations (citation_of rule Client) (citation_of rule Server)
+citation_for (Some role) rule = citation_of rule role
+
+-- the line of a statement: its code, whom it binds, its citation, and what it says
+abbrev pub statement_line : Option Role → Rule → List ℕ
+statement_line role rule = code_of rule ++ codes " " ++ bound_ends rule ++ codes " " ++ citation_for role rule ++ codes " " ++ sentence_of rule ++ 10 ∷ []
+
+-- the statement is listed: for one end where it binds that one, else always
+abbrev pub is_listed : Option Role → Rule → Bool
+is_listed None rule = true
+is_listed (Some role) rule = binds_end role rule
+
+-- no text for a statement that isn't listed
+abbrev pub listed_line : Option Role → Rule → List ℕ
+listed_line role rule = if is_listed role rule then statement_line role rule else []
+
+-- the lines of the statements, in the order of reports: of all, or of those that bind one end
+unfoldable pub statement_lines : Option Role → List ℕ
+statement_lines role = flat_map (listed_line role) all_rules
+
+-- the end that a word names
+abbrev pub role_named : List ℕ → Option Role
+role_named word = if bytes_eq word (codes "client") then Some Client else (if bytes_eq word (codes "server") then Some Server else None)
+
+-- what the word for an end lists: all where there is none; there is no list where it names no end
+abbrev pub listed_for : Option (List ℕ) → Option (List ℕ)
+listed_for None = Some (statement_lines None)
+listed_for (Some word) = option_map (λ role. statement_lines (Some role)) (role_named word)
