@@ -1,0 +1,112 @@
+#!/usr/bin/env python3
+"""Holds the built program's reports as JSON and in short against its text, with a JSON reader of its own.
+
+usage: bench/check_forms.py PROGRAM [LOG ..]
+
+The text report of each log is made into the two other forms here, in Python: each of the worked logs of mq_cli's tests, a log
+of 3,000 faults, refused logs, and the logs that are named. JSON is also read back by Python's json module.
+"""
+import json
+import subprocess
+import sys
+from collections import OrderedDict
+from pathlib import Path
+
+sys.dont_write_bytecode = True  # the repository stays as it is
+import check_rows
+
+CONNECT = bytes.fromhex("100D00044D5154540502003C000000")
+CONNACK = bytes.fromhex("2003000000")
+
+
+def many_faults(count: int) -> bytes:
+    """A client that takes one Packet Identifier again and again."""
+    names: dict[str, str] = {}
+    publish = "320700016100010078"
+    words = ["OPEN", ">" + CONNECT.hex(), "<" + CONNACK.hex()] + [">" + publish] * (count + 1)
+    return check_rows.log_of("client " + " ".join(words), names)
+
+
+def logs(paths: list[str]) -> list[tuple[str, bytes]]:
+    names, found = check_rows.packets(), []
+    for path in sorted(check_rows.FOLDER.glob("*.rt")):
+        for row in (row for table in check_rows.TABLE.findall(path.read_text()) for row in table.split("\n")):
+            name, log, _ = (part.strip() for part in row.split("|"))
+            found.append((f"{path.name}: {name}", check_rows.log_of(log, names)))
+    found.append(("3,000 faults", many_faults(3000)))
+    found += [(f"{count} bytes", many_faults(1)[:count]) for count in range(0, 60)]
+    found += [(path, Path(path).read_bytes()) for path in paths]
+    return found
+
+
+def as_json(text: str) -> str:
+    """The JSON report for a text report."""
+    *faults, last = text.splitlines()
+    words = last.split()
+    if words[0] == "refused":
+        return f'{{"at":{words[4]},"name":"{words[2]}","refused":{words[1]}}}\n'
+    items = []
+    for line in faults:
+        _, position, code, citation, _, decided, _, record, _, offset = line.split()
+        offset = "null" if offset == "-" else offset
+        items.append(
+            f'{{"citation":"{citation}","code":"{code}","decided":{decided},"offset":{offset},"position":{position},"record":{record}}}'
+        )
+    return f'{{"events":{words[-2]},"faults":[{",".join(items)}],"verdict":"{words[0]}"}}\n'
+
+
+def in_short(text: str) -> str:
+    """The summary for a text report."""
+    *faults, last = text.splitlines()
+    codes: OrderedDict[str, list[list[str]]] = OrderedDict()
+    for line in faults:
+        words = line.split()
+        codes.setdefault(words[2], []).append(words)
+    order = {code: at for at, code in enumerate(all_codes())}
+    lines = [
+        f"{code} {found[0][3]} faults {len(found)} first {found[0][1]} record {found[0][7]}"
+        for code, found in sorted(codes.items(), key=lambda entry: order[entry[0]])
+    ]
+    return "".join(f"{line}\n" for line in [*lines, last])
+
+
+def all_codes() -> list[str]:
+    exchanges = [f"E{n}{letter}" for n in range(1, 8) for letter in "ARO"]
+    left_out = {"E4O", "E5O", "E6O", "E7A", "E7O"}
+    return (
+        [f"W{n:02}" for n in range(1, 22)]
+        + [f"C{n:02}" for n in range(1, 24)]
+        + [f"S{n:02}" for n in range(1, 8)]
+        + [code for code in exchanges if code not in left_out]
+        + ["L1", "L2", "L3", "B01", "B02", "B03", "B04"]
+    )
+
+
+def run(program: str, log: bytes, *flags: str) -> tuple[int, str, str]:
+    ran = subprocess.run([program, "check", *flags], input=log, capture_output=True, check=False)
+    return ran.returncode, ran.stdout.decode(), ran.stderr.decode()
+
+
+def main() -> int:
+    program, *paths = sys.argv[1:]
+    count, wrong = 0, 0
+    for name, log in logs(paths):
+        status, text, told = run(program, log)
+        wanted = {("--json",): as_json(text), ("--summary",): in_short(text), ("--json", "--summary"): as_json(text)}
+        for flags, report in wanted.items():
+            count += 1
+            answer = run(program, log, *flags)
+            if answer != (status, report, told):
+                wrong += 1
+                print(f"{name} {' '.join(flags)}", f"wanted {(status, report, told)!r:.500}", f"got    {answer!r:.500}", sep="\n  ")
+            elif "--json" in flags:
+                value = json.loads(answer[1])
+                if json.dumps(value, sort_keys=True, separators=(",", ":")) + "\n" != answer[1]:
+                    wrong += 1
+                    print(f"{name}: JSON isn't compact with ascending keys")
+    print(f"{count} reports, {wrong} wrong")
+    return 1 if wrong else 0
+
+
+if __name__ == "__main__":
+    sys.exit(main())
