@@ -1,9 +1,10 @@
 #!/usr/bin/env python3
-"""Checks that the README's table of statements is the one that the program has.
+"""Checks that the table of statements in docs/STATEMENTS.md is the one that the program has.
 
 The rows are those of `TABLE` in crates/mq_rules/src/table.rt, and what each statement says is its doc comment in
-crates/mq_rules/src/rule.rt, which is also its sentence in `SENTENCES` of crates/mq_rules/src/naming.rt. In the README
-the table stands between the lines `<!-- rules -->` and `<!-- /rules -->`. Where it differs, the first line that does is printed, and the status is 1; with --write the table is written instead.
+crates/mq_rules/src/rule.rt, which is also its sentence in `SENTENCES` of crates/mq_rules/src/naming.rt. In the document
+the table stands between the lines `<!-- rules -->` and `<!-- /rules -->`. If it differs, the first line that does is
+printed, and the status is 1; with --write the table is written instead.
 
 usage: bench/rules_table.py [--write]
 """
@@ -13,7 +14,7 @@ import sys
 from pathlib import Path
 
 TOP = Path(__file__).resolve().parent.parent
-README = TOP / "README.md"
+DOCUMENT = TOP / "docs" / "STATEMENTS.md"
 SOURCES = TOP / "crates" / "mq_rules" / "src"
 BEGIN, END = "<!-- rules -->\n", "<!-- /rules -->\n"
 HEAD = ["| Code | A statement of the tested end | Citation for a client | For a server |", "|---|---|---|---|"]
@@ -55,23 +56,23 @@ def table() -> str:
 
 
 def main() -> None:
-    options = argparse.ArgumentParser(description="Checks the README's table of statements.")
-    options.add_argument("--write", action="store_true", help="write the table into the README")
+    options = argparse.ArgumentParser(description="Checks the table of statements in docs/STATEMENTS.md.")
+    options.add_argument("--write", action="store_true", help="write the table into the document")
     write = options.parse_args().write
-    readme = README.read_text()
-    if readme.count(BEGIN) != 1 or readme.count(END) != 1:
-        sys.exit("rules_table.py: the README has not one place for the table")
-    before, rest = readme.split(BEGIN)
+    document = DOCUMENT.read_text()
+    if document.count(BEGIN) != 1 or document.count(END) != 1:
+        sys.exit("rules_table.py: the document must have one place for the table")
+    before, rest = document.split(BEGIN)
     there, after = rest.split(END)
     wanted = table()
     if there == wanted:
         return
     if write:
-        README.write_text(before + BEGIN + wanted + END + after)
+        DOCUMENT.write_text(before + BEGIN + wanted + END + after)
         return
     for have, want in zip(there.splitlines() + [""], wanted.splitlines() + [""]):
         if have != want:
-            print(f"the README has:    {have}\nthe program has:   {want}")
+            print(f"the document has:  {have}\nthe program has:   {want}")
             break
     sys.exit(1)
 
