@@ -1,11 +1,14 @@
 #!/usr/bin/env python3
-"""Writes a log of a tested client that publishes messages at QoS 1, each acknowledged, to standard output.
+"""Writes a log of a tested client to standard output.
 
 The same arguments always give the same bytes. The kinds:
 
-small  PUBLISH packets of 9 bytes and their PUBACKs, each packet in a record of its own
-cut    the byte streams of `small`, cut into records of 37 bytes wherever that falls
-large  payloads of 200 KB to 2 MB, cut over records of at most 1 MiB
+small       PUBLISH packets of 9 bytes at QoS 1 and their PUBACKs, each packet in a record of its own
+cut         the byte streams of `small`, cut into records of 37 bytes wherever that falls
+large       payloads of 200 KB to 2 MB at QoS 1, cut over records of at most 1 MiB
+qos0        PUBLISH packets of 55 bytes at QoS 0 with a Topic Name of 20 bytes, each in a record of its own
+properties  the same with a Message Expiry Interval, a Content Type and a User Property
+pings       PINGREQ packets and their PINGRESPs
 
 usage: bench/make_log.py N > FILE
        bench/make_log.py --kind large --megabytes 200 > FILE
@@ -110,11 +113,43 @@ def large(messages: int) -> Iterator[bytes]:
         yield record(RECV, puback(n))
 
 
-KINDS = {"small": small, "cut": cut, "large": large}
+TOPIC = b"sensors/kitchen/lamp"
+# Message Expiry Interval 60, Content Type "text", User Property "unit" with the value "lux".
+PROPERTIES = bytes.fromhex("020000003c03000474657874260004756e697400036c7578")
+PINGREQ, PINGRESP = b"\xc0\x00", b"\xd0\x00"
+
+
+def publish_at_qos_0(properties: bytes) -> bytes:
+    """A PUBLISH of 55 bytes, and as many more as the properties have."""
+    body = struct.pack(">H", len(TOPIC)) + TOPIC + varint(len(properties)) + properties + b"x" * 30
+    return b"\x30" + varint(len(body)) + body
+
+
+def qos0(messages: int) -> Iterator[bytes]:
+    block = record(SENT, publish_at_qos_0(b""))
+    yield from repeated(block * 1024, messages * len(block))
+
+
+def properties(messages: int) -> Iterator[bytes]:
+    block = record(SENT, publish_at_qos_0(PROPERTIES))
+    yield from repeated(block * 1024, messages * len(block))
+
+
+def pings(messages: int) -> Iterator[bytes]:
+    block = record(SENT, PINGREQ) + record(RECV, PINGRESP)
+    yield from repeated(block * 1024, messages * len(block))
+
+
+KINDS = {"small": small, "cut": cut, "large": large, "qos0": qos0, "properties": properties, "pings": pings}
+
+# How many events a message is.
+EVENTS = {"small": 2, "cut": 2, "large": 2, "qos0": 1, "properties": 1, "pings": 2}
 
 
 def messages_for(kind: str, size: int) -> int:
     """How many messages make a log of about `size` bytes."""
+    if kind in ("qos0", "properties", "pings"):
+        return size // sum(map(len, KINDS[kind](1)))
     if kind == "small":
         return size // (PUBLISH_SIZE + PUBACK_SIZE + 2 * RECORD_HEAD)
     if kind == "cut":
@@ -127,7 +162,7 @@ def messages_for(kind: str, size: int) -> int:
 
 
 def main() -> None:
-    arguments = argparse.ArgumentParser(description="Writes a log of a client that publishes at QoS 1.")
+    arguments = argparse.ArgumentParser(description="Writes a log of a tested client.")
     arguments.add_argument("messages", nargs="?", type=int, metavar="N", help="how many messages")
     arguments.add_argument("--kind", choices=KINDS, default="small")
     arguments.add_argument("--megabytes", type=float, help="about how large, in 1,000,000 bytes, instead of N")

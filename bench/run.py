@@ -5,10 +5,17 @@ The logs and the plain program are made in a temporary folder. Output goes to /d
 (1,000,000 bytes) and events/s are by processor time, user and system, so that a busy machine spoils them less; `ratio` is that
 time over the plain program's; `peak` is the most memory that was resident, as GNU time tells it.
 
+With --instructions it counts instead, by callgrind, how many instructions an event takes, for each kind of log and each
+command: those of a log of some messages less those of a log of half as many, so that what a program does once isn't among
+them. The figures don't depend on what else the machine does. `check` looks back over messages of QoS above 0, so its figures
+for these grow with the log.
+
 usage: bench/run.py [--mqjudge PATH] [--megabytes 200] [--rounds 1]
+       bench/run.py --instructions [--mqjudge PATH] [--messages 4000]
 """
 import argparse
 import os
+import re
 import resource
 import shutil
 import signal
@@ -24,7 +31,7 @@ import make_log
 
 HERE = Path(__file__).resolve().parent
 GNU_TIME = "/usr/bin/time"
-COLUMNS = "{:<6} {:<15} {:>9} {:>9} {:>8} {:>12} {:>7} {:>9}  {}"
+COLUMNS = "{:<10} {:<15} {:>9} {:>9} {:>8} {:>12} {:>7} {:>9}  {}"
 
 
 @dataclass
@@ -82,7 +89,46 @@ def make(kind: str, megabytes: float, folder: Path) -> tuple[Path, int]:
         words = [sys.executable, str(HERE / "make_log.py"), "--kind", kind, "--megabytes", str(megabytes)]
         subprocess.run(words, stdout=log, check=True)
     # OPEN, CONNECT, CONNACK, REST and CLOSE, and two for each message.
-    return path, 5 + 2 * make_log.messages_for(kind, int(megabytes * 1_000_000))
+    return path, 5 + make_log.EVENTS[kind] * make_log.messages_for(kind, int(megabytes * 1_000_000))
+
+
+def instructions(command: list[str], folder: Path) -> int | None:
+    """How many instructions a command takes, if callgrind can count them and the command passes."""
+    words = ["valgrind", "--tool=callgrind", f"--callgrind-out-file={folder / 'callgrind'}", *command]
+    ran = subprocess.run(words, stdin=subprocess.DEVNULL, stdout=subprocess.DEVNULL, stderr=subprocess.PIPE, check=False)
+    counted = re.search(rb"Collected : (\d+)", ran.stderr)
+    return int(counted[1]) if counted and ran.returncode == 0 else None
+
+
+def count_instructions(kind: str, program: str, command: list[str], messages: int, folder: Path) -> None:
+    """Prints how many instructions an event of this kind of log takes."""
+    counts = []
+    for number in (messages // 2, messages):
+        log = folder / f"{kind}-{number}.log"
+        if not log.exists():
+            with open(log, "wb") as out:
+                subprocess.run([sys.executable, str(HERE / "make_log.py"), "--kind", kind, str(number)], stdout=out, check=True)
+        counts.append(instructions([*command, str(log)], folder))
+    if None in counts:
+        print(f"{kind:<10} {program:<15} {'-':>12}", flush=True)
+        return
+    events = make_log.EVENTS[kind] * (messages - messages // 2)
+    print(f"{kind:<10} {program:<15} {(counts[1] - counts[0]) / events:>12,.0f}", flush=True)
+
+
+def print_instructions(kinds: list[str], mqjudge: Path, messages: int) -> None:
+    """Prints how many instructions an event takes, of each kind of log and by each command."""
+    if not shutil.which("valgrind"):
+        print("no valgrind: instructions can't be counted")
+        return
+    tasks = mqjudge_tasks(mqjudge)
+    with tempfile.TemporaryDirectory(prefix="mqjudge-bench-") as name:
+        folder = Path(name)
+        programs = {"baseline": [str(build_baseline(folder))]} | {f"mqjudge {task}": [str(mqjudge), task] for task in tasks}
+        print(f"{'log':<10} {'program':<15} {'instructions':>12}", flush=True)
+        for kind in kinds:
+            for program, command in programs.items():
+                count_instructions(kind, program, command, min(messages, 8) if kind == "large" else messages, folder)
 
 
 def mqjudge_tasks(mqjudge: Path) -> list[str]:
@@ -122,7 +168,12 @@ def main() -> None:
     words.add_argument("--rounds", type=int, default=1, help="the quickest of so many counts")
     words.add_argument("--seconds", type=int, default=600, help="after which a program is stopped")
     words.add_argument("--gigabytes", type=int, default=8, help="of memory that a program may have")
+    words.add_argument("--instructions", action="store_true", help="count instructions an event by callgrind instead")
+    words.add_argument("--messages", type=int, default=4000, help="of each log whose instructions are counted (default 4000)")
     given = words.parse_args()
+    if given.instructions:
+        print_instructions(given.kinds, given.mqjudge.absolute(), given.messages)
+        return
     tasks = mqjudge_tasks(given.mqjudge.absolute())
     with tempfile.TemporaryDirectory(prefix="mqjudge-bench-") as name:
         folder = Path(name)
