@@ -1,0 +1,729 @@
+"""Puts the network connections of MQTT 5.0 clients together into logs, one for each session and tested end.
+
+A recorder (a proxy, a library inside a program, a reader of captures) tells a `Recorder` what it sees of each
+connection, in the order in which it sees it: that it opens, what the client sent, what the server sent, that it
+closed. The `Recorder` finds out whose connection it is, and writes it to the log of that Client Identifier
+(docs/LOG_FORMAT.md): as the client's log, the server's, or both. It looks at the few packets that it needs for this
+(CONNECT, CONNACK, DISCONNECT), and writes all bytes as they came.
+
+What a peer sends never makes it fail. Where a log can't be written, recording stops with one line, and nothing is
+raised. It isn't made for several threads at once: those who have them hold a lock around each call.
+"""
+from __future__ import annotations
+
+import functools
+import hashlib
+import os
+import sys
+import time
+from collections import OrderedDict
+from collections.abc import Callable, Hashable
+from dataclasses import dataclass, field
+from enum import Enum, IntEnum
+from pathlib import Path
+from typing import Concatenate, ParamSpec
+
+RECORD_MOST = 1_048_576  # bytes of a record's body
+KEPT_MOST = 1_048_576  # bytes of a connection that are kept until it is known whose they are
+KEPT_MOST_IN_ALL = 64 * KEPT_MOST
+KEPT_PRICE = 64  # bytes that keeping an item costs by itself
+WAITING_MOST = 16  # refused connections of a Client Identifier that wait for the end of the one that is open
+KNOWN_MOST = 100_000  # Client Identifiers that are remembered while they have no connection
+NAME_MOST = 80  # characters of a Client Identifier in a file's name
+UNNAMED = "@unnamed"  # no Client Identifier is spelled so in a file's name
+
+CONNECT, CONNACK, DISCONNECT = 1, 2, 14
+FIXED_FLAGS = {6: 2, 8: 2, 10: 2}  # PUBREL, SUBSCRIBE and UNSUBSCRIBE; the others but PUBLISH have 0
+PUBLISH = 3
+ASSIGNED_CLIENT_IDENTIFIER, USER_PROPERTY, SUBSCRIPTION_IDENTIFIER = 0x12, 0x26, 0x0B
+PROPERTY_SIZES = (
+    dict.fromkeys((0x01, 0x17, 0x19, 0x24, 0x25, 0x28, 0x29, 0x2A), 1)
+    | dict.fromkeys((0x13, 0x21, 0x22, 0x23), 2)
+    | dict.fromkeys((0x02, 0x11, 0x18, 0x27), 4)
+)
+
+
+class End(Enum):
+    """The end of a session that a log is about."""
+
+    CLIENT = "client"
+    SERVER = "server"
+
+
+class Kind(IntEnum):
+    """What is told of a connection. Bytes are the client's or the server's here; a log says SENT or RECV of them."""
+
+    OPEN = 1
+    FROM_CLIENT = 2
+    FROM_SERVER = 3
+    CLOSE = 4
+    REST = 5
+    RELEASE = 6
+
+
+SENT, RECV = 2, 3
+Item = tuple[Kind, bytes]
+
+
+# ---- packets: as little of them as is needed
+
+
+@dataclass(frozen=True)
+class Connect:
+    """A CONNECT. The Client Identifier is None where it couldn't be read."""
+
+    protocol: bytes
+    version: int
+    clean_start: bool
+    identifier: bytes | None
+
+
+@dataclass(frozen=True)
+class Connack:
+    """A CONNACK."""
+
+    reason: int
+    session_present: bool
+    assigned: bytes | None
+
+
+class Fields:
+    """Reads fields one after the other, and raises IndexError where there are too few bytes."""
+
+    def __init__(self, data: bytes) -> None:
+        self.data, self.at = data, 0
+
+    def take(self, count: int) -> bytes:
+        piece = self.data[self.at : self.at + count]
+        if len(piece) < count:
+            raise IndexError("the packet ends before the field does")
+        self.at += count
+        return piece
+
+    def number(self, size: int) -> int:
+        return int.from_bytes(self.take(size), "big")
+
+    def varint(self) -> int:
+        value = 0
+        for place in range(4):
+            byte = self.number(1)
+            value |= (byte & 0x7F) << (7 * place)
+            if byte < 0x80:
+                return value
+        raise IndexError("a variable byte integer has more than four bytes")
+
+    def text(self) -> bytes:
+        return self.take(self.number(2))
+
+
+def read_connect(body: bytes) -> Connect | None:
+    """The CONNECT with this body, as far as it can be read; None where not even its version can be."""
+    fields = Fields(body)
+    try:
+        protocol, version, flags = fields.text(), fields.number(1), fields.number(1)
+    except IndexError:
+        return None
+    identifier = None
+    try:
+        fields.number(2)  # Keep Alive
+        if version == 5:
+            fields.take(fields.varint())  # properties
+        identifier = fields.text()
+    except IndexError:
+        pass
+    return Connect(protocol, version, bool(flags & 2), identifier)
+
+
+def read_connack(body: bytes) -> Connack | None:
+    """The CONNACK with this body, as far as it can be read; None where not even its Reason Code can be."""
+    if len(body) < 2:
+        return None
+    return Connack(body[1], bool(body[0] & 1), assigned_identifier(body[2:]))
+
+
+def assigned_identifier(properties: bytes) -> bytes | None:
+    """The Assigned Client Identifier in a property list, if there is one before anything that can't be read."""
+    fields = Fields(properties)
+    try:
+        fields = Fields(fields.take(fields.varint()))
+        while fields.at < len(fields.data):
+            identifier = fields.varint()
+            if identifier in PROPERTY_SIZES:
+                fields.take(PROPERTY_SIZES[identifier])
+            elif identifier == SUBSCRIPTION_IDENTIFIER:
+                fields.varint()
+            else:
+                value = fields.text()
+                if identifier == ASSIGNED_CLIENT_IDENTIFIER:
+                    return value
+                if identifier == USER_PROPERTY:
+                    fields.text()
+    except IndexError:
+        pass
+    return None
+
+
+class Framer:
+    """Cuts one direction of a connection into Control Packets, and keeps the bodies of one type, but for long ones."""
+
+    def __init__(self, wanted: int) -> None:
+        self.wanted = wanted
+        self.is_sound = True  # so far each packet could be cut, and has the flags of its type
+        self.is_lost = False
+        self._header = bytearray()
+        self._missing = 0  # bytes of the body that haven't come yet
+        self._body: bytearray | None = None
+
+    @property
+    def is_between(self) -> bool:
+        """No packet has begun and isn't whole yet."""
+        return not self._header and not self._missing
+
+    def feed(self, data: bytes) -> list[tuple[int, bytes | None]]:
+        """The packets that these bytes end: the type of each, and its body if it is wanted and short enough."""
+        packets, at = [], 0
+        while at < len(data) and not self.is_lost:
+            if self._missing:
+                piece = data[at : at + self._missing]
+                at += len(piece)
+                self._missing -= len(piece)
+                if self._body is not None:
+                    self._body += piece
+            else:
+                self._header.append(data[at])
+                at += 1
+                self._begin()
+            if self._header and self._is_whole():
+                packets.append((self._header[0] >> 4, None if self._body is None else bytes(self._body)))
+                self._header.clear()
+                self._body = None
+        return packets
+
+    def _is_whole(self) -> bool:
+        return len(self._header) > 1 and self._header[-1] < 0x80 and not self._missing
+
+    def _begin(self) -> None:
+        """Takes in one more byte of a fixed header."""
+        first, length = self._header[0], self._header[1:]
+        if not length:
+            kind = first >> 4
+            is_right = first & 6 != 6 if kind == PUBLISH else kind != 0 and first & 15 == FIXED_FLAGS.get(kind, 0)
+            if not is_right:
+                self.is_sound = False
+        elif length[-1] < 0x80:
+            if len(length) > 1 and length[-1] == 0:
+                self._lose()
+                return
+            self._missing = sum((byte & 0x7F) << (7 * place) for place, byte in enumerate(length))
+            is_kept = first >> 4 == self.wanted and self._missing <= KEPT_MOST
+            self._body = bytearray() if is_kept else None
+        elif len(length) == 4:
+            self._lose()
+
+    def _lose(self) -> None:
+        self.is_lost, self.is_sound = True, False
+        self._header.clear()
+
+
+# ---- files
+
+
+def file_name(identifier: bytes) -> str:
+    """A Client Identifier as part of a file's name.
+
+    Letters, digits, `-` and `_` stand for themselves, other bytes as `%XX`. What is too long is cut, and has a hash
+    instead. Two Client Identifiers don't get the same name.
+    """
+    plain = b"ABCDEFGHIJKLMNOPQRSTUVWXYZabcdefghijklmnopqrstuvwxyz0123456789-_"
+    name = "".join(chr(byte) if byte in plain else f"%{byte:02X}" for byte in identifier)
+    if len(name) <= NAME_MOST:
+        return name
+    return f"{name[:NAME_MOST]}~{hashlib.sha256(identifier).hexdigest()[:32]}"
+
+
+def log_header(end: End, releases: bool) -> bytes:
+    return b"MQTR" + bytes((1, int(end is End.SERVER), int(releases), 0))
+
+
+class LogFile:
+    """A log on the disk. Each record is written whole by one call; what a failed one left of it is taken back."""
+
+    def __init__(self, folder: Path, name: str, end: End, releases: bool) -> None:
+        """Makes a file of a new name: none that is there is ever written over."""
+        self.end = end
+        self._file = -1
+        self.path = self._create(folder, name)
+        self._size = 0
+        try:
+            self._write(log_header(end, releases))
+        except OSError:
+            self.path.unlink(missing_ok=True)
+            raise
+
+    def _create(self, folder: Path, name: str) -> Path:
+        number = 1
+        while True:
+            path = folder / f"{name}.{number}.{self.end.value}.log"
+            try:
+                self._file = os.open(path, os.O_WRONLY | os.O_CREAT | os.O_EXCL | os.O_CLOEXEC, 0o644)
+                return path
+            except FileExistsError:
+                number += 1
+
+    def write(self, item: Item) -> None:
+        """Appends an item as a record, or as several if it has more bytes than a record may have."""
+        kind, data = item
+        if kind in (Kind.FROM_CLIENT, Kind.FROM_SERVER):
+            is_sent = (kind is Kind.FROM_CLIENT) == (self.end is End.CLIENT)
+            kind_byte = SENT if is_sent else RECV
+            for at in range(0, len(data), RECORD_MOST):
+                self._record(kind_byte, data[at : at + RECORD_MOST])
+        else:
+            self._record(kind, data)
+
+    def pause(self) -> None:
+        """Gives the file back to the system until there is more to write."""
+        if self._file >= 0:
+            os.close(self._file)
+            self._file = -1
+
+    def _record(self, kind: int, body: bytes) -> None:
+        self._write(bytes((kind,)) + len(body).to_bytes(4, "big") + body)
+
+    def _write(self, data: bytes) -> None:
+        if self._file < 0:
+            self._file = os.open(self.path, os.O_WRONLY | os.O_APPEND | os.O_CLOEXEC)
+        try:
+            if os.write(self._file, data) != len(data):
+                raise OSError("the disk took only a part of a record")
+        except OSError:
+            os.ftruncate(self._file, self._size)
+            raise
+        self._size += len(data)
+
+
+# ---- connections and sessions
+
+
+@dataclass(eq=False)
+class Connection:
+    """A network connection, and what was learnt of it."""
+
+    client: Framer = field(default_factory=lambda: Framer(CONNECT))
+    server: Framer = field(default_factory=lambda: Framer(CONNACK))
+    kept: list[Item] = field(default_factory=list)  # until it is known to which log they belong
+    kept_bytes: int = 0
+    log: SessionLog | None = None
+    name: str | None = None  # of its Client Identifier
+    connect: Connect | None = None
+    connack: Connack | None = None
+    is_answered: bool = False  # a CONNACK came
+    is_left_out: bool = False
+    is_waiting: bool = False  # refused, while another connection of its Client Identifier is open
+    is_over: bool = False
+    has_disconnect: bool = False
+    has_rest: bool = False  # since its last byte
+    stirred_at: float = 0.0
+
+    @property
+    def is_accepted(self) -> bool:
+        return self.connack is not None and self.connack.reason == 0
+
+    @property
+    def is_unanswered(self) -> bool:
+        """It has a CONNECT and no CONNACK: where it ends so, the server may have accepted it."""
+        return self.connect is not None and not self.is_answered
+
+    @property
+    def may_rest(self) -> bool:
+        """A REST can be written. Where in doubt, none is."""
+        is_sound = self.client.is_sound and self.server.is_sound
+        return self.log is not None and self.is_accepted and is_sound and not self.has_disconnect and not self.has_rest
+
+    @property
+    def is_between_packets(self) -> bool:
+        return self.client.is_between and self.server.is_between
+
+
+@dataclass(eq=False)
+class SessionLog:
+    """The logs of one session, one for each tested end."""
+
+    files: list[LogFile]
+    current: Connection | None = None  # the one that is open
+    waiting: list[Connection] = field(default_factory=list)
+    may_have_session: bool = False  # a connection was accepted, or ended before its CONNACK came
+    keys: list[Hashable] = field(default_factory=list)  # of connections that are over, where releases are recorded
+
+    def write(self, item: Item) -> None:
+        for file in self.files:
+            file.write(item)
+
+    def pause(self) -> None:
+        for file in self.files:
+            file.pause()
+
+
+Arguments = ParamSpec("Arguments")
+
+
+def guarded(
+    method: Callable[Concatenate[Recorder, Arguments], None]
+) -> Callable[Concatenate[Recorder, Arguments], None]:
+    """A method that raises nothing: where it fails, it stops the recording. It does nothing once that has stopped."""
+
+    @functools.wraps(method)
+    def call(self: Recorder, *args: Arguments.args, **kwargs: Arguments.kwargs) -> None:
+        if self.is_stopped:
+            return
+        try:
+            method(self, *args, **kwargs)
+        except Exception as error:  # whatever it is: what is recorded has to go on
+            self.stop(f"recording stopped: {error}")
+
+    return call
+
+
+def tell_standard_error(line: str) -> None:
+    """Writes a line to standard error, if there is one that takes it."""
+    try:
+        print(line, file=sys.stderr, flush=True)
+    except (OSError, ValueError, AttributeError):
+        pass
+
+
+class Recorder:
+    """Puts connections together into logs.
+
+    Each connection has a key, which is the recorder's own. What is told of a key that isn't open is passed over. With
+    two ends both logs have the same order; a recorder that sees the ends in different orders takes a `Recorder` for
+    each.
+
+    `rest_after` is the number of seconds after which silence means that the end is at rest: `tick` is to be called from
+    time to time then. Without it only `rested` makes a REST. `releases` says that each release is told by `released`.
+    `from_start` says that no end had a session before the recording. Without it a session that is resumed, though its
+    beginning wasn't recorded, is left out: judged alone, it would have faults that are none.
+    """
+
+    def __init__(
+        self,
+        folder: Path,
+        ends: frozenset[End],
+        rest_after: float | None,
+        releases: bool = False,
+        clock: Callable[[], float] = time.monotonic,
+        *,
+        from_start: bool = False,
+        tell: Callable[[str], None] = tell_standard_error,
+    ) -> None:
+        self._folder, self._ends, self._rest_after, self._releases = folder, ends, rest_after, releases
+        self._clock, self._from_start, self._tell = clock, from_start, tell
+        self._connections: dict[Hashable, Connection] = {}
+        self._logs: OrderedDict[str, SessionLog] = OrderedDict()  # of each Client Identifier the latest
+        self._released_logs: dict[Hashable, SessionLog] = {}  # of connections that are over
+        self._kept_bytes = 0
+        self.is_stopped = False
+
+    # -- what a recorder tells
+
+    @guarded
+    def opened(self, key: Hashable) -> None:
+        """A network connection begins."""
+        if key in self._connections:
+            self.closed(key)
+        connection = Connection(stirred_at=self._clock())
+        self._connections[key] = connection
+        self._put(connection, (Kind.OPEN, b""))
+
+    @guarded
+    def from_client(self, key: Hashable, data: bytes) -> None:
+        """The client sent these bytes."""
+        self._bytes(key, Kind.FROM_CLIENT, data)
+
+    @guarded
+    def from_server(self, key: Hashable, data: bytes) -> None:
+        """The server sent these bytes."""
+        self._bytes(key, Kind.FROM_SERVER, data)
+
+    @guarded
+    def closed(self, key: Hashable) -> None:
+        """The connection ended."""
+        connection = self._connections.pop(key, None)
+        if connection is None or connection.is_left_out:
+            return
+        self._end(connection)
+        if self._releases and connection.log is not None:
+            self._released_logs[key] = connection.log
+            connection.log.keys.append(key)
+
+    @guarded
+    def released(self, key: Hashable, identifier: int) -> None:
+        """The tested end released the QoS 2 message of this Packet Identifier; only where releases are recorded."""
+        item = (Kind.RELEASE, (identifier & 0xFFFF).to_bytes(2, "big"))
+        if not self._releases:
+            return
+        if (connection := self._connections.get(key)) is not None:
+            self._put(connection, item)
+            self._check_kept(connection)
+        elif (log := self._released_logs.get(key)) is not None:
+            log.write(item)
+
+    @guarded
+    def rested(self, key: Hashable) -> None:
+        """The tested end is at rest: this is known, not guessed. For a `Recorder` with one end."""
+        if (connection := self._connections.get(key)) is not None and connection.may_rest:
+            self._rest(connection)
+
+    @guarded
+    def stirred(self, key: Hashable) -> None:
+        """Something goes on at this connection that shows no bytes: silence counts from now on."""
+        if (connection := self._connections.get(key)) is not None:
+            connection.stirred_at = self._clock()
+
+    @guarded
+    def missing(self, key: Hashable) -> None:
+        """Bytes of this connection weren't seen: its log ends here, and what goes on of its session is left out.
+
+        A new session of its Client Identifier is recorded again. Where that isn't known yet, the connection may be of any Client
+        Identifier, so all sessions that went before are left out from their next connection on.
+        """
+        connection = self._connections.get(key)
+        if connection is None or connection.is_left_out:
+            return
+        name = connection.name or self._name(connection)
+        if name is not None:
+            self._forget(name)
+        elif connection.connect is None:
+            for known in list(self._logs):
+                self._forget(known)
+        if connection.log is not None:
+            connection.log.pause()
+        self._leave_out(connection, f"bytes of {name or UNNAMED} weren't seen")
+
+    @guarded
+    def tick(self) -> None:
+        """Writes a REST on each connection that has been silent for long enough."""
+        if self._rest_after is None:
+            return
+        silent_since = self._clock() - self._rest_after
+        for connection in self._connections.values():
+            if connection.stirred_at <= silent_since and connection.may_rest and connection.is_between_packets:
+                self._rest(connection)
+
+    @guarded
+    def finish(self) -> None:
+        """Writes what is still kept, and closes the files. A connection that is open stays so in its log."""
+        for connection in self._connections.values():
+            if connection.log is None and not connection.is_left_out and not connection.is_waiting:
+                self._place(connection)
+        self.stop()
+
+    def stop(self, line: str = "") -> None:
+        """Ends the recording as it stands; what is told from now on is passed over."""
+        self.is_stopped = True
+        logs = [c.log for c in self._connections.values() if c.log is not None]
+        self._connections.clear()
+        for log in logs:
+            try:
+                log.pause()
+            except OSError as error:
+                line = line or f"a log can't be closed: {error}"
+        if line:
+            self._tell(line)
+
+    # -- bytes
+
+    def _bytes(self, key: Hashable, kind: Kind, data: bytes) -> None:
+        connection = self._connections.get(key)
+        if connection is None or connection.is_left_out or not data:
+            return
+        data = bytes(data)
+        connection.stirred_at, connection.has_rest = self._clock(), False
+        self._put(connection, (kind, data))
+        framer = connection.client if kind is Kind.FROM_CLIENT else connection.server
+        for packet, body in framer.feed(data):
+            self._look(connection, kind, packet, body)
+        self._check_kept(connection)
+
+    def _look(self, connection: Connection, kind: Kind, packet: int, body: bytes | None) -> None:
+        """Learns from a packet."""
+        if packet == DISCONNECT:
+            connection.has_disconnect = True
+        elif packet == CONNECT and kind is Kind.FROM_CLIENT and connection.connect is None:
+            connection.connect = read_connect(body or b"")
+            self._check_version(connection)
+        elif packet == CONNACK and kind is Kind.FROM_SERVER and not connection.is_answered:
+            connection.is_answered, connection.connack = True, read_connack(body or b"")
+            if connection.log is None and not connection.is_left_out:
+                self._place(connection)
+
+    def _check_version(self, connection: Connection) -> None:
+        connect = connection.connect
+        if connect is not None and connect.version != 5:
+            who = file_name(connect.identifier or b"") or UNNAMED
+            self._leave_out(connection, f"{who} speaks {file_name(connect.protocol)} version {connect.version}")
+
+    def _put(self, connection: Connection, item: Item) -> None:
+        """Writes an item to the connection's log, or keeps it until it is known which one that is."""
+        if connection.is_left_out:
+            return
+        if connection.log is not None:
+            connection.log.write(item)
+            return
+        connection.kept.append(item)
+        connection.kept_bytes += len(item[1]) + KEPT_PRICE
+        self._kept_bytes += len(item[1]) + KEPT_PRICE
+
+    def _check_kept(self, connection: Connection) -> None:
+        """Sees to it that not too much is kept of connections of which it isn't known yet where they belong."""
+        if connection.kept_bytes <= KEPT_MOST and self._kept_bytes <= KEPT_MOST_IN_ALL:
+            return
+        if connection.connect is None:
+            self._place(connection)  # it has no Client Identifier, and a log of its own
+            return
+        name = self._name(connection)
+        if name is not None and not connection.is_waiting:
+            self._logs.pop(name, None)  # what comes later wouldn't have this connection before it
+        self._leave_out(connection, f"too much came of {name or UNNAMED} before its place in a log was known")
+
+    # -- where a connection belongs
+
+    def _name(self, connection: Connection) -> str | None:
+        """The name of its Client Identifier: the CONNECT's, or the one that the server assigned."""
+        if connection.connect is None or connection.connect.identifier is None:
+            return None
+        identifier = connection.connect.identifier
+        if not identifier and connection.is_accepted and connection.connack is not None:
+            identifier = connection.connack.assigned or b""
+        return file_name(identifier) if identifier else None
+
+    def _place(self, connection: Connection) -> None:
+        """Finds the log of a connection whose CONNACK has come, or whose CONNACK won't come any more."""
+        name = connection.name = self._name(connection)
+        if name is None:
+            self._begin(connection, self._new_log(UNNAMED))
+            return
+        log = self._logs.get(name)
+        if log is not None:
+            self._logs.move_to_end(name)
+        if connection.is_accepted:
+            self._place_accepted(connection, name, log)
+        elif log is None:
+            self._begin(connection, self._new_log(name))
+        elif log.current is None:
+            self._begin(connection, log)
+        else:
+            self._wait(connection, log)
+        self._forget_some()
+
+    def _place_accepted(self, connection: Connection, name: str, log: SessionLog | None) -> None:
+        assert connection.connect is not None and connection.connack is not None
+        if log is not None and log.current is not None:
+            self._take_over(log)
+        has_begun_before = log is None or not log.may_have_session
+        if not connection.connect.clean_start and connection.connack.session_present and has_begun_before:
+            if not self._from_start:
+                self._logs.pop(name, None)
+                self._leave_out(connection, f"{name} resumes a session that began before the recording")
+                return
+        if log is None or connection.connect.clean_start:
+            log = self._new_log(name)
+        self._begin(connection, log)
+
+    def _new_log(self, name: str) -> SessionLog:
+        ends = sorted(self._ends, key=lambda end: end.value)
+        log = SessionLog([LogFile(self._folder, name, end, self._releases) for end in ends])
+        if name != UNNAMED:
+            self._drop_released(self._logs.get(name))
+            self._logs[name] = log
+            self._logs.move_to_end(name)
+        return log
+
+    def _begin(self, connection: Connection, log: SessionLog) -> None:
+        """Writes what was kept of a connection to its log, where it goes on."""
+        connection.log, connection.is_waiting = log, False
+        log.current = connection
+        if connection.is_accepted or (connection.is_over and connection.is_unanswered):
+            log.may_have_session = True
+        for item in self._take_kept(connection):
+            log.write(item)
+        if connection.is_over:
+            log.current = None
+            log.pause()
+
+    def _take_over(self, log: SessionLog) -> None:
+        """Closes the open connection of a log: another one took its session over. What it still sends is left out."""
+        old = log.current
+        if old is not None:
+            log.write((Kind.CLOSE, b""))
+            old.is_left_out, old.log, log.current = True, None, None
+        self._write_waiting(log)
+        if (waiting := log.current) is not None:
+            log.write((Kind.CLOSE, b""))
+            waiting.is_left_out, waiting.log, log.current = True, None, None
+        log.pause()
+
+    def _wait(self, connection: Connection, log: SessionLog) -> None:
+        """Keeps a connection that took nothing over until the open one is over: connections don't overlap in a log."""
+        if len(log.waiting) >= WAITING_MOST:
+            self._leave_out(connection, f"{connection.name} has more than {WAITING_MOST} connections that were refused")
+            return
+        if not connection.is_waiting:
+            connection.is_waiting = True
+            log.waiting.append(connection)
+
+    def _write_waiting(self, log: SessionLog) -> None:
+        while log.waiting and log.current is None:
+            connection = log.waiting.pop(0)
+            if not connection.is_left_out:
+                self._begin(connection, log)
+
+    def _end(self, connection: Connection) -> None:
+        connection.is_over = True
+        self._put(connection, (Kind.CLOSE, b""))
+        if (log := connection.log) is not None:
+            if connection.is_unanswered:
+                log.may_have_session = True
+            if log.current is connection:
+                log.current = None
+            log.pause()
+            self._write_waiting(log)
+        elif not connection.is_waiting and not connection.is_left_out:
+            self._place(connection)
+
+    def _rest(self, connection: Connection) -> None:
+        connection.has_rest = True
+        self._put(connection, (Kind.REST, b""))
+
+    # -- bounds
+
+    def _take_kept(self, connection: Connection) -> list[Item]:
+        kept, connection.kept = connection.kept, []
+        self._kept_bytes -= connection.kept_bytes
+        connection.kept_bytes = 0
+        return kept
+
+    def _leave_out(self, connection: Connection, why: str) -> None:
+        self._tell(f"not recorded: {why}")
+        connection.is_left_out = True
+        self._take_kept(connection)
+
+    def _forget_some(self) -> None:
+        """Forgets the Client Identifiers that have been without a connection for longest."""
+        for _ in range(max(0, len(self._logs) - KNOWN_MOST)):
+            name, log = self._logs.popitem(last=False)
+            if log.current is not None:
+                self._logs[name] = log
+            else:
+                self._drop_released(log)
+
+    def _forget(self, name: str) -> None:
+        """Forgets a Client Identifier. Its log goes on while the connection that is open does, and no longer."""
+        log = self._logs.pop(name, None)
+        self._drop_released(log)
+        for connection in log.waiting if log is not None else ():
+            self._leave_out(connection, f"a refused connection of {name}")
+
+    def _drop_released(self, log: SessionLog | None) -> None:
+        for key in log.keys if log is not None else ():
+            self._released_logs.pop(key, None)

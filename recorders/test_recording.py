@@ -1,0 +1,526 @@
+#!/usr/bin/env python3
+"""Tests of recording.py: which logs come of which connections.
+
+usage: recorders/test_recording.py
+"""
+from __future__ import annotations
+
+import os
+import sys
+import tempfile
+import unittest
+from pathlib import Path
+from unittest import mock
+
+sys.dont_write_bytecode = True  # the repository stays as it is
+sys.path.insert(0, str(Path(__file__).resolve().parent))
+import recording
+from recording import End, Framer, Recorder, file_name
+
+NAMES = {1: "OPEN", 2: "SENT", 3: "RECV", 4: "CLOSE", 5: "REST", 6: "RELEASE"}
+BOTH = frozenset(End)
+
+
+def text(value: bytes) -> bytes:
+    return len(value).to_bytes(2, "big") + value
+
+
+def packet(first: int, body: bytes) -> bytes:
+    length, rest = bytearray(), len(body)
+    while True:
+        rest, low = rest >> 7, rest & 0x7F
+        length.append(low | (0x80 if rest else 0))
+        if not rest:
+            return bytes((first,)) + bytes(length) + body
+
+
+def connect(identifier: bytes, clean_start: bool = True, version: int = 5, protocol: bytes = b"MQTT") -> bytes:
+    properties = b"\0" if version == 5 else b""
+    flags = 2 if clean_start else 0
+    return packet(0x10, text(protocol) + bytes((version, flags, 0, 60)) + properties + text(identifier))
+
+
+def connack(reason: int = 0, present: bool = False, properties: bytes = b"") -> bytes:
+    return packet(0x20, bytes((int(present), reason, len(properties))) + properties)
+
+
+PINGREQ, PINGRESP = bytes.fromhex("C000"), bytes.fromhex("D000")
+CLIENT_DISCONNECT, TAKEN_OVER = bytes.fromhex("E000"), bytes.fromhex("E0028E00")
+
+
+def records(log: bytes) -> list[str]:
+    """The records of a log as words: SENT and RECV with their bodies in hexadecimal digits."""
+    words, at = [], 8
+    while at < len(log):
+        size = int.from_bytes(log[at + 1 : at + 5], "big")
+        body = log[at + 5 : at + 5 + size]
+        assert len(body) == size
+        words.append(NAMES[log[at]] + (f" {body.hex()}" if body else ""))
+        at += 5 + size
+    return words
+
+
+class Case(unittest.TestCase):
+    def setUp(self) -> None:
+        folder = tempfile.TemporaryDirectory()
+        self.addCleanup(folder.cleanup)
+        self.folder = Path(folder.name)
+        self.now = 0.0
+        self.told: list[str] = []
+
+    def recorder(self, *ends: End, **options: object) -> Recorder:
+        wanted = {"rest_after": None, "clock": lambda: self.now, "tell": self.told.append} | options
+        return Recorder(self.folder, frozenset(ends) or frozenset({End.CLIENT}), **wanted)
+
+    def logs(self) -> dict[str, list[str]]:
+        return {path.name: records(path.read_bytes()) for path in sorted(self.folder.iterdir())}
+
+    def log(self, name: str) -> list[str]:
+        return records((self.folder / name).read_bytes())
+
+    def accept(
+        self, recorder: Recorder, key: object, identifier: bytes, clean_start: bool = True, present: bool = False
+    ) -> None:
+        recorder.opened(key)
+        recorder.from_client(key, connect(identifier, clean_start))
+        recorder.from_server(key, connack(0, present))
+
+
+def opening(identifier: bytes, clean_start: bool = True, present: bool = False) -> list[str]:
+    """The first records of an accepted connection in its client's log."""
+    return ["OPEN", f"SENT {connect(identifier, clean_start).hex()}", f"RECV {connack(0, present).hex()}"]
+
+
+class Sessions(Case):
+    def test_one_connection_gives_a_log_for_each_end(self) -> None:
+        recorder = self.recorder(*BOTH)
+        self.accept(recorder, 1, b"a")
+        recorder.from_client(1, PINGREQ)
+        recorder.from_server(1, PINGRESP)
+        recorder.closed(1)
+        client = [*opening(b"a"), "SENT c000", "RECV d000", "CLOSE"]
+        swapped = [word.replace("SENT", "-").replace("RECV", "SENT").replace("-", "RECV") for word in client]
+        self.assertEqual(self.logs(), {"a.1.client.log": client, "a.1.server.log": swapped})
+        self.assertEqual((self.folder / "a.1.client.log").read_bytes()[:8].hex(), "4d51545201000000")
+        self.assertEqual((self.folder / "a.1.server.log").read_bytes()[:8].hex(), "4d51545201010000")
+
+    def test_a_resumed_session_goes_on_and_a_clean_start_begins_a_log(self) -> None:
+        recorder = self.recorder()
+        for key, (clean_start, present) in enumerate(((True, False), (False, True), (False, False), (True, False))):
+            self.accept(recorder, key, b"a", clean_start, present)
+            recorder.closed(key)
+        first = [*opening(b"a"), "CLOSE", *opening(b"a", False, True), "CLOSE", *opening(b"a", False), "CLOSE"]
+        self.assertEqual(self.logs(), {"a.1.client.log": first, "a.2.client.log": [*opening(b"a"), "CLOSE"]})
+
+    def test_a_refused_clean_start_stays_in_the_log(self) -> None:
+        recorder = self.recorder()
+        self.accept(recorder, 1, b"a")
+        recorder.closed(1)
+        recorder.opened(2)
+        recorder.from_client(2, connect(b"a"))
+        recorder.from_server(2, connack(0x87))
+        recorder.closed(2)
+        self.accept(recorder, 3, b"a", False, True)
+        refused = ["OPEN", f"SENT {connect(b'a').hex()}", f"RECV {connack(0x87).hex()}", "CLOSE"]
+        words = [*opening(b"a"), "CLOSE", *refused, *opening(b"a", False, True)]
+        self.assertEqual(self.logs(), {"a.1.client.log": words})
+
+    def test_a_connection_without_a_connack_stays_in_the_log(self) -> None:
+        recorder = self.recorder()
+        recorder.opened(1)
+        recorder.from_client(1, connect(b"a", False))
+        recorder.closed(1)
+        self.accept(recorder, 2, b"a", False, True)  # the server may have accepted the first one
+        unanswered = ["OPEN", f"SENT {connect(b'a', False).hex()}", "CLOSE"]
+        self.assertEqual(self.logs(), {"a.1.client.log": [*unanswered, *opening(b"a", False, True)]})
+        self.assertEqual(self.told, [])
+
+    def test_a_session_from_before_the_recording_is_left_out(self) -> None:
+        recorder = self.recorder()
+        self.accept(recorder, 1, b"a", False, True)
+        recorder.closed(1)
+        self.accept(recorder, 2, b"a", False, True)
+        recorder.closed(2)
+        self.assertEqual(self.logs(), {})
+        self.assertEqual(self.told, ["not recorded: a resumes a session that began before the recording"] * 2)
+        self.accept(recorder, 3, b"a", False, False)
+        self.accept(recorder, 4, b"a", False, True)
+        self.assertEqual(self.logs(), {"a.1.client.log": [*opening(b"a", False), "CLOSE", *opening(b"a", False, True)]})
+
+    def test_it_is_recorded_where_there_was_nothing_before(self) -> None:
+        self.accept(self.recorder(from_start=True), 1, b"a", False, True)
+        self.assertEqual(self.logs(), {"a.1.client.log": opening(b"a", False, True)})
+
+    def test_an_empty_client_identifier_takes_the_assigned_one(self) -> None:
+        recorder = self.recorder()
+        assigned = b"\x21\0\x05\x26" + text(b"k") + text(b"v") + b"\x12" + text(b"auto/1")
+        recorder.opened(1)
+        recorder.from_client(1, connect(b""))
+        recorder.from_server(1, connack(properties=assigned))
+        recorder.closed(1)
+        self.accept(recorder, 2, b"auto/1", False, True)
+        first = ["OPEN", f"SENT {connect(b'').hex()}", f"RECV {connack(properties=assigned).hex()}", "CLOSE"]
+        self.assertEqual(self.logs(), {"auto%2F1.1.client.log": [*first, *opening(b"auto/1", False, True)]})
+
+    def test_no_client_identifier_gives_a_log_of_its_own(self) -> None:
+        recorder = self.recorder(End.SERVER)
+        sent = (b"GET / HTTP/1.1\r\n\r\n", connect(b""), PINGREQ)
+        for key, data in enumerate(sent):
+            recorder.opened(key)
+            recorder.from_client(key, data)
+            recorder.closed(key)
+        wanted = [["OPEN", f"RECV {data.hex()}", "CLOSE"] for data in sent]
+        self.assertEqual([*self.logs().values()], wanted)
+        self.assertEqual([*self.logs()], [f"@unnamed.{number}.server.log" for number in (1, 2, 3)])
+
+    def test_other_versions_are_told_and_not_recorded(self) -> None:
+        recorder = self.recorder()
+        for key, (protocol, version) in enumerate(((b"MQTT", 4), (b"MQIsdp", 3), (b"MQTT", 0x84))):
+            recorder.opened(key)
+            recorder.from_client(key, connect(b"o\nld", True, version, protocol))
+            recorder.from_server(key, bytes.fromhex("20020000"))
+            recorder.closed(key)
+        self.assertEqual(self.logs(), {})
+        self.assertEqual(self.told[0], "not recorded: o%0Ald speaks MQTT version 4")
+        self.assertEqual(len(self.told), 3)
+
+    def test_earlier_files_are_never_written_over(self) -> None:
+        (self.folder / "a.1.client.log").write_bytes(b"kept")
+        self.accept(self.recorder(), 1, b"a")
+        self.assertEqual((self.folder / "a.1.client.log").read_bytes(), b"kept")
+        self.assertEqual(self.log("a.2.client.log"), opening(b"a"))
+
+    def test_bytes_are_kept_as_they_come(self) -> None:
+        recorder = self.recorder()
+        recorder.opened(1)
+        for byte in connect(b"a"):
+            recorder.from_client(1, bytes((byte,)))
+        recorder.from_server(1, connack() + PINGRESP)
+        wanted = ["OPEN", *(f"SENT {byte:02x}" for byte in connect(b"a")), f"RECV {(connack() + PINGRESP).hex()}"]
+        self.assertEqual(self.logs(), {"a.1.client.log": wanted})
+
+
+class Takeover(Case):
+    def test_the_old_connection_is_closed_first_and_what_it_still_sends_is_left_out(self) -> None:
+        recorder = self.recorder(End.SERVER)
+        self.accept(recorder, 1, b"a", False)
+        recorder.opened(2)
+        recorder.from_client(2, connect(b"a", False))
+        recorder.from_server(1, TAKEN_OVER)
+        recorder.from_server(2, connack(0, True))
+        recorder.from_client(1, PINGREQ)
+        recorder.closed(1)
+        recorder.from_client(2, PINGREQ)
+        words = self.log("a.1.server.log")
+        self.assertEqual([word.split()[0] for word in words], "OPEN RECV SENT SENT CLOSE OPEN RECV SENT RECV".split())
+        self.assertEqual(words[3], f"SENT {TAKEN_OVER.hex()}")
+
+    def test_a_clean_start_takes_over_into_a_new_log(self) -> None:
+        recorder = self.recorder()
+        self.accept(recorder, 1, b"a")
+        self.accept(recorder, 2, b"a")
+        recorder.from_client(1, PINGREQ)
+        recorder.from_client(2, PINGREQ)
+        self.assertEqual(
+            self.logs(), {"a.1.client.log": [*opening(b"a"), "CLOSE"], "a.2.client.log": [*opening(b"a"), "SENT c000"]}
+        )
+
+    def test_a_refused_connection_takes_nothing_over(self) -> None:
+        recorder = self.recorder()
+        self.accept(recorder, 1, b"a", False)
+        recorder.opened(2)
+        recorder.from_client(2, connect(b"a", False))
+        recorder.from_server(2, connack(0x97))
+        recorder.from_client(1, PINGREQ)
+        recorder.closed(2)
+        recorder.closed(1)
+        refused = ["OPEN", f"SENT {connect(b'a', False).hex()}", f"RECV {connack(0x97).hex()}", "CLOSE"]
+        self.assertEqual(self.logs(), {"a.1.client.log": [*opening(b"a", False), "SENT c000", "CLOSE", *refused]})
+
+    def test_a_refused_connection_that_stays_open_is_closed_by_a_takeover(self) -> None:
+        recorder = self.recorder()
+        self.accept(recorder, 1, b"a", False)
+        recorder.opened(2)
+        recorder.from_client(2, connect(b"a", False))
+        recorder.from_server(2, connack(0x97))
+        self.accept(recorder, 3, b"a", False, True)
+        recorder.from_client(2, PINGREQ)
+        recorder.closed(2)
+        words = self.log("a.1.client.log")
+        closed = ["OPEN", "SENT", "RECV", "CLOSE"]
+        self.assertEqual([word.split()[0] for word in words], [*closed, *closed, *closed[:3]])
+
+    def test_many_refused_connections_are_bounded(self) -> None:
+        recorder = self.recorder()
+        self.accept(recorder, 0, b"a", False)
+        for key in range(1, 40):
+            recorder.opened(key)
+            recorder.from_client(key, connect(b"a", False))
+            recorder.closed(key)
+        recorder.closed(0)
+        self.assertEqual(self.log("a.1.client.log").count("OPEN"), 1 + recording.WAITING_MOST)
+
+
+class Missing(Case):
+    def test_the_log_ends_and_the_session_is_left_out(self) -> None:
+        recorder = self.recorder()
+        self.accept(recorder, 1, b"a")
+        self.accept(recorder, 2, b"b")
+        recorder.missing(1)
+        recorder.from_client(1, PINGREQ)
+        recorder.closed(1)
+        self.accept(recorder, 3, b"a", False, True)
+        recorder.closed(3)
+        self.accept(recorder, 4, b"a", False, False)
+        self.accept(recorder, 5, b"b", False, True)
+        self.assertEqual(
+            self.logs(),
+            {
+                "a.1.client.log": opening(b"a"),
+                "a.2.client.log": opening(b"a", False),
+                "b.1.client.log": [*opening(b"b"), "CLOSE", *opening(b"b", False, True)],
+            },
+        )
+        self.assertEqual(
+            self.told,
+            ["not recorded: bytes of a weren't seen", "not recorded: a resumes a session that began before the recording"],
+        )
+
+    def test_before_the_connack_it_is_the_connect_that_names_the_session(self) -> None:
+        recorder = self.recorder()
+        self.accept(recorder, 1, b"a")
+        recorder.closed(1)
+        recorder.opened(2)
+        recorder.from_client(2, connect(b"a", False))
+        recorder.missing(2)
+        self.accept(recorder, 3, b"a", False, True)
+        self.assertEqual(self.logs(), {"a.1.client.log": [*opening(b"a"), "CLOSE"]})
+
+    def test_before_the_connect_it_may_be_any(self) -> None:
+        recorder = self.recorder()
+        self.accept(recorder, 1, b"a")
+        self.accept(recorder, 2, b"b")
+        recorder.closed(1)
+        recorder.opened(3)
+        recorder.missing(3)
+        recorder.from_client(2, PINGREQ)
+        recorder.closed(2)
+        self.accept(recorder, 4, b"a", False, True)
+        self.accept(recorder, 5, b"b", False, True)
+        self.accept(recorder, 6, b"c")
+        self.assertEqual(
+            self.logs(),
+            {
+                "a.1.client.log": [*opening(b"a"), "CLOSE"],
+                "b.1.client.log": [*opening(b"b"), "SENT c000", "CLOSE"],
+                "c.1.client.log": opening(b"c"),
+            },
+        )
+
+    def test_refused_connections_that_wait_are_left_out(self) -> None:
+        recorder = self.recorder()
+        self.accept(recorder, 1, b"a", False)
+        recorder.opened(2)
+        recorder.from_client(2, connect(b"a", False))
+        recorder.from_server(2, connack(0x97))
+        recorder.missing(1)
+        recorder.closed(2)
+        recorder.closed(1)
+        self.assertEqual(self.logs(), {"a.1.client.log": opening(b"a", False)})
+        self.assertEqual(recorder._kept_bytes, 0)
+
+
+class Rest(Case):
+    def silent(self, recorder: Recorder) -> None:
+        self.now += 5
+        recorder.tick()
+        recorder.tick()
+
+    def test_one_rest_a_silence(self) -> None:
+        recorder = self.recorder(rest_after=5.0)
+        self.accept(recorder, 1, b"a")
+        self.now = 4
+        recorder.tick()
+        self.silent(recorder)
+        self.silent(recorder)
+        recorder.from_client(1, PINGREQ)
+        self.silent(recorder)
+        self.assertEqual(self.log("a.1.client.log"), [*opening(b"a"), "REST", "SENT c000", "REST"])
+
+    def test_none_before_the_connack_or_after_a_refusal(self) -> None:
+        recorder = self.recorder(rest_after=5.0)
+        recorder.opened(1)
+        self.silent(recorder)
+        recorder.from_client(1, connect(b"a"))
+        self.silent(recorder)
+        recorder.from_server(1, connack(0x80))
+        self.silent(recorder)
+        recorder.rested(1)
+        self.assertNotIn("REST", self.log("a.1.client.log"))
+
+    def test_none_after_what_leaves_a_doubt(self) -> None:
+        odd = ("c0ffffffff", "c0", "3680", "3600", "c100", "0000")  # lost, half a packet, QoS 3, wrong flags, no type
+        for number, sent in enumerate((CLIENT_DISCONNECT, *map(bytes.fromhex, odd))):
+            for tell in (Recorder.from_client, Recorder.from_server):
+                with self.subTest(sent=sent.hex(), tell=tell.__name__):
+                    recorder = self.recorder(rest_after=5.0)
+                    name = f"{tell.__name__}{number}"
+                    self.accept(recorder, 1, name.encode())
+                    tell(recorder, 1, sent)
+                    self.silent(recorder)
+                    self.assertNotIn("REST", self.log(f"{name}.1.client.log"))
+
+    def test_stirring_puts_it_off(self) -> None:
+        recorder = self.recorder(rest_after=5.0)
+        self.accept(recorder, 1, b"a")
+        self.now = 4
+        recorder.stirred(1)
+        self.now = 8
+        recorder.tick()
+        self.assertEqual(self.log("a.1.client.log"), opening(b"a"))
+
+    def test_none_by_silence_where_none_is_asked_for(self) -> None:
+        recorder = self.recorder()
+        self.accept(recorder, 1, b"a")
+        self.silent(recorder)
+        self.assertEqual(self.log("a.1.client.log"), opening(b"a"))
+        recorder.rested(1)
+        self.assertEqual(self.log("a.1.client.log"), [*opening(b"a"), "REST"])
+
+
+class Releases(Case):
+    def test_they_stand_where_they_happen_also_after_the_close(self) -> None:
+        recorder = self.recorder(releases=True)
+        self.accept(recorder, 1, b"a")
+        recorder.released(1, 7)
+        recorder.closed(1)
+        recorder.released(1, 258)
+        self.assertEqual(self.log("a.1.client.log"), [*opening(b"a"), "RELEASE 0007", "CLOSE", "RELEASE 0102"])
+        self.assertEqual((self.folder / "a.1.client.log").read_bytes()[:8].hex(), "4d51545201000100")
+
+    def test_a_new_session_has_none_of_the_old_one(self) -> None:
+        recorder = self.recorder(releases=True)
+        self.accept(recorder, 1, b"a")
+        recorder.closed(1)
+        self.accept(recorder, 2, b"a")
+        recorder.released(1, 7)
+        self.assertEqual(self.log("a.2.client.log"), opening(b"a"))
+        self.assertEqual(self.log("a.1.client.log"), [*opening(b"a"), "CLOSE"])
+
+
+class Safety(Case):
+    def test_client_identifiers_make_no_paths_and_stay_apart(self) -> None:
+        self.assertEqual(file_name(b"../../a b"), "%2E%2E%2F%2E%2E%2Fa%20b")
+        self.assertEqual(file_name("é".encode()), "%C3%A9")
+        long = [file_name(b"x" * 65_000 + bytes((end,))) for end in b"yz"]
+        self.assertNotEqual(long[0], long[1])
+        self.assertLess(max(map(len, long)), 120)
+
+    def test_records_are_cut(self) -> None:
+        recorder = self.recorder()
+        self.accept(recorder, 1, b"a")
+        recorder.from_client(1, bytes(2_500_000))
+        sizes = [len(word.partition(" ")[2]) // 2 for word in self.log("a.1.client.log")[3:]]
+        self.assertEqual(sizes, [1_048_576, 1_048_576, 402_848])
+
+    def test_what_is_kept_is_bounded(self) -> None:
+        recorder = self.recorder(*BOTH)
+        for key in ("no packet", "no connack"):
+            recorder.opened(key)
+            if key == "no connack":
+                recorder.from_client(key, connect(b"a"))
+            for _ in range(40):
+                recorder.from_client(key, b"\x30\xff\xff\xff\x7f" + bytes(65_536))
+        self.assertEqual([*self.logs()], ["@unnamed.1.client.log", "@unnamed.1.server.log"])
+        self.assertGreater((self.folder / "@unnamed.1.client.log").stat().st_size, 40 * 65_536)
+        self.assertEqual(len(self.told), 1)
+
+    def test_a_failed_write_stops_recording_with_one_line(self) -> None:
+        recorder = self.recorder()
+        self.accept(recorder, 1, b"a")
+        self.accept(recorder, 2, b"b")
+
+        def full(file: int, data: bytes) -> int:
+            written = write(file, data[:3])
+            self.assertEqual(written, 3)
+            return written
+
+        write = os.write
+        with mock.patch.object(recording.os, "write", full):
+            recorder.from_client(1, PINGREQ)
+            recorder.from_client(2, PINGREQ)
+        recorder.closed(1)
+        recorder.finish()
+        self.assertEqual(len(self.told), 1, self.told)
+        self.assertIn("recording stopped", self.told[0])
+        self.assertEqual(self.logs(), {"a.1.client.log": opening(b"a"), "b.1.client.log": opening(b"b")})
+
+    def test_a_folder_that_is_not_there_stops_recording(self) -> None:
+        recorder = self.recorder()
+        recorder._folder = self.folder / "none"
+        self.accept(recorder, 1, b"a")
+        self.accept(recorder, 2, b"b")
+        self.assertEqual(len(self.told), 1)
+
+    def test_whatever_comes_nothing_is_raised(self) -> None:
+        whole = connect(b"a") + connack() + PINGREQ + packet(0x30, bytes(300))
+        recorder = self.recorder(*BOTH, rest_after=1.0)
+        for at in range(len(whole)):
+            for byte in (0x00, 0x10, 0x20, 0x7F, 0x80, 0xFF):
+                changed = whole[:at] + bytes((byte,)) + whole[at + 1 :]
+                recorder.opened(at)
+                recorder.from_client(at, changed)
+                recorder.from_server(at, changed[at // 2 :])
+                self.now += 1
+                recorder.tick()
+                recorder.closed(at)
+        self.assertEqual([line for line in self.told if "stopped" in line], [])
+        self.logs()
+
+    def test_unknown_keys_are_passed_over(self) -> None:
+        recorder = self.recorder()
+        recorder.from_client(1, PINGREQ)
+        recorder.closed(1)
+        recorder.rested(1)
+        recorder.released(1, 1)
+        recorder.finish()
+        recorder.finish()
+        self.assertEqual((self.logs(), self.told), ({}, []))
+
+    def test_finish_writes_what_was_kept(self) -> None:
+        recorder = self.recorder()
+        recorder.opened(1)
+        recorder.from_client(1, connect(b"a"))
+        self.assertEqual(self.logs(), {})
+        recorder.finish()
+        self.assertEqual(self.logs(), {"a.1.client.log": ["OPEN", f"SENT {connect(b'a').hex()}"]})
+
+    def test_forgotten_client_identifiers(self) -> None:
+        with mock.patch.object(recording, "KNOWN_MOST", 2):
+            recorder = self.recorder()
+            for key, identifier in enumerate((b"a", b"b", b"c")):
+                self.accept(recorder, key, identifier)
+                recorder.closed(key)
+            self.accept(recorder, 3, b"a", False, True)
+        self.assertEqual(len(self.told), 1)
+
+
+class Framing(unittest.TestCase):
+    def test_packets_are_cut_however_they_come(self) -> None:
+        stream = connect(b"a") + packet(0x32, bytes(200)) + PINGREQ + connect(b"b")
+        wanted = [(1, connect(b"a")[2:]), (3, None), (12, None), (1, connect(b"b")[2:])]
+        for size in (1, 2, 3, 7, 100, 1000):
+            framer = Framer(recording.CONNECT)
+            packets = [item for at in range(0, len(stream), size) for item in framer.feed(stream[at : at + size])]
+            self.assertEqual(packets, wanted)
+            self.assertTrue(framer.is_sound and framer.is_between)
+
+    def test_a_remaining_length_that_is_none_loses_the_direction(self) -> None:
+        for digits in ("c08000", "c0ffffff80", "c0ffffffff01"):
+            framer = Framer(recording.CONNECT)
+            self.assertEqual(framer.feed(bytes.fromhex(digits) + PINGREQ), [])
+            self.assertTrue(framer.is_lost)
+
+
+if __name__ == "__main__":
+    unittest.main()
