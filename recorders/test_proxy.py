@@ -1,0 +1,185 @@
+#!/usr/bin/env python3
+"""Tests of the proxy with a client and a broker that are plain sockets: what goes wrong there, and what it then does.
+
+usage: recorders/test_proxy.py
+"""
+from __future__ import annotations
+
+import socket
+import struct
+import subprocess
+import sys
+import tempfile
+import threading
+import time
+import unittest
+from pathlib import Path
+
+sys.dont_write_bytecode = True  # the repository stays as it is
+sys.path.insert(0, str(Path(__file__).resolve().parent))
+from test_recording import PINGREQ, PINGRESP, connack, connect, packet, records, text
+
+PROXY = Path(__file__).resolve().parent / "proxy"
+PATIENCE = 20.0
+LARGE = packet(0x30, text(b"t") + b"\0" + bytes(1_000_000))
+
+
+def receive(connection: socket.socket, count: int) -> bytes:
+    """So many bytes, or fewer if the other side ends its stream before."""
+    data = bytearray()
+    while len(data) < count and (piece := connection.recv(min(count - len(data), 1 << 20))):
+        data += piece
+    return bytes(data)
+
+
+def whole_records(log: bytes) -> int:
+    """How many records a log has, but for a last one that was being written when the proxy was killed."""
+    count, at = 0, 8
+    while (at := at + 5 + int.from_bytes(log[at + 1 : at + 5], "big")) <= len(log):
+        count += 1
+    return count
+
+
+class Case(unittest.TestCase):
+    def setUp(self) -> None:
+        folder = tempfile.TemporaryDirectory()
+        self.addCleanup(folder.cleanup)
+        self.folder = Path(folder.name) / "logs"
+        self.told = Path(folder.name) / "told"
+        self.broker = socket.create_server(("127.0.0.1", 0))
+        self.broker.settimeout(PATIENCE)
+        self.addCleanup(self.broker.close)
+
+    def start(self, *options: str, before: tuple[str, ...] = ()) -> None:
+        address = f"127.0.0.1:{self.broker.getsockname()[1]}"
+        words = [sys.executable, PROXY, "--listen", "127.0.0.1:0", "--broker", address, "--out", self.folder, *options]
+        with self.told.open("w") as told:
+            self.proxy = subprocess.Popen([*before, *map(str, words)], stderr=told)
+        self.addCleanup(self.stop)
+        self.wait_until(lambda: "\n" in self.told.read_text())
+        self.port = int(self.told.read_text().splitlines()[0].rpartition(":")[2])
+
+    def stop(self) -> int:
+        self.proxy.terminate()
+        return self.proxy.wait(PATIENCE)
+
+    def wait_until(self, is_so: object) -> None:
+        end = time.monotonic() + PATIENCE
+        while not is_so():  # type: ignore[operator]
+            self.assertLess(time.monotonic(), end, self.told.read_text())
+            time.sleep(0.02)
+
+    def pair(self, identifier: bytes) -> tuple[socket.socket, socket.socket]:
+        """A client's connection, and the broker's that goes with it, once both have sent their first packet."""
+        client = socket.create_connection(("127.0.0.1", self.port), PATIENCE)
+        self.addCleanup(client.close)
+        client.sendall(connect(identifier))
+        server, _ = self.broker.accept()
+        self.addCleanup(server.close)
+        server.settimeout(PATIENCE)
+        self.assertEqual(receive(server, len(connect(identifier))), connect(identifier))
+        server.sendall(connack())
+        self.assertEqual(receive(client, len(connack())), connack())
+        return client, server
+
+    def log(self, name: str) -> list[str]:
+        return records((self.folder / name).read_bytes())
+
+    def ends_with(self, name: str, word: str) -> None:
+        self.wait_until(lambda: (self.folder / name).exists() and self.log(name)[-1] == word)
+
+
+class Connections(Case):
+    def test_a_client_that_ends_its_stream_still_gets_what_comes(self) -> None:
+        self.start()
+        client, server = self.pair(b"half")
+        client.sendall(PINGREQ)
+        client.shutdown(socket.SHUT_WR)
+        self.assertEqual(receive(server, 100), PINGREQ)
+        self.ends_with("half.1.client.log", "CLOSE")
+        server.sendall(PINGRESP)
+        server.close()
+        self.assertEqual(receive(client, 100), PINGRESP)
+        self.ends_with("half.1.server.log", "CLOSE")
+        self.assertEqual(self.log("half.1.client.log")[-2:], [f"SENT {PINGREQ.hex()}", "CLOSE"])
+        self.assertEqual(self.log("half.1.server.log")[-2:], [f"SENT {PINGRESP.hex()}", "CLOSE"])
+
+    def test_a_reset_closes_both_sides(self) -> None:
+        self.start()
+        client, server = self.pair(b"reset")
+        client.setsockopt(socket.SOL_SOCKET, socket.SO_LINGER, struct.pack("ii", 1, 0))
+        client.close()
+        self.assertEqual(receive(server, 1), b"")
+        for end in ("client", "server"):
+            self.ends_with(f"reset.1.{end}.log", "CLOSE")
+
+    def test_a_broker_that_is_not_there(self) -> None:
+        self.start("--end", "client")
+        self.broker.close()
+        with socket.create_connection(("127.0.0.1", self.port), PATIENCE) as client:
+            self.assertEqual(receive(client, 1), b"")
+        self.wait_until(lambda: "the broker can't be reached" in self.told.read_text())
+        self.assertEqual(self.stop(), 0)
+        self.assertEqual(list(self.folder.iterdir()), [])
+
+    def test_one_end_alone(self) -> None:
+        self.start("--end", "server")
+        self.pair(b"a")
+        self.assertEqual(self.stop(), 0)
+        self.assertEqual([path.name for path in self.folder.iterdir()], ["a.1.server.log"])
+
+
+class Rest(Case):
+    def test_none_while_a_client_does_not_read(self) -> None:
+        self.start("--end", "client", "--rest", "0.5")
+        client, server = self.pair(b"slow")
+        sender = threading.Thread(target=server.sendall, args=(LARGE * 30,))
+        sender.start()
+        time.sleep(1.5)
+        self.assertLess((self.folder / "slow.1.client.log").stat().st_size, len(LARGE) * 30)
+        self.assertNotIn("REST", self.log("slow.1.client.log"))
+        self.assertEqual(len(receive(client, len(LARGE) * 30)), len(LARGE) * 30)
+        sender.join(PATIENCE)
+        self.ends_with("slow.1.client.log", "REST")
+
+    def test_none_where_none_is_asked_for(self) -> None:
+        self.start()
+        self.pair(b"a")
+        time.sleep(1)
+        self.assertNotIn("REST", self.log("a.1.client.log"))
+
+
+class Failures(Case):
+    def test_a_full_disk_stops_the_recording_and_nothing_else(self) -> None:
+        self.start("--end", "client", before=("bash", "-c", 'ulimit -f 100; exec "$@"', "limited"))
+        client, server = self.pair(b"full")
+        sender = threading.Thread(target=server.sendall, args=(LARGE * 3,))
+        sender.start()
+        self.assertEqual(len(receive(client, 3 * len(LARGE))), 3 * len(LARGE))
+        sender.join(PATIENCE)
+        self.pair(b"later")
+        self.assertEqual(self.told.read_text().count("recording stopped"), 1)
+        self.assertEqual(self.log("full.1.client.log")[0], "OPEN")
+        self.assertEqual(self.stop(), 0)
+
+    def test_a_killed_proxy_leaves_whole_records(self) -> None:
+        self.start()
+        client, server = self.pair(b"killed")
+
+        def send() -> None:
+            try:
+                while True:
+                    server.sendall(LARGE)
+            except OSError:
+                pass
+
+        threading.Thread(target=send, daemon=True).start()
+        receive(client, 10 * len(LARGE))
+        self.proxy.kill()
+        self.proxy.wait(PATIENCE)
+        for end in ("client", "server"):
+            self.assertGreater(whole_records((self.folder / f"killed.1.{end}.log").read_bytes()), 10)
+
+
+if __name__ == "__main__":
+    unittest.main()
