@@ -1,15 +1,15 @@
 """Makes logs out of a capture of network packets: the work behind `from-capture`.
 
-tshark reads the capture and says what each TCP segment carried, and what was inside TLS where it has the keys. The segments are put
-in order here, each byte once, and told to a `Recorder` for each tested end.
+tshark reads the capture and says what each TCP segment carried, and what was inside TLS where it has the keys. The
+segments are put in order here, each byte once, and told to a `Recorder` for each tested end.
 
-Each end has an order of its own. What it sent stands where the capture first has it. What it received stands where the end itself
-acknowledged it by TCP: each of its segments says how much it had by then, so this order is the end's own wherever the packets were
-captured, and bytes that never reached it aren't in its log.
+Each end has an order of its own. What it sent stands where the capture first has it. What it received stands where
+the end itself acknowledged it by TCP: each of its segments says how much it had by then, so this order is the end's
+own wherever the packets were captured, and bytes that never reached it aren't in its log.
 
-Where the capture lacks bytes that an end has acknowledged, nothing more is told of that connection, and the session is left out from
-there on. Where an end's bytes were still under way when its connection broke, it may have sent more that no packet carried, and the
-session of that end is left out from there on.
+Where the capture lacks bytes that an end has acknowledged, nothing more is told of that connection, and the session
+is left out from there on. Where an end's bytes were still under way when its connection broke, it may have sent
+more that no packet carried, and the session of that end is left out from there on.
 """
 from __future__ import annotations
 
@@ -53,6 +53,7 @@ FIELDS = (
     "tls.app_data",
     "tls.alert_message.desc",
 )
+NEEDED = ("tcp.stream", "tcp.srcport", "tcp.dstport", "tcp.flags", "tcp.seq_raw", "tcp.len")  # of each segment
 PEER = {End.CLIENT: End.SERVER, End.SERVER: End.CLIENT}
 
 
@@ -143,7 +144,7 @@ def parse_line(line: str, servers: Iterable[Server]) -> Segment | None:
         return None
     row = {name: [item for item in value.split(",") if item] for name, value in zip(FIELDS, values)}
     last = {name: items[-1] if items else "" for name, items in row.items()}
-    if not all(last[name] for name in ("tcp.stream", "tcp.srcport", "tcp.dstport", "tcp.flags", "tcp.seq_raw", "tcp.len")):
+    if not all(last[name] for name in NEEDED):
         return None
     source_port, target_port = int(last["tcp.srcport"]), int(last["tcp.dstport"])
     for family in ("ip", "ipv6"):
@@ -176,7 +177,7 @@ def end_name(address: str, port: int) -> str:
 
 
 def read_segments(command: list[str], servers: list[Server]) -> Iterator[Segment]:
-    """The segments between clients and the servers, in the capture's order. The user's own settings of tshark don't count."""
+    """The segments between clients and the servers, in the capture's order. Settings of the user don't count."""
     with tempfile.TemporaryDirectory() as settings, tempfile.TemporaryFile("w+") as errors:
         environment = os.environ | {"WIRESHARK_CONFIG_DIR": settings, "LC_ALL": "C"}
         try:
@@ -210,7 +211,7 @@ class Piece:
 
     at: int  # their place in the stream
     data: bytes
-    is_whole: bool  # they count as received once the first byte from their place on is acknowledged (what was inside TLS)
+    is_whole: bool  # what was inside TLS: all is received once the first byte from its place on is acknowledged
 
 
 @dataclass
@@ -352,7 +353,8 @@ class Stream:
 
     def lose_missing(self) -> None:
         """Gives the connection up for the bytes that the capture lacks."""
-        lacking = [f"bytes of the {end.value} behind its first {half.size}" for end, half in self._halves.items() if self._lacks(end)]
+        ends = [end for end in End if self._lacks(end)]
+        lacking = [f"bytes of the {end.value} behind its first {self._halves[end].size}" for end in ends]
         self.lose(f"the capture lacks {' and '.join(lacking) or 'acknowledgements'}")
 
     def lose(self, why: str) -> None:
@@ -553,7 +555,8 @@ class Capture:
         self._rest_after, self._tell = rest_after, tell
         self._told: OrderedDict[str, None] = OrderedDict()
         self._recorders = {
-            end: Recorder(folder, frozenset({end}), rest_after, clock=lambda: self._now, tell=self._tell_once) for end in ends
+            end: Recorder(folder, frozenset({end}), rest_after, clock=lambda: self._now, tell=self._tell_once)
+            for end in ends
         }
         self._streams: dict[int, Stream | None] = {}  # None: it is over
         self._busy: dict[int, Stream] = {}
@@ -644,7 +647,7 @@ def parse_arguments(words: list[str] | None) -> argparse.Namespace:
         type=parse_server,
         action="append",
         required=True,
-        help="where the server listens: an IPv6 address stands in brackets, :PORT is that port of any host; may be repeated",
+        help="where the server listens; [ADDRESS]:PORT for IPv6, :PORT for that port of any host; may be repeated",
     )
     parser.add_argument("--out", metavar="DIR", type=Path, required=True, help="where the logs are written")
     parser.add_argument("--keylog", metavar="FILE", type=Path, help="the keys of TLS connections (SSLKEYLOGFILE)")

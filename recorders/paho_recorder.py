@@ -7,10 +7,11 @@
 It is for clients that speak MQTT 5.0, and goes before their first `connect`. The order is the client's own:
 
 - SENT and RECV stand where paho's reads and writes happen, of what is inside TLS and WebSocket frames.
-- RELEASE stands where paho hands a QoS 2 message to the application: at its PUBREL, after it was taken out of the messages that came
-  in and before the PUBCOMP is sent.
-- REST is written when paho's queues are empty: what was read has been handled, and nothing waits to be written or to be sent again.
-  It stands before a DISCONNECT, before a CLOSE, and where a round of paho's loop went by without a byte.
+- RELEASE stands where paho hands a QoS 2 message to the application: at its PUBREL, after it was taken out of the
+  messages that came in and before the PUBCOMP is sent.
+- REST is written when paho's queues are empty: what was read has been handled, and nothing waits to be written or
+  to be sent again. It stands before a DISCONNECT, before a CLOSE, and where a round of paho's loop went by without
+  a byte.
 
 It was tried with paho-mqtt 1.6.1. A version without the methods that it stands in for is refused.
 """
@@ -141,8 +142,9 @@ class ClientRecording:
     def _on_packet_read(self) -> Any:
         status = self._call("_packet_read")
         client = self._client()
+        is_sound = status in (paho.MQTT_ERR_SUCCESS, paho.MQTT_ERR_AGAIN)
         with self._lock:
-            if status in (paho.MQTT_ERR_SUCCESS, paho.MQTT_ERR_AGAIN) and client is not None and not client._in_packet["command"]:
+            if is_sound and client is not None and not client._in_packet["command"]:
                 self._is_handling = False
         return status
 
@@ -196,8 +198,8 @@ class ClientRecording:
 def record(client: paho.Client, folder: Path | str, *, from_start: bool = True) -> ClientRecording:
     """Records all connections of a client that hasn't connected yet, in a folder that is made where it isn't there.
 
-    A client of paho's has its session in its memory, so a new one has none: where a server resumes a session with it, the log says
-    so and the client is judged for it. With `from_start=False` such a session is left out instead.
+    A client of paho's has its session in its memory, so a new one has none: where a server resumes a session with it,
+    the log says so and the client is judged for it. With `from_start=False` such a session is left out instead.
     """
     unknown = [name for name in ATTRIBUTES if not hasattr(client, name)]
     unknown += [name for name in METHODS if not callable(getattr(type(client), name, None))]

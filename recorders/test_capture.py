@@ -1,5 +1,5 @@
 #!/usr/bin/env python3
-"""Tests of from-capture: on captures made by hand, packet by packet, and on what tcpdump captures of mosquitto and its clients.
+"""Tests of from-capture: on captures made by hand, and on what tcpdump captures of mosquitto and its clients.
 
 usage: recorders/test_capture.py
 """
@@ -25,7 +25,7 @@ sys.dont_write_bytecode = True  # the repository stays as it is
 sys.path.insert(0, str(Path(__file__).resolve().parent))
 import captures
 from captures import ACK, FIN, RST, SYN, Capture, End, Half, Piece, Segment, parse_server
-from testing import accepts, find, free_port, joined, missing, mosquitto, verdict, wait_until
+from testing import accepts, find, free_port, joined, make_certificate, missing, mosquitto, verdict, wait_until
 
 PSH = 0x08
 CONNACK, CONNACK_RESUMED = bytes.fromhex("2003000000"), bytes.fromhex("2003010000")
@@ -33,7 +33,9 @@ PUBLISH = bytes.fromhex("32070001610007 0078")  # QoS 1, topic a, identifier 7
 PUBACK = bytes.fromhex("40020007")
 SUBSCRIBE, SUBACK = bytes.fromhex("82070001000001 6101".replace(" ", "")), bytes.fromhex("900400010001")
 PINGREQ, PINGRESP, DISCONNECT = bytes.fromhex("c000"), bytes.fromhex("d000"), bytes.fromhex("e000")
+TALK = "10.0.0.2:40000 to 10.0.0.1:1883"
 NOT_SEEN = "not recorded: bytes of c weren't seen"
+NO_KEYS = "its TLS can't be read without the keys of its connection"
 
 
 def connect(identifier: str = "c", clean_start: bool = True, expiry: int = 300) -> bytes:
@@ -45,7 +47,9 @@ def connect(identifier: str = "c", clean_start: bool = True, expiry: int = 300) 
 class Conversation:
     """A TCP connection that is written down as packets. Each end acknowledges what it got when it sends something."""
 
-    def __init__(self, wire: Wire, client: str, server: str = "10.0.0.1", port: int = 40_000, first: int = 4_294_967_000) -> None:
+    def __init__(
+        self, wire: Wire, client: str, server: str = "10.0.0.1", port: int = 40_000, first: int = 4_294_967_000
+    ) -> None:
         self.wire = wire
         self.addresses = {End.CLIENT: (client, port), End.SERVER: (server, 1883)}
         self.next = {End.CLIENT: first, End.SERVER: 7}
@@ -315,7 +319,8 @@ class ByHand(Case):
             with self.subTest(lost=lost):
                 self.wire, self.logs = Wire(), self.folder / str(lost)
                 Conversation(self.wire, "10.0.0.2").accepted().close()
-                self.wire.packets[:3] = [packet for number, packet in enumerate(self.wire.packets[:3]) if not lost >> number & 1]
+                handshake = enumerate(self.wire.packets[:3])
+                self.wire.packets[:3] = [packet for number, packet in handshake if not lost >> number & 1]
                 self.convert("--end", "client")
                 self.assertEqual(self.told, [])
                 self.assertEqual(verdict(self.logs / "c.1.client.log"), "pass")
@@ -370,7 +375,7 @@ class ByHand(Case):
         talk.send(End.CLIENT, flags=RST)
         Conversation(self.wire, "10.0.0.2", port=40_001).accepted(clean_start=False, connack=CONNACK_RESUMED).close()
         self.convert()
-        self.assertEqual(self.told[0], "10.0.0.2:40000 to 10.0.0.1:1883: broke while bytes of the server were under way")
+        self.assertEqual(self.told[0], f"{TALK}: broke while bytes of the server were under way")
         self.assertEqual(self.log("c.1.client").count("OPEN"), 2)
         self.assertEqual(self.log("c.1.server").count("OPEN"), 1)
         self.assertEqual({verdict(path) for path in self.logs.iterdir()}, {"pass"})
@@ -380,7 +385,7 @@ class ByHand(Case):
         talk.client(PUBLISH, arrives=False)
         Conversation(self.wire, "10.0.0.2", port=40_001).accepted(clean_start=False, connack=CONNACK_RESUMED).close()
         self.convert()
-        self.assertEqual(self.told[0], "10.0.0.2:40000 to 10.0.0.1:1883: broke while bytes of the client were under way")
+        self.assertEqual(self.told[0], f"{TALK}: broke while bytes of the client were under way")
         self.assertEqual(self.log("c.1.client").count("OPEN"), 1)
         self.assertEqual(self.log("c.1.server").count("OPEN"), 2)
 
@@ -429,11 +434,12 @@ class ByHand(Case):
     def test_tls_without_keys(self) -> None:
         talk = Conversation(self.wire, "10.0.0.2").open()
         hello = bytes.fromhex("0303") + bytes(32) + bytes.fromhex("00 0002 1301 0100 0000")
-        talk.client(b"\x16\x03\x01" + struct.pack(">H", len(hello) + 4) + b"\x01\0" + struct.pack(">H", len(hello)) + hello)
+        handshake = b"\x01\0" + struct.pack(">H", len(hello)) + hello
+        talk.client(b"\x16\x03\x01" + struct.pack(">H", len(handshake)) + handshake)
         talk.server(bytes.fromhex("1703030020") + bytes(32))
         talk.client(bytes.fromhex("1703030020") + bytes(32))
         self.convert("--end", "client")
-        self.assertEqual(self.told[0], "10.0.0.2:40000 to 10.0.0.1:1883: its TLS can't be read without the keys of its connection")
+        self.assertEqual(self.told[0], f"{TALK}: {NO_KEYS}")
         self.assertFalse(any(self.logs.iterdir()))
 
     def test_a_capture_that_is_cut_is_told(self) -> None:
@@ -472,7 +478,8 @@ class Order(unittest.TestCase):
         half = Half(start=0)
         half.put(Piece(0, b"abc", False))
         half.put(Piece(3, b"def", False))
-        self.assertEqual([list(half.acknowledge(place)) for place in (0, 2, 1, 5, 9)], [[], [b"ab"], [], [b"c", b"de"], [b"f"]])
+        got = [list(half.acknowledge(place)) for place in (0, 2, 1, 5, 9)]
+        self.assertEqual(got, [[], [b"ab"], [], [b"c", b"de"], [b"f"]])
         self.assertEqual(half.piece_bytes, 0)
 
     def test_what_was_inside_tls_is_received_as_a_whole(self) -> None:
@@ -567,10 +574,7 @@ class Live(Case):
         import paho.mqtt.client as paho
 
         key, certificate, port = self.folder / "key.pem", self.folder / "certificate.pem", free_port()
-        request = "req -x509 -newkey rsa:2048 -nodes -days 2 -subj /CN=localhost -addext subjectAltName=IP:127.0.0.1".split()
-        subprocess.run(
-            [find("openssl") or "openssl", *request, "-keyout", key, "-out", certificate], check=True, capture_output=True
-        )
+        make_certificate(key, certificate)
         path, keys = self.folder / "capture.pcap", self.folder / "keys.txt"
         with mosquitto(self.folder, f"listener {port} 127.0.0.1\ncertfile {certificate}\nkeyfile {key}\n"):
             wait_until(lambda: accepts(port))
@@ -580,11 +584,11 @@ class Live(Case):
         options = ("--server", f"127.0.0.1:{port}", "--rest", "0.2")
         self.assertEqual(self.run_on(path, *options, "--keylog", str(keys)), 0)
         self.assertEqual(self.told, [])
-        self.assertEqual(self.verdicts(), {f"{name}.1.{end.value}": "pass" for name in ("TLSv1_2", "TLSv1_3") for end in End})
+        names = ("TLSv1_2", "TLSv1_3")
+        self.assertEqual(self.verdicts(), {f"{name}.1.{end.value}": "pass" for name in names for end in End})
         self.logs = self.folder / "without"
         self.assertEqual(self.run_on(path, *options), 0)
-        self.assertEqual([line.partition(": ")[2] for line in self.told if " to " in line], [
-            "its TLS can't be read without the keys of its connection"] * 2)
+        self.assertEqual([line.partition(": ")[2] for line in self.told if " to " in line], [NO_KEYS] * 2)
         self.assertEqual(self.verdicts(), {})
 
     def exchange(self, client: object, port: int, certificate: Path, keys: Path, version: ssl.TLSVersion) -> None:

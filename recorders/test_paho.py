@@ -10,7 +10,6 @@ import gc
 import io
 import socket
 import ssl
-import subprocess
 import sys
 import tempfile
 import threading
@@ -22,7 +21,7 @@ from typing import Any
 
 sys.dont_write_bytecode = True  # the repository stays as it is
 sys.path.insert(0, str(Path(__file__).resolve().parent))
-from testing import find, free_port, joined, missing, mosquitto, verdict, wait_until, words
+from testing import free_port, joined, make_certificate, missing, mosquitto, verdict, wait_until, words
 
 ABSENT = missing("module:paho.mqtt")
 if not ABSENT:
@@ -210,7 +209,10 @@ class Scripted(Case):
         self.assertEqual(self.tail(3), ["REST", f"SENT {DISCONNECT}", "CLOSE"])
 
     def test_no_rest_before_a_disconnect_that_goes_before_an_answer(self) -> None:
-        client = self.connected(setting=lambda client: setattr(client, "on_message", lambda client, *_: client.disconnect()))
+        def ends(client: paho.Client) -> None:
+            client.on_message = lambda client, *_: client.disconnect()
+
+        client = self.connected(setting=ends)
         self.server.say(PUBLISH_QOS_1)
         wait_until(lambda: self.round(client) and client._sock is None)
         self.assertNotIn("REST", self.tail(3)[1:])
@@ -310,7 +312,8 @@ class Scripted(Case):
         self.assertEqual([word.split()[0] for word in self.tail(3)], ["REST", "RECV", "CLOSE"])
 
     def test_what_a_server_says_that_is_no_mqtt(self) -> None:
-        for number, digits in enumerate(("ffffffffff", "00000000", "2000", "f0ffffffff7f", "400100", "6203000100", "30ff7f")):
+        wrong = ("ffffffffff", "00000000", "2000", "f0ffffffff7f", "400100", "6203000100", "30ff7f")
+        for number, digits in enumerate(wrong):
             with self.subTest(digits=digits):
                 self.logs = self.folder / str(number)
                 client = self.connected()
@@ -402,7 +405,9 @@ class Refused(Case):
 class Mosquitto(Case):
     """Clients with a thread of their own, and a real broker. The verdict on each is known."""
 
-    def start(self, identifier: str, port: int, expiry: int = 0, clean_start: Any = True, **options: Any) -> paho.Client:
+    def start(
+        self, identifier: str, port: int, expiry: int = 0, clean_start: Any = True, **options: Any
+    ) -> paho.Client:
         client = self.client(identifier, **options)
         client.received = []
         client.on_message = lambda client, data, message: client.received.append(message.payload)
@@ -428,7 +433,8 @@ class Mosquitto(Case):
         client.on_subscribe = lambda *_: subscribed.set()
         client.subscribe([("a/#", paho.SubscribeOptions(qos=2)), ("b", paho.SubscribeOptions(qos=1))])
         self.assertTrue(subscribed.wait(10))
-        sent = [client.publish(topic, f"{topic}{qos}{number}", qos) for number in range(5) for qos in range(3) for topic in ("a/b", "b")]
+        kinds = [(number, qos, topic) for number in range(5) for qos in range(3) for topic in ("a/b", "b")]
+        sent = [client.publish(topic, f"{topic}{qos}{number}", qos) for number, qos, topic in kinds]
         sent.append(client.publish("a/large", bytes(300_000), 2))
         for info in sent:
             info.wait_for_publish(10)
@@ -448,10 +454,7 @@ class Mosquitto(Case):
     @unittest.skipIf(missing("openssl"), missing("openssl"))
     def test_over_tls(self) -> None:
         key, certificate, port = self.folder / "key.pem", self.folder / "certificate.pem", free_port()
-        request = "req -x509 -newkey rsa:2048 -nodes -days 2 -subj /CN=localhost -addext subjectAltName=IP:127.0.0.1".split()
-        subprocess.run(
-            [find("openssl") or "openssl", *request, "-keyout", key, "-out", certificate], check=True, capture_output=True
-        )
+        make_certificate(key, certificate)
         original = self.client
 
         def with_tls(identifier: str, **options: Any) -> paho.Client:

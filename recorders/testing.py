@@ -71,6 +71,13 @@ def mosquitto(folder: Path, settings: str = "", port: int | None = None) -> Iter
             process.terminate()
 
 
+def make_certificate(key: Path, certificate: Path) -> None:
+    """Makes a key and a certificate of its own for 127.0.0.1."""
+    request = "req -x509 -newkey rsa:2048 -nodes -days 2 -subj /CN=localhost -addext subjectAltName=IP:127.0.0.1"
+    command = [find("openssl") or "openssl", *request.split(), "-keyout", str(key), "-out", str(certificate)]
+    subprocess.run(command, check=True, capture_output=True)
+
+
 def words(log: bytes) -> list[str]:
     """The records of a log as words: SENT, RECV and RELEASE with their bodies in hexadecimal digits."""
     found, at = [], 8
