@@ -1,4 +1,5 @@
 pub mod Fields
 pub mod Left
+pub mod Plain
 pub mod Refused
 pub mod Spellings

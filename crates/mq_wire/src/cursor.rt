@@ -1,11 +1,13 @@
 //! Reading fields from the front of a slice.
 
-ghost use Rattle.std.specs.Prelude.{◌≡◌, ◌+◌, ◌<◌, ◌≤◌, ◌^◌, ◌==◌, ◌↔◌, [], IsTrue, IfOk, length};
+ghost use Rattle.std.specs.Prelude.{◌≡◌, ◌+◌, ◌<◌, ◌≤◌, ◌^◌, ◌==◌, ◌↔◌, [], true, Some, None, Ok, IsTrue, IfOk, IfSome, MatchOption, length};
 ghost use Rattle.std.specs.List.{list_any};
 ghost use Rattle.mq_wire.specs.Left.{past, placed, Took, Gives};
 ghost use Rattle.mq_wire.specs.Fields.{byte_at, two_bytes_at, four_bytes_at, varint_at, text_of, text_at, binary_at, pair_at};
+ghost use Rattle.mq_wire.specs.Plain.{is_plain, plain_text_at};
 
 use crate::fault::{Reason, WireFault};
+use crate::plain::plain_str;
 use std::marker::Model;
 
 /// Reads fields from the front of a slice of bytes, and counts how far it has come.
@@ -136,8 +138,25 @@ impl<'a> Cursor<'a> {
     ///
     /// Refused as `Short` where the bytes end before the number does, and as `Overlong` where it has
     /// more bytes than it needs, or a fourth byte with bit 7.
+    #[inline(always)]
     #[tactic(auto, unfolding(crate::specs::Fields::varint_at))]
     pub fn varint(&mut self) -> Result<u32, WireFault>
+        ensures exact { Took (λ n. n) result self.old (placed self.old (varint_at self.old.rest)) self.new }
+        ensures bound { IfOk result (λ n. n < 2 ^ 28) }
+    {
+        match *self.rest {
+            [a @ 0..128, ..] => {
+                self.skip(1);
+                Ok(u32::from(a))
+            }
+            _ => self.any_varint(),
+        }
+    }
+
+    // The same. It stays apart, so that a number of one byte, as most are, is read where it is wanted.
+    #[inline(never)]
+    #[tactic(auto, unfolding(crate::specs::Fields::varint_at))]
+    fn any_varint(&mut self) -> Result<u32, WireFault>
         ensures exact { Took (λ n. n) result self.old (placed self.old (varint_at self.old.rest)) self.new }
         ensures bound { IfOk result (λ n. n < 2 ^ 28) }
     {
@@ -212,6 +231,42 @@ impl<'a> Cursor<'a> {
             }
             Err(reason) => Err(self.fault(reason)),
         }
+    }
+
+    /// A UTF-8 Encoded String of plain bytes: ASCII characters other than U+0000, `#` and `+` (MQTT 5.0,
+    /// 1.5.4 and 4.7.1). It is the text that [`Cursor::text`] reads there, and it has no wildcard.
+    ///
+    /// None where the bytes end before the field does, or where another byte is among them. The cursor
+    /// is where it was then.
+    #[inline(always)]
+    pub fn plain_text(&mut self) -> Option<&'a str>
+        ensures exact { MatchOption result
+            ((plain_text_at self.old.rest ≡ None) × (self.new ≡ self.old))
+            (λ text. (plain_text_at self.old.rest ≡ Some (text.now, 2 + length text.now)) × (self.new ≡ past self.old (2 + length text.now))) }
+        ensures text { IfSome result (λ text. placed self.old (text_at self.old.rest) ≡ Ok (text.now, self.new)) }
+        ensures plain { IfSome result (λ text. is_plain text.now ≡ true) }
+    {
+        self.take_plain()
+    }
+
+    #[inline(always)]
+    #[tactic(auto, unfolding(crate::specs::Fields::binary_at))]
+    fn take_plain(&mut self) -> Option<&'a str>
+        ensures exact { MatchOption result
+            ((plain_text_at self.old.rest ≡ None) × (self.new ≡ self.old))
+            (λ text. (plain_text_at self.old.rest ≡ Some (text.now, 2 + length text.now)) × (self.new ≡ past self.old (2 + length text.now))) }
+        ensures plain { IfSome result (λ text. is_plain text.now ≡ true) }
+    {
+        let [high, low, bytes @ ..] = self.rest else {
+            return None;
+        };
+        let len = usize::from(u16::from_be_bytes([*high, *low]));
+        if bytes.len() < len {
+            return None;
+        }
+        let text = plain_str(&bytes[..len])?;
+        self.skip(2 + len);
+        Some(text)
     }
 
     /// A UTF-8 String Pair: a name and a value (MQTT 5.0, 1.5.7).

@@ -5,6 +5,7 @@
 mod cursor;
 mod fault;
 mod laws;
+mod plain;
 mod put;
 
 pub use cursor::Cursor;

@@ -23,6 +23,7 @@ pub fn put_u8(out: &mut Vec<u8>, byte: u8) -> Result<(), PutFault>
     ensures read_back { OnOk result (ReadsBack byte_at byte out.old.items out.new.items) }
     ensures err { OnErr result (out.new.items ≡ out.old.items) }
     ensures memory { IfErr result (λ fault. (fault ≡ Memory) × (vec_capacity out.old < vec_len out.old + 1)) }
+    ensures capacity { vec_capacity out.old ≤ vec_capacity out.new }
 {
     put_bytes(out, &[byte])
 }
@@ -36,6 +37,7 @@ pub fn put_u16(out: &mut Vec<u8>, number: u16) -> Result<(), PutFault>
     ensures read_back { OnOk result (ReadsBack two_bytes_at number out.old.items out.new.items) }
     ensures err { OnErr result (out.new.items ≡ out.old.items) }
     ensures memory { IfErr result (λ fault. (fault ≡ Memory) × (vec_capacity out.old < vec_len out.old + 2)) }
+    ensures capacity { vec_capacity out.old ≤ vec_capacity out.new }
 {
     put_bytes(out, &number.to_be_bytes())
 }
@@ -49,6 +51,7 @@ pub fn put_u32(out: &mut Vec<u8>, number: u32) -> Result<(), PutFault>
     ensures read_back { OnOk result (ReadsBack four_bytes_at number out.old.items out.new.items) }
     ensures err { OnErr result (out.new.items ≡ out.old.items) }
     ensures memory { IfErr result (λ fault. (fault ≡ Memory) × (vec_capacity out.old < vec_len out.old + 4)) }
+    ensures capacity { vec_capacity out.old ≤ vec_capacity out.new }
 {
     let bytes = number.to_be_bytes();
     put_bytes(out, &bytes)
@@ -65,6 +68,7 @@ pub fn put_varint(out: &mut Vec<u8>, number: u32) -> Result<(), PutFault>
     ensures err { OnErr result (out.new.items ≡ out.old.items) }
     ensures too_long { (result ≡ Err TooLong) ↔ (268435455 < number) }
     ensures memory { IfErr result (λ fault. (fault ≡ TooLong) ⊎ ((fault ≡ Memory) × (vec_capacity out.old < vec_len out.old + length (varint_spelling number)))) }
+    ensures capacity { vec_capacity out.old ≤ vec_capacity out.new }
 {
     match number {
         0..128 => put_bytes(out, &[number as u8]),
@@ -108,6 +112,7 @@ pub fn put_binary(out: &mut Vec<u8>, bytes: &[u8]) -> Result<(), PutFault>
     ensures err { OnErr result (out.new.items ≡ out.old.items) }
     ensures too_long { (result ≡ Err TooLong) ↔ (65535 < length bytes.now) }
     ensures memory { IfErr result (λ fault. (fault ≡ TooLong) ⊎ ((fault ≡ Memory) × (vec_capacity out.old < vec_len out.old + (2 + length bytes.now)))) }
+    ensures capacity { vec_capacity out.old ≤ vec_capacity out.new }
 {
     if bytes.len() > MAX_LEN {
         return Err(PutFault::TooLong);
@@ -129,6 +134,7 @@ pub fn put_text(out: &mut Vec<u8>, text: &str) -> Result<(), PutFault>
     ensures too_long { (result ≡ Err TooLong) ↔ (65535 < length text.now) }
     ensures nul { (result ≡ Err Nul) ↔ ((length text.now ≤ 65535) × (has_nul text.now ≡ true)) }
     ensures memory { result ≡ Err Memory → vec_capacity out.old < vec_len out.old + (2 + length text.now) }
+    ensures capacity { vec_capacity out.old ≤ vec_capacity out.new }
 {
     if text.len() > MAX_LEN {
         return Err(PutFault::TooLong);
@@ -154,6 +160,7 @@ pub fn put_pair(out: &mut Vec<u8>, name: &str, value: &str) -> Result<(), PutFau
     ensures too_long { (result ≡ Err TooLong) ↔ ((65535 < length name.now) ⊎ (65535 < length value.now)) }
     ensures nul { (result ≡ Err Nul) ↔ ((length name.now ≤ 65535) × (length value.now ≤ 65535) × ((has_nul name.now ≡ true) ⊎ (has_nul value.now ≡ true))) }
     ensures memory { result ≡ Err Memory → vec_capacity out.old < vec_len out.old + (4 + length name.now + length value.now) }
+    ensures capacity { vec_capacity out.old ≤ vec_capacity out.new }
 {
     if name.len() > MAX_LEN || value.len() > MAX_LEN {
         return Err(PutFault::TooLong);
@@ -178,6 +185,7 @@ fn put_bytes(out: &mut Vec<u8>, bytes: &[u8]) -> Result<(), PutFault>
     ensures ok { OnOk result (out.new.items ≡ out.old.items ++ bytes.now) }
     ensures err { OnErr result (out.new.items ≡ out.old.items) }
     ensures memory { IfErr result (λ fault. (fault ≡ Memory) × (vec_capacity out.old < vec_len out.old + length bytes.now)) }
+    ensures capacity { vec_capacity out.old ≤ vec_capacity out.new }
 {
     out.extend_from_slice(bytes).map_err(|_| PutFault::Memory)
 }
@@ -188,6 +196,7 @@ fn reserve(out: &mut Vec<u8>, additional: usize) -> Result<(), PutFault>
     ensures len { vec_len out.new ≡ vec_len out.old }
     ensures ok { OnOk result (vec_len out.new + additional ≤ vec_capacity out.new) }
     ensures memory { IfErr result (λ fault. (fault ≡ Memory) × (vec_capacity out.old < vec_len out.old + additional)) }
+    ensures capacity { vec_capacity out.old ≤ vec_capacity out.new }
 {
     out.reserve(additional).map_err(|_| PutFault::Memory)
 }
