@@ -237,3 +237,14 @@ found_result place left (Err fault) new fits h = tt
 pub broken_result : (place : Place) (left : Left) (result : Result Listed PropFault) (new : Left) → AreBytes left.rest → Reads (λ (l : Listed). l.items) result (list_on place left) new → IfErr result (λ fault. Breaks place left fault)
 broken_result place left (Ok l) new fits h = tt
 broken_result place left (Err fault) new fits h = list_breaks place left fault fits h
+
+-- ---- a list of no properties
+
+-- its length is 0, and it is read as such
+pub empty_read : (place : Place) (left : Left) (behind : List ℕ) → left.rest ≡ 0 ∷ behind → list_on place left ≡ Ok ([], record { at = left.at + 1; rest = behind })
+unfolding list_on properties_on varint_at
+empty_read place left behind e =
+    let enough : ltb (length behind) 0 ≡ false = le-ltb (length behind) 0 (omega arith) in
+    let made : ℕ → Result (List Property × Left) PropFault = λ at. Ok ([], record { at = at; rest = behind }) in
+    let place : left.at + 1 + 0 ≡ left.at + 1 = omega arith in
+    rw (e, enough) (ap made place)

@@ -1,45 +1,24 @@
 -- A list that takes a property is a list of its place.
 use Rattle.std.proofs.Common.{◌≡◌, ℕ, ◌+◌, ◌<◌, ◌≤◌, Bool, true, false, not, ◌||◌, cond, eqb, ltb, List, [], ◌∷◌, ◌++◌, length, Option, None, Some, refl, sym, ap, subst, ◌∙◌, append_assoc, length-append, arith}
-use Rattle.std.specs.Prelude.{is_some, Result, Ok, Err, OnOk, OnErr}
-use Rattle.std.specs.Option.{option_map}
-use Rattle.std.specs.List.{find, list_any}
+use Rattle.std.specs.Prelude.{Result, Ok, Err, OnErr}
 use Rattle.std.proofs.lemmas.Bool.{ltb-false, lt-ltb}
 use Rattle.std.proofs.lemmas.List.{append-nil}
 use Rattle.std.proofs.lemmas.List.Concat.{flat_map-append, flat_map-cons}
 use Rattle.mq_wire.specs.Spellings.{varint_spelling}
 use Rattle.mq_props.specs.declared.fault.PushFault.{PushFault}
-use Rattle.mq_props.specs.declared.fault.PushFault.TheVariants.{NotAllowed, Repeated, Value as BadValue, TooLong}
+use Rattle.mq_props.specs.declared.fault.PushFault.TheVariants.{NotAllowed, Repeated, Value as BadValue, TooLong, Memory}
 use Rattle.mq_props.specs.declared.table.Place.{Place}
 use Rattle.mq_props.specs.declared.prop.Prop.{Prop}
-use Rattle.mq_props.specs.declared.value.Value.{Value as Held}
 use Rattle.mq_props.specs.Props.{prop_view}
 use Rattle.mq_props.specs.Table.{Line, row_of, is_listed}
 use Rattle.mq_props.specs.Values.{Value, Property, IsValue, type_of, value_spelling, property_spelling, body}
-use Rattle.mq_props.specs.Allowed.{stands_in, is_repeated, in_range, is_wild, first_of, IsAllowed, AllowedBehind, AreAllowed}
+use Rattle.mq_props.specs.Allowed.{is_repeated, in_range, is_wild, IsAllowed, AllowedBehind, AreAllowed}
 use Rattle.mq_props.specs.Reading.{items_of, items_on}
 use Rattle.mq_props.specs.Listed.{Listed, IsList}
 use Rattle.mq_props.specs.Pushing.{nul_in, is_long, is_large, is_bad, overflows, fault_of}
-use Rattle.mq_props.specs.Views.{value_view}
 use Rattle.mq_props.proofs.Finding.{line_known}
 use Rattle.mq_props.proofs.PropLines.{prop_line}
 use Rattle.mq_props.proofs.Exact.{items_of-body}
-
-some_test : {X : Type 0} (b : Bool) (x : X) (o : Option X) (c : Bool) → is_some o ≡ c → is_some (cond b (Some x) o) ≡ (b || c)
-some_test true x o c e = refl
-some_test false x o c e = e
-
-some_find : {X : Type 0} (p : X → Bool) (xs : List X) → is_some (find p xs) ≡ list_any p xs
-some_find p [] = refl
-some_find p (x ∷ xs) = some_test (p x) x (find p xs) (list_any p xs) (some_find p xs)
-
-some_map : {X Y : Type 0} (f : X → Y) (o : Option X) → is_some (option_map f o) ≡ is_some o
-some_map f None = refl
-some_map f (Some x) = refl
-
--- the first of an identifier is there exactly where one is
-pub stands_first : (id : ℕ) (ps : List Property) (o : Option Held) → option_map value_view o ≡ first_of id ps → is_some o ≡ stands_in id ps
-stands_first id ps o e =
-    sym (some_map value_view o) ∙ ap (λ (v : Option Value). is_some v) e ∙ some_map (λ (p : Property). p.value) (find (λ (p : Property). eqb p.id id) ps) ∙ some_find (λ (p : Property). eqb p.id id) ps
 
 -- an identifier is spelled in one byte
 pub id_spelled : (id : ℕ) → id < 128 → varint_spelling id ≡ id ∷ []
@@ -96,6 +75,19 @@ taken_by list p line e =
 -- it has a line
 pub taken : (list : Listed) (p : Property) (line : Line) → row_of p.id ≡ Some line → fault_of list p.value (row_of p.id) ≡ None → Taken list p line
 taken list p line known e = taken_by list p line (sym (ap (fault_of list p.value) known) ∙ e)
+
+-- a property isn't refused for want of memory before it is written
+memory_by : (a b c d : Bool) → cond a (Some NotAllowed) (cond b (Some Repeated) (cond c (Some BadValue) (cond d (Some TooLong) None))) ≡ Some Memory → ⊥
+memory_by true b c d e = cc
+memory_by false true c d e = cc
+memory_by false false true d e = cc
+memory_by false false false true e = cc
+memory_by false false false false e = cc
+
+pub never_memory : (list : Listed) (v : Value) (o : Option Line) → fault_of list v o ≡ Some Memory → ⊥
+never_memory list v None e = cc
+never_memory list v (Some line) e =
+    memory_by (not (is_listed list.place line)) (is_repeated list.place list.items line.id) (is_bad list.place line v) (is_long v || overflows list.items (record { id = line.id; value = v })) e
 
 -- the value's own conditions, which hold whatever the line
 pub record Writes (v : Value) : Type 0 where
@@ -168,25 +160,37 @@ overflow_is bytes id v is lt =
     let all : length bytes + (1 + length (value_spelling v)) ≡ length (body (items_of bytes)) + length (property_spelling (record { id = id; value = v })) = omega (arith, size, ap length is) in
     ap (λ (n : ℕ). ltb 268435455 n) all
 
+-- no room for an identifier, and so for a property
+pub no_room : (capacity size id : ℕ) (v : Value) → id < 128 → capacity < size + 1 → capacity < size + length (property_spelling (record { id = id; value = v }))
+no_room capacity size id v small lt = omega (arith, lt, ap length (id_spelled id small), length-append (varint_spelling id) (value_spelling v))
+
+-- no room for the value behind it
+pub no_room_behind : (capacity more size behind id : ℕ) (v : Value) → id < 128 → capacity ≤ more → behind ≡ size + 1 → more < behind + length (value_spelling v) → capacity < size + length (property_spelling (record { id = id; value = v }))
+no_room_behind capacity more size behind id v small le is lt =
+    omega (arith, le, is, lt, ap length (id_spelled id small), length-append (varint_spelling id) (value_spelling v))
+
+pub room_behind : (result : Result (Unit {0}) PushFault) (capacity more size behind id : ℕ) (v : Value) → id < 128 → capacity ≤ more → behind ≡ size + 1 → OnErr result (more < behind + length (value_spelling v))
+    → OnErr result (capacity < size + length (property_spelling (record { id = id; value = v })))
+room_behind (Ok u) capacity more size behind id v small le is lacks = tt
+room_behind (Err fault) capacity more size behind id v small le is lacks = no_room_behind capacity more size behind id v small le is lacks
+
 -- ---- as the call leaves the list
 
-pub record Leaves (place : Place) (bytes new : List ℕ) (p : Property) (result : Result (Unit {0}) PushFault) : Type 0 where
+pub record Leaves (place : Place) (bytes new : List ℕ) (p : Property) : Type 0 where
   pub is_list : IsList place new
-  pub items : OnOk result (items_of new ≡ items_of bytes ++ p ∷ [])
+  pub items : items_of new ≡ items_of bytes ++ p ∷ []
 
-pub leaves : (place : Place) (bytes new : List ℕ) (prop : Prop) (p : Property) (result : Result (Unit {0}) PushFault) → p ≡ prop_view prop → IsList place bytes → fault_of (record { place = place; items = items_of bytes }) p.value (row_of p.id) ≡ None
-    → OnOk result (new ≡ bytes ++ property_spelling p) → OnOk result (IsValue p.value) → OnErr result (new ≡ bytes) → Leaves place bytes new p result
-leaves place bytes new prop p (Ok u) same is e ok valid err =
+pub leaves : (place : Place) (bytes new : List ℕ) (prop : Prop) (p : Property) → p ≡ prop_view prop → IsList place bytes → fault_of (record { place = place; items = items_of bytes }) p.value (row_of p.id) ≡ None
+    → new ≡ bytes ++ property_spelling p → IsValue p.value → Leaves place bytes new p
+leaves place bytes new prop p same is e ok valid =
     let line = prop_line prop in
     let known : row_of p.id ≡ Some line.line = ap (λ (q : Property). row_of q.id) same ∙ line.known in
     let typed : type_of p.value ≡ line.line.kind = ap (λ (q : Property). type_of q.value) same ∙ line.typed in
     let done = pushed place bytes p line.line is known typed valid e in
     record { is_list = subst (λ (all : List ℕ). IsList place all) (sym ok) done.is_list; items = ap items_of ok ∙ done.items }
-leaves place bytes new prop p (Err fault) same is e ok valid err = record { is_list = subst (λ (all : List ℕ). IsList place all) (sym err) is; items = tt }
 
-pub listed_after : (place : Place) (bytes new : List ℕ) (list : Listed) (p q : Property) (result : Result (Unit {0}) PushFault) → (let was : Listed = record { place = place; items = items_of bytes } in was) ≡ list → p ≡ q → OnOk result (items_of new ≡ items_of bytes ++ p ∷ [])
-    → OnOk result ((let now : Listed = record { place = place; items = items_of new } in now) ≡ record { place = list.place; items = list.items ++ q ∷ [] })
-listed_after place bytes new list p q (Ok u) was same e =
+pub listed_after : (place : Place) (bytes new : List ℕ) (list : Listed) (p q : Property) → (let was : Listed = record { place = place; items = items_of bytes } in was) ≡ list → p ≡ q → items_of new ≡ items_of bytes ++ p ∷ []
+    → (let now : Listed = record { place = place; items = items_of new } in now) ≡ record { place = list.place; items = list.items ++ q ∷ [] }
+listed_after place bytes new list p q was same e =
     let first : (let now : Listed = record { place = place; items = items_of new } in now) ≡ record { place = place; items = items_of bytes ++ p ∷ [] } = ap (λ (ps : List Property). record { place = place; items = ps }) e in
     first ∙ ap (λ (l : Listed). record { place = l.place; items = l.items ++ p ∷ [] }) was ∙ ap (λ (r : Property). record { place = list.place; items = list.items ++ r ∷ [] }) same
-listed_after place bytes new list p q (Err fault) was same e = tt

@@ -8,7 +8,7 @@ use Rattle.mq_props.specs.declared.table.Place.{Place}
 use Rattle.mq_props.specs.declared.table.Place.TheVariants.{Publish}
 use Rattle.mq_props.specs.declared.table.Range.{Range}
 use Rattle.mq_props.specs.declared.table.Range.TheVariants.{Any, NotZero, ZeroOrOne}
-use Rattle.mq_props.specs.declared.table.id.TheConstants.{RESPONSE_TOPIC}
+use Rattle.mq_props.specs.Identifiers.{response_topic}
 use Rattle.mq_props.specs.Table.{Line, row_of, same_place, is_listed, may_repeat}
 use Rattle.mq_props.specs.Values.{Value, byte, two_bytes, four_bytes, varint, text, pair, binary, Property, type_of, IsValue, body}
 
@@ -48,7 +48,7 @@ has_wildcard (binary bytes) = false
 
 -- The value is a Response Topic of a PUBLISH with a wildcard (3.3.2.3.5).
 abbrev pub is_wild : Place → ℕ → Value → Bool
-is_wild place id value = same_place place Publish && id == RESPONSE_TOPIC && has_wildcard value
+is_wild place id value = same_place place Publish && id == response_topic && has_wildcard value
 
 -- The property may stand in the place's list behind these.
 pub record IsAllowed (place : Place) (before : List Property) (p : Property) : Type 0 where

@@ -1,4 +1,5 @@
 pub mod Faults
+pub mod Identifiers
 pub mod Table
 pub mod Values
 pub mod Allowed
@@ -9,4 +10,5 @@ pub mod First
 pub mod Listed
 pub mod Pushing
 pub mod Views
+pub mod Making
 pub mod Props

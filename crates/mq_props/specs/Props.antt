@@ -1,35 +1,35 @@
 -- What a property of the source stands for: its identifier and its value (MQTT 5.0, 2.2.2.2).
 use Rattle.mq_props.specs.declared.prop.Prop.{Prop}
 use Rattle.mq_props.specs.declared.prop.Prop.TheVariants as props
-use Rattle.mq_props.specs.declared.table.id.TheConstants.{PAYLOAD_FORMAT_INDICATOR, MESSAGE_EXPIRY_INTERVAL, CONTENT_TYPE, RESPONSE_TOPIC, CORRELATION_DATA, SUBSCRIPTION_IDENTIFIER, SESSION_EXPIRY_INTERVAL, ASSIGNED_CLIENT_IDENTIFIER, SERVER_KEEP_ALIVE, AUTHENTICATION_METHOD, AUTHENTICATION_DATA, REQUEST_PROBLEM_INFORMATION, WILL_DELAY_INTERVAL, REQUEST_RESPONSE_INFORMATION, RESPONSE_INFORMATION, SERVER_REFERENCE, REASON_STRING, RECEIVE_MAXIMUM, TOPIC_ALIAS_MAXIMUM, TOPIC_ALIAS, MAXIMUM_QOS, RETAIN_AVAILABLE, USER_PROPERTY, MAXIMUM_PACKET_SIZE, WILDCARD_SUBSCRIPTION_AVAILABLE, SUBSCRIPTION_IDENTIFIER_AVAILABLE, SHARED_SUBSCRIPTION_AVAILABLE}
+use Rattle.mq_props.specs.Identifiers.{payload_format_indicator, message_expiry_interval, content_type, response_topic, correlation_data, subscription_identifier, session_expiry_interval, assigned_client_identifier, server_keep_alive, authentication_method, authentication_data, request_problem_information, will_delay_interval, request_response_information, response_information, server_reference, reason_string, receive_maximum, topic_alias_maximum, topic_alias, maximum_qos, retain_available, user_property, maximum_packet_size, wildcard_subscription_available, subscription_identifier_available, shared_subscription_available}
 use Rattle.mq_props.specs.Values.{Property, byte, two_bytes, four_bytes, varint, text, pair, binary}
 
 -- The identifier and the value of each.
 abbrev pub prop_view : Prop → Property
-prop_view (props.PayloadFormatIndicator n) = record { id = PAYLOAD_FORMAT_INDICATOR; value = byte n }
-prop_view (props.MessageExpiryInterval n) = record { id = MESSAGE_EXPIRY_INTERVAL; value = four_bytes n }
-prop_view (props.ContentType t) = record { id = CONTENT_TYPE; value = text t.now }
-prop_view (props.ResponseTopic t) = record { id = RESPONSE_TOPIC; value = text t.now }
-prop_view (props.CorrelationData bytes) = record { id = CORRELATION_DATA; value = binary bytes.now }
-prop_view (props.SubscriptionIdentifier n) = record { id = SUBSCRIPTION_IDENTIFIER; value = varint n }
-prop_view (props.SessionExpiryInterval n) = record { id = SESSION_EXPIRY_INTERVAL; value = four_bytes n }
-prop_view (props.AssignedClientIdentifier t) = record { id = ASSIGNED_CLIENT_IDENTIFIER; value = text t.now }
-prop_view (props.ServerKeepAlive n) = record { id = SERVER_KEEP_ALIVE; value = two_bytes n }
-prop_view (props.AuthenticationMethod t) = record { id = AUTHENTICATION_METHOD; value = text t.now }
-prop_view (props.AuthenticationData bytes) = record { id = AUTHENTICATION_DATA; value = binary bytes.now }
-prop_view (props.RequestProblemInformation n) = record { id = REQUEST_PROBLEM_INFORMATION; value = byte n }
-prop_view (props.WillDelayInterval n) = record { id = WILL_DELAY_INTERVAL; value = four_bytes n }
-prop_view (props.RequestResponseInformation n) = record { id = REQUEST_RESPONSE_INFORMATION; value = byte n }
-prop_view (props.ResponseInformation t) = record { id = RESPONSE_INFORMATION; value = text t.now }
-prop_view (props.ServerReference t) = record { id = SERVER_REFERENCE; value = text t.now }
-prop_view (props.ReasonString t) = record { id = REASON_STRING; value = text t.now }
-prop_view (props.ReceiveMaximum n) = record { id = RECEIVE_MAXIMUM; value = two_bytes n }
-prop_view (props.TopicAliasMaximum n) = record { id = TOPIC_ALIAS_MAXIMUM; value = two_bytes n }
-prop_view (props.TopicAlias n) = record { id = TOPIC_ALIAS; value = two_bytes n }
-prop_view (props.MaximumQos n) = record { id = MAXIMUM_QOS; value = byte n }
-prop_view (props.RetainAvailable n) = record { id = RETAIN_AVAILABLE; value = byte n }
-prop_view (props.UserProperty name value) = record { id = USER_PROPERTY; value = pair name.now value.now }
-prop_view (props.MaximumPacketSize n) = record { id = MAXIMUM_PACKET_SIZE; value = four_bytes n }
-prop_view (props.WildcardSubscriptionAvailable n) = record { id = WILDCARD_SUBSCRIPTION_AVAILABLE; value = byte n }
-prop_view (props.SubscriptionIdentifierAvailable n) = record { id = SUBSCRIPTION_IDENTIFIER_AVAILABLE; value = byte n }
-prop_view (props.SharedSubscriptionAvailable n) = record { id = SHARED_SUBSCRIPTION_AVAILABLE; value = byte n }
+prop_view (props.PayloadFormatIndicator n) = record { id = payload_format_indicator; value = byte n }
+prop_view (props.MessageExpiryInterval n) = record { id = message_expiry_interval; value = four_bytes n }
+prop_view (props.ContentType t) = record { id = content_type; value = text t.now }
+prop_view (props.ResponseTopic t) = record { id = response_topic; value = text t.now }
+prop_view (props.CorrelationData bytes) = record { id = correlation_data; value = binary bytes.now }
+prop_view (props.SubscriptionIdentifier n) = record { id = subscription_identifier; value = varint n }
+prop_view (props.SessionExpiryInterval n) = record { id = session_expiry_interval; value = four_bytes n }
+prop_view (props.AssignedClientIdentifier t) = record { id = assigned_client_identifier; value = text t.now }
+prop_view (props.ServerKeepAlive n) = record { id = server_keep_alive; value = two_bytes n }
+prop_view (props.AuthenticationMethod t) = record { id = authentication_method; value = text t.now }
+prop_view (props.AuthenticationData bytes) = record { id = authentication_data; value = binary bytes.now }
+prop_view (props.RequestProblemInformation n) = record { id = request_problem_information; value = byte n }
+prop_view (props.WillDelayInterval n) = record { id = will_delay_interval; value = four_bytes n }
+prop_view (props.RequestResponseInformation n) = record { id = request_response_information; value = byte n }
+prop_view (props.ResponseInformation t) = record { id = response_information; value = text t.now }
+prop_view (props.ServerReference t) = record { id = server_reference; value = text t.now }
+prop_view (props.ReasonString t) = record { id = reason_string; value = text t.now }
+prop_view (props.ReceiveMaximum n) = record { id = receive_maximum; value = two_bytes n }
+prop_view (props.TopicAliasMaximum n) = record { id = topic_alias_maximum; value = two_bytes n }
+prop_view (props.TopicAlias n) = record { id = topic_alias; value = two_bytes n }
+prop_view (props.MaximumQos n) = record { id = maximum_qos; value = byte n }
+prop_view (props.RetainAvailable n) = record { id = retain_available; value = byte n }
+prop_view (props.UserProperty name value) = record { id = user_property; value = pair name.now value.now }
+prop_view (props.MaximumPacketSize n) = record { id = maximum_packet_size; value = four_bytes n }
+prop_view (props.WildcardSubscriptionAvailable n) = record { id = wildcard_subscription_available; value = byte n }
+prop_view (props.SubscriptionIdentifierAvailable n) = record { id = subscription_identifier_available; value = byte n }
+prop_view (props.SharedSubscriptionAvailable n) = record { id = shared_subscription_available; value = byte n }

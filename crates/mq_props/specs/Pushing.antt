@@ -1,5 +1,6 @@
 -- Which properties a list that is made takes at its end.
-use Rattle.std.specs.Prelude.{◌≡◌, ℕ, ◌+◌, Bool, false, not, ◌||◌, List, ◌++◌, length, Option, Some, None, Result, OnOk, OnErr, IsOkUnless, nat_lt, if◌then◌else◌}
+use Rattle.std.specs.Prelude.{◌≡◌, ℕ, ◌+◌, ◌<◌, ◌≤◌, Bool, false, not, ◌||◌, List, ◌++◌, length, Option, Some, None, Result, OnOk, OnErr, IsOkUnless, nat_lt, if◌then◌else◌, Vec, vec_len, vec_capacity}
+use Rattle.std.specs.declared.alloc.Global.{Global}
 use Rattle.mq_wire.specs.Spellings.{has_nul}
 use Rattle.mq_props.specs.declared.fault.PushFault.{PushFault}
 use Rattle.mq_props.specs.declared.fault.PushFault.TheVariants.{NotAllowed, Repeated, Value as BadValue, TooLong, Memory}
@@ -61,9 +62,11 @@ fault_of list value (Some line) =
 abbrev pub push_fault : Listed → Property → Option PushFault
 push_fault list p = fault_of list p.value (row_of p.id)
 
--- The call appends the spelling of a value of its type, or nothing for want of memory.
-pub record Puts (v : Value) (result : Result (Unit {0}) PushFault) (old new : List ℕ) : Type 0 where
-  pub ok : OnOk result (new ≡ old ++ value_spelling v)
+-- The call appends the spelling of a value of its type, or nothing for want of memory, where the vector has no room for it.
+pub record Puts (v : Value) (result : Result (Unit {0}) PushFault) (old new : Vec ℕ Global) : Type 0 where
+  pub ok : OnOk result (new.items ≡ old.items ++ value_spelling v)
   pub valid : OnOk result (IsValue v)
-  pub err : OnErr result (new ≡ old)
+  pub err : OnErr result (new.items ≡ old.items)
   pub memory : IsOkUnless result Memory
+  pub room : OnErr result (vec_capacity old < vec_len old + length (value_spelling v))
+  pub capacity : vec_capacity old ≤ vec_capacity new

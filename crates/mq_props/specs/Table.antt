@@ -1,5 +1,5 @@
--- The table of properties (MQTT 5.0, 2.2.2.2): the lines of the source's TABLE, as the contracts read them.
-use Rattle.std.specs.Prelude.{ℕ, Bool, ◌&&◌, ◌||◌, List, map, Option, ◌==◌}
+-- The table of properties (MQTT 5.0, 2.2.2.2).
+use Rattle.std.specs.Prelude.{ℕ, Bool, ◌&&◌, ◌||◌, List, [], ◌∷◌, map, Option, ◌==◌}
 use Rattle.std.specs.List.{find, list_any}
 use Rattle.std.specs.Borrow.{Bor}
 use Rattle.mq_props.specs.declared.table.Place.{Place}
@@ -7,8 +7,8 @@ use Rattle.mq_props.specs.declared.table.Place.TheVariants.{Connect, Will, Conna
 use Rattle.mq_props.specs.declared.table.ValueType.{ValueType}
 use Rattle.mq_props.specs.declared.table.ValueType.TheVariants as types
 use Rattle.mq_props.specs.declared.table.Range.{Range}
-use Rattle.mq_props.specs.declared.table.TheConstants.{TABLE}
-use Rattle.mq_props.specs.declared.table.id.TheConstants.{USER_PROPERTY, SUBSCRIPTION_IDENTIFIER}
+use Rattle.mq_props.specs.declared.table.Range.TheVariants.{Any, NotZero, ZeroOrOne}
+use Rattle.mq_props.specs.Identifiers.{payload_format_indicator, message_expiry_interval, content_type, response_topic, correlation_data, subscription_identifier, session_expiry_interval, assigned_client_identifier, server_keep_alive, authentication_method, authentication_data, request_problem_information, will_delay_interval, request_response_information, response_information, server_reference, reason_string, receive_maximum, topic_alias_maximum, topic_alias, maximum_qos, retain_available, user_property, maximum_packet_size, wildcard_subscription_available, subscription_identifier_available, shared_subscription_available}
 
 -- The places in the order of the source.
 abbrev pub place_number : Place → ℕ
@@ -50,9 +50,42 @@ row_view row = record { id = row.0; kind = row.1; range = row.2; lists = row.3.n
 abbrev pub rows_of : List (ℕ × ValueType × Range × Bor (List Place)) → List Line
 rows_of rows = map row_view rows
 
--- The lines of the table.
+-- A line of these parts.
+abbrev pub line : ℕ → ValueType → Range → List Place → Line
+line id kind range lists = record { id = id; kind = kind; range = range; lists = lists }
+
+-- The lines of the table, in the order of the standard. The ranges are those of the sections on each property (3.1.2.11,
+-- 3.2.2.3, 3.3.2.3 and 3.8.2.1.2).
 unfoldable pub rows : List Line
-rows = map (λ row. record { id = row.0; kind = row.1; range = row.2; lists = row.3.now }) TABLE
+rows =
+    line payload_format_indicator types.Byte Any (Publish ∷ Will ∷ [])
+    ∷ line message_expiry_interval types.FourBytes Any (Publish ∷ Will ∷ [])
+    ∷ line content_type types.Text Any (Publish ∷ Will ∷ [])
+    ∷ line response_topic types.Text Any (Publish ∷ Will ∷ [])
+    ∷ line correlation_data types.Binary Any (Publish ∷ Will ∷ [])
+    ∷ line subscription_identifier types.Varint NotZero (Publish ∷ Subscribe ∷ [])
+    ∷ line session_expiry_interval types.FourBytes Any (Connect ∷ Connack ∷ Disconnect ∷ [])
+    ∷ line assigned_client_identifier types.Text Any (Connack ∷ [])
+    ∷ line server_keep_alive types.TwoBytes Any (Connack ∷ [])
+    ∷ line authentication_method types.Text Any (Connect ∷ Connack ∷ Auth ∷ [])
+    ∷ line authentication_data types.Binary Any (Connect ∷ Connack ∷ Auth ∷ [])
+    ∷ line request_problem_information types.Byte ZeroOrOne (Connect ∷ [])
+    ∷ line will_delay_interval types.FourBytes Any (Will ∷ [])
+    ∷ line request_response_information types.Byte ZeroOrOne (Connect ∷ [])
+    ∷ line response_information types.Text Any (Connack ∷ [])
+    ∷ line server_reference types.Text Any (Connack ∷ Disconnect ∷ [])
+    ∷ line reason_string types.Text Any (Connack ∷ Puback ∷ Pubrec ∷ Pubrel ∷ Pubcomp ∷ Suback ∷ Unsuback ∷ Disconnect ∷ Auth ∷ [])
+    ∷ line receive_maximum types.TwoBytes NotZero (Connect ∷ Connack ∷ [])
+    ∷ line topic_alias_maximum types.TwoBytes Any (Connect ∷ Connack ∷ [])
+    ∷ line topic_alias types.TwoBytes NotZero (Publish ∷ [])
+    ∷ line maximum_qos types.Byte ZeroOrOne (Connack ∷ [])
+    ∷ line retain_available types.Byte ZeroOrOne (Connack ∷ [])
+    ∷ line user_property types.Pair Any (Connect ∷ Will ∷ Connack ∷ Publish ∷ Puback ∷ Pubrec ∷ Pubrel ∷ Pubcomp ∷ Subscribe ∷ Suback ∷ Unsubscribe ∷ Unsuback ∷ Disconnect ∷ Auth ∷ [])
+    ∷ line maximum_packet_size types.FourBytes NotZero (Connect ∷ Connack ∷ [])
+    ∷ line wildcard_subscription_available types.Byte ZeroOrOne (Connack ∷ [])
+    ∷ line subscription_identifier_available types.Byte ZeroOrOne (Connack ∷ [])
+    ∷ line shared_subscription_available types.Byte ZeroOrOne (Connack ∷ [])
+    ∷ []
 
 -- The line of an identifier, if a property has it.
 unfoldable pub row_of : ℕ → Option Line
@@ -64,7 +97,7 @@ is_listed place row = list_any (λ p. same_place p place) row.lists
 
 -- It may stand there more than once: a User Property anywhere, and a Subscription Identifier in PUBLISH.
 abbrev pub may_repeat : Place → ℕ → Bool
-may_repeat place id = (id == USER_PROPERTY) || (id == SUBSCRIPTION_IDENTIFIER) && same_place place Publish
+may_repeat place id = (id == user_property) || (id == subscription_identifier) && same_place place Publish
 
 -- The types in the order of the source.
 abbrev pub kind_number : ValueType → ℕ

@@ -1,18 +1,18 @@
 //! A property list that is made property by property.
 
-ghost use Rattle.std.specs.Prelude.{◌≡◌, ◌+◌, ◌<◌, ◌≤◌, ◌||◌, false, [], ◌∷◌, ◌++◌, length, take, OnOk, OnErr, IsOkUnless, MatchOption, Some, Err, nat_lt};
+ghost use Rattle.std.specs.Prelude.{◌≡◌, ◌+◌, ◌<◌, ◌≤◌, ◌||◌, false, [], ◌∷◌, ◌++◌, length, take, OnOk, OnErr, IsOkUnless, MatchOption, Some, Err, nat_lt, vec_len, vec_capacity};
 ghost use Rattle.mq_wire.specs.Spellings.{varint_spelling, has_nul};
 ghost use Rattle.mq_props.specs.Table.{row_view, row_of};
 ghost use Rattle.mq_props.specs.Values.{byte, two_bytes, four_bytes, varint, text, pair, binary, IsValue, value_spelling, property_spelling, body};
-ghost use Rattle.mq_props.specs.Allowed.{stands_in, AreAllowed};
 ghost use Rattle.mq_props.specs.Reading.{items_of};
 ghost use Rattle.mq_props.specs.Pushing.{nul_in, is_long, is_large, is_bad, overflows, fault_of, push_fault, Puts};
-ghost use Rattle.mq_props.specs.Views.{item_view, value_view};
+ghost use Rattle.mq_props.specs.Views.{Sees, item_view, value_view};
 ghost use Rattle.mq_props.specs.Props.{prop_view};
 
 use crate::fault::PushFault;
 use crate::prop::{Prop, item_of};
-use crate::props::{Props, first_in};
+use crate::props::Props;
+use crate::seen::Seen;
 use crate::table::{Place, Row, find_row, lists_place, may_repeat_in};
 use crate::value::{Item, Value, is_in_range, is_wild_in};
 use mq_wire::{put_binary, put_pair, put_text, put_u8, put_u16, put_u32, put_varint};
@@ -27,22 +27,24 @@ const MAX_VARINT: usize = 268_435_455;
 
 /// A property list that is made for its place, and may stand there at any moment (MQTT 5.0, 2.2.2).
 ///
-/// A contract sees its place and its properties, in order.
+/// A contract sees its place and its properties, in order, and how many bytes more it takes without more memory.
 #[derive(Debug, Drop)]
 pub struct PropsBuf {
     place: Place,
+    seen: Seen,
     bytes: Vec<u8>,
 }
 
 impl Model for PropsBuf {
-    ghost use Rattle.mq_props.specs.Listed.{Listed, IsList};
+    ghost use Rattle.std.specs.Prelude.{◌-◌, vec_len, vec_capacity};
     ghost use Rattle.mq_props.specs.Reading.{items_of};
+    ghost use Rattle.mq_props.specs.Making.{Made, Keeps};
 
-    ghost Value = { Listed };
+    ghost Value = { Made };
 
-    ghost view = { λ b. record { place = b.place; items = items_of b.bytes.items } };
+    ghost view = { λ b. record { list = record { place = b.place; items = items_of b.bytes.items }; spare = vec_capacity b.bytes - vec_len b.bytes } };
 
-    ghost invariant = { λ b. IsList b.place b.bytes.items };
+    ghost invariant = { λ b. Keeps b.place b.seen b.bytes.items };
 }
 
 fn is_over(bytes: &[u8]) -> bool
@@ -167,15 +169,9 @@ fn is_too_long(bytes: &[u8], id: u8, value: &Value) -> bool
     is_long_value(value) || is_over_list(bytes, id, value)
 }
 
-#[tactic(auto, using(crate::proofs::Pushes::stands_first))]
-fn has_property(bytes: &[u8], id: u8) -> bool
-    ensures { result ≡ stands_in id (items_of bytes.now) }
-{
-    first_in(bytes, id).is_some()
-}
-
-// Why the list of these bytes doesn't take a property with the value, if so.
-fn fault_with(place: Place, bytes: &[u8], row: Row, value: &Value) -> Option<PushFault>
+// Why the list of these bytes, of which this was seen, doesn't take a property with the value, if so.
+fn fault_with(place: Place, seen: &Seen, bytes: &[u8], row: Row, value: &Value) -> Option<PushFault>
+    requires sees { Sees seen.now (items_of bytes.now) }
     requires spelled { bytes.now ≡ body (items_of bytes.now) }
     requires bound { length bytes.now ≤ 268435455 }
     requires known { row.0 < 43 }
@@ -184,7 +180,7 @@ fn fault_with(place: Place, bytes: &[u8], row: Row, value: &Value) -> Option<Pus
     if !lists_place(row.3, place) {
         return Some(PushFault::NotAllowed);
     }
-    if has_property(bytes, row.0) && !may_repeat_in(place, row.0) {
+    if seen.has(row.0) && !may_repeat_in(place, row.0) {
         return Some(PushFault::Repeated);
     }
     if is_bad_value(place, row, value) {
@@ -196,63 +192,71 @@ fn fault_with(place: Place, bytes: &[u8], row: Row, value: &Value) -> Option<Pus
     None
 }
 
-fn fault_in(place: Place, bytes: &[u8], item: &Item) -> Option<PushFault>
+fn fault_in(place: Place, seen: &Seen, bytes: &[u8], item: &Item) -> Option<PushFault>
+    requires sees { Sees seen.now (items_of bytes.now) }
     requires spelled { bytes.now ≡ body (items_of bytes.now) }
     requires bound { length bytes.now ≤ 268435455 }
     ensures { result ≡ push_fault (record { place = place; items = items_of bytes.now }) (item_view item.now) }
 {
     match find_row(u32::from(item.id)) {
-        Some(row) => fault_with(place, bytes, row, &item.value),
+        Some(row) => fault_with(place, seen, bytes, row, &item.value),
         None => Some(PushFault::NotAllowed),
     }
 }
 
+#[tactic(auto, using(mq_wire::proofs::RoomLaws::number_room))]
 fn put_byte(out: &mut Vec<u8>, number: u8) -> Result<(), PushFault>
-    ensures { Puts (byte number) result out.old.items out.new.items }
+    ensures { Puts (byte number) result out.old out.new }
 {
     put_u8(out, number).map_err(|_| PushFault::Memory)
 }
 
+#[tactic(auto, using(mq_wire::proofs::RoomLaws::number_room))]
 fn put_two_bytes(out: &mut Vec<u8>, number: u16) -> Result<(), PushFault>
-    ensures { Puts (two_bytes number) result out.old.items out.new.items }
+    ensures { Puts (two_bytes number) result out.old out.new }
 {
     put_u16(out, number).map_err(|_| PushFault::Memory)
 }
 
+#[tactic(auto, using(mq_wire::proofs::RoomLaws::number_room))]
 fn put_four_bytes(out: &mut Vec<u8>, number: u32) -> Result<(), PushFault>
-    ensures { Puts (four_bytes number) result out.old.items out.new.items }
+    ensures { Puts (four_bytes number) result out.old out.new }
 {
     put_u32(out, number).map_err(|_| PushFault::Memory)
 }
 
+#[tactic(auto, using(mq_wire::proofs::RoomLaws::counted_room))]
 fn put_number(out: &mut Vec<u8>, number: u32) -> Result<(), PushFault>
     requires { number ≤ 268435455 }
-    ensures { Puts (varint number) result out.old.items out.new.items }
+    ensures { Puts (varint number) result out.old out.new }
 {
     put_varint(out, number).map_err(|_| PushFault::Memory)
 }
 
+#[tactic(auto, using(mq_wire::proofs::RoomLaws::text_room))]
 fn put_string(out: &mut Vec<u8>, string: &str) -> Result<(), PushFault>
     requires short { length string.now ≤ 65535 }
     requires no_nul { has_nul string.now ≡ false }
-    ensures { Puts (text string.now) result out.old.items out.new.items }
+    ensures { Puts (text string.now) result out.old out.new }
 {
     put_text(out, string).map_err(|_| PushFault::Memory)
 }
 
+#[tactic(auto, using(mq_wire::proofs::RoomLaws::pair_room))]
 fn put_strings(out: &mut Vec<u8>, name: &str, value: &str) -> Result<(), PushFault>
     requires name_short { length name.now ≤ 65535 }
     requires value_short { length value.now ≤ 65535 }
     requires name_no_nul { has_nul name.now ≡ false }
     requires value_no_nul { has_nul value.now ≡ false }
-    ensures { Puts (pair name.now value.now) result out.old.items out.new.items }
+    ensures { Puts (pair name.now value.now) result out.old out.new }
 {
     put_pair(out, name, value).map_err(|_| PushFault::Memory)
 }
 
+#[tactic(auto, using(mq_wire::proofs::RoomLaws::counted_room))]
 fn put_bytes(out: &mut Vec<u8>, bytes: &[u8]) -> Result<(), PushFault>
     requires { length bytes.now ≤ 65535 }
-    ensures { Puts (binary bytes.now) result out.old.items out.new.items }
+    ensures { Puts (binary bytes.now) result out.old out.new }
 {
     put_binary(out, bytes).map_err(|_| PushFault::Memory)
 }
@@ -261,7 +265,7 @@ fn put_value(out: &mut Vec<u8>, value: &Value) -> Result<(), PushFault>
     requires long { is_long (value_view value.now) ≡ false }
     requires nul { nul_in (value_view value.now) ≡ false }
     requires large { is_large (value_view value.now) ≡ false }
-    ensures { Puts (value_view value.now) result out.old.items out.new.items }
+    ensures { Puts (value_view value.now) result out.old out.new }
 {
     match *value {
         Value::Byte(number) => put_byte(out, number),
@@ -275,7 +279,7 @@ fn put_value(out: &mut Vec<u8>, value: &Value) -> Result<(), PushFault>
 }
 
 // Appends the property, or a front of it for want of memory.
-#[tactic(auto, using(crate::proofs::Pushes::id_spelled, std::proofs::lemmas::List::append_assoc, std::proofs::lemmas::List::take_at))]
+#[tactic(auto, using(crate::proofs::Pushes::id_spelled, crate::proofs::Pushes::no_room, crate::proofs::Pushes::no_room_behind, std::proofs::lemmas::List::append_assoc, std::proofs::lemmas::List::take_at))]
 fn put_item(out: &mut Vec<u8>, item: &Item) -> Result<(), PushFault>
     requires id { item.now.id < 128 }
     requires long { is_long (value_view item.now.value) ≡ false }
@@ -285,6 +289,7 @@ fn put_item(out: &mut Vec<u8>, item: &Item) -> Result<(), PushFault>
     ensures valid { OnOk result (IsValue (value_view item.now.value)) }
     ensures grows { take (length out.old.items) out.new.items ≡ out.old.items }
     ensures memory { IsOkUnless result PushFault.Memory }
+    ensures room { OnErr result (vec_capacity out.old < vec_len out.old + length (property_spelling (item_view item.now))) }
 {
     put_byte(out, item.id)?;
     put_value(out, &item.value)
@@ -300,6 +305,7 @@ fn append(out: &mut Vec<u8>, item: &Item) -> Result<(), PushFault>
     ensures valid { OnOk result (IsValue (value_view item.now.value)) }
     ensures err { OnErr result (out.new.items ≡ out.old.items) }
     ensures memory { IsOkUnless result PushFault.Memory }
+    ensures room { OnErr result (vec_capacity out.old < vec_len out.old + length (property_spelling (item_view item.now))) }
 {
     let len = out.len();
     let written = put_item(out, item);
@@ -312,11 +318,12 @@ fn append(out: &mut Vec<u8>, item: &Item) -> Result<(), PushFault>
 impl PropsBuf {
     /// A list of no properties, for the place. It takes no memory.
     pub fn new(alloc: Global, place: Place) -> PropsBuf
-        ensures place { result.place ≡ place }
-        ensures items { result.items ≡ [] }
+        ensures list { result.list ≡ record { place = place; items = [] } }
+        ensures spare { result.spare ≡ 0 }
     {
         PropsBuf {
             place,
+            seen: Seen::new(),
             bytes: Vec::new(alloc),
         }
     }
@@ -325,23 +332,27 @@ impl PropsBuf {
     ///
     /// # Errors
     ///
-    /// The [`PushFault`] with the lowest number that stands; the list is unchanged then.
+    /// The [`PushFault`] with the lowest number that stands: `Memory` only where the property has more bytes than the list takes
+    /// without more memory. The list is unchanged then.
     pub fn push(&mut self, prop: &Prop) -> Result<(), PushFault>
-        ensures ok { OnOk result (self.new ≡ record { place = self.old.place; items = self.old.items ++ prop_view prop.now ∷ [] }) }
-        ensures err { OnErr result (self.new ≡ self.old) }
+        ensures ok { OnOk result (self.new.list ≡ record { place = self.old.list.place; items = self.old.list.items ++ prop_view prop.now ∷ [] }) }
+        ensures err { OnErr result (self.new.list ≡ self.old.list) }
         // It is refused for the lowest reason that stands, and else only for want of memory.
-        ensures refused { MatchOption (push_fault self.old (prop_view prop.now)) (IsOkUnless result PushFault.Memory) (λ fault. result ≡ Err fault) }
+        ensures refused { MatchOption (push_fault self.old.list (prop_view prop.now)) (IsOkUnless result PushFault.Memory) (λ fault. result ≡ Err fault) }
+        ensures memory { result ≡ Err PushFault.Memory → self.old.spare < length (property_spelling (prop_view prop.now)) }
     {
         let item = item_of(*prop);
-        if let Some(fault) = fault_in(self.place, &self.bytes, &item) {
+        if let Some(fault) = fault_in(self.place, &self.seen, &self.bytes, &item) {
             return Err(fault);
         }
-        append(&mut self.bytes, &item)
+        append(&mut self.bytes, &item)?;
+        self.seen.add(item.id);
+        Ok(())
     }
 
     /// The list, borrowed.
     pub fn as_props(&self) -> Props<'_>
-        ensures { result ≡ self.now }
+        ensures { result ≡ self.now.list }
     {
         Props::of(self.place, &self.bytes)
     }

@@ -1,11 +1,16 @@
 //! The first property of each kind in a list.
+//!
+//! What a PUBLISH is asked for is inlined down to a function that takes the list's bytes: a list that is lent to no call needs no place
+//! in memory.
 
 ghost use Rattle.std.specs.Prelude.{◌≡◌};
 ghost use Rattle.std.specs.Option.{option_map};
 ghost use Rattle.mq_props.specs.First.{byte_of, two_bytes_of, four_bytes_of, varint_of, text_of, pair_of, binary_of, first_byte, first_two_bytes, first_four_bytes, first_varint, first_text, first_pair, first_binary};
+ghost use Rattle.mq_props.specs.Identifiers.{payload_format_indicator, message_expiry_interval, content_type, response_topic, correlation_data, subscription_identifier, session_expiry_interval, assigned_client_identifier, server_keep_alive, authentication_method, authentication_data, request_problem_information, will_delay_interval, request_response_information, response_information, server_reference, reason_string, receive_maximum, topic_alias_maximum, topic_alias, maximum_qos, retain_available, user_property, maximum_packet_size, wildcard_subscription_available, subscription_identifier_available, shared_subscription_available};
+ghost use Rattle.mq_props.specs.Reading.{items_of};
 ghost use Rattle.mq_props.specs.Views.{value_view};
 
-use crate::props::Props;
+use crate::props::{Props, first_in};
 use crate::table::id::{
     ASSIGNED_CLIENT_IDENTIFIER, AUTHENTICATION_DATA, AUTHENTICATION_METHOD, CONTENT_TYPE,
     CORRELATION_DATA, MAXIMUM_PACKET_SIZE, MAXIMUM_QOS, MESSAGE_EXPIRY_INTERVAL,
@@ -82,6 +87,43 @@ impl<'a> Value<'a> {
     }
 }
 
+// The value of the first property with the identifier among those that the bytes spell, by its type.
+
+#[inline(never)]
+fn two_bytes_in<'a>(bytes: &'a [u8], id: u8) -> Option<u16>
+    ensures { result ≡ first_two_bytes id (items_of bytes.entry.now) }
+{
+    first_in(bytes, id)?.two_bytes()
+}
+
+#[inline(never)]
+fn four_bytes_in<'a>(bytes: &'a [u8], id: u8) -> Option<u32>
+    ensures { result ≡ first_four_bytes id (items_of bytes.entry.now) }
+{
+    first_in(bytes, id)?.four_bytes()
+}
+
+#[inline(never)]
+fn varint_in<'a>(bytes: &'a [u8], id: u8) -> Option<u32>
+    ensures { result ≡ first_varint id (items_of bytes.entry.now) }
+{
+    first_in(bytes, id)?.varint()
+}
+
+#[inline(never)]
+fn text_in<'a>(bytes: &'a [u8], id: u8) -> Option<&'a str>
+    ensures { option_map (λ text. text.now) result ≡ first_text id (items_of bytes.entry.now) }
+{
+    first_in(bytes, id)?.text()
+}
+
+#[inline(never)]
+fn pair_in<'a>(bytes: &'a [u8], id: u8) -> Option<(&'a str, &'a str)>
+    ensures { option_map (λ texts. (texts.0.now, texts.1.now)) result ≡ first_pair id (items_of bytes.entry.now) }
+{
+    first_in(bytes, id)?.pair()
+}
+
 impl<'a> Props<'a> {
     fn first_byte(&self, id: u8) -> Option<u8>
         ensures { result ≡ first_byte id self.now.items }
@@ -89,34 +131,39 @@ impl<'a> Props<'a> {
         self.first(id)?.byte()
     }
 
+    #[inline(always)]
     fn first_two_bytes(&self, id: u8) -> Option<u16>
         ensures { result ≡ first_two_bytes id self.now.items }
     {
-        self.first(id)?.two_bytes()
+        two_bytes_in(self.bytes, id)
     }
 
+    #[inline(always)]
     fn first_four_bytes(&self, id: u8) -> Option<u32>
         ensures { result ≡ first_four_bytes id self.now.items }
     {
-        self.first(id)?.four_bytes()
+        four_bytes_in(self.bytes, id)
     }
 
+    #[inline(always)]
     fn first_varint(&self, id: u8) -> Option<u32>
         ensures { result ≡ first_varint id self.now.items }
     {
-        self.first(id)?.varint()
+        varint_in(self.bytes, id)
     }
 
+    #[inline(always)]
     fn first_text(&self, id: u8) -> Option<&'a str>
         ensures { option_map (λ text. text.now) result ≡ first_text id self.now.items }
     {
-        self.first(id)?.text()
+        text_in(self.bytes, id)
     }
 
+    #[inline(always)]
     fn first_pair(&self, id: u8) -> Option<(&'a str, &'a str)>
         ensures { option_map (λ texts. (texts.0.now, texts.1.now)) result ≡ first_pair id self.now.items }
     {
-        self.first(id)?.pair()
+        pair_in(self.bytes, id)
     }
 
     fn first_binary(&self, id: u8) -> Option<&'a [u8]>
@@ -127,189 +174,194 @@ impl<'a> Props<'a> {
 
     /// The first Payload Format Indicator.
     pub fn get_payload_format_indicator(&self) -> Option<u8>
-        ensures { result ≡ first_byte PAYLOAD_FORMAT_INDICATOR self.now.items }
+        ensures { result ≡ first_byte payload_format_indicator self.now.items }
     {
         self.first_byte(PAYLOAD_FORMAT_INDICATOR)
     }
 
     /// The first Message Expiry Interval.
+    #[inline(always)]
     pub fn get_message_expiry_interval(&self) -> Option<u32>
-        ensures { result ≡ first_four_bytes MESSAGE_EXPIRY_INTERVAL self.now.items }
+        ensures { result ≡ first_four_bytes message_expiry_interval self.now.items }
     {
         self.first_four_bytes(MESSAGE_EXPIRY_INTERVAL)
     }
 
     /// The first Content Type.
     pub fn get_content_type(&self) -> Option<&'a str>
-        ensures { option_map (λ text. text.now) result ≡ first_text CONTENT_TYPE self.now.items }
+        ensures { option_map (λ text. text.now) result ≡ first_text content_type self.now.items }
     {
         self.first_text(CONTENT_TYPE)
     }
 
     /// The first Response Topic.
     pub fn get_response_topic(&self) -> Option<&'a str>
-        ensures { option_map (λ text. text.now) result ≡ first_text RESPONSE_TOPIC self.now.items }
+        ensures { option_map (λ text. text.now) result ≡ first_text response_topic self.now.items }
     {
         self.first_text(RESPONSE_TOPIC)
     }
 
     /// The first Correlation Data.
     pub fn get_correlation_data(&self) -> Option<&'a [u8]>
-        ensures { option_map (λ bytes. bytes.now) result ≡ first_binary CORRELATION_DATA self.now.items }
+        ensures { option_map (λ bytes. bytes.now) result ≡ first_binary correlation_data self.now.items }
     {
         self.first_binary(CORRELATION_DATA)
     }
 
     /// The first Subscription Identifier.
+    #[inline(always)]
     pub fn get_subscription_identifier(&self) -> Option<u32>
-        ensures { result ≡ first_varint SUBSCRIPTION_IDENTIFIER self.now.items }
+        ensures { result ≡ first_varint subscription_identifier self.now.items }
     {
         self.first_varint(SUBSCRIPTION_IDENTIFIER)
     }
 
     /// The first Session Expiry Interval.
     pub fn get_session_expiry_interval(&self) -> Option<u32>
-        ensures { result ≡ first_four_bytes SESSION_EXPIRY_INTERVAL self.now.items }
+        ensures { result ≡ first_four_bytes session_expiry_interval self.now.items }
     {
         self.first_four_bytes(SESSION_EXPIRY_INTERVAL)
     }
 
     /// The first Assigned Client Identifier.
     pub fn get_assigned_client_identifier(&self) -> Option<&'a str>
-        ensures { option_map (λ text. text.now) result ≡ first_text ASSIGNED_CLIENT_IDENTIFIER self.now.items }
+        ensures { option_map (λ text. text.now) result ≡ first_text assigned_client_identifier self.now.items }
     {
         self.first_text(ASSIGNED_CLIENT_IDENTIFIER)
     }
 
     /// The first Server Keep Alive.
     pub fn get_server_keep_alive(&self) -> Option<u16>
-        ensures { result ≡ first_two_bytes SERVER_KEEP_ALIVE self.now.items }
+        ensures { result ≡ first_two_bytes server_keep_alive self.now.items }
     {
         self.first_two_bytes(SERVER_KEEP_ALIVE)
     }
 
     /// The first Authentication Method.
     pub fn get_authentication_method(&self) -> Option<&'a str>
-        ensures { option_map (λ text. text.now) result ≡ first_text AUTHENTICATION_METHOD self.now.items }
+        ensures { option_map (λ text. text.now) result ≡ first_text authentication_method self.now.items }
     {
         self.first_text(AUTHENTICATION_METHOD)
     }
 
     /// The first Authentication Data.
     pub fn get_authentication_data(&self) -> Option<&'a [u8]>
-        ensures { option_map (λ bytes. bytes.now) result ≡ first_binary AUTHENTICATION_DATA self.now.items }
+        ensures { option_map (λ bytes. bytes.now) result ≡ first_binary authentication_data self.now.items }
     {
         self.first_binary(AUTHENTICATION_DATA)
     }
 
     /// The first Request Problem Information.
     pub fn get_request_problem_information(&self) -> Option<u8>
-        ensures { result ≡ first_byte REQUEST_PROBLEM_INFORMATION self.now.items }
+        ensures { result ≡ first_byte request_problem_information self.now.items }
     {
         self.first_byte(REQUEST_PROBLEM_INFORMATION)
     }
 
     /// The first Will Delay Interval.
     pub fn get_will_delay_interval(&self) -> Option<u32>
-        ensures { result ≡ first_four_bytes WILL_DELAY_INTERVAL self.now.items }
+        ensures { result ≡ first_four_bytes will_delay_interval self.now.items }
     {
         self.first_four_bytes(WILL_DELAY_INTERVAL)
     }
 
     /// The first Request Response Information.
     pub fn get_request_response_information(&self) -> Option<u8>
-        ensures { result ≡ first_byte REQUEST_RESPONSE_INFORMATION self.now.items }
+        ensures { result ≡ first_byte request_response_information self.now.items }
     {
         self.first_byte(REQUEST_RESPONSE_INFORMATION)
     }
 
     /// The first Response Information.
     pub fn get_response_information(&self) -> Option<&'a str>
-        ensures { option_map (λ text. text.now) result ≡ first_text RESPONSE_INFORMATION self.now.items }
+        ensures { option_map (λ text. text.now) result ≡ first_text response_information self.now.items }
     {
         self.first_text(RESPONSE_INFORMATION)
     }
 
     /// The first Server Reference.
     pub fn get_server_reference(&self) -> Option<&'a str>
-        ensures { option_map (λ text. text.now) result ≡ first_text SERVER_REFERENCE self.now.items }
+        ensures { option_map (λ text. text.now) result ≡ first_text server_reference self.now.items }
     {
         self.first_text(SERVER_REFERENCE)
     }
 
     /// The first Reason String.
+    #[inline(always)]
     pub fn get_reason_string(&self) -> Option<&'a str>
-        ensures { option_map (λ text. text.now) result ≡ first_text REASON_STRING self.now.items }
+        ensures { option_map (λ text. text.now) result ≡ first_text reason_string self.now.items }
     {
         self.first_text(REASON_STRING)
     }
 
     /// The first Receive Maximum.
     pub fn get_receive_maximum(&self) -> Option<u16>
-        ensures { result ≡ first_two_bytes RECEIVE_MAXIMUM self.now.items }
+        ensures { result ≡ first_two_bytes receive_maximum self.now.items }
     {
         self.first_two_bytes(RECEIVE_MAXIMUM)
     }
 
     /// The first Topic Alias Maximum.
     pub fn get_topic_alias_maximum(&self) -> Option<u16>
-        ensures { result ≡ first_two_bytes TOPIC_ALIAS_MAXIMUM self.now.items }
+        ensures { result ≡ first_two_bytes topic_alias_maximum self.now.items }
     {
         self.first_two_bytes(TOPIC_ALIAS_MAXIMUM)
     }
 
     /// The first Topic Alias.
+    #[inline(always)]
     pub fn get_topic_alias(&self) -> Option<u16>
-        ensures { result ≡ first_two_bytes TOPIC_ALIAS self.now.items }
+        ensures { result ≡ first_two_bytes topic_alias self.now.items }
     {
         self.first_two_bytes(TOPIC_ALIAS)
     }
 
     /// The first Maximum QoS.
     pub fn get_maximum_qos(&self) -> Option<u8>
-        ensures { result ≡ first_byte MAXIMUM_QOS self.now.items }
+        ensures { result ≡ first_byte maximum_qos self.now.items }
     {
         self.first_byte(MAXIMUM_QOS)
     }
 
     /// The first Retain Available.
     pub fn get_retain_available(&self) -> Option<u8>
-        ensures { result ≡ first_byte RETAIN_AVAILABLE self.now.items }
+        ensures { result ≡ first_byte retain_available self.now.items }
     {
         self.first_byte(RETAIN_AVAILABLE)
     }
 
     /// The first User Property.
+    #[inline(always)]
     pub fn get_user_property(&self) -> Option<(&'a str, &'a str)>
-        ensures { option_map (λ texts. (texts.0.now, texts.1.now)) result ≡ first_pair USER_PROPERTY self.now.items }
+        ensures { option_map (λ texts. (texts.0.now, texts.1.now)) result ≡ first_pair user_property self.now.items }
     {
         self.first_pair(USER_PROPERTY)
     }
 
     /// The first Maximum Packet Size.
     pub fn get_maximum_packet_size(&self) -> Option<u32>
-        ensures { result ≡ first_four_bytes MAXIMUM_PACKET_SIZE self.now.items }
+        ensures { result ≡ first_four_bytes maximum_packet_size self.now.items }
     {
         self.first_four_bytes(MAXIMUM_PACKET_SIZE)
     }
 
     /// The first Wildcard Subscription Available.
     pub fn get_wildcard_subscription_available(&self) -> Option<u8>
-        ensures { result ≡ first_byte WILDCARD_SUBSCRIPTION_AVAILABLE self.now.items }
+        ensures { result ≡ first_byte wildcard_subscription_available self.now.items }
     {
         self.first_byte(WILDCARD_SUBSCRIPTION_AVAILABLE)
     }
 
     /// The first Subscription Identifier Available.
     pub fn get_subscription_identifier_available(&self) -> Option<u8>
-        ensures { result ≡ first_byte SUBSCRIPTION_IDENTIFIER_AVAILABLE self.now.items }
+        ensures { result ≡ first_byte subscription_identifier_available self.now.items }
     {
         self.first_byte(SUBSCRIPTION_IDENTIFIER_AVAILABLE)
     }
 
     /// The first Shared Subscription Available.
     pub fn get_shared_subscription_available(&self) -> Option<u8>
-        ensures { result ≡ first_byte SHARED_SUBSCRIPTION_AVAILABLE self.now.items }
+        ensures { result ≡ first_byte shared_subscription_available self.now.items }
     {
         self.first_byte(SHARED_SUBSCRIPTION_AVAILABLE)
     }

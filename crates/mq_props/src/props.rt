@@ -1,6 +1,6 @@
 //! A validated property list.
 
-ghost use Rattle.std.specs.Prelude.{◌≡◌, ℕ, ◌+◌, ◌≤◌, ◌<◌, ◌^◌, List, [], ◌∷◌, ◌++◌, length, IfOk, IfErr, OnErr, IsOkAnd, MatchResult, MatchOption};
+ghost use Rattle.std.specs.Prelude.{◌≡◌, ℕ, ◌+◌, ◌≤◌, ◌<◌, ◌^◌, List, [], ◌∷◌, ◌++◌, length, IfOk, IfErr, IfSome, OnErr, IsOkAnd, MatchResult, MatchOption};
 ghost use Rattle.std.specs.Option.{option_map};
 ghost use Rattle.std.specs.Iterator.{YieldsFirstBy, item_count};
 ghost use Rattle.mq_wire.specs.Left.{past};
@@ -28,7 +28,7 @@ use std::mem;
 #[derive(Debug, Drop)]
 pub struct Props<'a> {
     place: Place,
-    bytes: &'a [u8],
+    pub(crate) bytes: &'a [u8],
 }
 
 impl<'a> Model for Props<'a> {
@@ -43,6 +43,7 @@ impl<'a> Model for Props<'a> {
 }
 
 // The bytes that the cursor has left, which it keeps.
+#[inline(always)]
 fn rest_of<'a>(cursor: &mut Cursor<'a>) -> &'a [u8]
     ensures rest { result.now ≡ cursor.old.rest }
     ensures same { cursor.new ≡ cursor.old }
@@ -67,9 +68,39 @@ fn all_of<'a>(place: Place, at: usize, bytes: &'a [u8]) -> Result<Props<'a>, Pro
     Ok(Props { place, bytes })
 }
 
-// The property list at the front of what is left.
-#[tactic(auto, unfolding(crate::specs::Reading::list_on))]
+// What stands behind the first byte, where that is 0.
+#[inline(always)]
+fn behind_zero(bytes: &[u8]) -> Option<&[u8]>
+    ensures { IfSome result (λ behind. bytes.now ≡ 0 ∷ behind.now) }
+{
+    match bytes {
+        [0, behind @ ..] => Some(behind),
+        _ => None,
+    }
+}
+
+// The property list at the front of what is left. Most have no property.
+#[inline(always)]
 fn list_at<'a>(cursor: &mut Cursor<'a>, place: Place) -> Result<Props<'a>, PropFault>
+    ensures exact { Reads (λ props. props.items) result (list_on place cursor.old) cursor.new }
+    ensures place { IfOk result (λ props. props.place ≡ place) }
+    ensures err { OnErr result (cursor.new ≡ cursor.old) }
+    ensures bytes { AreBytes cursor.old.rest }
+{
+    let at = cursor.at();
+    match behind_zero(rest_of(cursor)) {
+        Some(behind) => {
+            *cursor = Cursor::starting_at(behind, at + 1);
+            Ok(Props::empty(place))
+        }
+        None => any_list_at(cursor, place),
+    }
+}
+
+// The same. It stays apart, so that a list of no properties is read where it is wanted.
+#[inline(never)]
+#[tactic(auto, unfolding(crate::specs::Reading::list_on))]
+fn any_list_at<'a>(cursor: &mut Cursor<'a>, place: Place) -> Result<Props<'a>, PropFault>
     ensures exact { Reads (λ props. props.items) result (list_on place cursor.old) cursor.new }
     ensures place { IfOk result (λ props. props.place ≡ place) }
     ensures err { OnErr result (cursor.new ≡ cursor.old) }
@@ -109,6 +140,7 @@ fn next_item<'a>(cursor: &mut Cursor<'a>) -> Option<Item<'a>>
 }
 
 /// The value of the first property with the identifier among those that the bytes spell.
+#[inline(never)]
 pub fn first_in<'a>(bytes: &'a [u8], id: u8) -> Option<Value<'a>>
     ensures { option_map value_view result ≡ first_of id (items_of bytes.entry.now) }
 {
@@ -134,6 +166,7 @@ impl<'a> Props<'a> {
     /// the identifier isn't spelled, `Unknown`, `NotAllowed`, `Repeated`, these at the identifier; then
     /// `Wire` where the value isn't spelled, `Value`, `Wildcard`, these at the value. The cursor is
     /// where it was then.
+    #[inline(always)]
     pub fn read(cursor: &mut Cursor<'a>, place: Place) -> Result<Props<'a>, PropFault>
         // What is read is spelled by the bytes that the cursor goes past, and may stand in the place.
         ensures found { IfOk result (λ props. (bytes : List ℕ) × Lists place props.items bytes × (cursor.old.rest ≡ bytes ++ cursor.new.rest) × (cursor.new ≡ past cursor.old (length bytes))) }
@@ -152,6 +185,7 @@ impl<'a> Props<'a> {
     }
 
     /// The list of no properties, for the place.
+    #[inline(always)]
     pub fn empty(place: Place) -> Props<'a>
         ensures { result ≡ record { place = place; items = [] } }
     {
@@ -193,6 +227,7 @@ impl<'a> Props<'a> {
     }
 
     /// The value of the first property with the identifier.
+    #[inline(always)]
     pub(crate) fn first(&self, id: u8) -> Option<Value<'a>>
         ensures { option_map value_view result ≡ first_of id self.now.items }
     {

@@ -6,7 +6,7 @@ ghost use Rattle.mq_props.specs.Allowed.{stands_in};
 ghost use Rattle.mq_props.specs.Views.{Sees};
 
 /// Which Property Identifiers, all below 43, have been seen.
-#[derive(Drop)]
+#[derive(Debug, Drop)]
 pub struct Seen {
     by_id: [bool; 43],
 }

@@ -127,7 +127,7 @@ use self::Place::*;
 use self::Range::{Any, NotZero, ZeroOrOne};
 use self::ValueType::{Binary, Byte, FourBytes, Pair, Text, TwoBytes, Varint};
 
-/// The table of properties. The definitions that the contracts cite read this very table.
+/// The table of properties (MQTT 5.0, 2.2.2.2). It is proved equal to the one that the contracts cite.
 #[rattlefmt::skip]
 pub const TABLE: [Row; 27] = [
     (id::PAYLOAD_FORMAT_INDICATOR, Byte, Any, &[Publish, Will]),

@@ -1,20 +1,53 @@
-use Rattle.std.proofs.Common.{◌≡◌, None, sym, ◌∙◌}
+use Rattle.std.proofs.Common.{◌≡◌, List, None, Some, refl, sym, ap, ◌∙◌, subst}
+use Rattle.mq_props.specs.declared.fault.PushFault.{PushFault}
+use Rattle.mq_props.specs.declared.fault.PushFault.TheVariants.{Memory}
 use Rattle.mq_props.specs.Table.{row_of}
-use Rattle.mq_props.specs.Views.{item_view}
+use Rattle.mq_props.specs.Values.{Property}
+use Rattle.mq_props.specs.Views.{Sees, item_view}
 use Rattle.mq_props.specs.Reading.{items_of}
+use Rattle.mq_props.specs.Listed.{Listed}
+use Rattle.mq_props.specs.Making.{Made}
 use Rattle.mq_props.specs.Pushing.{fault_of}
-use Rattle.mq_props.proofs.Pushes.{Leaves, leaves, listed_after}
+use Rattle.mq_props.proofs.Pushes.{writes, never_memory, leaves, listed_after}
 use Rattle.mq_props.proofs.buf.PropsBuf.push.Goals as goal
 
-left : (c : goal.After-append) → Leaves c.self.inside.place c.self.inside.bytes.items c.append.new.out.items (item_view c.item_of-item.result) c.append.result
-left c =
+pub returns-in-Some-clause-memory : goal.returns-in-Some-clause-memory
+returns-in-Some-clause-memory c = λ is.
     let item = item_view c.item_of-item.result in
-    let e : fault_of (record { place = c.self.inside.place; items = items_of c.self.inside.bytes.items }) item.value (row_of item.id) ≡ None = rw c.deref.ensures.value at (sym c.fault_in.ensures ∙ c.in_default.is) in
-    leaves c.self.inside.place c.self.inside.bytes.items c.append.new.out.items c.args.prop.now item c.append.result c.item_of-item.ensures c.self.invariant e c.append.ensures.ok c.append.ensures.valid c.append.ensures.err
+    let list : Listed = record { place = c.self.inside.place; items = items_of c.self.inside.bytes.items } in
+    let same : c.in-Some.fault ≡ Memory = cc in
+    let found : fault_of list item.value (row_of item.id) ≡ Some c.in-Some.fault = rw c.deref.ensures.value at (sym c.fault_in.ensures ∙ c.in-Some.is) in
+    absurd (never_memory list item.value (row_of item.id) (subst (λ (f : PushFault). fault_of list item.value (row_of item.id) ≡ Some f) same found))
 
-pub invariant_of-self : goal.invariant_of-self
-invariant_of-self c = (left c).is_list
+pub append-requires-clause-long : goal.append-requires-clause-long
+append-requires-clause-long c =
+    let item = item_view c.item_of-item.result in
+    let list : Listed = record { place = c.self.inside.place; items = items_of c.self.inside.bytes.items } in
+    let e : fault_of list item.value (row_of item.id) ≡ None = rw c.deref.ensures.value at (sym c.fault_in.ensures ∙ c.in_default.is) in
+    (writes list item e).short
+
+pub append-requires-clause-nul : goal.append-requires-clause-nul
+append-requires-clause-nul c =
+    let item = item_view c.item_of-item.result in
+    let list : Listed = record { place = c.self.inside.place; items = items_of c.self.inside.bytes.items } in
+    let e : fault_of list item.value (row_of item.id) ≡ None = rw c.deref.ensures.value at (sym c.fault_in.ensures ∙ c.in_default.is) in
+    (writes list item e).no_nul
+
+pub invariant_of-self-2 : goal.invariant_of-self-2
+invariant_of-self-2 c =
+    let item = item_view c.item_of-item.result in
+    let bytes = c.self.inside.bytes.items in
+    let e : fault_of (record { place = c.self.inside.place; items = items_of bytes }) item.value (row_of item.id) ≡ None = rw c.deref.ensures.value at (sym c.fault_in.ensures ∙ c.in_default.is) in
+    let left = leaves c.self.inside.place bytes c.append.new.out.items c.args.prop.now item c.item_of-item.ensures c.self.invariant.is_list e c.in_ok-append.ensures.ok c.in_ok-append.ensures.valid in
+    record {
+      is_list = left.is_list;
+      sees = subst (λ (ps : List Property). Sees c.add.new.self ps) (sym left.items) (c.add.ensures (items_of bytes) item c.self.invariant.sees refl);
+    }
 
 pub returns-clause-ok : goal.returns-clause-ok
 returns-clause-ok c =
-    listed_after c.self.inside.place c.self.inside.bytes.items c.append.new.out.items c.args.self.now (item_view c.item_of-item.result) _ c.append.result c.self.view_is c.item_of-item.ensures (left c).items
+    let item = item_view c.item_of-item.result in
+    let bytes = c.self.inside.bytes.items in
+    let e : fault_of (record { place = c.self.inside.place; items = items_of bytes }) item.value (row_of item.id) ≡ None = rw c.deref.ensures.value at (sym c.fault_in.ensures ∙ c.in_default.is) in
+    let left = leaves c.self.inside.place bytes c.append.new.out.items c.args.prop.now item c.item_of-item.ensures c.self.invariant.is_list e c.in_ok-append.ensures.ok c.in_ok-append.ensures.valid in
+    listed_after c.self.inside.place bytes c.append.new.out.items c.args.self.now.list item _ (ap (λ (made : Made). made.list) c.self.view_is) c.item_of-item.ensures left.items
