@@ -12,6 +12,7 @@ use Rattle.mq_wire.proofs.Varint.{varint_exact}
 use Rattle.mq_props.specs.declared.table.Place.TheVariants as places
 use Rattle.mq_packet.specs.declared.packet.Packet.{Packet}
 use Rattle.mq_packet.specs.declared.packet.Packet.TheVariants as packets
+use Rattle.mq_packet.specs.declared.packet.Publish.{Publish}
 use Rattle.mq_packet.specs.declared.packet.Qos.{Qos}
 use Rattle.mq_packet.specs.declared.packet.Qos.TheVariants.{AtMostOnce, AtLeastOnce, ExactlyOnce}
 use Rattle.mq_packet.specs.declared.packet.AcknowledgementKind.{AcknowledgementKind}
@@ -248,6 +249,12 @@ pub remaining_given : (result : Result Packet DecodeFault) (first : ℕ) (body :
     → IfOk result (λ packet. remaining_length packet ≡ length body)
 remaining_given (Ok packet) first body known given is = remaining_read packet first body (packet_given (Ok packet) first body known given) is
 remaining_given (Err fault) first body known given is = tt
+
+-- The same for a PUBLISH, which keeps no length.
+pub publish_remaining_given : (result : Result Publish DecodeFault) (first : ℕ) (body : List ℕ) → AreBytes body → Gives (λ publish. view (packets.Publish publish)) result (decoded first body)
+    → IfOk result (λ publish. remaining_length (packets.Publish publish) ≡ length body)
+publish_remaining_given (Ok p) first body known given = remaining_given (Ok (packets.Publish p)) first body known given refl
+publish_remaining_given (Err fault) first body known given = tt
 
 -- The parts of a fixed header.
 abbrev header_in : FixedHeader → ℕ

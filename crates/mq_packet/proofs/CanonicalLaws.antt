@@ -13,7 +13,7 @@ use Rattle.mq_props.specs.declared.table.Place.TheVariants as places
 use Rattle.mq_props.specs.Table.{same_place}
 use Rattle.mq_props.specs.Values.{Property, body as properties_spelling}
 use Rattle.mq_props.specs.Listed.{Listed}
-use Rattle.mq_packet.specs.declared.codes.TheConstants.{CONNACK_CODES, DISCONNECT_CODES, AUTH_CODES}
+use Rattle.mq_packet.specs.ReasonCodes.{connack_codes, disconnect_codes, auth_codes}
 use Rattle.mq_packet.specs.declared.packet.Qos.{Qos}
 use Rattle.mq_packet.specs.declared.packet.Qos.TheVariants.{AtMostOnce, AtLeastOnce, ExactlyOnce}
 use Rattle.mq_packet.specs.declared.packet.AcknowledgementKind.{AcknowledgementKind}
@@ -102,11 +102,11 @@ module _ (table : List ℕ) (bytes : AreCodes table) (place : Place) (make : ℕ
 connack_spelled : (session_present : Bool) (code : ℕ) (list : Listed) → IsListed list → valid_connack code list ≡ true → IsSpelled 32 (connack_body session_present code list.items) (connack session_present code list)
 unfolding valid_connack connack_body
 connack_spelled session_present code list ok e =
-    (let parts : (same_place list.place places.Connack ≡ true) × (is_code CONNACK_CODES code ≡ true) = and_parts _ _ e in
+    (let parts : (same_place list.place places.Connack ≡ true) × (is_code connack_codes code ≡ true) = and_parts _ _ e in
     let value : IsValue (properties places.Connack) list.items = list_value places.Connack list ok parts.0 in
     subst (λ (l : Listed). Spells connack_format (bit 1 session_present ∷ code ∷ list_spelling list.items) (connack session_present code l)) (listed_is places.Connack list parts.0) (flagged session_present value parts.1))
   where
-    flagged : (s : Bool) → IsValue (properties places.Connack) list.items → is_code CONNACK_CODES code ≡ true → Spells connack_format (bit 1 s ∷ code ∷ list_spelling list.items) (connack s code (listed places.Connack list.items))
+    flagged : (s : Bool) → IsValue (properties places.Connack) list.items → is_code connack_codes code ≡ true → Spells connack_format (bit 1 s ∷ code ∷ list_spelling list.items) (connack s code (listed places.Connack list.items))
     flagged true value known = (
       1,
       code ∷ list_spelling list.items,
@@ -115,8 +115,8 @@ connack_spelled session_present code list ok e =
       (
         code,
         list_spelling list.items,
-        record { is_value = code_value CONNACK_CODES code refl known; spelled = refl },
-        unobjected (is_code CONNACK_CODES code) rules.W13 known,
+        record { is_value = code_value connack_codes code refl known; spelled = refl },
+        unobjected (is_code connack_codes code) rules.W13 known,
         list_ends places.Connack list.items (connack true code) value,
       ),
     )
@@ -128,8 +128,8 @@ connack_spelled session_present code list ok e =
       (
         code,
         list_spelling list.items,
-        record { is_value = code_value CONNACK_CODES code refl known; spelled = refl },
-        unobjected (is_code CONNACK_CODES code) rules.W13 known,
+        record { is_value = code_value connack_codes code refl known; spelled = refl },
+        unobjected (is_code connack_codes code) rules.W13 known,
         list_ends places.Connack list.items (connack false code) value,
       ),
     )
@@ -170,19 +170,19 @@ acknowledgement_spelled acknowledgements.Pubcomp identifier code list ok e = ack
 disconnect_spelled : (code : ℕ) (list : Listed) → IsListed list → valid_disconnect code list ≡ true → IsSpelled 224 (disconnect_body code list.items) (disconnect code list)
 unfolding valid_disconnect disconnect_body
 disconnect_spelled code list ok e =
-    (let parts : (same_place list.place places.Disconnect ≡ true) × (is_code DISCONNECT_CODES code ≡ true) = and_parts _ _ e in
+    (let parts : (same_place list.place places.Disconnect ≡ true) × (is_code disconnect_codes code ≡ true) = and_parts _ _ e in
     subst (λ (l : Listed). Spells (ending_format endings.Disconnect) (reason_spelling code list.items) (disconnect code l)) (listed_is places.Disconnect list parts.0)
-    (reason_spelled DISCONNECT_CODES refl places.Disconnect disconnect code list.items (list_value places.Disconnect list ok parts.0) parts.1))
+    (reason_spelled disconnect_codes refl places.Disconnect disconnect code list.items (list_value places.Disconnect list ok parts.0) parts.1))
 
-auth_spells : (code : ℕ) (items : List Property) → IsValue (properties places.Auth) items → is_code AUTH_CODES code ≡ true → Spells (ending_format endings.Auth) (auth_body code items) (auth code (listed places.Auth items))
+auth_spells : (code : ℕ) (items : List Property) → IsValue (properties places.Auth) items → is_code auth_codes code ≡ true → Spells (ending_format endings.Auth) (auth_body code items) (auth code (listed places.Auth items))
 unfolding auth_body
-auth_spells code [] ok known = none_spelled AUTH_CODES refl places.Auth auth code (code ∷ list_spelling []) known (whole_spelled AUTH_CODES refl places.Auth auth code [] ok known)
-auth_spells code (p ∷ items) ok known = whole_spelled AUTH_CODES refl places.Auth auth code (p ∷ items) ok known
+auth_spells code [] ok known = none_spelled auth_codes refl places.Auth auth code (code ∷ list_spelling []) known (whole_spelled auth_codes refl places.Auth auth code [] ok known)
+auth_spells code (p ∷ items) ok known = whole_spelled auth_codes refl places.Auth auth code (p ∷ items) ok known
 
 auth_spelled : (code : ℕ) (list : Listed) → IsListed list → valid_auth code list ≡ true → IsSpelled 240 (auth_body code list.items) (auth code list)
 unfolding valid_auth
 auth_spelled code list ok e =
-    (let parts : (same_place list.place places.Auth ≡ true) × (is_code AUTH_CODES code ≡ true) = and_parts _ _ e in
+    (let parts : (same_place list.place places.Auth ≡ true) × (is_code auth_codes code ≡ true) = and_parts _ _ e in
     subst (λ (l : Listed). Spells (ending_format endings.Auth) (auth_body code list.items) (auth code l)) (listed_is places.Auth list parts.0)
     (auth_spells code list.items (list_value places.Auth list ok parts.0) parts.1))
 

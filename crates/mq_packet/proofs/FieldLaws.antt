@@ -1,6 +1,6 @@
 -- The reading of each kind of field is exact: it gives the value that stands spelled at the front, and is refused exactly
 -- where none does.
-use Rattle.std.proofs.Common.{◌≡◌, ℕ, ◌+◌, List, ◌++◌, length, drop, Result, Ok, Err, refl, sym, ap, ◌∙◌}
+use Rattle.std.proofs.Common.{◌≡◌, ℕ, ◌+◌, Bool, true, false, ◌&&◌, not, eqb, ltb, List, [], ◌∷◌, ◌++◌, length, drop, Result, Ok, Err, refl, sym, ap, ◌∙◌}
 use Rattle.std.proofs.lemmas.List.{drop_at}
 use Rattle.mq_wire.specs.declared.fault.Reason.{Reason}
 use Rattle.mq_wire.specs.declared.fault.Reason.TheVariants as reasons
@@ -9,9 +9,12 @@ use Rattle.mq_wire.specs.Left.{Left, placed}
 use Rattle.mq_wire.specs.Fields.{text_at}
 use Rattle.mq_wire.specs.Refused.{IsCutShort, RefusesShort}
 use Rattle.mq_wire.specs.Spellings.{AreBytes, Stands, IsExact}
+use Rattle.mq_wire.specs.Plain.{is_plain, is_plain_byte}
 use Rattle.mq_wire.proofs.Placed.{placed_ok, placed_err}
+use Rattle.mq_wire.proofs.PlainLaws.{both}
 use Rattle.mq_wire.proofs.Exact.{byte_exact, two_bytes_exact, text_exact, binary_exact}
 use Rattle.mq_wire.proofs.Refusals.{byte_refused, two_bytes_refused, text_refused, binary_refused}
+use Rattle.mq_topic.specs.Levels.{is_name}
 use Rattle.mq_props.specs.declared.fault.PropFault.{PropFault}
 use Rattle.mq_props.specs.declared.table.Place.{Place}
 use Rattle.mq_props.specs.Values.{Property}
@@ -22,8 +25,8 @@ use Rattle.mq_props.proofs.Broken.{breaks_list}
 use Rattle.mq_packet.specs.declared.rule.PacketRule.{PacketRule}
 use Rattle.mq_packet.specs.declared.rule.PacketRule.TheVariants as rules
 use Rattle.mq_packet.specs.declared.fault.DecodeFault.{DecodeFault}
-use Rattle.mq_packet.specs.Formats.{Kind, byte, two_bytes, text, binary, properties, Value}
-use Rattle.mq_packet.specs.Decoding.{broken, rule_of, list_rule, spelled, spelled_list, field_on}
+use Rattle.mq_packet.specs.Formats.{Kind, byte, two_bytes, text, binary, properties, Value, topic_objection}
+use Rattle.mq_packet.specs.Decoding.{broken, rule_of, list_rule, spelled, spelled_list, field_on, read_field}
 use Rattle.mq_packet.specs.Misspellings.{MisspellsText, cut_short, not_utf8, nul, Misspelled}
 use Rattle.mq_packet.specs.Spelled.{spelling, Begin}
 
@@ -184,3 +187,20 @@ misspelled_field text at bytes fault known h = text_misspelled at bytes h.0 know
 misspelled_field binary at bytes fault known h = short_refused binary_refused at bytes fault known h
 misspelled_field (properties place) at bytes fault known h =
     ap spelled_list (breaks_list place (left_from at bytes) h.0 h.1) ∙ ap (λ (f : DecodeFault). failed {A = List Property × Left} f) (sym h.2)
+
+-- ---- a Topic Name of plain bytes
+
+no_wildcard : (a b c d : Bool) → (a && (b && (c && d))) ≡ true → (c && d) ≡ true
+no_wildcard true true c d h = h
+no_wildcard true false c d h = absurd cc
+no_wildcard false b c d h = absurd cc
+
+plain_name : (topic : List ℕ) → is_plain topic ≡ true → is_name topic ≡ true
+plain_name [] h = refl
+plain_name (b ∷ topic) h =
+    let parts : (is_plain_byte b ≡ true) × (is_plain topic ≡ true) = both (is_plain_byte b) (is_plain topic) h in
+    rw (no_wildcard (ltb b 128) (not (eqb b 0)) (not (eqb b 35)) (not (eqb b 43)) parts.0, plain_name topic parts.1) refl
+
+-- it is read, and nothing is objected to it
+pub plain_topic : (left : Left) (topic : List ℕ) (new : Left) → placed left (text_at left.rest) ≡ Ok (topic, new) → is_plain topic ≡ true → read_field text topic_objection left ≡ Ok (topic, new)
+plain_topic left topic new e h = rw (e, plain_name topic h) refl

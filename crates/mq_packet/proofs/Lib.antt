@@ -1,5 +1,6 @@
 pub mod FieldLaws
 pub mod FrameLaws
+pub mod FrontLaws
 pub mod Lengths
 pub mod ValueLaws
 pub mod RequestLaws
@@ -9,10 +10,14 @@ pub mod HeaderLaws
 pub mod CanonicalLaws
 pub mod ReasonLaws
 pub mod SizeLaws
+pub mod SpellingLaws
+pub mod ShortFormLaws
 pub mod BodyLaws
 pub mod ValidLaws
 pub mod WrittenLaws
 pub mod Places
+pub mod OutcomeLaws
+pub mod VersionLaws
 pub mod Readings
 pub mod StreamLaws
 pub mod AskedLaws

@@ -9,7 +9,7 @@ use Rattle.mq_topic.specs.Levels.{is_name}
 use Rattle.mq_props.specs.declared.table.Place.{Place}
 use Rattle.mq_props.specs.declared.table.Place.TheVariants as places
 use Rattle.mq_props.specs.Values.{Property}
-use Rattle.mq_packet.specs.declared.codes.TheConstants.{CONNACK_CODES, DISCONNECT_CODES, AUTH_CODES}
+use Rattle.mq_packet.specs.ReasonCodes.{connack_codes, disconnect_codes, auth_codes}
 use Rattle.mq_packet.specs.declared.packet.Qos.{Qos}
 use Rattle.mq_packet.specs.declared.packet.Qos.TheVariants.{AtMostOnce, AtLeastOnce, ExactlyOnce}
 use Rattle.mq_packet.specs.declared.packet.AcknowledgementKind.{AcknowledgementKind}
@@ -63,7 +63,7 @@ module _ (table : List ℕ) (place : Place) (make : ℕ → List Property → En
 connack_sound : IsSound connack_format
 unfolding valid_connack
 connack_sound bytes entry h =
-    by_packet (connack (h.0 == 1) h.4.0 (listed places.Connack h.4.4.0)) entry h.4.4.4.1 (not_objected (is_code CONNACK_CODES h.4.0) rules.W13 h.4.3)
+    by_packet (connack (h.0 == 1) h.4.0 (listed places.Connack h.4.4.0)) entry h.4.4.4.1 (not_objected (is_code connack_codes h.4.0) rules.W13 h.4.3)
 
 success_known : (kind : AcknowledgementKind) → is_code (acknowledgement_codes kind) 0 ≡ true
 success_known acknowledgements.Puback = refl
@@ -81,11 +81,11 @@ acknowledgement_sound kind bytes entry h =
 
 disconnect_sound : IsSound (ending_format endings.Disconnect)
 unfolding valid_disconnect
-disconnect_sound = coded_sound DISCONNECT_CODES places.Disconnect (λ code items. disconnect code (listed places.Disconnect items)) (λ code items e. e) refl
+disconnect_sound = coded_sound disconnect_codes places.Disconnect (λ code items. disconnect code (listed places.Disconnect items)) (λ code items e. e) refl
 
 auth_sound : IsSound (ending_format endings.Auth)
 unfolding valid_auth
-auth_sound = coded_sound AUTH_CODES places.Auth (λ code items. auth code (listed places.Auth items)) (λ code items e. e) refl
+auth_sound = coded_sound auth_codes places.Auth (λ code items. auth code (listed places.Auth items)) (λ code items e. e) refl
 
 -- ---- PUBLISH
 

@@ -4,7 +4,6 @@ use Rattle.mq_props.specs.declared.table.Place.{Place}
 use Rattle.mq_props.specs.declared.table.Place.TheVariants as places
 use Rattle.mq_props.specs.Values.{Property}
 use Rattle.mq_props.specs.Listed.{Listed}
-use Rattle.mq_packet.specs.declared.codes.TheConstants.{PUBACK_CODES, PUBREL_CODES, SUBACK_CODES, UNSUBACK_CODES, DISCONNECT_CODES, AUTH_CODES}
 use Rattle.mq_packet.specs.declared.packet.Qos.{Qos}
 use Rattle.mq_packet.specs.declared.packet.AcknowledgementKind.{AcknowledgementKind}
 use Rattle.mq_packet.specs.declared.packet.AcknowledgementKind.TheVariants as acknowledgements
@@ -12,6 +11,7 @@ use Rattle.mq_packet.specs.declared.packet.EndingKind.{EndingKind}
 use Rattle.mq_packet.specs.declared.packet.EndingKind.TheVariants as endings
 use Rattle.mq_packet.specs.declared.packet.RequestKind.{RequestKind}
 use Rattle.mq_packet.specs.declared.packet.RequestKind.TheVariants as requests
+use Rattle.mq_packet.specs.ReasonCodes.{puback_codes, pubrec_codes, pubrel_codes, pubcomp_codes, suback_codes, unsuback_codes, disconnect_codes, auth_codes}
 
 -- A property list of a place with these properties.
 abbrev pub listed : Place → List Property → Listed
@@ -77,10 +77,10 @@ acknowledgement_place acknowledgements.Pubcomp = places.Pubcomp
 
 -- The Reason Codes of an acknowledgement (3.4.2.1, 3.5.2.1, 3.6.2.1, 3.7.2.1).
 abbrev pub acknowledgement_codes : AcknowledgementKind → List ℕ
-acknowledgement_codes acknowledgements.Puback = PUBACK_CODES
-acknowledgement_codes acknowledgements.Pubrec = PUBACK_CODES
-acknowledgement_codes acknowledgements.Pubrel = PUBREL_CODES
-acknowledgement_codes acknowledgements.Pubcomp = PUBREL_CODES
+acknowledgement_codes acknowledgements.Puback = puback_codes
+acknowledgement_codes acknowledgements.Pubrec = pubrec_codes
+acknowledgement_codes acknowledgements.Pubrel = pubrel_codes
+acknowledgement_codes acknowledgements.Pubcomp = pubcomp_codes
 
 -- Where the property list of a SUBSCRIBE or UNSUBSCRIBE stands, and that of its answer.
 abbrev pub request_place : RequestKind → Place
@@ -93,8 +93,8 @@ answer_place requests.Unsubscribe = places.Unsuback
 
 -- The Reason Codes of an answer (3.9.3, 3.11.3).
 abbrev pub answer_codes : RequestKind → List ℕ
-answer_codes requests.Subscribe = SUBACK_CODES
-answer_codes requests.Unsubscribe = UNSUBACK_CODES
+answer_codes requests.Subscribe = suback_codes
+answer_codes requests.Unsubscribe = unsuback_codes
 
 -- Each filter of a SUBSCRIBE has options, and none of an UNSUBSCRIBE (3.8.3, 3.10.3).
 abbrev pub has_options : RequestKind → Bool
@@ -112,5 +112,5 @@ ending_place endings.Disconnect = places.Disconnect
 ending_place endings.Auth = places.Auth
 
 abbrev pub ending_codes : EndingKind → List ℕ
-ending_codes endings.Disconnect = DISCONNECT_CODES
-ending_codes endings.Auth = AUTH_CODES
+ending_codes endings.Disconnect = disconnect_codes
+ending_codes endings.Auth = auth_codes

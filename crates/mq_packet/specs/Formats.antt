@@ -5,11 +5,11 @@ use Rattle.std.specs.List.{list_any}
 use Rattle.mq_topic.specs.Levels.{is_name, filter_fault}
 use Rattle.mq_props.specs.declared.table.Place.{Place}
 use Rattle.mq_props.specs.declared.table.Place.TheVariants as places
-use Rattle.mq_props.specs.declared.table.id.TheConstants.{TOPIC_ALIAS}
+use Rattle.mq_props.specs.Identifiers.{topic_alias}
 use Rattle.mq_props.specs.Values.{Property}
 use Rattle.mq_props.specs.First.{first_two_bytes}
 use Rattle.mq_props.specs.Listed.{Listed}
-use Rattle.mq_packet.specs.declared.codes.TheConstants.{CONNACK_CODES}
+use Rattle.mq_packet.specs.ReasonCodes.{connack_codes}
 use Rattle.mq_packet.specs.declared.packet.Qos.{Qos}
 use Rattle.mq_packet.specs.declared.packet.Qos.TheVariants.{AtMostOnce, AtLeastOnce, ExactlyOnce}
 use Rattle.mq_packet.specs.declared.packet.AcknowledgementKind.{AcknowledgementKind}
@@ -106,7 +106,7 @@ topic_objection topic = unless_broken (is_name topic) rules.W14
 
 -- Where the Topic Name is empty, the properties have a Topic Alias (3.3.2.1, 3.3.2.3.4).
 abbrev pub names_topic : List ℕ → List Property → Bool
-names_topic topic list = not (length topic == 0) || is_some (first_two_bytes TOPIC_ALIAS list)
+names_topic topic list = not (length topic == 0) || is_some (first_two_bytes topic_alias list)
 
 abbrev pub alias_objection : List ℕ → List Property → Option Objection
 alias_objection topic list = unless_broken (names_topic topic list) rules.W21
@@ -177,7 +177,7 @@ connect_format =
 abbrev pub connack_format : Format
 connack_format =
     field byte connack_flags_objection (λ flags.
-    field byte (code_objection CONNACK_CODES) (λ code.
+    field byte (code_objection connack_codes) (λ code.
     field (properties places.Connack) any_value (λ list.
     done (connack (flags == 1) code (listed places.Connack list)))))
 

@@ -1,7 +1,6 @@
--- What a vector that is written to keeps, also where a write is refused.
-use Rattle.std.specs.Prelude.{◌≡◌, ℕ, List, ◌++◌}
+-- Where a vector that is written to would have to grow.
+use Rattle.std.specs.Prelude.{ℕ, ◌+◌, ◌<◌, List, length}
 
--- The new bytes begin with the old ones.
-pub record Extends (old new : List ℕ) : Type 0 where
-  pub more : List ℕ
-  pub is : new ≡ old ++ more
+-- A vector of this capacity that holds some bytes has no room for others.
+pub record LacksRoom (capacity : ℕ) (held bytes : List ℕ) : Type 0 where
+  pub is : capacity < length held + length bytes

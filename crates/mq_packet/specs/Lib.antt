@@ -1,3 +1,4 @@
+pub mod ReasonCodes
 pub mod Entries
 pub mod Formats
 pub mod Decoding
@@ -8,7 +9,10 @@ pub mod Asking
 pub mod Elements
 pub mod Stream
 pub mod Frames
+pub mod Fronts
+pub mod Versions
 pub mod Canonical
 pub mod Valid
+pub mod ShortForms
 pub mod Growing
 pub mod Sizes

@@ -9,7 +9,7 @@ use Rattle.mq_props.specs.Table.{same_place}
 use Rattle.mq_props.specs.Values.{body as properties_spelling}
 use Rattle.mq_props.specs.Allowed.{AreAllowed}
 use Rattle.mq_props.specs.Listed.{Listed}
-use Rattle.mq_packet.specs.declared.codes.TheConstants.{CONNACK_CODES, DISCONNECT_CODES, AUTH_CODES}
+use Rattle.mq_packet.specs.ReasonCodes.{connack_codes, disconnect_codes, auth_codes}
 use Rattle.mq_packet.specs.declared.packet.Qos.{Qos}
 use Rattle.mq_packet.specs.declared.packet.Qos.TheVariants.{AtMostOnce, AtLeastOnce, ExactlyOnce}
 use Rattle.mq_packet.specs.declared.packet.AcknowledgementKind.{AcknowledgementKind}
@@ -51,7 +51,7 @@ valid_connect fields =
 
 -- CONNACK (3.2).
 unfoldable pub valid_connack : ℕ → Listed → Bool
-valid_connack code list = same_place list.place places.Connack && is_code CONNACK_CODES code
+valid_connack code list = same_place list.place places.Connack && is_code connack_codes code
 
 -- At QoS 0 a PUBLISH isn't sent again and has no Packet Identifier; above it has one (3.3.1.1, 2.2.1).
 abbrev pub fits_qos : Bool → Qos → Option ℕ → Bool
@@ -93,10 +93,10 @@ valid_answer kind identifier list reasons =
 
 -- DISCONNECT (3.14) and AUTH (3.15).
 unfoldable pub valid_disconnect : ℕ → Listed → Bool
-valid_disconnect code list = same_place list.place places.Disconnect && is_code DISCONNECT_CODES code
+valid_disconnect code list = same_place list.place places.Disconnect && is_code disconnect_codes code
 
 unfoldable pub valid_auth : ℕ → Listed → Bool
-valid_auth code list = same_place list.place places.Auth && is_code AUTH_CODES code
+valid_auth code list = same_place list.place places.Auth && is_code auth_codes code
 
 -- The packet is spelled by some bytes.
 abbrev pub valid : Entry → Bool

@@ -1,4 +1,4 @@
-//! The Reason Codes of each packet (MQTT 5.0, section 2.4). The definitions that the contracts cite read these very tables.
+//! The Reason Codes of each packet (MQTT 5.0, section 2.4). They are proved equal to those that the contracts cite.
 
 /// CONNACK (MQTT 5.0, section 3.2.2.2).
 pub const CONNACK_CODES: [u8; 22] = [

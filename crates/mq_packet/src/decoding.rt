@@ -3,17 +3,20 @@
 //! A packet is large, and what is inlined doesn't move it: so are `decode` and the readers of the packets that are read most. The
 //! others stay out of the way.
 
-ghost use Rattle.std.specs.Prelude.{◌≡◌, ◌≤◌, IfOk, IfErr, Some, Result, length};
+ghost use Rattle.std.specs.Prelude.{◌≡◌, ◌≤◌, ◌<◌, ℕ, IfOk, IfErr, Some, Result, length};
 ghost use Rattle.mq_packet.specs.declared.fault.DecodeFault.{DecodeFault};
+ghost use Rattle.mq_packet.specs.declared.packet.Packet.TheVariants as packets;
+ghost use Rattle.mq_packet.specs.declared.rule.PacketRule.{PacketRule};
+ghost use Rattle.mq_packet.specs.declared.stop.Stop.TheVariants as stops;
 ghost use Rattle.mq_packet.specs.Entries.{Entry};
 ghost use Rattle.mq_packet.specs.Decoding.{body_start, decoded};
 ghost use Rattle.mq_packet.specs.Spelled.{IsSpelled, HasFault, Comes};
-ghost use Rattle.mq_packet.specs.Reading.{view, HasReadLen, Gives};
+ghost use Rattle.mq_packet.specs.Reading.{view, HasReadLen, Gives, fault_of};
 ghost use Rattle.mq_packet.specs.Sizes.{remaining_length};
 
 use crate::fault::{BodyFault, DecodeFault};
-use crate::packet::Packet;
-use crate::reading::read_packet;
+use crate::packet::{Packet, Publish};
+use crate::reading::{read_packet, read_publish};
 use crate::stop::Stop;
 use mq_wire::Cursor;
 
@@ -51,11 +54,50 @@ fn read_body<'a>(first: u8, body: &'a [u8]) -> Result<Packet<'a>, DecodeFault>
     let cursor = Cursor::starting_at(body, start_of_body(body.len()));
     match read_packet(first, cursor, body.len()) {
         Ok(packet) => Ok(packet),
-        Err(Stop::Broken { at, rule }) => Err(DecodeFault::Broken(BodyFault {
+        Err(stop) => Err(fault_of(stop)),
+    }
+}
+
+/// The PUBLISH that has this first byte and this body (MQTT 5.0, section 3.3): the packet that [`decode`] answers for them, or the
+/// fault. No other packet takes room where a PUBLISH is read by it.
+#[inline(always)]
+pub fn decode_publish<'a>(first: u8, body: &'a [u8]) -> Result<Publish<'a>, DecodeFault>
+    requires from { 48 ≤ first }
+    requires to { first < 64 }
+    requires bound { length body.now ≤ 268435455 }
+    ensures exact { Gives (λ publish. view (packets.Publish publish)) result (decoded first body.now) }
+    ensures size { IfOk result (λ publish. remaining_length (packets.Publish publish) ≡ length body.now) }
+{
+    read_publish_body(first, body)
+}
+
+#[inline(always)]
+#[tactic(auto, unfolding(crate::specs::Decoding::decoded))]
+fn read_publish_body<'a>(first: u8, body: &'a [u8]) -> Result<Publish<'a>, DecodeFault>
+    requires from { 48 ≤ first }
+    requires to { first < 64 }
+    requires bound { length body.now ≤ 268435455 }
+    ensures exact { Gives (λ publish. view (packets.Publish publish)) result (decoded first body.now) }
+{
+    let cursor = Cursor::starting_at(body, start_of_body(body.len()));
+    match read_publish(first, cursor) {
+        Ok(publish) => Ok(publish),
+        Err(stop) => Err(fault_of(stop)),
+    }
+}
+
+// The fault of a packet whose reading stops so. No place is past the end of the largest packet.
+#[inline(always)]
+fn fault_of(stop: Stop) -> DecodeFault
+    requires { (at : ℕ) (rule : PacketRule) → stop ≡ stops.Broken at rule → at ≤ 268435460 }
+    ensures { result ≡ fault_of stop }
+{
+    match stop {
+        Stop::Broken { at, rule } => DecodeFault::Broken(BodyFault {
             at: at as u32,
             rule,
-        })),
-        Err(Stop::OtherVersion(version)) => Err(DecodeFault::OtherVersion(version)),
+        }),
+        Stop::OtherVersion(version) => DecodeFault::OtherVersion(version),
     }
 }
 

@@ -26,7 +26,7 @@ use ending::read_ending;
 use fields::whole;
 pub use lists::check_filters;
 use mq_wire::Cursor;
-use publish::read_publish;
+pub use publish::read_publish;
 pub use request::read_request;
 
 /// The packet with this first byte whose body, of no more than this size, is left in the cursor; or where the reading of it

@@ -7,6 +7,7 @@ mod encoding;
 mod lists;
 mod packets;
 mod props;
+mod reasons;
 mod rows;
 mod topic;
 mod validity;

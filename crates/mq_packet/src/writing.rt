@@ -6,10 +6,11 @@ mod fields;
 mod first;
 mod laws;
 mod lengths;
+mod puts;
 mod size;
 
-ghost use Rattle.std.specs.Prelude.{◌≡◌, ◌++◌, ◌<◌, ◌↔◌, true, length, OnOk, OnErr, Err};
-ghost use Rattle.mq_packet.specs.Growing.{Extends};
+ghost use Rattle.std.specs.Prelude.{◌≡◌, ◌+◌, ◌++◌, ◌<◌, ◌≤◌, ◌↔◌, true, length, OnOk, OnErr, Err, vec_len, vec_capacity};
+ghost use Rattle.mq_packet.specs.Growing.{LacksRoom};
 ghost use Rattle.mq_packet.specs.Reading.{view};
 ghost use Rattle.mq_packet.specs.Spelled.{IsSpelled};
 ghost use Rattle.mq_packet.specs.Canonical.{first_byte, canonical_body, canonical};
@@ -20,19 +21,46 @@ use crate::packet::Packet;
 use bodies::put_body;
 pub use fault::EncodeFault;
 use first::first_byte;
-use lengths::body_len;
-use mq_wire::{PutFault, put_u8, put_varint};
+pub use laws::{what_is_valid_is_spelled, what_is_written_is_cut, what_is_written_is_decoded};
+use lengths::{body_len, varint_len};
+use mq_wire::PutFault;
+use puts::{put_byte, put_length};
 
 // Appends the packet, whose body has this length.
-#[tactic(auto, using(crate::proofs::GrowingLaws::extends_same, crate::proofs::GrowingLaws::extends_on), unfolding(crate::specs::Canonical::canonical))]
+#[tactic(auto, using(crate::proofs::GrowingLaws::lacks_first, crate::proofs::GrowingLaws::lacks_behind, crate::proofs::GrowingLaws::lacks_byte, crate::proofs::GrowingLaws::lacks_behind_byte), unfolding(crate::specs::Canonical::canonical))]
 fn put_packet(out: &mut Vec<u8>, packet: &Packet<'_>, len: u32) -> Result<(), PutFault>
-    requires { len ≡ length (canonical_body (view packet.now)) }
+    requires len { len ≡ length (canonical_body (view packet.now)) }
+    requires bound { len ≤ 268435455 }
+    requires valid { valid (view packet.now) ≡ true }
     ensures ok { OnOk result (out.new.items ≡ out.old.items ++ canonical (view packet.now)) }
-    ensures err { OnErr result (Extends out.old.items out.new.items) }
+    ensures capacity { vec_capacity out.old ≤ vec_capacity out.new }
+    ensures err { OnErr result (LacksRoom (vec_capacity out.old) out.old.items (canonical (view packet.now))) }
 {
-    put_u8(out, first_byte(packet))?;
-    put_varint(out, len)?;
+    put_byte(out, first_byte(packet))?;
+    put_length(out, len)?;
     put_body(out, packet)
+}
+
+// How many bytes the packet has, whose body has this length.
+#[tactic(auto, using(crate::proofs::GrowingLaws::written_length))]
+fn written_len(packet: &Packet<'_>, len: u32) -> usize
+    requires len { len ≡ length (canonical_body (view packet.now)) }
+    requires bound { len ≤ 268435455 }
+    ensures { result ≡ length (canonical (view packet.now)) }
+{
+    1 + varint_len(len) + len as usize
+}
+
+// Appends the packet, for which there is room, and whose body has this length.
+#[tactic(auto, using(crate::proofs::GrowingLaws::room_enough))]
+fn put_within(out: &mut Vec<u8>, packet: &Packet<'_>, len: u32)
+    requires len { len ≡ length (canonical_body (view packet.now)) }
+    requires bound { len ≤ 268435455 }
+    requires valid { valid (view packet.now) ≡ true }
+    requires room { vec_len out.old + length (canonical (view packet.now)) ≤ vec_capacity out.old }
+    ensures { out.new.items ≡ out.old.items ++ canonical (view packet.now) }
+{
+    put_packet(out, packet, len).unwrap();
 }
 
 // A valid packet is spelled as it is written.
@@ -50,24 +78,24 @@ fn spelling_facts(packet: &Packet<'_>)
 ///
 /// # Errors
 ///
-/// `TooLong` exactly where the Remaining Length would be over 268,435,455; else `Memory` where the vector couldn't grow. The
-/// vector is unchanged then.
+/// `TooLong` exactly where the Remaining Length would be over 268,435,455; else `Memory` only where the vector has no room for
+/// the packet and couldn't grow. The vector is unchanged then.
 pub fn encode(packet: &Packet<'_>, out: &mut Vec<u8>) -> Result<(), EncodeFault>
     requires valid { valid (view packet.now) ≡ true }
     ensures ok { OnOk result (out.new.items ≡ out.old.items ++ canonical (view packet.now)) }
     // What is written spells the packet.
     ensures spelled { IsSpelled (first_byte (view packet.now)) (canonical_body (view packet.now)) (view packet.now) }
     ensures too_long { (result ≡ Err EncodeFault.TooLong) ↔ (268435455 < length (canonical_body (view packet.now))) }
+    ensures memory { result ≡ Err EncodeFault.Memory → vec_capacity out.old < vec_len out.old + length (canonical (view packet.now)) }
     ensures err { OnErr result (out.new.items ≡ out.old.items) }
 {
     spelling_facts(packet);
     let Some(len) = body_len(packet) else {
         return Err(EncodeFault::TooLong);
     };
-    let old_len = out.len();
-    if put_packet(out, packet, len).is_err() {
-        out.truncate(old_len);
+    if out.reserve(written_len(packet, len)).is_err() {
         return Err(EncodeFault::Memory);
     }
+    put_within(out, packet, len);
     Ok(())
 }

@@ -79,6 +79,7 @@ pub fn protocol_version(cursor: &mut Cursor<'_>) -> Result<u8, Stop>
 /// # Errors
 ///
 /// W06 where less than two bytes are left, and W09 where it is 0.
+#[inline(always)]
 pub fn packet_identifier(cursor: &mut Cursor<'_>) -> Result<u16, Stop>
     ensures { Takes (λ n. n) result (read_field two_bytes identifier_objection cursor.old) cursor.new }
 {
@@ -124,6 +125,7 @@ pub fn reason_code(cursor: &mut Cursor<'_>, table: &[u8]) -> Result<u8, Stop>
 /// # Errors
 ///
 /// The rule that its first bad field breaks, there: W03 to W06, W10 to W12, W14.
+#[inline(always)]
 pub fn property_list<'a>(cursor: &mut Cursor<'a>, place: Place) -> Result<Props<'a>, Stop>
     ensures list { Takes (λ list. list.items) result (read_field (properties place) any_value cursor.old) cursor.new }
     ensures place { IfOk result (λ list. list ≡ listed place list.items) }
@@ -158,7 +160,20 @@ pub fn last_properties<'a>(mut cursor: Cursor<'a>, place: Place) -> Result<Props
 /// # Errors
 ///
 /// A rule of texts, and W14 where it has a wildcard.
+#[inline(always)]
+#[tactic(auto, using(crate::proofs::FieldLaws::plain_topic))]
 pub fn topic_name<'a>(cursor: &mut Cursor<'a>) -> Result<&'a str, Stop>
+    ensures { Takes (λ topic. topic.now) result (read_field text topic_objection cursor.old) cursor.new }
+{
+    match cursor.plain_text() {
+        Some(topic) => Ok(topic),
+        None => any_topic_name(cursor),
+    }
+}
+
+// The same, of any bytes. It stays apart, so that a plain Topic Name, as most are, is read where it is wanted.
+#[inline(never)]
+fn any_topic_name<'a>(cursor: &mut Cursor<'a>) -> Result<&'a str, Stop>
     ensures { Takes (λ topic. topic.now) result (read_field text topic_objection cursor.old) cursor.new }
 {
     let at = cursor.at();

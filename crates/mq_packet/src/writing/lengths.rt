@@ -17,6 +17,7 @@ use mq_props::Props;
 const MAX_REMAINING: usize = 268_435_455;
 
 // The sum of the parts, if a Remaining Length can say it.
+#[inline(always)]
 fn sum_within(parts: &[usize]) -> Option<u32>
     ensures { result ≡ within (sum parts.now) }
 {
@@ -31,6 +32,7 @@ fn sum_within(parts: &[usize]) -> Option<u32>
 }
 
 /// How many bytes spell a variable byte integer (MQTT 5.0, section 1.5.5).
+#[inline(always)]
 #[tactic(auto, unfolding(mq_wire::specs::Spellings::varint_spelling))]
 pub fn varint_len(number: u32) -> usize
     ensures len { result ≡ length (varint_spelling number) }
@@ -44,6 +46,7 @@ pub fn varint_len(number: u32) -> usize
     }
 }
 
+#[inline(always)]
 #[tactic(auto, using(crate::proofs::SizeLaws::list_length))]
 fn list_len(list: &Props<'_>) -> usize
     ensures len { result ≡ length (list_spelling list.now.items) }
@@ -53,6 +56,7 @@ fn list_len(list: &Props<'_>) -> usize
     varint_len(bytes.len() as u32) + bytes.len()
 }
 
+#[inline(always)]
 fn text_len(text: &str) -> usize
     ensures { result ≡ length (text_spelling text.now) }
 {
@@ -83,6 +87,7 @@ fn binary_len_if_there(bytes: Option<&[u8]>) -> usize
     }
 }
 
+#[inline(always)]
 fn identifier_len_if_there(identifier: Option<u16>) -> usize
     ensures { result ≡ length (spelling_if two_bytes_spelling identifier) }
 {
@@ -140,6 +145,7 @@ fn connack_len(packet: &Connack<'_>) -> Option<u32>
     sum_within(&[2, list_len(&packet.properties)])
 }
 
+#[inline(always)]
 fn publish_len(packet: &Publish<'_>) -> Option<u32>
     ensures { result ≡ within (length (canonical_body (view (Packet.Publish packet.now)))) }
 {

@@ -1,0 +1,262 @@
+-- Bytes are a CONNECT of another version exactly where they begin as one.
+use Rattle.std.proofs.Common.{◌≡◌, ◌≢◌, ℕ, zero, suc, ◌+◌, ◌↔◌, Bool, true, false, inl, inr, List, [], ◌∷◌, ◌++◌, length, Option, Some, None, Result, Err, refl, sym, ◌∙◌, ap, subst, arith}
+use Rattle.std.specs.Prelude.{nat_lt, ◌==◌, if◌then◌else◌, bit_and, bytes_eq, codes}
+use Rattle.std.specs.Str.{IsAscii}
+use Rattle.std.proofs.lemmas.Bool.{eqb-true, eqb-false, ne_eqb}
+use Rattle.std.proofs.lemmas.Str.{IsUtf8-from_ascii}
+use Rattle.std.proofs.lemmas.Slice.Eq.{bytes_eq-Decides}
+use Rattle.mq_wire.specs.Spellings.{AreBytes, IsByte, IsText, text_spelling}
+use Rattle.mq_packet.specs.declared.packet.Qos.{Qos}
+use Rattle.mq_packet.specs.declared.packet.Qos.TheVariants.{AtMostOnce, AtLeastOnce, ExactlyOnce}
+use Rattle.mq_packet.specs.declared.packet.AcknowledgementKind.{AcknowledgementKind}
+use Rattle.mq_packet.specs.declared.packet.AcknowledgementKind.TheVariants as acknowledgements
+use Rattle.mq_packet.specs.declared.packet.EndingKind.{EndingKind}
+use Rattle.mq_packet.specs.declared.packet.EndingKind.TheVariants as endings
+use Rattle.mq_packet.specs.declared.packet.RequestKind.{RequestKind}
+use Rattle.mq_packet.specs.declared.packet.RequestKind.TheVariants as requests
+use Rattle.mq_packet.specs.declared.rule.PacketRule.{PacketRule}
+use Rattle.mq_packet.specs.declared.rule.PacketRule.TheVariants as rules
+use Rattle.mq_packet.specs.declared.fault.DecodeFault.{DecodeFault}
+use Rattle.mq_packet.specs.declared.fault.DecodeFault.TheVariants.{OtherVersion}
+use Rattle.mq_packet.specs.Entries.{Entry, WillFields, AskedFilter, listed, acknowledgement_codes, answer_codes, has_options, request_place, answer_place, request, answer, pingreq, pingresp, ending_codes}
+use Rattle.mq_packet.specs.Formats.{Kind, byte, two_bytes, text, binary, properties, Value, Objection, breaks, other_version, unless_broken, name_objection, version_objection, are_connect_flags, connect_flags_objection, is_code, names_topic, is_filter, are_options, Format, done, rest, refused, missing, field, at_end, field_if, will_if, has_bits, options_if, filters_format, codes_format, connect_from, connect_format, connack_format, publish_from, publish_unacknowledged, publish_acknowledged, publish_format, acknowledgement_format, request_format, answer_format, ending_format, format_of}
+use Rattle.mq_packet.specs.Decoding.{objected, body_start, decoded}
+use Rattle.mq_packet.specs.Misspellings.{Misspelled}
+use Rattle.mq_packet.specs.Spelled.{spelling, Fails, IsOtherVersion, Comes}
+use Rattle.mq_packet.specs.Versions.{IsConnectOfVersion}
+use Rattle.mq_packet.specs.Valid.{is_identifier}
+use Rattle.mq_packet.proofs.ValueLaws.{text_value, not_objected}
+use Rattle.mq_packet.proofs.Readings.{comes_to_decoded, decoded_only}
+
+-- ---- formats that know no version
+
+-- Nothing is objected but a broken rule.
+abbrev IsRule : Option Objection → Type 0
+IsRule None = Unit {0}
+IsRule (Some (breaks rule)) = Unit {0}
+IsRule (Some (other_version version)) = ⊥
+
+-- No field of the format is a version.
+abbrev HasNoVersion : Format → Type 0
+HasNoVersion (done packet) = Unit {0}
+HasNoVersion (rest packet) = Unit {0}
+HasNoVersion (refused rule) = Unit {0}
+HasNoVersion (missing rule) = Unit {0}
+HasNoVersion (field kind objection next) = (value : Value kind) → IsRule (objection value) × HasNoVersion (next value)
+HasNoVersion (at_end whole more) = HasNoVersion whole × HasNoVersion more
+
+broken_rule : (good : Bool) (rule : PacketRule) → IsRule (unless_broken good rule)
+broken_rule true rule = tt
+broken_rule false rule = tt
+
+-- Neither is a field that isn't spelled.
+misspelled_no : (kind : Kind) (at : ℕ) (bytes : List ℕ) (version : ℕ) → Misspelled kind at bytes (OtherVersion version) → ⊥
+misspelled_no byte at bytes version h = (let never = h.1 in cc)
+misspelled_no two_bytes at bytes version h = (let never = h.1 in cc)
+misspelled_no text at bytes version h = (let never = h.2 in cc)
+misspelled_no binary at bytes version h = (let never = h.1 in cc)
+misspelled_no (properties place) at bytes version h = (let never = h.2 in cc)
+
+objected_no : (o : Option Objection) (why : Objection) (at version : ℕ) → IsRule o → o ≡ Some why → OtherVersion version ≡ objected at why → ⊥
+objected_no o (breaks rule) at version h is e = cc
+objected_no o (other_version w) at version h is e = subst (λ (x : Option Objection). IsRule x) is h
+
+-- So none is ever found.
+no_version : (format : Format) → HasNoVersion format → (at : ℕ) (bytes : List ℕ) (version : ℕ) → Fails format at bytes (OtherVersion version) → ⊥
+no_version (done packet) h at bytes version fails = (let never = fails.1 in cc)
+no_version (rest packet) h at bytes version fails = fails
+no_version (refused rule) h at bytes version fails = cc
+no_version (missing rule) h at bytes version fails = cc
+no_version (field kind objection next) h at bytes version (inl fails) = misspelled_no kind at bytes version fails
+no_version (field kind objection next) h at bytes version (inr (inl fails)) = objected_no (objection fails.1.0) fails.0 at version (h fails.1.0).0 fails.1.3 fails.2
+no_version (field kind objection next) h at bytes version (inr (inr fails)) = no_version (next fails.0) (h fails.0).1 _ fails.1 version fails.4
+no_version (at_end whole more) h at [] version fails = no_version whole h.0 at [] version fails
+no_version (at_end whole more) h at (b ∷ bytes) version fails = no_version more h.1 at (b ∷ bytes) version fails
+
+-- ---- the formats
+
+field_if_none : (flag : Bool) (kind : Kind) (next : Option (Value kind) → Format) → ((value : Option (Value kind)) → HasNoVersion (next value)) → HasNoVersion (field_if flag kind next)
+field_if_none false kind next h = h None
+field_if_none true kind next h = λ value. (tt, h (Some value))
+
+will_if_none : (flag : Bool) (flags : ℕ) (next : Option WillFields → Format) → ((will : Option WillFields) → HasNoVersion (next will)) → HasNoVersion (will_if flag flags next)
+will_if_none false flags next h = h None
+will_if_none true flags next h = λ list. (tt, λ topic. (tt, λ payload. (tt, h (Some _))))
+
+connect_none : (flags : ℕ) → HasNoVersion (connect_from flags)
+connect_none flags = λ keep_alive. (
+  tt,
+  λ list. (
+    tt,
+    λ client. (
+      tt,
+      will_if_none (has_bits 4 flags) flags _ (λ will. field_if_none (has_bits 128 flags) text _ (λ user_name. field_if_none (has_bits 64 flags) binary _ (λ password. tt))),
+    ),
+  ),
+)
+
+connack_none : HasNoVersion connack_format
+connack_none = λ flags. (broken_rule (nat_lt flags 2) rules.W20, λ code. (broken_rule _ rules.W13, λ list. (tt, tt)))
+
+publish_from_none : (duplicate : Bool) (qos : Qos) (retain : Bool) (topic : List ℕ) (identifier : Option ℕ) → HasNoVersion (publish_from duplicate qos retain topic identifier)
+publish_from_none duplicate qos retain topic identifier = λ list. (broken_rule (names_topic topic list) rules.W21, tt)
+
+unacknowledged_none : (retain : Bool) → HasNoVersion (publish_unacknowledged retain)
+unacknowledged_none retain = λ topic. (broken_rule _ rules.W14, publish_from_none false AtMostOnce retain topic None)
+
+acknowledged_none : (duplicate : Bool) (qos : Qos) (retain : Bool) → HasNoVersion (publish_acknowledged duplicate qos retain)
+acknowledged_none duplicate qos retain = λ topic. (broken_rule _ rules.W14, λ identifier. (broken_rule (is_identifier identifier) rules.W09, publish_from_none duplicate qos retain topic (Some identifier)))
+
+-- One choice by the first byte.
+or_next : (b : Bool) (one two : Format) → HasNoVersion one → HasNoVersion two → HasNoVersion (if b then one else two)
+or_next true one two h k = h
+or_next false one two h k = k
+
+publish_none : (first : ℕ) → HasNoVersion (publish_format first)
+publish_none first =
+    or_next (bit_and first 6 == 0) _ _ (or_next (has_bits 8 first) (refused rules.W08) (publish_unacknowledged (has_bits 1 first)) tt (unacknowledged_none (has_bits 1 first))) (
+    or_next (bit_and first 6 == 2) _ _ (acknowledged_none (has_bits 8 first) AtLeastOnce (has_bits 1 first)) (
+    or_next (bit_and first 6 == 4) (publish_acknowledged (has_bits 8 first) ExactlyOnce (has_bits 1 first)) (refused rules.W07) (acknowledged_none (has_bits 8 first) ExactlyOnce (has_bits 1 first)) tt))
+
+acknowledgement_none : (kind : AcknowledgementKind) → HasNoVersion (acknowledgement_format kind)
+acknowledgement_none kind = λ identifier. (broken_rule (is_identifier identifier) rules.W09, (tt, λ code. (broken_rule (is_code (acknowledgement_codes kind) code) rules.W13, (tt, λ list. (tt, tt)))))
+
+options_if_none : (asks : Bool) (next : Option ℕ → Format) → ((options : Option ℕ) → HasNoVersion (next options)) → HasNoVersion (options_if asks next)
+options_if_none false next h = h None
+options_if_none true next h = λ options. (broken_rule (are_options options) rules.W17, h (Some options))
+
+filters_none : (n : ℕ) (asks : Bool) (packet : List AskedFilter → Entry) (found : List AskedFilter) → HasNoVersion (filters_format n asks packet found)
+filters_none zero asks packet found = tt
+filters_none (suc n) asks packet found = (
+  or_next (length found == 0) (missing rules.W16) (done (packet found)) tt tt,
+  λ filter. (broken_rule (is_filter filter) rules.W15, options_if_none asks _ (λ options. filters_none n asks packet (found ++ record { filter = filter; options = options } ∷ []))),
+)
+
+request_none : (size : ℕ) (kind : RequestKind) → HasNoVersion (request_format size kind)
+request_none size kind = λ identifier. (broken_rule (is_identifier identifier) rules.W09, λ list. (tt, filters_none size (has_options kind) (request kind identifier (listed (request_place kind) list)) []))
+
+codes_none : (n : ℕ) (table : List ℕ) (packet : List ℕ → Entry) (found : List ℕ) → HasNoVersion (codes_format n table packet found)
+codes_none zero table packet found = tt
+codes_none (suc n) table packet found = (tt, λ code. (broken_rule (is_code table code) rules.W13, codes_none n table packet (found ++ code ∷ [])))
+
+answer_none : (size : ℕ) (kind : RequestKind) → HasNoVersion (answer_format size kind)
+answer_none size kind = λ identifier. (broken_rule (is_identifier identifier) rules.W09, λ list. (tt, codes_none size (answer_codes kind) (answer kind identifier (listed (answer_place kind) list)) []))
+
+ending_none : (kind : EndingKind) → HasNoVersion (ending_format kind)
+ending_none kind = (tt, λ code. (broken_rule (is_code (ending_codes kind) code) rules.W13, (tt, λ list. (tt, tt))))
+
+-- ---- CONNECT
+
+version_told : (version other : ℕ) → version_objection version ≡ Some (other_version other) → (version ≡ other) × (version ≢ 5)
+version_told version other e =
+    elim (version == 5) as (λ t. (version == 5) ≡ t → (if t then None else Some (other_version version)) ≡ Some (other_version other) → (version ≡ other) × (version ≢ 5)) [
+      | true ↦ λ is h. absurd (cc)
+      | false ↦ λ is h. ((let same : version ≡ other = cc in same), eqb-false version 5 is)
+    ] refl e
+
+objected_version : (at version : ℕ) (why : Objection) → OtherVersion version ≡ objected at why → why ≡ other_version version
+objected_version at version (breaks rule) e = absurd (cc)
+objected_version at version (other_version w) e = (let same : version ≡ w = cc in ap (λ (k : ℕ). other_version k) (sym same))
+
+connect_version : (at : ℕ) (body : List ℕ) (version : ℕ) → Fails connect_format at body (OtherVersion version) → IsConnectOfVersion 16 body version
+connect_version at body version (inl fails) = absurd (misspelled_no text at body version fails)
+connect_version at body version (inr (inl fails)) = absurd (objected_no (name_objection fails.1.0) fails.0 at version (broken_rule (bytes_eq fails.1.0 (codes "MQTT")) rules.W18) fails.1.3 fails.2)
+connect_version at body version (inr (inr fails)) = versioned fails.4
+  where
+    name_is : fails.0 ≡ codes "MQTT"
+    name_is = (bytes_eq-Decides fails.0 (codes "MQTT")).0 (not_objected (bytes_eq fails.0 (codes "MQTT")) rules.W18 fails.3)
+
+    versioned : Fails (field byte version_objection (λ v. field byte connect_flags_objection (λ flags. connect_from flags))) (at + length (spelling text fails.0)) fails.1 (OtherVersion version) → IsConnectOfVersion 16 body version
+    versioned (inl wrong) = absurd (misspelled_no byte _ fails.1 version wrong)
+    versioned (inr (inl other)) =
+        (let told : (other.1.0 ≡ version) × (other.1.0 ≢ 5) = version_told other.1.0 version (other.1.3 ∙ ap (λ (w : Objection). Some w) (objected_version _ version other.0 other.2)) in
+        let found : IsConnectOfVersion 16 body other.1.0 = record {
+          following = other.1.1;
+          first_is = refl;
+          body_is = fails.2.spelled ∙ (ap (λ (name : List ℕ). text_spelling name ++ fails.1) name_is ∙ ap (λ (l : List ℕ). text_spelling (codes "MQTT") ++ l) other.1.2.spelled);
+          is_byte = other.1.2.is_value;
+          other = told.1;
+        } in
+        subst (λ (v : ℕ). IsConnectOfVersion 16 body v) told.0 found)
+    versioned (inr (inr good)) = absurd (no_version (field byte connect_flags_objection (λ flags. connect_from flags)) (λ flags. (broken_rule (are_connect_flags flags) rules.W19, connect_none flags)) _ good.1 version good.4)
+
+-- ---- any first byte
+
+-- What another version by a format says of the bytes.
+module _ (first at : ℕ) (body : List ℕ) (version : ℕ) where
+  abbrev Tells : Format → Type 0
+  Tells format = Fails format at body (OtherVersion version) → IsConnectOfVersion first body version
+
+  none_tells : (format : Format) → HasNoVersion format → Tells format
+  none_tells format h fails = absurd (no_version format h at body version fails)
+
+  connect_tells : first ≡ 16 → Tells connect_format
+  connect_tells is fails = subst (λ (f : ℕ). IsConnectOfVersion f body version) (sym is) (connect_version at body version fails)
+
+  -- one choice by the first byte
+  or_tells : (b : Bool) (one two : Format) → HasNoVersion one → Tells two → Tells (if b then one else two)
+  or_tells true one two h k = none_tells one h
+  or_tells false one two h k = k
+
+  or_connect : (b : Bool) (two : Format) → (b ≡ true → first ≡ 16) → Tells two → Tells (if b then connect_format else two)
+  or_connect true two h k = connect_tells (h refl)
+  or_connect false two h k = k
+
+  format_tells : (size : ℕ) → Tells (format_of first size)
+  format_tells size =
+      or_tells (nat_lt first 16) (refused rules.W02) _ tt (
+      or_connect (first == 16) _ (eqb-true first 16) (
+      or_tells (first == 32) connack_format _ connack_none (
+      or_tells (nat_lt first 48) (refused rules.W01) _ tt (
+      or_tells (nat_lt first 64) (publish_format first) _ (publish_none first) (
+      or_tells (first == 64) (acknowledgement_format acknowledgements.Puback) _ (acknowledgement_none acknowledgements.Puback) (
+      or_tells (first == 80) (acknowledgement_format acknowledgements.Pubrec) _ (acknowledgement_none acknowledgements.Pubrec) (
+      or_tells (first == 98) (acknowledgement_format acknowledgements.Pubrel) _ (acknowledgement_none acknowledgements.Pubrel) (
+      or_tells (first == 112) (acknowledgement_format acknowledgements.Pubcomp) _ (acknowledgement_none acknowledgements.Pubcomp) (
+      or_tells (first == 130) (request_format size requests.Subscribe) _ (request_none size requests.Subscribe) (
+      or_tells (first == 144) (answer_format size requests.Subscribe) _ (answer_none size requests.Subscribe) (
+      or_tells (first == 162) (request_format size requests.Unsubscribe) _ (request_none size requests.Unsubscribe) (
+      or_tells (first == 176) (answer_format size requests.Unsubscribe) _ (answer_none size requests.Unsubscribe) (
+      or_tells (first == 192) (done pingreq) _ tt (
+      or_tells (first == 208) (done pingresp) _ tt (
+      or_tells (first == 224) (ending_format endings.Disconnect) _ (ending_none endings.Disconnect) (
+      or_tells (first == 240) (ending_format endings.Auth) (refused rules.W01) (ending_none endings.Auth) (none_tells (refused rules.W01) tt)))))))))))))))))
+
+version_connects : (first : ℕ) (body : List ℕ) (version : ℕ) → IsOtherVersion first body version → IsConnectOfVersion first body version
+version_connects first body version = format_tells first (body_start (length body)) body version (length body)
+
+-- ---- such bytes have another version
+
+name_ascii : IsAscii (codes "MQTT")
+name_ascii zero = omega arith
+name_ascii (suc zero) = omega arith
+name_ascii (suc (suc zero)) = omega arith
+name_ascii (suc (suc (suc zero))) = omega arith
+name_ascii (suc (suc (suc (suc i)))) = omega arith
+
+connect_versions : (at version : ℕ) (behind : List ℕ) → IsByte version → version ≢ 5 → Fails connect_format at (text_spelling (codes "MQTT") ++ (version ∷ behind)) (OtherVersion version)
+connect_versions at version behind small other =
+    (let name : IsText (codes "MQTT") = text_value (codes "MQTT") (IsUtf8-from_ascii (codes "MQTT") name_ascii) refl in
+    let objects : version_objection version ≡ Some (other_version version) = ap (λ (t : Bool). if t then None else Some (other_version version)) (ne_eqb version 5 other) in
+    inr (inr (
+      codes "MQTT",
+      version ∷ behind,
+      record { is_value = name; spelled = refl },
+      refl,
+      inr (inl (other_version version, (version, behind, record { is_value = small; spelled = refl }, objects), refl)),
+    )))
+
+connects_version : (first : ℕ) (body : List ℕ) (version : ℕ) → IsConnectOfVersion first body version → IsOtherVersion first body version
+connects_version first body version h =
+    (let found : IsOtherVersion 16 (text_spelling (codes "MQTT") ++ (version ∷ h.following)) version = connect_versions (body_start (length (text_spelling (codes "MQTT") ++ (version ∷ h.following)))) version h.following h.is_byte h.other in
+    let here : IsOtherVersion 16 body version = subst (λ (l : List ℕ). IsOtherVersion 16 l version) (sym h.body_is) found in
+    subst (λ (f : ℕ). IsOtherVersion f body version) (sym h.first_is) here)
+
+pub version_exactly : (first : ℕ) (body : List ℕ) (version : ℕ) → IsOtherVersion first body version ↔ IsConnectOfVersion first body version
+version_exactly first body version = (version_connects first body version, connects_version first body version)
+
+pub version_decoded : (first : ℕ) (body : List ℕ) (version : ℕ) → AreBytes body → (decoded first body ≡ Err (OtherVersion version)) ↔ IsConnectOfVersion first body version
+version_decoded first body version known = (
+  λ e. version_connects first body version (subst (λ (r : Result Entry DecodeFault). Comes first body r) e (comes_to_decoded first body known)),
+  λ h. decoded_only first body (Err (OtherVersion version)) known (connects_version first body version h),
+)

@@ -1,0 +1,44 @@
+-- What the bytes at the front of a stream are (MQTT 5.0, 2.1.4 and 1.5.5): a packet, the beginning of one, or neither.
+use Rattle.std.specs.Prelude.{◌≡◌, ℕ, ◌<◌, ◌≤◌, List, ◌∷◌, ◌++◌, length}
+use Rattle.mq_wire.specs.Spellings.{IsVarint, varint_spelling}
+use Rattle.mq_packet.specs.declared.frame.Cut.{Cut}
+use Rattle.mq_packet.specs.declared.frame.Cut.TheVariants.{Need, Frame, Lost}
+use Rattle.mq_packet.specs.Frames.{BeginsWithFrame}
+
+-- The bytes, of which there may be none, are the beginning of a packet that isn't whole: with others after them they are a
+-- first byte, the shortest spelling of a body's length, and the body (2.1.1, 2.1.4).
+pub record IsBeginning (bytes : List ℕ) : Type 0 where
+  pub first : ℕ
+  pub body : List ℕ
+  pub missing : List ℕ
+  pub small : length body ≤ 268435455
+  pub some_missing : 0 < length missing
+  pub whole : first ∷ (varint_spelling (length body) ++ body) ≡ bytes ++ missing
+
+-- The bytes begin with a spelling of a Variable Byte Integer (1.5.5).
+pub record BeginsWithNumber (bytes : List ℕ) : Type 0 where
+  pub number : ℕ
+  pub following : List ℕ
+  pub small : IsVarint number
+  pub is : bytes ≡ varint_spelling number ++ following
+
+-- The bytes are a prefix of such a spelling.
+pub record IsPrefixOfNumber (bytes : List ℕ) : Type 0 where
+  pub number : ℕ
+  pub missing : List ℕ
+  pub small : IsVarint number
+  pub whole : varint_spelling number ≡ bytes ++ missing
+
+-- There is a first byte, and what follows it neither begins with a spelling of a Variable Byte Integer nor is a prefix of one.
+pub record IsLost (bytes : List ℕ) : Type 0 where
+  pub first : ℕ
+  pub following : List ℕ
+  pub is : bytes ≡ first ∷ following
+  pub no_number : ¬ BeginsWithNumber following
+  pub no_prefix : ¬ IsPrefixOfNumber following
+
+-- What it is for each cut to stand at the front of the bytes.
+abbrev pub StandsAtFront : List ℕ → Cut → Type 0
+StandsAtFront bytes Need = IsBeginning bytes
+StandsAtFront bytes (Frame first start end) = BeginsWithFrame bytes first start end
+StandsAtFront bytes Lost = IsLost bytes
