@@ -2,11 +2,14 @@
 //!
 //! What a whole packet takes on its way to the sink is inlined, so that it isn't moved; what is rare stays apart.
 
-ghost use Rattle.std.specs.Prelude.{◌≡◌, ◌+◌, ◌<◌, ◌≤◌, ◌^◌, ◌++◌, ◌⊎◌, ℕ, ◌∷◌, [], List, Some, None, OnOk, OnErr, IfOk, IfErr, length, take, slice_index, option_map, true, false};
+ghost use Rattle.std.specs.Prelude.{◌≡◌, ◌+◌, ◌-◌, ◌<◌, ◌≤◌, ◌^◌, ◌++◌, ◌⊎◌, ℕ, ◌∷◌, [], List, Some, None, OnOk, OnErr, IfOk, IfErr, Err, length, take, drop, slice_index, option_map, true, false};
 ghost use Rattle.mq_packet.specs.Stream.{frame_size, fixed_header_of};
+ghost use Rattle.mq_packet.specs.Decoding.{decoded};
+ghost use Rattle.mq_packet.specs.Reading.{view, Gives};
+ghost use Rattle.mq_packet.specs.Sizes.{remaining_length};
 ghost use Rattle.mq_packet.specs.declared.header.FixedHeader.TheVariants as headers;
 ghost use Rattle.mq_trace.specs.Refusals.{is_too_large};
-ghost use Rattle.mq_trace.specs.Events.{Placed, lost, item_read, read_frame};
+ghost use Rattle.mq_trace.specs.Events.{Placed, bad, lost, item_read, read_frame};
 ghost use Rattle.mq_trace.specs.Context.{put};
 ghost use Rattle.mq_trace.specs.Hearing.{AreEvents, Declines, event_of, item_of};
 ghost use Rattle.mq_trace.specs.declared.event.Item.TheVariants as items;
@@ -22,7 +25,9 @@ use super::kind::Way;
 use super::refusal::Refusal;
 use super::sink::Sink;
 use bytes::BytesMut;
-use mq_packet::{DecodeFault, FixedHeader, Packet, decode, fixed_header};
+use mq_packet::{
+    DecodeFault, FixedHeader, Packet, PacketRule, decode, decode_publish, fixed_header,
+};
 use std::alloc::Global;
 
 /// What is kept of one direction: the bytes of its unfinished packet.
@@ -447,6 +452,8 @@ fn take_whole<S: Sink>(
 }
 
 /// Tells a sink of a whole packet, whose fixed header has so many bytes and whose last byte stands at this offset of the log.
+///
+/// The first byte chooses before any byte of the body is read. So where a PUBLISH is read, no other packet takes room.
 #[inline(always)]
 fn tell_frame<S: Sink>(
     bed: Bed,
@@ -466,18 +473,123 @@ fn tell_frame<S: Sink>(
     ensures err { IfErr result (λ refusal. Untold (Declines S.agrees S.refuses) at (frame_met at (flow_of at (record { unfinished = []; lost = false }) connections.old) bed.way frame.now)
         (put (flow_placed_with (bed_of bed) (flow_of at (record { unfinished = []; lost = false }) connections.old) (frame_event bed.way frame.now)) []) sink.old sink.new refusal) }
 {
-    let first = frame[0];
-    match decode(first, &frame[header..]) {
+    match frame[0] {
+        0x30..0x40 => tell_publish(bed, connections, at, header, frame, sink),
+        _ => tell_other(bed, connections, at, header, frame, sink),
+    }
+}
+
+/// The same for a PUBLISH.
+#[inline(never)]
+fn tell_publish<S: Sink>(
+    bed: Bed,
+    connections: &mut Connections,
+    at: u64,
+    header: usize,
+    frame: &[u8],
+    sink: &mut S,
+) -> Result<(), Refusal>
+    requires whole { fixed_header_of frame.now ≡ headers.Whole header (length frame.now) }
+    requires publish { (48 ≤ slice_index frame.now 0) × (slice_index frame.now 0 < 64) }
+    requires fits { length frame.now ≤ header + 268435455 }
+    ensures met { OnOk result (frame_met at (flow_of at (record { unfinished = []; lost = false }) connections.old) bed.way frame.now ≡ None) }
+    ensures kept { OnOk result (connections.new ≡ connections_then bed.server connections.old (frame_event bed.way frame.now)) }
+    ensures heard { (earlier : List Placed) → S.agrees sink.old earlier
+        → AreEvents (put (flow_placed_with (bed_of bed) (flow_of at (record { unfinished = []; lost = false }) connections.old) (frame_event bed.way frame.now)) earlier)
+        → OnOk result (S.agrees sink.new (put (flow_placed_with (bed_of bed) (flow_of at (record { unfinished = []; lost = false }) connections.old) (frame_event bed.way frame.now)) earlier)) }
+    ensures err { IfErr result (λ refusal. Untold (Declines S.agrees S.refuses) at (frame_met at (flow_of at (record { unfinished = []; lost = false }) connections.old) bed.way frame.now)
+        (put (flow_placed_with (bed_of bed) (flow_of at (record { unfinished = []; lost = false }) connections.old) (frame_event bed.way frame.now)) []) sink.old sink.new refusal) }
+{
+    match decode_publish(frame[0], &frame[header..]) {
+        Ok(publish) => tell_packet(bed, connections, at, Packet::Publish(publish), sink),
+        Err(fault) => tell_fault(bed, connections, at, header, frame, fault, sink),
+    }
+}
+
+/// The same for any other packet.
+#[inline(never)]
+fn tell_other<S: Sink>(
+    bed: Bed,
+    connections: &mut Connections,
+    at: u64,
+    header: usize,
+    frame: &[u8],
+    sink: &mut S,
+) -> Result<(), Refusal>
+    requires whole { fixed_header_of frame.now ≡ headers.Whole header (length frame.now) }
+    requires fits { length frame.now ≤ header + 268435455 }
+    ensures met { OnOk result (frame_met at (flow_of at (record { unfinished = []; lost = false }) connections.old) bed.way frame.now ≡ None) }
+    ensures kept { OnOk result (connections.new ≡ connections_then bed.server connections.old (frame_event bed.way frame.now)) }
+    ensures heard { (earlier : List Placed) → S.agrees sink.old earlier
+        → AreEvents (put (flow_placed_with (bed_of bed) (flow_of at (record { unfinished = []; lost = false }) connections.old) (frame_event bed.way frame.now)) earlier)
+        → OnOk result (S.agrees sink.new (put (flow_placed_with (bed_of bed) (flow_of at (record { unfinished = []; lost = false }) connections.old) (frame_event bed.way frame.now)) earlier)) }
+    ensures err { IfErr result (λ refusal. Untold (Declines S.agrees S.refuses) at (frame_met at (flow_of at (record { unfinished = []; lost = false }) connections.old) bed.way frame.now)
+        (put (flow_placed_with (bed_of bed) (flow_of at (record { unfinished = []; lost = false }) connections.old) (frame_event bed.way frame.now)) []) sink.old sink.new refusal) }
+{
+    let read = decode(frame[0], &frame[header..]);
+    tell_decoded(bed, connections, at, header, frame, read, sink)
+}
+
+/// Tells a sink of what was read of a whole packet.
+#[inline(always)]
+fn tell_decoded<S: Sink>(
+    bed: Bed,
+    connections: &mut Connections,
+    at: u64,
+    header: usize,
+    frame: &[u8],
+    read: Result<Packet<'_>, DecodeFault>,
+    sink: &mut S,
+) -> Result<(), Refusal>
+    requires whole { fixed_header_of frame.now ≡ headers.Whole header (length frame.now) }
+    requires exact { Gives view read (decoded (slice_index frame.now 0) (take (length frame.now - header) (drop header frame.now))) }
+    requires size { IfOk read (λ packet. remaining_length packet ≡ length (take (length frame.now - header) (drop header frame.now))) }
+    ensures met { OnOk result (frame_met at (flow_of at (record { unfinished = []; lost = false }) connections.old) bed.way frame.now ≡ None) }
+    ensures kept { OnOk result (connections.new ≡ connections_then bed.server connections.old (frame_event bed.way frame.now)) }
+    ensures heard { (earlier : List Placed) → S.agrees sink.old earlier
+        → AreEvents (put (flow_placed_with (bed_of bed) (flow_of at (record { unfinished = []; lost = false }) connections.old) (frame_event bed.way frame.now)) earlier)
+        → OnOk result (S.agrees sink.new (put (flow_placed_with (bed_of bed) (flow_of at (record { unfinished = []; lost = false }) connections.old) (frame_event bed.way frame.now)) earlier)) }
+    ensures err { IfErr result (λ refusal. Untold (Declines S.agrees S.refuses) at (frame_met at (flow_of at (record { unfinished = []; lost = false }) connections.old) bed.way frame.now)
+        (put (flow_placed_with (bed_of bed) (flow_of at (record { unfinished = []; lost = false }) connections.old) (frame_event bed.way frame.now)) []) sink.old sink.new refusal) }
+{
+    match read {
         Ok(packet) => tell_packet(bed, connections, at, packet, sink),
-        Err(DecodeFault::Broken(fault)) => {
-            let item = Item::Bad {
-                first,
-                rule: fault.rule,
-                at: fault.at,
-            };
-            tell_item(bed, connections, at, item, sink)
-        }
-        Err(DecodeFault::OtherVersion(_)) => Err(Refusal::OtherVersion(at)),
+        Err(fault) => tell_fault(bed, connections, at, header, frame, fault, sink),
+    }
+}
+
+/// Tells a sink of a whole packet that has this fault.
+#[inline(always)]
+fn tell_fault<S: Sink>(
+    bed: Bed,
+    connections: &mut Connections,
+    at: u64,
+    header: usize,
+    frame: &[u8],
+    fault: DecodeFault,
+    sink: &mut S,
+) -> Result<(), Refusal>
+    requires whole { fixed_header_of frame.now ≡ headers.Whole header (length frame.now) }
+    requires exact { decoded (slice_index frame.now 0) (take (length frame.now - header) (drop header frame.now)) ≡ Err fault }
+    ensures met { OnOk result (frame_met at (flow_of at (record { unfinished = []; lost = false }) connections.old) bed.way frame.now ≡ None) }
+    ensures kept { OnOk result (connections.new ≡ connections_then bed.server connections.old (frame_event bed.way frame.now)) }
+    ensures heard { (earlier : List Placed) → S.agrees sink.old earlier
+        → AreEvents (put (flow_placed_with (bed_of bed) (flow_of at (record { unfinished = []; lost = false }) connections.old) (frame_event bed.way frame.now)) earlier)
+        → OnOk result (S.agrees sink.new (put (flow_placed_with (bed_of bed) (flow_of at (record { unfinished = []; lost = false }) connections.old) (frame_event bed.way frame.now)) earlier)) }
+    ensures err { IfErr result (λ refusal. Untold (Declines S.agrees S.refuses) at (frame_met at (flow_of at (record { unfinished = []; lost = false }) connections.old) bed.way frame.now)
+        (put (flow_placed_with (bed_of bed) (flow_of at (record { unfinished = []; lost = false }) connections.old) (frame_event bed.way frame.now)) []) sink.old sink.new refusal) }
+{
+    match fault {
+        DecodeFault::Broken(broken) => tell_bad(
+            bed,
+            connections,
+            at,
+            frame[0],
+            broken.rule,
+            broken.at,
+            sink,
+        ),
+        DecodeFault::OtherVersion(_) => Err(Refusal::OtherVersion(at)),
     }
 }
 
@@ -496,34 +608,38 @@ fn tell_packet<S: Sink>(
         → OnOk result (S.agrees sink.new (next_placed connections.old bed.record_no (going bed.way (item_of (items.Packet packet.entry))) ∷ earlier)) }
     ensures err { IfErr result (λ refusal. Untold (Declines S.agrees S.refuses) at (met_by at connections.old (going bed.way (item_of (items.Packet packet.entry)))) (next_placed connections.old bed.record_no (going bed.way (item_of (items.Packet packet.entry))) ∷ []) sink.old sink.new refusal) }
 {
-    // Each way apart, so that the packet, which is large, is moved once.
-    match bed.way {
-        Way::Sent => {
-            let event = Event::Sent(Item::Packet(packet));
-            tell(connections, bed.server, at, bed.record_no, event, sink)
-        }
-        Way::Recv => {
-            let event = Event::Recv(Item::Packet(packet));
-            tell(connections, bed.server, at, bed.record_no, event, sink)
-        }
-    }
+    tell(
+        connections,
+        bed.server,
+        at,
+        bed.record_no,
+        going(bed.way, Item::Packet(packet)),
+        sink,
+    )
 }
 
-/// Tells a sink of an item.
+/// Tells a sink of a packet with this first byte, which breaks a rule at this place of it.
 #[inline(never)]
-fn tell_item<S: Sink>(
+fn tell_bad<S: Sink>(
     bed: Bed,
     connections: &mut Connections,
     at: u64,
-    item: Item<'_>,
+    first: u8,
+    rule: PacketRule,
+    place: u32,
     sink: &mut S,
 ) -> Result<(), Refusal>
-    ensures met { OnOk result (met_by at connections.old (going bed.way (item_of item.entry)) ≡ None) }
-    ensures kept { OnOk result (connections.new ≡ connections_with bed.server connections.old (going bed.way (item_of item.entry))) }
-    ensures heard { (earlier : List Placed) → S.agrees sink.old earlier → AreEvents (next_placed connections.old bed.record_no (going bed.way (item_of item.entry)) ∷ earlier)
-        → OnOk result (S.agrees sink.new (next_placed connections.old bed.record_no (going bed.way (item_of item.entry)) ∷ earlier)) }
-    ensures err { IfErr result (λ refusal. Untold (Declines S.agrees S.refuses) at (met_by at connections.old (going bed.way (item_of item.entry))) (next_placed connections.old bed.record_no (going bed.way (item_of item.entry)) ∷ []) sink.old sink.new refusal) }
+    ensures met { OnOk result (met_by at connections.old (going bed.way (bad first rule place)) ≡ None) }
+    ensures kept { OnOk result (connections.new ≡ connections_with bed.server connections.old (going bed.way (bad first rule place))) }
+    ensures heard { (earlier : List Placed) → S.agrees sink.old earlier → AreEvents (next_placed connections.old bed.record_no (going bed.way (bad first rule place)) ∷ earlier)
+        → OnOk result (S.agrees sink.new (next_placed connections.old bed.record_no (going bed.way (bad first rule place)) ∷ earlier)) }
+    ensures err { IfErr result (λ refusal. Untold (Declines S.agrees S.refuses) at (met_by at connections.old (going bed.way (bad first rule place))) (next_placed connections.old bed.record_no (going bed.way (bad first rule place)) ∷ []) sink.old sink.new refusal) }
 {
+    let item = Item::Bad {
+        first,
+        rule,
+        at: place,
+    };
     tell(
         connections,
         bed.server,

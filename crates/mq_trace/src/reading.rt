@@ -1,9 +1,10 @@
 //! Reads a log: its header, its records, and what they carry.
 
-ghost use Rattle.std.specs.Prelude.{◌≡◌, ◌+◌, ◌^◌, ◌<◌, ◌≤◌, ◌∷◌, ◌++◌, [], List, true, false, cond, Some, None, OnOk, IfOk, IfErr, length, take};
+ghost use Rattle.std.specs.Prelude.{◌≡◌, ◌≢◌, ◌+◌, ◌*◌, ◌^◌, ◌<◌, ◌≤◌, ◌∷◌, ◌++◌, [], List, true, false, cond, Some, None, OnOk, IfOk, IfErr, length, take};
 ghost use Rattle.mq_trace.specs.Keeping.{half_in, context_of, IsUnfinished, IsSound, Comes, StepStops};
-ghost use Rattle.mq_trace.specs.Refusals.{header_refusal};
+ghost use Rattle.mq_trace.specs.Refusals.{allows, header_refusal};
 ghost use Rattle.std.specs.Int.{w16, w32, from_be_bytes};
+ghost use Rattle.mq_trace.specs.declared.kind.RecordKind.TheVariants as kinds;
 ghost use Rattle.mq_trace.specs.declared.stage.Stage.TheVariants as stages;
 ghost use Rattle.mq_trace.specs.Framing.{kind_named, opens};
 ghost use Rattle.mq_trace.specs.Events.{Placed};
@@ -297,27 +298,51 @@ impl Reading {
         ensures comes { OnOk result (Comes S.agrees self.old self.new (byte ∷ []) sink.old sink.new) }
         ensures stops { IfErr result (λ refusal. StepStops (Declines S.agrees S.refuses) self.old (byte ∷ []) sink.old sink.new refusal) }
     {
-        let length = length * 256 + u32::from(byte);
-        if !kind.allows(length) {
+        let whole = length * 256 + u32::from(byte);
+        if !kind.allows(whole) {
             return Err(Refusal::Length(self.at));
         }
+        match kind {
+            RecordKind::Sent => {
+                self.begin_body(Way::Sent, whole);
+                Ok(())
+            }
+            RecordKind::Recv => {
+                self.begin_body(Way::Recv, whole);
+                Ok(())
+            }
+            _ => self.end_other(kind, length, byte, sink),
+        }
+    }
+
+    /// The same for a record that carries no packets, whose length its kind allows. It stays apart, so that its events take no
+    /// room where packets are read.
+    #[inline(never)]
+    fn end_other<S: Sink>(
+        &mut self,
+        kind: RecordKind,
+        length: u32,
+        byte: u8,
+        sink: &mut S,
+    ) -> Result<(), Refusal>
+        requires sound { IsSound self.old }
+        requires within { self.old.stage ≡ stages.Head kind 3 length }
+        requires allowed { allows (Some kind) (length * 256 + byte) ≡ true }
+        requires packetless { (kind ≢ kinds.Sent) × (kind ≢ kinds.Recv) }
+        ensures sound { OnOk result (IsSound self.new) }
+        ensures comes { OnOk result (Comes S.agrees self.old self.new (byte ∷ []) sink.old sink.new) }
+        ensures stops { IfErr result (λ refusal. StepStops (Declines S.agrees S.refuses) self.old (byte ∷ []) sink.old sink.new refusal) }
+    {
         match kind {
             RecordKind::Open => self.end_mark(Event::Open, sink),
             RecordKind::Close => self.end_mark(Event::Close, sink),
             RecordKind::Rest => self.end_mark(Event::Rest, sink),
-            RecordKind::Sent => {
-                self.begin_body(Way::Sent, length);
-                Ok(())
-            }
-            RecordKind::Recv => {
-                self.begin_body(Way::Recv, length);
-                Ok(())
-            }
             RecordKind::Release => {
                 self.at += 1;
                 self.stage = Stage::Release(None);
                 Ok(())
             }
+            RecordKind::Sent | RecordKind::Recv => unreachable!(),
         }
     }
 
