@@ -13,7 +13,7 @@ use Rattle.mq_rules.specs.Rules.{same_rule}
 use Rattle.mq_rules.specs.Steps.{turns}
 use Rattle.mq_rules.specs.Marks.{FaultMap, fault_at, judged}
 use Rattle.mq_rules.specs.Faults.{reported, fault_in, Grows, GrowsWithin}
-use Rattle.mq_rules.specs.Keeping.{is_among, at_place, Judges, JudgesWithin, news, GrowsBy, GrowsByWithin}
+use Rattle.mq_rules.specs.Keeping.{is_among, is_any_broken, at_place, Judges, JudgesWithin, news, GrowsBy, GrowsByWithin}
 use Rattle.mq_rules.proofs.BoolLaws.{and_false, or_false, or_else-none}
 use Rattle.mq_rules.proofs.MarkLaws.{fault_at-judged, same_told}
 use Rattle.mq_rules.proofs.DecidedLaws.{fault_in-step, fault_in-start}
@@ -130,6 +130,18 @@ judges-more vs i d place first old new lt was now =
     (λ rule. sym (ap (λ n. is_among (take n vs) rule) (add-one i) ∙ among_more vs i d rule lt))
     (judges-then (is_among (take i vs)) (λ rule. (get_or vs i d).1 && same_rule rule (get_or vs i d).0) place first old (judged (get_or vs i d).1 (get_or vs i d).0 place old)
     was (judges-one old (get_or vs i d).1 (get_or vs i d).0 place)))
+
+-- a list of which none is false
+no_more : (b t any among : Bool) → (any ≡ false → false ≡ among) → (b || any) ≡ false → false ≡ ((b && t) || among)
+no_more true t any among rest e = absurd (cc)
+no_more false t any among rest e = rest e
+
+none_among : (vs : List (Rule × Bool)) → is_any_broken vs ≡ false → (rule : Rule) → false ≡ is_among vs rule
+none_among [] e rule = refl
+none_among (v ∷ vs) e rule = no_more v.1 (same_rule rule v.0) (is_any_broken vs) (is_among vs rule) (λ h. none_among vs h rule) e
+
+pub judges-unbroken : (vs : List (Rule × Bool)) (place : Place3) (faults : FaultMap) → is_any_broken vs ≡ false → Judges (is_among vs) place faults faults
+judges-unbroken vs place faults e = judges-same (λ rule. false) (is_among vs) place faults faults (none_among vs e) (judges-none place faults)
 
 -- a list that was judged in part
 pub within-part : (vs : List (Rule × Bool)) (i : ℕ) (place : Place3) (old new : FaultMap) → Judges (is_among (take i vs)) place old new → JudgesWithin (is_among vs) place old new

@@ -1,11 +1,15 @@
 -- Marks are in a total order, which tells all of them apart, and a tree map is the finite map of its entries.
-use Rattle.std.proofs.Common.{◌≡◌, ℕ, Bool, true, false, cond, ◌&&◌, List, [], ◌∷◌, length, Option, Some, None, refl, sym, ap, subst, ◌∙◌, ◌==◌, nat_eq}
+use Rattle.std.proofs.Common.{◌≡◌, ℕ, Bool, true, false, cond, not, ◌&&◌, ◌||◌, nat_le, nat_lt, arith, ap₂, List, [], ◌∷◌, length, Option, Some, None, refl, sym, ap, subst, ◌∙◌, ◌==◌, nat_eq}
 use Rattle.std.specs.Prelude.{T, is_some, Result, Ok, Err, OnErr}
 use Rattle.std.specs.declared.cmp.Ordering.{Ordering}
 use Rattle.std.specs.declared.cmp.Ordering.TheVariants.{Less, Equal, Greater}
-use Rattle.std.specs.Ordering.{is_eq, is_lt, eq_by_cmp}
+use Rattle.std.specs.Ordering.{is_eq, is_le, is_lt, eq_by_cmp, nat_cmp, ordering_then}
 use Rattle.std.specs.Cmp.{IsTotalOrder, eq_by_cmp_equiv}
-use Rattle.std.specs.List.{AllByRecursion}
+use Rattle.std.specs.Prelude.{option_map}
+use Rattle.std.specs.List.{AllByRecursion, filter, find as find_by}
+use Rattle.std.specs.BTreeMap.Range.{range_contains, entries_between}
+use Rattle.std.specs.declared.ops.Bound.TheVariants.{Included, Unbounded}
+use Rattle.mq_rules.specs.declared.rule.Rule.TheVariants.{W01, B04}
 use Rattle.std.specs.List.Sorted.{IsStrictlySortedBy}
 use Rattle.std.specs.Map.{keys_of, lookup}
 use Rattle.std.specs.BTreeMap.{is_at}
@@ -22,8 +26,8 @@ use Rattle.mq_rules.specs.declared.faults.Mark.{Mark}
 use Rattle.mq_rules.specs.declared.fault.Fault.{Fault}
 use Rattle.mq_trace.specs.declared.place.Place3.{Place3}
 use Rattle.mq_rules.specs.Words.{or_else}
-use Rattle.mq_rules.specs.Rules.{same_rule}
-use Rattle.mq_rules.specs.Marks.{mark_cmp, FaultMap, fault_at, with_fault, judged}
+use Rattle.mq_rules.specs.Rules.{rule_cmp, same_rule}
+use Rattle.mq_rules.specs.Marks.{mark_cmp, FaultMap, fault_at, faults_at, first_from, with_fault, judged}
 
 both_true : (a b : Bool) → (a && b) ≡ true → (a ≡ true) × (b ≡ true)
 both_true true true e = (refl, refl)
@@ -159,3 +163,81 @@ fault_at-judged m true s r place k =
 fault_at-judged m false s r place k =
     sym (or_else-none (fault_at m k r))
     ∙ ap (λ b. or_else (fault_at m k r) (cond b (Some (record { decided = k; record_no = place.record_no; offset = None })) None)) (sym (ap (λ b. (k == place.position) && b) (and_false (same_rule r s)) ∙ and_false (k == place.position)))
+
+-- ---- the marks at a position, and from one on
+
+-- W01 is the first statement
+not_below_first : (r : Rule) → is_le (rule_cmp W01 r) ≡ true
+not_below_first W01 = refl
+not_below_first _ = refl
+
+-- B04 is the last one
+not_above_last : (r : Rule) → is_lt (rule_cmp B04 r) ≡ false
+not_above_last W01 = refl
+not_above_last _ = refl
+
+le_then : (a b : Bool) (o : Ordering) → is_le o ≡ true → is_le (ordering_then (cond a Less (cond b Equal Greater)) o) ≡ (a || b)
+le_then true b o h = refl
+le_then false true o h = h
+le_then false false o h = refl
+
+lt_then : (a b : Bool) (o : Ordering) → is_lt o ≡ false → is_lt (ordering_then (cond a Less (cond b Equal Greater)) o) ≡ a
+lt_then true b o h = refl
+lt_then false true o h = h
+lt_then false false o h = refl
+
+le_or : (a b : ℕ) → (nat_lt a b || (a == b)) ≡ nat_le a b
+le_or a b = grind arith
+
+le_both : (a b : ℕ) → ((nat_lt a b || (a == b)) && not (nat_lt a b)) ≡ (b == a)
+le_both a b = grind arith
+
+-- a mark is not before the first one at a position where its own isn't
+pub from_mark : (position : ℕ) (q : Mark) → is_le (mark_cmp (record { position = position; rule = W01 }) q) ≡ nat_le position q.position
+from_mark position q = le_then (nat_lt position q.position) (position == q.position) (rule_cmp W01 q.rule) (not_below_first q.rule) ∙ le_or position q.position
+
+-- it lies between the first and the last one at a position where it has that position
+pub at_mark : (position : ℕ) (q : Mark)
+    → range_contains mark_cmp (Included (record { position = position; rule = W01 })) (Included (record { position = position; rule = B04 })) q ≡ (q.position == position)
+at_mark position q =
+    ap₂ (λ a b. a && not b) (le_then (nat_lt position q.position) (position == q.position) (rule_cmp W01 q.rule) (not_below_first q.rule))
+    (lt_then (nat_lt position q.position) (position == q.position) (rule_cmp B04 q.rule) (not_above_last q.rule)) ∙ le_both position q.position
+
+filter_alike : {A : Type 0} (p q : A → Bool) → ((x : A) → p x ≡ q x) → (xs : List A) → filter p xs ≡ filter q xs
+filter_alike p q same [] = refl
+filter_alike p q same (x ∷ xs) = ap₂ (λ b ys. cond b (x ∷ ys) ys) (same x) (filter_alike p q same xs)
+
+pub at_entries : (position : ℕ) (es : List (Mark × Fault)) (first last : Mark)
+    → first ≡ record { position = position; rule = W01 } → last ≡ record { position = position; rule = B04 }
+    → entries_between mark_cmp (Included first) (Included last) es ≡ faults_at position es
+at_entries position es first last is_first is_last =
+    ap₂ (λ a b. entries_between mark_cmp (Included a) (Included b) es) is_first is_last
+    ∙ filter_alike _ (λ found. found.0.position == position) (λ e. at_mark position e.0) es
+
+abbrev pub head : {A : Type 0} → List A → Option A
+head [] = None
+head (x ∷ xs) = Some x
+
+head_of : {A : Type 0} (b : Bool) (x : A) (xs : List A) → head (cond b (x ∷ xs) xs) ≡ cond b (Some x) (head xs)
+head_of true x xs = refl
+head_of false x xs = refl
+
+head_filter : {A : Type 0} (p q : A → Bool) → ((x : A) → p x ≡ q x) → (xs : List A) → head (filter p xs) ≡ find_by q xs
+head_filter p q same [] = refl
+head_filter p q same (x ∷ xs) = head_of (p x) x (filter p xs) ∙ ap₂ (λ b o. cond b (Some x) o) (same x) (head_filter p q same xs)
+
+and_true : (b : Bool) → (b && true) ≡ b
+and_true true = refl
+and_true false = refl
+
+-- the position of the first of these entries, if there is one
+abbrev pub position_of_first : List (Mark × Fault) → Option ℕ
+position_of_first es = option_map (λ found. found.0.position) (head es)
+
+pub first_entry : (position : ℕ) (es rest : List (Mark × Fault)) → rest ≡ entries_between mark_cmp (Included (record { position = position; rule = W01 })) Unbounded es
+    → position_of_first rest ≡ first_from position es
+first_entry position es rest is =
+    ap position_of_first is
+    ∙ ap (option_map (λ (found : Mark × Fault). found.0.position))
+    (head_filter (λ e. range_contains mark_cmp (Included (record { position = position; rule = W01 })) Unbounded e.0) (λ found. nat_le position found.0.position)
+    (λ e. and_true _ ∙ from_mark position e.0) es)

@@ -19,12 +19,14 @@ use Rattle.mq_rules.specs.declared.note.Note.{Note}
 use Rattle.mq_rules.specs.declared.note.ItemNote.{ItemNote}
 use Rattle.mq_rules.specs.declared.note.Seen.{Seen}
 use Rattle.mq_rules.specs.declared.packet_note.PacketNote.{PacketNote}
+use Rattle.mq_rules.specs.declared.packet_note.PacketFields.{PacketFields}
+use Rattle.mq_rules.specs.declared.packet_note.PacketFields.TheVariants.{Connect, Connack, Disconnect}
 use Rattle.mq_rules.specs.declared.packet_note.PublishNote.{PublishNote}
 use Rattle.mq_rules.specs.declared.packet_note.ConnackNote.{ConnackNote}
 use Rattle.mq_rules.specs.declared.conn.state.ConnectionState.{ConnectionState}
 use Rattle.mq_rules.specs.declared.conn.Conn.{Conn}
 use Rattle.mq_rules.specs.Words.{or_else, is_some_and, is_id, only}
-use Rattle.mq_rules.specs.Notes.{is_open, is_rest, is_typed, is_of_type, foreign_types, sent_item, sent_packet, sends_type, receives_type, sent_publish, sent_connack, sent_disconnect, disconnect_in, connect_of, connack_of, client_disconnect, decides, may_explain, resumed_by, qos_number}
+use Rattle.mq_rules.specs.Notes.{is_open, is_rest, is_typed, is_of_type, foreign_types, sent_item, sent_packet, sent_fields, received_fields, sends_type, receives_type, sent_publish, sent_connack, sent_disconnect, disconnect_in, connect_of, connack_of, client_disconnect, decides, may_explain, resumed_by, qos_number}
 use Rattle.mq_rules.specs.Moments.{note, moment, some, earliest}
 use Rattle.mq_rules.specs.Connections.{begun, connection, first_connect, first_connack, accepted, is_alive_after}
 use Rattle.mq_rules.specs.Pasts.{sends_typed, is_sent_disconnect, is_sent_refusal, set_alias}
@@ -103,6 +105,17 @@ followed role s n = record {
 
 abbrev pub after : Role → ConnectionState → Note → ConnectionState
 after role s n = followed role (begun_if (is_open n) s) n
+
+-- a packet other than CONNECT, CONNACK and DISCONNECT, and an event at which such a packet was sent or received: it changes nothing of
+-- what is kept, but that the tested end has sent
+abbrev pub is_ordinary_in : PacketFields → Bool
+is_ordinary_in (Connect c) = false
+is_ordinary_in (Connack c) = false
+is_ordinary_in (Disconnect session_expiry) = false
+is_ordinary_in _ = true
+
+abbrev pub is_ordinary : Note → Bool
+is_ordinary n = is_some_and is_ordinary_in (sent_fields n) || is_some_and is_ordinary_in (received_fields n)
 
 -- ---- what it tells of the next event: whether a statement is false there. What the event is not is None.
 
@@ -238,6 +251,10 @@ rest_verdicts role s is_rest = (C23, tells_C23 role s is_rest) ∷ []
 -- a statement is among these, and false
 abbrev pub is_among : List (Rule × Bool) → Rule → Bool
 is_among verdicts rule = list_any (λ v. v.1 && same_rule rule v.0) verdicts
+
+-- one of these is false
+abbrev pub is_any_broken : List (Rule × Bool) → Bool
+is_any_broken verdicts = list_any (λ v. v.1) verdicts
 
 -- a statement is false at the event
 abbrev pub is_told : Role → ConnectionState → (ℕ → Bool) → Note → Rule → Bool

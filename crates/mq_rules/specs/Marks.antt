@@ -1,5 +1,6 @@
 -- Faults as a finite map from marks.
-use Rattle.std.specs.Prelude.{ℕ, Bool, cond, Option, None}
+use Rattle.std.specs.Prelude.{ℕ, Bool, nat_le, ◌==◌, cond, List, Option, None, option_map}
+use Rattle.std.specs.List.{filter, find}
 use Rattle.std.specs.declared.cmp.Ordering.{Ordering}
 use Rattle.std.specs.FinMap as map
 use Rattle.mq_rules.specs.declared.rule.Rule.{Rule}
@@ -28,3 +29,11 @@ with_fault mark fault faults = cond (map.contains_key faults mark) faults (map.i
 abbrev pub judged : Bool → Rule → Place3 → FaultMap → FaultMap
 judged broken rule place faults =
     cond broken (with_fault (record { position = place.position; rule = rule }) (record { decided = place.position; record_no = place.record_no; offset = None }) faults) faults
+
+-- those of these faults that are at this position, in their order
+abbrev pub faults_at : ℕ → List (Mark × Fault) → List (Mark × Fault)
+faults_at position faults = filter (λ found. found.0.position == position) faults
+
+-- the position of the first of these faults that is at this position or after it
+abbrev pub first_from : ℕ → List (Mark × Fault) → Option ℕ
+first_from position faults = option_map (λ found. found.0.position) (find (λ found. nat_le position found.0.position) faults)

@@ -298,9 +298,30 @@ fn used_alias(publish: &PublishNote) -> Option<u16>
     }
 }
 
-/// Puts a fault for each of these statements that is false.
-#[inline]
+/// Puts a fault for each of these statements that is false. At most events none is.
+#[inline(always)]
 fn judge_each(place: Place3, verdicts: &[Verdict], faults: &mut Faults) -> Result<(), Memory>
+    ensures ok { OnOk result (Judges (is_among verdicts.now) place faults.old faults.new) }
+    ensures memory { OnErr result (JudgesWithin (is_among verdicts.now) place faults.old faults.new) }
+{
+    if is_any_broken(verdicts) {
+        judge_broken(place, verdicts, faults)
+    } else {
+        Ok(())
+    }
+}
+
+/// Whether any of these statements is false.
+#[inline(always)]
+fn is_any_broken(verdicts: &[Verdict]) -> bool
+    ensures { result ≡ told.is_any_broken verdicts.now }
+{
+    verdicts.iter().any(|(_, broken)| *broken)
+}
+
+/// Judges one of these statements after another.
+#[inline(always)]
+fn judge_broken(place: Place3, verdicts: &[Verdict], faults: &mut Faults) -> Result<(), Memory>
     ensures ok { OnOk result (Judges (is_among verdicts.now) place faults.old faults.new) }
     ensures memory { OnErr result (JudgesWithin (is_among verdicts.now) place faults.old faults.new) }
 {

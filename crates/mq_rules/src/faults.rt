@@ -1,15 +1,15 @@
 //! The faults that were found: at most one for each pair of a position and a statement.
-ghost use Rattle.std.specs.Prelude.{◌≡◌, ◌==◌, OnOk, OnErr, Option, None, true};
+ghost use Rattle.std.specs.Prelude.{◌≡◌, ◌==◌, OnOk, OnErr, Option, None, true, option_map};
 ghost use Rattle.std.specs.FinMap as map;
 ghost use Rattle.std.specs.Map.Iter.{ShowsInOrder, deref_pair};
-ghost use Rattle.mq_rules.specs.Marks.{fault_at, with_fault, judged};
+ghost use Rattle.mq_rules.specs.Marks.{fault_at, faults_at, first_from, with_fault, judged};
 
 use crate::fault::Fault;
 use crate::rule::Rule;
 use mq_trace::Place3;
 use std::alloc::{AllocError, AllocFailed, Global};
 use std::collections::BTreeMap;
-use std::collections::btree_map::Iter;
+use std::collections::btree_map::{Iter, Range};
 use std::marker::Model;
 
 /// A growth was refused: there is no memory left.
@@ -133,5 +133,33 @@ impl Faults {
         ensures runs { ShowsInOrder (deref_pair {K = Mark} {X = Fault}) }
     {
         self.found.iter()
+    }
+
+    /// The faults at a position with their marks, in the order of the statements.
+    pub fn at(&self, position: u32) -> Range<'_, Mark, Fault>
+        ensures rest { result ≡ faults_at position (map.entries self.now) }
+        ensures runs { ShowsInOrder (deref_pair {K = Mark} {X = Fault}) }
+    {
+        let first = Mark {
+            position,
+            rule: Rule::W01,
+        };
+        let last = Mark {
+            position,
+            rule: Rule::B04,
+        };
+        self.found.range(first..=last)
+    }
+
+    /// The first position with a fault from this position on, if there is one.
+    pub fn first_from(&self, position: u32) -> Option<u32>
+        ensures { result ≡ first_from position (map.entries self.now) }
+    {
+        let first = Mark {
+            position,
+            rule: Rule::W01,
+        };
+        let (mark, _) = self.found.range(first..).next()?;
+        Some(mark.position)
     }
 }

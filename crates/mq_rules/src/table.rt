@@ -1,7 +1,7 @@
 //! The table of the chosen statements: a row for each, in the order of reports.
 ghost use Rattle.std.specs.Prelude.{◌≡◌, ◌==◌, not, length, option_map};
 ghost use Rattle.std.specs.List.{find};
-ghost use Rattle.mq_rules.specs.Rules.{found_line, line_view, lines_of, same_rule, code_of, citation_of, line_of, binds};
+ghost use Rattle.mq_rules.specs.Rules.{all_rules, found_line, line_view, lines_of, same_rule, code_of, citation_of, line_of, binds};
 
 use crate::role::{Role, Tested};
 use crate::rule::Rule;
@@ -106,6 +106,84 @@ pub const TABLE: [Row; 74] = [
     (Rule::B04, "B04", "", "sec-3.11.3", false),
 ];
 
+/// The statements, in the order of reports.
+const RULES: [Rule; 74] = [
+    Rule::W01,
+    Rule::W02,
+    Rule::W03,
+    Rule::W04,
+    Rule::W05,
+    Rule::W06,
+    Rule::W07,
+    Rule::W08,
+    Rule::W09,
+    Rule::W10,
+    Rule::W11,
+    Rule::W12,
+    Rule::W13,
+    Rule::W14,
+    Rule::W15,
+    Rule::W16,
+    Rule::W17,
+    Rule::W18,
+    Rule::W19,
+    Rule::W20,
+    Rule::W21,
+    Rule::C01,
+    Rule::C02,
+    Rule::C03,
+    Rule::C04,
+    Rule::C05,
+    Rule::C06,
+    Rule::C07,
+    Rule::C08,
+    Rule::C09,
+    Rule::C10,
+    Rule::C11,
+    Rule::C12,
+    Rule::C13,
+    Rule::C14,
+    Rule::C15,
+    Rule::C16,
+    Rule::C17,
+    Rule::C18,
+    Rule::C19,
+    Rule::C20,
+    Rule::C21,
+    Rule::C22,
+    Rule::C23,
+    Rule::S01,
+    Rule::S02,
+    Rule::S03,
+    Rule::S04,
+    Rule::S05,
+    Rule::S06,
+    Rule::S07,
+    Rule::E1A,
+    Rule::E1R,
+    Rule::E1O,
+    Rule::E2A,
+    Rule::E2R,
+    Rule::E2O,
+    Rule::E3A,
+    Rule::E3R,
+    Rule::E3O,
+    Rule::E4A,
+    Rule::E4R,
+    Rule::E5A,
+    Rule::E5R,
+    Rule::E6A,
+    Rule::E6R,
+    Rule::E7R,
+    Rule::L1,
+    Rule::L2,
+    Rule::L3,
+    Rule::B01,
+    Rule::B02,
+    Rule::B03,
+    Rule::B04,
+];
+
 /// The row of a statement among these, if it has one.
 fn found(table: &[Row], rule: Rule) -> Option<Row>
     ensures { result ≡ find (λ row. same_rule row.0 rule) table.now }
@@ -129,6 +207,14 @@ fn find_row(rule: Rule) -> Option<Row>
 }
 
 impl Rule {
+    /// All statements, in the order of reports.
+    #[tactic(auto, unfolding(crate::specs::Rules::lines))]
+    pub fn all() -> &'static [Rule]
+        ensures { result.now ≡ all_rules }
+    {
+        &RULES
+    }
+
     /// The statement's code, by which reports name it.
     #[tactic(auto, unfolding(crate::specs::Rules::line_of))]
     pub fn code(self) -> &'static str

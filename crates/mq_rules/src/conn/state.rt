@@ -1,12 +1,14 @@
 //! What is kept of the latest connection.
 ghost use Rattle.std.specs.Prelude.{◌≡◌, ◌&&◌, [], false, None, is_some, is_none};
 ghost use Rattle.mq_rules.specs.declared.role.Role.{Role as TheRole};
-ghost use Rattle.mq_rules.specs.Keeping.{kept, begun_if, followed, after, expiry, stays_alive as lives_on};
+ghost use Rattle.mq_rules.specs.Keeping.{kept, begun_if, followed, after, is_ordinary as ordinary, is_ordinary_in, expiry, stays_alive as lives_on};
+ghost use Rattle.mq_rules.specs.Words.{is_some_and};
+ghost use Rattle.mq_rules.specs.Notes.{sent_fields, received_fields};
 ghost use Rattle.mq_rules.specs.Pasts.{is_sent_refusal};
 
 use crate::fate::Fate;
-use crate::note::Note;
-use crate::packet_note::{ConnackNote, ConnectNote};
+use crate::note::{ItemNote, Note};
+use crate::packet_note::{ConnackNote, ConnectNote, PacketFields};
 use crate::role::Role;
 use mq_packet::PacketType;
 
@@ -73,8 +75,19 @@ impl ConnectionState {
     pub fn take(&mut self, role: Role, note: &Note)
         ensures { self.new ≡ after role self.old note.now }
     {
+        if self.is_unchanged_by(note) {
+            return;
+        }
         self.begin_if(note.is_open());
         self.follow(role, note);
+    }
+
+    /// Whether the event is seen at once to change nothing: most are ordinary packets, after the first one that is sent.
+    #[inline]
+    fn is_unchanged_by(&self, note: &Note) -> bool
+        ensures { result ≡ (self.now.has_sent && ordinary note.now) }
+    {
+        self.has_sent && (sends_ordinary(note) || receives_ordinary(note))
     }
 
     /// At an OPEN a new connection begins.
@@ -135,6 +148,39 @@ impl ConnectionState {
     {
         self.connect.is_some() && self.connack.is_none()
     }
+}
+
+/// Whether the tested end sent a packet other than CONNECT, CONNACK and DISCONNECT.
+#[inline]
+fn sends_ordinary(note: &Note) -> bool
+    ensures { result ≡ is_some_and is_ordinary_in (sent_fields note.now) }
+{
+    match note {
+        Note::Sent(ItemNote::Packet(packet)) => is_ordinary(&packet.fields),
+        _ => false,
+    }
+}
+
+/// Whether the tested end received a packet other than CONNECT, CONNACK and DISCONNECT.
+#[inline]
+fn receives_ordinary(note: &Note) -> bool
+    ensures { result ≡ is_some_and is_ordinary_in (received_fields note.now) }
+{
+    match note {
+        Note::Recv(ItemNote::Packet(packet)) => is_ordinary(&packet.fields),
+        _ => false,
+    }
+}
+
+/// Whether a packet is none of CONNECT, CONNACK and DISCONNECT.
+#[inline]
+fn is_ordinary(fields: &PacketFields) -> bool
+    ensures { result ≡ is_ordinary_in fields.now }
+{
+    !matches!(
+        fields,
+        PacketFields::Connect(_) | PacketFields::Connack(_) | PacketFields::Disconnect { .. }
+    )
 }
 
 /// Whether the tested end sent a CONNACK that refuses.

@@ -1,0 +1,102 @@
+-- An event that leaves what is kept of a connection as it is.
+use Rattle.std.proofs.Common.{◌≡◌, ℕ, Bool, true, false, cond, ◌&&◌, ◌||◌, Option, Some, None, is_some, refl, ap, sym, ◌∙◌}
+use Rattle.std.specs.Prelude.{option_map}
+use Rattle.mq_packet.specs.Canonical.{type_number}
+use Rattle.mq_packet.specs.declared.packet.PacketType.TheVariants as types
+use Rattle.mq_rules.specs.declared.role.Role.{Role}
+use Rattle.mq_rules.specs.declared.role.Role.TheVariants.{Client, Server}
+use Rattle.mq_rules.specs.declared.fate.Fate.TheVariants.{Void}
+use Rattle.mq_rules.specs.declared.note.Note.{Note}
+use Rattle.mq_rules.specs.declared.note.Note.TheVariants as notes
+use Rattle.mq_rules.specs.declared.note.ItemNote.TheVariants as items
+use Rattle.mq_rules.specs.declared.packet_note.ConnackNote.{ConnackNote}
+use Rattle.mq_rules.specs.declared.packet_note.PacketFields.{PacketFields}
+use Rattle.mq_rules.specs.declared.packet_note.PacketFields.TheVariants.{Connect, Connack, Disconnect}
+use Rattle.mq_rules.specs.declared.conn.state.ConnectionState.{ConnectionState}
+use Rattle.mq_rules.specs.Words.{or_else, is_id, is_some_and}
+use Rattle.mq_rules.specs.Notes.{is_open, is_close, is_typed, type_of, sent_item, sent_connack, sent_disconnect, connect_in, connack_in, disconnect_in, connect_of, connack_of, client_disconnect, fate_by, decides, refuses, sends_type, receives_type}
+use Rattle.mq_rules.specs.Pasts.{is_sent_disconnect, is_sent_refusal}
+use Rattle.mq_rules.specs.Keeping.{begun_if, followed, after, is_ordinary_in, is_ordinary}
+use Rattle.mq_rules.proofs.BoolLaws.{both_true, or_false, or_else-none}
+
+-- ---- what an ordinary packet is not
+
+no-connect : (f : PacketFields) → is_ordinary_in f ≡ true → connect_in f ≡ None
+no-connect (Connect c) t = absurd (cc)
+no-connect _ t = refl
+
+no-connack : (f : PacketFields) → is_ordinary_in f ≡ true → connack_in f ≡ None
+no-connack (Connack c) t = absurd (cc)
+no-connack _ t = refl
+
+no-disconnect : (f : PacketFields) → is_ordinary_in f ≡ true → disconnect_in f ≡ None
+no-disconnect (Disconnect session_expiry) t = absurd (cc)
+no-disconnect _ t = refl
+
+not-connect : (f : PacketFields) → is_ordinary_in f ≡ true → is_id (type_number types.Connect) (Some (type_number (type_of f))) ≡ false
+not-connect (Connect c) t = absurd (cc)
+not-connect _ t = refl
+
+not-connack : (f : PacketFields) → is_ordinary_in f ≡ true → is_id (type_number types.Connack) (Some (type_number (type_of f))) ≡ false
+not-connack (Connack c) t = absurd (cc)
+not-connack _ t = refl
+
+-- ---- what is kept
+
+keeps : {A : Type 0} (o x : Option A) → x ≡ None → or_else o x ≡ o
+keeps o x e = ap (or_else o) e ∙ or_else-none o
+
+stays : (b x : Bool) → x ≡ false → (b || x) ≡ b
+stays b x e = ap (λ y. b || y) e ∙ or_false b
+
+known : (b x : Bool) → b ≡ true → (b || x) ≡ b
+known true x h = refl
+known false x h = absurd (cc)
+
+decides-none : (role : Role) (n : Note) → is_close n ≡ false → connack_of role n ≡ None → decides role n ≡ None
+decides-none role n close none = ap (λ b. cond b (Some Void) (option_map fate_by (connack_of role n))) close ∙ ap (λ (o : Option ConnackNote). option_map fate_by o) none
+
+-- an event that says nothing new
+settled : (role : Role) (s : ConnectionState) (n : Note) → s.has_sent ≡ true → is_open n ≡ false → is_close n ≡ false
+    → connect_of role n ≡ None → connack_of role n ≡ None → client_disconnect role n ≡ None
+    → sends_type types.Connect n ≡ false → sends_type types.Connack n ≡ false → receives_type types.Connect n ≡ false
+    → sent_disconnect n ≡ None → sent_connack n ≡ None → s ≡ after role s n
+settled role s n sent open_not close_not connect connack disconnect s_connect s_connack r_connect s_disconnect refusal =
+    sym (ap (λ b. followed role (begun_if b s) n) open_not
+    ∙ (λ i. record {
+      has_begun = s.has_begun;
+      was_alive = s.was_alive;
+      fate = keeps s.fate (decides role n) (decides-none role n close_not connack) i;
+      connect = keeps s.connect (connect_of role n) connect i;
+      connack = keeps s.connack (connack_of role n) connack i;
+      disconnect = keeps s.disconnect (client_disconnect role n) disconnect i;
+      has_sent = known s.has_sent (is_some_and is_typed (sent_item n)) sent i;
+      has_sent_connect = stays s.has_sent_connect (sends_type types.Connect n) s_connect i;
+      has_sent_connack = stays s.has_sent_connack (sends_type types.Connack n) s_connack i;
+      has_received_connect = stays s.has_received_connect (receives_type types.Connect n) r_connect i;
+      has_sent_disconnect = stays s.has_sent_disconnect (is_sent_disconnect n) (ap (λ (o : Option (Option ℕ)). is_some o) s_disconnect) i;
+      has_sent_refusal = stays s.has_sent_refusal (is_sent_refusal n) (ap (λ (o : Option ConnackNote). is_some_and (λ c. refuses c.code) o) refusal) i;
+    }))
+
+ordinary : (role : Role) (s : ConnectionState) (n : Note) → s.has_sent ≡ true → is_ordinary n ≡ true → s ≡ after role s n
+ordinary Client s (notes.Sent (items.Packet p)) h t =
+    let u : is_ordinary_in p.fields ≡ true = sym (or_false (is_ordinary_in p.fields)) ∙ t in
+    settled Client s (notes.Sent (items.Packet p)) h refl refl (no-connect p.fields u) refl (no-disconnect p.fields u)
+    (not-connect p.fields u) (not-connack p.fields u) refl (no-disconnect p.fields u) (no-connack p.fields u)
+ordinary Server s (notes.Sent (items.Packet p)) h t =
+    let u : is_ordinary_in p.fields ≡ true = sym (or_false (is_ordinary_in p.fields)) ∙ t in
+    settled Server s (notes.Sent (items.Packet p)) h refl refl refl (no-connack p.fields u) refl
+    (not-connect p.fields u) (not-connack p.fields u) refl (no-disconnect p.fields u) (no-connack p.fields u)
+ordinary Client s (notes.Recv (items.Packet p)) h t =
+    settled Client s (notes.Recv (items.Packet p)) h refl refl refl (no-connack p.fields t) refl
+    refl refl (not-connect p.fields t) refl refl
+ordinary Server s (notes.Recv (items.Packet p)) h t =
+    settled Server s (notes.Recv (items.Packet p)) h refl refl (no-connect p.fields t) refl (no-disconnect p.fields t)
+    refl refl (not-connect p.fields t) refl refl
+ordinary role s _ h t = absurd (cc)
+
+-- once the tested end has sent, an ordinary packet changes nothing
+pub unchanged : (role : Role) (s : ConnectionState) (n : Note) → (s.has_sent && is_ordinary n) ≡ true → s ≡ after role s n
+unchanged role s n t =
+    let both : (s.has_sent ≡ true) × (is_ordinary n ≡ true) = both_true s.has_sent (is_ordinary n) t in
+    ordinary role s n both.0 both.1
