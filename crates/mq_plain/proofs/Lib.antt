@@ -18,3 +18,4 @@ pub mod MarkedLaws
 pub mod PlacesLaws
 pub mod OwingLaws
 pub mod DeliveryLaws
+pub mod QuietLaws

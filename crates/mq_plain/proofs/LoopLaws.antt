@@ -1,5 +1,5 @@
--- Judging the events of a list one after another: the faults of the events so far, with one event more, and what want of memory leaves.
-use Rattle.std.proofs.Common.{◌≡◌, ℕ, zero, suc, ◌+◌, ◌<◌, ◌==◌, Bool, true, false, cond, ◌&&◌, List, [], ◌∷◌, ◌++◌, length, take, drop, get_or, Option, Some, None, refl, ap, sym, ◌∙◌, subst, arith, ◌⊎◌, inl, inr}
+-- Judging the events of a list one after another: what comes before each of them, and the faults that one event adds.
+use Rattle.std.proofs.Common.{◌≡◌, ℕ, zero, suc, ◌+◌, ◌<◌, ◌==◌, Bool, true, false, cond, ◌&&◌, ◌||◌, List, [], ◌∷◌, ◌++◌, length, take, drop, get_or, Option, Some, None, refl, ap, sym, ◌∙◌, subst, arith, ◌⊎◌, inl, inr}
 use Rattle.std.specs.Prelude.{reverse}
 use mathlib.Core.List.{reverse_aux}
 use Rattle.std.proofs.lemmas.Bool.{eqb-true}
@@ -20,12 +20,14 @@ use Rattle.mq_rules.specs.Rules.{binds, same_rule}
 use Rattle.mq_rules.specs.Statements.{statement, in_session, at_release}
 use Rattle.mq_rules.specs.Steps.{turns, JudgedAtOnce}
 use Rattle.mq_rules.specs.Marks.{FaultMap, fault_at, judged}
-use Rattle.mq_rules.specs.Faults.{offset_of, reported, fault_in, Grows, GrowsWithin}
+use Rattle.mq_rules.specs.Faults.{offset_of, reported}
+use Rattle.mq_rules.specs.Keeping.{news, GrowsBy, GrowsByWithin}
 use Rattle.mq_rules.proofs.BoolLaws.{and_false, or_else-none}
 use Rattle.mq_rules.proofs.MarkLaws.{fault_at-judged}
 use Rattle.mq_rules.proofs.FateLaws.{latest_fate-next}
 use Rattle.mq_rules.proofs.SubjectLaws.{in_order-turns, in_order-releases}
-use Rattle.mq_rules.proofs.DecidedLaws.{fault_in-step, fault_in-start}
+use Rattle.mq_plain.specs.declared.turn.Turn.{Turn}
+use Rattle.mq_plain.specs.Events.{Comes}
 
 -- ---- a list that is read from its front
 
@@ -64,6 +66,10 @@ placed-beginning xs i h = tails IsPlaced (λ e past p. p.1) (reverse (drop i xs)
 pub placed-here : (xs : List Seen) (i : ℕ) (e : Seen) → i < length xs → e ≡ get_or xs i e → IsPlaced (reverse xs) → IsPlaced (e ∷ reverse (take i xs))
 placed-here xs i e lt is placed = subst IsPlaced (newest-at xs i e lt is) (placed-beginning xs (i + 1) placed)
 
+-- so are those up to the event at place i
+pub in_order-here : (role : Role) (xs : List Seen) (i : ℕ) (e : Seen) → i < length xs → e ≡ get_or xs i e → IsInOrder role (reverse xs) → IsInOrder role (e ∷ reverse (take i xs))
+in_order-here role xs i e lt is order = subst (IsInOrder role) (newest-at xs i e lt is) (in_order-beginning role xs (i + 1) order)
+
 -- ---- one statement at one event
 
 -- what a statement that is judged at once adds at the newest event
@@ -97,90 +103,101 @@ at_once tested rule r e past broken old k placed at_newest plain =
         ∙ ap (λ b. cond b (Some (reported tested.role (moment (e ∷ past) k) rule (length past + 1))) None) (sym (at_newest k))
         ∙ ap (λ r. cond (turns tested e past k r) (Some (reported tested.role (moment (e ∷ past) k) r (length past + 1))) None) (sym (same_true the_type tt r rule is))
 
--- ---- one statement in the list
+both_tests : (a b : Bool) (x : Option Fault) → cond a (cond b x None) None ≡ cond (a && b) x None
+both_tests true b x = refl
+both_tests false b x = refl
 
-pub grown-start : (chosen : Rule → Bool) (tested : Tested) (faults : FaultMap) → Grows chosen tested [] faults faults
-grown-start chosen tested faults = record { each = λ k r. sym (go (chosen r) (fault_at faults k r) (fault_in tested [] k r) (fault_in-start tested k r)) }
-  where
-    go : (c : Bool) (o here : Option Fault) → here ≡ None → or_else o (cond c here None) ≡ o
-    go true o here none = ap (or_else o) none ∙ or_else-none o
-    go false o here none = or_else-none o
-
-in_turn : (c : Bool) (o x y : Option Fault) → or_else (or_else o (cond c x None)) (cond c y None) ≡ or_else o (cond c (or_else x y) None)
-in_turn c (Some f) x y = refl
-in_turn true None x y = refl
-in_turn false None x y = refl
-
-pub grown-step : (tested : Tested) (rule : Rule) (seen : List Seen) (i : ℕ) (e : Seen) (broken : Bool) (first old new : FaultMap) → IsPlaced (reverse seen) → i < length seen → e ≡ get_or seen i e
-    → JudgedAtOnce tested rule e (reverse (take i seen)) broken → ((m : Option Moment) → offset_of (statement tested.role rule) m ≡ None)
-    → Grows (λ r. same_rule r rule) tested (reverse (take i seen)) first old → new ≡ judged broken rule e.place old
-    → Grows (λ r. same_rule r rule) tested (reverse (take (i + 1) seen)) first new
-grown-step tested rule seen i e broken first old new placed lt is at_newest plain was now =
-    let past = reverse (take i seen) in
-    let front : reverse (take (i + 1) seen) ≡ e ∷ past = newest-at seen i e lt is in
-    let spot : IsPlaced (e ∷ past) = subst IsPlaced front (placed-beginning seen (i + 1) placed) in
-    subst (λ log. Grows (λ r. same_rule r rule) tested log first new) (sym front) (record {
-      each = λ k r.
-          ap (λ m. fault_at m k r) now ∙ at_once tested rule r e past broken old k spot.0 at_newest plain
-          ∙ ap (λ o. or_else o (cond (same_rule r rule) (cond (turns tested e past k r) (Some (reported tested.role (moment (e ∷ past) k) r (length past + 1))) None) None)) (was.each k r)
-          ∙ in_turn (same_rule r rule) (fault_at first k r) (fault_in tested past k r) (cond (turns tested e past k r) (Some (reported tested.role (moment (e ∷ past) k) r (length past + 1))) None)
-          ∙ ap (λ o. or_else (fault_at first k r) (cond (same_rule r rule) o None)) (sym (fault_in-step tested e past k r));
-    })
-
--- ---- what want of memory leaves
-
--- a fault of a beginning is that of the log
-fault_in-later : (tested : Tested) (later past : List Seen) (k : ℕ) (r : Rule) (f : Fault) → fault_in tested past k r ≡ Some f → fault_in tested (later ++ past) k r ≡ Some f
-fault_in-later tested [] past k r f h = h
-fault_in-later tested (e ∷ later) past k r f h =
-    fault_in-step tested e (later ++ past) k r
-    ∙ ap (λ o. or_else o (cond (turns tested e (later ++ past) k r) (Some (reported tested.role (moment (e ∷ (later ++ past)) k) r (length (later ++ past) + 1))) None)) (fault_in-later tested later past k r f h)
-
-kept_or_found : (c : Bool) (x first here whole : Option Fault) → x ≡ or_else first (cond c here None) → ((f : Fault) → here ≡ Some f → whole ≡ Some f)
-    → (x ≡ first) ⊎ (x ≡ or_else first (cond c whole None))
-kept_or_found false x first here whole h later = inl (h ∙ or_else-none first)
-kept_or_found true x first None whole h later = inl (h ∙ or_else-none first)
-kept_or_found true x first (Some f) whole h later = inr (h ∙ ap (or_else first) (sym (later f refl)))
-
-pub grown-within : (chosen : Rule → Bool) (tested : Tested) (seen : List Seen) (i : ℕ) (first now : FaultMap) → Grows chosen tested (reverse (take i seen)) first now → GrowsWithin chosen tested (reverse seen) first now
-grown-within chosen tested seen i first now h = record {
-  each = λ k r. kept_or_found (chosen r) (fault_at now k r) (fault_at first k r) (fault_in tested (reverse (take i seen)) k r) (fault_in tested (reverse seen) k r) (h.each k r)
-      (λ f here. ap (λ log. fault_in tested log k r) (parts seen i) ∙ fault_in-later tested (reverse (drop i seen)) (reverse (take i seen)) k r f here);
+-- so the faults grow by those of the statement
+pub judged-grows : (tested : Tested) (rule named : Rule) (e : Seen) (past : List Seen) (broken : Bool) (old new : FaultMap) → e.place.position ≡ length past + 1
+    → JudgedAtOnce tested rule e past broken → ((m : Option Moment) → offset_of (statement tested.role rule) m ≡ None) → named ≡ rule → new ≡ judged broken named e.place old
+    → GrowsBy (λ r. same_rule r rule) tested e past old new
+judged-grows tested rule named e past broken old new placed at_newest plain names now = record {
+  each = λ k r. ap (λ m. fault_at m k r) (now ∙ ap (λ n. judged broken n e.place old) names)
+      ∙ at_once tested rule r e past broken old k placed at_newest plain
+      ∙ ap (or_else (fault_at old k r)) (both_tests (same_rule r rule) (turns tested e past k r) (Some (reported tested.role (moment (e ∷ past) k) r (length past + 1))));
 }
+
+-- an event at which the statement isn't broken adds nothing
+pub unbroken-grows : (tested : Tested) (rule : Rule) (e : Seen) (past : List Seen) (broken : Bool) (faults : FaultMap) → e.place.position ≡ length past + 1
+    → JudgedAtOnce tested rule e past broken → ((m : Option Moment) → offset_of (statement tested.role rule) m ≡ None) → broken ≡ false
+    → GrowsBy (λ r. same_rule r rule) tested e past faults faults
+unbroken-grows tested rule e past broken faults placed at_newest plain unbroken =
+    judged-grows tested rule rule e past broken faults faults placed at_newest plain refl (sym (ap (λ b. judged b rule e.place faults) unbroken))
 
 -- ---- a statement on sessions
 
 pub session-plain : (tested : Tested) (rule : Rule) (breaks : Fate → Moment → Bool) → statement tested.role rule ≡ in_session breaks → (m : Option Moment) → offset_of (statement tested.role rule) m ≡ None
 session-plain tested rule breaks says m = ap (λ s. offset_of s m) says
 
-pub session-at_once : (tested : Tested) (rule named : Rule) (breaks : Fate → Moment → Bool) (seen : List Seen) (i : ℕ) (e : Seen) (fate : Option Fate) (bound broken both : Bool)
-    → IsInOrder tested.role (reverse seen) → i < length seen → e ≡ get_or seen i e → statement tested.role rule ≡ in_session breaks
-    → named ≡ rule → bound ≡ binds named tested → fate ≡ latest_fate tested.role (reverse (take i seen))
-    → broken ≡ is_some_and (λ f. accepts f && breaks f (newest e (reverse (take i seen)))) fate → both ≡ (bound && broken)
-    → JudgedAtOnce tested rule e (reverse (take i seen)) both
-session-at_once tested rule named breaks seen i e fate bound broken both order lt is says names binds_it at broken_so both_so = λ k.
-    let past = reverse (take i seen) in
-    let front : reverse (take (i + 1) seen) ≡ e ∷ past = newest-at seen i e lt is in
-    in_order-turns tested rule breaks e past says (subst (IsInOrder tested.role) front (in_order-beginning tested.role seen (i + 1) order)) k
-    ∙ ap (λ b. is_next past k && b) (sym (both_so ∙ ap (λ b. b && broken) (binds_it ∙ ap (λ r. binds r tested) names) ∙ ap (λ b. binds rule tested && b) (broken_so ∙ ap (is_some_and (λ f. accepts f && breaks f (newest e past))) at)))
-
-pub fate-step : (role : Role) (seen : List Seen) (i : ℕ) (e : Seen) (fate after : Option Fate) → i < length seen → e ≡ get_or seen i e → fate ≡ latest_fate role (reverse (take i seen))
-    → after ≡ cond (is_open e.note) None (or_else fate (decides role e.note)) → after ≡ latest_fate role (reverse (take (i + 1) seen))
-fate-step role seen i e fate after lt is at then_so =
-    then_so ∙ ap (λ f. cond (is_open e.note) None (or_else f (decides role e.note))) at ∙ sym (latest_fate-next role e (reverse (take i seen))) ∙ ap (latest_fate role) (sym (newest-at seen i e lt is))
+pub session-at_once : (turn : Turn) (rule : Rule) (breaks : Fate → Moment → Bool) (e : Seen) (past : List Seen) (bound broken : Bool)
+    → Comes turn e past → statement turn.tested.role rule ≡ in_session breaks → bound ≡ binds rule turn.tested
+    → broken ≡ (bound && is_some_and (λ f. accepts f && breaks f (newest e past)) turn.fate)
+    → JudgedAtOnce turn.tested rule e past broken
+session-at_once turn rule breaks e past bound broken comes says binds_it broken_so = λ k.
+    in_order-turns turn.tested rule breaks e past says comes.is_in_order k
+    ∙ ap (λ b. is_next past k && b) (sym (broken_so ∙ ap (λ b. b && is_some_and (λ f. accepts f && breaks f (newest e past)) turn.fate) binds_it
+    ∙ ap (λ d. binds rule turn.tested && is_some_and (λ f. accepts f && breaks f (newest e past)) d) comes.is_decided))
 
 -- ---- a statement on releases
 
 pub release-plain : (tested : Tested) (rule : Rule) (breaks : Fate → Moment → Bool) → statement tested.role rule ≡ at_release breaks → (m : Option Moment) → offset_of (statement tested.role rule) m ≡ None
 release-plain tested rule breaks says m = ap (λ s. offset_of s m) says
 
-pub release-at_once : (tested : Tested) (rule named : Rule) (breaks : Fate → Moment → Bool) (seen : List Seen) (i : ℕ) (e : Seen) (fate : Option Fate) (bound broken both : Bool)
-    → IsInOrder tested.role (reverse seen) → i < length seen → e ≡ get_or seen i e → statement tested.role rule ≡ at_release breaks
-    → named ≡ rule → bound ≡ binds named tested → fate ≡ latest_fate tested.role (reverse (take i seen))
-    → broken ≡ is_some_and (λ f. breaks f (newest e (reverse (take i seen)))) fate → both ≡ (bound && broken)
-    → JudgedAtOnce tested rule e (reverse (take i seen)) both
-release-at_once tested rule named breaks seen i e fate bound broken both order lt is says names binds_it at broken_so both_so = λ k.
-    let past = reverse (take i seen) in
-    let front : reverse (take (i + 1) seen) ≡ e ∷ past = newest-at seen i e lt is in
-    in_order-releases tested rule breaks e past says (subst (IsInOrder tested.role) front (in_order-beginning tested.role seen (i + 1) order)) k
-    ∙ ap (λ b. is_next past k && b) (sym (both_so ∙ ap (λ b. b && broken) (binds_it ∙ ap (λ r. binds r tested) names) ∙ ap (λ b. binds rule tested && b) (broken_so ∙ ap (is_some_and (λ f. breaks f (newest e past))) at)))
+pub release-at_once : (turn : Turn) (rule : Rule) (breaks : Fate → Moment → Bool) (e : Seen) (past : List Seen) (bound broken : Bool)
+    → Comes turn e past → statement turn.tested.role rule ≡ at_release breaks → bound ≡ binds rule turn.tested
+    → broken ≡ (bound && is_some_and (λ f. breaks f (newest e past)) turn.fate)
+    → JudgedAtOnce turn.tested rule e past broken
+release-at_once turn rule breaks e past bound broken comes says binds_it broken_so = λ k.
+    in_order-releases turn.tested rule breaks e past says comes.is_in_order k
+    ∙ ap (λ b. is_next past k && b) (sym (broken_so ∙ ap (λ b. b && is_some_and (λ f. breaks f (newest e past)) turn.fate) binds_it
+    ∙ ap (λ d. binds rule turn.tested && is_some_and (λ f. breaks f (newest e past)) d) comes.is_decided))
+
+-- ---- two evaluators one after the other
+
+both_added : (o : Option Fault) (a b t : Bool) (x : Fault) → or_else (or_else o (cond (a && t) (Some x) None)) (cond (b && t) (Some x) None) ≡ or_else o (cond ((a || b) && t) (Some x) None)
+both_added (Some y) a b t x = refl
+both_added None true true true x = refl
+both_added None true false true x = refl
+both_added None true true false x = refl
+both_added None true false false x = refl
+both_added None false b t x = refl
+
+-- some statements, and then others
+pub grows-then : (f g : Rule → Bool) (tested : Tested) (e : Seen) (past : List Seen) (old mid new : FaultMap)
+    → GrowsBy f tested e past old mid → GrowsBy g tested e past mid new → GrowsBy (λ r. f r || g r) tested e past old new
+grows-then f g tested e past old mid new p q = record {
+  each = λ k r. q.each k r ∙ ap (λ o. or_else o (news g tested e past k r)) (p.each k r)
+      ∙ both_added (fault_at old k r) (f r) (g r) (turns tested e past k r) (reported tested.role (moment (e ∷ past) k) r (length past + 1));
+}
+
+-- what the first ones may have added, both may
+first_may : (c d t : Bool) (x o : Option Fault) (f : Fault) → (x ≡ o) ⊎ (x ≡ or_else o (cond (c && t) (Some f) None)) → (x ≡ o) ⊎ (x ≡ or_else o (cond ((c || d) && t) (Some f) None))
+first_may c d t x o f (inl same) = inl same
+first_may true d t x o f (inr more) = inr more
+first_may false d t x o f (inr more) = inl (more ∙ or_else-none o)
+
+pub first-within : (f g : Rule → Bool) (tested : Tested) (e : Seen) (past : List Seen) (old new : FaultMap)
+    → GrowsByWithin f tested e past old new → GrowsByWithin (λ r. f r || g r) tested e past old new
+first-within f g tested e past old new p = record {
+  each = λ k r. first_may (f r) (g r) (turns tested e past k r) (fault_at new k r) (fault_at old k r) (reported tested.role (moment (e ∷ past) k) r (length past + 1)) (p.each k r);
+}
+
+-- what the second ones may have added to all that the first ones did, both may
+second_may : (c d t : Bool) (x y o : Option Fault) (f : Fault) → y ≡ or_else o (cond (c && t) (Some f) None) → (x ≡ y) ⊎ (x ≡ or_else y (cond (d && t) (Some f) None))
+    → (x ≡ o) ⊎ (x ≡ or_else o (cond ((c || d) && t) (Some f) None))
+second_may true d t x y o f first (inl same) = inr (same ∙ first)
+second_may false d t x y o f first (inl same) = inl (same ∙ first ∙ or_else-none o)
+second_may c d t x y o f first (inr more) = inr (more ∙ ap (λ z. or_else z (cond (d && t) (Some f) None)) first ∙ both_added o c d t f)
+
+pub second-within : (f g : Rule → Bool) (tested : Tested) (e : Seen) (past : List Seen) (old mid new : FaultMap)
+    → GrowsBy f tested e past old mid → GrowsByWithin g tested e past mid new → GrowsByWithin (λ r. f r || g r) tested e past old new
+second-within f g tested e past old mid new p q = record {
+  each = λ k r. second_may (f r) (g r) (turns tested e past k r) (fault_at new k r) (fault_at mid k r) (fault_at old k r) (reported tested.role (moment (e ∷ past) k) r (length past + 1)) (p.each k r) (q.each k r);
+}
+
+-- ---- the fate of the latest connection
+
+pub fate-step : (role : Role) (seen : List Seen) (i : ℕ) (e : Seen) (fate after : Option Fate) → i < length seen → e ≡ get_or seen i e → fate ≡ latest_fate role (reverse (take i seen))
+    → after ≡ cond (is_open e.note) None (or_else fate (decides role e.note)) → after ≡ latest_fate role (reverse (take (i + 1) seen))
+fate-step role seen i e fate after lt is at then_so =
+    then_so ∙ ap (λ f. cond (is_open e.note) None (or_else f (decides role e.note))) at ∙ sym (latest_fate-next role e (reverse (take i seen))) ∙ ap (latest_fate role) (sym (newest-at seen i e lt is))

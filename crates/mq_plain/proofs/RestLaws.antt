@@ -1,5 +1,5 @@
 -- Judging a statement that a later REST shows: the faults of the places that one REST shows, and what they are to the statement.
-use Rattle.std.proofs.Common.{◌≡◌, ℕ, zero, suc, ◌+◌, ◌<◌, ◌==◌, Bool, true, false, cond, ◌&&◌, ◌||◌, List, [], ◌∷◌, length, take, get_or, Option, Some, None, refl, ap, sym, ◌∙◌, subst, arith, ◌⊎◌, inl, inr}
+use Rattle.std.proofs.Common.{◌≡◌, ℕ, zero, suc, ◌+◌, ◌<◌, ◌==◌, Bool, true, false, cond, ◌&&◌, ◌||◌, not, List, [], ◌∷◌, length, take, get_or, Option, Some, None, refl, ap, sym, ◌∙◌, subst, arith, ◌⊎◌, inl, inr}
 use Rattle.std.specs.Prelude.{option_map, is_some}
 use Rattle.std.specs.List.{list_any, AllByRecursion}
 use Rattle.std.proofs.lemmas.Bool.{eqb-true, eq-eqb}
@@ -213,16 +213,17 @@ rest-within tested rule tells e past places decided old new says judged at shown
 
 -- ---- whether it is judged
 
-pub unbound : (tested : Tested) (rule named : Rule) (bound rests : Bool) → named ≡ rule → bound ≡ binds named tested → bound ≡ false → (binds rule tested && rests) ≡ false
-unbound tested rule named bound rests names is none = ap (λ b. b && rests) (sym (is ∙ ap (λ r. binds r tested) names) ∙ none)
+pub unbound : (tested : Tested) (rule : Rule) (bound rests : Bool) → bound ≡ binds rule tested → bound ≡ false → (binds rule tested && rests) ≡ false
+unbound tested rule bound rests is none = ap (λ b. b && rests) (sym is ∙ none)
 
-pub unbinding : (tested : Tested) (rule : Rule) (e : Seen) (past : List Seen) (rests : Bool) → rests ≡ is_binding tested.role (newest e past) → rests ≡ false → (binds rule tested && is_binding tested.role (newest e past)) ≡ false
-unbinding tested rule e past rests is none = ap (λ b. binds rule tested && b) (sym is ∙ none) ∙ and_false (binds rule tested)
+pub unbinding : (tested : Tested) (rule : Rule) (e : Seen) (past : List Seen) (rests : Bool) → rests ≡ is_binding tested.role (newest e past) → not rests ≡ true → (binds rule tested && is_binding tested.role (newest e past)) ≡ false
+unbinding tested rule e past true is none = absurd (cc)
+unbinding tested rule e past false is none = ap (λ b. binds rule tested && b) (sym is) ∙ and_false (binds rule tested)
 
-pub judged-here : (tested : Tested) (rule named : Rule) (e : Seen) (past : List Seen) (bound rests : Bool) → named ≡ rule → bound ≡ binds named tested → bound ≡ true → rests ≡ is_binding tested.role (newest e past) → rests ≡ true
+pub judged-here : (tested : Tested) (rule : Rule) (e : Seen) (past : List Seen) (bound rests : Bool) → bound ≡ binds rule tested → bound ≡ true → rests ≡ is_binding tested.role (newest e past) → not rests ≡ false
     → (binds rule tested && is_binding tested.role (newest e past)) ≡ true
-judged-here tested rule named e past bound rests names is there rest_is rested =
-    ap (λ b. b && is_binding tested.role (newest e past)) (sym (is ∙ ap (λ r. binds r tested) names) ∙ there) ∙ sym rest_is ∙ rested
+judged-here tested rule e past bound true is there rest_is rested = ap (λ b. b && is_binding tested.role (newest e past)) (sym is ∙ there) ∙ sym rest_is
+judged-here tested rule e past bound false is there rest_is rested = absurd (cc)
 
 pub blames-of : (named rule : Rule) (decided : ℕ) (given places : List Place3) (old new : FaultMap) → named ≡ rule → given ≡ places → Blames named decided given old new → Blames rule decided places old new
 blames-of named rule decided given places old new names are h = subst (λ r. Blames r decided places old new) names (subst (λ ps. Blames named decided ps old new) are h)

@@ -17,3 +17,7 @@ is_plain_se rule = is_one_of (S01 ∷ S02 ∷ S03 ∷ S04 ∷ S05 ∷ S06 ∷ S0
 -- the statements on releases and subscriptions
 abbrev pub is_plain_lb : Rule → Bool
 is_plain_lb rule = is_one_of (L1 ∷ L2 ∷ L3 ∷ B01 ∷ B02 ∷ B03 ∷ B04 ∷ []) rule
+
+-- all of them
+abbrev pub is_plain : Rule → Bool
+is_plain rule = is_plain_se rule || is_plain_lb rule

@@ -11,3 +11,4 @@ pub mod Quota
 pub mod Finding
 pub mod Owing
 pub mod Deliveries
+pub mod Events

@@ -1,105 +1,160 @@
-//! Evaluators: each judges all events of a list by some statements, and two of them do so one after the other.
-ghost use Rattle.std.specs.Prelude.{reverse, OnOk, OnErr};
-ghost use Rattle.mq_rules.specs.Moments.{IsPlaced};
-ghost use Rattle.mq_rules.specs.Connections.{IsInOrder};
-ghost use Rattle.mq_rules.specs.Faults.{Grows, GrowsWithin};
+//! Evaluators: each judges one event of a list by some statements, and two of them do so one after the other.
+//!
+//! An evaluator is a value that knows which of its statements bind the tested end, so that this is looked up once and not at each
+//! event.
 
 use crate::judging::{SessionStatement, judge_session};
 use crate::releasing::{ReleaseStatement, judge_release};
 use crate::resting::{RestStatement, judge_rest};
+use crate::turn::Turn;
 use mq_rules::{Faults, Memory, Seen, Tested};
 use std::alloc::Global;
 use std::marker::PhantomData;
 
-/// Judges the events of a list, the oldest first, by some statements.
-pub trait Evaluator {
+/// Judges an event by some statements.
+pub trait Evaluator: Drop {
     ghost use Rattle.std.specs.Prelude.{Bool, reverse, OnOk, OnErr};
+    ghost use Rattle.mq_rules.specs.declared.role.Tested.{Tested};
     ghost use Rattle.mq_rules.specs.declared.rule.Rule.{Rule};
-    ghost use Rattle.mq_rules.specs.Moments.{IsPlaced};
-    ghost use Rattle.mq_rules.specs.Connections.{IsInOrder};
-    ghost use Rattle.mq_rules.specs.Faults.{Grows, GrowsWithin};
+    ghost use Rattle.mq_rules.specs.Keeping.{GrowsBy, GrowsByWithin};
+    ghost use Rattle.mq_plain.specs.Events.{Comes};
 
     // The statements that are judged.
     ghost chosen: { Rule → Bool };
+    // It judges this end.
+    ghost is_for: { Self → Tested → Type 0 };
 
-    /// Judges each event by what stands before it in the list. A pair that is among the faults keeps its fault.
+    /// The evaluator that judges this end.
+    fn of(tested: Tested) -> Self
+        ensures { is_for result tested };
+
+    /// Judges an event that has these events before it. A pair that is among the faults keeps its fault.
     ///
     /// # Errors
     ///
-    /// `Memory` where room was refused. Some of the faults of these statements may have been added then, and no others.
-    fn judge(
+    /// `Memory` where room was refused. Some of the faults that the event shows may have been added then, and no others.
+    fn judge_at(
+        &self,
         alloc: Global,
-        tested: Tested,
-        seen: &[Seen],
+        turn: Turn,
+        event: &Seen,
+        before: &[Seen],
         faults: &mut Faults,
     ) -> Result<(), Memory>
-        ensures ok { IsPlaced (reverse seen.now) → IsInOrder tested.role (reverse seen.now) → OnOk result (Grows chosen tested (reverse seen.now) faults.old faults.new) }
-        ensures memory { IsPlaced (reverse seen.now) → IsInOrder tested.role (reverse seen.now) → OnErr result (GrowsWithin chosen tested (reverse seen.now) faults.old faults.new) };
+        ensures ok { is_for self.now turn.tested → Comes turn event.now (reverse before.now) → OnOk result (GrowsBy chosen turn.tested event.now (reverse before.now) faults.old faults.new) }
+        ensures memory { is_for self.now turn.tested → Comes turn event.now (reverse before.now) → OnErr result (GrowsByWithin chosen turn.tested event.now (reverse before.now) faults.old faults.new) };
 }
 
 /// Judges by one statement on the past of a session.
+#[derive(Drop)]
 pub struct OnSessions<T> {
+    binds: bool,
     of: PhantomData<T>,
 }
 
 impl<T: SessionStatement> Evaluator for OnSessions<T> {
-    ghost use Rattle.mq_rules.specs.Rules.{same_rule};
+    ghost use Rattle.std.specs.Prelude.{◌≡◌};
+    ghost use Rattle.mq_rules.specs.Rules.{same_rule, binds};
 
     ghost chosen = { λ r. same_rule r T.judged };
 
-    fn judge(
+    ghost is_for = { λ t tested. t.binds ≡ binds T.judged tested };
+
+    fn of(tested: Tested) -> Self {
+        OnSessions {
+            binds: T::rule().is_judged(tested),
+            of: PhantomData,
+        }
+    }
+
+    #[inline(always)]
+    fn judge_at(
+        &self,
         alloc: Global,
-        tested: Tested,
-        seen: &[Seen],
+        turn: Turn,
+        event: &Seen,
+        before: &[Seen],
         faults: &mut Faults,
     ) -> Result<(), Memory> {
-        judge_session::<T>(alloc, tested, seen, faults)
+        judge_session::<T>(self.binds, alloc, turn, event, before, faults)
     }
 }
 
 /// Judges by one statement on releases.
+#[derive(Drop)]
 pub struct OnReleases<T> {
+    binds: bool,
     of: PhantomData<T>,
 }
 
 impl<T: ReleaseStatement> Evaluator for OnReleases<T> {
-    ghost use Rattle.mq_rules.specs.Rules.{same_rule};
+    ghost use Rattle.std.specs.Prelude.{◌≡◌};
+    ghost use Rattle.mq_rules.specs.Rules.{same_rule, binds};
 
     ghost chosen = { λ r. same_rule r T.judged };
 
-    fn judge(
-        alloc: Global,
-        tested: Tested,
-        seen: &[Seen],
+    ghost is_for = { λ t tested. t.binds ≡ binds T.judged tested };
+
+    fn of(tested: Tested) -> Self {
+        OnReleases {
+            binds: T::rule().is_judged(tested),
+            of: PhantomData,
+        }
+    }
+
+    #[inline(always)]
+    fn judge_at(
+        &self,
+        _alloc: Global,
+        turn: Turn,
+        event: &Seen,
+        before: &[Seen],
         faults: &mut Faults,
     ) -> Result<(), Memory> {
-        judge_release::<T>(alloc, tested, seen, faults)
+        judge_release::<T>(self.binds, turn, event, before, faults)
     }
 }
 
 /// Judges by one statement that a later REST shows.
+#[derive(Drop)]
 pub struct OnRests<T> {
+    binds: bool,
     of: PhantomData<T>,
 }
 
 impl<T: RestStatement> Evaluator for OnRests<T> {
-    ghost use Rattle.mq_rules.specs.Rules.{same_rule};
+    ghost use Rattle.std.specs.Prelude.{◌≡◌};
+    ghost use Rattle.mq_rules.specs.Rules.{same_rule, binds};
 
     ghost chosen = { λ r. same_rule r T.judged };
 
-    fn judge(
+    ghost is_for = { λ t tested. t.binds ≡ binds T.judged tested };
+
+    fn of(tested: Tested) -> Self {
+        OnRests {
+            binds: T::rule().is_judged(tested),
+            of: PhantomData,
+        }
+    }
+
+    #[inline(always)]
+    fn judge_at(
+        &self,
         alloc: Global,
-        tested: Tested,
-        seen: &[Seen],
+        turn: Turn,
+        event: &Seen,
+        before: &[Seen],
         faults: &mut Faults,
     ) -> Result<(), Memory> {
-        judge_rest::<T>(alloc, tested, seen, faults)
+        judge_rest::<T>(self.binds, alloc, turn, event, before, faults)
     }
 }
 
-/// Judges by the statements of both.
+/// Judges by the statements of the first, and then by those of the second.
+#[derive(Drop)]
 pub struct Then<A, B> {
-    of: PhantomData<(A, B)>,
+    first: A,
+    second: B,
 }
 
 impl<A: Evaluator, B: Evaluator> Evaluator for Then<A, B> {
@@ -107,13 +162,25 @@ impl<A: Evaluator, B: Evaluator> Evaluator for Then<A, B> {
 
     ghost chosen = { λ r. A.chosen r || B.chosen r };
 
-    fn judge(
+    ghost is_for = { λ t tested. A.is_for t.first tested × B.is_for t.second tested };
+
+    fn of(tested: Tested) -> Self {
+        Then {
+            first: A::of(tested),
+            second: B::of(tested),
+        }
+    }
+
+    #[inline(always)]
+    fn judge_at(
+        &self,
         alloc: Global,
-        tested: Tested,
-        seen: &[Seen],
+        turn: Turn,
+        event: &Seen,
+        before: &[Seen],
         faults: &mut Faults,
     ) -> Result<(), Memory> {
-        A::judge(alloc, tested, seen, faults)?;
-        B::judge(alloc, tested, seen, faults)
+        self.first.judge_at(alloc, turn, event, before, faults)?;
+        self.second.judge_at(alloc, turn, event, before, faults)
     }
 }

@@ -1,14 +1,15 @@
-//! Judging all events of a list by one statement on the past of a session.
-ghost use Rattle.std.specs.Prelude.{◌≡◌, ◌&&◌, cond, None, reverse, IfOk, OnOk, OnErr};
-ghost use Rattle.mq_rules.specs.Notes.{is_open, decides};
-ghost use Rattle.mq_rules.specs.Words.{or_else, is_some_and};
-ghost use Rattle.mq_rules.specs.Moments.{IsPlaced, newest};
-ghost use Rattle.mq_rules.specs.Connections.{IsInOrder, accepts as is_accepting};
-ghost use Rattle.mq_rules.specs.Rules.{same_rule};
-ghost use Rattle.mq_rules.specs.Faults.{Grows, GrowsWithin};
+//! Judging an event by one statement on the past of a session.
+ghost use Rattle.std.specs.Prelude.{◌≡◌, ◌&&◌, reverse, IfOk, OnOk, OnErr};
+ghost use Rattle.mq_rules.specs.Words.{is_some_and};
+ghost use Rattle.mq_rules.specs.Moments.{newest};
+ghost use Rattle.mq_rules.specs.Connections.{accepts as is_accepting};
+ghost use Rattle.mq_rules.specs.Rules.{same_rule, binds as is_bound};
+ghost use Rattle.mq_rules.specs.Keeping.{GrowsBy};
+ghost use Rattle.mq_plain.specs.Events.{Comes};
 
 use crate::session::accepts;
-use mq_rules::{Fate, Faults, Memory, Note, Role, Rule, Seen, Tested};
+use crate::turn::Turn;
+use mq_rules::{Fate, Faults, Memory, Role, Rule, Seen};
 use std::alloc::Global;
 
 /// A statement on the past of a session: it is judged where the connection is accepted.
@@ -47,33 +48,35 @@ pub trait SessionStatement {
     ghost says: { (role : Role) → statement role judged ≡ in_session (breaks role) };
 }
 
-/// Judges each event by what stands before it in the list. A pair that is among the faults keeps its fault.
+/// Judges an event that has these events before it: it has a fault if the statement binds the tested end and is broken. A pair that
+/// is among the faults keeps its fault.
 ///
 /// # Errors
 ///
-/// `Memory` where room for a fault was refused. Some of the statement's faults may have been added then, and no others.
+/// `Memory` where room for a fault, or to look back, was refused. The faults are then unchanged.
+#[inline(always)]
 pub fn judge_session<T: SessionStatement>(
+    binds: bool,
     alloc: Global,
-    tested: Tested,
-    seen: &[Seen],
+    turn: Turn,
+    event: &Seen,
+    before: &[Seen],
     faults: &mut Faults,
 ) -> Result<(), Memory>
-    ensures ok { IsPlaced (reverse seen.now) → IsInOrder tested.role (reverse seen.now) → OnOk result (Grows (λ r. same_rule r T.judged) tested (reverse seen.now) faults.old faults.new) }
-    ensures memory { IsPlaced (reverse seen.now) → IsInOrder tested.role (reverse seen.now) → OnErr result (GrowsWithin (λ r. same_rule r T.judged) tested (reverse seen.now) faults.old faults.new) }
+    ensures ok { binds ≡ is_bound T.judged turn.tested → Comes turn event.now (reverse before.now) → OnOk result (GrowsBy (λ r. same_rule r T.judged) turn.tested event.now (reverse before.now) faults.old faults.new) }
+    ensures unchanged { OnErr result (faults.new ≡ faults.old) }
 {
-    let binds = T::rule().is_judged(tested);
-    let mut fate = Some(Fate::Void);
-    for (i, event) in seen.iter().enumerate() {
-        let before = &seen[..i];
-        let broken = is_fault_at::<T>(alloc, binds, tested.role, fate, event, before)?;
-        faults.judge(T::rule(), event.place, broken)?;
-        fate = fate_after(fate, tested.role, &event.note);
+    let broken = is_fault_at::<T>(alloc, binds, turn.tested.role, turn.fate, event, before)?;
+    if !broken {
+        return Ok(());
     }
+    faults.judge(T::rule(), event.place, true)?;
     Ok(())
 }
 
 /// Whether an event has a fault, which has these events before it, and of whose connection this is the fate: the statement binds the
 /// tested end, and is broken. A statement that binds the other end alone isn't looked at.
+#[inline(always)]
 fn is_fault_at<T: SessionStatement>(
     alloc: Global,
     binds: bool,
@@ -88,21 +91,4 @@ fn is_fault_at<T: SessionStatement>(
         Some(fate) if binds && accepts(fate) => T::is_broken(alloc, role, fate, event, before),
         _ => Ok(false),
     }
-}
-
-/// Whether an event has a fault: the statement binds the tested end, and is broken.
-pub fn is_fault(binds: bool, broken: bool) -> bool
-    ensures { result ≡ (binds && broken) }
-{
-    binds && broken
-}
-
-/// The fate of the latest connection after an event, where this is its fate before.
-pub fn fate_after(fate: Option<Fate>, role: Role, note: &Note) -> Option<Fate>
-    ensures { result ≡ cond (is_open note.now) None (or_else fate (decides role note.now)) }
-{
-    if note.is_open() {
-        return None;
-    }
-    fate.or(note.decides(role))
 }

@@ -13,6 +13,7 @@ mod identifiers;
 mod judging;
 mod lookback;
 mod owing;
+mod pass;
 mod plain;
 mod quota;
 mod releases;
@@ -21,5 +22,6 @@ mod resends;
 mod resting;
 mod session;
 mod table;
+mod turn;
 
-pub use plain::{plain_lb, plain_se};
+pub use plain::{plain_lb, plain_se, plain_sessions};

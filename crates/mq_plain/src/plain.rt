@@ -1,19 +1,22 @@
 //! The plain evaluators of the statements on sessions.
+//!
+//! One pass over the events by all of them is what a log is judged by: events are many, and each is read from memory once.
 ghost use Rattle.std.specs.Prelude.{reverse, OnOk, OnErr};
 ghost use Rattle.mq_rules.specs.Moments.{IsPlaced};
 ghost use Rattle.mq_rules.specs.Connections.{IsInOrder};
 ghost use Rattle.mq_rules.specs.Faults.{Grows, GrowsWithin};
-ghost use Rattle.mq_plain.specs.Chosen.{is_plain_lb, is_plain_se};
+ghost use Rattle.mq_plain.specs.Chosen.{is_plain, is_plain_lb, is_plain_se};
 
 use crate::answers::{CountedSubacks, CountedUnsubacks};
 use crate::deliveries::{AskedTopics, GrantedQos};
-use crate::evaluator::{Evaluator, OnReleases, OnRests, OnSessions, Then};
+use crate::evaluator::{OnReleases, OnRests, OnSessions, Then};
 use crate::exchanges::{
     AnsweredPings, Asked, Ordered, PublishPuback, PublishPubrec, PubrecPubrel, PubrelPubcomp,
     Settled, SubscribeSuback, UnsubscribeUnsuback,
 };
 use crate::identifiers::TakenIdentifiers;
 use crate::owing::Resends;
+use crate::pass::judge_each;
 use crate::quota::SendQuota;
 use crate::releases::{ReceivedReleases, ReleasedCompletions, SingleReleases};
 use crate::resends::{ResendsBeforePubrel, ResendsInOrder, ResendsOnce, ResendsOpen};
@@ -89,7 +92,7 @@ pub fn plain_se(
     ensures ok { IsPlaced (reverse seen.now) → IsInOrder tested.role (reverse seen.now) → OnOk result (Grows is_plain_se tested (reverse seen.now) faults.old faults.new) }
     ensures memory { IsPlaced (reverse seen.now) → IsInOrder tested.role (reverse seen.now) → OnErr result (GrowsWithin is_plain_se tested (reverse seen.now) faults.old faults.new) }
 {
-    <Messages<Exchanges>>::judge(alloc, tested, seen, faults)
+    judge_each::<Messages<Exchanges>>(alloc, tested, seen, faults)
 }
 
 /// Judges each event of a list, the oldest first, by the statements on releases (L1 to L3) and on subscriptions (B01 to B04). A pair
@@ -107,5 +110,23 @@ pub fn plain_lb(
     ensures ok { IsPlaced (reverse seen.now) → IsInOrder tested.role (reverse seen.now) → OnOk result (Grows is_plain_lb tested (reverse seen.now) faults.old faults.new) }
     ensures memory { IsPlaced (reverse seen.now) → IsInOrder tested.role (reverse seen.now) → OnErr result (GrowsWithin is_plain_lb tested (reverse seen.now) faults.old faults.new) }
 {
-    <Releases<Subscriptions>>::judge(alloc, tested, seen, faults)
+    judge_each::<Releases<Subscriptions>>(alloc, tested, seen, faults)
+}
+
+/// Judges each event of a list, the oldest first, by all these statements in one pass: those of `plain_se` and those of `plain_lb`. A
+/// pair that is among the faults keeps its fault.
+///
+/// # Errors
+///
+/// `Memory` where room was refused. Some of the faults of these statements may have been added then, and no others.
+pub fn plain_sessions(
+    alloc: Global,
+    tested: Tested,
+    seen: &[Seen],
+    faults: &mut Faults,
+) -> Result<(), Memory>
+    ensures ok { IsPlaced (reverse seen.now) → IsInOrder tested.role (reverse seen.now) → OnOk result (Grows is_plain tested (reverse seen.now) faults.old faults.new) }
+    ensures memory { IsPlaced (reverse seen.now) → IsInOrder tested.role (reverse seen.now) → OnErr result (GrowsWithin is_plain tested (reverse seen.now) faults.old faults.new) }
+{
+    judge_each::<Then<Messages<Exchanges>, Releases<Subscriptions>>>(alloc, tested, seen, faults)
 }

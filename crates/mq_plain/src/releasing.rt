@@ -1,14 +1,13 @@
-//! Judging all events of a list by one statement on releases.
-ghost use Rattle.std.specs.Prelude.{◌≡◌, reverse, OnOk, OnErr};
+//! Judging an event by one statement on releases.
+ghost use Rattle.std.specs.Prelude.{◌≡◌, ◌&&◌, reverse, OnOk, OnErr};
 ghost use Rattle.mq_rules.specs.Words.{is_some_and};
-ghost use Rattle.mq_rules.specs.Moments.{IsPlaced, newest};
-ghost use Rattle.mq_rules.specs.Connections.{IsInOrder};
-ghost use Rattle.mq_rules.specs.Rules.{same_rule};
-ghost use Rattle.mq_rules.specs.Faults.{Grows, GrowsWithin};
+ghost use Rattle.mq_rules.specs.Moments.{newest};
+ghost use Rattle.mq_rules.specs.Rules.{same_rule, binds as is_bound};
+ghost use Rattle.mq_rules.specs.Keeping.{GrowsBy};
+ghost use Rattle.mq_plain.specs.Events.{Comes};
 
-use crate::judging::{fate_after, is_fault};
-use mq_rules::{Fate, Faults, Memory, Role, Rule, Seen, Tested};
-use std::alloc::Global;
+use crate::turn::Turn;
+use mq_rules::{Fate, Faults, Memory, Role, Rule, Seen};
 
 /// A statement on the past of a session, judged at a RELEASE, whose connection may be void.
 pub trait ReleaseStatement {
@@ -36,42 +35,45 @@ pub trait ReleaseStatement {
     ghost says: { (role : Role) → statement role judged ≡ at_release (breaks role) };
 }
 
-/// Judges each event by what stands before it in the list. A pair that is among the faults keeps its fault.
+/// Judges an event that has these events before it: it has a fault if the statement binds the tested end and is broken. A pair that
+/// is among the faults keeps its fault.
 ///
 /// # Errors
 ///
-/// `Memory` where room for a fault was refused. Some of the statement's faults may have been added then, and no others.
+/// `Memory` where room for a fault was refused. The faults are then unchanged.
+#[inline(always)]
 pub fn judge_release<T: ReleaseStatement>(
-    _alloc: Global,
-    tested: Tested,
-    seen: &[Seen],
+    binds: bool,
+    turn: Turn,
+    event: &Seen,
+    before: &[Seen],
     faults: &mut Faults,
 ) -> Result<(), Memory>
-    ensures ok { IsPlaced (reverse seen.now) → IsInOrder tested.role (reverse seen.now) → OnOk result (Grows (λ r. same_rule r T.judged) tested (reverse seen.now) faults.old faults.new) }
-    ensures memory { IsPlaced (reverse seen.now) → IsInOrder tested.role (reverse seen.now) → OnErr result (GrowsWithin (λ r. same_rule r T.judged) tested (reverse seen.now) faults.old faults.new) }
+    ensures ok { binds ≡ is_bound T.judged turn.tested → Comes turn event.now (reverse before.now) → OnOk result (GrowsBy (λ r. same_rule r T.judged) turn.tested event.now (reverse before.now) faults.old faults.new) }
+    ensures unchanged { OnErr result (faults.new ≡ faults.old) }
 {
-    let binds = T::rule().is_judged(tested);
-    let mut fate = Some(Fate::Void);
-    for (i, event) in seen.iter().enumerate() {
-        let before = &seen[..i];
-        let broken = is_broken_under::<T>(tested.role, fate, event, before);
-        faults.judge(T::rule(), event.place, is_fault(binds, broken))?;
-        fate = fate_after(fate, tested.role, &event.note);
+    let broken = is_fault_at::<T>(binds, turn.tested.role, turn.fate, event, before);
+    if !broken {
+        return Ok(());
     }
+    faults.judge(T::rule(), event.place, true)?;
     Ok(())
 }
 
-/// Whether an event breaks the statement, which has these events before it, and of whose connection this is the fate.
-fn is_broken_under<T: ReleaseStatement>(
+/// Whether an event has a fault, which has these events before it, and of whose connection this is the fate: the statement binds the
+/// tested end, and is broken. A statement that binds the other end alone isn't looked at.
+#[inline(always)]
+fn is_fault_at<T: ReleaseStatement>(
+    binds: bool,
     role: Role,
     fate: Option<Fate>,
     event: &Seen,
     before: &[Seen],
 ) -> bool
-    ensures { result ≡ is_some_and (λ f. T.breaks role f (newest event.now (reverse before.now))) fate }
+    ensures { result ≡ (binds && is_some_and (λ f. T.breaks role f (newest event.now (reverse before.now))) fate) }
 {
     match fate {
-        Some(fate) => T::is_broken(role, fate, event, before),
-        None => false,
+        Some(fate) if binds => T::is_broken(role, fate, event, before),
+        _ => false,
     }
 }

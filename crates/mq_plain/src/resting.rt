@@ -1,13 +1,12 @@
-//! Judging all events of a list by one statement that a later REST shows.
-ghost use Rattle.std.specs.Prelude.{◌≡◌, ◌∷◌, reverse, OnOk, OnErr};
-ghost use Rattle.mq_rules.specs.Moments.{IsPlaced};
-ghost use Rattle.mq_rules.specs.Rules.{same_rule};
-ghost use Rattle.mq_rules.specs.Faults.{Grows, GrowsWithin};
+//! Judging an event by one statement that a later REST shows.
+ghost use Rattle.std.specs.Prelude.{◌≡◌, reverse, OnOk, OnErr};
+ghost use Rattle.mq_rules.specs.Rules.{same_rule, binds as is_bound};
 ghost use Rattle.mq_rules.specs.Keeping.{GrowsBy, GrowsByWithin};
 ghost use Rattle.mq_plain.specs.Blames.{Blames, BlamesWithin};
+ghost use Rattle.mq_plain.specs.Events.{Comes};
 
-use crate::binding::is_binding_rest;
-use mq_rules::{Fault, Faults, Mark, Memory, Role, Rule, Seen, Tested};
+use crate::turn::Turn;
+use mq_rules::{Fault, Faults, Mark, Memory, Role, Rule, Seen};
 use mq_trace::Place3;
 use std::alloc::Global;
 
@@ -41,52 +40,31 @@ pub trait RestStatement {
     ghost says: { (role : Role) → statement role judged ≡ at_rest (shows role) };
 }
 
-/// Judges the events of a list by what each binding REST among them shows. A pair that is among the faults keeps its fault; so the
-/// first REST that shows it decides a pair.
-///
-/// # Errors
-///
-/// `Memory` where room for a fault, or to look back, was refused. Some of the statement's faults may have been added then, and no
-/// others.
-pub fn judge_rest<T: RestStatement>(
-    alloc: Global,
-    tested: Tested,
-    seen: &[Seen],
-    faults: &mut Faults,
-) -> Result<(), Memory>
-    ensures ok { IsPlaced (reverse seen.now) → OnOk result (Grows (λ r. same_rule r T.judged) tested (reverse seen.now) faults.old faults.new) }
-    ensures memory { IsPlaced (reverse seen.now) → OnErr result (GrowsWithin (λ r. same_rule r T.judged) tested (reverse seen.now) faults.old faults.new) }
-{
-    for (i, event) in seen.iter().enumerate() {
-        let before = &seen[..i];
-        judge_at::<T>(alloc, tested, event, before, faults)?;
-    }
-    Ok(())
-}
-
 /// Puts the faults of the events that a REST shows to break the statement, if it binds the tested end. An event that is no binding
-/// REST shows nothing.
+/// REST shows nothing. A pair that is among the faults keeps its fault; so the first REST that shows it decides a pair.
 ///
 /// # Errors
 ///
 /// `Memory` where room for a fault, or to look back, was refused. Some of the faults may have been put then, and no others.
-fn judge_at<T: RestStatement>(
+#[inline(always)]
+pub fn judge_rest<T: RestStatement>(
+    binds: bool,
     alloc: Global,
-    tested: Tested,
+    turn: Turn,
     event: &Seen,
     before: &[Seen],
     faults: &mut Faults,
 ) -> Result<(), Memory>
-    ensures ok { IsPlaced (event.now ∷ reverse before.now) → OnOk result (GrowsBy (λ r. same_rule r T.judged) tested event.now (reverse before.now) faults.old faults.new) }
-    ensures memory { IsPlaced (event.now ∷ reverse before.now) → OnErr result (GrowsByWithin (λ r. same_rule r T.judged) tested event.now (reverse before.now) faults.old faults.new) }
+    ensures ok { binds ≡ is_bound T.judged turn.tested → Comes turn event.now (reverse before.now) → OnOk result (GrowsBy (λ r. same_rule r T.judged) turn.tested event.now (reverse before.now) faults.old faults.new) }
+    ensures memory { binds ≡ is_bound T.judged turn.tested → Comes turn event.now (reverse before.now) → OnErr result (GrowsByWithin (λ r. same_rule r T.judged) turn.tested event.now (reverse before.now) faults.old faults.new) }
 {
-    if !T::rule().is_judged(tested) {
+    if !binds {
         return Ok(());
     }
-    if !is_binding_rest(tested.role, event, before) {
+    if !turn.rests {
         return Ok(());
     }
-    let places = T::shown(alloc, tested.role, event, before)?;
+    let places = T::shown(alloc, turn.tested.role, event, before)?;
     blame(T::rule(), event.place.position, &places, faults)?;
     Ok(())
 }

@@ -1,0 +1,40 @@
+-- One event of a log as the evaluators meet it: where it stands, and whether it is quiet.
+use Rattle.std.specs.Prelude.{◌≡◌, ℕ, Bool, true, false, ◌&&◌, not, List, ◌∷◌}
+use Rattle.mq_rules.specs.declared.role.Role.{Role}
+use Rattle.mq_rules.specs.declared.role.Role.TheVariants.{Client, Server}
+use Rattle.mq_rules.specs.declared.role.Tested.{Tested}
+use Rattle.mq_rules.specs.declared.rule.Rule.{Rule}
+use Rattle.mq_rules.specs.declared.note.Note.{Note}
+use Rattle.mq_rules.specs.declared.note.Seen.{Seen}
+use Rattle.mq_rules.specs.declared.packet_note.PacketFields.{PacketFields}
+use Rattle.mq_rules.specs.Words.{is_some_and}
+use Rattle.mq_rules.specs.Notes.{is_rest, is_release, sent_fields, publish_in, is_acknowledged, is_session_packet}
+use Rattle.mq_rules.specs.Moments.{newest, IsPlaced}
+use Rattle.mq_rules.specs.Connections.{IsInOrder, latest_fate, is_binding}
+use Rattle.mq_rules.specs.Steps.{turns}
+use Rattle.mq_plain.specs.declared.turn.Turn.{Turn}
+
+-- The event comes after these in a log that has its events at their places and in order. The turn has the fate of the latest connection before it, and says whether
+-- the event is a REST that binds.
+pub record Comes (turn : Turn) (e : Seen) (past : List Seen) : Type 0 where
+  pub is_placed : IsPlaced (e ∷ past)
+  pub is_in_order : IsInOrder turn.tested.role (e ∷ past)
+  pub is_decided : turn.fate ≡ latest_fate turn.tested.role past
+  pub is_resting : turn.rests ≡ is_binding turn.tested.role (newest e past)
+
+abbrev pub is_client : Role → Bool
+is_client Client = true
+is_client Server = false
+
+-- a packet that needs a session, other than a client's PUBLISH of QoS 0
+abbrev pub is_spoken_of : Role → PacketFields → Bool
+is_spoken_of role fields = is_session_packet fields && not (is_some_and (λ p. is_client role && not (is_acknowledged p.qos)) (publish_in fields))
+
+-- A quiet event is no REST and no RELEASE, and none of these packets that the tested end sends: with it no statement on a session turns out false, since each
+-- speaks of what is sent in a session, of a RELEASE or at a REST, and of a PUBLISH of QoS 0 only a server's (MQTT 5.0, sections 4.1 and 4.3).
+abbrev pub is_quiet : Role → Note → Bool
+is_quiet role note = not (is_rest note) && (not (is_release note) && not (is_some_and (is_spoken_of role) (sent_fields note)))
+
+-- None of these statements turns out false with a quiet event, in a log that is in order.
+pub record AreSilent (chosen : Rule → Bool) : Type 0 where
+  pub each : (tested : Tested) (e : Seen) (past : List Seen) (k : ℕ) (rule : Rule) → chosen rule ≡ true → is_quiet tested.role e.note ≡ true → IsInOrder tested.role (e ∷ past) → turns tested e past k rule ≡ false
