@@ -8,7 +8,7 @@ use Rattle.mq_rules.specs.Words.{or_else}
 use Rattle.mq_rules.specs.Marks.{FaultMap, fault_at}
 use Rattle.mq_rules.specs.Statements.{is_on_bytes, is_on_past}
 use Rattle.mq_rules.specs.Faults.{fault_in, Grows}
-use Rattle.mq_plain.specs.Chosen.{is_plain_se, is_plain_lb}
+use Rattle.mq_plain.specs.Chosen.{is_plain}
 use Rattle.mq_judge.specs.Chosen.{is_judged}
 
 both : {A : Type 0} (a b : Bool) (o x : Option A) → or_else (or_else o (cond a x None)) (cond b x None) ≡ or_else o (cond (a || b) x None)
@@ -24,13 +24,13 @@ grown_then a b tested log first second third p q = record {
   each = λ k r. q.each k r ∙ ap (λ o. or_else o (cond (b r) (fault_in tested log k r) None)) (p.each k r) ∙ both (a r) (b r) (fault_at first k r) (fault_in tested log k r);
 }
 
--- each statement is judged by one of the four
-each_judged : (tested : Tested) (rule : Rule) → (((is_on_bytes tested rule || is_on_past tested rule) || is_plain_se rule) || is_plain_lb rule) ≡ true
+-- each statement is judged by one of the three
+each_judged : (tested : Tested) (rule : Rule) → ((is_on_bytes tested rule || is_on_past tested rule) || is_plain rule) ≡ true
 each_judged tested W01 = refl
 each_judged tested _ = refl
 
 pub all_grown : (tested : Tested) (log : List Seen) (first last : FaultMap)
-    → Grows (λ r. ((is_on_bytes tested r || is_on_past tested r) || is_plain_se r) || is_plain_lb r) tested log first last → Grows (is_judged tested) tested log first last
+    → Grows (λ r. (is_on_bytes tested r || is_on_past tested r) || is_plain r) tested log first last → Grows (is_judged tested) tested log first last
 all_grown tested log first last p = record {
   each = λ k r. p.each k r ∙ ap (λ b. or_else (fault_at first k r) (cond b (fault_in tested log k r) None)) (each_judged tested r);
 }

@@ -10,3 +10,8 @@ pub mod EvaluatingLaws
 pub mod CodeLaws
 pub mod JsonLaws
 pub mod SummaryLaws
+pub mod OutgoingLaws
+pub mod DetailLaws
+pub mod OneLineLaws
+pub mod NearLaws
+pub mod ViewLaws

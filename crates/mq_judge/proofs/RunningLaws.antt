@@ -18,7 +18,7 @@ use Rattle.mq_rules.specs.Marks.{FaultMap}
 use Rattle.mq_judge.specs.Report.{report, report_on, FailsToWrite}
 use Rattle.mq_judge.specs.Feeding.{FedAll, FedSome}
 use Rattle.mq_judge.specs.Stopping.{IsRefusedByte, IsRefusedEnd, IsRefusedAt}
-use Rattle.mq_judge.specs.Running.{default_limit, outcome_of, IsJudged, RunsOver}
+use Rattle.mq_judge.specs.Running.{default_limit, found_in, outcome_of, IsJudged, IsVerdictOn, JudgesOver, RunsOver}
 use Rattle.mq_judge.proofs.JudgeLaws.{unrefused}
 use Rattle.mq_judge.proofs.FeedingLaws.{whole-taken, some-taken, pieces-are}
 use Rattle.mq_judge.specs.Chosen.{is_judged}
@@ -29,8 +29,8 @@ unrefused-yet : {judge : Judged} (log : List ℕ) → judge.limit ≡ default_li
 unrefused-yet {judge} log e follows = subst (λ l. refused l log ≡ None) e (unrefused judge log follows)
 
 -- what a verdict says of its log
-abbrev pub IsVerdictOn : List ℕ → ℕ → FaultMap → Type 0
-IsVerdictOn log count faults = (is_cut_short log ≡ false) × (count ≡ length (events log)) × AreFaultsOf log faults
+abbrev pub SaysOf : List ℕ → ℕ → FaultMap → Type 0
+SaysOf log count faults = (is_cut_short log ≡ false) × (count ≡ length (events log)) × AreFaultsOf log faults
 
 or-false : (a b : Bool) → (a || b) ≡ false → a ≡ false
 or-false false b h = refl
@@ -48,36 +48,48 @@ role-known judge log named followed whole names =
     names log followed.knows ∙ ap (λ b. if b then None else Some (tested_by log).role) long
 
 pub is-named : {first : ℕ} {judge : Judged} {x y : Option (List ℕ)} (named : Option Role) (count : ℕ) (faults : FaultMap) → FedAll {S = Unit {0}} (λ j. j.limit) (λ j _. Follows j) first x y judge tt → first ≡ default_limit
-    → ((log : List ℕ) → Follows judge log → IsVerdictOn log count faults)
+    → ((log : List ℕ) → Follows judge log → SaysOf log count faults)
     → IsNamed judge named → IsSome named
 is-named {first} {judge} named count faults took default verdict names =
     rw (role-known judge took.log named took.followed (verdict took.log took.followed).0 names) (search rules)
 
-pub report-is : (form : Form) (log : List ℕ) (count : ℕ) (faults : FaultMap) → IsVerdictOn log count faults
-    → report_on form (tested_by log).role (map.entries faults) count ≡ report form log
-unfolding report
-report-is form log count faults v = rw (entries-listed (is_judged (tested_by log)) (tested_by log) (seen_in log) faults v.2, v.1) refl
+-- a verdict on a log that was fed whole
+pub judge-ends : {first : ℕ} {x y : Option (List ℕ)} {judge : Judged} (count : ℕ) (faults : FaultMap) (role : Role)
+    → FedAll {S = Unit {0}} (λ j. j.limit) (λ j _. Follows j) first x y judge tt → first ≡ default_limit → ((log : List ℕ) → Follows judge log → SaysOf log count faults)
+    → IsNamed judge (Some role) → IfSome x (λ log. IsVerdictOn log role count faults)
+judge-ends {first} {x} {y} {judge} count faults role took default verdict named =
+    let log = took.log in
+    let v : SaysOf log count faults = verdict log took.followed in
+    let known : Some role ≡ Some (tested_by log).role = role-known judge log (Some role) took.followed v.0 named in
+    whole-taken x y log (λ l. IsVerdictOn l role count faults) took.consumed took.ended (record {
+      judged = record { unrefused = unrefused-yet log (took.within ∙ default) took.followed; whole = v.0 };
+      role_is = cc;
+      count_is = v.1;
+      faults_are = entries-listed (is_judged (tested_by log)) (tested_by log) (seen_in log) faults v.2;
+    })
 
-pub outcome-is : (log : List ℕ) (count : ℕ) (faults : FaultMap) → IsVerdictOn log count faults
+-- what holds of a log holds of what a reader had left, where that is known
+pub for_log : (remaining : Option (List ℕ)) (P Q : List ℕ → Type 0) → ((log : List ℕ) → P log → Q log) → IfSome remaining P → IfSome remaining Q
+for_log None P Q f h = tt
+for_log (Some log) P Q f h = f log h
+
+report-is : (form : Form) (log : List ℕ) (role : Role) (count : ℕ) (faults : FaultMap) → IsVerdictOn log role count faults
+    → report_on form role (map.entries faults) count ≡ report form log
+unfolding report
+report-is form log role count faults v = rw (v.role_is, v.faults_are, v.count_is) refl
+
+outcome-is : (log : List ℕ) (role : Role) (count : ℕ) (faults : FaultMap) → IsVerdictOn log role count faults
     → (if map.len faults == 0 then Pass else Fail) ≡ outcome_of log
-outcome-is log count faults v = rw (map.len-entries faults, entries-listed (is_judged (tested_by log)) (tested_by log) (seen_in log) faults v.2) refl
+outcome-is log role count faults v = rw (map.len-entries faults, v.faults_are) refl
 
 -- a run that came to an outcome
-pub run-reports : {first : ℕ} {x y : Option (List ℕ)} (form : Form) (w z : Option (List ℕ)) {judge : Judged} (count : ℕ) (faults : FaultMap) (role : Role) (outcome : Outcome)
-    → FedAll {S = Unit {0}} (λ j. j.limit) (λ j _. Follows j) first x y judge tt → first ≡ default_limit → ((log : List ℕ) → Follows judge log → IsVerdictOn log count faults)
-    → IsNamed judge (Some role)
+pub run-reports : (x y : Option (List ℕ)) (form : Form) (w z : Option (List ℕ)) (count : ℕ) (faults : FaultMap) (role : Role) (outcome : Outcome)
+    → IfSome x (λ log. IsVerdictOn log role count faults)
     → Appends w z (report_on form role (map.entries faults) count) → outcome ≡ (if map.len faults == 0 then Pass else Fail)
     → IfSome x (λ log. RunsOver form log y (Ok outcome) w z)
-run-reports {first} {x} {y} form w z {judge} count faults role outcome took default verdict named wrote says =
-    let log = took.log in
-    let v : IsVerdictOn log count faults = verdict log took.followed in
-    let known : Some role ≡ Some (tested_by log).role = role-known judge log (Some role) took.followed v.0 named in
-    let same : role ≡ (tested_by log).role = cc in
-    let judged : IsJudged log = record { unrefused = unrefused-yet log (took.within ∙ default) took.followed; whole = v.0 } in
-    let text : report_on form role (map.entries faults) count ≡ report form log =
-    ap (λ (r : Role). report_on form r (map.entries faults) count) same ∙ report-is form log count faults v in
-    whole-taken x y log (λ l. RunsOver form l y (Ok outcome) w z) took.consumed took.ended
-    (judged, says ∙ outcome-is log count faults v, subst (Appends w z) text wrote)
+run-reports x y form w z count faults role outcome judged wrote says =
+    for_log x (λ log. IsVerdictOn log role count faults) (λ log. RunsOver form log y (Ok outcome) w z)
+    (λ log v. (v.judged, says ∙ outcome-is log role count faults v, subst (Appends w z) (report-is form log role count faults v) wrote)) judged
 
 -- a run whose report couldn't be written
 stops-with : (form : Form) (log : List ℕ) (y w z : Option (List ℕ)) (fault : RunFault) → IsJudged log → FailsToWrite form w z (report form log) fault → RunsOver form log y (Err fault) w z
@@ -85,21 +97,13 @@ stops-with form log y w z (run_faults.Refused refusal) judged failed = absurd fa
 stops-with form log y w z run_faults.Write judged failed = (judged, failed)
 stops-with form log y w z run_faults.Memory judged failed = (judged, failed.0, failed.1)
 
-pub run-stops-writing : {first : ℕ} {x y : Option (List ℕ)} (form : Form) (w z : Option (List ℕ)) {judge : Judged} (count : ℕ) (faults : FaultMap) (role : Role) (fault : RunFault)
-    → FedAll {S = Unit {0}} (λ j. j.limit) (λ j _. Follows j) first x y judge tt → first ≡ default_limit → ((log : List ℕ) → Follows judge log → IsVerdictOn log count faults)
-    → IsNamed judge (Some role)
+pub run-stops-writing : (x y : Option (List ℕ)) (form : Form) (w z : Option (List ℕ)) (count : ℕ) (faults : FaultMap) (role : Role) (fault : RunFault)
+    → IfSome x (λ log. IsVerdictOn log role count faults)
     → FailsToWrite form w z (report_on form role (map.entries faults) count) fault
     → IfSome x (λ log. RunsOver form log y (Err fault) w z)
-run-stops-writing {first} {x} {y} form w z {judge} count faults role fault took default verdict named stopped =
-    let log = took.log in
-    let v : IsVerdictOn log count faults = verdict log took.followed in
-    let known : Some role ≡ Some (tested_by log).role = role-known judge log (Some role) took.followed v.0 named in
-    let same : role ≡ (tested_by log).role = cc in
-    let judged : IsJudged log = record { unrefused = unrefused-yet log (took.within ∙ default) took.followed; whole = v.0 } in
-    let text : report_on form role (map.entries faults) count ≡ report form log =
-    ap (λ (r : Role). report_on form r (map.entries faults) count) same ∙ report-is form log count faults v in
-    whole-taken x y log (λ l. RunsOver form l y (Err fault) w z) took.consumed took.ended
-    (stops-with form log y w z fault judged (subst (λ (t : List ℕ). FailsToWrite form w z t fault) text stopped))
+run-stops-writing x y form w z count faults role fault judged stopped =
+    for_log x (λ log. IsVerdictOn log role count faults) (λ log. RunsOver form log y (Err fault) w z)
+    (λ log v. stops-with form log y w z fault v.judged (subst (λ (t : List ℕ). FailsToWrite form w z t fault) (report-is form log role count faults v) stopped)) judged
 
 -- a run whose judge refused the log at its end
 pub run-refused-at-end : {first : ℕ} {x y : Option (List ℕ)} {judge : Judged} (refusal : Refusal) → FedAll {S = Unit {0}} (λ j. j.limit) (λ j _. Follows j) first x y judge tt → first ≡ default_limit

@@ -9,15 +9,9 @@ use Rattle.mq_rules.specs.declared.rule.Rule.{Rule}
 use Rattle.mq_rules.specs.declared.rule.Rule.TheVariants.{W01}
 use Rattle.mq_rules.specs.declared.fault.Fault.{Fault}
 use Rattle.mq_rules.specs.declared.faults.Mark.{Mark}
-use Rattle.mq_rules.specs.Rules.{same_rule, all_rules, lines}
-use Rattle.mq_judge.specs.declared.report.summing.TheConstants.{RULES}
+use Rattle.mq_rules.specs.Rules.{same_rule, all_rules}
 use Rattle.mq_judge.specs.Report.{line, verdict_text, faults_of, first_of, rule_line, rule_lines, summary_report, LeavesToWrite, AppendsBeginning}
 use Rattle.mq_judge.proofs.Writes.{all-left, appends-then, piece-written, stopped-in-piece, stopped-in-last}
-
--- the statements that reports in short go through are all, in the order of reports
-pub rules_are_all : RULES ≡ all_rules
-unfolding lines
-rules_are_all = refl
 
 -- What was counted, and the first fault that was found, before these faults are left of all: of the count, those of other statements are still to be taken away.
 pub record Tallies (rule : Rule) (count : ℕ) (found : Option (Mark × Fault)) (left whole : List (Mark × Fault)) : Type 0 where
@@ -113,30 +107,30 @@ rules_stop {x} {y} z {whole} role faults rules i h so_far part =
 
 -- the last line follows those of the statements
 pub summary_ends : (x y z : Option (List ℕ)) (role : Role) (faults : List (Mark × Fault)) (counted events : ℕ) (r : Result (Unit {0}) RunFault)
-    → Appends x y (rule_lines role faults RULES) → counted ≡ length faults
+    → (listed : List Rule) → listed ≡ all_rules → Appends x y (rule_lines role faults listed) → counted ≡ length faults
     → OnOk r (Appends y z (line (verdict_text counted events))) → OnOk r (Appends x z (summary_report role faults events))
 unfolding summary_report
-summary_ends x y z role faults counted events (Ok done) rules n more =
+summary_ends x y z role faults counted events (Ok done) listed all rules n more =
     appends-then x y z (rule_lines role faults all_rules) (line (verdict_text (length faults) events))
-    (subst (λ (l : List Rule). Appends x y (rule_lines role faults l)) rules_are_all rules) (subst (λ (k : ℕ). Appends y z (line (verdict_text k events))) n more)
-summary_ends x y z role faults counted events (Err fault) rules n more = tt
+    (subst (λ (l : List Rule). Appends x y (rule_lines role faults l)) all rules) (subst (λ (k : ℕ). Appends y z (line (verdict_text k events))) n more)
+summary_ends x y z role faults counted events (Err fault) listed all rules n more = tt
 
 pub summary_stops : (x y : Option (List ℕ)) (role : Role) (faults : List (Mark × Fault)) (events : ℕ)
-    → AppendsBeginning x y (rule_lines role faults RULES) → AppendsBeginning x y (summary_report role faults events)
+    → (listed : List Rule) → listed ≡ all_rules → AppendsBeginning x y (rule_lines role faults listed) → AppendsBeginning x y (summary_report role faults events)
 unfolding summary_report
-summary_stops x y role faults events part =
+summary_stops x y role faults events listed all part =
     stopped-in-piece y (rule_lines role faults all_rules) (line (verdict_text (length faults) events))
-    (all-left x (summary_report role faults events)) (subst (λ (l : List Rule). AppendsBeginning x y (rule_lines role faults l)) rules_are_all part)
+    (all-left x (summary_report role faults events)) (subst (λ (l : List Rule). AppendsBeginning x y (rule_lines role faults l)) all part)
 
 pub summary_stops_last : (x y z : Option (List ℕ)) (role : Role) (faults : List (Mark × Fault)) (counted events : ℕ) (r : Result (Unit {0}) RunFault)
-    → Appends x y (rule_lines role faults RULES) → counted ≡ length faults
+    → (listed : List Rule) → listed ≡ all_rules → Appends x y (rule_lines role faults listed) → counted ≡ length faults
     → IfErr r (λ fault. (fault ≡ Write) × AppendsBeginning y z (line (verdict_text counted events)))
     → IfErr r (λ fault. (fault ≡ Write) × AppendsBeginning x z (summary_report role faults events))
 unfolding summary_report
-summary_stops_last x y z role faults counted events (Ok done) rules n part = tt
-summary_stops_last x y z role faults counted events (Err fault) rules n part =
+summary_stops_last x y z role faults counted events (Ok done) listed all rules n part = tt
+summary_stops_last x y z role faults counted events (Err fault) listed all rules n part =
     let last = line (verdict_text (length faults) events) in
     let so_far : LeavesToWrite x y (summary_report role faults events) last =
     piece-written (rule_lines role faults all_rules) last (all-left x (summary_report role faults events))
-    (subst (λ (l : List Rule). Appends x y (rule_lines role faults l)) rules_are_all rules) in
+    (subst (λ (l : List Rule). Appends x y (rule_lines role faults l)) all rules) in
     (part.0, stopped-in-last z last so_far (subst (λ (k : ℕ). AppendsBeginning y z (line (verdict_text k events))) n part.1))

@@ -10,3 +10,8 @@ pub mod Tracing
 pub use Rattle.mq_trace.specs.Refusals
 pub mod Summaries
 pub mod Chosen
+pub mod Outgoing
+pub mod Details
+pub mod Detailing
+pub mod OneLine
+pub mod Views

@@ -7,7 +7,14 @@ use Rattle.mq_judge.specs.declared.report.Outcome.{Outcome}
 use Rattle.mq_judge.specs.declared.report.Outcome.TheVariants.{Pass, Fail}
 use Rattle.mq_judge.specs.declared.report.RunFault.{RunFault}
 use Rattle.mq_judge.specs.declared.report.RunFault.TheVariants as run_faults
+use Rattle.std.specs.FinMap as map
+use Rattle.mq_rules.specs.declared.role.Role.{Role}
+use Rattle.mq_rules.specs.declared.fault.Fault.{Fault}
+use Rattle.mq_rules.specs.declared.faults.Mark.{Mark}
+use Rattle.mq_rules.specs.Marks.{FaultMap}
 use Rattle.mq_rules.specs.Notes.{tested_by, seen_in}
+use Rattle.mq_trace.specs.declared.refusal.Refusal.{Refusal}
+use Rattle.mq_trace.specs.Events.{events}
 use Rattle.mq_rules.specs.Faults.{listed}
 use Rattle.mq_judge.specs.Chosen.{is_judged}
 use Rattle.mq_trace.specs.Refusals.{refused, is_cut_short}
@@ -30,6 +37,22 @@ outcome_of log = if length (listed (is_judged (tested_by log)) (tested_by log) (
 pub record IsJudged (log : List ℕ) : Type 0 where
   pub unrefused : refused default_limit log ≡ None
   pub whole : is_cut_short log ≡ false
+
+-- the faults of a log, in ascending order
+abbrev pub found_in : List ℕ → List (Mark × Fault)
+found_in log = listed (is_judged (tested_by log)) (tested_by log) (seen_in log)
+
+-- The log can be judged, and this is the verdict on it: the end that was judged, how many events there are, and the faults.
+pub record IsVerdictOn (log : List ℕ) (role : Role) (count : ℕ) (faults : FaultMap) : Type 0 where
+  pub judged : IsJudged log
+  pub role_is : role ≡ (tested_by log).role
+  pub count_is : count ≡ length (events log)
+  pub faults_are : map.entries faults ≡ found_in log
+
+-- What judging this log came to, by what it answered and what the reader has left: the verdict and the end that was judged, or why the log is refused.
+abbrev pub JudgesOver : {V : Type 0} → (V → ℕ) → (V → FaultMap) → List ℕ → Option (List ℕ) → Result (V × Role) Refusal → Type 0
+JudgesOver count_in faults_in log left (Ok answer) = IsVerdictOn log answer.1 (count_in answer.0) (faults_in answer.0)
+JudgesOver count_in faults_in log left (Err refusal) = IsRefusedAt default_limit log left refusal
 
 -- What a run over this log did, by the form of its report, what it answered and what the reader has left: it wrote the report and nothing else; or, where
 -- writing failed, a beginning of it; or nothing, where the log is refused or memory was refused for a JSON value.

@@ -5,7 +5,7 @@ ghost use Rattle.mq_rules.specs.Connections.{IsInOrder};
 ghost use Rattle.mq_rules.specs.Faults.{Grows};
 ghost use Rattle.mq_judge.specs.Chosen.{is_judged};
 
-use mq_plain::{plain_lb, plain_se};
+use mq_plain::plain_sessions;
 use mq_rules::{Faults, Memory, Seen, Tested, plain_c, plain_w};
 use std::alloc::Global;
 
@@ -25,6 +25,5 @@ pub fn judge_all(
 {
     plain_w(alloc, tested, seen, faults)?;
     plain_c(alloc, tested, seen, faults)?;
-    plain_se(alloc, tested, seen, faults)?;
-    plain_lb(alloc, tested, seen, faults)
+    plain_sessions(alloc, tested, seen, faults)
 }

@@ -19,8 +19,10 @@ pub use packet_line::write_packet;
 pub use report::json::write_json;
 pub use report::summing::write_summary;
 pub use report::{Form, Outcome, RunFault, write_refused, write_text};
-pub use running::{run, run_bounded};
-pub use showing::show;
+pub use running::{judge_reader, run, run_bounded};
+pub use showing::{show, show_faults, show_long};
 
+#[cfg(test)]
+mod showing_tests;
 #[cfg(test)]
 mod tests;

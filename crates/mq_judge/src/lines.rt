@@ -68,11 +68,24 @@ impl Lines {
         ensures puts { OnOk result (self.new ≡ self.old ++ text.now) }
         ensures full { IfErr result (λ _. (self.new ≡ self.old) × (8192 < length self.old + length text.now)) }
     {
-        if text.len() > ROOM - self.len {
+        self.put_bytes(text.as_bytes())
+    }
+
+    /// Puts bytes behind what waits.
+    ///
+    /// # Errors
+    ///
+    /// Where they have no room. Nothing changes then.
+    #[inline(always)]
+    pub fn put_bytes(&mut self, bytes: &[u8]) -> fmt::Result
+        ensures puts { OnOk result (self.new ≡ self.old ++ bytes.now) }
+        ensures full { IfErr result (λ _. (self.new ≡ self.old) × (8192 < length self.old + length bytes.now)) }
+    {
+        if bytes.len() > ROOM - self.len {
             return Err(fmt::Error);
         }
-        let end = self.len + text.len();
-        self.bytes[self.len..end].copy_from_slice(text.as_bytes());
+        let end = self.len + bytes.len();
+        self.bytes[self.len..end].copy_from_slice(bytes);
         self.len = end;
         Ok(())
     }

@@ -5,7 +5,7 @@ ghost use Rattle.std.specs.Io.KnownBytes.{Appends};
 ghost use Rattle.mq_judge.specs.declared.report.RunFault.TheVariants as run_faults;
 ghost use Rattle.mq_trace.specs.declared.refusal.Refusal.{Refusal as AnyRefusal};
 ghost use Rattle.mq_judge.specs.Report.{report_on, FailsToWrite};
-ghost use Rattle.mq_judge.specs.Running.{RunsOver};
+ghost use Rattle.mq_judge.specs.Running.{JudgesOver, RunsOver};
 
 use super::feeding::feed_all;
 use super::judge::{Judge, Options, Verdict};
@@ -13,6 +13,7 @@ use super::report::json::write_json;
 use super::report::summing::write_summary;
 use super::report::{Form, Outcome, RunFault, write_text};
 use mq_rules::Role;
+use mq_trace::Refusal;
 use std::alloc::Global;
 use std::io::{Read, Write};
 
@@ -51,12 +52,36 @@ pub fn run_bounded<R: Read, W: Write>(
     ensures runs { IfSome (R.remaining reader.old) (λ log. RunsOver form log (R.remaining reader.new) result (W.contents writer.old) (W.contents writer.new)) }
     ensures unwritten { (refusal : AnyRefusal) → result ≡ Err (run_faults.Refused refusal) → writer.new ≡ writer.old }
 {
+    let (verdict, role) = judge_bounded(alloc, reader, turns)?;
+    write_report(alloc, &verdict, role, form, writer)?;
+    Ok(outcome(&verdict))
+}
+
+/// Judges the log that a reader gives, and answers the verdict on it and the role of the end that was judged. It reads at most 8,192 bytes a turn, and for
+/// 4,294,967,295 turns at most.
+///
+/// # Errors
+///
+/// Why the log is refused; `Read` where the reader fails, or where it hasn't ended when its turns run out; `Memory` where the judge is refused memory.
+pub fn judge_reader<R: Read>(alloc: Global, reader: &mut R) -> Result<(Verdict, Role), Refusal>
+    ensures { IfSome (R.remaining reader.old) (λ log. JudgesOver (λ v. v.events) (λ v. v.faults) log (R.remaining reader.new) result) }
+{
+    judge_bounded(alloc, reader, u32::MAX)
+}
+
+/// The same in at most so many turns.
+fn judge_bounded<R: Read>(
+    alloc: Global,
+    reader: &mut R,
+    turns: u32,
+) -> Result<(Verdict, Role), Refusal>
+    ensures { IfSome (R.remaining reader.old) (λ log. JudgesOver (λ v. v.events) (λ v. v.faults) log (R.remaining reader.new) result) }
+{
     let mut judge = Judge::new(alloc, Options::default());
     feed_all(&mut judge, &mut (), reader, turns)?;
     let role = judge.role();
     let verdict = judge.finish()?;
-    write_report(alloc, &verdict, role.unwrap(), form, writer)?;
-    Ok(outcome(&verdict))
+    Ok((verdict, role.unwrap()))
 }
 
 /// Writes the report on a verdict in this form.
@@ -97,7 +122,6 @@ fn outcome(verdict: &Verdict) -> Outcome
 #[cfg(test)]
 mod tests {
     use super::*;
-    use mq_trace::Refusal;
     use std::io;
     use std::io::ErrorKind;
     use std::process::Abort;

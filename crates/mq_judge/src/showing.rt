@@ -1,139 +1,120 @@
-//! Shows the events of a log from a reader, a line for each.
-ghost use Rattle.std.specs.Prelude.{◌≡◌, ◌<◌, ◌≤◌, ◌+◌, false, true, IfSome, OnOk, IfErr, [], ◌∷◌, ◌++◌, List, Option, length, ℕ};
-ghost use Rattle.std.specs.Io.KnownBytes.{Appends};
-ghost use Rattle.mq_judge.specs.Report.{AppendsBeginning, LeavesToWrite, StopsWriting};
+//! Shows the events of a log from a reader: a line for each, or a long one, or these with the faults at them.
+ghost use Rattle.std.specs.Prelude.{◌≡◌, Bool, true, false, IfSome, OnOk, IfErr, [], List, Option, length, ℕ};
+ghost use Rattle.std.specs.FinMap as map;
 ghost use Rattle.mq_judge.specs.Running.{default_limit};
-ghost use Rattle.mq_judge.specs.Showing.{ShowsLog, event_line, event_text};
-ghost use Rattle.mq_trace.specs.Hearing.{placed_at, event_of};
+ghost use Rattle.mq_judge.specs.Showing.{Annotation, Shows, annotated, lines_of, long_lines_of};
+ghost use Rattle.mq_judge.specs.Views.{StandsAfter, text_by};
 ghost use Rattle.mq_trace.specs.Refusals.{is_cut_short};
 ghost use Rattle.mq_trace.specs.Tracing.{Follows};
 ghost use Rattle.mq_trace.specs.declared.refusal.Refusal.TheVariants as refusals;
 
+mod annotated;
+mod details;
+mod outgoing;
+mod view;
+
+use self::annotated::Annotated;
+use self::outgoing::Outgoing;
+use self::view::View;
 use super::feeding::{Feed, feed_all};
 use super::judge::Options;
-use super::lines::Lines;
 use super::report::RunFault;
-use super::report::item::put_item;
-use super::report::line::write_bytes;
+use mq_rules::{Faults, Role};
 use mq_trace::{Event, Place3, Refusal, Sink, Tracer};
 use std::alloc::Global;
-use std::fmt;
 use std::io::{Read, Write};
 use std::marker::{Brand, PhantomData};
 
-/// For how many bytes there is to be room before an event's line is put. The longest one has 78.
-const LINE_ROOM: usize = 128;
-
-/// Which writer is shown to, and what it held at first. Each call of `show` picks it.
+/// Which way to which writer is taken, what the writer held at first, and by what text events are shown. Each call of `show_all` picks them.
 trait Given {
     ghost use Rattle.std.specs.Prelude.{ℕ, List, Option};
+    ghost use Rattle.mq_trace.specs.Events.{Placed};
+
+    ghost way: { ℕ };
 
     ghost name: { ℕ };
 
     ghost held: { Option (List ℕ) };
+
+    ghost text: { List Placed → List ℕ };
 }
 
 impl Given for Brand {
-    ghost use Rattle.std.specs.Prelude.{None};
+    ghost use Rattle.std.specs.Prelude.{None, []};
+
+    ghost way = { 0 };
 
     ghost name = { 0 };
 
     ghost held = { None };
+
+    ghost text = { λ _. [] };
 }
 
-/// Puts a line for each event of a log after those that wait, and writes these where the next one may have no room. It refuses
-/// the event at which a write failed.
-struct Showing<'a, W, K> {
-    lines: Lines,
-    writer: &'a mut W,
-    failed: bool,
+/// What may fail between two pieces of a log.
+trait Failing {
+    ghost use Rattle.std.specs.Prelude.{◌≡◌, Bool, true, false, OnOk, IfErr};
+
+    ghost has_failed: { Self → Bool };
+
+    /// Whether it has not failed.
+    ///
+    /// # Errors
+    ///
+    /// `Memory(0)` where it has.
+    fn result(&self) -> Result<(), Refusal>
+        ensures ok { OnOk result (has_failed self.now ≡ false) }
+        ensures err { IfErr result (λ _. has_failed self.now ≡ true) };
+}
+
+/// Puts what is shown of each event of a log. It refuses none: after a failed write it puts nothing more.
+struct Showing<'a, 'b, 'f, W, K> {
+    out: &'b mut Outgoing<'a, W>,
+    view: View<'f>,
     of: PhantomData<K>,
 }
 
-impl<'a, W, K> Drop for Showing<'a, W, K> {
+impl<'a, 'b, 'f, W, K> Drop for Showing<'a, 'b, 'f, W, K> {
     fn drop(self)
-        ensures { self.exit.1.0.now ≡ self.entry.writer.now }
+        ensures { self.exit.0.now ≡ self.entry.out.now }
     {
         let Self {
-            lines: _lines,
-            writer: _,
-            failed: _,
+            out: _,
+            view: _,
             of: _,
         } = self;
     }
 }
 
-impl<W: Write, K: Given> Sink for Showing<'_, W, K> {
-    ghost use Rattle.std.specs.Prelude.{◌≡◌, true, false};
-    ghost use Rattle.mq_judge.specs.Report.{AppendsBeginning, LeavesToWrite};
-    ghost use Rattle.mq_judge.specs.Showing.{lines_of};
+impl<W: Write, K: Given> Sink for Showing<'_, '_, '_, W, K> {
+    ghost use Rattle.std.specs.Prelude.{◌≡◌};
+    ghost use Rattle.mq_judge.specs.Outgoing.{Carries};
+    ghost use Rattle.mq_judge.specs.Views.{StandsAfter, text_by};
 
-    // What was written and what waits are the lines of the events.
-    ghost agrees = { λ showing received. (showing.writer.ghost_name ≡ K.name) × (showing.failed ≡ false)
-        × LeavesToWrite K.held (W.contents showing.writer.now) (lines_of received) showing.lines };
+    // What was written and what waits are the text of the events, or a write failed, and what was written is a beginning of it.
+    ghost agrees = { λ showing received. (showing.out.now.writer.ghost_name ≡ K.name) × (text_by showing.view ≡ K.text)
+        × StandsAfter received showing.view × Carries W.contents K.held (K.text received) showing.out.now
+        × (showing.out.ghost_name ≡ K.way) };
 
-    // What was written is a beginning of them.
-    ghost refuses = { λ showing received _. (showing.writer.ghost_name ≡ K.name) × (showing.failed ≡ true)
-        × AppendsBeginning K.held (W.contents showing.writer.now) (lines_of received) };
+    ghost refuses = { λ _ _ _. ⊥ };
 
     #[inline(always)]
     fn event(&mut self, place: Place3, event: Event<'_>) -> Result<(), Refusal> {
-        self.make_room()?;
-        put_line(&mut self.lines, place, &event);
+        self.view.put(self.out, place, &event);
         Ok(())
     }
 }
 
-impl<W: Write, K: Given> Showing<'_, W, K> {
-    // Sees to it that there is room for an event's line.
-    #[inline(always)]
-    fn make_room(&mut self) -> Result<(), Refusal>
-        ensures same { self.new.writer.ghost_name ≡ self.old.writer.ghost_name }
-        ensures room { OnOk result ((self.new.failed ≡ self.old.failed) × (length self.new.lines + 128 ≤ 8192)) }
-        ensures waits { (held : Option (List ℕ)) (whole : List ℕ) → LeavesToWrite held (W.contents self.old.writer.now) whole self.old.lines
-            → OnOk result (LeavesToWrite held (W.contents self.new.writer.now) whole self.new.lines) }
-        ensures failed { (held : Option (List ℕ)) (whole : List ℕ) → LeavesToWrite held (W.contents self.old.writer.now) whole self.old.lines
-            → IfErr result (λ _. (self.new.failed ≡ true) × AppendsBeginning held (W.contents self.new.writer.now) whole) }
-    {
-        if self.lines.has_room(LINE_ROOM) {
-            return Ok(());
-        }
-        self.write_out()
-    }
+impl<W: Write, K> Failing for Showing<'_, '_, '_, W, K> {
+    ghost has_failed = { λ showing. showing.out.now.failed };
 
-    // Writes the lines that wait.
-    fn write_out(&mut self) -> Result<(), Refusal>
-        ensures same { self.new.writer.ghost_name ≡ self.old.writer.ghost_name }
-        ensures written { OnOk result ((self.new.failed ≡ self.old.failed) × (self.new.lines ≡ []) × Appends (W.contents self.old.writer.now) (W.contents self.new.writer.now) self.old.lines) }
-        ensures failed { IfErr result (λ _. (self.new.failed ≡ true) × AppendsBeginning (W.contents self.old.writer.now) (W.contents self.new.writer.now) self.old.lines) }
-    {
-        match write_bytes(self.lines.as_bytes(), self.writer) {
-            Ok(()) => {
-                self.lines.clear();
-                Ok(())
-            }
-            Err(_) => {
-                self.failed = true;
-                Err(Refusal::Memory(0))
-            }
-        }
-    }
-
-    // Writes what waits at the end, if no write has failed.
-    fn write_last(&mut self) -> Result<(), RunFault>
-        ensures same { self.new.writer.ghost_name ≡ self.old.writer.ghost_name }
-        ensures written { OnOk result ((self.old.failed ≡ false) × Appends (W.contents self.old.writer.now) (W.contents self.new.writer.now) self.old.lines) }
-        ensures failed { IfErr result (λ fault. (fault ≡ RunFault.Write) × StopsWriting self.old.failed (W.contents self.old.writer.now) (W.contents self.new.writer.now) self.old.lines) }
-    {
-        if self.failed {
-            return Err(RunFault::Write);
-        }
-        write_bytes(self.lines.as_bytes(), self.writer)
+    fn result(&self) -> Result<(), Refusal> {
+        self.out.result()
     }
 }
 
-impl<S: Sink> Feed<S> for Tracer {
-    ghost use Rattle.mq_judge.specs.Tracing.{TraceStops};
+impl<S: Sink + Failing> Feed<S> for Tracer {
+    ghost use Rattle.mq_judge.specs.Tracing.{ShowStops};
     ghost use Rattle.mq_trace.specs.Tracing.{Follows};
     ghost use Rattle.mq_trace.specs.Events.{events};
 
@@ -141,58 +122,11 @@ impl<S: Sink> Feed<S> for Tracer {
 
     ghost follows = { λ tracer sink log. Follows tracer log × S.agrees sink (events log) };
 
-    ghost stops = { λ limit _ sink log piece refusal. TraceStops S.agrees S.refuses limit sink log piece refusal };
+    ghost stops = { λ limit _ sink log piece refusal. ShowStops S.agrees S.refuses S.has_failed limit sink log piece refusal };
 
     fn feed(&mut self, sink: &mut S, piece: &[u8]) -> Result<(), Refusal> {
-        Tracer::feed(self, piece, sink)
-    }
-}
-
-// Puts the line of an event at its place after those that wait, where there is room for it.
-#[inline(always)]
-fn put_line(lines: &mut Lines, place: Place3, event: &Event<'_>)
-    requires { length lines.old + 128 ≤ 8192 }
-    ensures { lines.new ≡ lines.old ++ event_line (placed_at place event.now) }
-{
-    try_put_line(lines, place, event).unwrap()
-}
-
-// Puts the line of an event at its place after those that wait, if there is room for it.
-#[inline(always)]
-fn try_put_line(lines: &mut Lines, place: Place3, event: &Event<'_>) -> fmt::Result
-    ensures puts { OnOk result (lines.new ≡ lines.old ++ event_line (placed_at place event.now)) }
-    ensures full { IfErr result (λ _. 8192 < length lines.old + 128) }
-{
-    lines.put_number(place.position)?;
-    lines.put(" record ")?;
-    lines.put_number(place.record_no)?;
-    put_event(lines, event)?;
-    lines.put("\n")
-}
-
-// Puts an event's text after the lines that wait, and a space before it.
-#[inline(always)]
-fn put_event(lines: &mut Lines, event: &Event<'_>) -> fmt::Result
-    ensures puts { OnOk result (lines.new ≡ lines.old ++ 32 ∷ event_text (event_of event.now)) }
-    ensures short { OnOk result (length (event_text (event_of event.now)) ≤ 76) }
-    ensures full { IfErr result (λ _. 8192 < length lines.old + 77) }
-{
-    match event {
-        Event::Open => lines.put(" OPEN"),
-        Event::Close => lines.put(" CLOSE"),
-        Event::Rest => lines.put(" REST"),
-        Event::Release(identifier) => {
-            lines.put(" RELEASE ")?;
-            lines.put_number(u32::from(*identifier))
-        }
-        Event::Sent(item) => {
-            lines.put(" SENT ")?;
-            put_item(lines, item)
-        }
-        Event::Recv(item) => {
-            lines.put(" RECV ")?;
-            put_item(lines, item)
-        }
+        Tracer::feed(self, piece, sink)?;
+        sink.result()
     }
 }
 
@@ -212,13 +146,76 @@ pub fn show<R: Read, W: Write>(
     reader: &mut R,
     writer: &mut W,
 ) -> Result<(), RunFault>
-    ensures { IfSome (R.remaining reader.old) (λ log. ShowsLog log (R.remaining reader.new) result (W.contents writer.old) (W.contents writer.new)) }
+    ensures { IfSome (R.remaining reader.old) (λ log. Shows lines_of log (R.remaining reader.new) result (W.contents writer.old) (W.contents writer.new)) }
+{
+    let mut out = Outgoing::to(writer);
+    show_by(alloc, View::Brief, reader, &mut out)
+}
+
+/// The same with long lines: after the words of each line come the other fields of its packet and its properties, each by its name.
+///
+/// # Errors
+///
+/// As `show`.
+pub fn show_long<R: Read, W: Write>(
+    alloc: Global,
+    reader: &mut R,
+    writer: &mut W,
+) -> Result<(), RunFault>
+    ensures { IfSome (R.remaining reader.old) (λ log. Shows long_lines_of log (R.remaining reader.new) result (W.contents writer.old) (W.contents writer.new)) }
+{
+    let mut out = Outgoing::to(writer);
+    show_by(alloc, View::Long, reader, &mut out)
+}
+
+/// Writes the events of the log that a reader gives, as `show` does, or as `show_long` where `long` says so, and under each the faults at its position, a
+/// line for each: `  fault <code> <citation> <sentence>`, with ` (decided at event <n>)` where that is a later one, and ` (offset <n>)` where the fault is
+/// on a packet's bytes. The faults are those of an end in this role. With `around`, only those events are shown that are at most so many positions from a
+/// fault, and each run of others is a line `..`.
+///
+/// # Errors
+///
+/// As `show`.
+pub fn show_faults<R: Read, W: Write>(
+    alloc: Global,
+    faults: &Faults,
+    role: Role,
+    around: Option<u32>,
+    long: bool,
+    reader: &mut R,
+    writer: &mut W,
+) -> Result<(), RunFault>
+    ensures { IfSome (R.remaining reader.old)
+        (λ log. Shows (annotated (record { role = role; faults = map.entries faults.now; around = around; long = long }))
+        log (R.remaining reader.new) result (W.contents writer.old) (W.contents writer.new)) }
+{
+    let view = View::Annotated(Annotated {
+        faults,
+        role,
+        around,
+        long,
+        begins_gap: true,
+    });
+    let mut out = Outgoing::to(writer);
+    show_by(alloc, view, reader, &mut out)
+}
+
+/// Shows all that a reader gives, from a view that has shown nothing yet, on a way on which nothing is.
+fn show_by<R: Read, W: Write>(
+    alloc: Global,
+    view: View<'_>,
+    reader: &mut R,
+    out: &mut Outgoing<'_, W>,
+) -> Result<(), RunFault>
+    requires empty { text_by view [] ≡ [] }
+    requires fresh { (out.old.failed ≡ false) × (out.old.lines ≡ []) × StandsAfter [] view }
+    ensures same { out.new.writer.ghost_name ≡ out.old.writer.ghost_name }
+    ensures shows { IfSome (R.remaining reader.old) (λ log. Shows (text_by view.entry) log (R.remaining reader.new) result (W.contents out.old.writer.now) (W.contents out.new.writer.now)) }
 {
     let mut tracer = Tracer::new(alloc, Options::default().limit);
-    let mut showing = Showing::<'_, W, Brand> {
-        lines: Lines::new(),
-        writer,
-        failed: false,
+    let mut showing = Showing::<'_, '_, '_, W, Brand> {
+        out,
+        view,
         of: PhantomData,
     };
     show_all::<R, W, Brand>(&mut tracer, &mut showing, reader, u32::MAX)
@@ -227,18 +224,23 @@ pub fn show<R: Read, W: Write>(
 /// Shows all that a reader gives in at most so many turns, from a sink that has received nothing yet, to the writer that was picked.
 fn show_all<R: Read, W: Write, K: Given>(
     tracer: &mut Tracer,
-    showing: &mut Showing<'_, W, K>,
+    showing: &mut Showing<'_, '_, '_, W, K>,
     reader: &mut R,
     turns: u32,
 ) -> Result<(), RunFault>
-    requires name { showing.old.writer.ghost_name ≡ K.name }
-    requires held { W.contents showing.old.writer.now ≡ K.held }
-    requires fresh { (showing.old.failed ≡ false) × (showing.old.lines ≡ []) × Follows tracer.old [] × (tracer.old.reading.limit ≡ default_limit) }
-    ensures same { showing.new.writer.ghost_name ≡ showing.old.writer.ghost_name }
-    ensures shows { IfSome (R.remaining reader.old) (λ log. ShowsLog log (R.remaining reader.new) result K.held (W.contents showing.new.writer.now)) }
+    requires way { showing.old.out.ghost_name ≡ K.way }
+    requires name { showing.old.out.now.writer.ghost_name ≡ K.name }
+    requires held { W.contents showing.old.out.now.writer.now ≡ K.held }
+    requires text { text_by showing.old.view ≡ K.text }
+    requires empty { K.text [] ≡ [] }
+    requires fresh { (showing.old.out.now.failed ≡ false) × (showing.old.out.now.lines ≡ []) × StandsAfter [] showing.old.view }
+    requires follows { Follows tracer.old [] × (tracer.old.reading.limit ≡ default_limit) }
+    ensures way { showing.new.out.ghost_name ≡ showing.old.out.ghost_name }
+    ensures writer { showing.new.out.now.writer.ghost_name ≡ showing.old.out.now.writer.ghost_name }
+    ensures shows { IfSome (R.remaining reader.old) (λ log. Shows K.text log (R.remaining reader.new) result K.held (W.contents showing.new.out.now.writer.now)) }
 {
     let fed = feed_all(tracer, showing, reader, turns);
-    showing.write_last()?;
+    showing.out.write_last()?;
     match fed {
         Ok(()) => end(tracer),
         Err(refusal) => Err(RunFault::Refused(refusal)),

@@ -165,7 +165,8 @@ fn delivery_of(packet: PacketSummary) -> Option<(u8, u8)>
     }
 }
 
-fn qos_number(qos: Qos) -> u8
+/// A Quality of Service as its number, 0 to 2 (MQTT 5.0, section 4.3).
+pub fn qos_number(qos: Qos) -> u8
     ensures { result ≡ qos_number qos }
 {
     match qos {

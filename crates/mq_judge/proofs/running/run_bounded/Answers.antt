@@ -1,25 +1,13 @@
-use Rattle.std.proofs.Common.{◌∙◌, subst}
+use Rattle.std.proofs.Common.{None}
+use Rattle.std.specs.FinMap as map
 use Rattle.std.proofs.lemmas.Result.{err_from_is_err_and}
-use Rattle.mq_judge.proofs.RunningLaws.{IsNamed, is-named, run-reports, run-stops-writing, run-stopped}
+use Rattle.mq_judge.proofs.RunningLaws.{run-reports, run-stops-writing}
 use Rattle.mq_judge.proofs.running.run_bounded.Goals as goal
-
-pub returns-in_err-feed_all-clause-runs : goal.returns-in_err-feed_all-clause-runs
-returns-in_err-feed_all-clause-runs g c =
-    let p = err_from_is_err_and c.from_residual.result c.from_residual.ensures.1 in
-    let stopped = run-stopped _ c.in_err-feed_all.ensures.some (c.new-judge.ensures.limit ∙ c.default.ensures) in
-    rw (p.1, p.2) stopped
-
-pub unwrap-requires : goal.unwrap-requires
-unwrap-requires g c =
-    is-named _ _ _ c.in_ok-feed_all.ensures.all (c.new-judge.ensures.limit ∙ c.default.ensures) c.in_ok-verdict.ensures.verdict c.role-role.ensures
 
 pub returns-in_err-write_report-clause-runs : goal.returns-in_err-write_report-clause-runs
 returns-in_err-write_report-clause-runs g c =
     let p = err_from_is_err_and c.from_residual-in_err-write_report.result c.from_residual-in_err-write_report.ensures.1 in
-    rw (p.1, p.2) (run-stops-writing c.args.form _ _ _ _ _ _ c.in_ok-feed_all.ensures.all (c.new-judge.ensures.limit ∙ c.default.ensures)
-    c.in_ok-verdict.ensures.verdict (subst (IsNamed _) c.unwrap.ensures c.role-role.ensures) c.in_err-write_report.ensures.err)
+    rw (p.1, p.2) (run-stops-writing _ _ c.args.form _ _ _ _ _ _ c.in_ok-verdict.ensures c.in_err-write_report.ensures.err)
 
 pub returns-clause-runs : goal.returns-clause-runs
-returns-clause-runs g c =
-    run-reports c.args.form _ _ _ _ _ _ c.in_ok-feed_all.ensures.all (c.new-judge.ensures.limit ∙ c.default.ensures)
-    c.in_ok-verdict.ensures.verdict (subst (IsNamed _) c.unwrap.ensures c.role-role.ensures) c.in_ok-write_report.ensures.ok c.outcome.ensures
+returns-clause-runs g c = run-reports _ None c.args.form _ _ _ _ _ _ c.in_ok-verdict.ensures c.in_ok-write_report.ensures.ok c.outcome.ensures

@@ -1,50 +1,109 @@
-use Rattle.std.proofs.Common.{◌≡◌, false, true, List}
+use Rattle.std.proofs.Common.{◌≡◌, ◌∙◌, [], List, sym, ap, subst}
 use Rattle.std.proofs.lemmas.Result.{err_from_is_err_and}
-use Rattle.mq_trace.specs.Events.{Placed}
+use Rattle.mq_trace.specs.Events.{Placed, events}
 use Rattle.mq_trace.specs.declared.refusal.Refusal.{Refusal}
-use Rattle.mq_judge.specs.Report.{AppendsBeginning, LeavesToWrite}
-use Rattle.mq_judge.specs.Showing.{lines_of}
+use Rattle.mq_trace.proofs.ContextLaws.{events-nothing}
+use Rattle.mq_judge.specs.Outgoing.{Carries}
 use Rattle.mq_judge.specs.declared.showing.Showing.{Showing}
-use Rattle.mq_judge.proofs.ShowingLaws.{shown-nothing, show-unwritten, show-ended, show-refused}
+use Rattle.mq_judge.specs.Views.{StandsAfter, text_by}
+use Rattle.mq_judge.proofs.ShowingLaws.{shown-nothing, show-kept, show-unwritten, show-ended, show-refused}
 use Rattle.mq_judge.proofs.showing.show_all.Given as given
 use Rattle.mq_judge.proofs.showing.show_all.Goals as goal
 
--- the sink, and what its events and its refusal say of it
+-- the sink, and what its events say of it
 abbrev Sink : given.Over → Type 0
 Sink g = Showing g.row.W.Denot g.row.K.Denot
 
 abbrev agrees : (g : given.Over) → Sink g → List Placed → Type 0
-agrees g s received = (s.writer.ghost_name ≡ g.K.Given.name) × (s.failed ≡ false) × LeavesToWrite g.K.Given.held (g.W.Write.contents s.writer.now) (lines_of received) s.lines
+agrees g s received = (s.out.now.writer.ghost_name ≡ g.K.Given.name) × (text_by s.view ≡ g.K.Given.text) × StandsAfter received s.view
+    × Carries g.W.Write.contents g.K.Given.held (g.K.Given.text received) s.out.now × (s.out.ghost_name ≡ g.K.Given.way)
 
 abbrev refuses : (g : given.Over) → Sink g → List Placed → Refusal → Type 0
-refuses g s received own = (s.writer.ghost_name ≡ g.K.Given.name) × (s.failed ≡ true) × AppendsBeginning g.K.Given.held (g.W.Write.contents s.writer.now) (lines_of received)
+refuses g s received own = ⊥
 
 pub feed_all-fed-requires : goal.feed_all-fed-requires
 feed_all-fed-requires g c =
     let fresh = c.requires.fresh in
-    (fresh.2, (c.requires.name, fresh.0, shown-nothing _ _ _ c.requires.held fresh.1))
+    let s = c.args.showing.now in (
+      c.requires.follows.0,
+      (
+        c.requires.name,
+        c.requires.text,
+        subst (λ (received : List Placed). StandsAfter received s.view) (sym events-nothing) fresh.2,
+        shown-nothing s.out.now.failed _ _ _ _ fresh.0 c.requires.held (ap g.K.Given.text events-nothing ∙ c.requires.empty) fresh.1,
+        c.requires.way,
+      ),
+    )
 
 pub returns-in_err-write_last-clause-shows : goal.returns-in_err-write_last-clause-shows
 returns-in_err-write_last-clause-shows g c =
     let s = c.feed_all-fed.new.sink in
     let p = err_from_is_err_and c.from_residual.result c.from_residual.ensures.1 in
     let failed = c.in_err-write_last.ensures.failed in
-    rw (p.1, p.2, failed.0) (show-unwritten (agrees g) (refuses g) _ _ c.feed_all-fed.new.feeder s _ c.requires.fresh.3 g.K.Given.held
-    s.failed (g.W.Write.contents s.writer.now) s.lines (λ received a. (a.1, a.2)) (λ received own b. (b.1, b.2))
+    rw (p.1, p.2, failed.0) (show-unwritten (agrees g) (refuses g) (λ sink. sink.out.now.failed) g.K.Given.text _ _ c.feed_all-fed.new.feeder s _ c.requires.follows.1
+    g.K.Given.held (g.W.Write.contents s.out.now.writer.now) s.out.now.lines (λ received a. a.3) (λ received own b. b)
     (g.W.Write.contents c.write_last.new.self.writer.now) c.feed_all-fed.result c.feed_all-fed.ensures.all c.feed_all-fed.ensures.some failed.1)
 
 pub returns-in-Err-clause-shows : goal.returns-in-Err-clause-shows
 returns-in-Err-clause-shows g c =
     let s = c.feed_all-fed.new.sink in
     let written = c.in_ok-write_last.ensures.written in
-    show-refused (agrees g) (refuses g) _ _ c.feed_all-fed.new.feeder s _ c.requires.fresh.3 g.K.Given.held
-    s.failed (g.W.Write.contents s.writer.now) s.lines (λ received a. (a.1, a.2)) (λ received own b. (b.1, b.2))
+    show-refused (agrees g) (refuses g) (λ sink. sink.out.now.failed) g.K.Given.text _ _ c.feed_all-fed.new.feeder s _ c.requires.follows.1
+    g.K.Given.held (g.W.Write.contents s.out.now.writer.now) s.out.now.lines (λ received a. a.3) (λ received own b. b)
     (g.W.Write.contents c.write_last.new.self.writer.now) c.in-Err.refusal c.in-Err.ensures.some written.0 written.1
 
 pub returns-in-Ok-clause-shows : goal.returns-in-Ok-clause-shows
 returns-in-Ok-clause-shows g c =
     let s = c.feed_all-fed.new.sink in
     let written = c.in_ok-write_last.ensures.written in
-    show-ended (agrees g) (refuses g) _ _ c.feed_all-fed.new.feeder s _ c.requires.fresh.3 g.K.Given.held
-    s.failed (g.W.Write.contents s.writer.now) s.lines (λ received a. (a.1, a.2)) (λ received own b. (b.1, b.2))
-    (g.W.Write.contents c.write_last.new.self.writer.now) c.end.result c.in-Ok.ensures.all written.1 c.end.ensures.ok c.end.ensures.refused
+    show-ended (agrees g) (refuses g) (λ sink. sink.out.now.failed) g.K.Given.text _ _ c.feed_all-fed.new.feeder s _ c.requires.follows.1
+    g.K.Given.held (g.W.Write.contents s.out.now.writer.now) s.out.now.lines (λ received a. a.3) (λ received own b. b)
+    (g.W.Write.contents c.write_last.new.self.writer.now) c.end.result c.in-Ok.ensures.all written.0 written.1 c.end.ensures.ok c.end.ensures.refused
+
+pub returns-in_err-write_last-clause-writer : goal.returns-in_err-write_last-clause-writer
+returns-in_err-write_last-clause-writer g c =
+    let s = c.feed_all-fed.new.sink in
+    let kept = show-kept (agrees g) (refuses g) (λ sink. sink.out.now.failed) g.K.Given.text _ _ c.feed_all-fed.new.feeder s _ c.requires.follows.1
+    g.K.Given.held (g.W.Write.contents s.out.now.writer.now) s.out.now.lines (λ received a. a.3) (λ received own b. b)
+    (s.out.now.writer.ghost_name ≡ g.K.Given.name) (λ received a. a.0) c.feed_all-fed.result c.feed_all-fed.ensures.all c.feed_all-fed.ensures.some in
+    c.write_last.ensures.same ∙ kept ∙ sym c.requires.name
+
+pub returns-in-Ok-clause-writer : goal.returns-in-Ok-clause-writer
+returns-in-Ok-clause-writer g c =
+    let s = c.feed_all-fed.new.sink in
+    let kept = show-kept (agrees g) (refuses g) (λ sink. sink.out.now.failed) g.K.Given.text _ _ c.feed_all-fed.new.feeder s _ c.requires.follows.1
+    g.K.Given.held (g.W.Write.contents s.out.now.writer.now) s.out.now.lines (λ received a. a.3) (λ received own b. b)
+    (s.out.now.writer.ghost_name ≡ g.K.Given.name) (λ received a. a.0) c.feed_all-fed.result c.feed_all-fed.ensures.all c.feed_all-fed.ensures.some in
+    c.write_last.ensures.same ∙ kept ∙ sym c.requires.name
+
+pub returns-in-Err-clause-writer : goal.returns-in-Err-clause-writer
+returns-in-Err-clause-writer g c =
+    let s = c.feed_all-fed.new.sink in
+    let kept = show-kept (agrees g) (refuses g) (λ sink. sink.out.now.failed) g.K.Given.text _ _ c.feed_all-fed.new.feeder s _ c.requires.follows.1
+    g.K.Given.held (g.W.Write.contents s.out.now.writer.now) s.out.now.lines (λ received a. a.3) (λ received own b. b)
+    (s.out.now.writer.ghost_name ≡ g.K.Given.name) (λ received a. a.0) c.feed_all-fed.result c.feed_all-fed.ensures.all c.feed_all-fed.ensures.some in
+    c.write_last.ensures.same ∙ kept ∙ sym c.requires.name
+
+pub returns-in_err-write_last-clause-way : goal.returns-in_err-write_last-clause-way
+returns-in_err-write_last-clause-way g c =
+    let s = c.feed_all-fed.new.sink in
+    let kept = show-kept (agrees g) (refuses g) (λ sink. sink.out.now.failed) g.K.Given.text _ _ c.feed_all-fed.new.feeder s _ c.requires.follows.1
+    g.K.Given.held (g.W.Write.contents s.out.now.writer.now) s.out.now.lines (λ received a. a.3) (λ received own b. b)
+    (s.out.ghost_name ≡ g.K.Given.way) (λ received a. a.4) c.feed_all-fed.result c.feed_all-fed.ensures.all c.feed_all-fed.ensures.some in
+    kept ∙ sym c.requires.way
+
+pub returns-in-Ok-clause-way : goal.returns-in-Ok-clause-way
+returns-in-Ok-clause-way g c =
+    let s = c.feed_all-fed.new.sink in
+    let kept = show-kept (agrees g) (refuses g) (λ sink. sink.out.now.failed) g.K.Given.text _ _ c.feed_all-fed.new.feeder s _ c.requires.follows.1
+    g.K.Given.held (g.W.Write.contents s.out.now.writer.now) s.out.now.lines (λ received a. a.3) (λ received own b. b)
+    (s.out.ghost_name ≡ g.K.Given.way) (λ received a. a.4) c.feed_all-fed.result c.feed_all-fed.ensures.all c.feed_all-fed.ensures.some in
+    kept ∙ sym c.requires.way
+
+pub returns-in-Err-clause-way : goal.returns-in-Err-clause-way
+returns-in-Err-clause-way g c =
+    let s = c.feed_all-fed.new.sink in
+    let kept = show-kept (agrees g) (refuses g) (λ sink. sink.out.now.failed) g.K.Given.text _ _ c.feed_all-fed.new.feeder s _ c.requires.follows.1
+    g.K.Given.held (g.W.Write.contents s.out.now.writer.now) s.out.now.lines (λ received a. a.3) (λ received own b. b)
+    (s.out.ghost_name ≡ g.K.Given.way) (λ received a. a.4) c.feed_all-fed.result c.feed_all-fed.ensures.all c.feed_all-fed.ensures.some in
+    kept ∙ sym c.requires.way

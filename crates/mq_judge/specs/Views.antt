@@ -1,0 +1,24 @@
+-- What is shown of the events of a log, one after another.
+use Rattle.std.specs.Prelude.{◌≡◌, ℕ, List, ⊤}
+use Rattle.std.specs.FinMap as map
+use Rattle.mq_trace.specs.Events.{Placed}
+use Rattle.mq_judge.specs.declared.showing.annotated.Annotated.{Annotated as AnnotatedView}
+use Rattle.mq_judge.specs.declared.showing.view.View.{View}
+use Rattle.mq_judge.specs.declared.showing.view.View.TheVariants.{Brief, Long, Annotated}
+use Rattle.mq_judge.specs.Showing.{Annotation, annotated, begins_gap, lines_of, long_lines_of}
+
+-- what a view of faults shows
+abbrev pub annotation_of : AnnotatedView → Annotation
+annotation_of a = record { role = a.role; faults = map.entries a.faults.now; around = a.around; long = a.long }
+
+-- the text of events, which are given the newest first
+abbrev pub text_by : View → List Placed → List ℕ
+text_by Brief = lines_of
+text_by Long = long_lines_of
+text_by (Annotated a) = annotated (annotation_of a)
+
+-- These events were shown: a view of faults knows whether an event that is left out next begins a gap.
+abbrev pub StandsAfter : List Placed → View → Type 0
+StandsAfter earlier Brief = ⊤
+StandsAfter earlier Long = ⊤
+StandsAfter earlier (Annotated a) = a.begins_gap ≡ begins_gap a.around (map.entries a.faults.now) earlier

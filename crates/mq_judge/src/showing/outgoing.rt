@@ -1,0 +1,165 @@
+//! Text on its way to a writer.
+ghost use Rattle.std.specs.Prelude.{◌≡◌, ◌≤◌, ◌+◌, ◌++◌, false, true, IfErr, OnOk, [], decimal, length};
+ghost use Rattle.std.specs.Io.KnownBytes.{Appends};
+ghost use Rattle.mq_judge.specs.Outgoing.{Puts};
+ghost use Rattle.mq_judge.specs.Report.{StopsWriting};
+
+use super::super::lines::Lines;
+use super::super::report::RunFault;
+use super::super::report::line::write_bytes;
+use mq_trace::Refusal;
+use std::fmt;
+use std::fmt::Write as _;
+use std::io::Write;
+
+/// For how many bytes there is room once room was made. The longest line of an event without its details has 78.
+const LINE_ROOM: usize = 128;
+
+/// Text on its way to a writer: it waits until 8,192 bytes have no room for more, and is then written together. As
+/// `fmt::DebugStruct` does, it keeps the first failure: nothing is written after it, and `result` answers it.
+pub struct Outgoing<'a, W> {
+    pub(super) lines: Lines,
+    pub(super) writer: &'a mut W,
+    pub(super) failed: bool,
+}
+
+impl<W> Drop for Outgoing<'_, W> {
+    fn drop(self)
+        ensures { self.exit.1.0.now ≡ self.entry.writer.now }
+    {
+        let Self {
+            lines: _lines,
+            writer: _,
+            failed: _,
+        } = self;
+    }
+}
+
+impl<'a, W> Outgoing<'a, W> {
+    /// A way to this writer, on which nothing is.
+    pub fn to(writer: &'a mut W) -> Self
+        ensures { (result.writer ≡ writer.entry) × (result.lines ≡ []) × (result.failed ≡ false) }
+    {
+        Outgoing {
+            lines: Lines::new(),
+            writer,
+            failed: false,
+        }
+    }
+}
+
+impl<W: Write> Outgoing<'_, W> {
+    /// Puts a text of any length after what waits, and writes what waits where it has no room.
+    pub fn put(&mut self, text: &str)
+        ensures { Puts W.contents self.old text.now self.new }
+    {
+        self.put_bytes(text.as_bytes());
+    }
+
+    /// Puts a number in decimal digits after it likewise.
+    pub fn put_number(&mut self, number: u64)
+        ensures { Puts W.contents self.old (decimal number) self.new }
+    {
+        self.make_room();
+        self.failed = fails_to_put(self.failed, &mut self.lines, number);
+    }
+
+    /// Puts bytes after it likewise.
+    pub fn put_bytes(&mut self, bytes: &[u8])
+        ensures { Puts W.contents self.old bytes.now self.new }
+    {
+        match self.lines.put_bytes(bytes) {
+            Ok(()) => {}
+            Err(_) => self.write_through(bytes),
+        }
+    }
+
+    /// Sees to it that there is room for 128 bytes in `lines`. What waits after a failure is dropped.
+    #[inline(always)]
+    pub fn make_room(&mut self)
+        ensures room { length self.new.lines + 128 ≤ 8192 }
+        ensures puts { Puts W.contents self.old [] self.new }
+    {
+        if self.lines.has_room(LINE_ROOM) {
+            return;
+        }
+        self.write_out();
+    }
+
+    /// Whether all that was to be written so far was written.
+    ///
+    /// # Errors
+    ///
+    /// `Memory(0)` where a write failed.
+    #[inline(always)]
+    pub fn result(&self) -> Result<(), Refusal>
+        ensures ok { OnOk result (self.now.failed ≡ false) }
+        ensures err { IfErr result (λ _. self.now.failed ≡ true) }
+    {
+        if self.failed {
+            return Err(Refusal::Memory(0));
+        }
+        Ok(())
+    }
+
+    /// Writes what waits, at the end.
+    ///
+    /// # Errors
+    ///
+    /// `Write` where a write failed, now or before. After an earlier failure nothing is written.
+    pub fn write_last(&mut self) -> Result<(), RunFault>
+        ensures same { self.new.writer.ghost_name ≡ self.old.writer.ghost_name }
+        ensures written { OnOk result ((self.old.failed ≡ false) × Appends (W.contents self.old.writer.now) (W.contents self.new.writer.now) self.old.lines) }
+        ensures failed { IfErr result (λ fault. (fault ≡ RunFault.Write) × StopsWriting self.old.failed (W.contents self.old.writer.now) (W.contents self.new.writer.now) self.old.lines) }
+    {
+        if self.failed {
+            return Err(RunFault::Write);
+        }
+        write_bytes(self.lines.as_bytes(), self.writer)
+    }
+
+    // Writes what waits, and then these bytes.
+    fn write_through(&mut self, bytes: &[u8])
+        ensures { Puts W.contents self.old bytes.now self.new }
+    {
+        self.write_out();
+        self.failed = fails(self.failed, bytes, self.writer);
+    }
+
+    // Writes what waits.
+    fn write_out(&mut self)
+        ensures empty { self.new.lines ≡ [] }
+        ensures puts { Puts W.contents self.old [] self.new }
+    {
+        self.failed = fails(self.failed, self.lines.as_bytes(), self.writer);
+        self.lines.clear();
+    }
+}
+
+// Puts a number among what waits. Answers whether a write has failed before, or the number has no room: 128 bytes have room for any.
+fn fails_to_put(failed: bool, lines: &mut Lines, number: u64) -> bool
+    ensures { result ≡ false → (failed ≡ false) × (lines.new ≡ lines.old ++ decimal number) }
+{
+    match put_digits(lines, number) {
+        Ok(()) => failed,
+        Err(_) => true,
+    }
+}
+
+// Puts a number's decimal digits among what waits.
+fn put_digits(lines: &mut Lines, number: u64) -> fmt::Result
+    ensures { OnOk result (lines.new ≡ lines.old ++ decimal number) }
+{
+    write!(lines, "{number}")
+}
+
+// Writes bytes, if no write has failed before. Answers whether one has failed, now or before.
+fn fails<W: Write>(failed: bool, bytes: &[u8], writer: &mut W) -> bool
+    ensures written { result ≡ false → (failed ≡ false) × Appends (W.contents writer.old) (W.contents writer.new) bytes.now }
+    ensures stopped { result ≡ true → StopsWriting failed (W.contents writer.old) (W.contents writer.new) bytes.now }
+{
+    if failed {
+        return true;
+    }
+    write_bytes(bytes, writer).is_err()
+}
