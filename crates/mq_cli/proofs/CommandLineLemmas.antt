@@ -235,6 +235,9 @@ pub same_check : {file file' : Option Text} {json json' summary summary' : Bool}
 same_check {file} {file'} {json} {json'} {summary} {summary'} f j s = ap (λ (x : Option Text). Some (check_request x json summary)) f
     ∙ ap (λ (x : Bool). Some (check_request file' x summary)) j ∙ ap (λ (x : Bool). Some (check_request file' json' x)) s
 
+pub same_show : {file file' : Option Text} {long long' : Bool} → file ≡ file' → long ≡ long' → Some (show_request file long) ≡ Some (show_request file' long')
+same_show {file} {file'} {long} {long'} f l = ap (λ (x : Option Text). Some (show_request x long)) f ∙ ap (λ (x : Bool). Some (show_request file' x)) l
+
 pub request_is_check : (words : List Text) (m check : ArgMatches) → subcommand_rows_of m ≡ subcommand_of mqjudge words → subcommand_name_of m ≡ Some (codes "check")
     → option_map (λ p. p.1) (subcommand_rows_of m) ≡ Some (rows_of (found_of check)) → request_of words ≡ Some (check_request (first_value (found_of check) (codes "FILE"))
     (is_true (first_value (found_of check) (codes "json"))) (is_true (first_value (found_of check) (codes "summary"))))
@@ -244,10 +247,11 @@ request_is_check words m check same named rows =
     (ap is_true (sym (first_value-rows (found_of check) (codes "summary"))))
 
 pub request_is_show : (words : List Text) (m shown : ArgMatches) → subcommand_rows_of m ≡ subcommand_of mqjudge words → subcommand_name_of m ≡ Some (codes "show")
-    → option_map (λ p. p.1) (subcommand_rows_of m) ≡ Some (rows_of (found_of shown)) → request_of words ≡ Some (show_request (first_value (found_of shown) (codes "FILE")))
+    → option_map (λ p. p.1) (subcommand_rows_of m) ≡ Some (rows_of (found_of shown)) → request_of words ≡ Some (show_request (first_value (found_of shown) (codes "FILE"))
+    (is_true (first_value (found_of shown) (codes "long"))))
 request_is_show words m shown same named rows =
     ap (option_map request_in) (met_by words m shown (codes "show") same named rows)
-    ∙ ap (λ (f : Option Text). Some (show_request f)) (sym (first_value-rows (found_of shown) (codes "FILE")))
+    ∙ same_show (sym (first_value-rows (found_of shown) (codes "FILE"))) (ap is_true (sym (first_value-rows (found_of shown) (codes "long"))))
 
 pub request_is_packet : (words : List Text) (m packet : ArgMatches) → subcommand_rows_of m ≡ subcommand_of mqjudge words → subcommand_name_of m ≡ Some (codes "packet")
     → option_map (λ p. p.1) (subcommand_rows_of m) ≡ Some (rows_of (found_of packet)) → request_of words ≡ Some (packet_request (first_value (found_of packet) (codes "HEX")))

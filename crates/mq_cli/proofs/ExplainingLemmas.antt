@@ -5,7 +5,6 @@ use Rattle.std.specs.List.{find, flat_map}
 use Rattle.mq_rules.specs.declared.role.Role.{Role}
 use Rattle.mq_rules.specs.declared.rule.Rule.{Rule}
 use Rattle.mq_rules.specs.Rules.{all_rules, lines, same_rule}
-use Rattle.mq_cli.specs.declared.listing.TheConstants.{RULES}
 use Rattle.mq_rules.specs.declared.rule.Rule.TheVariants.{W01}
 use Rattle.mq_cli.specs.Explaining.{Explained, connections, deliveries, exchanges, explained_in, explained_view, explanations, packets, releases, sessions}
 use Rattle.mq_cli.specs.Listing.{listed_line, statement_lines}
@@ -25,9 +24,9 @@ unfolding explanations packets connections sessions exchanges releases deliverie
 all_explained = refl
 
 -- the statements that are listed are all, in the order of reports
-pub lines_all : (role : Option Role) → flat_map (listed_line role) RULES ≡ statement_lines role
-unfolding statement_lines lines
-lines_all role = refl
+pub lines_all : (role : Option Role) (listed : List Rule) → listed ≡ all_rules → flat_map (listed_line role) listed ≡ statement_lines role
+unfolding statement_lines
+lines_all role listed all = ap (λ (rules : List Rule). flat_map (listed_line role) rules) all
 
 next_rule : (rules : List Rule) (i : ℕ) → i < length rules → drop i rules ≡ get_or rules i W01 ∷ drop (i + 1) rules
 next_rule rules i h = rw (add-one, drop-cons rules i W01) refl

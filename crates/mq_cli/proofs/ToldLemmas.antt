@@ -2,7 +2,7 @@
 use Rattle.std.proofs.Common.{◌≡◌, ℕ, List, [], append-nil, Option, Some, None, Result, Ok, Err, IfErr, IfOk, IfSome, OnOk, ◌⊎◌, refl, subst, sym, inl, inr, ◌∙◌}
 use Rattle.std.proofs.KnownBytes.{Appends-kept, Keeps-refl}
 use Rattle.std.specs.Io.KnownBytes.{Appends, Keeps}
-use Rattle.mq_trace.specs.Events.{events}
+use Rattle.mq_trace.specs.Events.{Placed, events}
 use Rattle.mq_judge.specs.declared.Form.{Form}
 use Rattle.mq_judge.specs.declared.Form.TheVariants.{Text, Json}
 use Rattle.mq_judge.specs.declared.Outcome.{Outcome}
@@ -11,7 +11,7 @@ use Rattle.mq_judge.specs.declared.Refusal.TheVariants as refusals
 use Rattle.mq_judge.specs.declared.RunFault.TheVariants as run_faults
 use Rattle.mq_judge.specs.Report.{AppendsBeginning, refused_line, refused_report, report}
 use Rattle.mq_judge.specs.Running.{RunsOver, default_limit}
-use Rattle.mq_judge.specs.Showing.{ShowsLog, lines_of}
+use Rattle.mq_judge.specs.Showing.{Shows}
 use Rattle.mq_judge.specs.Stopping.{IsRefusedAt, IsRefusedNext, IsUnread}
 use Rattle.mq_judge.proofs.Writes.{appends-kept, appends-then}
 use Rattle.mq_cli.specs.Told.{AppendsAfter, AppendsPart, BeginsRefusal, IsOfLog, LacksMemory, IsRefusedBy, RefusesCheck, RefusesShow, StopsCheck, StopsShow, failure_of}
@@ -154,47 +154,47 @@ run_lacks form remaining left old new ran =
 -- ---- a log that is shown
 
 -- a status for a refusal says which one it is, and that its line was written after those of the events before, and nothing else
-pub shown_refusal_is_told : {E : Type 0} (remaining left old middle new : Option (List ℕ)) (refusal : Refusal) (status : Result ℕ E)
-    → IfSome remaining (λ log. ShowsLog log left (Err (run_faults.Refused refusal)) old middle)
+pub shown_refusal_is_told : {E : Type 0} (text_of : List Placed → List ℕ) (remaining left old middle new : Option (List ℕ)) (refusal : Refusal) (status : Result ℕ E)
+    → IfSome remaining (λ log. Shows text_of log left (Err (run_faults.Refused refusal)) old middle)
     → OnOk status (IsOfLog refusal) → OnOk status (Appends middle new (refused_line refusal))
-    → IfOk status (λ s. s ≡ 2 → IfSome remaining (λ log. RefusesShow log old new))
-shown_refusal_is_told remaining left old middle new refusal (Ok s) shown own written = λ is.
-    for_log remaining (λ log. ShowsLog log left (Err (run_faults.Refused refusal)) old middle) (λ log. RefusesShow log old new)
-    (λ log h. (refusal, own_refusal log left refusal own h.0, appends-then old middle new (lines_of (events h.0.taken)) (refused_line refusal) h.1 written)) shown
-shown_refusal_is_told remaining left old middle new refusal (Err e) shown own written = tt
+    → IfOk status (λ s. s ≡ 2 → IfSome remaining (λ log. RefusesShow text_of log old new))
+shown_refusal_is_told text_of remaining left old middle new refusal (Ok s) shown own written = λ is.
+    for_log remaining (λ log. Shows text_of log left (Err (run_faults.Refused refusal)) old middle) (λ log. RefusesShow text_of log old new)
+    (λ log h. (refusal, own_refusal log left refusal own h.0, appends-then old middle new (text_of (events h.0.taken)) (refused_line refusal) h.1 written)) shown
+shown_refusal_is_told text_of remaining left old middle new refusal (Err e) shown own written = tt
 
 -- where it can't be told, that is why
-pub shown_refusal_stops : (remaining left old middle new : Option (List ℕ)) (refusal : Refusal) (status : Result ℕ Failure)
-    → IfSome remaining (λ log. ShowsLog log left (Err (run_faults.Refused refusal)) old middle)
+pub shown_refusal_stops : (text_of : List Placed → List ℕ) (remaining left old middle new : Option (List ℕ)) (refusal : Refusal) (status : Result ℕ Failure)
+    → IfSome remaining (λ log. Shows text_of log left (Err (run_faults.Refused refusal)) old middle)
     → IfErr status (λ failure. (failure ≡ failure_of refusal) ⊎ ((failure ≡ failures.Memory) × LacksMemory Text refusal middle new))
     → IfErr status (λ _. BeginsRefusal Text refusal middle new)
-    → IfErr status (λ failure. IfSome remaining (λ log. StopsShow failure log left old new))
-shown_refusal_stops remaining left old middle new refusal (Ok s) shown failed begun = tt
-shown_refusal_stops remaining left old middle new refusal (Err failure) shown (inr (is, lacks)) begun = absurd (text_is_text lacks.0)
+    → IfErr status (λ failure. IfSome remaining (λ log. StopsShow text_of failure log left old new))
+shown_refusal_stops text_of remaining left old middle new refusal (Ok s) shown failed begun = tt
+shown_refusal_stops text_of remaining left old middle new refusal (Err failure) shown (inr (is, lacks)) begun = absurd (text_is_text lacks.0)
   where
     text_is_text : Text ≡ Json → ⊥
     text_is_text e = cc
-shown_refusal_stops remaining left old middle new refusal (Err failure) shown (inl failed) begun =
-    for_log remaining (λ log. ShowsLog log left (Err (run_faults.Refused refusal)) old middle) (λ log. StopsShow failure log left old new)
-    (λ log h. subst (λ f. StopsShow f log left old new) (sym failed) (on_log refusal log h.0 h.1 begun)) shown
+shown_refusal_stops text_of remaining left old middle new refusal (Err failure) shown (inl failed) begun =
+    for_log remaining (λ log. Shows text_of log left (Err (run_faults.Refused refusal)) old middle) (λ log. StopsShow text_of failure log left old new)
+    (λ log h. subst (λ f. StopsShow text_of f log left old new) (sym failed) (on_log refusal log h.0 h.1 begun)) shown
   where
-    on_log : (r : Refusal) (log : List ℕ) (stops : IsRefusedAt default_limit log left r) → Appends old middle (lines_of (events stops.taken))
-        → BeginsRefusal Text r middle new → StopsShow (failure_of r) log left old new
-    on_log (refusals.Read at) log stops lines (inl kept) = (at, stops, Appends-kept old middle new (lines_of (events stops.taken)) lines kept)
+    on_log : (r : Refusal) (log : List ℕ) (stops : IsRefusedAt default_limit log left r) → Appends old middle (text_of (events stops.taken))
+        → BeginsRefusal Text r middle new → StopsShow text_of (failure_of r) log left old new
+    on_log (refusals.Read at) log stops lines (inl kept) = (at, stops, Appends-kept old middle new (text_of (events stops.taken)) lines kept)
     on_log (refusals.Read at) log stops lines (inr (own, part)) = absurd own
-    on_log (refusals.Memory at) log stops lines (inl kept) = (at, stops, Appends-kept old middle new (lines_of (events stops.taken)) lines kept)
+    on_log (refusals.Memory at) log stops lines (inl kept) = (at, stops, Appends-kept old middle new (text_of (events stops.taken)) lines kept)
     on_log (refusals.Memory at) log stops lines (inr (own, part)) = absurd own
     on_log r log stops lines (inl kept) =
-        inr (inr (r, own_refusal log left r tt stops, part-after old middle new (lines_of (events stops.taken)) (refused_line r) lines (part-kept middle new (refused_line r) kept)))
+        inr (inr (r, own_refusal log left r tt stops, part-after old middle new (text_of (events stops.taken)) (refused_line r) lines (part-kept middle new (refused_line r) kept)))
     on_log r log stops lines (inr (own, part)) =
-        inr (inr (r, own_refusal log left r own stops, part-after old middle new (lines_of (events stops.taken)) (refused_line r) lines part))
+        inr (inr (r, own_refusal log left r own stops, part-after old middle new (text_of (events stops.taken)) (refused_line r) lines part))
 
 -- all lines were written, and then not flushed
-pub lines_stop : (remaining left old middle new : Option (List ℕ)) (status : Result ℕ Failure)
-    → IfSome remaining (λ log. ShowsLog log left (Ok tt) old middle) → Keeps middle new → IfErr status (λ failure. failure ≡ failures.Write)
-    → IfErr status (λ failure. IfSome remaining (λ log. StopsShow failure log left old new))
-lines_stop remaining left old middle new (Ok s) shown kept failed = tt
-lines_stop remaining left old middle new (Err failure) shown kept failed =
-    for_log remaining (λ log. ShowsLog log left (Ok tt) old middle) (λ log. StopsShow failure log left old new)
-    (λ log h. subst (λ f. StopsShow f log left old new) (sym failed)
-    (inr (inl (h.0, Appends-kept old middle new (lines_of (events log)) h.1 kept)))) shown
+pub lines_stop : (text_of : List Placed → List ℕ) (remaining left old middle new : Option (List ℕ)) (status : Result ℕ Failure)
+    → IfSome remaining (λ log. Shows text_of log left (Ok tt) old middle) → Keeps middle new → IfErr status (λ failure. failure ≡ failures.Write)
+    → IfErr status (λ failure. IfSome remaining (λ log. StopsShow text_of failure log left old new))
+lines_stop text_of remaining left old middle new (Ok s) shown kept failed = tt
+lines_stop text_of remaining left old middle new (Err failure) shown kept failed =
+    for_log remaining (λ log. Shows text_of log left (Ok tt) old middle) (λ log. StopsShow text_of failure log left old new)
+    (λ log h. subst (λ f. StopsShow text_of f log left old new) (sym failed)
+    (inr (inl (h.0, Appends-kept old middle new (text_of (events log)) h.1 kept)))) shown

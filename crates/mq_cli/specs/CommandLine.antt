@@ -20,9 +20,9 @@ flag name = record (new_rule name) { long = Some name; action = Some SetTrue }
 abbrev pub check_command : App
 check_command = with_rule (with_rule (with_rule (new_app (codes "check")) (new_rule (codes "FILE"))) (flag (codes "json"))) (flag (codes "summary"))
 
--- `show [FILE]`
+-- `show [--long] [FILE]`
 abbrev pub show_command : App
-show_command = with_rule (new_app (codes "show")) (new_rule (codes "FILE"))
+show_command = with_rule (with_rule (new_app (codes "show")) (new_rule (codes "FILE"))) (flag (codes "long"))
 
 -- `packet HEX`
 abbrev pub packet_command : App
@@ -56,27 +56,28 @@ pub record Request : Type 0 where
   pub operand : Option Text
   pub json : Bool
   pub summary : Bool
+  pub long : Bool
   pub role : Option Text
 
 -- `check` on this file, with these flags
 abbrev pub check_request : Option Text → Bool → Bool → Request
-check_request file json summary = record { subcommand = codes "check"; operand = file; json = json; summary = summary; role = None }
+check_request file json summary = record { subcommand = codes "check"; operand = file; json = json; summary = summary; long = false; role = None }
 
--- `show` of this file
-abbrev pub show_request : Option Text → Request
-show_request file = record { subcommand = codes "show"; operand = file; json = false; summary = false; role = None }
+-- `show` of this file, with this flag
+abbrev pub show_request : Option Text → Bool → Request
+show_request file long = record { subcommand = codes "show"; operand = file; json = false; summary = false; long = long; role = None }
 
 -- `packet` on these digits; the operand may not be left out
 abbrev pub packet_request : Option Text → Request
-packet_request hex = record { subcommand = codes "packet"; operand = Some (unwrap_or hex []); json = false; summary = false; role = None }
+packet_request hex = record { subcommand = codes "packet"; operand = Some (unwrap_or hex []); json = false; summary = false; long = false; role = None }
 
 -- `rules` for the end that this word names
 abbrev pub rules_request : Option Text → Request
-rules_request role = record { subcommand = codes "rules"; operand = None; json = false; summary = false; role = role }
+rules_request role = record { subcommand = codes "rules"; operand = None; json = false; summary = false; long = false; role = role }
 
 -- `explain` of this code; the operand may not be left out
 abbrev pub explain_request : Option Text → Request
-explain_request code = record { subcommand = codes "explain"; operand = Some (unwrap_or code []); json = false; summary = false; role = None }
+explain_request code = record { subcommand = codes "explain"; operand = Some (unwrap_or code []); json = false; summary = false; long = false; role = None }
 
 -- the value of a flag is `true`
 abbrev pub is_true : Option Text → Bool
@@ -86,7 +87,7 @@ is_true (Some value) = bytes_eq value (codes "true")
 -- the request in a subcommand's name and matches
 abbrev pub request_in : Text × List Row → Request
 request_in met = if bytes_eq met.0 (codes "check") then check_request (first_of (codes "FILE") met.1) (is_true (first_of (codes "json") met.1)) (is_true (first_of (codes "summary") met.1))
-    else (if bytes_eq met.0 (codes "show") then show_request (first_of (codes "FILE") met.1)
+    else (if bytes_eq met.0 (codes "show") then show_request (first_of (codes "FILE") met.1) (is_true (first_of (codes "long") met.1))
     else (if bytes_eq met.0 (codes "packet") then packet_request (first_of (codes "HEX") met.1)
     else (if bytes_eq met.0 (codes "rules") then rules_request (first_of (codes "role") met.1)
     else explain_request (first_of (codes "CODE") met.1))))
@@ -102,7 +103,7 @@ faults_of words = fault_of mqjudge words
 -- the request that a task stands for
 abbrev pub request_by : Task → Request
 request_by (Check file json summary) = check_request (option_map string_bytes file) json summary
-request_by (Show file) = show_request (option_map string_bytes file)
+request_by (Show file long) = show_request (option_map string_bytes file) long
 request_by (Packet hex) = packet_request (Some (string_bytes hex))
 request_by (Rules role) = rules_request (option_map string_bytes role)
 request_by (Explain code) = explain_request (Some (string_bytes code))
@@ -126,7 +127,7 @@ path_named (Some operand) = if bytes_eq operand (codes "-") then None else Some 
 -- the path of the log that a task reads: none where it reads standard input, or no log
 abbrev pub path_of : Task → Option Text
 path_of (Check file json summary) = path_named (option_map string_bytes file)
-path_of (Show file) = path_named (option_map string_bytes file)
+path_of (Show file long) = path_named (option_map string_bytes file)
 path_of (Packet hex) = None
 path_of (Rules role) = None
 path_of (Explain code) = None

@@ -9,9 +9,9 @@ use Rattle.mq_judge.specs.declared.Refusal.TheVariants as refusals
 use Rattle.mq_judge.specs.OnePacket.{IsOnePacket, packet_report}
 use Rattle.mq_judge.specs.Report.{refused_line, refused_report, report}
 use Rattle.mq_judge.specs.Running.{IsFaultless, IsJudged, default_limit}
-use Rattle.mq_judge.specs.Showing.{WritesBeginning, lines_of}
+use Rattle.mq_judge.specs.Showing.{WritesBeginning, lines_of, long_lines_of}
 use Rattle.mq_judge.specs.Stopping.{IsRefusedAt, IsRefusedNext}
-use Rattle.mq_trace.specs.Events.{events}
+use Rattle.mq_trace.specs.Events.{Placed, events}
 use Rattle.mq_trace.specs.Refusals.{refused}
 use Rattle.mq_cli.specs.Explaining.{explained_for}
 use Rattle.mq_cli.specs.Listing.{listed_for}
@@ -90,11 +90,16 @@ form_of false false = Text
 abbrev pub RefusesCheck : Form → List ℕ → (old new : Option (List ℕ)) → Type 0
 RefusesCheck form log old new = (refusal : Refusal) × IsRefusedBy log refusal × Appends old new (refused_report form refusal)
 
--- Showing the log was refused: the lines of the events that are complete before the refused byte were written, then the line on the
+-- the lines of events, long or short
+abbrev pub text_for : (long : Bool) → List Placed → List ℕ
+text_for false = lines_of
+text_for true = long_lines_of
+
+-- Showing the log by this text of events was refused: that of the events that are complete before the refused byte was written, then the line on the
 -- refusal, and nothing else.
-abbrev pub RefusesShow : List ℕ → (old new : Option (List ℕ)) → Type 0
-RefusesShow log old new = (refusal : Refusal) × (by : IsRefusedBy log refusal)
-    × Appends old new (lines_of (events by.taken) ++ refused_line refusal)
+abbrev pub RefusesShow : (List Placed → List ℕ) → List ℕ → (old new : Option (List ℕ)) → Type 0
+RefusesShow text_of log old new = (refusal : Refusal) × (by : IsRefusedBy log refusal)
+    × Appends old new (text_of (events by.taken) ++ refused_line refusal)
 
 -- In what follows, `left` are the bytes that the log's reader has left, where that is known.
 
@@ -111,17 +116,17 @@ StopsCheck form failures.Memory log left old new = ((at : ℕ) × IsRefusedAt de
 StopsCheck form failures.Write log left old new = (IsJudged log × AppendsPart old new (report form log))
     ⊎ ((refusal : Refusal) × IsRefusedBy log refusal × AppendsPart old new (refused_report form refusal))
 
--- Showing the log failed. Reading it failed, or memory ran out: the lines of the events before were written. Or writing failed: a
--- beginning of the lines was written; or all of them, where only a flush failed; or those before the refused byte, and part of the
--- line on the refusal.
-abbrev pub StopsShow : Failure → List ℕ → (left old new : Option (List ℕ)) → Type 0
-StopsShow failures.Read log left old new = (at : ℕ) × (stops : IsRefusedAt default_limit log left (refusals.Read at))
-    × Appends old new (lines_of (events stops.taken))
-StopsShow failures.Memory log left old new = (at : ℕ) × (stops : IsRefusedAt default_limit log left (refusals.Memory at))
-    × Appends old new (lines_of (events stops.taken))
-StopsShow failures.Write log left old new = WritesBeginning log old new
-    ⊎ ((IsJudged log × Appends old new (lines_of (events log)))
-    ⊎ ((refusal : Refusal) × (by : IsRefusedBy log refusal) × AppendsAfter old new (lines_of (events by.taken)) (refused_line refusal)))
+-- Showing the log by this text of events failed. Reading it failed, or memory ran out: the text of the events before was written. Or
+-- writing failed: a beginning of the text was written; or all of it, where only a flush failed; or that of the events before the
+-- refused byte, and part of the line on the refusal.
+abbrev pub StopsShow : (List Placed → List ℕ) → Failure → List ℕ → (left old new : Option (List ℕ)) → Type 0
+StopsShow text_of failures.Read log left old new = (at : ℕ) × (stops : IsRefusedAt default_limit log left (refusals.Read at))
+    × Appends old new (text_of (events stops.taken))
+StopsShow text_of failures.Memory log left old new = (at : ℕ) × (stops : IsRefusedAt default_limit log left (refusals.Memory at))
+    × Appends old new (text_of (events stops.taken))
+StopsShow text_of failures.Write log left old new = WritesBeginning text_of log old new
+    ⊎ ((IsJudged log × Appends old new (text_of (events log)))
+    ⊎ ((refusal : Refusal) × (by : IsRefusedBy log refusal) × AppendsAfter old new (text_of (events by.taken)) (refused_line refusal)))
 
 -- the line that says what failed
 abbrev pub failure_line : Failure → List ℕ
@@ -169,7 +174,7 @@ no_statement_line code = codes "mqjudge: no statement " ++ code ++ 10 ∷ []
 -- 0: the log is judged and has no fault; the log that is shown can be judged; the bytes are one packet; the word names an end, or a statement
 abbrev pub HasPassed : Task → Option (List ℕ) → Type 0
 HasPassed (Check file json summary) input = IfSome input (λ log. IsJudged log × IsFaultless log)
-HasPassed (Show file) input = IfSome input IsJudged
+HasPassed (Show file long) input = IfSome input IsJudged
 HasPassed (Packet hex) input = SpellsPacket (string_bytes hex)
 HasPassed (Rules role) input = IsSome (listed_for (option_map string_bytes role))
 HasPassed (Explain code) input = IsSome (explained_for (string_bytes code))
@@ -177,7 +182,7 @@ HasPassed (Explain code) input = IsSome (explained_for (string_bytes code))
 -- 1: the log is judged and has faults; the bytes are no packet, or not one alone
 abbrev pub HasFailed : Task → Option (List ℕ) → Type 0
 HasFailed (Check file json summary) input = IfSome input (λ log. IsJudged log × (¬ IsFaultless log))
-HasFailed (Show file) input = ⊥
+HasFailed (Show file long) input = ⊥
 HasFailed (Packet hex) input = SpellsNoPacket (string_bytes hex)
 HasFailed (Rules role) input = ⊥
 HasFailed (Explain code) input = ⊥
@@ -185,7 +190,7 @@ HasFailed (Explain code) input = ⊥
 -- 0 and 1: the report was written, or the lines of the log's events, the line on the packet, the lines of the statements, or what explains one, and nothing else
 abbrev pub IsReportedOn : Task → Option (List ℕ) → Option (List ℕ) → Option (List ℕ) → Type 0
 IsReportedOn (Check file json summary) input old new = IfSome input (λ log. Appends old new (report (form_of json summary) log))
-IsReportedOn (Show file) input old new = IfSome input (λ log. Appends old new (lines_of (events log)))
+IsReportedOn (Show file long) input old new = IfSome input (λ log. Appends old new (text_for long (events log)))
 IsReportedOn (Packet hex) input old new = AppendsLineOf (string_bytes hex) old new
 IsReportedOn (Rules role) input old new = Tells (listed_for (option_map string_bytes role)) old new
 IsReportedOn (Explain code) input old new = Tells (explained_for (string_bytes code)) old new
@@ -193,7 +198,7 @@ IsReportedOn (Explain code) input old new = Tells (explained_for (string_bytes c
 -- 2: the log is refused, and the line that says so was written: alone by a check, after those of the events before where it is shown
 abbrev pub IsRefusedOn : Task → (input old new : Option (List ℕ)) → Type 0
 IsRefusedOn (Check file json summary) input old new = IfSome input (λ log. RefusesCheck (form_of json summary) log old new)
-IsRefusedOn (Show file) input old new = IfSome input (λ log. RefusesShow log old new)
+IsRefusedOn (Show file long) input old new = IfSome input (λ log. RefusesShow (text_for long) log old new)
 IsRefusedOn (Packet hex) input old new = ⊥
 IsRefusedOn (Rules role) input old new = ⊥
 IsRefusedOn (Explain code) input old new = ⊥
@@ -201,7 +206,7 @@ IsRefusedOn (Explain code) input old new = ⊥
 -- 3: the digits of a packet are none, or a word names no end, or no statement
 abbrev pub IsMisnamed : Task → Type 0
 IsMisnamed (Check file json summary) = ⊥
-IsMisnamed (Show file) = ⊥
+IsMisnamed (Show file long) = ⊥
 IsMisnamed (Packet hex) = IsErr (decode_of (string_bytes hex))
 IsMisnamed (Rules role) = listed_for (option_map string_bytes role) ≡ None
 IsMisnamed (Explain code) = explained_for (string_bytes code) ≡ None
@@ -209,7 +214,7 @@ IsMisnamed (Explain code) = explained_for (string_bytes code) ≡ None
 -- what is told then
 abbrev pub misnamed_line : Task → List ℕ
 misnamed_line (Check file json summary) = []
-misnamed_line (Show file) = []
+misnamed_line (Show file long) = []
 misnamed_line (Packet hex) = not_hex_line
 misnamed_line (Rules role) = no_role_line (unwrap_or (option_map string_bytes role) [])
 misnamed_line (Explain code) = no_statement_line (string_bytes code)
@@ -243,7 +248,7 @@ FailsTelling text line old new error_old error_new =
 -- 4: what failed, and what was written until then
 abbrev pub StopsTask : Failure → Task → (input left old new : Option (List ℕ)) → Type 0
 StopsTask failure (Check file json summary) input left old new = IfSome input (λ log. StopsCheck (form_of json summary) failure log left old new)
-StopsTask failure (Show file) input left old new = IfSome input (λ log. StopsShow failure log left old new)
+StopsTask failure (Show file long) input left old new = IfSome input (λ log. StopsShow (text_for long) failure log left old new)
 StopsTask failure (Packet hex) input left old new = StopsPacket failure (string_bytes hex) old new
 StopsTask failure (Rules role) input left old new = StopsTelling failure (listed_for (option_map string_bytes role)) old new
 StopsTask failure (Explain code) input left old new = StopsTelling failure (explained_for (string_bytes code)) old new

@@ -27,7 +27,7 @@ const CHECK_HELP: &str =
 const SHOW_HELP: &str =
     "Statuses: 0 where the log was shown, 2 for a log that is refused, 3 for misuse,\n\
     4 where reading or writing failed or memory ran out.\n\
-    Example: mqjudge show session.log\n\
+    Example: mqjudge show --long session.log\n\
     The log's format: docs/LOG_FORMAT.md";
 
 const PACKET_HELP: &str = "Statuses: 0 for one packet, 1 for bytes that aren't, 3 for misuse,\n\
@@ -62,6 +62,8 @@ pub enum Task {
     Show {
         /// The log's path.
         file: Option<String>,
+        /// Say what else each packet says.
+        long: bool,
     },
     /// Say what the bytes are that `hex` spells, which are to be one packet.
     Packet {
@@ -88,7 +90,7 @@ impl Task {
     {
         match self {
             Task::Check { file, .. } => path_named(file),
-            Task::Show { file } => path_named(file),
+            Task::Show { file, .. } => path_named(file),
             Task::Packet { .. } | Task::Rules { .. } | Task::Explain { .. } => None,
         }
     }
@@ -117,7 +119,7 @@ pub enum Stop {
 }
 
 /// Reads the words of a command line, `mqjudge check [--json] [--summary] [FILE]`,
-/// `mqjudge show [FILE]`,
+/// `mqjudge show [--long] [FILE]`,
 /// `mqjudge packet HEX`, `mqjudge rules [--role ROLE]` or `mqjudge explain CODE`, of which the
 /// first is the program's name. A request for help or the version comes as a `Stop`, and so do
 /// words that are no such command line.
@@ -136,7 +138,9 @@ pub fn parse<S: AsStr>(alloc: Global, words: &[S]) -> Result<Task, Stop>
                 is_true(check.get_str("summary")),
             ),
             None => match matches.subcommand_matches("show") {
-                Some(show) => show_task(alloc, show.get_str("FILE")),
+                Some(show) => {
+                    show_task(alloc, show.get_str("FILE"), is_true(show.get_str("long")))
+                }
                 None => match matches.subcommand_matches("packet") {
                     Some(packet) => packet_task(alloc, packet.get_str("HEX")),
                     None => match matches.subcommand_matches("rules") {
@@ -212,10 +216,15 @@ fn show_command<'a>(alloc: Global) -> Result<Command<'a>, AllocError>
     ensures local { IfOk result (λ command. (out-Command command).has_globals ≡ false) }
 {
     let file = Arg::new(alloc, "FILE").help("The log; standard input where it is left out or `-`");
+    let long = Arg::new(alloc, "long")
+        .help("Show the other fields and the properties of each packet")
+        .long("long")
+        .action(ArgAction::SetTrue);
     Command::new(alloc, "show")
         .about("Shows each event of a log")
         .after_help(SHOW_HELP)
-        .arg(file)
+        .arg(file)?
+        .arg(long)
 }
 
 // The definition of `packet`.
@@ -290,10 +299,10 @@ fn check_task(alloc: Global, file: Option<&str>, json: bool, summary: bool) -> R
     })
 }
 
-// The task of `show` on this operand.
-fn show_task(alloc: Global, file: Option<&str>) -> Result<Task, Stop>
+// The task of `show` on this operand, with this flag.
+fn show_task(alloc: Global, file: Option<&str>, long: bool) -> Result<Task, Stop>
     ensures task { IfOk result (λ task.
-        request_by task ≡ show_request (option_map (λ path. path.now) file.entry)) }
+        request_by task ≡ show_request (option_map (λ path. path.now) file.entry) long) }
     ensures stop { IfErr result (λ stop. stop ≡ Stop.Memory) }
 {
     let file = match file {
@@ -303,7 +312,7 @@ fn show_task(alloc: Global, file: Option<&str>) -> Result<Task, Stop>
         },
         None => None,
     };
-    Ok(Task::Show { file })
+    Ok(Task::Show { file, long })
 }
 
 // The task of `packet` on this operand; an operand that is left out counts as an empty one.

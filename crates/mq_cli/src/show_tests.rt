@@ -87,8 +87,21 @@ static ROWS: [(&[u8], &str, u8); 6] = [
     ),
 ];
 
+// The lines of the first log, long.
+const LONG_LINES: &str = "1 record 1 OPEN\n\
+    2 record 2 SENT CONNECT size 15 client \"\" clean-start 1 keep-alive 60\n\
+    3 record 3 RECV CONNACK size 5 code 0x00 session-present 0\n\
+    4 record 4 SENT PUBLISH size 9 qos 1 dup 0 id 1 retain 0 topic \"a\" payload 1\n\
+    5 record 5 RECV PUBACK size 4 id 1 code 0x00\n\
+    6 record 6 REST\n\
+    7 record 7 CLOSE\n";
+
 fn shown_of<R: Read>(alloc: Global, input: &mut R) -> Result<Told, Stop> {
-    let task = parse(alloc, &["mqjudge", "show"])?;
+    shown_by(alloc, &["mqjudge", "show"], input)
+}
+
+fn shown_by<R: Read>(alloc: Global, words: &[&str], input: &mut R) -> Result<Told, Stop> {
+    let task = parse(alloc, words)?;
     let mut output = Vec::new(alloc);
     let mut error = Vec::new(alloc);
     let status = perform(alloc, &task, input, &mut output, &mut error);
@@ -112,6 +125,17 @@ fn shows_logs_whole_and_byte_by_byte(rt: HostRuntime) -> Result<(), Fail> {
             assert!(rt; told.says(status, lines), "{lines}");
         }
     }
+    Ok(())
+}
+
+#[test]
+fn shows_long_lines(rt: HostRuntime) -> Result<(), Fail> {
+    let told = shown_by(
+        rt.alloc(),
+        &["mqjudge", "show", "--long"],
+        &mut &WHOLE_LOG[..],
+    )?;
+    assert!(rt; told.says(PASSED, LONG_LINES));
     Ok(())
 }
 
@@ -186,11 +210,11 @@ fn tells_of_a_show_without_memory(rt: HostRuntime) {
 
 #[test]
 fn reads_the_words_of_a_show(rt: HostRuntime) -> Result<(), Fail> {
-    let Task::Show { file } = parse(rt.alloc(), &["mqjudge", "show"])? else {
+    let Task::Show { file, .. } = parse(rt.alloc(), &["mqjudge", "show"])? else {
         return Err("no show".into());
     };
     assert!(rt; file.is_none());
-    let Task::Show { file } = parse(rt.alloc(), &["mqjudge", "show", "a.log"])? else {
+    let Task::Show { file, .. } = parse(rt.alloc(), &["mqjudge", "show", "a.log"])? else {
         return Err("no show".into());
     };
     let path = file.ok_or("no file")?;

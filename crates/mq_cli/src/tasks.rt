@@ -8,11 +8,11 @@ ghost use Rattle.mq_cli.specs.Told.{AppendsLineOf, AppendsPart, BeginsRefusal, F
 ghost use Rattle.mq_cli.specs.Told.{FailsStop, FailsTask, HasFailed, HasPassed, IsMisnamed};
 ghost use Rattle.mq_cli.specs.Told.{IsOfLog, IsRefusedOn, IsReportedOn, IsShownOn, IsToldOn, RefusesCheck};
 ghost use Rattle.mq_cli.specs.Told.{RefusesShow, SpellsNoPacket, SpellsPacket, StopsCheck, StopsShow};
-ghost use Rattle.mq_cli.specs.Told.{Tells, failure_line, failure_of, form_of, misnamed_line, no_role_line, no_statement_line, not_hex_line};
+ghost use Rattle.mq_cli.specs.Told.{Tells, text_for, failure_line, failure_of, form_of, misnamed_line, no_role_line, no_statement_line, not_hex_line};
 ghost use Rattle.mq_judge.specs.OnePacket.{IsOnePacket, packet_report};
 ghost use Rattle.mq_judge.specs.Report.{refused_report, report};
 ghost use Rattle.mq_judge.specs.Running.{IsFaultless, IsJudged};
-ghost use Rattle.mq_judge.specs.Showing.{lines_of};
+ghost use Rattle.mq_judge.specs.Showing.{Shows};
 ghost use Rattle.mq_trace.specs.Events.{events};
 
 use crate::command_line::{Stop, Task};
@@ -21,7 +21,9 @@ use crate::failure::{FAILED, FAULTY, Failure, MISUSED, PASSED, REFUSED};
 use crate::listing::{listing, role_named};
 use crate::writing::{flush, write_out};
 use hex::{FromHexError, decode};
-use mq_judge::{Form, Outcome, Refusal, RunFault, run, show, write_packet, write_refused};
+use mq_judge::{
+    Form, Outcome, Refusal, RunFault, run, show, show_long, write_packet, write_refused,
+};
 use mq_rules::{Role, Rule};
 use std::alloc::{AllocError, Global};
 use std::io::{Read, Write};
@@ -72,7 +74,7 @@ pub fn perform<R: Read, W: Write, E: Write>(
             Ok(status) => status,
             Err(failure) => failure.report(error),
         },
-        Task::Show { .. } => match show_log(alloc, input, output) {
+        Task::Show { long, .. } => match show_log(alloc, *long, input, output) {
             Ok(status) => status,
             Err(failure) => failure.report(error),
         },
@@ -121,22 +123,44 @@ fn check<R: Read, W: Write>(
     }
 }
 
-// Shows the events of a log.
-fn show_log<R: Read, W: Write>(alloc: Global, input: &mut R, output: &mut W) -> Result<u8, Failure>
+// Shows the events of a log, in long lines or short ones.
+fn show_log<R: Read, W: Write>(
+    alloc: Global,
+    long: bool,
+    input: &mut R,
+    output: &mut W,
+) -> Result<u8, Failure>
     ensures passed { IfOk result (λ status. status ≡ PASSED → IfSome (R.remaining input.old) IsJudged) }
     ensures shown { IfOk result (λ status. status ≡ PASSED → IfSome (R.remaining input.old)
-        (λ log. Appends (W.contents output.old) (W.contents output.new) (lines_of (events log)))) }
+        (λ log. Appends (W.contents output.old) (W.contents output.new) (text_for long (events log)))) }
     ensures refused { IfOk result (λ status. status ≡ REFUSED → IfSome (R.remaining input.old)
-        (λ log. RefusesShow log (W.contents output.old) (W.contents output.new))) }
+        (λ log. RefusesShow (text_for long) log (W.contents output.old) (W.contents output.new))) }
     ensures stops { IfErr result (λ failure. IfSome (R.remaining input.old)
-        (λ log. StopsShow failure log (R.remaining input.new) (W.contents output.old) (W.contents output.new))) }
+        (λ log. StopsShow (text_for long) failure log (R.remaining input.new) (W.contents output.old) (W.contents output.new))) }
     ensures statuses { IfOk result (λ status. (status ≡ PASSED) ⊎ (status ≡ REFUSED)) }
 {
-    match show(alloc, input, output) {
+    match show_lines(alloc, long, input, output) {
         Ok(()) => see_out(PASSED, output),
         Err(RunFault::Refused(why)) => refuse(alloc, &why, Form::Text, output),
         Err(RunFault::Write) => Err(Failure::Write),
         Err(RunFault::Memory) => Err(Failure::Memory),
+    }
+}
+
+// Writes the lines of the events of a log, long or short.
+fn show_lines<R: Read, W: Write>(
+    alloc: Global,
+    long: bool,
+    input: &mut R,
+    output: &mut W,
+) -> Result<(), RunFault>
+    ensures { IfSome (R.remaining input.old) (λ log. Shows (text_for long) log (R.remaining input.new) result
+        (W.contents output.old) (W.contents output.new)) }
+{
+    if long {
+        show_long(alloc, input, output)
+    } else {
+        show(alloc, input, output)
     }
 }
 

@@ -1,6 +1,5 @@
 use crate::command_line::{Stop, parse};
 use crate::explanations::explanation;
-use crate::listing::RULES;
 use crate::tasks::perform;
 use mq_rules::{Role, Rule};
 use std::alloc::Global;
@@ -46,7 +45,7 @@ fn is_explained(rule: Rule) -> bool {
 
 #[test]
 fn explains_each_statement(rt: HostRuntime) {
-    for rule in &RULES {
+    for rule in Rule::all() {
         assert!(rt; is_explained(*rule), "{rule:?}");
     }
 }

@@ -1,8 +1,8 @@
 use Rattle.std.proofs.Common.{ap, map, refl, sym, true≢false, Some, Option, ◌∙◌, inl, inr}
 use Rattle.std.proofs.lemmas.Result.{IfOk-weaker}
 use Rattle.clap.specs.Words.{Text}
-use Rattle.mq_cli.specs.CommandLine.{explain_request, is_true, packet_request, rules_request, show_request}
-use Rattle.mq_cli.proofs.CommandLineLemmas.{subcommand_is_named, request_is_check, request_is_explain, request_is_packet, request_is_rules, request_is_show, same_check}
+use Rattle.mq_cli.specs.CommandLine.{explain_request, is_true, packet_request, rules_request}
+use Rattle.mq_cli.proofs.CommandLineLemmas.{subcommand_is_named, request_is_check, request_is_explain, request_is_packet, request_is_rules, request_is_show, same_check, same_show}
 use Rattle.mq_cli.proofs.command_line.parse.Goals as goal
 
 pub unreachable-requires : goal.unreachable-requires
@@ -29,14 +29,15 @@ returns-in-Some-subcommand_matches-clause-task g c =
     let words = map g.S.AsStr.text c.args.words.now in
     let met = c.in-Some-subcommand_matches in
     let given = c.get_str-in-Some-subcommand_matches.ensures in
+    let long = c.is_true-in-Some-subcommand_matches.ensures ∙ ap is_true c.get_str-in-Some-subcommand_matches-2.ensures in
     let asked = request_is_show words c.in-Ok.matches met.show.now c.in-Ok.ensures.met (met.ensures.found.0 refl) met.ensures.rows in
-    IfOk-weaker c.show_task.result _ _ (λ task h. asked ∙ ap (λ (f : Option Text). Some (show_request f)) (sym given) ∙ ap Some (sym h)) c.show_task.ensures.task
+    IfOk-weaker c.show_task.result _ _ (λ task h. asked ∙ same_show (sym given) (sym long) ∙ ap Some (sym h)) c.show_task.ensures.task
 
 pub returns-in-Some-subcommand_matches-2-clause-task : goal.returns-in-Some-subcommand_matches-2-clause-task
 returns-in-Some-subcommand_matches-2-clause-task g c =
     let words = map g.S.AsStr.text c.args.words.now in
     let met = c.in-Some-subcommand_matches-2 in
-    let given = c.get_str-in-Some-subcommand_matches-2.ensures in
+    let given = c.get_str-in-Some-subcommand_matches-2-2.ensures in
     let asked = request_is_packet words c.in-Ok.matches met.packet.now c.in-Ok.ensures.met (met.ensures.found.0 refl) met.ensures.rows in
     IfOk-weaker c.packet_task.result _ _ (λ task h. asked ∙ ap (λ (f : Option Text). Some (packet_request f)) (sym given) ∙ ap Some (sym h)) c.packet_task.ensures.task
 
