@@ -1,7 +1,9 @@
-//! The yardstick of `mqjudge`: it shows a log as `mqjudge show` does, and a packet as `mqjudge packet` does.
+//! The yardstick of `mqjudge`: it shows a log as `mqjudge show` does, and a packet as `mqjudge packet` does; or it counts a
+//! log's events, which takes the reading that `mqjudge check` does too, without its judging.
 //! Plain Rust that shares nothing with it: beside speed, an independent check of what it shows.
 //!
 //! usage: baseline [FILE]
+//!        baseline count FILE
 //!        baseline packet HEX
 //!
 //! Build: rustc -O --edition 2021 -o baseline bench/baseline.rs
@@ -57,18 +59,36 @@ impl<W: Write> Sink for Show<W> {
     }
 }
 
+/// Counts the events.
+struct Count {
+    events: u64,
+}
+
+impl Sink for Count {
+    fn event(&mut self, _position: u32, _record: u32, _event: &Event) -> io::Result<()> {
+        self.events += 1;
+        Ok(())
+    }
+}
+
 fn main() -> ExitCode {
     let words: Vec<String> = env::args().skip(1).collect();
     let words: Vec<&str> = words.iter().map(String::as_str).collect();
     let status = match words[..] {
         ["packet", hex] => show_packet(hex),
         [] => show(io::stdin().lock()),
+        ["count", file] => match File::open(file) {
+            Ok(file) => count(file),
+            Err(_) => fail("read failed"),
+        },
         [file] => match File::open(file) {
             Ok(file) => show(file),
             Err(_) => fail("read failed"),
         },
         _ => {
-            eprintln!("usage: baseline [FILE]\n       baseline packet HEX");
+            eprintln!(
+                "usage: baseline [FILE]\n       baseline count FILE\n       baseline packet HEX"
+            );
             MISUSE
         }
     };
@@ -80,22 +100,29 @@ fn fail(why: &str) -> u8 {
     FAILED
 }
 
-fn show(mut input: impl Read) -> u8 {
+/// Reads a log to its end, or until it is refused or a write fails.
+fn read_log<S: Sink>(mut input: impl Read, log: &mut Log<S>) -> io::Result<Result<(), Stop>> {
+    let mut piece = vec![0; PIECE];
+    loop {
+        let result = match input.read(&mut piece) {
+            Ok(0) => return Ok(log.finish()),
+            Ok(count) => log.feed(&piece[..count]),
+            Err(error) if error.kind() == ErrorKind::Interrupted => continue,
+            Err(error) => return Err(error),
+        };
+        if result.is_err() {
+            return Ok(result);
+        }
+    }
+}
+
+fn show(input: impl Read) -> u8 {
     let mut log = Log::new(Show {
         output: io::stdout().lock(),
         text: Vec::new(),
     });
-    let mut piece = vec![0; PIECE];
-    let stop = loop {
-        let result = match input.read(&mut piece) {
-            Ok(0) => break log.finish(),
-            Ok(count) => log.feed(&piece[..count]),
-            Err(error) if error.kind() == ErrorKind::Interrupted => continue,
-            Err(_) => return fail("read failed"),
-        };
-        if result.is_err() {
-            break result;
-        }
+    let Ok(stop) = read_log(input, &mut log) else {
+        return fail("read failed");
     };
     let mut show = log.into_sink();
     let status = match stop {
@@ -108,6 +135,20 @@ fn show(mut input: impl Read) -> u8 {
         Err(Stop::Write) => return fail("write failed"),
     };
     match show.flush() {
+        Ok(()) => status,
+        Err(_) => fail("write failed"),
+    }
+}
+
+fn count(input: impl Read) -> u8 {
+    let mut log = Log::new(Count { events: 0 });
+    let (text, status) = match read_log(input, &mut log) {
+        Ok(Ok(())) => (format!("{} events", log.into_sink().events), 0),
+        Ok(Err(Stop::Refused(refusal))) => (refusal.to_string(), 2),
+        Ok(Err(Stop::Write)) => return fail("write failed"),
+        Err(_) => return fail("read failed"),
+    };
+    match writeln!(io::stdout(), "{text}") {
         Ok(()) => status,
         Err(_) => fail("write failed"),
     }
