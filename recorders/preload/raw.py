@@ -1,4 +1,4 @@
-"""Reads the raw files that preload.c writes: one for each connection, with an opening line and then records.
+"""Reads the raw files of the preloaded library: one for each connection, with an opening line and then records.
 
 A file may be cut short anywhere, as when the program was killed. It is read up to its last whole record.
 """
@@ -24,7 +24,7 @@ RETURN = 1 << 62  # marks the place of a record whose call's return is meant
 
 
 class What(IntEnum):
-    """What a record tells. preload.c has the same numbers, but for RETURNED."""
+    """What a record tells. preload.h has the same numbers, but for RETURNED."""
 
     RECEIVED = 1
     SENT = 2
