@@ -167,7 +167,7 @@ class Framer:
     """Cuts one direction of a connection into Control Packets, and keeps the bodies of one type, but for long ones."""
 
     def __init__(self, wanted: int) -> None:
-        self.wanted = wanted
+        self.wanted: int | None = wanted  # None: no body is kept any more
         self.is_sound = True  # so far each packet could be cut, and has the flags of its type
         self.is_lost = False
         self._header = bytearray()
@@ -178,6 +178,10 @@ class Framer:
     def is_between(self) -> bool:
         """No packet has begun and isn't whole yet."""
         return not self._header and not self._missing
+
+    def keep_none(self) -> None:
+        """Keeps no body any more."""
+        self.wanted = self._body = None
 
     def feed(self, data: bytes) -> list[tuple[int, bytes | None]]:
         """The packets that these bytes end: the type of each, and its body if it is wanted and short enough."""
@@ -231,11 +235,13 @@ class Framer:
 def file_name(identifier: bytes) -> str:
     """A Client Identifier as part of a file's name.
 
-    Letters, digits, `-` and `_` stand for themselves, other bytes as `%XX`. What is too long is cut, and has a hash
-    instead. Two Client Identifiers don't get the same name.
+    Letters, digits, `_` and `-` stand for themselves, but for a `-` that comes first, and other bytes as `%XX`: the
+    name is no path, and no option of a program. What is too long is cut, and has a hash instead. Two Client
+    Identifiers don't get the same name.
     """
-    plain = b"ABCDEFGHIJKLMNOPQRSTUVWXYZabcdefghijklmnopqrstuvwxyz0123456789-_"
-    name = "".join(chr(byte) if byte in plain else f"%{byte:02X}" for byte in identifier)
+    plain = b"ABCDEFGHIJKLMNOPQRSTUVWXYZabcdefghijklmnopqrstuvwxyz0123456789_"
+    is_plain = [byte in plain or (byte == ord("-") and at > 0) for at, byte in enumerate(identifier)]
+    name = "".join(chr(byte) if is_so else f"%{byte:02X}" for byte, is_so in zip(identifier, is_plain))
     if len(name) <= NAME_MOST:
         return name
     return f"{name[:NAME_MOST]}~{hashlib.sha256(identifier).hexdigest()[:32]}"
@@ -294,11 +300,12 @@ class LogFile:
         if self._file < 0:
             self._file = os.open(self.path, os.O_WRONLY | os.O_APPEND | os.O_CLOEXEC)
         try:
-            if os.write(self._file, data) != len(data):
-                raise OSError("the disk took only a part of a record")
-        except OSError:
+            written = os.write(self._file, data)
+            while written < len(data):  # the next call says why: most likely the disk is full
+                written += os.write(self._file, data[written:])
+        except OSError as error:
             os.ftruncate(self._file, self._size)
-            raise
+            raise OSError(error.errno, error.strerror, str(self.path)) from None
         self._size += len(data)
 
 
@@ -339,6 +346,11 @@ class Connection:
         """A REST can be written. Where in doubt, none is."""
         is_sound = self.client.is_sound and self.server.is_sound
         return self.log is not None and self.is_accepted and is_sound and not self.has_disconnect and not self.has_rest
+
+    def keep_no_packets(self) -> None:
+        """Looks for no CONNECT and no CONNACK any more."""
+        self.client.keep_none()
+        self.server.keep_none()
 
     @property
     def is_between_packets(self) -> bool:
@@ -484,8 +496,8 @@ class Recorder:
     def missing(self, key: Hashable) -> None:
         """Bytes of this connection weren't seen: its log ends here, and what goes on of its session is left out.
 
-        A new session of its Client Identifier is recorded again. Where that isn't known yet, the connection may be of any Client
-        Identifier, so all sessions that went before are left out from their next connection on.
+        A new session of its Client Identifier is recorded again. Where that isn't known yet, the connection may be of
+        any Client Identifier, so all sessions that went before are left out from their next connection on.
         """
         connection = self._connections.get(key)
         if connection is None or connection.is_left_out:
@@ -551,9 +563,11 @@ class Recorder:
             connection.has_disconnect = True
         elif packet == CONNECT and kind is Kind.FROM_CLIENT and connection.connect is None:
             connection.connect = read_connect(body or b"")
+            connection.client.keep_none()
             self._check_version(connection)
         elif packet == CONNACK and kind is Kind.FROM_SERVER and not connection.is_answered:
             connection.is_answered, connection.connack = True, read_connack(body or b"")
+            connection.server.keep_none()
             if connection.log is None and not connection.is_left_out:
                 self._place(connection)
 
@@ -580,6 +594,7 @@ class Recorder:
             return
         if connection.connect is None:
             self._place(connection)  # it has no Client Identifier, and a log of its own
+            connection.keep_no_packets()
             return
         name = self._name(connection)
         if name is not None and not connection.is_waiting:
@@ -706,6 +721,7 @@ class Recorder:
     def _leave_out(self, connection: Connection, why: str) -> None:
         self._tell(f"not recorded: {why}")
         connection.is_left_out = True
+        connection.keep_no_packets()
         self._take_kept(connection)
 
     def _forget_some(self) -> None:

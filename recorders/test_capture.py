@@ -25,7 +25,7 @@ sys.dont_write_bytecode = True  # the repository stays as it is
 sys.path.insert(0, str(Path(__file__).resolve().parent))
 import captures
 from captures import ACK, FIN, RST, SYN, Capture, End, Half, Piece, Segment, parse_server
-from testing import accepts, find, free_port, joined, make_certificate, missing, mosquitto, verdict, wait_until
+from testing import PAHO, accepts, find, free_port, joined, make_certificate, missing, mosquitto, verdict, wait_until
 
 PSH = 0x08
 CONNACK, CONNACK_RESUMED = bytes.fromhex("2003000000"), bytes.fromhex("2003010000")
@@ -553,7 +553,7 @@ class Live(Case):
             with self.tool("mosquitto_sub", port, *kept, "-E"):
                 pass
             with self.tool("mosquitto_sub", port, "-i", "sub", "-q", "2", "-t", "a/#", "-C", "4") as subscriber:
-                time.sleep(0.5)
+                time.sleep(2)
                 for qos in "012":
                     self.publish(port, "-i", f"pub{qos}", "-t", f"a/{qos}", "-q", qos, "-m", f"message {qos}")
                 (self.folder / "large").write_bytes(bytes(300_000))
@@ -561,7 +561,7 @@ class Live(Case):
                 self.assertEqual(subscriber.wait(20), 0)
             with self.tool("mosquitto_sub", port, *kept, "-C", "3") as subscriber:
                 self.assertEqual(subscriber.wait(20), 0)
-        self.assertEqual(self.run_on(path, "--server", f"127.0.0.1:{port}", "--rest", "0.2"), 0)
+        self.assertEqual(self.run_on(path, "--server", f"127.0.0.1:{port}", "--rest", "1"), 0)
         self.assertEqual(self.told, [])
         names = ("kept", "large", "pub0", "pub1", "pub2", "sub")
         self.assertEqual(self.verdicts(), {f"{name}.1.{end.value}": "pass" for name in names for end in End})
@@ -569,7 +569,7 @@ class Live(Case):
         self.assertIn("REST", self.log("sub.1.client"))
         self.assertEqual(self.log("sub.1.server")[-1], "CLOSE")
 
-    @unittest.skipIf(missing("openssl", "module:paho.mqtt"), missing("openssl", "module:paho.mqtt"))
+    @unittest.skipIf(missing("openssl", PAHO), missing("openssl", PAHO))
     def test_tls_with_its_keys(self) -> None:
         import paho.mqtt.client as paho
 
@@ -581,7 +581,7 @@ class Live(Case):
             with tcpdump(path, port):
                 for version in (ssl.TLSVersion.TLSv1_2, ssl.TLSVersion.TLSv1_3):
                     self.exchange(paho.Client(version.name, protocol=paho.MQTTv5), port, certificate, keys, version)
-        options = ("--server", f"127.0.0.1:{port}", "--rest", "0.2")
+        options = ("--server", f"127.0.0.1:{port}", "--rest", "1")
         self.assertEqual(self.run_on(path, *options, "--keylog", str(keys)), 0)
         self.assertEqual(self.told, [])
         names = ("TLSv1_2", "TLSv1_3")
@@ -610,7 +610,7 @@ class Live(Case):
             for qos in range(3):
                 client.publish("a/b", payload, qos).wait_for_publish(10)
         wait_until(lambda: len(received) == 6)
-        time.sleep(0.5)
+        time.sleep(2)
         client.disconnect()
         client.loop_stop()
 

@@ -21,9 +21,9 @@ from typing import Any
 
 sys.dont_write_bytecode = True  # the repository stays as it is
 sys.path.insert(0, str(Path(__file__).resolve().parent))
-from testing import free_port, joined, make_certificate, missing, mosquitto, verdict, wait_until, words
+from testing import PAHO, free_port, joined, make_certificate, missing, mosquitto, verdict, wait_until, words
 
-ABSENT = missing("module:paho.mqtt")
+ABSENT = missing(PAHO)
 if not ABSENT:
     import paho.mqtt.client as paho
     from paho.mqtt.packettypes import PacketTypes

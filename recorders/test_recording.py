@@ -5,6 +5,7 @@ usage: recorders/test_recording.py
 """
 from __future__ import annotations
 
+import errno
 import os
 import sys
 import tempfile
@@ -412,6 +413,7 @@ class Safety(Case):
     def test_client_identifiers_make_no_paths_and_stay_apart(self) -> None:
         self.assertEqual(file_name(b"../../a b"), "%2E%2E%2F%2E%2E%2Fa%20b")
         self.assertEqual(file_name("é".encode()), "%C3%A9")
+        self.assertEqual(file_name(b"-rf-x"), "%2Drf-x")
         long = [file_name(b"x" * 65_000 + bytes((end,))) for end in b"yz"]
         self.assertNotEqual(long[0], long[1])
         self.assertLess(max(map(len, long)), 120)
@@ -435,15 +437,34 @@ class Safety(Case):
         self.assertGreater((self.folder / "@unnamed.1.client.log").stat().st_size, 40 * 65_536)
         self.assertEqual(len(self.told), 1)
 
+    def test_packets_that_do_not_end_are_bounded_in_all(self) -> None:
+        recorder = self.recorder()
+        for key in range(100):
+            recorder.opened(key)
+            recorder.from_client(key, bytes.fromhex("10c0843d") + bytes(900_000))
+        kept = sum(len(connection.client._body or b"") for connection in recorder._connections.values())
+        self.assertLessEqual(max(kept, recorder._kept_bytes), recording.KEPT_MOST_IN_ALL)
+
+    def test_only_the_first_packet_of_its_type_is_kept(self) -> None:
+        recorder = self.recorder()
+        self.accept(recorder, 1, b"a")
+        connection = recorder._connections[1]
+        recorder.from_client(1, bytes.fromhex("10 ff ff 3f") + bytes(500_000))
+        recorder.from_server(1, bytes.fromhex("20 ff ff 3f") + bytes(500_000))
+        self.assertEqual([framer._body for framer in (connection.client, connection.server)], [None, None])
+
     def test_a_failed_write_stops_recording_with_one_line(self) -> None:
         recorder = self.recorder()
         self.accept(recorder, 1, b"a")
         self.accept(recorder, 2, b"b")
 
+        sizes = iter((3, 2))
+
         def full(file: int, data: bytes) -> int:
-            written = write(file, data[:3])
-            self.assertEqual(written, 3)
-            return written
+            if (size := next(sizes, 0)) == 0:
+                raise OSError(errno.ENOSPC, os.strerror(errno.ENOSPC))
+            self.assertEqual(write(file, data[:size]), size)
+            return size
 
         write = os.write
         with mock.patch.object(recording.os, "write", full):
@@ -452,7 +473,7 @@ class Safety(Case):
         recorder.closed(1)
         recorder.finish()
         self.assertEqual(len(self.told), 1, self.told)
-        self.assertIn("recording stopped", self.told[0])
+        self.assertRegex(self.told[0], r"^recording stopped: .*No space left on device: .*a\.1\.client\.log")
         self.assertEqual(self.logs(), {"a.1.client.log": opening(b"a"), "b.1.client.log": opening(b"b")})
 
     def test_a_folder_that_is_not_there_stops_recording(self) -> None:

@@ -9,12 +9,20 @@ import socket
 import subprocess
 import sys
 import time
-from collections.abc import Callable, Iterator
+from collections.abc import Callable, Iterable, Iterator
 from pathlib import Path
+from typing import IO, Any
 
 TOP = Path(__file__).resolve().parent.parent
-PROGRAM = TOP / "crates/mq_cli/out/mq_cli"
-PATHS = os.environ.get("PATH", os.defpath) + os.pathsep + "/usr/sbin"
+BUILT = TOP / "crates/mq_cli/out/mq_cli"
+PROGRAM_VARIABLE = "MQJUDGE"  # in the environment: the program that judges
+PATHS = os.pathsep.join((os.environ.get("PATH", os.defpath), "/usr/sbin", "/usr/local/sbin"))  # of servers
+PAHO = "paho-mqtt for Python"
+MODULES = {PAHO: "paho"}
+HOST = "127.0.0.1"
+PATIENCE = 40.0  # seconds for what has to come
+STOP_SECONDS = 5.0
+PORTS_TRIED = 5
 KINDS = {1: "OPEN", 2: "SENT", 3: "RECV", 4: "CLOSE", 5: "REST", 6: "RELEASE"}
 
 
@@ -23,52 +31,97 @@ def find(name: str) -> str | None:
     return shutil.which(name, path=PATHS)
 
 
-def missing(*names: str) -> str:
-    """Which of these aren't installed: programs, or modules as `module:NAME`. Empty if all are."""
-    absent = [
-        name.removeprefix("module:")
+def missing_names(names: Iterable[str]) -> list[str]:
+    """Which of these aren't installed: programs, or a module, as it is called in MODULES."""
+    return [
+        name
         for name in names
-        if (importlib.util.find_spec(name[7:].partition(".")[0]) if name.startswith("module:") else find(name)) is None
+        if (importlib.util.find_spec(MODULES[name]) if name in MODULES else find(name)) is None
     ]
+
+
+def missing(*names: str) -> str:
+    """Says which of these aren't installed. Empty if all are."""
+    absent = missing_names(names)
     return f"{', '.join(absent)} isn't installed" if absent else ""
 
 
+def python_with(name: str) -> str | None:
+    """A Python that has a module: this one, or else the system's."""
+    if not missing(name):
+        return sys.executable
+    system = "/usr/bin/python3"
+    command = [system, "-c", f"import sys, {MODULES[name]}; sys.exit(sys.version_info < (3, 11))"]
+    try:
+        return system if subprocess.run(command, capture_output=True).returncode == 0 else None
+    except OSError:
+        return None
+
+
+def judge_program() -> str:
+    """The program that judges: the environment's, the built one, that of the PATH, or else the second opinion."""
+    built = str(BUILT) if BUILT.is_file() else shutil.which("mqjudge")
+    return os.environ.get(PROGRAM_VARIABLE) or built or str(TOP / "bench/reference.py")
+
+
 def free_port() -> int:
-    with socket.create_server(("127.0.0.1", 0)) as listener:
+    with socket.create_server((HOST, 0)) as listener:
         return listener.getsockname()[1]
 
 
-def wait_until(condition: Callable[[], bool], seconds: float = 10.0) -> None:
+def wait_until(condition: Callable[[], Any], what: str = "what is waited for", seconds: float = PATIENCE) -> None:
     """Waits for a condition, and fails where it doesn't come."""
     until = time.monotonic() + seconds
     while not condition():
         if time.monotonic() > until:
-            raise TimeoutError("what was waited for didn't come")
+            raise TimeoutError(f"waited in vain: {what}")
         time.sleep(0.01)
 
 
 def accepts(port: int) -> bool:
     try:
-        socket.create_connection(("127.0.0.1", port), 1).close()
+        socket.create_connection((HOST, port), 1).close()
     except OSError:
         return False
     return True
 
 
 @contextlib.contextmanager
-def mosquitto(folder: Path, settings: str = "", port: int | None = None) -> Iterator[int]:
-    """A mosquitto on 127.0.0.1 with these settings, which come behind its listener's line; gives its port."""
-    port = free_port() if port is None else port
-    user = "user root\n" if os.geteuid() == 0 else ""
-    config = folder / "mosquitto.conf"
-    config.write_text(f"{user}persistence false\nlistener {port} 127.0.0.1\nallow_anonymous true\n{settings}")
-    command = [find("mosquitto") or "mosquitto", "-c", str(config)]
-    with subprocess.Popen(command, stdout=subprocess.DEVNULL, stderr=subprocess.DEVNULL) as process:
+def process(*words: object, output: IO[bytes] | int = subprocess.DEVNULL) -> Iterator[subprocess.Popen[bytes]]:
+    """A process that is stopped at the end."""
+    child = subprocess.Popen([str(word) for word in words], stdin=subprocess.DEVNULL, stdout=output, stderr=output)
+    try:
+        yield child
+    finally:
+        child.terminate()
         try:
-            wait_until(lambda: accepts(port))
-            yield port
-        finally:
-            process.terminate()
+            child.wait(STOP_SECONDS)
+        except subprocess.TimeoutExpired:
+            child.kill()
+            child.wait()
+
+
+@contextlib.contextmanager
+def broker(folder: Path, settings: str = "") -> Iterator[tuple[int, subprocess.Popen[bytes]]]:
+    """A mosquitto with these settings, which come after its listener's: its port, and its process."""
+    config = folder / "mosquitto.conf"
+    with contextlib.ExitStack() as stack:
+        for _ in range(PORTS_TRIED):  # another program may be faster to take a port that is free
+            port = free_port()
+            config.write_text(f"listener {port} {HOST}\nallow_anonymous true\n{settings}")
+            child = stack.enter_context(process(find("mosquitto") or "mosquitto", "-c", config))
+            wait_until(lambda: child.poll() is not None or accepts(port), "mosquitto listens")
+            if child.poll() is None:
+                break
+        yield port, child
+
+
+@contextlib.contextmanager
+def mosquitto(folder: Path, settings: str = "") -> Iterator[int]:
+    """A mosquitto on 127.0.0.1 with these settings that stays the user who starts it; gives its port."""
+    user = "user root\n" if os.geteuid() == 0 else ""
+    with broker(folder, f"{user}{settings}") as (port, _):
+        yield port
 
 
 def make_certificate(key: Path, certificate: Path) -> None:
@@ -104,8 +157,7 @@ def joined(log: bytes) -> list[str]:
 
 def verdict(log: Path) -> str:
     """What the judge says of a log: `pass`, a refusal, or the codes of its faults."""
-    command = [str(PROGRAM)] if PROGRAM.exists() else [sys.executable, "-B", str(TOP / "bench/reference.py")]
-    run = subprocess.run([*command, "check", str(log)], capture_output=True, text=True, check=False)
+    run = subprocess.run([judge_program(), "check", str(log)], capture_output=True, text=True, check=False)
     lines = run.stdout.splitlines()
     if not lines:
         return f"status {run.returncode}: {run.stderr.strip()}"

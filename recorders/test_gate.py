@@ -1,0 +1,87 @@
+#!/usr/bin/env python3
+"""Tests of .ci/run, with programs of a few lines in place of `rt` and of recorders/test.
+
+usage: recorders/test_gate.py
+"""
+from __future__ import annotations
+
+import os
+import shutil
+import subprocess
+import sys
+import tempfile
+import unittest
+from pathlib import Path
+
+sys.dont_write_bytecode = True  # the repository stays as it is
+sys.path.insert(0, str(Path(__file__).resolve().parent))
+from testing import PATIENCE, TOP
+
+
+class Gate(unittest.TestCase):
+    def setUp(self) -> None:
+        folder = tempfile.TemporaryDirectory()
+        self.addCleanup(folder.cleanup)
+        self.top = Path(folder.name)
+        for name in (".ci", "recorders", "bin"):
+            (self.top / name).mkdir()
+        shutil.copy(TOP / ".ci/run", self.top / ".ci/run")
+
+    def script(self, name: str, text: str) -> None:
+        path = self.top / name
+        path.write_text(f"#!/bin/sh\n{text}\n")
+        path.chmod(0o755)
+
+    def gate(self, said: str, status: int, missing: str = "", recorders: int = 0) -> tuple[int, list[str]]:
+        """The status and the lines of the gate, where `rt ci` and the recorders' tests say this and end so."""
+        self.script("bin/rt", f'test "$*" = ci && pwd && echo "{said}"\nexit {status}')
+        test = f'test "$1" = --missing && echo "{missing}" && exit 0\necho "recorders run"\nexit {recorders}'
+        self.script("recorders/test", test)
+        words = [self.top / ".ci/run"]
+        paths = f"{self.top / 'bin'}{os.pathsep}{os.environ.get('PATH', os.defpath)}"
+        answer = subprocess.run(
+            words, cwd="/", env=os.environ | {"PATH": paths}, capture_output=True, text=True, timeout=PATIENCE
+        )
+        lines = answer.stdout.splitlines()
+        self.assertEqual(lines[0], str(self.top.resolve()))
+        return answer.returncode, lines[1:] + answer.stderr.splitlines()
+
+    def test_both_pass(self) -> None:
+        said = "14 passed, 0 failed"
+        self.assertEqual(self.gate(said, 0), (0, [said, "recorders run", said]))
+
+    def test_the_recorders_fail(self) -> None:
+        said = "14 passed, 0 failed"
+        for status in (1, 2, 130):
+            wanted = (1, [said, "recorders run", "14 passed, 1 failed"])
+            self.assertEqual(self.gate(said, 0, recorders=status), wanted)
+
+    def test_the_gate_fails(self) -> None:
+        said = "12 passed, 2 failed"
+        self.assertEqual(self.gate(said, 1), (1, [said, "recorders run", said]))
+        self.assertEqual(self.gate(said, 2), (2, [said, "recorders run", said]))
+        self.assertEqual(self.gate(said, 1, recorders=1), (1, [said, "recorders run", "12 passed, 3 failed"]))
+
+    def test_programs_that_are_not_there(self) -> None:
+        line = "recorders/test isn't run: not installed: tshark, mosquitto"
+        for said, status in (("14 passed, 0 failed", 0), ("12 passed, 2 failed", 1)):
+            self.assertEqual(self.gate(said, status, missing="tshark, mosquitto"), (status, [said, line, said]))
+
+    def test_a_gate_without_a_verdict(self) -> None:
+        for status, wanted in ((0, 1), (1, 1), (2, 2), (137, 137)):
+            line = f"rt ci ended with status {status}, and its last line is no verdict"
+            self.assertEqual(self.gate("Killed", status), (wanted, ["Killed", line]))
+
+    def test_a_test_that_cannot_say_what_is_missing(self) -> None:
+        """It is run all the same, and fails."""
+        said = "14 passed, 0 failed"
+        self.script("recorders/test", "exit 1")
+        self.script("bin/rt", f"pwd\necho {said}")
+        paths = f"{self.top / 'bin'}{os.pathsep}{os.environ.get('PATH', os.defpath)}"
+        environment = os.environ | {"PATH": paths}
+        answer = subprocess.run([self.top / ".ci/run"], env=environment, capture_output=True, text=True)
+        self.assertEqual((answer.returncode, answer.stdout.splitlines()[-1]), (1, "14 passed, 1 failed"))
+
+
+if __name__ == "__main__":
+    unittest.main()

@@ -1,0 +1,259 @@
+#!/usr/bin/env python3
+"""Tests of recorders/judge, with a program of a few lines in place of the judge, and of the examples with the judge.
+
+usage: recorders/test_judge.py
+"""
+from __future__ import annotations
+
+import contextlib
+import os
+import pty
+import signal
+import subprocess
+import sys
+import tempfile
+import unittest
+from pathlib import Path
+from xml.etree import ElementTree
+
+sys.dont_write_bytecode = True  # the repository stays as it is
+sys.path.insert(0, str(Path(__file__).resolve().parent))
+from testing import PATIENCE, TOP, judge_program, wait_until
+
+JUDGE = Path(__file__).resolve().parent / "judge"
+STAND_IN = """#!/bin/sh
+# Says what the log's text says: its lines, and the last one's status.
+test "$1" = check || exit 3
+sed '$d' < "$2"
+exit "$(tail -n 1 "$2")"
+"""
+PASS = "pass 3 events\n0\n"
+FAIL = """fault 5 S01 MQTT-2.2.1-3 decided 5 record 5 offset -
+fault 7 W09 sec-2.2.1 decided 7 record 6 offset 2
+fail 2 faults 9 events
+1
+"""
+REFUSED = "refused 7 Nested at 13\n2\n"
+BROKEN = "mqjudge: read failed\n4\n"
+
+
+class Case(unittest.TestCase):
+    def setUp(self) -> None:
+        folder = tempfile.TemporaryDirectory()
+        self.addCleanup(folder.cleanup)
+        self.folder = Path(folder.name)
+        self.program = self.folder / "program"
+        self.program.write_text(STAND_IN)
+        self.program.chmod(0o755)
+        self.logs = self.folder / "logs"
+        self.logs.mkdir()
+
+    def put(self, **texts: str) -> None:
+        for name, text in texts.items():
+            (self.logs / f"{name}.log").write_text(text)
+
+    def command(self, *words: object, program: object = None) -> list[str]:
+        return [sys.executable, str(JUDGE), *map(str, words or [self.logs]), "--program", str(program or self.program)]
+
+    def judged(self, *words: object, program: object = None) -> tuple[int, str, str]:
+        """The status, and what stands on standard output and standard error."""
+        answer = subprocess.run(self.command(*words, program=program), capture_output=True, text=True, timeout=PATIENCE)
+        return answer.returncode, answer.stdout, answer.stderr
+
+
+class Statuses(Case):
+    def test_the_worst_of_the_logs(self) -> None:
+        wanted = {"a": (PASS, 0), "b": (FAIL, 1), "c": (REFUSED, 2), "d": (BROKEN, 4)}
+        for name, (text, status) in wanted.items():
+            self.put(**{name: text})
+            self.assertEqual(self.judged()[0], status)
+        self.assertEqual(self.judged()[1].splitlines()[-1], "4 logs: 1 pass, 1 fail, 1 refused, 1 failed")
+
+    def test_a_program_that_ends_in_a_way_that_it_has_not(self) -> None:
+        endings = {"fail 1 faults 3 events": 0, "pass 3 events": 1, "": 5, "pass 4 events": 139, "pass 5 events": 3}
+        for text, ending in endings.items():
+            self.put(odd=f"{text}\n{ending}\n")
+            status, printed, _ = self.judged()
+            self.assertEqual((status, printed.splitlines()[0]), (4, f"failed {self.logs}/odd.log"))
+            self.assertIn("the program ended with status", printed)
+
+    def test_a_program_that_is_killed_or_is_none(self) -> None:
+        self.put(a=PASS)
+        self.program.write_text("#!/bin/sh\nkill -9 $$\n")
+        status, printed, _ = self.judged()
+        self.assertEqual((status, "the program ended with status -9" in printed), (4, True))
+        status, printed, _ = self.judged(program=self.folder / "none")
+        self.assertEqual((status, "No such file" in printed), (4, True))
+
+    def test_where_no_log_is(self) -> None:
+        status, printed, told = self.judged()
+        self.assertEqual((status, told), (4, f"judge: no log is in {self.logs}\n"))
+        self.assertEqual(self.judged(self.logs / "none.log", program=judge_program())[0], 4)
+
+    def test_misuse(self) -> None:
+        self.put(a=PASS)
+        for words in ([self.logs, "--jobs", "0"], [self.logs, "--most", "-1"], [self.logs, "--none"], ["--jobs", "2"]):
+            self.assertEqual(self.judged(*words)[0], 3, words)
+
+    def test_output_that_cannot_be_written(self) -> None:
+        self.put(a=FAIL)
+        with open("/dev/full", "w") as full:
+            answer = subprocess.run(self.command(), stdout=full, stderr=subprocess.PIPE, text=True, timeout=PATIENCE)
+        self.assertEqual((answer.returncode, answer.stderr), (4, "judge: [Errno 28] No space left on device\n"))
+        status, _, told = self.judged(self.logs, "--junit", self.folder / "none" / "report.xml")
+        self.assertEqual((status, told.count("\n")), (4, 1))
+
+
+class Printed(Case):
+    def test_what_is_not_a_pass_and_a_table(self) -> None:
+        self.put(a=PASS, b=FAIL, c=REFUSED, d=FAIL)
+        faults = [f"  {line}" for line in FAIL.splitlines()[:2]]
+        wanted = [f"fail {self.logs}/b.log", *faults, f"refused {self.logs}/c.log", "  refused 7 Nested at 13"]
+        wanted += [f"fail {self.logs}/d.log", *faults, "", "code   faults   logs  citation"]
+        wanted += ["S01         2      2  MQTT-2.2.1-3", "W09         2      2  sec-2.2.1", "refused 7 Nested: 1 logs"]
+        wanted += ["", "4 logs: 1 pass, 2 fail, 1 refused, 0 failed"]
+        self.assertEqual(self.judged()[1].splitlines(), wanted)
+
+    def test_no_more_faults_of_a_log_than_are_wanted(self) -> None:
+        fault = FAIL.splitlines()[0]
+        self.put(many=f"{fault}\n" * 1000 + "fail 1000 faults 2000 events\n1\n")
+        for words, count in (([], 20), (["--most", "3"], 3), (["--most", "0"], 0), (["--most", "1000"], 1000)):
+            printed = self.judged(self.logs, *words)[1].splitlines()
+            more = [f"  and {1000 - count} more"] if count < 1000 else []
+            self.assertEqual(printed[1 : count + 2 - (not more)], [f"  {fault}"] * count + more)
+            self.assertIn("S01      1000      1  MQTT-2.2.1-3", printed)
+
+    def test_files_and_folders_each_once(self) -> None:
+        self.put(a=PASS, b=PASS)
+        inner = self.logs / "inner" / "folder.log"
+        inner.mkdir(parents=True)
+        (inner / "c.log").write_text(PASS)
+        (inner / "d.txt").write_text(FAIL)
+        status, printed, _ = self.judged(self.logs, self.logs / "a.log", inner)
+        self.assertEqual((status, printed.splitlines()[-1]), (0, "3 logs: 3 pass, 0 fail, 0 refused, 0 failed"))
+
+    def test_names_that_are_no_text(self) -> None:
+        for name in (b"\xff\xfe.log", b"line\nend.log", b"\x1b[31m.log", b"-.log", b"&<>\".log"):
+            Path(os.fsdecode(os.path.join(os.fsencode(self.logs), name))).write_text(FAIL)
+        report = self.folder / "report.xml"
+        self.assertEqual(self.judged(self.logs, "--junit", report)[0], 1)
+        self.assertEqual(len([*ElementTree.parse(report).iter("testcase")]), 5)
+
+    def test_progress_on_a_terminal(self) -> None:
+        self.put(a=PASS, b=FAIL, c=PASS)
+        here, there = pty.openpty()
+        with open(there, "w") as terminal:
+            answer = subprocess.run(self.command(), stdout=subprocess.PIPE, stderr=terminal, timeout=PATIENCE)
+        shown = os.read(here, 10_000).decode()
+        os.close(here)
+        self.assertEqual(answer.returncode, 1)
+        wanted = ("", "1 of 3 logs", "", "2 of 3 logs", "")
+        self.assertEqual(shown.split("\r")[1:], [f"{line}\x1b[K" for line in wanted])
+        self.assertNotIn("of 3 logs", self.judged()[2])
+
+
+class Reports(Case):
+    def test_junit(self) -> None:
+        self.put(a=PASS, b=FAIL, c=REFUSED, d=BROKEN)
+        report = self.folder / "report.xml"
+        self.assertEqual(self.judged(self.logs, "--junit", report)[0], 4)
+        (suite,) = ElementTree.parse(report).getroot()
+        counts = {name: suite.get(name) for name in ("tests", "failures", "errors", "skipped")}
+        self.assertEqual(counts, {"tests": "4", "failures": "1", "errors": "2", "skipped": "0"})
+        said = [[(part.tag, part.get("type"), part.get("message"), part.text) for part in case] for case in suite]
+        faults = "\n".join(FAIL.splitlines()[:2])
+        refused, broken = REFUSED.splitlines()[0], BROKEN.splitlines()[0]
+        self.assertEqual(
+            said,
+            [
+                [],
+                [("failure", "fail", "2 faults: S01, W09", faults)],
+                [("error", "refused", refused, refused)],
+                [("error", "failed", broken, broken)],
+            ],
+        )
+        self.assertEqual([case.get("name") for case in suite], ["a.log", "b.log", "c.log", "d.log"])
+
+
+class Running(Case):
+    def test_as_many_at_a_time_as_are_wanted(self) -> None:
+        """Each call waits for the three others."""
+        self.program.write_text(
+            f'#!/bin/sh\ncd {self.folder}\ntouch began.$$\n'
+            "for turn in $(seq 600)\n"
+            "do test $(ls began.* | wc -l) = 4 && echo pass 1 events && exit 0; sleep 0.05; done\nexit 4\n"
+        )
+        self.put(a=PASS, b=PASS, c=PASS, d=PASS)
+        self.assertEqual(self.judged(self.logs, "--jobs", "4")[0], 0)
+
+    def test_an_interrupt_ends_it(self) -> None:
+        self.program.write_text(f"#!/bin/sh\ntouch {self.folder}/began\nexec sleep 60\n")
+        self.put(**{f"log{number}": PASS for number in range(100)})
+        words = self.command(self.logs, "--jobs", "2")
+        before = signal.signal(signal.SIGINT, signal.default_int_handler)  # a shell's `&` has it ignored
+        self.addCleanup(signal.signal, signal.SIGINT, before)
+        pipe = subprocess.PIPE
+        child = subprocess.Popen(words, stdout=pipe, stderr=pipe, text=True, start_new_session=True)
+        with contextlib.ExitStack() as stack:
+            stack.callback(lambda: child.poll() is None and os.killpg(child.pid, signal.SIGKILL))
+            wait_until((self.folder / "began").exists, "the program runs")
+            os.killpg(child.pid, signal.SIGINT)
+            self.assertEqual(child.communicate(timeout=PATIENCE), ("", "judge: interrupted\n"))
+        self.assertEqual(child.returncode, 4)
+
+
+class Cut(Case):
+    """Logs that end inside a record, as a recorder may leave them that was killed. The judge itself judges them."""
+
+    def test_they_are_judged_up_to_their_last_whole_record(self) -> None:
+        log = (TOP / "examples/pass.log").read_bytes()
+        borders = [8, 13, 33, 43, 57, 66, 71, 76]
+        for size in range(8, len(log)):
+            (self.logs / f"{size:02}.log").write_bytes(log[:size])
+        status, printed, _ = self.judged(program=judge_program())
+        wanted = []
+        for size in sorted(set(range(8, len(log))) - set(borders)):
+            whole = max(border for border in borders if border < size)
+            note = f"  it ends inside a record: judged are its first {whole} bytes"
+            wanted += [f"pass {self.logs}/{size:02}.log", f"  pass {borders.index(whole)} events", note]
+        self.assertEqual(printed.splitlines()[: len(wanted)], wanted)
+        self.assertEqual((status, printed.splitlines()[-1]), (0, "68 logs: 68 pass, 0 fail, 0 refused, 0 failed"))
+
+    def test_faults_before_the_cut_are_found(self) -> None:
+        log = (TOP / "examples/identifier-in-use.log").read_bytes()
+        (self.logs / "a.log").write_bytes(log[:-1])
+        report = self.folder / "report.xml"
+        status, printed, _ = self.judged(self.logs, "--junit", report, program=judge_program())
+        self.assertEqual(status, 1)
+        self.assertIn("S01", printed)
+        self.assertIn("it ends inside a record", ElementTree.parse(report).findtext(".//failure") or "")
+
+    def test_no_header_is_no_log(self) -> None:
+        for size in range(8):
+            (self.logs / f"{size}.log").write_bytes(b"MQTR\x01\0\0\0"[:size])
+        status, printed, _ = self.judged(program=judge_program())
+        self.assertEqual((status, printed.splitlines()[-1]), (2, "8 logs: 0 pass, 0 fail, 8 refused, 0 failed"))
+
+
+class Examples(unittest.TestCase):
+    """The sessions that are kept as examples."""
+
+    FOLDER = TOP / "examples/sessions"
+
+    def test_each_has_the_report_that_the_judge_gives(self) -> None:
+        for log in sorted(self.FOLDER.glob("*.log")):
+            with self.subTest(log.stem):
+                answer = subprocess.run([judge_program(), "check", str(log)], capture_output=True, text=True)
+                self.assertEqual(answer.stdout, log.with_suffix(".report").read_text())
+
+    def test_each_has_a_sentence(self) -> None:
+        page = (self.FOLDER / "README.md").read_text()
+        names = {path.stem for path in self.FOLDER.iterdir()} - {"README"}
+        self.assertGreaterEqual(len(names), 12)
+        for name in sorted(names):
+            self.assertIn(f"`{name}`", page)
+            self.assertTrue((self.FOLDER / f"{name}.log").is_file() and (self.FOLDER / f"{name}.report").is_file())
+
+
+if __name__ == "__main__":
+    unittest.main()

@@ -1,0 +1,120 @@
+#!/usr/bin/env python3
+"""Tests the lines of README.md under "Record your own session", as they stand there: each gives logs that are passes.
+
+Only the ports are others, and what is slept is longer, for machines that are busy.
+
+usage: recorders/test_readme.py
+"""
+from __future__ import annotations
+
+import os
+import re
+import subprocess
+import sys
+import tempfile
+import unittest
+from collections.abc import Callable
+from pathlib import Path
+from typing import Any
+
+sys.dont_write_bytecode = True  # the repository stays as it is
+HERE = Path(__file__).resolve().parent
+sys.path.insert(0, str(HERE))
+from testing import PAHO, PATHS, PATIENCE, TOP, broker, free_port, judge_program, missing
+
+SLOWER = 3
+CLIENT = """
+import time
+import paho.mqtt.client
+{lines}
+client.connect("127.0.0.1", {port})
+client.loop_start()
+while not client.is_connected():  # what goes before the CONNACK isn't judged
+    time.sleep(0.02)
+client.publish("hello", "world", 2).wait_for_publish(20)
+client.disconnect()
+client.loop_stop()
+"""
+
+
+def blocks() -> dict[str, str]:
+    """The lines for each way, under the words that stand in bold before them."""
+    page = (TOP / "README.md").read_text()
+    section = page.partition("## Record your own session\n")[2].partition("\n## ")[0]
+    ways = [way.partition("**") for way in section.split("\n**")[1:]]
+    return {name: text.partition("\n```\n")[2].partition("\n```")[0] + "\n" for name, _, text in ways}
+
+
+def may_capture() -> bool:
+    """Whether tcpdump is allowed to capture here."""
+    command = ["tcpdump", "-i", "any", "-w", "/dev/null"]
+    with subprocess.Popen(command, stderr=subprocess.PIPE, text=True, env=os.environ | {"PATH": PATHS}) as process:
+        assert process.stderr is not None
+        is_allowed = any("listening" in line for line in iter(process.stderr.readline, ""))
+        process.terminate()
+        return is_allowed
+
+
+def needs(*names: str) -> Callable[[Any], Any]:
+    return unittest.skipIf(bool(missing(*names)), missing(*names))
+
+
+@needs("mosquitto", "mosquitto_pub")
+class Readme(unittest.TestCase):
+    def setUp(self) -> None:
+        folder = tempfile.TemporaryDirectory()
+        self.addCleanup(folder.cleanup)
+        self.folder = Path(folder.name)
+        self.folder.chmod(0o755)  # mosquitto goes on as another user
+        (self.folder / "recorders").symlink_to(HERE)
+        (self.folder / "bin").mkdir()
+        (self.folder / "bin/mqjudge").symlink_to(judge_program())
+        paths = os.pathsep.join((str(self.folder / "bin"), PATHS))
+        self.environment = os.environ | {"PATH": paths, "PYTHONPATH": str(HERE)}
+
+    def run_lines(self, lines: str, ports: dict[int, int]) -> str:
+        """Runs lines in a shell, with other ports than they name, and gives what they print."""
+        for named, port in ports.items():
+            lines = re.sub(rf"\b{named}\b", str(port), lines)
+        lines = re.sub(r"sleep (\d+)", lambda found: f"sleep {SLOWER * int(found[1])}", lines)
+        words = ["bash", "-c", lines]
+        answer = subprocess.run(
+            words, cwd=self.folder, env=self.environment, capture_output=True, text=True, timeout=2 * PATIENCE
+        )
+        self.assertEqual(answer.returncode, 0, f"{lines}\n{answer.stdout}\n{answer.stderr}")
+        return answer.stdout
+
+    def assert_passes(self, printed: str, count: int) -> None:
+        self.assertTrue(printed.endswith(f"{count} logs: {count} pass, 0 fail, 0 refused, 0 failed\n"), printed)
+
+    def test_there_are_four_ways_of_at_most_four_lines(self) -> None:
+        self.assertEqual([*blocks()], ["A proxy", "A preloaded library", "A capture", "In a client"])
+        self.assertLessEqual({text.count("\n") for text in blocks().values()}, {3, 4})
+
+    def test_proxy(self) -> None:
+        with broker(self.folder) as (port, _):
+            self.assert_passes(self.run_lines(blocks()["A proxy"], {1883: port, 1884: free_port()}), 2)
+
+    @needs("cc")
+    def test_preload(self) -> None:
+        self.assert_passes(self.run_lines(blocks()["A preloaded library"], {1885: free_port()}), 1)
+
+    @needs("tshark", "tcpdump")
+    def test_capture(self) -> None:
+        self.folder.chmod(0o777)  # tcpdump goes on as another user
+        if not may_capture():
+            self.skipTest("capturing isn't allowed here")
+        with broker(self.folder) as (port, _):
+            self.assert_passes(self.run_lines(blocks()["A capture"], {1883: port}), 2)
+
+    @needs(PAHO)
+    def test_client(self) -> None:
+        with broker(self.folder) as (port, _):
+            text = CLIENT.format(lines=blocks()["In a client"], port=port)
+            (self.folder / "client.py").write_text(text)
+            self.run_lines(f"{sys.executable} client.py", {})
+        self.assert_passes(self.run_lines("recorders/judge logs", {}), 1)
+
+
+if __name__ == "__main__":
+    unittest.main()
