@@ -43,8 +43,9 @@ class Gate(unittest.TestCase):
             words, cwd="/", env=os.environ | {"PATH": paths}, capture_output=True, text=True, timeout=PATIENCE
         )
         lines = answer.stdout.splitlines()
-        self.assertEqual(lines[0], str(self.top.resolve()))
-        return answer.returncode, lines[1:] + answer.stderr.splitlines()
+        self.assertRegex(lines[0], r"\A[0-9]+ processors, [0-9]+ MB free\Z")
+        self.assertEqual(lines[1], str(self.top.resolve()))
+        return answer.returncode, lines[2:] + answer.stderr.splitlines()
 
     def test_both_pass(self) -> None:
         said = "14 passed, 0 failed"
@@ -71,6 +72,12 @@ class Gate(unittest.TestCase):
         for status, wanted in ((0, 1), (1, 1), (2, 2), (137, 137)):
             line = f"rt ci ended with status {status}, and its last line is no verdict"
             self.assertEqual(self.gate("Killed", status), (wanted, ["Killed", line]))
+
+    def test_steps_say_how_long_it_has_run(self) -> None:
+        said = "fn f: proved\nrt: mq_wire proved\n1 passed, 0 failed"
+        verdict = "1 passed, 0 failed"
+        lines = ["fn f: proved", "rt: mq_wire proved (0 min)", verdict, "recorders run", verdict]
+        self.assertEqual(self.gate(said, 0), (0, lines))
 
     def test_a_test_that_cannot_say_what_is_missing(self) -> None:
         """It is run all the same, and fails."""
