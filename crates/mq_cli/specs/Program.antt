@@ -68,7 +68,7 @@ FindsFaults words given old new =
 abbrev pub Refuses : List Text → Given → Option (List ℕ) → Option (List ℕ) → Type 0
 Refuses words given old new = (task : Task) × AsksFor words task × IsRefusedOn task (input_of given task) old new
 
--- 3: they are no command line, or ask for a packet whose digits are none, or for an end or a statement that there isn't, and the error stream took the text that says so
+-- 3: they are no command line, or ask for a packet whose digits are invalid, or for an end or a statement that there isn't, and the error stream took the text that says so
 abbrev pub IsMisuse : List Text → Option (List ℕ) → Option (List ℕ) → Type 0
 IsMisuse words error_old error_new = ((stop : Stop) × StopsAt words stop × IsToldOn stop error_old error_new)
     ⊎ ((task : Task) × AsksFor words task × IsMisnamed task × Appends error_old error_new (misnamed_line task))

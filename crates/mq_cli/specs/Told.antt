@@ -203,7 +203,7 @@ IsRefusedOn (Packet hex) input old new = ⊥
 IsRefusedOn (Rules role) input old new = ⊥
 IsRefusedOn (Explain code) input old new = ⊥
 
--- 3: the digits of a packet are none, or a word names no end, or no statement
+-- 3: the digits of a packet are invalid, or a word names no end, or no statement
 abbrev pub IsMisnamed : Task → Type 0
 IsMisnamed (Check file json summary) = ⊥
 IsMisnamed (Show file long) = ⊥
@@ -259,7 +259,7 @@ pub record FailsTask (task : Task) (input left old new error_old error_new : Opt
   pub stops : StopsTask failure task input left old new
   pub told : AppendsPart error_old error_new (failure_line failure)
 
--- 4: the digits of a packet are none, or a word names no end, or no statement; and the error stream didn't take the line that says so
+-- 4: the digits of a packet are invalid, or a word names no end, or no statement; and the error stream didn't take the line that says so
 pub record FailsMisnamed (task : Task) (old new error_old error_new : Option (List ℕ)) : Type 0 where
   pub misnamed : IsMisnamed task
   pub unwritten : Keeps old new

@@ -28,7 +28,7 @@ fn lines_of(alloc: Global, rules: &[Rule], role: Option<Role>) -> Result<String,
     Ok(text)
 }
 
-// Puts the line of a statement behind the text, if it is listed.
+// Puts the line of a statement after the text, if it is listed.
 fn add_line(text: &mut String, rule: Rule, role: Option<Role>) -> Result<(), AllocError>
     ensures { OnOk result (string_bytes text.new ≡ string_bytes text.old ++ listed_line role rule) }
 {
@@ -39,7 +39,7 @@ fn add_line(text: &mut String, rule: Rule, role: Option<Role>) -> Result<(), All
     }
 }
 
-// Puts the line of a statement behind the text.
+// Puts the line of a statement after the text.
 fn put_line(text: &mut String, rule: Rule, role: Option<Role>) -> Result<(), AllocError>
     ensures { OnOk result (string_bytes text.new ≡ string_bytes text.old ++ statement_line role rule) }
 {
@@ -53,7 +53,7 @@ fn put_line(text: &mut String, rule: Rule, role: Option<Role>) -> Result<(), All
     text.push_str("\n")
 }
 
-// Puts where a statement stands in MQTT 5.0 behind the text.
+// Puts where a statement stands in MQTT 5.0 after the text.
 fn put_citation(text: &mut String, rule: Rule, role: Option<Role>) -> Result<(), AllocError>
     ensures { OnOk result (string_bytes text.new ≡ string_bytes text.old ++ citation_for role rule) }
 {
@@ -67,7 +67,7 @@ fn put_citation(text: &mut String, rule: Rule, role: Option<Role>) -> Result<(),
     }
 }
 
-// Puts both citations behind the text, or the one that there is, or that both are.
+// Puts both citations after the text, or the one that there is, or that both are.
 fn put_both(text: &mut String, client: &str, server: &str) -> Result<(), AllocError>
     ensures { OnOk result (string_bytes text.new ≡ string_bytes text.old ++ both_citations client.now server.now) }
 {

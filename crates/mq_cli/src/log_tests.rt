@@ -270,7 +270,7 @@ static ROWS: [Row; 27] = [
         status: FAULTY,
         report: "fault 6 W09 sec-2.2.1 decided 6 record 6 offset 5\nfail 1 faults 6 events\n",
     },
-    // Behind a Remaining Length that is none, nothing is a packet.
+    // After an invalid Remaining Length nothing is a packet.
     Row {
         role: CLIENT,
         parts: &[

@@ -175,7 +175,7 @@ fn tells_of_a_failed_write(rt: HostRuntime) -> Result<(), Fail> {
     Ok(())
 }
 
-// With each allocation failing in turn, the answer is the log's, or that memory ran out, behind the lines until then.
+// With each allocation failing in turn, the answer is the log's, or that memory ran out, after the lines until then.
 #[test]
 fn tells_of_a_show_without_memory(rt: HostRuntime) {
     let mut output = Cursor::new([0; 1024]);

@@ -32,7 +32,7 @@ use std::io::{Read, Write};
 ///
 /// A check judges the log that `input` gives, and writes the report, or the line on a refused log,
 /// to `output`: 0 for no fault, 1 for faults, 2 for a refused log. To show a log is to write a line
-/// for each event to `output`: 0, or 2 for a refused log, with the line on it behind those of the
+/// for each event to `output`: 0, or 2 for a refused log, with the line on it after those of the
 /// events before. A packet's line is written to `output`: 0 where the bytes are one packet, else 1;
 /// where `hex` spells no bytes the status is 3, which is told on `error`. The lines of the
 /// statements, or what explains one, are written to `output`: 0, or 3 where the word names no end,
@@ -233,7 +233,7 @@ fn tell_packet<W: Write>(bytes: &[u8], output: &mut W) -> Result<u8, Failure>
     }
 }
 
-// Tells that the digits of a packet are none, and gives the status.
+// Says that the digits of a packet are invalid, and gives the status.
 fn refuse_hex<E: Write>(error: &mut E) -> u8
     ensures told { result ≡ MISUSED
         → Appends (E.contents error.old) (E.contents error.new) not_hex_line }

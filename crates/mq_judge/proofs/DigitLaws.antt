@@ -28,7 +28,7 @@ digits_between (suc k) n low high small =
     let tenth : length (decimal (n / 10)) ≡ k + 1 = digits_between k (n / 10) (omega arith) (omega arith) (omega arith) in
     omega (arith, tenth, digit_more n (omega arith) small)
 
--- Of a number, all digits behind the first ones are written: those that the rest has.
+-- Of a number, all digits after the first ones are written: those that the rest has.
 pub record LeavesDigits (number rest at : ℕ) (digits : List ℕ) : Type 0 where
   pub count : at ≡ length (decimal rest)
   pub parts : decimal number ≡ decimal rest ++ drop at digits

@@ -12,7 +12,7 @@ use Rattle.mq_packet.specs.Spelled.{IsSpelled}
 use Rattle.mq_wire.specs.Spellings.{varint_spelling}
 use Rattle.mq_judge.specs.OnePacket.{IsOnePacket}
 
--- behind the spelling of a length stands the rest
+-- after the spelling of a length stands the rest
 behind_length : (first : ℕ) (spelling rest bytes : List ℕ) (start : ℕ) → bytes ≡ first ∷ (spelling ++ rest) → start ≡ 1 + length spelling → drop start bytes ≡ rest
 behind_length first spelling rest bytes start is at =
     (let next : start ≡ suc (length spelling) = omega (arith, at) in
@@ -46,7 +46,7 @@ nothing : (l : List ℕ) → length l ≡ 0 → l ≡ []
 nothing [] e = refl
 nothing (b ∷ l) e = absurd (omega arith)
 
--- A frame that no bytes follow has all the bytes, and its body all those behind its fixed header.
+-- A frame that no bytes follow has all the bytes, and its body all those after its fixed header.
 pub frame_ends : (bytes : List ℕ) (first start end : ℕ) → BeginsWithFrame bytes first start end → length bytes ≤ end → end ≡ length bytes
 frame_ends bytes first start end h all = (let lies = frame_lies bytes first start end h in omega (arith, lies.size))
 

@@ -58,7 +58,7 @@ impl Lines {
         self.len = 0;
     }
 
-    /// Puts a text behind what waits.
+    /// Puts a text after what waits.
     ///
     /// # Errors
     ///
@@ -71,7 +71,7 @@ impl Lines {
         self.put_bytes(text.as_bytes())
     }
 
-    /// Puts bytes behind what waits.
+    /// Puts bytes after what waits.
     ///
     /// # Errors
     ///
@@ -90,7 +90,7 @@ impl Lines {
         Ok(())
     }
 
-    /// Puts a number in decimal digits behind what waits.
+    /// Puts a number in decimal digits after what waits.
     ///
     /// # Errors
     ///

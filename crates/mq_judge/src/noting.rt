@@ -8,7 +8,7 @@ use mq_rules::{Memory, Note, Seen};
 use mq_trace::{Event, Place3, Refusal, Sink};
 use std::alloc::Global;
 
-/// The events that were heard, the oldest first.
+/// The events that were received, the oldest first.
 #[derive(Drop)]
 pub struct Notes {
     alloc: Global,
@@ -44,7 +44,7 @@ impl Notes {
         Ok(())
     }
 
-    /// How many events were heard: the newest one's position.
+    /// How many events were received: the newest one's position.
     pub fn count(&self) -> u32
         ensures { IsPlaced (reverse self.now.seen.items) → result ≡ length self.now.seen.items }
     {

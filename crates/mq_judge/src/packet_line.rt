@@ -77,7 +77,7 @@ impl Finding {
     }
 }
 
-// Puts a finding's text behind the lines that wait.
+// Puts a finding's text after the lines that wait.
 fn put_finding(lines: &mut Lines, found: Finding) -> fmt::Result
     ensures { OnOk result (lines.new ≡ lines.old ++ finding_text found) }
 {
@@ -91,7 +91,7 @@ fn put_finding(lines: &mut Lines, found: Finding) -> fmt::Result
     }
 }
 
-// Puts a finding's line behind them.
+// Puts a finding's line after them.
 fn put_line(lines: &mut Lines, found: Finding) -> fmt::Result
     ensures { OnOk result (lines.new ≡ lines.old ++ line (finding_text found)) }
 {
@@ -113,7 +113,7 @@ fn write_finding<W: Write>(found: Finding, writer: &mut W) -> Result<(), RunFaul
 }
 
 /// Writes the line that says what these bytes are, which are to be one Control Packet (MQTT 5.0, section 2.1), and answers
-/// whether they are: one frame, with nothing before or behind it, that spells a packet. It takes no memory.
+/// whether they are: one frame, with nothing before or after it, that spells a packet. It takes no memory.
 ///
 /// The line is `<TYPE> size <n>` for a packet, with ` qos <q> dup <d>` for a PUBLISH and ` id <i>` where there is a Packet
 /// Identifier; `BAD <code> offset <n>` for a frame that breaks a rule, with the field's place; `other version <n>` for a

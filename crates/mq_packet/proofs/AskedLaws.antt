@@ -88,7 +88,7 @@ pub asked_of-none : (asks : Bool) (bytes : List ℕ) → asked_at asks bytes ≡
 unfolding asked_of
 asked_of-none asks bytes e = within_step (length bytes) asks bytes (omega arith) ∙ ap (λ (o : Option (AskedFilter × List ℕ)). asked_then o (asked_within (length bytes) asks)) e
 
--- One stands there, and others behind it.
+-- One stands there, and others after it.
 pub asked_of-some : (asks : Bool) (bytes : List ℕ) (f : AskedFilter) (left : List ℕ) → asked_at asks bytes ≡ Some (f, left) → asked_of asks bytes ≡ f ∷ asked_of asks left
 unfolding asked_of
 asked_of-some asks bytes f left e =

@@ -52,7 +52,7 @@ HasLength n pingresp = n ≡ 0
 HasLength n (disconnect code list) = Unit {0}
 HasLength n (auth code list) = Unit {0}
 
--- Behind n bytes of a body, the fields of the format make it that long, whatever their values are.
+-- After n bytes of a body, the fields of the format make it that long, whatever their values are.
 abbrev Measures : Format → ℕ → Type 0
 Measures (done packet) n = HasLength n packet
 Measures (rest packet) n = (bytes : List ℕ) → HasLength (n + length bytes) (packet bytes)
@@ -61,7 +61,7 @@ Measures (missing rule) n = Unit {0}
 Measures (field kind objection next) n = (value : Value kind) → objection value ≡ None → Measures (next value) (n + length (spelling kind value))
 Measures (at_end whole more) n = Measures whole n × Measures more n
 
--- The same behind as many bytes.
+-- The same after as many bytes.
 measured_at : (format : Format) (m n : ℕ) → m ≡ n → Measures format m → Measures format n
 measured_at format m n e h = subst (λ (k : ℕ). Measures format k) e h
 

@@ -29,7 +29,7 @@ code_read table left code new e =
 pub code_shorter : (table : List ℕ) (left : Left) (code : ℕ) (new : Left) → read_field byte (code_objection table) left ≡ Ok (code, new) → length new.rest < length left.rest
 code_shorter table left code new e = omega (arith, ap length (code_read table left code new e))
 
--- What is left behind a code.
+-- What is left after a code.
 abbrev onwards : ℕ → List ℕ → (List ℕ → Entry) → List ℕ → ℕ × Left → Result Entry DecodeFault
 onwards n table packet before x = read (codes_format n table packet (before ++ x.0 ∷ [])) x.1
 
@@ -44,7 +44,7 @@ finish : (n : ℕ) (table : List ℕ) (packet : List ℕ → Entry) (before : Li
 finish zero table packet before left none = rw none refl
 finish (suc n) table packet before left none = rw none refl
 
--- Where the loop stands: behind these codes, and what is left gives what the whole gives.
+-- Where the loop stands: after these codes, and what is left gives what the whole gives.
 pub record Goes (table : List ℕ) (start left : Left) : Type 0 where
   pub before : List ℕ
   pub parts : start.rest ≡ before ++ left.rest

@@ -34,7 +34,7 @@ use Rattle.mq_packet.specs.Spelled.{spelling, Begin}
 abbrev pub left_from : ℕ → List ℕ → Left
 left_from at bytes = record { at = at; rest = bytes }
 
--- What stands at the front of these bytes: the value, spelled, and this left behind it.
+-- What stands at the front of these bytes: the value, spelled, and this left after it.
 pub record Front (kind : Kind) (at : ℕ) (bytes : List ℕ) (value : Value kind) (new : Left) : Type 0 where
   pub begin : Begin kind bytes value new.rest
   pub behind : new ≡ left_from (at + length (spelling kind value)) new.rest

@@ -129,7 +129,7 @@ module _ (next : AskedFilter → Format) where
   abbrev asked_with : List ℕ → Option ℕ → AskedFilter
   asked_with filter options = record { filter = filter; options = options }
 
-  -- What is left behind a filter.
+  -- What is left after a filter.
   abbrev onwards : AskedFilter × Left → Result Entry DecodeFault
   onwards x = read (next x.0) x.1
 
@@ -155,7 +155,7 @@ pub nil_at : (bytes : List ℕ) → length bytes ≡ 0 → bytes ≡ []
 nil_at [] e = refl
 nil_at (a ∷ bytes) e = absurd (omega (arith, e))
 
--- The format behind one filter more.
+-- The format after one filter more.
 abbrev next_format : ℕ → Bool → (List AskedFilter → Entry) → List AskedFilter → AskedFilter → Format
 next_format n asks packet before f = filters_format n asks packet (before ++ f ∷ [])
 
@@ -175,7 +175,7 @@ finish (suc n) asks packet (f ∷ before) left some none =
 
 -- ---- as a loop goes over them
 
--- Where the loop stands: behind these filters, and what is left gives what the whole gives.
+-- Where the loop stands: after these filters, and what is left gives what the whole gives.
 pub record Goes (asks : Bool) (start left : Left) : Type 0 where
   pub before : List AskedFilter
   pub each : AllByRecursion (IsAsked asks) before
@@ -304,7 +304,7 @@ filter_spelled asks at f rest is =
           ∙ ap (λ (r : Result (Option ℕ × Left) DecodeFault). r >>= with_options f.filter) (options_spelled asks inside f.options rest is.options),
     )
 
--- Filters that may be are read, behind others, where there is one in all.
+-- Filters that may be are read, after others, where there is one in all.
 spelled_behind : (n : ℕ) (asks : Bool) (packet : List AskedFilter → Entry) (before fs : List AskedFilter) (at : ℕ) → AllByRecursion (IsAsked asks) fs → before ++ fs ≢ [] → length (filters_spelling fs) < n
     → read (filters_format n asks packet before) (left_at at (filters_spelling fs)) ≡ Ok (packet (before ++ fs))
 spelled_behind n asks packet before [] at each some less =

@@ -33,7 +33,7 @@ end_in _ = 0
 tail_bytes : (b : ℕ) (bytes : List ℕ) → AreBytes (b ∷ bytes) → AreBytes bytes
 tail_bytes b bytes h i = h (suc i)
 
--- A number behind the first byte, and as many bytes behind it, are a frame.
+-- A number after the first byte, and as many bytes after it, are a frame.
 module _ (b : ℕ) (behind : List ℕ) (n taken : ℕ) (known : AreBytes behind) (read : varint_at behind ≡ Ok (n, taken)) (fits : 1 + taken + n ≤ length (b ∷ behind)) where
   body_fits : n ≤ length (drop taken behind)
   body_fits = omega (arith, fits, length-drop taken behind)

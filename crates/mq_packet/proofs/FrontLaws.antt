@@ -19,7 +19,7 @@ use Rattle.mq_packet.specs.Fronts.{IsBeginning, BeginsWithNumber, IsPrefixOfNumb
 use Rattle.mq_packet.proofs.StreamLaws.{is_lost_stays}
 use Rattle.mq_packet.proofs.FrameLaws.{frame_begins, begins_cut, lost_exactly}
 
--- The bytes behind the first one are bytes.
+-- The bytes after the first one are bytes.
 tail_bytes : (b : ℕ) (bytes : List ℕ) → AreBytes (b ∷ bytes) → AreBytes bytes
 tail_bytes b bytes h i = h (suc i)
 
@@ -97,7 +97,7 @@ module _ (b : ℕ) (behind : List ℕ) where
         whole = ap (λ (l : List ℕ). b ∷ l) (ap (λ (n : ℕ). varint_spelling n ++ zeros h.value) size ∙ (ap (λ (l : List ℕ). l ++ zeros h.value) h.whole ∙ append_assoc behind h.missing (zeros h.value)));
       })
 
-  -- A number, and not as many bytes behind it.
+  -- A number, and not as many bytes after it.
   cut_body : (n taken : ℕ) → AreBytes behind → varint_at behind ≡ Ok (n, taken) → length (b ∷ behind) < 1 + taken + n → IsBeginning (b ∷ behind)
   cut_body n taken known read lacks =
       (let stands : Stands IsVarint varint_spelling behind n taken = varint_exact.only behind n taken known read in

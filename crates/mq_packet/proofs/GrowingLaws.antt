@@ -19,7 +19,7 @@ use Rattle.mq_packet.specs.Valid.{is_text, is_binary, if_there, fits_qos, valid_
 pub lacks_first : (capacity : ℕ) (held first rest : List ℕ) → LacksRoom capacity held first → LacksRoom capacity held (first ++ rest)
 lacks_first capacity held first rest lacks = record { is = omega (arith, lacks.is, length-append first rest) }
 
--- behind the first part
+-- after the first part
 pub lacks_behind : (capacity more : ℕ) (held behind first rest : List ℕ) → behind ≡ held ++ first → capacity ≤ more → LacksRoom more behind rest → LacksRoom capacity held (first ++ rest)
 lacks_behind capacity more held behind first rest is le lacks =
     record { is = omega (arith, ap length is, length-append held first, length-append first rest, le, lacks.is) }
@@ -28,7 +28,7 @@ lacks_behind capacity more held behind first rest is le lacks =
 pub lacks_byte : (capacity byte : ℕ) (held rest : List ℕ) → LacksRoom capacity held (byte ∷ []) → LacksRoom capacity held (byte ∷ rest)
 lacks_byte capacity byte held rest lacks = record { is = omega (arith, lacks.is) }
 
--- behind a byte
+-- after a byte
 pub lacks_behind_byte : (capacity more byte : ℕ) (held behind rest : List ℕ) → behind ≡ held ++ byte ∷ [] → capacity ≤ more → LacksRoom more behind rest → LacksRoom capacity held (byte ∷ rest)
 lacks_behind_byte capacity more byte held behind rest is le lacks =
     record { is = omega (arith, ap length is, length-append held (byte ∷ []), le, lacks.is) }

@@ -49,7 +49,7 @@ varint_length (d ∷ c) =
       | false ↦ second_length (d - 128) c
     ]
 
--- The place behind it.
+-- The place after it.
 abbrev place_in : Result (ℕ × Left) WireFault → ℕ → ℕ
 place_in (Ok x) other = x.1.at
 place_in (Err fault) other = other

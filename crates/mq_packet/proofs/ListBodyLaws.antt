@@ -63,7 +63,7 @@ module _ (place : Place) (more : ℕ → List Property → Format) where
   abbrev pub body_format : Format
   body_format = field two_bytes identifier_objection (λ identifier. field (properties place) any_value (λ list. more identifier list))
 
-  -- What is left behind the identifier, and behind the property list.
+  -- What is left after the identifier, and after the property list.
   abbrev behind_list : ℕ → List Property × Left → Result Entry DecodeFault
   behind_list identifier x = read (more identifier x.0) x.1
 
@@ -77,7 +77,7 @@ module _ (place : Place) (more : ℕ → List Property → Format) where
     pub list_fails : (fault : DecodeFault) → read_field (properties place) any_value middle ≡ Err fault → read body_format left ≡ Err fault
     list_fails fault e = ap (λ (r : Result (ℕ × Left) DecodeFault). r >>= behind_identifier) named ∙ ap (λ (r : Result (List Property × Left) DecodeFault). r >>= behind_list identifier) e
 
-    -- What is left behind both decides, and it is less than the whole.
+    -- What is left after both decides, and it is less than the whole.
     pub body_goes_on : (items : List Property) (new : Left) → read_field (properties place) any_value middle ≡ Ok (items, new) → (length new.rest < length left.rest) × (read body_format left ≡ read (more identifier items) new)
     body_goes_on items new e = (
       omega (arith, identifier_shorter left identifier middle named, properties_within place middle items new e),

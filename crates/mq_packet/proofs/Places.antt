@@ -1,4 +1,4 @@
--- The place of a broken rule lies in the packet, or behind its last byte.
+-- The place of a broken rule lies in the packet, or after its last byte.
 use Rattle.std.proofs.Common.{◌≡◌, ℕ, ◌+◌, ◌≤◌, ◌<◌, eqb, ltb, true, false, List, [], length, Option, Some, None, Result, Ok, Err, refl, ap, subst, arith}
 use Rattle.std.specs.Prelude.{◌==◌, if◌then◌else◌}
 use Rattle.std.proofs.Common.{length-drop}
@@ -24,11 +24,11 @@ use Rattle.mq_packet.specs.Formats.{Kind, byte, two_bytes, text, binary, propert
 use Rattle.mq_packet.specs.Decoding.{broken, objected, spelled, spelled_list, field_on, read}
 use Rattle.mq_packet.proofs.Readings.{by_field, by_objection}
 
--- The place behind the last byte that is left.
+-- The place after the last byte that is left.
 abbrev end_of : Left → ℕ
 end_of left = left.at + length left.rest
 
--- A field that was read leaves no byte behind this place, and a rule that one breaks is broken up to it.
+-- A field that was read leaves no byte after this place, and a rule that one breaks is broken up to it.
 abbrev Ends : {X : Type 0} → ℕ → Result (X × Left) DecodeFault → Type 0
 Ends last (Ok x) = end_of x.1 ≤ last
 Ends last (Err (Broken fault)) = fault.at ≤ last
@@ -38,7 +38,7 @@ wire_ends : {X : Type 0} (left : Left) (r : Result (X × ℕ) Reason) → taken_
 wire_ends left (Ok x) h = omega (arith, h, length-drop x.1 left.rest)
 wire_ends left (Err reason) h = omega arith
 
--- what is left behind a list
+-- what is left after a list
 list_end : (place : Place) (left : Left) (ps : List Property) (new : Left) → list_on place left ≡ Ok (ps, new) → end_of new ≤ end_of left
 unfolding list_on
 list_end place left ps new e =
@@ -73,7 +73,7 @@ objected_place : (at : ℕ) (why : Objection) → place_of (Err (objected at why
 objected_place at (breaks rule) = omega arith
 objected_place at (other_version version) = omega arith
 
--- Reading breaks rules at places up to the one behind the last byte.
+-- Reading breaks rules at places up to the one after the last byte.
 abbrev PlacesFit : Format → Type 0
 PlacesFit format = (left : Left) → place_of (read format left) ≤ end_of left
 

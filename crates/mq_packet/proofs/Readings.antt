@@ -34,7 +34,7 @@ IsRead format = (at : ℕ) (bytes : List ℕ) → AreBytes bytes → Is format a
 not_empty : (b : ℕ) (bytes : List ℕ) → eqb (length (b ∷ bytes)) 0 ≡ false
 not_empty b bytes = ne_eqb (length (b ∷ bytes)) 0 (λ (e : length (b ∷ bytes) ≡ 0). omega arith)
 
--- What is left behind bytes are bytes.
+-- What is left after bytes are bytes.
 behind_bytes : (bytes front left : List ℕ) → bytes ≡ front ++ left → AreBytes bytes → AreBytes left
 behind_bytes bytes front left is known =
     (let behind : drop (length front) bytes ≡ left = ap (drop (length front)) is ∙ drop_at front left (length front) refl in

@@ -168,7 +168,7 @@ two_ends code items one two (inr (inr a)) (inl b) = inr (none_is items a.0, inl 
 two_ends code items one two (inr (inr a)) (inr (inl b)) = inr (none_is items a.0, inl (empty_alone code items a.0 one two b.1 a.1 a.2))
 two_ends code items one two (inr (inr a)) (inr (inr b)) = inl (a.2 ∙ sym b.2)
 
--- Behind the same bytes they are the same to each other.
+-- After the same bytes they are the same to each other.
 short_behind : (front short long : List ℕ) → IsShortFor short long → IsShortFor (front ++ short) (front ++ long)
 short_behind front short long (inl e) = inl (ap (λ (l : List ℕ). front ++ l) e ∙ sym (append_assoc front short (0 ∷ [])))
 short_behind front short long (inr e) = inr (ap (λ (l : List ℕ). front ++ l) e ∙ sym (append_assoc front short (0 ∷ 0 ∷ [])))

@@ -29,7 +29,7 @@ use Rattle.mq_packet.proofs.ValueLaws.{not_objected}
 
 -- ---- what the fields of a format write
 
--- Behind what was read, the fields of the format make a packet and its body: f puts what was read before what is left.
+-- After what was read, the fields of the format make a packet and its body: f puts what was read before what is left.
 abbrev Writes : (Entry → List ℕ → Type 0) → Format → (List ℕ → List ℕ) → Type 0
 Writes P (done packet) f = P packet (f [])
 Writes P (rest packet) f = (bytes : List ℕ) → P (packet bytes) (f bytes)
@@ -50,7 +50,7 @@ written P (field kind objection next) f bytes entry h spelled =
 written P (at_end whole more) f [] entry h spelled = written P whole f [] entry h.0 spelled
 written P (at_end whole more) f (b ∷ bytes) entry h spelled = written P more f (b ∷ bytes) entry h.1 spelled
 
--- The same behind the same bytes.
+-- The same after the same bytes.
 writes_alike : (P : Entry → List ℕ → Type 0) (format : Format) (f g : List ℕ → List ℕ) → ((left : List ℕ) → f left ≡ g left) → Writes P format f → Writes P format g
 writes_alike P (done packet) f g e h = subst (λ (b : List ℕ). P packet b) (e []) h
 writes_alike P (rest packet) f g e h = λ bytes. subst (λ (b : List ℕ). P (packet bytes) b) (e bytes) (h bytes)
@@ -291,7 +291,7 @@ auth_writes first first_is = (
 
 -- ---- SUBSCRIBE, UNSUBSCRIBE and their answers
 
--- One filter more behind those that were found.
+-- One filter more after those that were found.
 grown : (found : List AskedFilter) (asked : AskedFilter) (left : List ℕ) → filters_spelling (found ++ asked ∷ []) ++ left ≡ filters_spelling found ++ (text_spelling asked.filter ++ (options_spelling asked.options ++ left))
 grown [] asked left = append_assoc (asked_spelling asked) [] left ∙ append_assoc (text_spelling asked.filter) (options_spelling asked.options) left
 grown (g ∷ found) asked left =

@@ -128,7 +128,7 @@ options_say : (asks : Bool) (next : Option ℕ → Format) (bytes : List ℕ) (e
 options_say false next bytes entry h = (None, bytes, refl, h)
 options_say true next bytes entry h = (Some h.0, h.1, not_objected (are_options h.0) rules.W17 h.3, h.4)
 
--- One more filter behind those that were found.
+-- One more filter after those that were found.
 one_more : (asks : Bool) (found : List AskedFilter) (asked : AskedFilter) → list_all (valid_filter asks) found ≡ true → valid_filter asks asked ≡ true → list_all (valid_filter asks) (found ++ asked ∷ []) ≡ true
 one_more asks found asked all this = list_all-append (valid_filter asks) found (asked ∷ []) ∙ and_from _ _ all (and_from _ _ this refl)
 

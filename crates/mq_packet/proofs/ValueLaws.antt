@@ -128,6 +128,6 @@ pub if_there_gives : {X : Type 0} (P Q : X → Type 0) (test : X → Bool) (valu
 if_there_gives P Q test None f h e = tt
 if_there_gives P Q test (Some x) f h e = f x h e
 
--- Nothing behind the last field.
+-- Nothing after the last field.
 pub ends_there : (format : Format) (bytes : List ℕ) (entry : Entry) → Spells format (bytes ++ []) entry → Spells format bytes entry
 ends_there format bytes entry h = subst (λ (b : List ℕ). Spells format b entry) (append-nil bytes) h

@@ -35,7 +35,7 @@ pub record AreAsked (asks : Bool) (filters : List AskedFilter) : Type 0 where
   pub some : filters ≢ []
   pub each : AllByRecursion (IsAsked asks) filters
 
--- The filter with this text, and what is left behind it.
+-- The filter with this text, and what is left after it.
 abbrev pub asked_with : Bool → List ℕ → List ℕ → Option (AskedFilter × List ℕ)
 asked_with false filter left = Some (record { filter = filter; options = None }, left)
 asked_with true filter [] = None
@@ -45,7 +45,7 @@ abbrev pub asked_behind : Bool → List ℕ → Result (List ℕ × ℕ) Reason 
 asked_behind asks bytes (Ok x) = asked_with asks x.0 (drop x.1 bytes)
 asked_behind asks bytes (Err reason) = None
 
--- The filter at the front of the bytes, if one stands there, and what is left behind it.
+-- The filter at the front of the bytes, if one stands there, and what is left after it.
 unfoldable pub asked_at : Bool → List ℕ → Option (AskedFilter × List ℕ)
 asked_at asks bytes = asked_behind asks bytes (text_at bytes)
 

@@ -58,7 +58,7 @@ abbrev pub spelled_list : {X : Type 0} → Result X PropFault → Result X Decod
 spelled_list (Ok x) = Ok x
 spelled_list (Err fault) = Err (broken fault.at (list_rule fault.reason))
 
--- The field of this kind at the front of what is left, with what is left behind it; or the rule that is broken.
+-- The field of this kind at the front of what is left, with what is left after it; or the rule that is broken.
 abbrev pub field_on : (kind : Kind) → Left → Result (Value kind × Left) DecodeFault
 field_on byte left = spelled (placed left (byte_at left.rest))
 field_on two_bytes left = spelled (placed left (two_bytes_at left.rest))
@@ -92,7 +92,7 @@ read (field kind objection next) left = do
   read (next x.0) x.1
 read (at_end whole more) left = if length left.rest == 0 then read whole left else read more left
 
--- Where a body of this length begins: behind the first byte and the Remaining Length (2.1.4).
+-- Where a body of this length begins: after the first byte and the Remaining Length (2.1.4).
 unfoldable pub body_start : ℕ → ℕ
 body_start size = 1 + length (varint_spelling size)
 

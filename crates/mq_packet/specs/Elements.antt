@@ -20,7 +20,7 @@ abbrev pub options_on : Bool → Left → Result (Option ℕ × Left) DecodeFaul
 options_on false left = Ok (None, left)
 options_on true left = read_field byte options_objection left >>= some_options
 
--- The options at the front of what is left behind this filter, if they are asked for.
+-- The options at the front of what is left after this filter, if they are asked for.
 abbrev pub with_options : List ℕ → Option ℕ × Left → Result (AskedFilter × Left) DecodeFault
 with_options filter x = Ok (record { filter = filter; options = x.0 }, x.1)
 

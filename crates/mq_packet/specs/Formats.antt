@@ -152,11 +152,11 @@ password_from flags packet = field_if (has_bits 64 flags) binary (λ password. d
 abbrev pub user_name_from : ℕ → (Option (List ℕ) → Option (List ℕ) → Entry) → Format
 user_name_from flags packet = field_if (has_bits 128 flags) text (λ user_name. password_from flags (packet user_name))
 
--- The Will, where its flag is set, and what stands behind it.
+-- The Will, where its flag is set, and what stands after it.
 abbrev pub will_from : ℕ → (Option WillFields → Option (List ℕ) → Option (List ℕ) → Entry) → Format
 will_from flags packet = will_if (has_bits 4 flags) flags (λ will. user_name_from flags (packet will))
 
--- What stands behind the Connect Flags (3.1.2.10 to 3.1.3.6).
+-- What stands after the Connect Flags (3.1.2.10 to 3.1.3.6).
 abbrev pub connect_from : ℕ → Format
 connect_from flags =
     field two_bytes any_value (λ keep_alive.
@@ -181,7 +181,7 @@ connack_format =
     field (properties places.Connack) any_value (λ list.
     done (connack (flags == 1) code (listed places.Connack list)))))
 
--- What stands behind the Packet Identifier of a PUBLISH: properties and the payload (3.3.2.3, 3.3.3).
+-- What stands after the Packet Identifier of a PUBLISH: properties and the payload (3.3.2.3, 3.3.3).
 abbrev pub publish_from : Bool → Qos → Bool → List ℕ → Option ℕ → Format
 publish_from duplicate qos retain topic identifier =
     field (properties places.Publish) (alias_objection topic) (λ list.
@@ -215,8 +215,8 @@ last_properties place packet =
     (field (properties place) any_value (λ list.
     done (packet (listed place list))))
 
--- PUBACK, PUBREC, PUBREL and PUBCOMP (3.4 to 3.7): where one ends behind its identifier its Reason Code is 0x00, and where it
--- ends behind its code it has no properties.
+-- PUBACK, PUBREC, PUBREL and PUBCOMP (3.4 to 3.7): where one ends after its identifier its Reason Code is 0x00, and where it
+-- ends after its code it has no properties.
 abbrev pub acknowledgement_format : AcknowledgementKind → Format
 acknowledgement_format kind =
     field two_bytes identifier_objection (λ identifier.
@@ -224,12 +224,12 @@ acknowledgement_format kind =
     (field byte (code_objection (acknowledgement_codes kind)) (λ code.
     last_properties (acknowledgement_place kind) (acknowledgement kind identifier code))))
 
--- The options behind a filter, if they are asked for.
+-- The options after a filter, if they are asked for.
 abbrev pub options_if : Bool → (Option ℕ → Format) → Format
 options_if false next = next None
 options_if true next = field byte options_objection (λ options. next (Some options))
 
--- At most this many filters, with options or without, behind those that were found: at least one in all (3.8.3, 3.10.3).
+-- At most this many filters, with options or without, after those that were found: at least one in all (3.8.3, 3.10.3).
 abbrev pub filters_format : ℕ → Bool → (List AskedFilter → Entry) → List AskedFilter → Format
 filters_format zero asks packet found = done (packet found)
 filters_format (suc n) asks packet found =
@@ -245,7 +245,7 @@ request_format size kind =
     field (properties (request_place kind)) any_value (λ list.
     filters_format size (has_options kind) (request kind identifier (listed (request_place kind) list)) []))
 
--- At most this many Reason Codes of a table behind those that were found.
+-- At most this many Reason Codes of a table after those that were found.
 abbrev pub codes_format : ℕ → List ℕ → (List ℕ → Entry) → List ℕ → Format
 codes_format zero table packet found = done (packet found)
 codes_format (suc n) table packet found =
@@ -260,7 +260,7 @@ answer_format size kind =
     field (properties (answer_place kind)) any_value (λ list.
     codes_format size (answer_codes kind) (answer kind identifier (listed (answer_place kind) list)) []))
 
--- DISCONNECT (3.14) and AUTH (3.15): an empty one has the Reason Code 0x00, and where one ends behind its code it has no
+-- DISCONNECT (3.14) and AUTH (3.15): an empty one has the Reason Code 0x00, and where one ends after its code it has no
 -- properties.
 abbrev pub ending_format : EndingKind → Format
 ending_format kind =
@@ -268,7 +268,7 @@ ending_format kind =
     (field byte (code_objection (ending_codes kind)) (λ code.
     last_properties (ending_place kind) (ending kind code)))
 
--- The format of a body of this size behind a first byte: the packet's type, and the flags that it must have (2.1.2, 2.1.3).
+-- The format of a body of this size after a first byte: the packet's type, and the flags that it must have (2.1.2, 2.1.3).
 abbrev pub format_of : ℕ → ℕ → Format
 format_of first size =
     if nat_lt first 16 then refused rules.W02 else

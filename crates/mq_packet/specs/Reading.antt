@@ -93,7 +93,7 @@ abbrev pub fault_of : Stop → DecodeFault
 fault_of (stops.Broken at rule) = broken at rule
 fault_of (stops.OtherVersion version) = OtherVersion version
 
--- A reader of a field answers what is read, with the cursor behind it; or where the reading stops.
+-- A reader of a field answers what is read, with the cursor after it; or where the reading stops.
 abbrev pub Takes : {X Y : Type 0} → (X → Y) → Result X Stop → Result (Y × Left) DecodeFault → Left → Type 0
 Takes see (Ok x) read new = read ≡ Ok (see x, new)
 Takes see (Err stop) read new = read ≡ Err (fault_of stop)

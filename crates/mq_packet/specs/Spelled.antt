@@ -28,12 +28,12 @@ spelling text value = text_spelling value
 spelling binary value = binary_spelling value
 spelling (properties place) value = varint_spelling (length (properties_spelling value)) ++ properties_spelling value
 
--- The bytes begin with a value of this kind, spelled, and these are left behind it.
+-- The bytes begin with a value of this kind, spelled, and these are left after it.
 pub record Begin (kind : Kind) (bytes : List ℕ) (value : Value kind) (left : List ℕ) : Type 0 where
   pub is_value : IsValue kind value
   pub spelled : bytes ≡ spelling kind value ++ left
 
--- They begin with a value to which nothing is objected, and then what is said of the value and of what is left behind it.
+-- They begin with a value to which nothing is objected, and then what is said of the value and of what is left after it.
 abbrev pub Good : (kind : Kind) → (Value kind → Option Objection) → List ℕ → (Value kind → List ℕ → Type 0) → Type 0
 Good kind objection bytes then = (value : Value kind) × (left : List ℕ) × Begin kind bytes value left × (objection value ≡ None) × then value left
 

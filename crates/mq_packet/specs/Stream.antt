@@ -6,7 +6,7 @@ use Rattle.mq_wire.specs.Fields.{varint_at}
 use Rattle.mq_packet.specs.declared.header.FixedHeader.{FixedHeader}
 use Rattle.mq_packet.specs.declared.header.FixedHeader.TheVariants.{Short, Lost, Whole}
 
--- The Remaining Length behind the first byte, and how many bytes spell it (2.1.4).
+-- The Remaining Length after the first byte, and how many bytes spell it (2.1.4).
 abbrev pub remaining_length : List ℕ → Result (ℕ × ℕ) Reason
 remaining_length [] = Err reasons.Short
 remaining_length (first ∷ behind) = varint_at behind
@@ -40,6 +40,6 @@ abbrev pub is_overlong : Result (ℕ × ℕ) Reason → Bool
 is_overlong (Err reasons.Overlong) = true
 is_overlong _ = false
 
--- The bytes aren't empty, and what stands behind the first of them is no variable byte integer, whatever follows.
+-- The bytes aren't empty, and what stands after the first of them is no variable byte integer, whatever follows.
 unfoldable pub is_lost : List ℕ → Bool
 is_lost bytes = is_overlong (remaining_length bytes)

@@ -8,7 +8,7 @@ use super::frame::Cut;
 use super::header::{FixedHeader, fixed_header};
 
 /// The packet at the front of the bytes: `Frame` exactly where they begin with a whole one, `Lost` exactly where they aren't
-/// empty and no variable byte integer can stand behind the first of them, else `Need` (MQTT 5.0, section 2.1).
+/// empty and no variable byte integer can stand after the first of them, else `Need` (MQTT 5.0, section 2.1).
 #[tactic(auto, using(crate::proofs::FrameLaws::lost_exactly))]
 pub fn cut(bytes: &[u8]) -> Cut
     // A frame is answered exactly where the bytes begin with one.

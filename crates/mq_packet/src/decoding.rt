@@ -20,7 +20,7 @@ use crate::reading::{read_packet, read_publish};
 use crate::stop::Stop;
 use mq_wire::Cursor;
 
-/// The packet that has this first byte, which is its type and flags, and this body, which is what stands behind the
+/// The packet that has this first byte, which is its type and flags, and this body, which is what stands after the
 /// Remaining Length (MQTT 5.0, sections 2.1 and 3.1 to 3.15).
 ///
 /// The fields are looked at in their order, each of them first for its spelling and then for its value, and the first that
@@ -101,7 +101,7 @@ fn fault_of(stop: Stop) -> DecodeFault
     }
 }
 
-// The place of the first byte of a body of this size: behind the first byte and the shortest spelling of the size
+// The place of the first byte of a body of this size: after the first byte and the shortest spelling of the size
 // (MQTT 5.0, sections 1.5.5 and 2.1.4).
 #[inline(always)]
 #[tactic(auto, unfolding(crate::specs::Decoding::body_start, mq_wire::specs::Spellings::varint_spelling))]

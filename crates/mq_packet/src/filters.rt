@@ -44,7 +44,7 @@ impl<'a> Model for Filters<'a> {
 impl<'a> Filters<'a> {
     ghost use Rattle.mq_packet.specs.Asking.{AreFilters};
 
-    /// The filters that the bytes spell, one after another: each with its Subscription Options behind it where `options` is
+    /// The filters that the bytes spell, one after another: each with its Subscription Options after it where `options` is
     /// true, as in a SUBSCRIBE, and without where it is false, as in an UNSUBSCRIBE (MQTT 5.0, sections 3.8.3 and 3.10.3).
     ///
     /// None where the bytes spell no such filters: where there are none at all, where one isn't spelled or may not be, where

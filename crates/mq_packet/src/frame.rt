@@ -9,7 +9,7 @@ pub enum Cut {
     Frame {
         /// Its first byte: its type and flags.
         first: u8,
-        /// Where its body begins, which is behind the Remaining Length.
+        /// Where its body begins, which is after the Remaining Length.
         body_start: usize,
         /// Where its body ends, which is the packet's end.
         body_end: usize,

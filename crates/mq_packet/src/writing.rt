@@ -74,7 +74,7 @@ fn spelling_facts(packet: &Packet<'_>)
 
 /// Appends the packet's bytes (MQTT 5.0, sections 2.1 and 3.1 to 3.15). It must be one that some bytes spell, as `is_valid`
 /// tells. Where several spellings are there, the shortest is written: a PUBACK, PUBREC, PUBREL, PUBCOMP, DISCONNECT or AUTH of
-/// Reason Code 0x00 without properties ends before its code, and without properties any but an AUTH ends behind its code.
+/// Reason Code 0x00 without properties ends before its code, and without properties any but an AUTH ends after its code.
 ///
 /// # Errors
 ///

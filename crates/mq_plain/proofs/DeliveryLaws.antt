@@ -130,7 +130,7 @@ any-reverse test (x ∷ xs) =
     ap (list_any test) (one_back x xs) ∙ (list_any-append test (reverse xs) (x ∷ []) ∙ (ap (λ b. b || (test x || false)) (any-reverse test xs)
     ∙ (ap (λ b. list_any test xs || b) (or_false (test x)) ∙ or-turn (list_any test xs) (test x))))
 
--- one event more behind the others counts where none is an OPEN
+-- one event more after the others counts where none is an OPEN
 ahead-last : (i : ℕ) (xs : List Seen) (x : Seen) → codes_ahead i (xs ++ x ∷ []) ≡ cond (list_any opens (xs ++ x ∷ [])) (codes_ahead i xs) (or_else (codes_ahead i xs) (codes_under i x.note))
 unfolding opens
 ahead-last i [] x = go (is_open x.note) (codes_under i x.note)

@@ -62,7 +62,7 @@ stretch-first : (p : List Moment → Bool) (ms : List Moment) → p [] ≡ true 
 stretch-first p [] h = h
 stretch-first p (m ∷ ms) h = ap (λ b. b || some_stretch (λ s. p (m ∷ s)) ms) h
 
--- behind one event, which is a PUBLISH or a closer
+-- after one event, which is a PUBLISH or a closer
 over : ℕ → Bool → Bool → List Moment → Bool
 over room d c s = nat_lt (room + (cond c 1 0 + count is_closer s)) (cond d 1 0 + count is_delivery s)
 

@@ -20,7 +20,7 @@ All-alike : {X : Type 0} (P Q : X → Type 0) → ((x : X) → P x → Q x) → 
 All-alike P Q f [] h = All-nil Q
 All-alike P Q f (x ∷ xs) h = All-cons Q x xs (f x (All-head P x xs h)) (All-alike P Q f xs (All-tail P x xs h))
 
--- a log has no moment behind its newest one
+-- a log has no moment after its newest one
 nothing-next : (past : List Seen) → moment past (length past + 1) ≡ None
 nothing-next past = go (moment past (length past + 1)) refl
   where

@@ -29,7 +29,7 @@ failed fault = Err fault
 failed_is : {A : Type 0} (x y : PropFault) → failed {A = A} x ≡ failed y → x ≡ y
 failed_is x y e = cc
 
--- ---- how a property is read, behind its identifier, and behind its line
+-- ---- how a property is read, after its identifier, and after its line
 
 abbrev with_value : Place → Line → ℕ → Result (Value × Left) WireFault → Result (Property × Left) PropFault
 with_value place line at r = from_wire r >>= λ value. judged_at at (valued place line value.0) >>= λ property. Ok (property, value.1)
@@ -157,7 +157,7 @@ unspelled_from types.Text bytes reason e = mapped_err text (text_at bytes) reaso
 unspelled_from types.Pair bytes reason e = mapped_err pair_of (pair_at bytes) reason e
 unspelled_from types.Binary bytes reason e = mapped_err binary (binary_at bytes) reason e
 
--- a property, with what is left behind it
+-- a property, with what is left after it
 abbrev with_rest : Left → Property → Result (Property × Left) PropFault
 with_rest new property = Ok (property, new)
 

@@ -26,7 +26,7 @@ failed fault = Err fault
 abbrev going_on : ℕ → Place → List Property → Result (Property × Left) PropFault → Result (List Property) PropFault
 going_on fuel place before r = r >>= λ x. properties_within fuel place (before ++ x.0 ∷ []) x.1
 
--- the good properties are read, and the one behind them is refused
+-- the good properties are read, and the one after them is refused
 refused_behind : (fuel : ℕ) (place : Place) (before good : List Property) (at : ℕ) (others : List ℕ) (fault : PropFault) → length (body good ++ others) ≤ fuel → 0 < length others → AllowedBehind place before good
     → property_on place (before ++ good) (left_at (at + length (body good)) others) ≡ Err fault → properties_within fuel place before (left_at at (body good ++ others)) ≡ failed fault
 refused_behind zero place before good at others fault enough some allowed e = absurd (omega (arith, enough, some, length-append (body good) others))

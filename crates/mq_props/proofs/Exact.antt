@@ -58,7 +58,7 @@ found_spells place before left p new fits found =
       },
     )
 
--- properties that were read behind others
+-- properties that were read after others
 record ReadBehind (place : Place) (before : List Property) (bytes : List ℕ) (all : List Property) : Type 0 where
   ps : List Property
   whole : all ≡ before ++ ps

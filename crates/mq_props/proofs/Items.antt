@@ -119,7 +119,7 @@ pub items_on-none : (left : Left) → item_on left ≡ None → items_on left �
 unfolding items_on
 items_on-none left e = within_step (length left.rest) left (omega arith) ∙ ap (first_and (items_within (length left.rest))) e
 
--- one stands there, and others behind it
+-- one stands there, and others after it
 pub items_on-some : (left : Left) (p : Property) (new : Left) → item_on left ≡ Some (p, new) → items_on left ≡ p ∷ items_on new
 unfolding items_on
 items_on-some left p new e =

@@ -10,7 +10,7 @@ use Rattle.mq_props.specs.Reading.{◌>>=◌, property_on, properties_within, pr
 use Rattle.mq_props.specs.Views.{Sees}
 use Rattle.mq_props.proofs.Steps.{property_on_ok, found_shorter}
 
--- where a loop stands: behind these properties, and what is left gives what the whole gives
+-- where a loop stands: after these properties, and what is left gives what the whole gives
 pub record Goes (place : Place) (start left : Left) (seen : Seen) : Type 0 where
   pub before : List Property
   pub fuel : ℕ

@@ -164,7 +164,7 @@ overflow_is bytes id v is lt =
 pub no_room : (capacity size id : ℕ) (v : Value) → id < 128 → capacity < size + 1 → capacity < size + length (property_spelling (record { id = id; value = v }))
 no_room capacity size id v small lt = omega (arith, lt, ap length (id_spelled id small), length-append (varint_spelling id) (value_spelling v))
 
--- no room for the value behind it
+-- no room for the value after it
 pub no_room_behind : (capacity more size behind id : ℕ) (v : Value) → id < 128 → capacity ≤ more → behind ≡ size + 1 → more < behind + length (value_spelling v) → capacity < size + length (property_spelling (record { id = id; value = v }))
 no_room_behind capacity more size behind id v small le is lt =
     omega (arith, le, is, lt, ap length (id_spelled id small), length-append (varint_spelling id) (value_spelling v))

@@ -57,7 +57,7 @@ admitted_ok place before (Some found) line e =
     let is = choose_ok (is_listed place found) (is_repeated place before found.id) found line Repeated NotAllowed e in
     subst (λ (l : Line). Admits place before (Some found) l) is.2 (record { known = refl; listed = is.0; once = is.1 })
 
--- a property that was read: its identifier takes some bytes, and its value those behind it
+-- a property that was read: its identifier takes some bytes, and its value those after it
 pub record Found (place : Place) (before : List Property) (left : Left) (p : Property) (new : Left) : Type 0 where
   pub size : ℕ
   pub line : Line

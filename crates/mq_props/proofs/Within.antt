@@ -1,4 +1,4 @@
--- The first bad field of a property list begins in the bytes that were left, or right behind them.
+-- The first bad field of a property list begins in the bytes that were left, or right after them.
 use Rattle.std.proofs.Common.{◌≡◌, ℕ, zero, suc, ◌+◌, ◌≤◌, true, false, List, [], ◌∷◌, ◌++◌, length, take, drop, Result, Ok, Err, refl, sym, subst, length-drop, arith}
 use Rattle.std.specs.Prelude.{IfErr, ◌==◌, nat_lt, if◌then◌else◌}
 use Rattle.std.proofs.lemmas.List.{length-take}
@@ -20,7 +20,7 @@ use Rattle.mq_props.proofs.Sizes.{taken_by, varint_within, value_within}
 use Rattle.mq_props.proofs.Steps.{Found, from_wire_ok, property_on_ok}
 use Rattle.mq_props.proofs.Lists.{counted_ok}
 
--- the fault's place is one of those that are left, or the one behind them
+-- the fault's place is one of those that are left, or the one after them
 abbrev pub Within : Left → PropFault → Type 0
 Within left fault = (left.at ≤ fault.at) × (fault.at ≤ left.at + length left.rest)
 
@@ -47,7 +47,7 @@ wire_within : {X : Type 0} (left : Left) (r : Result (X × ℕ) Reason) → IfEr
 wire_within left (Ok x) = tt
 wire_within left (Err reason) = (omega arith, omega arith)
 
--- what is left behind a field lies in what was left
+-- what is left after a field lies in what was left
 field_inside : {X : Type 0} (left : Left) (r : Result (X × ℕ) Reason) (x : X) (new : Left) → taken_by r ≤ length left.rest → from_wire (placed left r) ≡ Ok (x, new) → Inside left new
 field_inside {X} left r x new fits e =
     let read = placed_ok left r x new (from_wire_ok (placed left r) (x, new) e) in
@@ -70,7 +70,7 @@ property_fault place before left =
     bind_within (Within left) (judged_at left.at (admitted place before (row_of id.0))) (λ line. valued_on place line id.1) (judged_within left (admitted place before (row_of id.0))) (λ line known.
     part_within left id.1 (valued_on place line id.1) (field_inside left (varint_at left.rest) id.0 id.1 (varint_within left.rest) named) (value_fault place line id.1)))
 
--- what is left behind a property lies in what was left
+-- what is left after a property lies in what was left
 found_inside : (place : Place) (before : List Property) (left : Left) (p : Property) (new : Left) → Found place before left p new → Inside left new
 found_inside place before left p new found =
     let size : found.size ≤ length left.rest = subst (λ (r : Result (ℕ × ℕ) Reason). taken_by r ≤ length left.rest) found.named (varint_within left.rest) in
@@ -98,7 +98,7 @@ counted_fault start len left =
       | false ↦ tt
     ]
 
--- the bytes that a length counts lie in what was left behind it
+-- the bytes that a length counts lie in what was left after it
 counted_inside : (start : Left) (len : ℕ) (left inside : Left) → counted start len left ≡ Ok inside → Inside left inside
 counted_inside start len left inside e =
     let is = counted_ok start len left inside e in

@@ -16,7 +16,7 @@ use Rattle.mq_props.specs.Values.{Value, byte, two_bytes, four_bytes, varint, te
 abbrev pub stands_in : ℕ → List Property → Bool
 stands_in id ps = list_any (λ p. p.id == id) ps
 
--- A property with the identifier may not stand behind these, for it may stand in the list only once.
+-- A property with the identifier may not stand after these, for it may stand in the list only once.
 abbrev pub is_repeated : Place → List Property → ℕ → Bool
 is_repeated place before id = stands_in id before && not (may_repeat place id)
 
@@ -50,7 +50,7 @@ has_wildcard (binary bytes) = false
 abbrev pub is_wild : Place → ℕ → Value → Bool
 is_wild place id value = same_place place Publish && id == response_topic && has_wildcard value
 
--- The property may stand in the place's list behind these.
+-- The property may stand in the place's list after these.
 pub record IsAllowed (place : Place) (before : List Property) (p : Property) : Type 0 where
   pub line : Line
   pub known : row_of p.id ≡ Some line
@@ -61,7 +61,7 @@ pub record IsAllowed (place : Place) (before : List Property) (p : Property) : T
   pub ranged : in_range line.range p.value ≡ true
   pub plain : is_wild place p.id p.value ≡ false
 
--- Each of the properties may stand in the list, behind these and those before it.
+-- Each of the properties may stand in the list, after these and those before it.
 abbrev pub AllowedBehind : Place → List Property → List Property → Type 0
 AllowedBehind place before [] = Unit {0}
 AllowedBehind place before (p ∷ ps) = IsAllowed place before p × AllowedBehind place (before ++ p ∷ []) ps

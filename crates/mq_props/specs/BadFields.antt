@@ -13,7 +13,7 @@ use Rattle.mq_props.specs.Table.{Line, row_of, is_listed}
 use Rattle.mq_props.specs.Values.{Value, Property, type_of, IsValue, value_spelling}
 use Rattle.mq_props.specs.Allowed.{is_repeated, in_range, is_wild}
 
--- An identifier stands spelled at the front of what is left, and this is left behind it.
+-- An identifier stands spelled at the front of what is left, and this is left after it.
 pub record Named (left : Left) (id : ℕ) (behind : Left) : Type 0 where
   pub number : IsVarint id
   pub spelled : left.rest ≡ varint_spelling id ++ behind.rest
@@ -24,7 +24,7 @@ pub record NamedBy (left : Left) (line : Line) (behind : Left) : Type 0 where
   pub named : Named left line.id behind
   pub known : row_of line.id ≡ Some line
 
--- It does, and a property of the line may stand in the place's list behind these.
+-- It does, and a property of the line may stand in the place's list after these.
 pub record Begins (place : Place) (before : List Property) (left : Left) (line : Line) (behind : Left) : Type 0 where
   pub named : NamedBy left line behind
   pub listed : is_listed place line ≡ true
@@ -109,11 +109,11 @@ pub record WildValue (place : Place) (before : List Property) (left : Left) (fau
   pub wild : is_wild place line.id value ≡ true
   pub is : fault ≡ record { at = behind.at; reason = Wildcard }
 
--- The fault is that of the identifier at the front of what is left, in the place's list behind these properties.
+-- The fault is that of the identifier at the front of what is left, in the place's list after these properties.
 abbrev pub BreaksIdentifier : Place → List Property → Left → PropFault → Type 0
 BreaksIdentifier place before left fault = BadIdentifier left fault ⊎ (UnknownProperty left fault ⊎ (UnlistedProperty place left fault ⊎ RepeatedProperty place before left fault))
 
--- It is that of the value behind an identifier that may stand there.
+-- It is that of the value after an identifier that may stand there.
 abbrev pub BreaksValue : Place → List Property → Left → PropFault → Type 0
 BreaksValue place before left fault = UnspelledValue place before left fault ⊎ (ValueOutOfRange place before left fault ⊎ WildValue place before left fault)
 

@@ -47,7 +47,7 @@ value_on types.Text left = as_value text (placed left (text_at left.rest))
 value_on types.Pair left = as_value (λ texts. pair texts.0 texts.1) (placed left (pair_at left.rest))
 value_on types.Binary left = as_value binary (placed left (binary_at left.rest))
 
--- The line, if a property with it may stand in the place's list behind these.
+-- The line, if a property with it may stand in the place's list after these.
 abbrev pub admitted : Place → List Property → Option Line → Result Line PropReason
 admitted place before None = Err Unknown
 admitted place before (Some line) =
@@ -58,7 +58,7 @@ abbrev pub valued : Place → Line → Value → Result Property PropReason
 valued place line value =
     if in_range line.range value then (if is_wild place line.id value then Err Wildcard else Ok (record { id = line.id; value = value })) else Err BadValue
 
--- A property at the front of what is left, behind these: its identifier is spelled, known, allowed here and not
+-- A property at the front of what is left, after these: its identifier is spelled, known, allowed here and not
 -- repeated; then its value is spelled, in range and without a wildcard that isn't allowed.
 unfoldable pub property_on : Place → List Property → Left → Result (Property × Left) PropFault
 property_on place before left = do
@@ -68,13 +68,13 @@ property_on place before left = do
   property ← judged_at id.1.at (valued place line value.0)
   Ok (property, value.1)
 
--- All that is left, as properties behind these. Each takes some bytes, so there are at most n where n bytes are left.
+-- All that is left, as properties after these. Each takes some bytes, so there are at most n where n bytes are left.
 abbrev pub properties_within : ℕ → Place → List Property → Left → Result (List Property) PropFault
 properties_within zero place before left = Ok before
 properties_within (suc n) place before left =
     if length left.rest == 0 then Ok before else (property_on place before left >>= λ x. properties_within n place (before ++ x.0 ∷ []) x.1)
 
--- All that is left, as properties behind these.
+-- All that is left, as properties after these.
 unfoldable pub properties_on : Place → List Property → Left → Result (List Property) PropFault
 properties_on place before left = properties_within (length left.rest) place before left
 

@@ -12,7 +12,7 @@ use crate::table::{Place, Row, find_row, lists_place, may_repeat_in};
 use crate::value::{Item, Value, is_in_range, is_wild_in, read_value};
 use mq_wire::Cursor;
 
-// The line of the identifier at a place, if a property with it may stand in the list behind those seen.
+// The line of the identifier at a place, if a property with it may stand in the list after those seen.
 fn admit(place: Place, seen: &Seen, at: usize, id: u32) -> Result<Row, PropFault>
     ensures { (before : List Property) → Sees seen.now before → Gives row_view result (judged_at at (admitted place before (row_of id))) }
 {
@@ -56,7 +56,7 @@ fn judge<'a>(place: Place, row: Row, at: usize, value: Value<'a>) -> Result<Item
     Ok(Item { id: row.0, value })
 }
 
-// A property at the front of what is left, behind those seen.
+// A property at the front of what is left, after those seen.
 #[tactic(auto, unfolding(crate::specs::Reading::property_on))]
 fn read_item<'a>(place: Place, seen: &Seen, cursor: &mut Cursor<'a>) -> Result<Item<'a>, PropFault>
     ensures { (before : List Property) → Sees seen.now before → Reads item_view result (property_on place before cursor.old) cursor.new }

@@ -68,7 +68,7 @@ fn all_of<'a>(place: Place, at: usize, bytes: &'a [u8]) -> Result<Props<'a>, Pro
     Ok(Props { place, bytes })
 }
 
-// What stands behind the first byte, where that is 0.
+// What stands after the first byte, where that is 0.
 #[inline(always)]
 fn behind_zero(bytes: &[u8]) -> Option<&[u8]>
     ensures { IfSome result (λ behind. bytes.now ≡ 0 ∷ behind.now) }
@@ -175,7 +175,7 @@ impl<'a> Props<'a> {
             → IsOkAnd result (λ props. props.items ≡ ps) × (cursor.new ≡ past cursor.old (length bytes)) }
         // Else the first bad field is named.
         ensures broken { IfErr result (λ fault. Breaks place cursor.old fault) }
-        // It begins in what was left, or right behind it.
+        // It begins in what was left, or right after it.
         ensures within { IfErr result (λ fault. (cursor.old.at ≤ fault.at) × (fault.at ≤ cursor.old.at + length cursor.old.rest)) }
         ensures exact { Reads (λ props. props.items) result (list_on place cursor.old) cursor.new }
         ensures place { IfOk result (λ props. props.place ≡ place) }

@@ -13,7 +13,7 @@ first_fault-cons : (level : List ℕ) (levels : List (List ℕ)) → 0 < length 
 first_fault-cons level [] h = absurd (omega arith)
 first_fault-cons level (next ∷ levels) h = refl
 
--- with a `/` in the text, its first level is judged and then the levels behind it
+-- with a `/` in the text, its first level is judged and then the levels after it
 pub first_fault-cut : (bytes : List ℕ) → position_or_len is_slash bytes < length bytes
     → first_fault (levels_of bytes) ≡ or_else (level_fault (before_first is_slash bytes) false) (first_fault (levels_of (after_first is_slash bytes)))
 first_fault-cut bytes h =

@@ -24,7 +24,7 @@ levels-uncut bytes uncut = slice_split_none is_slash bytes (λ k d lt. fails_bef
 has_levels : (bytes : List ℕ) → 0 < length (levels_of bytes)
 has_levels bytes = omega (arith, length-slice_split is_slash bytes)
 
--- no matter what it is, nothing behind `&&` or `||` counts that is false
+-- no matter what it is, nothing after `&&` or `||` counts that is false
 and_false : (a : Bool) → (a && false) ≡ false
 and_false true = refl
 and_false false = refl

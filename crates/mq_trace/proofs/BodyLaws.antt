@@ -119,7 +119,7 @@ module _ (r : Reading) (way : Way) (left : ℕ) (sound : IsSound r) (staged : r.
       ∙ ap (λ f. flowed (context_of r part) way (length part + length bytes == 5 + body_length part) (flow_behind (bed_for r way) f bytes) bytes) (flow_same r way part)
       ∙ ap (λ t. flowed (context_of r part) way t (flow_behind (bed_for r way) (flow_for r way) bytes) bytes) (left_whole part bytes at short)
 
-  -- The packet of a byte behind them is the direction's.
+  -- The packet of a byte after them is the direction's.
   pub body_so_far : (part bytes : List ℕ) (byte : ℕ) → IsAt r.stage part → length bytes < left
       → so_far_for (behind (context_of r part) bytes) byte ≡ so_far_in (flow_behind (bed_for r way) (flow_for r way) bytes).half byte
   body_so_far part bytes byte at short =
@@ -135,7 +135,7 @@ module _ (r : Reading) (way : Way) (left : ℕ) (sound : IsSound r) (staged : r.
       ∙ lifted-so_far (flowed (context_of r part) way false f bytes) way byte (ap way_of (kind_of-append part bytes (omega arith)) ∙ body_goes part at) (omega arith)
       ∙ ap (λ half. so_far_in half byte) (half_flowed (context_of r part) way f bytes)
 
-  -- where the part is behind them
+  -- where the part is after them
   left_at : (part bytes : List ℕ) → IsAt r.stage part → length bytes ≤ left → (t : Bool) → (left - length bytes == 0) ≡ t
       → IsAt (if t then stages.Between else stages.Body way (left - length bytes)) (cond t [] (part ++ bytes))
   left_at part bytes at short true is = refl

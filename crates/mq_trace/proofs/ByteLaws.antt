@@ -78,7 +78,7 @@ module _ {S : Type 0} (agrees : S → List Placed → Type 0) (declines : S → 
     told = λ earlier was are. subst (agrees sink) (sym (ap (λ (heard : List Placed). heard ++ earlier) unheard)) was;
   }
 
-  -- A byte behind which the fixed header is short only stays.
+  -- A byte after which the fixed header is short only stays.
   pub comes_short : (t : List ℕ) (gone : Bool) (sink : S) → IsByteMore limit u byte t → gone ≡ false → fixed_header_of t ≡ headers.Short
       → FlowComes agrees limit (bed_of bed) before (flow_of (at + 1) (record { unfinished = t; lost = gone }) c) (byte ∷ []) sink sink
   comes_short t gone sink more there short =
@@ -212,7 +212,7 @@ module _ {S : Type 0} (agrees : S → List Placed → Type 0) (declines : S → 
       why_by so_far met heard same one (inl x) = inl (same ∙ x.0, x.1)
       why_by so_far met heard same one (inr x) = inr (inr (same ∙ x.0, ap length one, subst (λ (l : List Placed). RefusedBySink declines at l old new refusal) (sym one) x.1))
 
--- What is kept behind the byte is unfinished, if its packet isn't whole.
+-- What is kept after the byte is unfinished, if its packet isn't whole.
 pub sound_short : (limit : ℕ) (t : List ℕ) (gone : Bool) → gone ≡ false → fixed_header_of t ≡ headers.Short → IsUnfinished limit (record { unfinished = t; lost = gone })
 sound_short limit t gone there short = (subst (IsShort limit t) (sym short) (short_few t short), λ e. absurd (cc))
 
@@ -223,7 +223,7 @@ sound_more limit u byte header size t gone more there whole may lacks =
     let both : (length t < size) × (size ≤ limit) = (below (length t) size known.there lacks, known.within) in
     (subst (IsShort limit t) (sym whole) both, λ e. absurd (cc)))
 
--- So is what is kept behind a packet's last byte, or behind the one that loses the direction: nothing.
+-- So is what is kept after a packet's last byte, or after the one that loses the direction: nothing.
 nothing_short : fixed_header_of [] ≡ headers.Short
 unfolding fixed_header_of
 nothing_short = refl
@@ -255,6 +255,6 @@ emptied_to (Err refusal) half gone there e = tt
 pub still_there : (half : Half) → half.lost ≡ false → going_on half.unfinished ≡ half
 still_there half there = ap (λ (b : Bool). record { unfinished = half.unfinished; lost = b }) (sym there)
 
--- One byte was put behind those of an unfinished packet.
+-- One byte was put after those of an unfinished packet.
 pub one_more : (limit : ℕ) (half new : Half) (byte : ℕ) (gone : Bool) → IsUnfinished limit half → new ≡ record { unfinished = half.unfinished ++ byte ∷ []; lost = gone } → IsByteMore limit half.unfinished byte new.unfinished
 one_more limit half new byte gone unfinished e = record { unfinished = (unfinished.0, λ l. absurd (cc)); is = ap (λ (h : Half). h.unfinished) e }

@@ -30,7 +30,7 @@ refused-grow limit log byte =
     ap (refused_back limit) (reverse-append log (byte ∷ []))
     ∙ ap (λ earlier. or_else (refused_back limit (reverse log)) (refusal_at limit earlier byte)) (reverse-reverse log)
 
--- the record and the packet of a byte behind the header
+-- the record and the packet of a byte after the header
 part-kept : (log : List ℕ) (byte : ℕ) → 8 ≤ length log → part_at log byte ≡ (records log).rest ++ byte ∷ []
 unfolding part_at
 part-kept log byte h = ap newest (begun-grow log byte h)

@@ -35,7 +35,7 @@ with_item : (server : Bool) (c : Connections) (way : Way) (item : Item) → conn
 with_item server c ways.Sent item = refl
 with_item server c ways.Recv item = refl
 
--- what is kept behind an item, if there is one
+-- what is kept after an item, if there is one
 pub flow_then : (bed : BedInMemory) (at : ℕ) (half : Half) (c : Connections) (item : Option Item)
     → flow_with (bed_of bed) (flow_of at half c) (option_map (going bed.way) item) ≡ flow_of at half (connections_then bed.server c (option_map (going bed.way) item))
 flow_then bed at half c None = refl
@@ -197,7 +197,7 @@ module _ {S : Type 0} (agrees : S → List Placed → Type 0) (declines : S → 
             (flow_heard (bed_of bed) f (cut.before ++ cut.byte ∷ [])) met (heard ∙ ap (λ (o : Option Placed). put o []) (placed_same (bed_of bed) at last (going_on u) (going_on []) c (frame_event bed.way (u ++ bytes)))) old new refusal untold);
       })
     where
-      -- what isn't met is an item, and is heard
+      -- what isn't met is an item, and is received
       one_heard : (event : Option Event) → frame_event bed.way (u ++ bytes) ≡ event → frame_met last (flow_of last (going_on []) c) bed.way (u ++ bytes) ≡ None
           → length (put (flow_placed_with (bed_of bed) (flow_of last (going_on []) c) (frame_event bed.way (u ++ bytes))) []) ≡ 1
       one_heard None e none = let some : frame_met last (flow_of last (going_on []) c) bed.way (u ++ bytes) ≡ Some (refusals.OtherVersion last) = met_none last (flow_of last (going_on []) c) bed.way (u ++ bytes) e in absurd (cc)

@@ -22,7 +22,7 @@ use Rattle.mq_trace.proofs.StepLaws.{placed_none, placed_some, fifth_length, fif
 use Rattle.mq_trace.proofs.FramingLaws.{body_length-append, kind_of-append}
 use Rattle.mq_trace.proofs.StageLaws.{one_step, begun_some, head_behind, head_room, head_is, head_long, head_opens}
 
--- What a step that completes an event does with each part: what it meets, what is heard, and what is kept.
+-- What a step that completes an event does with each part: what it meets, what is received, and what is kept.
 abbrev pub Tells : Reading → ℕ → Event → Type 0
 Tells r b event = (part : List ℕ) → IsAt r.stage part → (refusal_for r.limit (context_of r part) b ≡ met_by r.at r.connections event)
     × (placed_for (context_of r part) b ≡ Some (next_placed r.connections (r.records + 1) event))

@@ -16,7 +16,7 @@ use Rattle.mq_trace.specs.Refusals.{or_else, first_standing, is_too_large, is_ot
 use Rattle.mq_trace.specs.Context.{Half, so_far_in, half_after, put}
 use Rattle.mq_trace.specs.Flows.{Bed, Flow, going, comes_early, flow_event, flow_refusal, flow_placed, flow_placed_with, flow_with, flow_after, flow_behind, flow_refused, flow_heard}
 
--- What bytes leave behind them, refuse and complete is told by any two parts of them.
+-- What bytes leave after them, refuse and complete is told by any two parts of them.
 pub behind-append : (bed : Bed) (f : Flow) (a b : List ℕ) → flow_behind bed f (a ++ b) ≡ flow_behind bed (flow_behind bed f a) b
 behind-append bed f [] b = refl
 behind-append bed f (byte ∷ a) b = behind-append bed (flow_after bed f byte) a b
@@ -194,7 +194,7 @@ header_byte limit bed f u byte header size e whole less may =
     (no_frame_yet (u ++ byte ∷ []) header size whole less)
     (ap (is_too_large limit (u ++ byte ∷ [])) whole ∙ small limit u byte header size may)
 
--- a byte of a packet whose header may be whole, where more bytes are behind it
+-- a byte of a packet whose header may be whole, where more bytes are after it
 unfinished_byte : (limit : ℕ) (bed : Bed) (f : Flow) (u : List ℕ) (byte : ℕ) (more : List ℕ) (header size : ℕ) → f.half ≡ going_on u
     → fixed_header_of ((u ++ byte ∷ []) ++ more) ≡ headers.Whole header size → length ((u ++ byte ∷ []) ++ more) < size → (size ≤ limit) ⊎ (header ≤ length u)
     → IsQuietByte limit bed f byte (going_on (u ++ byte ∷ []))
@@ -451,7 +451,7 @@ has_last (byte ∷ bytes) some = last_of byte bytes
 rejoined : (u bytes p : List ℕ) (byte : ℕ) → bytes ≡ p ++ byte ∷ [] → (u ++ p) ++ byte ∷ [] ≡ u ++ bytes
 rejoined u bytes p byte e = append_assoc u p (byte ∷ []) ∙ ap (λ t. u ++ t) (sym e)
 
--- Bytes that complete a packet, and go on behind it with none: only its last one completes anything, and is refused for that alone.
+-- Bytes that complete a packet, and go on after it with none: only its last one completes anything, and is refused for that alone.
 pub complete-refused : (limit : ℕ) (bed : Bed) (f : Flow) (u bytes : List ℕ) (header size at : ℕ) → f.half ≡ record { unfinished = u; lost = false }
     → fixed_header_of (u ++ bytes) ≡ headers.Whole header size → size ≡ length (u ++ bytes) → 0 < length bytes → at + 1 ≡ f.at + length bytes → (size ≤ limit) ⊎ (header ≤ length u)
     → flow_refused limit bed f bytes ≡ first_standing (

@@ -9,7 +9,7 @@ use Rattle.mq_trace.specs.Pieces.{Pieces, pieces}
 use Rattle.mq_trace.specs.Framing.{kind_of, body_length, record_size, records, begun, begun_with, way_of, opens, if_way, carried}
 use Rattle.mq_trace.proofs.PiecesLaws.{Settles, grown, rest_none, pieces-grow, nothing_cut}
 
--- a record's length depends on no byte behind its head
+-- a record's length depends on no byte after its head
 pub body_length-append : (a c : List ℕ) → 5 ≤ length a → body_length (a ++ c) ≡ body_length a
 unfolding body_length
 body_length-append a c h =

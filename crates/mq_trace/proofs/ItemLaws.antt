@@ -75,7 +75,7 @@ pub fault_item : (frame : List ℕ) (header : ℕ) (fault : DecodeFault) → Who
     → item_read (length frame) (slice_index frame 0) (read_frame frame) ≡ item_read (length frame) (slice_index frame 0) (Err fault)
 fault_item frame header fault e read = ap (item_read (length frame) (slice_index frame 0)) (read_by_body frame header (length frame) e ∙ read)
 
--- A frame that is an item meets what its event meets, and what is kept and heard is the event's.
+-- A frame that is an item meets what its event meets, and what is kept and received is the event's.
 met_read : (at n b : ℕ) (half : Half) (c : Connections) (way : Way) (item : Item) (read : Result Entry DecodeFault) → item_read n b read ≡ Some item → is_other_version read ≡ false
 met_read at n b half c way item (Ok entry) e = refl
 met_read at n b half c way item (Err (Broken fault)) e = refl

@@ -213,7 +213,7 @@ begins_by (Some kinds.Recv) part so_far = by (item_at so_far)
     by None = refl
     by (Some item) = refl
 
--- the event of a byte behind the header
+-- the event of a byte after the header
 event_is : (log : List ℕ) (byte : ℕ) → 8 ≤ length log
     → event_for (context log) byte ≡ event_by (kind_of ((records log).rest ++ byte ∷ [])) ((records log).rest ++ byte ∷ []) (so_far_for (context log) byte)
 unfolding event_for event_in

@@ -97,7 +97,7 @@ half_same ways.Sent ways.Recv c byte = refl
 half_same ways.Recv ways.Sent c byte = refl
 half_same ways.Recv ways.Recv c byte = refl
 
--- what is kept behind a byte of a record, from what it makes of each part
+-- what is kept after a byte of a record, from what it makes of each part
 abbrev kept : Context → List ℕ → Bool → Half → Half → Option Event → Context
 kept c part whole sent recv event = with_heard (record c {
   at = c.at + 1;
@@ -210,7 +210,7 @@ module _ (c : Context) (way : Way) (byte : ℕ) (behind_header : 8 ≤ c.at) (go
   unfolding flow_event
   flow_event_is = refl
 
-  -- What is kept behind the byte is what the flow keeps.
+  -- What is kept after the byte is what the flow keeps.
   after_lifted : length c.part < 5 + body_length c.part → after c byte ≡ flowed c way (length c.part + 1 == 5 + body_length c.part) (flow_after bed flow byte) (byte ∷ [])
   unfolding after
   after_lifted less =
@@ -266,7 +266,7 @@ after_connected : (bed : Bed) (f : Flow) (byte : ℕ) → (flow_after bed f byte
 unfolding flow_after
 after_connected bed f byte = flow_with_connected bed (record f { at = f.at + 1; half = half_after f.half byte }) (flow_event bed f byte)
 
--- A flow is found again in what is kept behind it.
+-- A flow is found again in what is kept after it.
 flow_again : (c : Context) (way : Way) (g : Flow) (bytes : List ℕ) → g.connected ≡ c.connected → flow_in (flowed c way false g bytes) way ≡ g
 flow_again c ways.Sent g bytes e = ap (λ b. record g { connected = b }) (sym e)
 flow_again c ways.Recv g bytes e = ap (λ b. record g { connected = b }) (sym e)
@@ -279,7 +279,7 @@ flowed_none : (c : Context) (way : Way) → flowed c way false (flow_in c way) [
 flowed_none c ways.Sent = ap (λ t. record c { part = t }) (append-nil c.part)
 flowed_none c ways.Recv = ap (λ t. record c { part = t }) (append-nil c.part)
 
--- a byte of a body behind which more of the body stands
+-- a byte of a body after which more of the body stands
 module _ (c : Context) (way : Way) (byte next : ℕ) (bytes : List ℕ) (behind_header : 8 ≤ c.at) (goes : way_of (kind_of c.part) ≡ Some way) (there : 5 ≤ length c.part)
     (fits : length c.part + length (byte ∷ next ∷ bytes) ≤ 5 + body_length c.part) where
   abbrev then_flow : Flow

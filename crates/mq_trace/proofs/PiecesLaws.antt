@@ -5,13 +5,13 @@ use Rattle.std.specs.List.{AllByRecursion, flat_map}
 use Rattle.std.proofs.lemmas.List.{take_all, drop_all, take-append-le, drop-append-le, take-append-drop, append-nil, length-take-le, take_at, drop_at}
 use Rattle.mq_trace.specs.Pieces.{Pieces, pieces, at_most, with_piece, AreCut}
 
--- The size of a piece is above 0 and within the bytes, and depends on no byte behind the piece.
+-- The size of a piece is above 0 and within the bytes, and depends on no byte after the piece.
 pub record Settles (size_at : List ℕ → Option ℕ) : Type 0 where
   pub bound : (a : List ℕ) (n : ℕ) → size_at a ≡ Some n → (0 < n) × (n ≤ length a)
   pub stays : (a c : List ℕ) (n : ℕ) → size_at a ≡ Some n → size_at (a ++ c) ≡ Some n
   pub back : (a c : List ℕ) (n : ℕ) → size_at (a ++ c) ≡ Some n → n ≤ length a → size_at a ≡ Some n
 
--- pieces and rest, behind pieces
+-- pieces and rest, after pieces
 abbrev pub joined : Pieces → Pieces → Pieces
 joined p q = record { whole = p.whole ++ q.whole; rest = q.rest }
 
@@ -102,7 +102,7 @@ module _ (size_at : List ℕ → Option ℕ) (settles : Settles size_at) where
   append_at zero a c p = rw (front a, none_in_nothing a p) refl
   append_at (suc n) a c p = rw (front a) (append_by n a c p (λ b h. append_at n b c h) (size_at a) refl (size_at (a ++ c)) refl)
 
-  -- more bytes are cut behind the rest
+  -- more bytes are cut after the rest
   pub pieces-append : (a c : List ℕ) → pieces size_at (a ++ c) ≡ joined (pieces size_at a) (pieces size_at ((pieces size_at a).rest ++ c))
   pieces-append a c = append_at (length a) a c (omega arith)
 

@@ -28,7 +28,7 @@ heard_append c (byte ∷ a) b =
     ap (λ events. events ++ put (placed_for c byte) []) (heard_append (after c byte) a b)
     ∙ append_assoc (heard_in (behind (after c byte) a) b) (heard_in (after c byte) a) (put (placed_for c byte) [])
 
--- bytes behind a log, one after the other
+-- bytes after a log, one after the other
 more : (log : List ℕ) (byte : ℕ) (bytes : List ℕ) → log ++ byte ∷ bytes ≡ (log ++ byte ∷ []) ++ bytes
 more log byte bytes = sym (append_assoc log (byte ∷ []) bytes)
 

@@ -51,7 +51,7 @@ event_counted c at count byte h h' =
     ∙ ap (event_in (c.part ++ byte ∷ [])) (so_far_counted c at count byte)
     ∙ sym (event_known c byte h)
 
--- .. nor does what is kept behind it, but for themselves.
+-- .. nor does what is kept after it, but for themselves.
 after_known : (c : Context) (byte : ℕ) → 8 ≤ c.at → after c byte ≡ with_heard (after_part c (c.part ++ byte ∷ []) byte) (event_for c byte)
 unfolding after
 after_known c byte h = ap (λ t. if t then after_header c byte else with_heard (after_part c (c.part ++ byte ∷ []) byte) (event_for c byte)) (le-ltb c.at 8 h)
@@ -142,7 +142,7 @@ flow_heard_moved bed f count at (byte ∷ bytes) =
     ∙ flow_heard_moved bed (flow_after bed f byte) count (at + 1) bytes)
     (flow_placed_moved bed f count at byte)
 
--- behind these bytes the flow stands at this place, where it began at that one
+-- after these bytes the flow stands at this place, where it began at that one
 abbrev place_behind : ℕ → List ℕ → ℕ
 place_behind at [] = at
 place_behind at (byte ∷ bytes) = place_behind (at + 1) bytes
@@ -261,11 +261,11 @@ module _ (c : Context) (way : Way) (x y z w : ℕ) (h : 8 ≤ c.at) (none : c.pa
       ∙ middle_heard begun_one (way_byte way) x y z (omega arith) refl (unopened way []))
       ∙ placed_none c (way_byte way) (first_event c (way_byte way) h none)
 
--- the direction behind the head of a record
+-- the direction after the head of a record
 abbrev entered : Context → Way → Flow
 entered c way = record (flow_in c way) { at = behind_head c.at }
 
--- what is kept behind a whole record, from what the flow keeps behind its body
+-- what is kept after a whole record, from what the flow keeps after its body
 abbrev whole_behind : Context → Way → Flow → Context
 whole_behind c way f = flowed c way true f []
 
@@ -407,7 +407,7 @@ module _ (c : Context) (way : Way) (a b : List ℕ) (h : 8 ≤ c.at) (none : c.p
       ∙ ap (λ t. heard_in (whole_behind c way ended) later ++ t) one_heard
       ∙ sym (append_assoc (heard_in (whole_behind c way ended) later) (flow_heard bed amid b) (flow_heard bed (entered c way) a))
 
-  -- What is heard of both is the same but for the numbers of the records.
+  -- What is received of both is the same but for the numbers of the records.
   split_heard : (later : List ℕ) → map but_record (heard_in c (framed (way_byte way) (a ++ b) ++ later))
       ≡ map but_record (heard_in c (framed (way_byte way) a ++ (framed (way_byte way) b ++ later)))
   split_heard later =
@@ -425,7 +425,7 @@ module _ (c : Context) (way : Way) (a b : List ℕ) (h : 8 ≤ c.at) (none : c.p
       refl
       ∙ ap (map but_record) (sym (two_heard later))
 
--- Splitting such a record, behind a log of whole records, changes the events in the numbers of their records alone.
+-- Splitting such a record, after a log of whole records, changes the events in the numbers of their records alone.
 split_behind : (way : Way) (before later a b : List ℕ) → 8 ≤ length before → (records before).rest ≡ [] → length (a ++ b) < 2 ^ 32
     → map but_record (events (before ++ (framed (way_byte way) (a ++ b) ++ later))) ≡ map but_record (events (before ++ (framed (way_byte way) a ++ (framed (way_byte way) b ++ later))))
 split_behind way before later a b long whole fits =

@@ -141,7 +141,7 @@ pub first_refused : (r : Reading) (b : ℕ) (kind : Option RecordKind) (refusal 
 first_refused r b None refusal behind between named met part at = unnamed_refused r b behind between named part at ∙ met
 first_refused r b (Some kind) refusal behind between named met part at = named_refused r b kind refusal behind between named met part at
 
--- the reader behind a record's first byte, apart from where its directions' bytes lie
+-- the reader after a record's first byte, apart from where its directions' bytes lie
 begun_context : (r r' : Reading) (b : ℕ) (kind : RecordKind) → kind_named b ≡ Some kind → Begins r r' kind
     → record (context_of r []) { at = r.at + 1; part = b ∷ []; sent = cond (opens (kind_named b)) emptied (half_in r.sent); recv = cond (opens (kind_named b)) emptied (half_in r.recv) } ≡ context_of r' (b ∷ [])
 begun_context r r' b kind named begins =

@@ -116,7 +116,7 @@ event_with c b part h is none =
     ∙ ap (λ bytes. event_in bytes (so_far_for c b)) is
     ∙ ap (event_in part) none
 
--- what is kept behind a byte of a record, its tests told
+-- what is kept after a byte of a record, its tests told
 abbrev settled_with : Context → List ℕ → (whole : Bool) → Half → Half → Context
 settled_with c part whole s r = record c {
   at = c.at + 1;
@@ -229,7 +229,7 @@ stays false half empty = refl
 opens_more : (c : Context) (b : ℕ) → 1 ≤ length c.part → opens (kind_of (c.part ++ b ∷ [])) ≡ opens (kind_of c.part)
 opens_more c b some = ap opens (kind_of-append c.part (b ∷ []) (omega arith))
 
--- Behind its first byte a record's head leaves the directions as they are.
+-- After its first byte a record's head leaves the directions as they are.
 sent_stays : (c : Context) (b : ℕ) → 1 ≤ length c.part → length c.part ≤ 4 → (opens (kind_of c.part) ≡ true → (c.sent ≡ emptied) × (c.recv ≡ emptied))
     → half_then ways.Sent c.sent (c.part ++ b ∷ []) b ≡ c.sent
 sent_stays c b some short opening =

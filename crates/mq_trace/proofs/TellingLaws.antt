@@ -27,7 +27,7 @@ told_stops declines r b event old new (Ok a) tells untold = tt
 told_stops declines r b event old new (Err refusal) tells untold =
     stops_untold declines r b (met_by r.at r.connections event) (next_placed r.connections (r.records + 1) event) old new refusal (λ part at. (let told = tells part at in (told.0, told.1))) untold
 
--- What comes behind a quiet step.
+-- What comes after a quiet step.
 pub result_comes : {S A : Type 0} (agrees : S → List Placed → Type 0) (r r1 r2 : Reading) (a b : List ℕ) (old new : S) (result : Result A Refusal) → Advances r r1 a []
     → OnOk result (Comes agrees r1 r2 b old new) → OnOk result (Comes agrees r r2 (a ++ b) old new)
 result_comes agrees r r1 r2 a b old new (Ok x) quiet comes = comes_after agrees r r1 r2 a b old new quiet comes

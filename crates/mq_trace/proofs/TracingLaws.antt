@@ -22,7 +22,7 @@ use Rattle.mq_trace.specs.Tracing.{Keeps, HasHeard, IsRefused, LacksMemory, Sink
 use Rattle.mq_trace.proofs.ContextLaws.{at_context, part_context, context_is, context-nothing, refused-nothing, packet-kept, header-so_far, event-kept, refused-grow}
 use Rattle.mq_trace.proofs.RunLaws.{heard_append, context_run, events_run, passes, stops}
 
--- A reader that keeps a log and comes on with some bytes keeps the log with these bytes behind it.
+-- A reader that keeps a log and comes on with some bytes keeps the log with these bytes after it.
 pub keeps_on : {S : Type 0} (agrees : S → List Placed → Type 0) (r r' : Reading) (log bytes : List ℕ) (old new : S) → Keeps r log → Comes agrees r r' bytes old new → Keeps r' (log ++ bytes)
 keeps_on agrees r r' log bytes old new keeps comes =
     (let step = comes.advances.each keeps.part keeps.stands in
@@ -34,7 +34,7 @@ keeps_on agrees r r' log bytes old new keeps comes =
       kept = context_run log bytes ∙ ap (λ (c : Context). behind c bytes) keeps.kept ∙ step.3;
     })
 
--- A sink that had heard the events of the log has heard those of the longer log then.
+-- A sink that had received the events of the log has received those of the longer log then.
 pub hears_on : {S : Type 0} (agrees : S → List Placed → Type 0) (r r' : Reading) (log bytes : List ℕ) (old new : S) → Keeps r log → Comes agrees r r' bytes old new → HasHeard agrees log bytes old new
 hears_on agrees r r' log bytes old new keeps comes =
     (let step = comes.advances.each keeps.part keeps.stands in
@@ -66,7 +66,7 @@ packet_there limit log byte needs = by_length (nat_lt (length log) 8) refl
 
 -- What stops a step stops the log.
 module _ {S : Type 0} (agrees : S → List Placed → Type 0) (refuses : S → List Placed → Refusal → Type 0) (r : Reading) (log : List ℕ) (keeps : Keeps r log) where
-  -- the byte behind these bytes
+  -- the byte after these bytes
   module _ (taken : List ℕ) (byte : ℕ) (unrefused : refused_in r.limit (context_of r keeps.part) taken ≡ None) (unheard : heard_in (context_of r keeps.part) taken ≡ []) where
     taken_in : refused r.limit (log ++ taken) ≡ None
     taken_in = passes r.limit log taken keeps.unrefused (ap (λ (c : Context). refused_in r.limit c taken) keeps.kept ∙ unrefused)
@@ -185,7 +185,7 @@ ends_kept agrees first now piece rest old new goes none log keeps =
     let here = goes.each log keeps in
     (subst (λ (l : List ℕ). Keeps now (log ++ l)) all here.0, subst (λ (l : List ℕ). HasHeard agrees log l old new) all here.1))
 
--- Why a byte isn't taken in behind some bytes, seen from before them.
+-- Why a byte isn't taken in after some bytes, seen from before them.
 why_joined : {S : Type 0} (agrees : S → List Placed → Type 0) (refuses : S → List Placed → Refusal → Type 0) (limit : ℕ) (log done taken : List ℕ) (byte : ℕ) (old mid new : S) (refusal : Refusal)
     → HasHeard agrees log done old mid → Why agrees refuses limit (log ++ done) taken byte mid new refusal → Why agrees refuses limit log (done ++ taken) byte old new refusal
 why_joined agrees refuses limit log done taken byte old mid new refusal before (inl x) =
@@ -229,7 +229,7 @@ stops_piece agrees refuses first now piece rest old mid new refusal goes stop lo
           (why_joined agrees refuses now.limit log goes.done here.taken here.byte old mid new refusal before.1 here.why);
     })
 
--- all that is behind the first bytes
+-- all that is after the first bytes
 pub rest_same : (n : ℕ) (rest : List ℕ) → take (length rest - n) (drop n rest) ≡ drop n rest
 rest_same n rest = (let behind : length (drop n rest) ≡ length rest - n = length-drop n rest in take_all (length rest - n) (drop n rest) (omega arith))
 

@@ -142,7 +142,7 @@ with_heard c (Some event) = record c {
   answered = is_answer c.header.server event || (not (begins event) && c.answered);
 }
 
--- behind one more byte of the header
+-- after one more byte of the header
 abbrev pub after_header : Context → ℕ → Context
 after_header c byte = record c {
   at = c.at + 1;
@@ -152,7 +152,7 @@ after_header c byte = record c {
   };
 }
 
--- behind one more byte of a record, whose bytes so far are these
+-- after one more byte of a record, whose bytes so far are these
 abbrev pub after_part : Context → List ℕ → ℕ → Context
 after_part c part byte = record c {
   at = c.at + 1;
@@ -162,6 +162,6 @@ after_part c part byte = record c {
   recv = half_then ways.Recv c.recv part byte;
 }
 
--- what is kept behind the next byte
+-- what is kept after the next byte
 unfoldable pub after : Context → ℕ → Context
 after c byte = if nat_lt c.at 8 then after_header c byte else with_heard (after_part c (c.part ++ byte ∷ []) byte) (event_for c byte)

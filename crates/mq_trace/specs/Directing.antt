@@ -31,7 +31,7 @@ frame_met at f way frame = first_standing (
     ∷ (is_some (frame_event way frame) && nat_le 4294967295 f.events, refusals.TooLong at)
     ∷ [])
 
--- what is kept of the events, behind one more if there is one
+-- what is kept of the events, after one more if there is one
 abbrev pub connections_then : Bool → Connections → Option Event → Connections
 connections_then server c None = c
 connections_then server c (Some event) = connections_with server c event
@@ -59,7 +59,7 @@ pub record FlowStops {S : Type 0} (declines : S → S → List Placed → Refusa
   pub unheard : flow_heard bed f taken ≡ []
   pub why : FlowWhy declines limit (f.at + length taken) (so_far_in (flow_behind bed f taken).half byte) (flow_refused limit bed f (taken ++ byte ∷ [])) (flow_heard bed f (taken ++ byte ∷ [])) old new refusal
 
--- These bytes bring a direction from one state to another: none of them is refused, and a sink that had heard what came before has heard the events too that they complete.
+-- These bytes bring a direction from one state to another: none of them is refused, and a sink that had received what came before has received the events too that they complete.
 pub record FlowComes {S : Type 0} (agrees : S → List Placed → Type 0) (limit : ℕ) (bed : Bed) (f f' : Flow) (bytes : List ℕ) (old new : S) : Type 0 where
   pub unrefused : flow_refused limit bed f bytes ≡ None
   pub kept : flow_behind bed f bytes ≡ f'

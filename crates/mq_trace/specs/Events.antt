@@ -38,7 +38,7 @@ item_read size first (Ok entry) = Some (packet size entry)
 item_read size first (Err (Broken fault)) = Some (bad first fault.rule fault.at)
 item_read size first (Err (OtherVersion version)) = None
 
--- what stands behind a packet's fixed header
+-- what stands after a packet's fixed header
 abbrev pub behind_header : FixedHeader → List ℕ → List ℕ
 behind_header (headers.Whole header size) frame = drop header frame
 behind_header headers.Short frame = []

@@ -55,16 +55,16 @@ flow_placed_with bed f (Some event) = Some (record { place = record { position =
 unfoldable pub flow_placed : Bed → Flow → ℕ → Option Placed
 flow_placed bed f byte = flow_placed_with bed f (flow_event bed f byte)
 
--- a flow behind an event, if there is one
+-- a flow after an event, if there is one
 abbrev pub flow_with : Bed → Flow → Option Event → Flow
 flow_with bed f None = f
 flow_with bed f (Some event) = record f { events = f.events + 1; answered = is_answer bed.server event || f.answered }
 
--- what is kept behind the next byte
+-- what is kept after the next byte
 unfoldable pub flow_after : Bed → Flow → ℕ → Flow
 flow_after bed f byte = flow_with bed (record f { at = f.at + 1; half = half_after f.half byte }) (flow_event bed f byte)
 
--- what is kept behind these bytes, the refusal that first stands at one of them, and the events that they complete, the newest first
+-- what is kept after these bytes, the refusal that first stands at one of them, and the events that they complete, the newest first
 abbrev pub flow_behind : Bed → Flow → List ℕ → Flow
 flow_behind bed f [] = f
 flow_behind bed f (byte ∷ bytes) = flow_behind bed (flow_after bed f byte) bytes
@@ -84,13 +84,13 @@ bed_in c way = record { way = way; server = c.header.server; record_no = c.recor
 abbrev pub flow_in : Context → Way → Flow
 flow_in c way = record { at = c.at; half = half_for c way; events = c.events; connected = c.connected; answered = c.answered }
 
--- a direction behind bytes that went this way: what the flow keeps of it, or what was there of the other one
+-- a direction after bytes that went this way: what the flow keeps of it, or what was there of the other one
 abbrev pub half_behind : Way → Way → Half → Half → Half
 half_behind ways.Sent ways.Sent new old = new
 half_behind ways.Recv ways.Recv new old = new
 half_behind _ _ new old = old
 
--- what is kept of the log behind bytes of a body, from what the flow keeps behind them; the record is whole with them, or not
+-- what is kept of the log after bytes of a body, from what the flow keeps after them; the record is whole with them, or not
 abbrev pub flowed : Context → Way → Bool → Flow → List ℕ → Context
 flowed c way whole f bytes = record c {
   at = f.at;

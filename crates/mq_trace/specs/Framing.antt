@@ -23,7 +23,7 @@ kind_named byte = if byte == 1 then Some kinds.Open else (if byte == 2 then Some
 unfoldable pub kind_of : List ℕ → Option RecordKind
 kind_of part = kind_named (slice_index part 0)
 
--- the length that the four bytes behind a record's first one tell
+-- the length that the four bytes after a record's first one tell
 unfoldable pub body_length : List ℕ → ℕ
 body_length part = from_be_bytes w32 (take 4 (drop 1 part))
 

@@ -1,4 +1,4 @@
--- What a sink hears of a log.
+-- What a sink receives of a log.
 use Rattle.std.specs.Prelude.{◌≡◌, ℕ, List, ◌++◌, Option, None, unwrap_or}
 use Rattle.mq_packet.specs.Reading.{view}
 use Rattle.mq_packet.specs.Sizes.{size_with, remaining_length}
@@ -36,6 +36,6 @@ pub record AreEvents (heard : List Placed) : Type 0 where
   pub unrefused : refused limit log ≡ None
   pub are : heard ≡ events log
 
--- A sink refused what came next: where it had received other events, and these follow them in a log, it has come to what refusing behind the others is.
+-- A sink refused what came next: where it had received other events, and these follow them in a log, it has come to what refusing after the others is.
 abbrev pub Declines : {S : Type 0} → (S → List Placed → Type 0) → (S → List Placed → Refusal → Type 0) → S → S → List Placed → Refusal → Type 0
 Declines agrees refuses old new completed own = (earlier : List Placed) → agrees old earlier → AreEvents (completed ++ earlier) → refuses new earlier own

@@ -93,7 +93,7 @@ pub record Advances (r r' : Reading) (bytes : List ℕ) (heard : List Placed) : 
   pub each : (part : List ℕ) → IsAt r.stage part → (part' : List ℕ) × IsAt r'.stage part' × (refused_in r.limit (context_of r part) bytes ≡ None)
       × (behind (context_of r part) bytes ≡ context_of r' part') × (heard_in (context_of r part) bytes ≡ heard)
 
--- With these bytes a reader comes from one state to another, and a sink that had heard what came before has heard the events too that they complete.
+-- With these bytes a reader comes from one state to another, and a sink that had received what came before has received the events too that they complete.
 pub record Comes {S : Type 0} (agrees : S → List Placed → Type 0) (r r' : Reading) (bytes : List ℕ) (old new : S) : Type 0 where
   pub heard : List Placed
   pub advances : Advances r r' bytes heard

@@ -5,7 +5,7 @@ use Rattle.std.specs.List.{AllByRecursion, flat_map}
 pub record Pieces : Type 0 where
   -- the whole pieces, in order
   pub whole : List (List ℕ)
-  -- what is behind them: no whole piece is at its front
+  -- what is after them: no whole piece is at its front
   pub rest : List ℕ
 
 -- a piece of this size at the front, where there is one, and then the others

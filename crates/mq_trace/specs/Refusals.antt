@@ -33,7 +33,7 @@ abbrev pub or_else : {A : Type 0} → Option A → Option A → Option A
 or_else (Some a) other = Some a
 or_else None other = other
 
--- Where a byte behind the header stands in its log, and what came before it.
+-- Where a byte after the header stands in its log, and what came before it.
 pub record Situation : Type 0 where
   -- the byte's offset in the log
   pub at : ℕ
@@ -122,7 +122,7 @@ abbrev pub first_standing : List (Bool × Refusal) → Option Refusal
 first_standing [] = None
 first_standing (line ∷ lines) = cond line.0 (Some line.1) (first_standing lines)
 
--- The conditions that stand with a byte behind the header, in the order of their numbers.
+-- The conditions that stand with a byte after the header, in the order of their numbers.
 abbrev pub conditions : ℕ → Situation → List (Bool × Refusal)
 conditions limit s =
     (is_first s && is_none (kind_of s.part), refusals.Kind s.at)

@@ -1,11 +1,11 @@
--- What bytes do that stand behind a log, as functions of what is kept of the log.
+-- What bytes do that stand after a log, as functions of what is kept of the log.
 use Rattle.std.specs.Prelude.{ℕ, List, [], ◌∷◌, ◌++◌, Option, Some, None}
 use Rattle.mq_trace.specs.declared.refusal.Refusal.{Refusal}
 use Rattle.mq_trace.specs.Events.{Placed}
 use Rattle.mq_trace.specs.Refusals.{or_else}
 use Rattle.mq_trace.specs.Context.{Context, refusal_for, placed_for, put, after}
 
--- what is kept behind these bytes
+-- what is kept after these bytes
 abbrev pub behind : Context → List ℕ → Context
 behind c [] = c
 behind c (byte ∷ bytes) = behind (after c byte) bytes

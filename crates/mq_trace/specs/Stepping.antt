@@ -1,4 +1,4 @@
--- The steps of a log's reader: its state behind the bytes of one.
+-- The steps of a log's reader: its state after the bytes of one.
 use Rattle.std.specs.Prelude.{◌≡◌, ℕ, ◌+◌, ◌==◌, nat_lt, ◌&&◌, not, cond, if◌then◌else◌, [], ◌∷◌, Option, Some, None, Result, Ok, Err}
 use Rattle.mq_trace.specs.declared.kind.RecordKind.{RecordKind}
 use Rattle.mq_trace.specs.declared.kind.Way.{Way}
@@ -23,7 +23,7 @@ abbrev pub err_of : {A : Type 0} → Result A Refusal → Option Refusal
 err_of (Ok a) = None
 err_of (Err refusal) = Some refusal
 
--- behind one more byte of the log's header
+-- after one more byte of the log's header
 abbrev pub behind_header : Reading → ℕ → Reading
 behind_header r byte = record r {
   at = r.at + 1;
@@ -42,7 +42,7 @@ met_by_kind r kind = first_standing (
     ∷ (nat_lt 4294967295 (r.records + 1), refusals.TooLong r.at)
     ∷ [])
 
--- behind the first byte of a record of this kind
+-- after the first byte of a record of this kind
 pub record Begins (r r' : Reading) (kind : RecordKind) : Type 0 where
   pub is : r' ≡ record r { at = r.at + 1; stage = stages.Head kind 0 0; sent = r'.sent; recv = r'.recv }
   pub sent : half_in r'.sent ≡ cond (opens (Some kind)) emptied (half_in r.sent)
@@ -53,11 +53,11 @@ abbrev pub refused_first : Reading → Option RecordKind → Option Refusal
 refused_first r None = Some (refusals.Kind r.at)
 refused_first r (Some kind) = met_by_kind r kind
 
--- behind more bytes of a record's head
+-- after more bytes of a record's head
 abbrev pub in_head : Reading → ℕ → RecordKind → ℕ → ℕ → Reading
 in_head r at kind count number = record r { at = at; stage = stages.Head kind count number }
 
--- behind the last byte of a record that completes this event
+-- after the last byte of a record that completes this event
 abbrev pub marked : Reading → Event → Reading
 marked r event = record r {
   at = r.at + 1;
@@ -89,6 +89,6 @@ abbrev pub redirected : Reading → Way → Direction → Reading
 redirected r ways.Sent d = record r { sent = d }
 redirected r ways.Recv d = record r { recv = d }
 
--- behind bytes of a body, of which so many are still to come
+-- after bytes of a body, of which so many are still to come
 abbrev pub carried_on : Reading → Way → ℕ → Direction → Connections → ℕ → Reading
 carried_on r way at d connections left = leaving (record (redirected r way d) { at = at; connections = connections }) way left

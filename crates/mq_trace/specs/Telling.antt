@@ -1,4 +1,4 @@
--- Telling a sink of an event: what can stand against it, and what is kept behind it.
+-- Telling a sink of an event: what can stand against it, and what is kept after it.
 use Rattle.std.specs.Prelude.{◌≡◌, ℕ, ◌+◌, ◌⊎◌, nat_le, Bool, ◌&&◌, ◌||◌, not, List, [], ◌∷◌, Option, Some, None}
 use Rattle.mq_trace.specs.declared.refusal.Refusal.{Refusal}
 use Rattle.mq_trace.specs.declared.refusal.Refusal.TheVariants as refusals
@@ -15,7 +15,7 @@ met_by at connections event = first_standing (
     ∷ (nat_le 4294967295 connections.events, refusals.TooLong at)
     ∷ [])
 
--- what is kept of the events, behind one more
+-- what is kept of the events, after one more
 abbrev pub connections_with : Bool → Connections → Event → Connections
 connections_with server connections event = record {
   events = connections.events + 1;

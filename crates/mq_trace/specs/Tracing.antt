@@ -29,7 +29,7 @@ pub record Follows (tracer : Traced) (log : List ℕ) : Type 0 where
   pub open_yet : tracer.refusal ≡ None
   pub keeps : Keeps tracer.reading log
 
--- A sink that had heard the events of the log has heard those of the log with these bytes behind it.
+-- A sink that had received the events of the log has received those of the log with these bytes after it.
 abbrev pub HasHeard : {S : Type 0} → (S → List Placed → Type 0) → List ℕ → List ℕ → S → S → Type 0
 HasHeard agrees log bytes old new = agrees old (events log) → agrees new (events (log ++ bytes))
 
@@ -45,7 +45,7 @@ pub record LacksMemory {S : Type 0} (agrees : S → List Placed → Type 0) (lim
   pub heard : HasHeard agrees log bytes old new
 
 -- The sink refused the event that the byte after these completes, at which no refusal's condition applies. If it had received the events of the log, it has come to what
--- refusing behind all events before the byte is.
+-- refusing after all events before the byte is.
 pub record SinkRefuses {S : Type 0} (agrees : S → List Placed → Type 0) (refuses : S → List Placed → Refusal → Type 0) (limit : ℕ) (log bytes : List ℕ) (byte : ℕ) (old new : S)
     (refusal : Refusal) : Type 0 where
   pub unmet : refusal_at limit (log ++ bytes) byte ≡ None
@@ -61,7 +61,7 @@ Why {S} agrees refuses limit log bytes byte old new refusal =
     ⊎ LacksMemory agrees limit log bytes byte old new refusal
     ⊎ SinkRefuses agrees refuses limit log bytes byte old new refusal
 
--- A piece behind a log isn't taken in: some byte of it isn't, and all before it are.
+-- A piece after a log isn't taken in: some byte of it isn't, and all before it are.
 pub record Stops {S : Type 0} (agrees : S → List Placed → Type 0) (refuses : S → List Placed → Refusal → Type 0) (limit : ℕ) (log piece : List ℕ) (old new : S) (refusal : Refusal) : Type 0 where
   pub taken : List ℕ
   pub byte : ℕ
@@ -70,7 +70,7 @@ pub record Stops {S : Type 0} (agrees : S → List Placed → Type 0) (refuses :
   pub unrefused : refused limit (log ++ taken) ≡ None
   pub why : Why agrees refuses limit log taken byte old new refusal
 
--- What feeding a piece behind a log answers.
+-- What feeding a piece after a log answers.
 abbrev pub Takes : {S : Type 0} → (S → List Placed → Type 0) → (S → List Placed → Refusal → Type 0) → ℕ → List ℕ → List ℕ → S → S → Result (Unit {0}) Refusal → Type 0
 Takes agrees refuses limit log piece old new (Ok _) = (refused limit (log ++ piece) ≡ None) × HasHeard agrees log piece old new
 Takes agrees refuses limit log piece old new (Err refusal) = Stops agrees refuses limit log piece old new refusal

@@ -106,7 +106,7 @@ fn tell_next<S: Sink>(
     }
 }
 
-/// What is kept behind one event more.
+/// What is kept after one event more.
 #[inline(always)]
 fn connections_with(connections: Connections, server: bool, event: &Event<'_>) -> Connections
     requires { connections.events < 4294967295 }

@@ -11,7 +11,7 @@ ghost use Rattle.mq_trace.specs.Refusals.{refused, is_cut_short};
 ghost use Rattle.mq_trace.specs.Rows.{client_header, silent_header, opened, closed, released};
 ghost use Rattle.mq_trace.specs.Context.{context, after, put, placed_for};
 
-/// Behind its header a log is its records, each a whole one, and a rest that no record is a prefix of; and only one list of records is so.
+/// After its header a log is its records, each a whole one, and a rest that no record is a prefix of; and only one list of records is so.
 pub fn log_is_its_records()
     ensures cut { (log : List ℕ) → AreCut record_size (drop 8 log) (records log) }
     ensures only { (log : List ℕ) (cut : Pieces) → AreCut record_size (drop 8 log) cut → cut ≡ records log }

@@ -47,7 +47,7 @@ fn refused_unless(fits: bool, refusal: Refusal) -> Option<Refusal>
     if fits { None } else { Some(refusal) }
 }
 
-/// The header, as known behind a byte of it at this offset: byte 5 names the tested end's role, and bit 0 of byte 6 says whether
+/// The header, as known after a byte of it at this offset: byte 5 names the tested end's role, and bit 0 of byte 6 says whether
 /// releases are recorded.
 pub fn header_after(header: Header, at: u64, byte: u8) -> Header
     ensures server { result.server ≡ (if at == 5 then byte == 1 else header.server) }

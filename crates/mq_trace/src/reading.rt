@@ -154,7 +154,7 @@ impl Reading {
         }
     }
 
-    /// Takes in all four bytes of a record's length, behind its first byte.
+    /// Takes in all four bytes of a record's length, after its first byte.
     #[inline(always)]
     fn take_length<S: Sink>(
         &mut self,
@@ -219,7 +219,7 @@ impl Reading {
         }
     }
 
-    /// Goes on behind the first byte of a record of this kind.
+    /// Goes on after the first byte of a record of this kind.
     #[inline(always)]
     fn begin(&mut self, kind: RecordKind)
         requires { self.old.at + 1 < 2 ^ 64 }
@@ -283,7 +283,7 @@ impl Reading {
         Ok(())
     }
 
-    /// Takes in the last byte of a record's head, behind three bytes of its length, which spell this number.
+    /// Takes in the last byte of a record's head, after three bytes of its length, which spell this number.
     #[inline(always)]
     fn end_head<S: Sink>(
         &mut self,

@@ -5,7 +5,7 @@ ghost use Rattle.mq_trace.specs.Events.{events};
 ghost use Rattle.mq_trace.specs.Writing.{sent, received, record_bytes};
 ghost use Rattle.mq_trace.specs.Splitting.{but_record};
 
-/// A record that carries packets may be split in two, anywhere, behind the header and whole records, whatever stands behind it: the events stay as they
+/// A record that carries packets may be split in two, anywhere, after the header and whole records, whatever stands after it: the events stay as they
 /// are, in their order and at their positions, and only the numbers of their records change.
 pub fn splitting_changes_record_numbers_alone()
     ensures sent { (before after a b : List ℕ) → 8 ≤ length before → (records before).rest ≡ [] → length (a ++ b) < 2 ^ 32

@@ -167,7 +167,7 @@ impl<W: Write> TraceWriter<W> {
         self.write(&record_head(kind, body.len() as u32), body)
     }
 
-    /// Writes some bytes, and others behind them, if no write has failed yet.
+    /// Writes some bytes, and others after them, if no write has failed yet.
     fn write(&mut self, front: &[u8], back: &[u8]) -> Result<(), WriteFault>
         ensures ok { OnOk result (WritesAll W.contents self.old self.new (front.now ++ back.now)) }
         ensures write { OnErr result (FailsToWrite W.contents self.old self.new (front.now ++ back.now)) }
@@ -212,7 +212,7 @@ fn record_head(kind: RecordKind, length: u32) -> [u8; 5]
     [byte_of(kind), highest, high, low, lowest]
 }
 
-/// Writes some bytes, and others behind them.
+/// Writes some bytes, and others after them.
 ///
 /// # Errors
 ///

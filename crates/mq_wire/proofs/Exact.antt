@@ -87,7 +87,7 @@ four_bytes_exact = record { only = λ bytes x n fits e. four_bytes_only bytes (x
 
 -- ---- binary data
 
--- what stands behind its length
+-- what stands after its length
 counted_stands : (a b n : ℕ) (bytes : List ℕ) → AreBytes (a ∷ b ∷ bytes) → n ≡ from_be_bytes w16 (a ∷ b ∷ []) → n ≤ length bytes → Stands IsBinary binary_spelling (a ∷ b ∷ bytes) (take n bytes) (2 + n)
 counted_stands a b n bytes fits is enough =
     let size : length (take n bytes) ≡ n = omega (arith, length-take n bytes) in

@@ -1,4 +1,4 @@
--- What a call of a cursor says of the reading behind it.
+-- What a call of a cursor says of the reading after it.
 use Rattle.std.proofs.Common.{◌≡◌, ℕ, Result, Ok, Err, ap, sym}
 use Rattle.mq_wire.specs.declared.fault.Reason.{Reason}
 use Rattle.mq_wire.specs.declared.fault.WireFault.{WireFault}

@@ -102,7 +102,7 @@ four_bytes_reason (a ∷ b ∷ []) reason e = cc
 four_bytes_reason (a ∷ b ∷ c ∷ []) reason e = cc
 four_bytes_reason (a ∷ b ∷ c ∷ d ∷ bytes) reason e = absurd cc
 
--- four bytes, of which those behind the front are missing
+-- four bytes, of which those after the front are missing
 four_bytes_of : (front missing : List ℕ) (a b c d : ℕ) → a ∷ b ∷ c ∷ d ∷ [] ≡ front ++ missing → 0 < length missing → AreBytes (a ∷ b ∷ c ∷ d ∷ []) → IsCutShort IsFourBytes four_bytes_spelling front
 four_bytes_of front missing a b c d is some_missing fits =
     record { value = from_be_bytes w32 (a ∷ b ∷ c ∷ d ∷ []); is_value = omega (arith, fits 0, fits 1, fits 2, fits 3); missing = missing; some_missing = some_missing; whole = four_bytes_from a b c d [] fits ∙ is }
@@ -263,7 +263,7 @@ binary_reason [] reason e = cc
 binary_reason (a ∷ []) reason e = cc
 binary_reason (a ∷ b ∷ bytes) reason e = counted_reason (from_be_bytes w16 (a ∷ b ∷ [])) bytes reason e
 
--- n bytes behind a length that says so, of which some are missing
+-- n bytes after a length that says so, of which some are missing
 binary_of : (front missing : List ℕ) (a b : ℕ) (content : List ℕ) → AreBytes (a ∷ b ∷ []) → length content ≡ from_be_bytes w16 (a ∷ b ∷ []) → a ∷ b ∷ content ≡ front ++ missing → 0 < length missing → IsCutShort IsBinary binary_spelling front
 binary_of front missing a b content fits size is some_missing =
     record {
@@ -300,7 +300,7 @@ text_of_fault : (bytes : List ℕ) (reason : Reason) → binary_at bytes ≡ Err
 unfolding text_at
 text_of_fault bytes reason e = ap (λ (found : Result (List ℕ × ℕ) Reason). found >>= λ n. text_of n.0 >>= λ text. Ok (text, n.1)) e
 
--- behind binary data it is its content that decides
+-- after binary data it is its content that decides
 text_of_content : (bytes x : List ℕ) (n : ℕ) → binary_at bytes ≡ Ok (x, n) → text_at bytes ≡ (text_of x >>= sized n)
 unfolding text_at
 text_of_content bytes x n e = ap (λ (found : Result (List ℕ × ℕ) Reason). found >>= λ n. text_of n.0 >>= λ text. Ok (text, n.1)) e

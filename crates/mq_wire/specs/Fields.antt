@@ -36,17 +36,17 @@ four_bytes_at (a ∷ b ∷ c ∷ d ∷ bytes) = Ok (from_be_bytes w32 (a ∷ b �
 abbrev pub ended_by : ℕ → ℕ → ℕ → Result (ℕ × ℕ) Reason
 ended_by last number taken = if last == 0 then Err Overlong else Ok (number, taken)
 
--- The fourth byte of a Variable Byte Integer, behind bytes that stand for n.
+-- The fourth byte of a Variable Byte Integer, after bytes that stand for n.
 abbrev pub fourth_byte : ℕ → List ℕ → Result (ℕ × ℕ) Reason
 fourth_byte n [] = Err Short
 fourth_byte n (d ∷ bytes) = if nat_lt d 128 then ended_by d (n + 2097152 * d) 4 else Err Overlong
 
--- The third byte, behind bytes that stand for n.
+-- The third byte, after bytes that stand for n.
 abbrev pub third_byte : ℕ → List ℕ → Result (ℕ × ℕ) Reason
 third_byte n [] = Err Short
 third_byte n (c ∷ bytes) = if nat_lt c 128 then ended_by c (n + 16384 * c) 3 else fourth_byte (n + 16384 * (c - 128)) bytes
 
--- The second byte, behind a byte that stands for n.
+-- The second byte, after a byte that stands for n.
 abbrev pub second_byte : ℕ → List ℕ → Result (ℕ × ℕ) Reason
 second_byte n [] = Err Short
 second_byte n (b ∷ bytes) = if nat_lt b 128 then ended_by b (n + 128 * b) 2 else third_byte (n + 128 * (b - 128)) bytes
@@ -57,7 +57,7 @@ unfoldable pub varint_at : List ℕ → Result (ℕ × ℕ) Reason
 varint_at [] = Err Short
 varint_at (a ∷ bytes) = if nat_lt a 128 then Ok (a, 1) else second_byte (a - 128) bytes
 
--- The first n bytes behind the two bytes of their length.
+-- The first n bytes after the two bytes of their length.
 abbrev pub counted : ℕ → List ℕ → Result (List ℕ × ℕ) Reason
 counted n bytes = if nat_lt (length bytes) n then Err Short else Ok (take n bytes, 2 + n)
 

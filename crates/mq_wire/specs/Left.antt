@@ -8,11 +8,11 @@ pub record Left : Type 0 where
   pub at : ℕ
   pub rest : List ℕ
 
--- What is left behind the first n bytes.
+-- What is left after the first n bytes.
 abbrev pub past : Left → ℕ → Left
 past left n = record { at = left.at + n; rest = drop n left.rest }
 
--- What was read at the front of what is left, with what is left behind it, or the fault at its place.
+-- What was read at the front of what is left, with what is left after it, or the fault at its place.
 abbrev pub placed : {X : Type 0} → Left → Result (X × ℕ) Reason → Result (X × Left) WireFault
 placed left (Ok x) = Ok (x.0, past left x.1)
 placed left (Err reason) = Err (record { at = left.at; reason = reason })

@@ -6,7 +6,7 @@ use Rattle.mq_wire.specs.declared.fault.Reason.TheVariants.{Short, Overlong, Not
 use Rattle.mq_wire.specs.Fields.{varint_at, text_at, pair_at}
 use Rattle.mq_wire.specs.Spellings.{AreBytes, IsVarint, varint_spelling, IsBinary, binary_spelling, has_nul, Stands}
 
--- The bytes end before a field of the kind does: with others behind them they are a spelling.
+-- The bytes end before a field of the kind does: with others after them they are a spelling.
 pub record IsCutShort {X : Type 0} (IsValue : X → Type 0) (spelling : X → List ℕ) (bytes : List ℕ) : Type 0 where
   pub value : X
   pub is_value : IsValue value

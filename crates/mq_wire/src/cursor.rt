@@ -189,7 +189,7 @@ impl<'a> Cursor<'a> {
         Ok(number)
     }
 
-    /// Binary Data: at most 65,535 bytes behind their length (MQTT 5.0, 1.5.6).
+    /// Binary Data: at most 65,535 bytes after their length (MQTT 5.0, 1.5.6).
     ///
     /// Refused as `Short` where the bytes end before the field does.
     #[tactic(auto, unfolding(crate::specs::Fields::binary_at))]
@@ -208,7 +208,7 @@ impl<'a> Cursor<'a> {
         Ok(&bytes[..len])
     }
 
-    /// A UTF-8 Encoded String: at most 65,535 bytes behind their length (MQTT 5.0, 1.5.4).
+    /// A UTF-8 Encoded String: at most 65,535 bytes after their length (MQTT 5.0, 1.5.4).
     ///
     /// Refused as `Short` where the bytes end before the field does, else as `NotUtf8` where they
     /// aren't well-formed UTF-8, else as `Nul` where the character U+0000 is among them.

@@ -13,7 +13,7 @@ use std::fmt;
 /// The text of a direction that can't be cut into packets.
 pub const LOST: &str = "LOST";
 
-/// Puts the text of an item that was sent or received behind the lines that wait. A packet that was read has a size.
+/// Puts the text of an item that was sent or received after the lines that wait. A packet that was read has a size.
 ///
 /// # Errors
 ///
@@ -33,7 +33,7 @@ pub fn put_item(lines: &mut Lines, item: &Item<'_>) -> fmt::Result
     }
 }
 
-/// Puts the text of a packet that has this size behind the lines that wait.
+/// Puts the text of a packet that has this size after the lines that wait.
 ///
 /// # Errors
 ///
@@ -51,7 +51,7 @@ pub fn put_packet(lines: &mut Lines, packet: PacketSummary, size: u32) -> fmt::R
     put_identifier(lines, identifier_of(packet))
 }
 
-/// Puts the text of bytes that break a rule behind the lines that wait: the rule, and where the field begins that breaks it.
+/// Puts the text of bytes that break a rule after the lines that wait: the rule, and where the field begins that breaks it.
 ///
 /// # Errors
 ///
@@ -74,7 +74,7 @@ fn rule_code(rule: PacketRule) -> &'static str
     Rule::of(rule).code()
 }
 
-// Puts the words on a PUBLISH's delivery, if it is one, each behind a space.
+// Puts the words on a PUBLISH's delivery, if it is one, each after a space.
 fn put_delivery(lines: &mut Lines, delivery: Option<(u8, u8)>) -> fmt::Result
     ensures puts { OnOk result (lines.new ≡ lines.old ++ behind_spaces (delivery_words delivery)) }
     ensures short { OnOk result (length (behind_spaces (delivery_words delivery)) ≤ 30) }
@@ -91,7 +91,7 @@ fn put_delivery(lines: &mut Lines, delivery: Option<(u8, u8)>) -> fmt::Result
     }
 }
 
-// Puts the words on a Packet Identifier, if there is one, each behind a space.
+// Puts the words on a Packet Identifier, if there is one, each after a space.
 fn put_identifier(lines: &mut Lines, identifier: Option<u16>) -> fmt::Result
     ensures puts { OnOk result (lines.new ≡ lines.old ++ behind_spaces (identifier_words identifier)) }
     ensures short { OnOk result (length (behind_spaces (identifier_words identifier)) ≤ 14) }

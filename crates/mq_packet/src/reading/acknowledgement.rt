@@ -36,7 +36,7 @@ fn codes_of(kind: AcknowledgementKind) -> &'static [u8]
 }
 
 /// Reads a PUBACK, PUBREC, PUBREL or PUBCOMP (MQTT 5.0, sections 3.4 to 3.7) from all that is left of a body of this size, which it
-/// keeps. Where it ends behind its identifier its Reason Code is 0x00, and where it ends behind its code it has no properties.
+/// keeps. Where it ends after its identifier its Reason Code is 0x00, and where it ends after its code it has no properties.
 ///
 /// # Errors
 ///

@@ -105,7 +105,7 @@ fn read_behind_flags<'a>(mut cursor: Cursor<'a>, flags: u8) -> Result<Connect<'a
     }
 }
 
-// The Will (MQTT 5.0, sections 3.1.3.2 to 3.1.3.4), and what stands behind it.
+// The Will (MQTT 5.0, sections 3.1.3.2 to 3.1.3.4), and what stands after it.
 fn read_will<'a>(
     mut cursor: Cursor<'a>,
     flags: u8,
@@ -127,7 +127,7 @@ fn read_will<'a>(
     read_user_name(cursor, flags, Connect { will, ..packet })
 }
 
-// The User Name (MQTT 5.0, section 3.1.3.5), if its flag is set, and what stands behind it.
+// The User Name (MQTT 5.0, section 3.1.3.5), if its flag is set, and what stands after it.
 fn read_user_name<'a>(
     mut cursor: Cursor<'a>,
     flags: u8,

@@ -134,11 +134,11 @@ pub fn property_list<'a>(cursor: &mut Cursor<'a>, place: Place) -> Result<Props<
     Ok(list)
 }
 
-/// Reads the property list of a place, if anything is left, and nothing behind it (MQTT 5.0, sections 3.4.2 and 3.14.2).
+/// Reads the property list of a place, if anything is left, and nothing after it (MQTT 5.0, sections 3.4.2 and 3.14.2).
 ///
 /// # Errors
 ///
-/// The rule that its first bad field breaks, there, and W06 at a byte behind the list.
+/// The rule that its first bad field breaks, there, and W06 at a byte after the list.
 pub fn last_properties<'a>(mut cursor: Cursor<'a>, place: Place) -> Result<Props<'a>, Stop>
     ensures { (packet : Listed → Entry) → Reads packet result (read (last_properties place packet) cursor.entry) }
 {

@@ -65,7 +65,7 @@ fn spelled(alloc: Global, parts: &[&[u8]]) -> Result<Vec<u8>, Fail> {
     Ok(list)
 }
 
-// The fault of a list, if it has one, and how many bytes are left behind it.
+// The fault of a list, if it has one, and how many bytes are left after it.
 fn read(bytes: &[u8], place: Place) -> (Option<(usize, PropReason)>, usize) {
     let mut cursor = Cursor::new(bytes);
     let fault = match Props::read(&mut cursor, place) {

@@ -171,7 +171,7 @@ const OF_CONNECTIONS: [(u8, &[u8], u32, PacketRule); 9] = [
     (0xf0, &[0x04], 2, W13),
     // A Reason Code of none of CONNACK's.
     (0x20, &[0x00, 0x01, 0x00], 3, W13),
-    // A byte behind the properties.
+    // A byte after the properties.
     (0x40, &[0x00, 0x01, 0x00, 0x00, 0x00], 6, W06),
     // A PUBREL without its flags.
     (0x60, &[0x00, 0x01], 0, W01),

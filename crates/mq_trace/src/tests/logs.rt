@@ -40,7 +40,7 @@ pub const END: &[u8] = b"\x00\x01\x00x";
 
 pub const PUBACK: &[u8] = b"\x40\x02\x00\x01";
 
-/// Nothing can be cut behind these.
+/// Nothing can be cut after these.
 pub const LOST: &[u8] = b"\x30\xff\xff\xff\xff";
 
 /// The fixed header of a PUBLISH of the largest size, 268,435,460 bytes.
@@ -52,7 +52,7 @@ pub const ANSWERED: [Part; 4] = [CLIENT, Open, Sent(CONNECT), Recv(CONNACK)];
 pub const ANSWERED_LINES: &str =
     "1 record 1 OPEN\n2 record 2 SENT Connect 15\n3 record 3 RECV Connack 5\n";
 
-/// The parts of a log, behind those of `ANSWERED` or alone; the lines on the events of these parts; and what comes of it.
+/// The parts of a log, after those of `ANSWERED` or alone; the lines on the events of these parts; and what comes of it.
 pub struct Row {
     pub answered: bool,
     pub parts: &'static [Part],
@@ -60,14 +60,14 @@ pub struct Row {
     pub answer: Result<(), Refusal>,
 }
 
-/// Puts a record with this body behind a log.
+/// Puts a record with this body after a log.
 fn put_record(log: &mut Vec<u8>, kind: u8, body: &[u8]) -> Result<(), AllocError> {
     let [_, _, _, _, a, b, c, d] = body.len().to_be_bytes();
     log.extend_from_slice(&[kind, a, b, c, d])?;
     log.extend_from_slice(body)
 }
 
-/// Puts a part behind a log: in one record, or with each byte of SENT and RECV in a record of its own.
+/// Puts a part after a log: in one record, or with each byte of SENT and RECV in a record of its own.
 fn put(log: &mut Vec<u8>, part: Part, split: bool) -> Result<(), AllocError> {
     let (kind, body) = match part {
         Raw(bytes) => return log.extend_from_slice(bytes),
@@ -87,7 +87,7 @@ fn put(log: &mut Vec<u8>, part: Part, split: bool) -> Result<(), AllocError> {
     Ok(())
 }
 
-/// The log of these parts, behind those of `ANSWERED` or alone.
+/// The log of these parts, after those of `ANSWERED` or alone.
 pub fn log_of(
     alloc: Global,
     answered: bool,

@@ -127,7 +127,7 @@ static REFUSALS: [Row; 25] = [
         lines: "1 record 1 OPEN\n2 record 2 RECV Connect 15\n3 record 3 RECV Connack 5\n",
         answer: Err(Refusal::Early(56)),
     },
-    // A CONNACK that breaks a rule is none.
+    // A CONNACK that breaks a rule doesn't count as one.
     Row {
         answered: false,
         parts: &[

@@ -11,7 +11,7 @@ use std::test::Fail;
 /// The limit of `mqjudge`.
 pub const LIMIT: u32 = 16_777_216;
 
-/// Writes a line for each event, with the number of its record or without, and refuses an event behind so many.
+/// Writes a line for each event, with the number of its record or without, and refuses an event after so many.
 #[derive(Drop)]
 pub struct Lines {
     pub text: String,

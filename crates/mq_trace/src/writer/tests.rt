@@ -24,7 +24,7 @@ const WORKED: &[u8] = b"MQTR\x01\x00\x01\x00\
     \x05\x00\x00\x00\x00\
     \x04\x00\x00\x00\x00";
 
-/// How long the worked log is behind each call.
+/// How long the worked log is after each call.
 const ENDS: [usize; 8] = [8, 13, 33, 43, 57, 66, 71, 76];
 
 /// Makes one of the worked log's calls, which are numbered from 0.

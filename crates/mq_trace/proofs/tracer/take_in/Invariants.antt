@@ -3,7 +3,7 @@ use Rattle.mq_trace.specs.Keeping.{IsSound}
 use Rattle.mq_trace.proofs.TracingLaws.{Goes}
 use Rattle.mq_trace.proofs.tracer.take_in.Given as goal
 
--- what is behind the loop is taken in, and what is kept is sound
+-- what is after the loop is taken in, and what is kept is sound
 abbrev pub invariant-loop-rest : goal.invariant-loop-rest
 invariant-loop-rest g l = Goes g.S.Sink.agrees l.fn.reading l.reading l.piece l.rest l.fn.sink l.sink × IsSound l.reading
 

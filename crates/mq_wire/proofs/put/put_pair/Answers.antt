@@ -1,4 +1,4 @@
--- The two texts were appended one behind the other, which is the spelling of the pair.
+-- The two texts were appended one after the other, which is the spelling of the pair.
 use Rattle.std.proofs.Common.{◌≡◌, ◌++◌, false, arith}
 use Rattle.std.proofs.lemmas.Grind.{common_steps}
 use Rattle.mq_wire.specs.Spellings.{pair_spelling, has_nul}

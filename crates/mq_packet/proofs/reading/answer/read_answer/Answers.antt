@@ -9,7 +9,7 @@ use Rattle.mq_packet.specs.Reading.{fault_of}
 use Rattle.mq_packet.proofs.ListBodyLaws.{identifier_fails, list_fails, body_goes_on}
 use Rattle.mq_packet.proofs.reading.answer.read_answer.Goals as goal
 
--- What stands behind the property list.
+-- What stands after the property list.
 abbrev codes_behind : ℕ → RequestKind → ℕ → List Property → Format
 codes_behind size kind identifier list = codes_format size (answer_codes kind) (answer kind identifier (listed (answer_place kind) list)) []
 

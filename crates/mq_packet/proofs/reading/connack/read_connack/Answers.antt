@@ -1,4 +1,4 @@
--- Nothing is left behind the property list.
+-- Nothing is left after the property list.
 use Rattle.std.proofs.Common.{rules}
 use Rattle.mq_packet.specs.declared.packet.Connack.{Connack}
 use Rattle.mq_packet.specs.Entries.{connack}

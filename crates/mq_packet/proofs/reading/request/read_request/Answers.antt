@@ -9,7 +9,7 @@ use Rattle.mq_packet.specs.Reading.{fault_of}
 use Rattle.mq_packet.proofs.ListBodyLaws.{identifier_fails, list_fails, body_goes_on}
 use Rattle.mq_packet.proofs.reading.request.read_request.Goals as goal
 
--- What stands behind the property list.
+-- What stands after the property list.
 abbrev filters_behind : ℕ → RequestKind → ℕ → List Property → Format
 filters_behind size kind identifier list = filters_format size (has_options kind) (request kind identifier (listed (request_place kind) list)) []
 
