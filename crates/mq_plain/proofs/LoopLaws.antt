@@ -22,12 +22,12 @@ use Rattle.mq_rules.specs.Steps.{turns, JudgedAtOnce}
 use Rattle.mq_rules.specs.Marks.{FaultMap, fault_at, judged}
 use Rattle.mq_rules.specs.Faults.{offset_of, reported}
 use Rattle.mq_rules.specs.Keeping.{news, GrowsBy, GrowsByWithin}
-use Rattle.mq_rules.proofs.BoolLaws.{and_false, or_else-none}
+use Rattle.mq_rules.proofs.BoolLaws.{and_false, or-turn, or_else-none}
 use Rattle.mq_rules.proofs.MarkLaws.{fault_at-judged}
 use Rattle.mq_rules.proofs.FateLaws.{latest_fate-next}
 use Rattle.mq_rules.proofs.SubjectLaws.{in_order-turns, in_order-releases}
 use Rattle.mq_plain.specs.declared.turn.Turn.{Turn}
-use Rattle.mq_plain.specs.Events.{Comes}
+use Rattle.mq_plain.specs.Events.{Comes, asks, some_asks}
 
 -- ---- a list that is read from its front
 
@@ -201,3 +201,10 @@ pub fate-step : (role : Role) (seen : List Seen) (i : ℕ) (e : Seen) (fate afte
     → after ≡ cond (is_open e.note) None (or_else fate (decides role e.note)) → after ≡ latest_fate role (reverse (take (i + 1) seen))
 fate-step role seen i e fate after lt is at then_so =
     then_so ∙ ap (λ f. cond (is_open e.note) None (or_else f (decides role e.note))) at ∙ sym (latest_fate-next role e (reverse (take i seen))) ∙ ap (latest_fate role) (sym (newest-at seen i e lt is))
+
+-- ---- whether something asks
+
+pub asked-step : (seen : List Seen) (i : ℕ) (e : Seen) (asked after : Bool) → i < length seen → e ≡ get_or seen i e → asked ≡ some_asks (reverse (take i seen))
+    → after ≡ (asked || asks e.note) → after ≡ some_asks (reverse (take (i + 1) seen))
+asked-step seen i e asked after lt is at then_so =
+    then_so ∙ ap (λ b. b || asks e.note) at ∙ or-turn (some_asks (reverse (take i seen))) (asks e.note) ∙ ap some_asks (sym (newest-at seen i e lt is))

@@ -1,7 +1,8 @@
--- At a quiet event no statement on a session turns out false.
-use Rattle.std.proofs.Common.{◌≡◌, ℕ, ◌+◌, Bool, true, false, cond, ◌&&◌, ◌||◌, not, List, ◌∷◌, length, Option, Some, None, refl, ap, sym, ◌∙◌}
+-- At a quiet event no statement on a session turns out false, nor at a REST before which nothing asks.
+use Rattle.std.proofs.Common.{◌≡◌, ℕ, ◌+◌, Bool, true, false, cond, ◌&&◌, ◌||◌, not, nat_lt, zero, List, [], ◌∷◌, length, Option, Some, None, refl, ap, sym, ◌∙◌, arith, ◌==◌, ◌⊎◌, inl, inr}
 use Rattle.std.specs.Prelude.{is_some}
 use Rattle.std.specs.Option.{option_and_then}
+use Rattle.std.proofs.lemmas.Bool.Decides.{nat_tests}
 use Rattle.mq_rules.specs.declared.role.Role.{Role}
 use Rattle.mq_rules.specs.declared.role.Role.TheVariants.{Client, Server}
 use Rattle.mq_rules.specs.declared.role.Tested.{Tested}
@@ -16,23 +17,26 @@ use Rattle.mq_rules.specs.declared.packet_note.PacketFields.{PacketFields}
 use Rattle.mq_rules.specs.declared.packet_note.PacketFields.TheVariants.{Publish, Puback, Pubrec, Pubrel, Pubcomp, Subscribe, Suback, Unsubscribe, Unsuback}
 use Rattle.mq_rules.specs.declared.packet_note.PublishNote.{PublishNote}
 use Rattle.mq_rules.specs.Words.{or_else, is_some_and, only}
-use Rattle.mq_rules.specs.Notes.{is_rest, released_id, sent_fields, publish_in, is_acknowledged, delivery_in, opener_in, resend_in, puback_in, pubrec_in, pubrel_in, pubcomp_in, subscribe_in, suback_in, unsubscribe_in, unsuback_in, success_pubcomp_in, grant_in, unsuback_count_in}
-use Rattle.mq_rules.specs.Moments.{Moment, newest, moment, is_next}
-use Rattle.mq_rules.specs.Connections.{IsInOrder, latest_fate, accepts, is_binding}
+use Rattle.mq_rules.specs.declared.packet_note.PacketFields.TheVariants as fields
+use Rattle.mq_packet.specs.declared.packet.Qos.{Qos}
+use Rattle.mq_packet.specs.declared.packet.Qos.TheVariants as quality
+use Rattle.mq_rules.specs.Notes.{is_rest, released_id, sent_fields, received_fields, publish_in, is_acknowledged, is_at_least_once, is_exactly_once, received_once_acknowledged, received_exactly_once, received_as, accepting_pubrec_in, opener_of, is_pingreq, is_received_pingreq, is_sent_pingresp, delivery_in, opener_in, resend_in, puback_in, pubrec_in, pubrel_in, pubcomp_in, subscribe_in, suback_in, unsubscribe_in, unsuback_in, success_pubcomp_in, grant_in, unsuback_count_in}
+use Rattle.mq_rules.specs.Moments.{Moment, newest, note, moment, moments, some, those, count, is_next}
+use Rattle.mq_rules.specs.Connections.{IsInOrder, latest_fate, accepts, resumed, connection, begun, number, is_binding}
 use Rattle.mq_rules.specs.Rules.{binds, found_line, lines, line_of}
 use Rattle.mq_rules.specs.Statements.{Statement, on_bytes, on_past, in_session, at_release, at_rest, statement}
 use Rattle.mq_rules.specs.Steps.{shows, turns}
-use Rattle.mq_rules.specs.Identifiers.{taken_by, breaks_S01, breaks_S02, breaks_S03, breaks_S04, breaks_S05, breaks_S07}
-use Rattle.mq_rules.specs.Exchanges.{breaks_A, breaks_O, breaks_E7R}
+use Rattle.mq_rules.specs.Identifiers.{taken_by, breaks_S01, breaks_S02, breaks_S03, breaks_S04, breaks_S05, breaks_S07, shows_S06}
+use Rattle.mq_rules.specs.Exchanges.{breaks_A, breaks_O, breaks_E7R, shows_R}
 use Rattle.mq_rules.specs.Releases.{breaks_L1, breaks_L2, breaks_L3}
 use Rattle.mq_rules.specs.Subscriptions.{breaks_B01, breaks_B02, breaks_B03, breaks_B04}
 use Rattle.mq_rules.specs.Marks.{FaultMap, fault_at}
 use Rattle.mq_rules.specs.Faults.{reported}
 use Rattle.mq_rules.specs.Keeping.{GrowsBy}
-use Rattle.mq_rules.proofs.BoolLaws.{and_false, or_else-none}
+use Rattle.mq_rules.proofs.BoolLaws.{and_false, both_true, or_else-none}
 use Rattle.mq_rules.proofs.SubjectLaws.{in_order-turns, in_order-releases}
 use Rattle.mq_plain.specs.Chosen.{is_plain_se, is_plain_lb, is_plain}
-use Rattle.mq_plain.specs.Events.{is_client, is_spoken_of, is_quiet, AreSilent}
+use Rattle.mq_plain.specs.Events.{is_client, is_spoken_of, is_quiet, is_asking, asks, some_asks, AreSilent}
 
 -- ---- what a quiet event is not
 
@@ -115,15 +119,104 @@ quiet-release : (role : Role) (n : Note) → is_quiet role n ≡ true → releas
 quiet-release role (notes.Release identifier) h = absurd (cc)
 quiet-release role _ h = refl
 
--- ---- each statement at a quiet event
+-- ---- what an event isn't that doesn't ask
 
--- the statement is one on sessions, and if it binds the tested end it isn't false at the moment
+record IsUnasking (n : Note) : Type 0 where
+  pub once : received_once_acknowledged n ≡ None
+  pub exactly : received_exactly_once n ≡ None
+  pub pubrec : received_as accepting_pubrec_in n ≡ None
+  pub pubrel : received_as pubrel_in n ≡ None
+  pub subscribe : received_as subscribe_in n ≡ None
+  pub unsubscribe : received_as unsubscribe_in n ≡ None
+  pub opener : opener_of n ≡ None
+  pub ping : is_received_pingreq n ≡ false
+
+unasking-neither : (n : Note) → received_fields n ≡ None → sent_fields n ≡ None → IsUnasking n
+unasking-neither n received sent = record {
+  once = ap (λ o. option_and_then (λ p. only (is_at_least_once p.qos) p.identifier) (option_and_then publish_in o)) received;
+  exactly = ap (λ o. option_and_then (λ p. only (is_exactly_once p.qos) p.identifier) (option_and_then publish_in o)) received;
+  pubrec = ap (option_and_then accepting_pubrec_in) received;
+  pubrel = ap (option_and_then pubrel_in) received;
+  subscribe = ap (option_and_then subscribe_in) received;
+  unsubscribe = ap (option_and_then unsubscribe_in) received;
+  opener = ap (λ o. option_and_then opener_in (option_and_then publish_in o)) sent;
+  ping = ap (is_some_and is_pingreq) received;
+}
+
+unacknowledged-once : (q : Qos) (o : Option ℕ) → not (not (is_acknowledged q)) ≡ false → only (is_at_least_once q) o ≡ None
+unacknowledged-once quality.AtMostOnce o h = refl
+unacknowledged-once quality.AtLeastOnce o h = absurd (cc)
+unacknowledged-once quality.ExactlyOnce o h = absurd (cc)
+
+unacknowledged-exactly : (q : Qos) (o : Option ℕ) → not (not (is_acknowledged q)) ≡ false → only (is_exactly_once q) o ≡ None
+unacknowledged-exactly quality.AtMostOnce o h = refl
+unacknowledged-exactly quality.AtLeastOnce o h = absurd (cc)
+unacknowledged-exactly quality.ExactlyOnce o h = absurd (cc)
+
+unacknowledged-opener : (d : Bool) (q : Qos) (o : Option ℕ) → not (not (is_acknowledged q)) ≡ false → only (not d) (only (is_acknowledged q) o) ≡ None
+unacknowledged-opener d quality.AtMostOnce o h = only-none (not d)
+unacknowledged-opener d quality.AtLeastOnce o h = absurd (cc)
+unacknowledged-opener d quality.ExactlyOnce o h = absurd (cc)
+
+neither-asks : (a b : Bool) → (a || b) ≡ false → (a ≡ false) × (b ≡ false)
+neither-asks true b h = absurd (cc)
+neither-asks false b h = (refl, h)
+
+-- what is said of the packet that is received
+record IsUnanswered (o : Option PacketFields) : Type 0 where
+  pub once : option_and_then (λ p. only (is_at_least_once p.qos) p.identifier) (option_and_then publish_in o) ≡ None
+  pub exactly : option_and_then (λ p. only (is_exactly_once p.qos) p.identifier) (option_and_then publish_in o) ≡ None
+  pub pubrec : option_and_then accepting_pubrec_in o ≡ None
+  pub pubrel : option_and_then pubrel_in o ≡ None
+  pub subscribe : option_and_then subscribe_in o ≡ None
+  pub unsubscribe : option_and_then unsubscribe_in o ≡ None
+  pub opener : option_and_then opener_in (option_and_then publish_in o) ≡ None
+  pub ping : is_some_and is_pingreq o ≡ false
+
+unasked : (f : PacketFields) → is_asking f ≡ false → IsUnanswered (Some f)
+unasked (fields.Publish p) h = record { once = unacknowledged-once p.qos p.identifier h; exactly = unacknowledged-exactly p.qos p.identifier h; pubrec = refl; pubrel = refl; subscribe = refl; unsubscribe = refl; opener = unacknowledged-opener p.duplicate p.qos p.identifier h; ping = refl }
+unasked (fields.Puback identifier code) h = absurd (cc)
+unasked (fields.Pubrec identifier code) h = absurd (cc)
+unasked (fields.Pubrel identifier code) h = absurd (cc)
+unasked (fields.Pubcomp identifier code) h = absurd (cc)
+unasked (fields.Subscribe identifier filters) h = absurd (cc)
+unasked (fields.Suback identifier codes) h = absurd (cc)
+unasked (fields.Unsubscribe identifier filters) h = absurd (cc)
+unasked (fields.Unsuback identifier codes) h = absurd (cc)
+unasked fields.Pingreq h = absurd (cc)
+unasked _ h = record { once = refl; exactly = refl; pubrec = refl; pubrel = refl; subscribe = refl; unsubscribe = refl; opener = refl; ping = refl }
+
+unasking : (n : Note) → asks n ≡ false → IsUnasking n
+unasking (notes.Sent (items.Packet p)) h =
+    let u = unasked p.fields (neither-asks (is_asking p.fields) false h).0 in
+    record { once = refl; exactly = refl; pubrec = refl; pubrel = refl; subscribe = refl; unsubscribe = refl; opener = u.opener; ping = refl }
+unasking (notes.Recv (items.Packet p)) h =
+    let u = unasked p.fields h in
+    record { once = u.once; exactly = u.exactly; pubrec = u.pubrec; pubrel = u.pubrel; subscribe = u.subscribe; unsubscribe = u.unsubscribe; opener = refl; ping = u.ping }
+unasking (notes.Sent (items.Bad first rule at)) h = unasking-neither _ refl refl
+unasking (notes.Sent items.Lost) h = unasking-neither _ refl refl
+unasking (notes.Recv (items.Bad first rule at)) h = unasking-neither _ refl refl
+unasking (notes.Recv items.Lost) h = unasking-neither _ refl refl
+unasking notes.Open h = unasking-neither _ refl refl
+unasking notes.Close h = unasking-neither _ refl refl
+unasking notes.Rest h = unasking-neither _ refl refl
+unasking (notes.Release identifier) h = unasking-neither _ refl refl
+
+-- ---- each statement at such an event
+
+-- The event sends nothing that a statement looks at, releases nothing, and shows no PINGREQ without its PINGRESP.
+record IsIdle (role : Role) (e : Seen) (past : List Seen) : Type 0 where
+  pub unspoken : IsUnspoken role (sent_fields e.note)
+  pub unreleased : released_id e.note ≡ None
+  pub unpinged : breaks_E7R role (newest e past) ≡ false
+
+-- The statement is one on sessions. If it binds the tested end it isn't false at the moment, and the moment shows it at none that doesn't ask.
 abbrev IsNever : Bool → Statement → Moment → Type 0
 IsNever bound (on_bytes bytes) m = ⊥
 IsNever bound (on_past breaks) m = ⊥
 IsNever bound (in_session breaks) m = bound ≡ true → (f : Fate) → breaks f m ≡ false
 IsNever bound (at_release breaks) m = bound ≡ true → (f : Fate) → breaks f m ≡ false
-IsNever bound (at_rest tells) m = Unit {0}
+IsNever bound (at_rest tells) m = (k : Moment) → asks (note k) ≡ false → tells m k ≡ false
 
 none-passes : {A : Type 0} (test : A → Bool) (o : Option A) → o ≡ None → is_some_and test o ≡ false
 none-passes test None h = refl
@@ -152,40 +245,40 @@ unfolding found_line lines line_of
 only-servers-B02 Client releases h = absurd (cc)
 only-servers-B02 Server releases h = refl
 
-never : (role : Role) (releases : Bool) (rule : Rule) (e : Seen) (past : List Seen) → is_plain rule ≡ true → is_quiet role e.note ≡ true
+never : (role : Role) (releases : Bool) (rule : Rule) (e : Seen) (past : List Seen) → is_plain rule ≡ true → IsIdle role e past
     → IsNever (binds rule (record { role = role; releases = releases })) (statement role rule) (newest e past)
-unfolding breaks_S01 breaks_S02 breaks_S03 breaks_S04 breaks_S05 breaks_S07 breaks_A breaks_O breaks_E7R breaks_L1 breaks_L2 breaks_L3 breaks_B01 breaks_B02 breaks_B03 breaks_B04
-never role releases S01 e past chosen quiet = λ bound f. none-passes _ _ (untaken role e.note (quiet-sent role e.note quiet))
-never role releases S02 e past chosen quiet = λ bound f. none-passes _ _ (quiet-sent role e.note quiet).resend
-never role releases S03 e past chosen quiet = λ bound f. none-passes _ _ (quiet-sent role e.note quiet).resend
-never role releases S04 e past chosen quiet = λ bound f. none-passes _ _ (quiet-sent role e.note quiet).resend
-never role releases S05 e past chosen quiet = λ bound f. none-passes _ _ (quiet-sent role e.note quiet).resend
-never role releases S06 e past chosen quiet = tt
-never role releases S07 e past chosen quiet = λ bound f. and-first _ _ (ap is_some (quiet-sent role e.note quiet).delivery)
-never role releases E1A e past chosen quiet = λ bound f. none-passes _ _ (quiet-sent role e.note quiet).puback
-never role releases E1R e past chosen quiet = tt
-never role releases E1O e past chosen quiet = λ bound f. none-passes _ _ (quiet-sent role e.note quiet).puback
-never role releases E2A e past chosen quiet = λ bound f. none-passes _ _ (quiet-sent role e.note quiet).pubrec
-never role releases E2R e past chosen quiet = tt
-never role releases E2O e past chosen quiet = λ bound f. none-passes _ _ (quiet-sent role e.note quiet).pubrec
-never role releases E3A e past chosen quiet = λ bound f. none-passes _ _ (quiet-sent role e.note quiet).pubrel
-never role releases E3R e past chosen quiet = tt
-never role releases E3O e past chosen quiet = λ bound f. none-passes _ _ (quiet-sent role e.note quiet).pubrel
-never role releases E4A e past chosen quiet = λ bound f. none-passes _ _ (quiet-sent role e.note quiet).pubcomp
-never role releases E4R e past chosen quiet = tt
-never role releases E5A e past chosen quiet = λ bound f. none-passes _ _ (quiet-sent role e.note quiet).suback
-never role releases E5R e past chosen quiet = tt
-never role releases E6A e past chosen quiet = λ bound f. none-passes _ _ (quiet-sent role e.note quiet).unsuback
-never role releases E6R e past chosen quiet = tt
-never role releases E7R e past chosen quiet = λ bound f. and-first _ _ (unbinding role e past (quiet-rest role e.note quiet))
-never role releases L1 e past chosen quiet = λ bound f. none-passes _ _ (quiet-release role e.note quiet)
-never role releases L2 e past chosen quiet = λ bound f. none-passes _ _ (quiet-release role e.note quiet)
-never role releases L3 e past chosen quiet = λ bound f. none-passes _ _ (quiet-sent role e.note quiet).success
-never role releases B01 e past chosen quiet = λ bound f. none-passes _ _ ((quiet-sent role e.note quiet).publish (only-servers-B01 role releases bound))
-never role releases B02 e past chosen quiet = λ bound f. none-passes _ _ ((quiet-sent role e.note quiet).publish (only-servers-B02 role releases bound))
-never role releases B03 e past chosen quiet = λ bound f. none-passes _ _ (quiet-sent role e.note quiet).grant
-never role releases B04 e past chosen quiet = λ bound f. none-passes _ _ (quiet-sent role e.note quiet).count
-never role releases _ e past chosen quiet = absurd (cc)
+unfolding breaks_S01 breaks_S02 breaks_S03 breaks_S04 breaks_S05 breaks_S07 breaks_A breaks_O breaks_L1 breaks_L2 breaks_L3 breaks_B01 breaks_B02 breaks_B03 breaks_B04 shows_R shows_S06
+never role releases S01 e past chosen idle = λ bound f. none-passes _ _ (untaken role e.note idle.unspoken)
+never role releases S02 e past chosen idle = λ bound f. none-passes _ _ idle.unspoken.resend
+never role releases S03 e past chosen idle = λ bound f. none-passes _ _ idle.unspoken.resend
+never role releases S04 e past chosen idle = λ bound f. none-passes _ _ idle.unspoken.resend
+never role releases S05 e past chosen idle = λ bound f. none-passes _ _ idle.unspoken.resend
+never role releases S06 e past chosen idle = λ k unasks. ap (λ b. resumed (latest_fate role past) && b) (none-passes _ _ (unasking (note k) unasks).opener) ∙ and_false (resumed (latest_fate role past))
+never role releases S07 e past chosen idle = λ bound f. and-first _ _ (ap is_some idle.unspoken.delivery)
+never role releases E1A e past chosen idle = λ bound f. none-passes _ _ idle.unspoken.puback
+never role releases E1R e past chosen idle = λ k unasks. none-passes _ _ (unasking (note k) unasks).once
+never role releases E1O e past chosen idle = λ bound f. none-passes _ _ idle.unspoken.puback
+never role releases E2A e past chosen idle = λ bound f. none-passes _ _ idle.unspoken.pubrec
+never role releases E2R e past chosen idle = λ k unasks. none-passes _ _ (unasking (note k) unasks).exactly
+never role releases E2O e past chosen idle = λ bound f. none-passes _ _ idle.unspoken.pubrec
+never role releases E3A e past chosen idle = λ bound f. none-passes _ _ idle.unspoken.pubrel
+never role releases E3R e past chosen idle = λ k unasks. none-passes _ _ (unasking (note k) unasks).pubrec
+never role releases E3O e past chosen idle = λ bound f. none-passes _ _ idle.unspoken.pubrel
+never role releases E4A e past chosen idle = λ bound f. none-passes _ _ idle.unspoken.pubcomp
+never role releases E4R e past chosen idle = λ k unasks. none-passes _ _ (unasking (note k) unasks).pubrel
+never role releases E5A e past chosen idle = λ bound f. none-passes _ _ idle.unspoken.suback
+never role releases E5R e past chosen idle = λ k unasks. none-passes _ _ (unasking (note k) unasks).subscribe
+never role releases E6A e past chosen idle = λ bound f. none-passes _ _ idle.unspoken.unsuback
+never role releases E6R e past chosen idle = λ k unasks. none-passes _ _ (unasking (note k) unasks).unsubscribe
+never role releases E7R e past chosen idle = λ bound f. idle.unpinged
+never role releases L1 e past chosen idle = λ bound f. none-passes _ _ idle.unreleased
+never role releases L2 e past chosen idle = λ bound f. none-passes _ _ idle.unreleased
+never role releases L3 e past chosen idle = λ bound f. none-passes _ _ idle.unspoken.success
+never role releases B01 e past chosen idle = λ bound f. none-passes _ _ (idle.unspoken.publish (only-servers-B01 role releases bound))
+never role releases B02 e past chosen idle = λ bound f. none-passes _ _ (idle.unspoken.publish (only-servers-B02 role releases bound))
+never role releases B03 e past chosen idle = λ bound f. none-passes _ _ idle.unspoken.grant
+never role releases B04 e past chosen idle = λ bound f. none-passes _ _ idle.unspoken.count
+never role releases _ e past chosen idle = absurd (cc)
 
 -- ---- with a quiet event
 
@@ -194,7 +287,27 @@ nowhere false test o h = refl
 nowhere true test None h = refl
 nowhere true test (Some f) h = h refl f
 
-never-turns : (tested : Tested) (rule : Rule) (s : Statement) (e : Seen) (past : List Seen) (k : ℕ) → statement tested.role rule ≡ s → is_rest e.note ≡ false → IsInOrder tested.role (e ∷ past)
+-- what a REST shows of a log of which no event asks
+unshown : (test : Moment → Bool) (past : List Seen) (k : ℕ) → ((m : Moment) → asks (note m) ≡ false → test m ≡ false) → some_asks past ≡ false → is_some_and test (moment past k) ≡ false
+unshown test [] k fails h = refl
+unshown test (e ∷ past) k fails h =
+    let both = neither-asks (asks e.note) (some_asks past) h in
+    go (k == length past + 1) (fails (newest e past) both.0) (unshown test past k fails both.1)
+  where
+    go : (b : Bool) → test (newest e past) ≡ false → is_some_and test (moment past k) ≡ false → is_some_and test (cond b (Some (newest e past)) (moment past k)) ≡ false
+    go true newest_so past_so = newest_so
+    go false newest_so past_so = past_so
+
+-- The event isn't a REST that binds, or none of those before it asks.
+abbrev ShowsNothing : Role → Seen → List Seen → Type 0
+ShowsNothing role e past = (is_binding role (newest e past) ≡ false) ⊎ (some_asks past ≡ false)
+
+nothing-shown : (role : Role) (e : Seen) (past : List Seen) (k : ℕ) (test : Moment → Bool) → ((m : Moment) → asks (note m) ≡ false → test m ≡ false) → ShowsNothing role e past
+    → (is_binding role (newest e past) && is_some_and test (moment past k)) ≡ false
+nothing-shown role e past k test fails (inl unbound) = and-first _ _ unbound
+nothing-shown role e past k test fails (inr unasked) = ap (λ b. is_binding role (newest e past) && b) (unshown test past k fails unasked) ∙ and_false (is_binding role (newest e past))
+
+never-turns : (tested : Tested) (rule : Rule) (s : Statement) (e : Seen) (past : List Seen) (k : ℕ) → statement tested.role rule ≡ s → ShowsNothing tested.role e past → IsInOrder tested.role (e ∷ past)
     → IsNever (binds rule tested) s (newest e past) → turns tested e past k rule ≡ false
 unfolding turns
 never-turns tested rule (on_bytes bytes) e past k says quiet order h = absurd h
@@ -209,13 +322,60 @@ never-turns tested rule (at_release breaks) e past k says quiet order h =
     ∙ and_false (is_next past k)
 never-turns tested rule (at_rest tells) e past k says quiet order h =
     ap (λ s. binds rule tested && shows tested.role s e past k) says
-    ∙ ap (λ b. binds rule tested && (b && is_some_and (tells (newest e past)) (moment past k))) (unbinding tested.role e past quiet)
+    ∙ ap (λ b. binds rule tested && b) (nothing-shown tested.role e past k (tells (newest e past)) h quiet)
     ∙ and_false (binds rule tested)
+
+quiet-idle : (role : Role) (e : Seen) (past : List Seen) → is_quiet role e.note ≡ true → IsIdle role e past
+unfolding breaks_E7R
+quiet-idle role e past quiet = record {
+  unspoken = quiet-sent role e.note quiet;
+  unreleased = quiet-release role e.note quiet;
+  unpinged = and-first _ _ (unbinding role e past (quiet-rest role e.note quiet));
+}
 
 silent : (tested : Tested) (e : Seen) (past : List Seen) (k : ℕ) (rule : Rule) → is_plain rule ≡ true → is_quiet tested.role e.note ≡ true → IsInOrder tested.role (e ∷ past)
     → turns tested e past k rule ≡ false
 silent tested e past k rule chosen quiet order =
-    never-turns tested rule (statement tested.role rule) e past k refl (quiet-rest tested.role e.note quiet) order (never tested.role tested.releases rule e past chosen quiet)
+    never-turns tested rule (statement tested.role rule) e past k refl (inl (unbinding tested.role e past (quiet-rest tested.role e.note quiet))) order
+    (never tested.role tested.releases rule e past chosen (quiet-idle tested.role e past quiet))
+
+-- ---- with a REST before which nothing asks
+
+uncounted : (chosen test : Moment → Bool) (ms : List Moment) → ((m : Moment) → asks (note m) ≡ false → test m ≡ false) → some (λ m. asks (note m)) ms ≡ false → count test (those chosen ms) ≡ 0
+uncounted chosen test [] fails h = refl
+uncounted chosen test (m ∷ ms) fails h =
+    let both = neither-asks (asks (note m)) (some (λ m. asks (note m)) ms) h in
+    go (chosen m) (fails m both.0) (uncounted chosen test ms fails both.1)
+  where
+    go : (b : Bool) → test m ≡ false → count test (those chosen ms) ≡ 0 → count test (cond b (m ∷ those chosen ms) (those chosen ms)) ≡ 0
+    go true newest_so past_so = let none : cond {A = ℕ} (test m) 1 0 ≡ 0 = ap (λ b. cond {A = ℕ} b 1 0) newest_so in omega arith
+    go false newest_so past_so = past_so
+
+below-none : (n : ℕ) → nat_lt n 0 ≡ false
+below-none n = grind (arith, nat_tests)
+
+unpinged : (role : Role) (e : Seen) (past : List Seen) → some_asks past ≡ false → breaks_E7R role (newest e past) ≡ false
+unfolding breaks_E7R
+unpinged role e past unasked =
+    ap (λ n. is_binding role (newest e past) && nat_lt (count (λ m. is_sent_pingresp (note m)) (connection past)) n)
+    (uncounted (λ m. number m == begun past) (λ m. is_received_pingreq (note m)) (moments past) (λ m unasks. (unasking (note m) unasks).ping) unasked)
+    ∙ ap (λ b. is_binding role (newest e past) && b) (below-none (count (λ m. is_sent_pingresp (note m)) (connection past)))
+    ∙ and_false (is_binding role (newest e past))
+
+resting-sent : (role : Role) (n : Note) → is_rest n ≡ true → IsUnspoken role (sent_fields n)
+resting-sent role notes.Rest h = nothing-sent role
+resting-sent role _ h = absurd (cc)
+
+resting-release : (n : Note) → is_rest n ≡ true → released_id n ≡ None
+resting-release notes.Rest h = refl
+resting-release _ h = absurd (cc)
+
+resting : (tested : Tested) (e : Seen) (past : List Seen) (k : ℕ) (rule : Rule) → is_plain rule ≡ true → is_rest e.note ≡ true → some_asks past ≡ false → IsInOrder tested.role (e ∷ past)
+    → turns tested e past k rule ≡ false
+resting tested e past k rule chosen rest unasked order =
+    never-turns tested rule (statement tested.role rule) e past k refl (inr unasked) order
+    (never tested.role tested.releases rule e past chosen
+    (record { unspoken = resting-sent tested.role e.note rest; unreleased = resting-release e.note rest; unpinged = unpinged tested.role e past unasked }))
 
 one-of : (a b : Bool) → a ≡ true → (a || b) ≡ true
 one-of true b h = refl
@@ -226,21 +386,37 @@ other-of true b h = refl
 other-of false b h = h
 
 pub silent_plain : AreSilent is_plain
-silent_plain = record { each = λ tested e past k rule chosen. silent tested e past k rule chosen }
+silent_plain = record { quiet = λ tested e past k rule chosen. silent tested e past k rule chosen; resting = λ tested e past k rule chosen. resting tested e past k rule chosen }
 
 pub silent_se : AreSilent is_plain_se
-silent_se = record { each = λ tested e past k rule chosen. silent tested e past k rule (one-of (is_plain_se rule) (is_plain_lb rule) chosen) }
+silent_se = record {
+  quiet = λ tested e past k rule chosen. silent tested e past k rule (one-of (is_plain_se rule) (is_plain_lb rule) chosen);
+  resting = λ tested e past k rule chosen. resting tested e past k rule (one-of (is_plain_se rule) (is_plain_lb rule) chosen);
+}
 
 pub silent_lb : AreSilent is_plain_lb
-silent_lb = record { each = λ tested e past k rule chosen. silent tested e past k rule (other-of (is_plain_se rule) (is_plain_lb rule) chosen) }
+silent_lb = record {
+  quiet = λ tested e past k rule chosen. silent tested e past k rule (other-of (is_plain_se rule) (is_plain_lb rule) chosen);
+  resting = λ tested e past k rule chosen. resting tested e past k rule (other-of (is_plain_se rule) (is_plain_lb rule) chosen);
+}
 
--- so the faults stay as they are
-pub quiet-grows : (chosen : Rule → Bool) (tested : Tested) (e : Seen) (past : List Seen) (faults : FaultMap) → AreSilent chosen → IsInOrder tested.role (e ∷ past) → is_quiet tested.role e.note ≡ true
+-- Where no statement turns out false, the faults stay as they are.
+grows-none : (chosen : Rule → Bool) (tested : Tested) (e : Seen) (past : List Seen) (faults : FaultMap) → ((k : ℕ) (r : Rule) → chosen r ≡ true → turns tested e past k r ≡ false)
     → GrowsBy chosen tested e past faults faults
-quiet-grows chosen tested e past faults silent order quiet = record {
+grows-none chosen tested e past faults never = record {
   each = λ k r. sym (ap (or_else (fault_at faults k r)) (go k r (chosen r) refl) ∙ or_else-none (fault_at faults k r));
 }
   where
     go : (k : ℕ) (r : Rule) (c : Bool) → chosen r ≡ c → cond (c && turns tested e past k r) (Some (reported tested.role (moment (e ∷ past) k) r (length past + 1))) None ≡ None
-    go k r true is = ap (λ b. cond b (Some (reported tested.role (moment (e ∷ past) k) r (length past + 1))) None) (silent.each tested e past k r is quiet order)
+    go k r true is = ap (λ b. cond b (Some (reported tested.role (moment (e ∷ past) k) r (length past + 1))) None) (never k r is)
     go k r false is = refl
+
+pub quiet-grows : (chosen : Rule → Bool) (tested : Tested) (e : Seen) (past : List Seen) (faults : FaultMap) → AreSilent chosen → IsInOrder tested.role (e ∷ past) → is_quiet tested.role e.note ≡ true
+    → GrowsBy chosen tested e past faults faults
+quiet-grows chosen tested e past faults silent order quiet = grows-none chosen tested e past faults (λ k r is. silent.quiet tested e past k r is quiet order)
+
+pub resting-grows : (chosen : Rule → Bool) (tested : Tested) (e : Seen) (past : List Seen) (faults : FaultMap) (asked : Bool) → AreSilent chosen → IsInOrder tested.role (e ∷ past)
+    → (is_rest e.note && not asked) ≡ true → asked ≡ some_asks past → GrowsBy chosen tested e past faults faults
+resting-grows chosen tested e past faults asked silent order finds so =
+    let both = both_true (is_rest e.note) (not asked) finds in
+    grows-none chosen tested e past faults (λ k r is. silent.resting tested e past k r is both.0 (sym so ∙ not-true asked both.1) order)

@@ -11,8 +11,7 @@ use Rattle.mq_rules.specs.Notes.{is_open, is_release, opener_of, closer_of, rese
 use Rattle.mq_rules.specs.Moments.{Moment, newest, note, position, some, since, latest}
 use Rattle.mq_rules.specs.Connections.{connection, latest_fate, session, has_session, with_first, begins, accepted, voided, any_accepted}
 use Rattle.mq_rules.specs.Identifiers.{opens, closes, is_open_at, latest_opener, comes_after}
-use Rattle.mq_rules.proofs.BoolLaws.{and_false}
-use Rattle.mq_rules.proofs.MomentLaws.{and_parts, or_parts, or_left, or_right, same_test}
+use Rattle.mq_rules.proofs.BoolLaws.{and_false, both_true, or_parts, or_left, or_right, same_test}
 use Rattle.mq_rules.proofs.ConnLaws.{some-next}
 use Rattle.mq_plain.specs.Lookback.{is_open_after}
 use Rattle.mq_plain.specs.Resends.{is_overtaken}
@@ -374,7 +373,7 @@ of_each x o (m ∷ ms) h = go (or_parts (is_id o (resend_of (note m)) && x o m) 
   where
     own : (r : Option ℕ) → (is_id o r && x o m) ≡ true → is_some_and (λ o. x o m) r ≡ true
     own None h = absurd (cc)
-    own (Some j) h = let both = and_parts (o == j) (x o m) h in ap (λ k. x k m) (sym (eqb-true o j both.0)) ∙ both.1
+    own (Some j) h = let both = both_true (o == j) (x o m) h in ap (λ k. x k m) (sym (eqb-true o j both.0)) ∙ both.1
 
     go : ((is_id o (resend_of (note m)) && x o m) ≡ true) ⊎ (some (λ j. is_id o (resend_of (note j)) && x o j) ms ≡ true)
         → (some (λ j. is_id o (resend_of (note j)) && x o j) ms ≡ true → some (λ j. is_some_and (λ o. x o j) (resend_of (note j))) ms ≡ true)

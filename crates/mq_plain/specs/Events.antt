@@ -1,5 +1,5 @@
 -- One event of a log as the evaluators meet it: where it stands, and whether it is quiet.
-use Rattle.std.specs.Prelude.{◌≡◌, ℕ, Bool, true, false, ◌&&◌, not, List, ◌∷◌}
+use Rattle.std.specs.Prelude.{◌≡◌, ℕ, Bool, true, false, ◌&&◌, ◌||◌, not, List, ◌∷◌}
 use Rattle.mq_rules.specs.declared.role.Role.{Role}
 use Rattle.mq_rules.specs.declared.role.Role.TheVariants.{Client, Server}
 use Rattle.mq_rules.specs.declared.role.Tested.{Tested}
@@ -8,8 +8,8 @@ use Rattle.mq_rules.specs.declared.note.Note.{Note}
 use Rattle.mq_rules.specs.declared.note.Seen.{Seen}
 use Rattle.mq_rules.specs.declared.packet_note.PacketFields.{PacketFields}
 use Rattle.mq_rules.specs.Words.{is_some_and}
-use Rattle.mq_rules.specs.Notes.{is_rest, is_release, sent_fields, publish_in, is_acknowledged, is_session_packet}
-use Rattle.mq_rules.specs.Moments.{newest, IsPlaced}
+use Rattle.mq_rules.specs.Notes.{is_rest, is_release, sent_fields, received_fields, publish_in, is_acknowledged, is_session_packet, is_pingreq}
+use Rattle.mq_rules.specs.Moments.{newest, note, moments, some, IsPlaced}
 use Rattle.mq_rules.specs.Connections.{IsInOrder, latest_fate, is_binding}
 use Rattle.mq_rules.specs.Steps.{turns}
 use Rattle.mq_plain.specs.declared.turn.Turn.{Turn}
@@ -35,6 +35,20 @@ is_spoken_of role fields = is_session_packet fields && not (is_some_and (λ p. i
 abbrev pub is_quiet : Role → Note → Bool
 is_quiet role note = not (is_rest note) && (not (is_release note) && not (is_some_and (is_spoken_of role) (sent_fields note)))
 
--- None of these statements turns out false with a quiet event, in a log that is in order.
+-- A packet that a REST may show to be without an answer, or not to be sent again: a PINGREQ, or one that needs a session, other than a PUBLISH of QoS 0 (MQTT 5.0,
+-- sections 3.12.4, 4.3 and 4.4).
+abbrev pub is_asking : PacketFields → Bool
+is_asking fields = is_pingreq fields || (is_session_packet fields && not (is_some_and (λ p. not (is_acknowledged p.qos)) (publish_in fields)))
+
+-- the event is such a packet, sent or received
+abbrev pub asks : Note → Bool
+asks n = is_some_and is_asking (sent_fields n) || is_some_and is_asking (received_fields n)
+
+-- some event of the log is one
+abbrev pub some_asks : List Seen → Bool
+some_asks log = some (λ m. asks (note m)) (moments log)
+
+-- None of these statements turns out false with a quiet event, nor with a REST before which no event asks, in a log that is in order.
 pub record AreSilent (chosen : Rule → Bool) : Type 0 where
-  pub each : (tested : Tested) (e : Seen) (past : List Seen) (k : ℕ) (rule : Rule) → chosen rule ≡ true → is_quiet tested.role e.note ≡ true → IsInOrder tested.role (e ∷ past) → turns tested e past k rule ≡ false
+  pub quiet : (tested : Tested) (e : Seen) (past : List Seen) (k : ℕ) (rule : Rule) → chosen rule ≡ true → is_quiet tested.role e.note ≡ true → IsInOrder tested.role (e ∷ past) → turns tested e past k rule ≡ false
+  pub resting : (tested : Tested) (e : Seen) (past : List Seen) (k : ℕ) (rule : Rule) → chosen rule ≡ true → is_rest e.note ≡ true → some_asks past ≡ false → IsInOrder tested.role (e ∷ past) → turns tested e past k rule ≡ false

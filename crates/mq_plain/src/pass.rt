@@ -1,14 +1,15 @@
 //! One pass over the events of a list, in which an evaluator judges each.
 //!
-//! Few events are spoken of: a quiet one costs a test, and each event is met once, whatever the number of statements.
-ghost use Rattle.std.specs.Prelude.{◌≡◌, ◌∷◌, cond, None, reverse, OnOk, OnErr};
-ghost use Rattle.mq_rules.specs.Notes.{is_open, decides};
+//! Few events are spoken of: a quiet one costs a test, and each event is met once, whatever the number of statements. A REST looks
+//! back only if something before it asked for an answer.
+ghost use Rattle.std.specs.Prelude.{◌≡◌, ◌∷◌, ◌&&◌, ◌||◌, not, cond, None, reverse, OnOk, OnErr};
+ghost use Rattle.mq_rules.specs.Notes.{is_open, is_rest, decides};
 ghost use Rattle.mq_rules.specs.Words.{or_else};
 ghost use Rattle.mq_rules.specs.Moments.{IsPlaced};
 ghost use Rattle.mq_rules.specs.Connections.{IsInOrder, latest_fate};
 ghost use Rattle.mq_rules.specs.Faults.{Grows, GrowsWithin};
 ghost use Rattle.mq_rules.specs.Keeping.{GrowsBy, GrowsByWithin};
-ghost use Rattle.mq_plain.specs.Events.{AreSilent, is_quiet as quiet, is_spoken_of as spoken_of};
+ghost use Rattle.mq_plain.specs.Events.{AreSilent, asks as asks_for, is_asking as asking, is_quiet as quiet, is_spoken_of as spoken_of, some_asks};
 
 use crate::binding::is_binding_rest;
 use crate::evaluator::Evaluator;
@@ -33,37 +34,52 @@ pub fn judge_each<E: Evaluator>(
     ensures memory { IsPlaced (reverse seen.now) → IsInOrder tested.role (reverse seen.now) → OnErr result (GrowsWithin E.chosen tested (reverse seen.now) faults.old faults.new) }
 {
     let evaluator = E::of(tested);
-    let mut fate = Some(Fate::Void);
+    let mut kept = Kept {
+        fate: Some(Fate::Void),
+        asked: false,
+    };
     for (i, event) in seen.iter().enumerate() {
         let before = &seen[..i];
-        judge_next(&evaluator, alloc, tested, fate, event, before, faults)?;
-        fate = fate_after(fate, tested.role, &event.note);
+        judge_next(&evaluator, alloc, tested, kept, event, before, faults)?;
+        kept = kept_after(kept, tested.role, &event.note);
     }
     Ok(())
 }
 
-/// Judges an event that has these events before it, where the latest connection has this fate before the event. Of a quiet one
-/// nothing is asked.
+/// What is kept of the events before the next one.
+#[derive(Clone, Copy)]
+struct Kept {
+    /// The fate of the latest connection, if it is decided (MQTT 5.0, section 3.2.2).
+    fate: Option<Fate>,
+    /// Whether some event asks for an answer, or has to be sent again.
+    asked: bool,
+}
+
+/// Judges an event that has these events before it, of which this is kept. Nothing is looked up for a quiet one, nor for a REST
+/// before which nothing asks.
 #[inline(always)]
 fn judge_next<E: Evaluator>(
     evaluator: &E,
     alloc: Global,
     tested: Tested,
-    fate: Option<Fate>,
+    kept: Kept,
     event: &Seen,
     before: &[Seen],
     faults: &mut Faults,
 ) -> Result<(), Memory>
     requires silent { AreSilent E.chosen }
-    ensures ok { E.is_for evaluator.now tested → IsPlaced (event.now ∷ reverse before.now) → IsInOrder tested.role (event.now ∷ reverse before.now) → fate ≡ latest_fate tested.role (reverse before.now) → OnOk result (GrowsBy E.chosen tested event.now (reverse before.now) faults.old faults.new) }
-    ensures memory { E.is_for evaluator.now tested → IsPlaced (event.now ∷ reverse before.now) → IsInOrder tested.role (event.now ∷ reverse before.now) → fate ≡ latest_fate tested.role (reverse before.now) → OnErr result (GrowsByWithin E.chosen tested event.now (reverse before.now) faults.old faults.new) }
+    ensures ok { E.is_for evaluator.now tested → IsPlaced (event.now ∷ reverse before.now) → IsInOrder tested.role (event.now ∷ reverse before.now) → kept.fate ≡ latest_fate tested.role (reverse before.now) → kept.asked ≡ some_asks (reverse before.now) → OnOk result (GrowsBy E.chosen tested event.now (reverse before.now) faults.old faults.new) }
+    ensures memory { E.is_for evaluator.now tested → IsPlaced (event.now ∷ reverse before.now) → IsInOrder tested.role (event.now ∷ reverse before.now) → kept.fate ≡ latest_fate tested.role (reverse before.now) → kept.asked ≡ some_asks (reverse before.now) → OnErr result (GrowsByWithin E.chosen tested event.now (reverse before.now) faults.old faults.new) }
 {
     if is_quiet(tested.role, &event.note) {
         return Ok(());
     }
+    if finds_nothing(kept.asked, &event.note) {
+        return Ok(());
+    }
     let turn = Turn {
         tested,
-        fate,
+        fate: kept.fate,
         rests: is_binding_rest(tested.role, event, before),
     };
     evaluator.judge_at(alloc, turn, event, before, faults)
@@ -91,6 +107,51 @@ fn is_spoken_of(role: Role, fields: &PacketFields) -> bool
         PacketFields::Publish(publish) => {
             matches!(role, Role::Server) || !matches!(publish.qos, Qos::AtMostOnce)
         }
+        _ => fields.is_session_packet(),
+    }
+}
+
+/// Whether the event is a REST that shows nothing, since nothing before it asked.
+#[inline(always)]
+fn finds_nothing(asked: bool, note: &Note) -> bool
+    ensures { result ≡ (is_rest note.now && not asked) }
+{
+    note.is_rest() && !asked
+}
+
+/// What is kept after an event, where this is kept of those before.
+#[inline(always)]
+fn kept_after(kept: Kept, role: Role, note: &Note) -> Kept
+    ensures fate { result.fate ≡ cond (is_open note.now) None (or_else kept.fate (decides role note.now)) }
+    ensures asked { result.asked ≡ (kept.asked || asks_for note.now) }
+{
+    Kept {
+        fate: fate_after(kept.fate, role, note),
+        asked: kept.asked || asks(note),
+    }
+}
+
+/// Whether the event asks for an answer, or may have to be sent again, so that a later REST can find that it wasn't.
+#[inline(always)]
+fn asks(note: &Note) -> bool
+    ensures { result ≡ asks_for note.now }
+{
+    match note {
+        Note::Sent(ItemNote::Packet(packet)) | Note::Recv(ItemNote::Packet(packet)) => {
+            is_asking(&packet.fields)
+        }
+        _ => false,
+    }
+}
+
+/// Whether a packet is a PINGREQ, or needs a session and is no PUBLISH of QoS 0.
+#[inline(always)]
+fn is_asking(fields: &PacketFields) -> bool
+    ensures { result ≡ asking fields.now }
+{
+    match fields {
+        PacketFields::Pingreq => true,
+        PacketFields::Publish(publish) => !matches!(publish.qos, Qos::AtMostOnce),
         _ => fields.is_session_packet(),
     }
 }

@@ -4,7 +4,7 @@ use Rattle.std.proofs.lemmas.Bool.{eq-eqb, eqb-true}
 use Rattle.mq_rules.specs.declared.role.Role.{Role}
 use Rattle.mq_rules.specs.declared.note.Seen.{Seen}
 use Rattle.mq_rules.specs.Connections.{fate, accepted, of_connection, session_expiry, may_be_accepted, is_alive_after, IsAlive}
-use Rattle.mq_rules.proofs.MomentLaws.{differ, or_parts, or_right}
+use Rattle.mq_rules.proofs.BoolLaws.{differ, or_parts, or_right}
 
 not_zero : (n : ℕ) → not (n == 0) ≡ true → n ≡ 0 → ⊥
 not_zero n h is = absurd (let t : (n == 0) ≡ true = eq-eqb n 0 is in cc)

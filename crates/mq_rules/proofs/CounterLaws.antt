@@ -11,8 +11,7 @@ use Rattle.mq_rules.specs.Connections.{connection}
 use Rattle.mq_rules.specs.Pasts.{receive_maximum}
 use Rattle.mq_rules.specs.Identifiers.{is_delivery, is_closer, counts, passes, breaks_S07, is_used_up}
 use Rattle.mq_rules.specs.Counter.{in_flight, in_flight_before, quota, keeps_quota}
-use Rattle.mq_rules.proofs.BoolLaws.{both_true}
-use Rattle.mq_rules.proofs.MomentLaws.{same_test, or_parts, or_left, or_right}
+use Rattle.mq_rules.proofs.BoolLaws.{both_true, same_test, or_parts, or_left, or_right}
 
 -- ---- tests on numbers
 

@@ -13,7 +13,7 @@ use Rattle.mq_rules.specs.Words.{or_else}
 use Rattle.mq_rules.specs.Notes.{is_open, is_close, decides, fate_by, connack_of}
 use Rattle.mq_rules.specs.Moments.{newest, note, earliest}
 use Rattle.mq_rules.specs.Connections.{begun, of_connection, connection, fate, latest_fate, is_connected}
-use Rattle.mq_rules.proofs.MomentLaws.{differ, or_else-none, or_else-other, or_else-there}
+use Rattle.mq_rules.proofs.BoolLaws.{differ, or_else-none, or_else-other, or_else-there}
 
 -- ---- connections
 

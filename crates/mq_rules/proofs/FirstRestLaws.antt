@@ -13,8 +13,7 @@ use Rattle.mq_rules.specs.Connections.{begun, number, connection, latest_fate, a
 use Rattle.mq_rules.specs.Exchanges.{Exchange, answers, first_unanswered, shows_R}
 use Rattle.mq_rules.specs.Statements.{at_rest, is_false}
 use Rattle.mq_rules.specs.FirstRests.{binds_after, first_rest, IsFirstRest}
-use Rattle.mq_rules.proofs.BoolLaws.{both_true, and_true}
-use Rattle.mq_rules.proofs.MomentLaws.{same_test, there}
+use Rattle.mq_rules.proofs.BoolLaws.{both_true, and_true, same_test, there}
 use Rattle.mq_rules.proofs.FateLaws.{begun-least, begun-same}
 use Rattle.mq_rules.proofs.PositionLaws.{among-moment, among-within, those-among, among-those, those-descend, moments-descend, some-among, among-some, since-stands, stands-since, earliest_since-there, earliest_since-is, is-earliest_since, moment-among}
 

@@ -11,7 +11,6 @@ pub mod GrowLaws
 pub mod JudgeLaws
 pub mod GivenLaws
 pub mod FatedLaws
-pub mod MomentLaws
 pub mod FateLaws
 pub mod OrderLaws
 pub mod RowLaws

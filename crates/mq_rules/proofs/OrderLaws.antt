@@ -28,7 +28,7 @@ use Rattle.mq_rules.specs.Words.{or_else}
 use Rattle.mq_rules.specs.Notes.{tested_as, tested_by, note_of, seen, seen_in, packet_fields, type_of, connack_in, connack_of, is_open, is_close, fate_by, decides, needs_session}
 use Rattle.mq_rules.specs.Moments.{note, moments, since, IsPlaced}
 use Rattle.mq_rules.specs.Connections.{latest_fate, is_connected, IsInOrder}
-use Rattle.mq_rules.proofs.MomentLaws.{or_else-there, or_else-other}
+use Rattle.mq_rules.proofs.BoolLaws.{or_else-there, or_else-other}
 use Rattle.mq_rules.proofs.FateLaws.{latest_fate-next, closed-decided, open-decides}
 
 -- ---- what the log's reader knows of an event is what the statements look at of it

@@ -10,7 +10,7 @@ use Rattle.mq_rules.specs.Words.{or_else}
 use Rattle.mq_rules.specs.Notes.{is_open}
 use Rattle.mq_rules.specs.Moments.{Moment, newest, position, note, moments, moment, some, since, those, latest, earliest, earliest_since, count, some_stretch, IsBeginning, Among, IsDescending, Stands, IsLatest, IsEarliest, IsEarliestSince, IsPlaced}
 use Rattle.mq_rules.specs.Connections.{begins, latest_fate, has_session, with_first, session}
-use Rattle.mq_rules.proofs.MomentLaws.{differ, or_parts, or_right}
+use Rattle.mq_rules.proofs.BoolLaws.{differ, or_parts, or_right}
 use Rattle.mq_rules.proofs.SessionLaws.{session-members}
 
 -- ---- positions and their moments

@@ -10,7 +10,7 @@ use Rattle.mq_rules.specs.declared.note.Seen.{Seen}
 use Rattle.mq_rules.specs.Notes.{is_open, is_release}
 use Rattle.mq_rules.specs.Moments.{Moment, newest, moments, Among}
 use Rattle.mq_rules.specs.Connections.{begun, number, fate, latest_fate, accepted, resumed, begins, voided, any_accepted, has_session, with_first, session, fate_under, IsLoose, IsInSession}
-use Rattle.mq_rules.proofs.MomentLaws.{differ, and_parts, or_parts, or_left, or_right}
+use Rattle.mq_rules.proofs.BoolLaws.{differ, both_true, or_parts, or_left, or_right}
 use Rattle.mq_rules.proofs.FateLaws.{begun-least, begun-open, begun-same, fate-elsewhere}
 
 -- ---- the fates, if the latest connection has this one
@@ -251,8 +251,8 @@ newest-belongs role f e past h = go (or_parts (accepted f) (is_release e.note &&
     go : (accepted f ≡ true) ⊎ ((is_release e.note && (voided f && any_accepted role f past)) ≡ true) → (accepted (fate_under role f (e ∷ past) (begun (e ∷ past))) ≡ true) ⊎ IsLoose (fate_under role f (e ∷ past)) (newest e past)
     go (inl is) = inl (ap accepted own ∙ is)
     go (inr is) =
-        let parts = and_parts (is_release e.note) (voided f && any_accepted role f past) is in
-        let others = and_parts (voided f) (any_accepted role f past) parts.1 in
+        let parts = both_true (is_release e.note) (voided f && any_accepted role f past) is in
+        let others = both_true (voided f) (any_accepted role f past) parts.1 in
         inr (loose parts.0 others.0 (any-earlier role f past others.1))
 
 belongs-newest : (role : Role) (f : Option Fate) (e : Seen) (past : List Seen)

@@ -4,11 +4,11 @@ use Rattle.mq_rules.specs.Faults.{GrowsWithin}
 use Rattle.mq_rules.proofs.MarkLaws.{on_err}
 use Rattle.mq_rules.proofs.GrowLaws.{grows-start}
 use Rattle.mq_rules.proofs.PlainLaws.{grows-next, within-next}
-use Rattle.mq_plain.proofs.LoopLaws.{placed-here, in_order-here, fate-step}
+use Rattle.mq_plain.proofs.LoopLaws.{placed-here, in_order-here, fate-step, asked-step}
 use Rattle.mq_plain.proofs.pass.judge_each.Goals as goal
 
 pub loop-i-init : goal.loop-i-init
-loop-i-init g c = record { grown = λ placed in_order. grows-start g.E.Evaluator.chosen c.args.tested c.args.faults.now; decided = refl }
+loop-i-init g c = record { grown = λ placed in_order. grows-start g.E.Evaluator.chosen c.args.tested c.args.faults.now; decided = refl; asked = refl }
 
 pub loop-i-preserved : goal.loop-i-preserved
 loop-i-preserved g c =
@@ -19,8 +19,9 @@ loop-i-preserved g c =
       grown = λ placed in_order.
           grows-next g.E.Evaluator.chosen c.args.tested seen i e c.args.faults.now c.loop-i.faults c.judge_next.new.faults c.loop-i-test.true c.index-seen-i.is
           (c.loop-i.invariant.grown placed in_order)
-          (c.in_ok-judge_next.ensures.ok c.of-evaluator.ensures (placed-here seen i e c.loop-i-test.true c.index-seen-i.is placed) (in_order-here c.args.tested.role seen i e c.loop-i-test.true c.index-seen-i.is in_order) c.loop-i.invariant.decided);
-      decided = fate-step c.args.tested.role seen i e c.loop-i.fate c.fate_after-fate.result c.loop-i-test.true c.index-seen-i.is c.loop-i.invariant.decided c.fate_after-fate.ensures;
+          (c.in_ok-judge_next.ensures.ok c.of-evaluator.ensures (placed-here seen i e c.loop-i-test.true c.index-seen-i.is placed) (in_order-here c.args.tested.role seen i e c.loop-i-test.true c.index-seen-i.is in_order) c.loop-i.invariant.decided c.loop-i.invariant.asked);
+      decided = fate-step c.args.tested.role seen i e c.loop-i.kept.fate c.kept_after-kept.result.fate c.loop-i-test.true c.index-seen-i.is c.loop-i.invariant.decided c.kept_after-kept.ensures.fate;
+      asked = asked-step seen i e c.loop-i.kept.asked c.kept_after-kept.result.asked c.loop-i-test.true c.index-seen-i.is c.loop-i.invariant.asked c.kept_after-kept.ensures.asked;
     }
 
 pub returns-in_err-judge_next-clause-memory : goal.returns-in_err-judge_next-clause-memory
@@ -31,4 +32,4 @@ returns-in_err-judge_next-clause-memory g c = λ placed in_order.
     on_err c.from_residual.result (GrowsWithin g.E.Evaluator.chosen c.args.tested (reverse seen) c.args.faults.now c.judge_next.new.faults)
     (within-next g.E.Evaluator.chosen c.args.tested seen i e c.args.faults.now c.loop-i.faults c.judge_next.new.faults c.loop-i-test.true c.index-seen-i.is
     (c.loop-i.invariant.grown placed in_order)
-    (c.in_err-judge_next.ensures.memory c.of-evaluator.ensures (placed-here seen i e c.loop-i-test.true c.index-seen-i.is placed) (in_order-here c.args.tested.role seen i e c.loop-i-test.true c.index-seen-i.is in_order) c.loop-i.invariant.decided))
+    (c.in_err-judge_next.ensures.memory c.of-evaluator.ensures (placed-here seen i e c.loop-i-test.true c.index-seen-i.is placed) (in_order-here c.args.tested.role seen i e c.loop-i-test.true c.index-seen-i.is in_order) c.loop-i.invariant.decided c.loop-i.invariant.asked))
