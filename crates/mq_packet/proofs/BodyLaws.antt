@@ -25,8 +25,8 @@ use Rattle.mq_packet.specs.declared.rule.PacketRule.TheVariants as rules
 use Rattle.mq_packet.specs.declared.fault.DecodeFault.{DecodeFault}
 use Rattle.mq_packet.specs.declared.header.FixedHeader.{FixedHeader}
 use Rattle.mq_packet.specs.declared.header.FixedHeader.TheVariants.{Whole}
-use Rattle.mq_packet.specs.Entries.{Entry, connect, connack, publish, acknowledgement, request, answer, pingreq, pingresp, disconnect, auth, WillFields, ConnectFields, PublishFields, AskedFilter, listed, request_place, answer_place, answer_codes, has_options}
-use Rattle.mq_packet.specs.Formats.{Kind, text, binary, Value, Format, done, rest, refused, missing, field, at_end, field_if, will_if, has_bits, qos_of, options_if, filters_format, codes_format, connect_format, connack_format, publish_from, publish_unacknowledged, publish_acknowledged, publish_format, acknowledgement_format, request_format, answer_format, ending_format, format_of}
+use Rattle.mq_packet.specs.Entries.{Entry, connect, connack, publish, acknowledgement, request, answer, pingreq, pingresp, disconnect, auth, WillFields, ConnectFields, PublishFields, AskedFilter, listed, request_place, has_options}
+use Rattle.mq_packet.specs.Formats.{Kind, text, binary, Value, Format, done, rest, all_codes, refused, missing, field, at_end, field_if, will_if, has_bits, qos_of, options_if, filters_format, connect_format, connack_format, publish_from, publish_unacknowledged, publish_acknowledged, publish_format, acknowledgement_format, request_format, answer_format, ending_format, format_of}
 use Rattle.mq_packet.specs.Asking.{options_spelling, asked_spelling, filters_spelling}
 use Rattle.mq_packet.specs.Canonical.{list_spelling, spelling_if, will_spelling, connect_body, connack_body, publish_body, request_body, answer_body}
 use Rattle.mq_packet.specs.Spelled.{spelling, Spells, IsSpelled}
@@ -56,6 +56,7 @@ HasLength n (auth code list) = Unit {0}
 abbrev Measures : Format → ℕ → Type 0
 Measures (done packet) n = HasLength n packet
 Measures (rest packet) n = (bytes : List ℕ) → HasLength (n + length bytes) (packet bytes)
+Measures (all_codes table packet) n = (reasons : List ℕ) → HasLength (n + length reasons) (packet reasons)
 Measures (refused rule) n = Unit {0}
 Measures (missing rule) n = Unit {0}
 Measures (field kind objection next) n = (value : Value kind) → objection value ≡ None → Measures (next value) (n + length (spelling kind value))
@@ -73,6 +74,7 @@ measured : (format : Format) (n : ℕ) (bytes : List ℕ) (entry : Entry) → Me
 measured (done packet) n bytes entry h spelled =
     length_at entry n (n + length bytes) (omega (arith, ap (length {A = ℕ}) spelled.0)) (subst (λ (p : Entry). HasLength n p) spelled.1 h)
 measured (rest packet) n bytes entry h spelled = subst (λ (p : Entry). HasLength (n + length bytes) p) spelled (h bytes)
+measured (all_codes table packet) n bytes entry h spelled = subst (λ (p : Entry). HasLength (n + length bytes) p) spelled.1 (h bytes)
 measured (refused rule) n bytes entry h spelled = absurd spelled
 measured (missing rule) n bytes entry h spelled = absurd spelled
 measured (field kind objection next) n bytes entry h spelled =
@@ -170,21 +172,10 @@ request_measured size kind = λ identifier _ list _.
     (λ filters. (let whole : sum (2 ∷ length (list_spelling list) ∷ length (filters_spelling filters) ∷ []) ≡ length (request_body identifier list filters) = request_length identifier list filters (length (list_spelling list)) (length (filters_spelling filters)) refl refl in
     omega (arith, whole))) size [])
 
-codes_measured : (table : List ℕ) (packet : List ℕ → Entry) (before : ℕ) → ((reasons : List ℕ) → HasLength (before + length reasons) (packet reasons))
-    → (n : ℕ) (found : List ℕ) → Measures (codes_format n table packet found) (before + length found)
-codes_measured table packet before good zero found = good found
-codes_measured table packet before good (suc n) found = (
-  good found,
-  λ code _. measured_at (codes_format n table packet (found ++ code ∷ [])) (before + length (found ++ code ∷ [])) (before + length found + 1) (omega (arith, length-append found (code ∷ [])))
-      (codes_measured table packet before good n (found ++ code ∷ [])),
-)
-
-answer_measured : (size : ℕ) (kind : RequestKind) → Measures (answer_format size kind) 0
-answer_measured size kind = λ identifier _ list _.
-    measured_at (codes_format size (answer_codes kind) (answer kind identifier (listed (answer_place kind) list)) []) (2 + length (list_spelling list) + 0) _ (omega arith)
-    (codes_measured (answer_codes kind) (answer kind identifier (listed (answer_place kind) list)) (2 + length (list_spelling list))
-    (λ reasons. (let whole : sum (2 ∷ length (list_spelling list) ∷ length reasons ∷ []) ≡ length (answer_body identifier list reasons) = answer_length identifier list reasons (length (list_spelling list)) (length reasons) refl refl in
-    omega (arith, whole))) size [])
+answer_measured : (kind : RequestKind) → Measures (answer_format kind) 0
+answer_measured kind = λ identifier _ list _ reasons.
+    (let whole : sum (2 ∷ length (list_spelling list) ∷ length reasons ∷ []) ≡ length (answer_body identifier list reasons) = answer_length identifier list reasons (length (list_spelling list)) (length reasons) refl refl in
+    omega (arith, whole))
 
 -- ---- packets that keep the length of their body
 
@@ -209,9 +200,9 @@ format_measured first size =
     or_next (first == 98) (acknowledgement_format acknowledgements.Pubrel) _ (acknowledgement_measured acknowledgements.Pubrel) (
     or_next (first == 112) (acknowledgement_format acknowledgements.Pubcomp) _ (acknowledgement_measured acknowledgements.Pubcomp) (
     or_next (first == 130) (request_format size requests.Subscribe) _ (request_measured size requests.Subscribe) (
-    or_next (first == 144) (answer_format size requests.Subscribe) _ (answer_measured size requests.Subscribe) (
+    or_next (first == 144) (answer_format requests.Subscribe) _ (answer_measured requests.Subscribe) (
     or_next (first == 162) (request_format size requests.Unsubscribe) _ (request_measured size requests.Unsubscribe) (
-    or_next (first == 176) (answer_format size requests.Unsubscribe) _ (answer_measured size requests.Unsubscribe) (
+    or_next (first == 176) (answer_format requests.Unsubscribe) _ (answer_measured requests.Unsubscribe) (
     or_next (first == 192) (done pingreq) _ refl (
     or_next (first == 208) (done pingresp) _ refl (
     or_next (first == 224) (ending_format endings.Disconnect) _ (ending_measured endings.Disconnect) (

@@ -23,7 +23,7 @@ use Rattle.mq_packet.specs.declared.packet.RequestKind.{RequestKind}
 use Rattle.mq_packet.specs.declared.packet.RequestKind.TheVariants as requests
 use Rattle.mq_packet.specs.declared.rule.PacketRule.TheVariants as rules
 use Rattle.mq_packet.specs.Entries.{Entry, connect, connack, publish, acknowledgement, request, answer, pingreq, pingresp, disconnect, auth, WillFields, ConnectFields, PublishFields, AskedFilter, listed, none_listed, acknowledgement_place, acknowledgement_codes, request_place, answer_place, answer_codes, has_options}
-use Rattle.mq_packet.specs.Formats.{byte, text, binary, properties, Format, done, missing, field, at_end, field_if, will_if, is_code, names_topic, is_filter, are_options, are_connect_flags, has_bits, qos_of, options_if, filters_format, codes_format, connect_from, connack_format, publish_from, publish_unacknowledged, publish_acknowledged, acknowledgement_format, request_format, answer_format, ending_format, any_value, code_objection}
+use Rattle.mq_packet.specs.Formats.{byte, text, binary, properties, Format, done, missing, field, at_end, field_if, will_if, is_code, names_topic, is_filter, are_options, are_connect_flags, has_bits, qos_of, options_if, filters_format, connect_from, connack_format, publish_from, publish_unacknowledged, publish_acknowledged, acknowledgement_format, request_format, answer_format, ending_format, any_value, code_objection}
 use Rattle.mq_packet.specs.Asking.{options_spelling, asked_spelling, filters_spelling}
 use Rattle.mq_packet.specs.Spelled.{IsValue, Spells, IsSpelled}
 use Rattle.mq_packet.specs.Canonical.{bit, connect_flags, spelling_if, list_spelling, will_spelling, reason_spelling, first_byte, connect_body, connack_body, publish_body, acknowledgement_body, request_body, answer_body, disconnect_body, auth_body, canonical_body}
@@ -140,10 +140,6 @@ acknowledgement_bytes acknowledgements.Puback = refl
 acknowledgement_bytes acknowledgements.Pubrec = refl
 acknowledgement_bytes acknowledgements.Pubrel = refl
 acknowledgement_bytes acknowledgements.Pubcomp = refl
-
-answer_bytes : (kind : RequestKind) → AreCodes (answer_codes kind)
-answer_bytes requests.Subscribe = refl
-answer_bytes requests.Unsubscribe = refl
 
 acknowledgement_spells : (kind : AcknowledgementKind) (identifier code : ℕ) (list : Listed) → IsIdentified identifier list → valid_acknowledgement kind identifier code list ≡ true
     → Spells (acknowledgement_format kind) (acknowledgement_body identifier code list.items) (acknowledgement kind identifier code list)
@@ -316,31 +312,13 @@ request_spelled : (kind : RequestKind) (identifier : ℕ) (list : Listed) (filte
 request_spelled requests.Subscribe identifier list filters ok e = request_spells requests.Subscribe identifier list filters ok e
 request_spelled requests.Unsubscribe identifier list filters ok e = request_spells requests.Unsubscribe identifier list filters ok e
 
-codes_spelled : (table : List ℕ) → AreCodes table → (packet : List ℕ → Entry) (n : ℕ) (found reasons : List ℕ) → length reasons ≤ n
-    → list_all (is_code table) reasons ≡ true → Spells (codes_format n table packet found) reasons (packet (found ++ reasons))
-codes_spelled table bytes packet zero found [] few e = (refl, ap packet (sym (append-nil found)))
-codes_spelled table bytes packet zero found (code ∷ reasons) few e = absurd (omega arith)
-codes_spelled table bytes packet (suc n) found [] few e = (refl, ap packet (sym (append-nil found)))
-codes_spelled table bytes packet (suc n) found (code ∷ reasons) few e =
-    (let parts : (is_code table code ≡ true) × (list_all (is_code table) reasons ≡ true) = and_parts _ _ e in
-    let rest : Spells (codes_format n table packet (found ++ code ∷ [])) reasons (packet ((found ++ code ∷ []) ++ reasons)) = codes_spelled table bytes packet n (found ++ code ∷ []) reasons (omega arith) parts.1 in (
-      code,
-      reasons,
-      record { is_value = code_value table code bytes parts.0; spelled = refl },
-      unobjected (is_code table code) rules.W13 parts.0,
-      subst (λ (l : List ℕ). Spells (codes_format n table packet (found ++ code ∷ [])) reasons (packet l)) (append_assoc found (code ∷ []) reasons) rest,
-    ))
-
 answer_spells : (kind : RequestKind) (identifier : ℕ) (list : Listed) (reasons : List ℕ) → IsIdentified identifier list → valid_answer kind identifier list reasons ≡ true
-    → Spells (answer_format (length (answer_body identifier list.items reasons)) kind) (answer_body identifier list.items reasons) (answer kind identifier list reasons)
+    → Spells (answer_format kind) (answer_body identifier list.items reasons) (answer kind identifier list reasons)
 unfolding valid_answer answer_body
 answer_spells kind identifier list reasons ok e =
     (let one : (same_place list.place (answer_place kind) ≡ true) × ((is_identifier identifier && list_all (is_code (answer_codes kind)) reasons) ≡ true) = and_parts _ _ e in
     let two : (is_identifier identifier ≡ true) × (list_all (is_code (answer_codes kind)) reasons ≡ true) = and_parts _ _ one.1 in
-    let behind : length (list_spelling list.items ++ reasons) ≡ length (list_spelling list.items) + length reasons = length-append (list_spelling list.items) reasons in
-    let whole : length (two_bytes_spelling identifier ++ (list_spelling list.items ++ reasons)) ≡ length (two_bytes_spelling identifier) + length (list_spelling list.items ++ reasons) = length-append (two_bytes_spelling identifier) (list_spelling list.items ++ reasons) in
-    let few : length reasons ≤ length (two_bytes_spelling identifier ++ (list_spelling list.items ++ reasons)) = omega arith in
-    let P : Listed → Type 0 = λ l. Spells (answer_format (length (two_bytes_spelling identifier ++ (list_spelling list.items ++ reasons))) kind) (two_bytes_spelling identifier ++ (list_spelling list.items ++ reasons)) (answer kind identifier l reasons) in
+    let P : Listed → Type 0 = λ l. Spells (answer_format kind) (two_bytes_spelling identifier ++ (list_spelling list.items ++ reasons)) (answer kind identifier l reasons) in
     subst P (listed_is (answer_place kind) list one.0) (
       identifier,
       list_spelling list.items ++ reasons,
@@ -351,7 +329,7 @@ answer_spells kind identifier list reasons ok e =
         reasons,
         record { is_value = list_value (answer_place kind) list ok.properties one.0; spelled = refl },
         refl,
-        codes_spelled (answer_codes kind) (answer_bytes kind) (answer kind identifier (listed (answer_place kind) list.items)) (length (two_bytes_spelling identifier ++ (list_spelling list.items ++ reasons))) [] reasons few two.1,
+        (two.1, refl),
       ),
     ))
 

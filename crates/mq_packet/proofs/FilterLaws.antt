@@ -41,7 +41,7 @@ pub unless_ok : {X : Type 0} (at : ℕ) (o : Option Objection) (x y : X) → unl
 unless_ok at None x y e = (refl, done_is x y e)
 unless_ok at (Some objection) x y e = absurd cc
 
-unbroken : (good : Bool) (rule : PacketRule) → unless_broken good rule ≡ None → good ≡ true
+pub unbroken : (good : Bool) (rule : PacketRule) → unless_broken good rule ≡ None → good ≡ true
 unbroken true rule e = refl
 unbroken false rule e = absurd cc
 

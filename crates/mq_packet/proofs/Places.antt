@@ -1,6 +1,7 @@
 -- The place of a broken rule lies in the packet, or after its last byte.
-use Rattle.std.proofs.Common.{◌≡◌, ℕ, ◌+◌, ◌≤◌, ◌<◌, eqb, ltb, true, false, List, [], length, Option, Some, None, Result, Ok, Err, refl, ap, subst, arith}
+use Rattle.std.proofs.Common.{◌≡◌, ℕ, ◌+◌, ◌≤◌, ◌<◌, Bool, eqb, ltb, true, false, cond, List, [], ◌∷◌, length, Option, Some, None, Result, Ok, Err, refl, ap, subst, arith}
 use Rattle.std.specs.Prelude.{◌==◌, if◌then◌else◌}
+use Rattle.std.specs.List.{list_all, prefix_len}
 use Rattle.std.proofs.Common.{length-drop}
 use Rattle.std.proofs.lemmas.Bool.{ne_eqb, lt-ltb, le-ltb}
 use Rattle.mq_wire.specs.declared.fault.Reason.{Reason}
@@ -20,8 +21,8 @@ use Rattle.mq_packet.specs.declared.rule.PacketRule.TheVariants as rules
 use Rattle.mq_packet.specs.declared.fault.DecodeFault.{DecodeFault}
 use Rattle.mq_packet.specs.declared.fault.DecodeFault.TheVariants.{Broken, OtherVersion}
 use Rattle.mq_packet.specs.Entries.{Entry}
-use Rattle.mq_packet.specs.Formats.{Kind, byte, two_bytes, text, binary, properties, Value, Objection, breaks, other_version, Format, done, rest, refused, missing, field, at_end, format_of, publish_format}
-use Rattle.mq_packet.specs.Decoding.{broken, objected, spelled, spelled_list, field_on, read}
+use Rattle.mq_packet.specs.Formats.{Kind, byte, two_bytes, text, binary, properties, Value, Objection, breaks, other_version, is_code, Format, done, rest, all_codes, refused, missing, field, at_end, format_of, publish_format}
+use Rattle.mq_packet.specs.Decoding.{◌>>=◌, broken, objected, spelled, spelled_list, field_on, codes_on, read}
 use Rattle.mq_packet.proofs.Readings.{by_field, by_objection}
 
 -- The place after the last byte that is left.
@@ -95,9 +96,22 @@ at_end_fits : (whole more : Format) → PlacesFit whole → PlacesFit more → P
 at_end_fits whole more one two left =
     elim (length left.rest == 0) as (λ b. place_of (if b then read whole left else read more left) ≤ end_of left) [ true ↦ one left | false ↦ two left ]
 
+codes_fit : (table : List ℕ) (packet : List ℕ → Entry) → PlacesFit (all_codes table packet)
+unfolding codes_on
+codes_fit table packet left =
+    elim (list_all (is_code table) left.rest) as (λ t. place_of ((if t then Ok left.rest else Err (broken (left.at + prefix_len (is_code table) left.rest) rules.W13)) >>= (λ reasons. Ok (packet reasons))) ≤ end_of left) [
+      | true ↦ omega arith
+      | false ↦ (let fits : prefix_len (is_code table) left.rest ≤ length left.rest = prefix_within (is_code table) left.rest in omega (arith, fits))
+    ]
+  where
+    prefix_within : (test : ℕ → Bool) (bytes : List ℕ) → prefix_len test bytes ≤ length bytes
+    prefix_within test [] = omega arith
+    prefix_within test (b ∷ bytes) = (let more = prefix_within test bytes in elim (test b) as (λ t. cond t (1 + prefix_len test bytes) 0 ≤ length (b ∷ bytes)) [ true ↦ omega (arith, more) | false ↦ omega arith ])
+
 places_fit : (format : Format) → PlacesFit format
 places_fit (done packet) left = done_fits packet left
 places_fit (rest packet) left = omega arith
+places_fit (all_codes table packet) left = codes_fit table packet left
 places_fit (refused rule) left = omega arith
 places_fit (missing rule) left = omega arith
 places_fit (field kind objection next) left = found_fits kind objection next left (λ value. places_fit (next value)) (field_on kind left) (field_ends kind left)

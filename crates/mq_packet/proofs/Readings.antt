@@ -1,8 +1,9 @@
 -- Reading by a format gives what the bytes come to by it, and nothing else comes of them.
-use Rattle.std.proofs.Common.{◌≡◌, ◌≢◌, ℕ, ◌+◌, Bool, false, inl, inr, List, [], ◌∷◌, ◌++◌, length, drop, Option, Some, None, Result, Ok, Err, refl, sym, ◌∙◌, ap, subst, arith, eqb}
+use Rattle.std.proofs.Common.{◌≡◌, ◌≢◌, ℕ, ◌+◌, Bool, true, false, inl, inr, List, [], ◌∷◌, ◌++◌, length, drop, Option, Some, None, Result, Ok, Err, refl, sym, ◌∙◌, ap, subst, arith, eqb}
 use Rattle.std.proofs.lemmas.Bool.{ne_eqb}
 use Rattle.std.proofs.lemmas.List.{drop_at}
 use Rattle.std.specs.Prelude.{if◌then◌else◌, IfOk, IfErr}
+use Rattle.std.specs.List.{list_all, prefix_len}
 use Rattle.mq_wire.specs.Spellings.{AreBytes}
 use Rattle.mq_wire.specs.Left.{Left}
 use Rattle.mq_props.proofs.Exact.{AreBytes-drop}
@@ -13,9 +14,10 @@ use Rattle.mq_packet.specs.declared.fault.DecodeFault.TheVariants.{Broken, Other
 use Rattle.mq_packet.specs.declared.packet.Packet.{Packet}
 use Rattle.mq_packet.specs.Entries.{Entry}
 use Rattle.mq_packet.specs.Reading.{view, Gives}
-use Rattle.mq_packet.specs.Formats.{Kind, Value, Objection, Format, done, rest, refused, missing, field, at_end, format_of}
-use Rattle.mq_packet.specs.Decoding.{◌>>=◌, broken, body_start, field_on, unless, read, decoded}
+use Rattle.mq_packet.specs.Formats.{Kind, Value, Objection, is_code, Format, done, rest, all_codes, refused, missing, field, at_end, format_of}
+use Rattle.mq_packet.specs.Decoding.{◌>>=◌, broken, body_start, field_on, unless, codes_on, read, decoded}
 use Rattle.mq_packet.specs.Spelled.{spelling, Begin, Is, IsSpelled, HasFault, Comes}
+use Rattle.mq_packet.proofs.CodeLaws.{codes_known, codes_bad, first_bad}
 use Rattle.mq_packet.proofs.FieldLaws.{left_from, Front, field_found, field_read, field_misspelled, misspelled_field}
 
 -- The reading of a field and of what follows it, by what the field was read as.
@@ -79,9 +81,18 @@ is_at_end whole more one two at (b ∷ bytes) known =
     (let P : Bool → Type 0 = λ t. Is (at_end whole more) at (b ∷ bytes) (if t then read whole (left_from at (b ∷ bytes)) else read more (left_from at (b ∷ bytes))) in
     subst P (sym (not_empty b bytes)) (more_is whole more at b bytes (read more (left_from at (b ∷ bytes))) (two at (b ∷ bytes) known)))
 
+is_codes : (table : List ℕ) (packet : List ℕ → Entry) → IsRead (all_codes table packet)
+unfolding codes_on
+is_codes table packet at bytes known =
+    elim (list_all (is_code table) bytes) as (λ t. list_all (is_code table) bytes ≡ t → Is (all_codes table packet) at bytes ((if t then Ok bytes else Err (broken (at + prefix_len (is_code table) bytes) rules.W13)) >>= (λ reasons. Ok (packet reasons)))) [
+      | true ↦ λ all. (all, refl)
+      | false ↦ λ some. first_bad table at bytes some
+    ] refl
+
 pub is_read : (format : Format) → IsRead format
 is_read (done packet) at bytes known = is_done packet at bytes known
 is_read (rest packet) at bytes known = refl
+is_read (all_codes table packet) at bytes known = is_codes table packet at bytes known
 is_read (refused rule) at bytes known = refl
 is_read (missing rule) at bytes known = refl
 is_read (field kind objection next) at bytes known = field_is kind objection next at bytes known (λ value. is_read (next value)) (field_on kind (left_from at bytes)) refl
@@ -134,6 +145,14 @@ only_rest : (packet : List ℕ → Entry) → OnlyRead (rest packet)
 only_rest packet at bytes (Ok entry) known h = ap (λ (e : Entry). Ok e) h
 only_rest packet at bytes (Err fault) known h = absurd h
 
+-- The packet that is made of what is read.
+abbrev made_of : {X : Type 0} → (X → Entry) → Result X DecodeFault → Result Entry DecodeFault
+made_of packet found = found >>= (λ x. Ok (packet x))
+
+only_codes : (table : List ℕ) (packet : List ℕ → Entry) → OnlyRead (all_codes table packet)
+only_codes table packet at bytes (Ok entry) known h = ap (made_of packet) (codes_known table (left_from at bytes) h.0) ∙ ap (λ (e : Entry). Ok e) h.1
+only_codes table packet at bytes (Err fault) known h = ap (made_of packet) (codes_bad table (left_from at bytes) fault h)
+
 only_refused : (rule : PacketRule) → OnlyRead (refused rule)
 only_refused rule at bytes (Ok entry) known h = absurd h
 only_refused rule at bytes (Err fault) known h = ap (λ (f : DecodeFault). Err f) (sym h)
@@ -145,6 +164,7 @@ only_missing rule at bytes (Err fault) known h = ap (λ (f : DecodeFault). Err f
 pub only_read : (format : Format) → OnlyRead format
 only_read (done packet) at bytes r known h = only_done packet at bytes r known h
 only_read (rest packet) at bytes r known h = only_rest packet at bytes r known h
+only_read (all_codes table packet) at bytes r known h = only_codes table packet at bytes r known h
 only_read (refused rule) at bytes r known h = only_refused rule at bytes r known h
 only_read (missing rule) at bytes r known h = only_missing rule at bytes r known h
 only_read (field kind objection next) at bytes r known h = only_field kind objection next at bytes known (λ value. only_read (next value)) r h

@@ -18,8 +18,8 @@ use Rattle.mq_packet.specs.declared.packet.EndingKind.TheVariants as endings
 use Rattle.mq_packet.specs.declared.packet.RequestKind.{RequestKind}
 use Rattle.mq_packet.specs.declared.packet.RequestKind.TheVariants as requests
 use Rattle.mq_packet.specs.declared.rule.PacketRule.TheVariants as rules
-use Rattle.mq_packet.specs.Entries.{Entry, request, answer, pingreq, pingresp, WillFields, ConnectFields, AskedFilter, listed, none_listed, acknowledgement_place, request_place, answer_place, answer_codes, has_options}
-use Rattle.mq_packet.specs.Formats.{Kind, text, binary, Value, other_version, version_objection, Format, done, rest, refused, missing, field, at_end, field_if, will_if, are_connect_flags, has_bits, qos_of, options_if, filters_format, codes_format, connect_format, connack_format, publish_from, publish_unacknowledged, publish_acknowledged, publish_format, acknowledgement_format, request_format, answer_format, ending_format, format_of}
+use Rattle.mq_packet.specs.Entries.{Entry, request, pingreq, pingresp, WillFields, ConnectFields, AskedFilter, listed, none_listed, acknowledgement_place, request_place, has_options}
+use Rattle.mq_packet.specs.Formats.{Kind, text, binary, Value, other_version, version_objection, Format, done, rest, all_codes, refused, missing, field, at_end, field_if, will_if, are_connect_flags, has_bits, qos_of, options_if, filters_format, connect_format, connack_format, publish_from, publish_unacknowledged, publish_acknowledged, publish_format, acknowledgement_format, request_format, answer_format, ending_format, format_of}
 use Rattle.mq_packet.specs.Asking.{options_spelling, asked_spelling, filters_spelling}
 use Rattle.mq_packet.specs.Spelled.{IsValue, spelling, Spells, IsSpelled}
 use Rattle.mq_packet.specs.Canonical.{acknowledgement_type, acknowledgement_flags, request_type, answer_type, type_number, bit, qos_bits, will_flags, connect_flags, spelling_if, list_spelling, will_spelling, first_byte, connect_body, connack_body, publish_body, request_body, answer_body}
@@ -33,6 +33,7 @@ use Rattle.mq_packet.proofs.ValueLaws.{not_objected}
 abbrev Writes : (Entry → List ℕ → Type 0) → Format → (List ℕ → List ℕ) → Type 0
 Writes P (done packet) f = P packet (f [])
 Writes P (rest packet) f = (bytes : List ℕ) → P (packet bytes) (f bytes)
+Writes P (all_codes table packet) f = (reasons : List ℕ) → P (packet reasons) (f reasons)
 Writes P (refused rule) f = Unit {0}
 Writes P (missing rule) f = Unit {0}
 Writes P (field kind objection next) f = (value : Value kind) → IsValue kind value → objection value ≡ None → Writes P (next value) (λ left. f (spelling kind value ++ left))
@@ -42,6 +43,7 @@ Writes P (at_end whole more) f = Writes P whole f × Writes P more f
 written : (P : Entry → List ℕ → Type 0) (format : Format) (f : List ℕ → List ℕ) (bytes : List ℕ) (entry : Entry) → Writes P format f → Spells format bytes entry → P entry (f bytes)
 written P (done packet) f bytes entry h spelled = subst (λ (b : List ℕ). P entry (f b)) (sym spelled.0) (subst (λ (e : Entry). P e (f [])) spelled.1 h)
 written P (rest packet) f bytes entry h spelled = subst (λ (e : Entry). P e (f bytes)) spelled (h bytes)
+written P (all_codes table packet) f bytes entry h spelled = subst (λ (e : Entry). P e (f bytes)) spelled.1 (h bytes)
 written P (refused rule) f bytes entry h spelled = absurd spelled
 written P (missing rule) f bytes entry h spelled = absurd spelled
 written P (field kind objection next) f bytes entry h spelled =
@@ -54,6 +56,7 @@ written P (at_end whole more) f (b ∷ bytes) entry h spelled = written P more f
 writes_alike : (P : Entry → List ℕ → Type 0) (format : Format) (f g : List ℕ → List ℕ) → ((left : List ℕ) → f left ≡ g left) → Writes P format f → Writes P format g
 writes_alike P (done packet) f g e h = subst (λ (b : List ℕ). P packet b) (e []) h
 writes_alike P (rest packet) f g e h = λ bytes. subst (λ (b : List ℕ). P (packet bytes) b) (e bytes) (h bytes)
+writes_alike P (all_codes table packet) f g e h = λ reasons. subst (λ (b : List ℕ). P (packet reasons) b) (e reasons) (h reasons)
 writes_alike P (refused rule) f g e h = tt
 writes_alike P (missing rule) f g e h = tt
 writes_alike P (field kind objection next) f g e h = λ value is none.
@@ -329,27 +332,14 @@ request_writes first size kind first_is = λ identifier is_identifier _ list is_
     })
     size [] tt (λ left. two_bytes_spelling identifier ++ (list_spelling list ++ left)) (λ left. refl)
 
-module _ (P : Entry → List ℕ → Type 0) (table : List ℕ) (packet : List ℕ → Entry) (front : List ℕ → List ℕ) (good : (reasons : List ℕ) → P (packet reasons) (front reasons)) where
-  codes_end : (found : List ℕ) (f : List ℕ → List ℕ) → ((left : List ℕ) → f left ≡ front (found ++ left)) → P (packet found) (f [])
-  codes_end found f e = subst (λ (b : List ℕ). P (packet found) b) (sym (e [] ∙ ap front (append-nil found))) (good found)
-
-  codes_write : (n : ℕ) (found : List ℕ) (f : List ℕ → List ℕ) → ((left : List ℕ) → f left ≡ front (found ++ left)) → Writes P (codes_format n table packet found) f
-  codes_write zero found f e = codes_end found f e
-  codes_write (suc n) found f e = (
-    codes_end found f e,
-    λ code is_code _. codes_write n (found ++ code ∷ []) (λ left. f (code ∷ left)) (λ left. e (code ∷ left) ∙ ap front (sym (append_assoc found (code ∷ []) left))),
-  )
-
-answer_writes : (first size : ℕ) (kind : RequestKind) → first ≡ 16 * type_number (answer_type kind) + 0 → Writes (IsMade first) (answer_format size kind) (λ left. left)
+answer_writes : (first : ℕ) (kind : RequestKind) → first ≡ 16 * type_number (answer_type kind) + 0 → Writes (IsMade first) (answer_format kind) (λ left. left)
 unfolding answer_body
-answer_writes first size kind first_is = λ identifier is_identifier _ list is_list _.
-    codes_write (IsMade first) (answer_codes kind) (answer kind identifier (listed (answer_place kind) list)) (λ l. two_bytes_spelling identifier ++ (list_spelling list ++ l))
-    (λ reasons. record {
+answer_writes first kind first_is = λ identifier is_identifier _ list is_list _ reasons.
+    record {
       first_is = first_is;
       body_is = refl;
       typed = record { bound = is_identifier; properties = record { allowed = is_list.0; bound = is_list.1 } };
-    })
-    size [] (λ left. two_bytes_spelling identifier ++ (list_spelling list ++ left)) (λ left. refl)
+    }
 
 -- ---- any first byte
 
@@ -365,9 +355,9 @@ format_writes first size =
     or_known (IsMade first) (first == 98) (acknowledgement_format acknowledgements.Pubrel) _ (λ is. acknowledgement_writes first acknowledgements.Pubrel (eqb-true first 98 is)) (λ _.
     or_known (IsMade first) (first == 112) (acknowledgement_format acknowledgements.Pubcomp) _ (λ is. acknowledgement_writes first acknowledgements.Pubcomp (eqb-true first 112 is)) (λ _.
     or_known (IsMade first) (first == 130) (request_format size requests.Subscribe) _ (λ is. request_writes first size requests.Subscribe (eqb-true first 130 is)) (λ _.
-    or_known (IsMade first) (first == 144) (answer_format size requests.Subscribe) _ (λ is. answer_writes first size requests.Subscribe (eqb-true first 144 is)) (λ _.
+    or_known (IsMade first) (first == 144) (answer_format requests.Subscribe) _ (λ is. answer_writes first requests.Subscribe (eqb-true first 144 is)) (λ _.
     or_known (IsMade first) (first == 162) (request_format size requests.Unsubscribe) _ (λ is. request_writes first size requests.Unsubscribe (eqb-true first 162 is)) (λ _.
-    or_known (IsMade first) (first == 176) (answer_format size requests.Unsubscribe) _ (λ is. answer_writes first size requests.Unsubscribe (eqb-true first 176 is)) (λ _.
+    or_known (IsMade first) (first == 176) (answer_format requests.Unsubscribe) _ (λ is. answer_writes first requests.Unsubscribe (eqb-true first 176 is)) (λ _.
     or_known (IsMade first) (first == 192) (done pingreq) _ (λ is. record { first_is = eqb-true first 192 is; body_is = refl; typed = tt }) (λ _.
     or_known (IsMade first) (first == 208) (done pingresp) _ (λ is. record { first_is = eqb-true first 208 is; body_is = refl; typed = tt }) (λ _.
     or_known (IsMade first) (first == 224) (ending_format endings.Disconnect) _ (λ is. disconnect_writes first (eqb-true first 224 is)) (λ _.

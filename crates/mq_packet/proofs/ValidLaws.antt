@@ -19,8 +19,8 @@ use Rattle.mq_packet.specs.declared.packet.RequestKind.{RequestKind}
 use Rattle.mq_packet.specs.declared.packet.RequestKind.TheVariants as requests
 use Rattle.mq_packet.specs.declared.rule.PacketRule.{PacketRule}
 use Rattle.mq_packet.specs.declared.rule.PacketRule.TheVariants as rules
-use Rattle.mq_packet.specs.Entries.{Entry, connect, connack, publish, acknowledgement, request, answer, pingreq, pingresp, disconnect, auth, WillFields, AskedFilter, listed, acknowledgement_place, acknowledgement_codes, request_place, answer_place, answer_codes, has_options}
-use Rattle.mq_packet.specs.Formats.{byte, text, binary, properties, Format, done, refused, missing, field, at_end, field_if, will_if, is_code, names_topic, is_filter, are_options, has_bits, qos_of, options_if, filters_format, codes_format, connect_from, connect_format, connack_format, publish_from, publish_unacknowledged, publish_acknowledged, publish_format, acknowledgement_format, request_format, answer_format, ending_format, any_value, code_objection, filter_objection, format_of}
+use Rattle.mq_packet.specs.Entries.{Entry, connect, connack, publish, acknowledgement, request, answer, pingreq, pingresp, disconnect, auth, WillFields, AskedFilter, listed, acknowledgement_place, acknowledgement_codes, request_place, answer_place, has_options}
+use Rattle.mq_packet.specs.Formats.{byte, text, binary, properties, Format, done, refused, missing, field, at_end, field_if, will_if, is_code, names_topic, is_filter, are_options, has_bits, qos_of, options_if, filters_format, connect_from, connect_format, connack_format, publish_from, publish_unacknowledged, publish_acknowledged, publish_format, acknowledgement_format, request_format, answer_format, ending_format, any_value, code_objection, filter_objection, format_of}
 use Rattle.mq_packet.specs.Spelled.{Spells, IsSpelled}
 use Rattle.mq_packet.specs.Valid.{is_text, is_binary, is_identifier, if_there, fits_qos, fits_request, valid_will, valid_connect, valid_connack, valid_publish, valid_acknowledgement, valid_filter, valid_filters, valid_request, valid_answer, valid_disconnect, valid_auth, valid, IsTyped}
 use Rattle.mq_packet.specs.Canonical.{first_byte, canonical_body}
@@ -159,23 +159,11 @@ request_sound size kind bytes entry is h =
     (λ filters e. and_from _ _ (same_as_itself (request_place kind)) (and_from _ _ known e))
     size [] (omega arith) refl h.4.1 entry h.4.4)
 
-codes_sound : (table : List ℕ) (packet : List ℕ → Entry) → ((reasons : List ℕ) → list_all (is_code table) reasons ≡ true → valid (packet reasons) ≡ true)
-    → (n : ℕ) (found : List ℕ) → list_all (is_code table) found ≡ true → IsSound (codes_format n table packet found)
-codes_sound table packet good zero found all = done_sound (packet found) (good found all)
-codes_sound table packet good (suc n) found all =
-    at_end_sound (done (packet found)) (field byte (code_objection table) (λ code. codes_format n table packet (found ++ code ∷ []))) (done_sound (packet found) (good found all))
-    (λ bytes entry h.
-    (let this : is_code table h.0 ≡ true = not_objected (is_code table h.0) rules.W13 h.3 in
-    let more : list_all (is_code table) (found ++ h.0 ∷ []) ≡ true = list_all-append (is_code table) found (h.0 ∷ []) ∙ and_from _ _ all (and_from _ _ this refl) in
-    codes_sound table packet good n (found ++ h.0 ∷ []) more h.1 entry h.4))
-
-answer_sound : (size : ℕ) (kind : RequestKind) → IsSound (answer_format size kind)
+answer_sound : (kind : RequestKind) → IsSound (answer_format kind)
 unfolding valid_answer
-answer_sound size kind bytes entry h =
+answer_sound kind bytes entry h =
     (let known : is_identifier h.0 ≡ true = not_objected (is_identifier h.0) rules.W09 h.3 in
-    codes_sound (answer_codes kind) (answer kind h.0 (listed (answer_place kind) h.4.0))
-    (λ reasons e. and_from _ _ (same_as_itself (answer_place kind)) (and_from _ _ known e))
-    size [] refl h.4.1 entry h.4.4)
+    by_packet (answer kind h.0 (listed (answer_place kind) h.4.0) h.4.1) entry h.4.4.1 (and_from _ _ (same_as_itself (answer_place kind)) (and_from _ _ known h.4.4.0)))
 
 -- ---- CONNECT
 
@@ -233,9 +221,9 @@ format_sound first size =
     or_next size (first == 98) _ _ (at_any size (acknowledgement_format acknowledgements.Pubrel) (acknowledgement_sound acknowledgements.Pubrel)) (
     or_next size (first == 112) _ _ (at_any size (acknowledgement_format acknowledgements.Pubcomp) (acknowledgement_sound acknowledgements.Pubcomp)) (
     or_next size (first == 130) _ _ (request_sound size requests.Subscribe) (
-    or_next size (first == 144) _ _ (at_any size (answer_format size requests.Subscribe) (answer_sound size requests.Subscribe)) (
+    or_next size (first == 144) _ _ (at_any size (answer_format requests.Subscribe) (answer_sound requests.Subscribe)) (
     or_next size (first == 162) _ _ (request_sound size requests.Unsubscribe) (
-    or_next size (first == 176) _ _ (at_any size (answer_format size requests.Unsubscribe) (answer_sound size requests.Unsubscribe)) (
+    or_next size (first == 176) _ _ (at_any size (answer_format requests.Unsubscribe) (answer_sound requests.Unsubscribe)) (
     or_next size (first == 192) _ _ (at_any size (done pingreq) (done_sound pingreq refl)) (
     or_next size (first == 208) _ _ (at_any size (done pingresp) (done_sound pingresp refl)) (
     or_next size (first == 224) _ _ (at_any size (ending_format endings.Disconnect) disconnect_sound) (

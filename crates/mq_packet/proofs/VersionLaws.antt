@@ -18,8 +18,8 @@ use Rattle.mq_packet.specs.declared.rule.PacketRule.{PacketRule}
 use Rattle.mq_packet.specs.declared.rule.PacketRule.TheVariants as rules
 use Rattle.mq_packet.specs.declared.fault.DecodeFault.{DecodeFault}
 use Rattle.mq_packet.specs.declared.fault.DecodeFault.TheVariants.{OtherVersion}
-use Rattle.mq_packet.specs.Entries.{Entry, WillFields, AskedFilter, listed, acknowledgement_codes, answer_codes, has_options, request_place, answer_place, request, answer, pingreq, pingresp, ending_codes}
-use Rattle.mq_packet.specs.Formats.{Kind, byte, two_bytes, text, binary, properties, Value, Objection, breaks, other_version, unless_broken, name_objection, version_objection, are_connect_flags, connect_flags_objection, is_code, names_topic, is_filter, are_options, Format, done, rest, refused, missing, field, at_end, field_if, will_if, has_bits, options_if, filters_format, codes_format, connect_from, connect_format, connack_format, publish_from, publish_unacknowledged, publish_acknowledged, publish_format, acknowledgement_format, request_format, answer_format, ending_format, format_of}
+use Rattle.mq_packet.specs.Entries.{Entry, WillFields, AskedFilter, listed, acknowledgement_codes, has_options, request_place, request, pingreq, pingresp, ending_codes}
+use Rattle.mq_packet.specs.Formats.{Kind, byte, two_bytes, text, binary, properties, Value, Objection, breaks, other_version, unless_broken, name_objection, version_objection, are_connect_flags, connect_flags_objection, is_code, names_topic, is_filter, are_options, Format, done, rest, all_codes, refused, missing, field, at_end, field_if, will_if, has_bits, options_if, filters_format, connect_from, connect_format, connack_format, publish_from, publish_unacknowledged, publish_acknowledged, publish_format, acknowledgement_format, request_format, answer_format, ending_format, format_of}
 use Rattle.mq_packet.specs.Decoding.{objected, body_start, decoded}
 use Rattle.mq_packet.specs.Misspellings.{Misspelled}
 use Rattle.mq_packet.specs.Spelled.{spelling, Fails, IsOtherVersion, Comes}
@@ -40,6 +40,7 @@ IsRule (Some (other_version version)) = ⊥
 abbrev HasNoVersion : Format → Type 0
 HasNoVersion (done packet) = Unit {0}
 HasNoVersion (rest packet) = Unit {0}
+HasNoVersion (all_codes table packet) = Unit {0}
 HasNoVersion (refused rule) = Unit {0}
 HasNoVersion (missing rule) = Unit {0}
 HasNoVersion (field kind objection next) = (value : Value kind) → IsRule (objection value) × HasNoVersion (next value)
@@ -65,6 +66,7 @@ objected_no o (other_version w) at version h is e = subst (λ (x : Option Object
 no_version : (format : Format) → HasNoVersion format → (at : ℕ) (bytes : List ℕ) (version : ℕ) → Fails format at bytes (OtherVersion version) → ⊥
 no_version (done packet) h at bytes version fails = (let never = fails.1 in cc)
 no_version (rest packet) h at bytes version fails = fails
+no_version (all_codes table packet) h at bytes version fails = (let never = fails.is in cc)
 no_version (refused rule) h at bytes version fails = cc
 no_version (missing rule) h at bytes version fails = cc
 no_version (field kind objection next) h at bytes version (inl fails) = misspelled_no kind at bytes version fails
@@ -135,12 +137,8 @@ filters_none (suc n) asks packet found = (
 request_none : (size : ℕ) (kind : RequestKind) → HasNoVersion (request_format size kind)
 request_none size kind = λ identifier. (broken_rule (is_identifier identifier) rules.W09, λ list. (tt, filters_none size (has_options kind) (request kind identifier (listed (request_place kind) list)) []))
 
-codes_none : (n : ℕ) (table : List ℕ) (packet : List ℕ → Entry) (found : List ℕ) → HasNoVersion (codes_format n table packet found)
-codes_none zero table packet found = tt
-codes_none (suc n) table packet found = (tt, λ code. (broken_rule (is_code table code) rules.W13, codes_none n table packet (found ++ code ∷ [])))
-
-answer_none : (size : ℕ) (kind : RequestKind) → HasNoVersion (answer_format size kind)
-answer_none size kind = λ identifier. (broken_rule (is_identifier identifier) rules.W09, λ list. (tt, codes_none size (answer_codes kind) (answer kind identifier (listed (answer_place kind) list)) []))
+answer_none : (kind : RequestKind) → HasNoVersion (answer_format kind)
+answer_none kind = λ identifier. (broken_rule (is_identifier identifier) rules.W09, λ list. (tt, tt))
 
 ending_none : (kind : EndingKind) → HasNoVersion (ending_format kind)
 ending_none kind = (tt, λ code. (broken_rule (is_code (ending_codes kind) code) rules.W13, (tt, λ list. (tt, tt))))
@@ -214,9 +212,9 @@ module _ (first at : ℕ) (body : List ℕ) (version : ℕ) where
       or_tells (first == 98) (acknowledgement_format acknowledgements.Pubrel) _ (acknowledgement_none acknowledgements.Pubrel) (
       or_tells (first == 112) (acknowledgement_format acknowledgements.Pubcomp) _ (acknowledgement_none acknowledgements.Pubcomp) (
       or_tells (first == 130) (request_format size requests.Subscribe) _ (request_none size requests.Subscribe) (
-      or_tells (first == 144) (answer_format size requests.Subscribe) _ (answer_none size requests.Subscribe) (
+      or_tells (first == 144) (answer_format requests.Subscribe) _ (answer_none requests.Subscribe) (
       or_tells (first == 162) (request_format size requests.Unsubscribe) _ (request_none size requests.Unsubscribe) (
-      or_tells (first == 176) (answer_format size requests.Unsubscribe) _ (answer_none size requests.Unsubscribe) (
+      or_tells (first == 176) (answer_format requests.Unsubscribe) _ (answer_none requests.Unsubscribe) (
       or_tells (first == 192) (done pingreq) _ tt (
       or_tells (first == 208) (done pingresp) _ tt (
       or_tells (first == 224) (ending_format endings.Disconnect) _ (ending_none endings.Disconnect) (

@@ -1,17 +1,19 @@
 -- What is written of a packet is one frame, and is read as the packet.
-use Rattle.std.proofs.Common.{◌≡◌, ℕ, ◌+◌, ◌≤◌, Bool, true, List, [], ◌∷◌, ◌++◌, length, Option, Ok, refl, ◌∙◌, ap, append_assoc, arith}
+use Rattle.std.proofs.Common.{◌≡◌, ℕ, ◌+◌, ◌≤◌, Bool, true, List, [], ◌∷◌, ◌++◌, length, Option, Result, Ok, refl, ◌∙◌, ap, append_assoc, arith}
 use Rattle.std.specs.Prelude.{if◌then◌else◌}
 use Rattle.std.proofs.lemmas.Bool.{ne_eqb}
 use Rattle.mq_wire.specs.Spellings.{varint_spelling}
 use Rattle.mq_packet.specs.declared.frame.Cut.TheVariants.{Frame}
+use Rattle.mq_packet.specs.declared.fault.DecodeFault.{DecodeFault}
 use Rattle.mq_packet.specs.Entries.{Entry}
-use Rattle.mq_packet.specs.Formats.{Kind, Value, Objection, Format, done, rest, refused, missing, field, at_end, format_of}
+use Rattle.mq_packet.specs.Formats.{Kind, Value, Objection, Format, done, rest, all_codes, refused, missing, field, at_end, format_of}
 use Rattle.mq_packet.specs.Spelled.{spelling, Spells, IsSpelled}
 use Rattle.mq_packet.specs.Valid.{valid, IsTyped}
-use Rattle.mq_packet.specs.Decoding.{body_start, read, decoded}
+use Rattle.mq_packet.specs.Decoding.{◌>>=◌, body_start, read, decoded}
 use Rattle.mq_packet.specs.Frames.{BeginsWithFrame, cut_of}
 use Rattle.mq_packet.specs.Canonical.{first_byte, canonical_body, canonical}
 use Rattle.mq_packet.proofs.FrameLaws.{begins_cut}
+use Rattle.mq_packet.proofs.CodeLaws.{codes_known}
 use Rattle.mq_packet.proofs.FieldLaws.{left_from, field_read}
 use Rattle.mq_packet.proofs.Readings.{by_field, by_objection}
 use Rattle.mq_packet.proofs.CanonicalLaws.{canonical_spelled}
@@ -57,6 +59,7 @@ at_end_reads whole more one two at (b ∷ bytes) entry h =
 spelled_read : (format : Format) → ReadsSpelled format
 spelled_read (done packet) = done_reads packet
 spelled_read (rest packet) = λ at bytes entry h. ap (λ (e : Entry). Ok e) h
+spelled_read (all_codes table packet) = λ at bytes entry h. ap (λ (r : Result (List ℕ) DecodeFault). r >>= (λ reasons. Ok (packet reasons))) (codes_known table (left_from at bytes) h.0) ∙ ap (λ (e : Entry). Ok e) h.1
 spelled_read (refused rule) = λ at bytes entry h. absurd h
 spelled_read (missing rule) = λ at bytes entry h. absurd h
 spelled_read (field kind objection next) = field_reads kind objection next (λ value. spelled_read (next value))

@@ -1,5 +1,6 @@
 -- What a packet's bytes come to: the packet, or the first thing that isn't right with them.
 use Rattle.std.specs.Prelude.{ℕ, ◌+◌, ◌==◌, if◌then◌else◌, List, length, Option, Some, None, Result, Ok, Err}
+use Rattle.std.specs.List.{list_all, prefix_len}
 use Rattle.mq_wire.specs.declared.fault.Reason.{Reason}
 use Rattle.mq_wire.specs.declared.fault.Reason.TheVariants as reasons
 use Rattle.mq_wire.specs.declared.fault.WireFault.{WireFault}
@@ -15,7 +16,7 @@ use Rattle.mq_packet.specs.declared.rule.PacketRule.TheVariants as rules
 use Rattle.mq_packet.specs.declared.fault.DecodeFault.{DecodeFault}
 use Rattle.mq_packet.specs.declared.fault.DecodeFault.TheVariants.{Broken, OtherVersion}
 use Rattle.mq_packet.specs.Entries.{Entry}
-use Rattle.mq_packet.specs.Formats.{Kind, byte, two_bytes, text, binary, properties, Value, Objection, breaks, other_version, Format, done, rest, refused, missing, field, at_end, format_of}
+use Rattle.mq_packet.specs.Formats.{Kind, byte, two_bytes, text, binary, properties, Value, Objection, breaks, other_version, is_code, Format, done, rest, all_codes, refused, missing, field, at_end, format_of}
 
 -- A step that is taken only where the one before it succeeded.
 infixl 10 ◌>>=◌
@@ -81,10 +82,18 @@ read_field kind objection left = do
 abbrev pub ended : Entry → Left → Result Entry DecodeFault
 ended packet left = if length left.rest == 0 then Ok packet else Err (broken left.at rules.W06)
 
+-- All that is left as Reason Codes of a table: the first that isn't one of them is at fault (2.4).
+unfoldable pub codes_on : List ℕ → Left → Result (List ℕ) DecodeFault
+codes_on table left =
+    if list_all (is_code table) left.rest then Ok left.rest else Err (broken (left.at + prefix_len (is_code table) left.rest) rules.W13)
+
 -- What is left of a packet, read by its format.
 abbrev pub read : Format → Left → Result Entry DecodeFault
 read (done packet) left = ended packet left
 read (rest packet) left = Ok (packet left.rest)
+read (all_codes table packet) left = do
+  reasons ← codes_on table left
+  Ok (packet reasons)
 read (refused rule) left = Err (broken 0 rule)
 read (missing rule) left = Err (broken left.at rule)
 read (field kind objection next) left = do

@@ -47,6 +47,8 @@ pub data Format : Type 0 where
   done : Entry → Format
   -- any bytes, of which this packet is made
   rest : (List ℕ → Entry) → Format
+  -- Reason Codes of this table, one after another, of which this packet is made
+  all_codes : List ℕ → (List ℕ → Entry) → Format
   -- the first byte breaks this rule
   refused : PacketRule → Format
   -- what is missing here breaks this rule
@@ -245,20 +247,12 @@ request_format size kind =
     field (properties (request_place kind)) any_value (λ list.
     filters_format size (has_options kind) (request kind identifier (listed (request_place kind) list)) []))
 
--- At most this many Reason Codes of a table after those that were found.
-abbrev pub codes_format : ℕ → List ℕ → (List ℕ → Entry) → List ℕ → Format
-codes_format zero table packet found = done (packet found)
-codes_format (suc n) table packet found =
-    at_end (done (packet found))
-    (field byte (code_objection table) (λ code.
-    codes_format n table packet (found ++ code ∷ [])))
-
--- SUBACK and UNSUBACK (3.9, 3.11) of so many bytes, so of no more Reason Codes.
-abbrev pub answer_format : ℕ → RequestKind → Format
-answer_format size kind =
+-- SUBACK and UNSUBACK (3.9, 3.11).
+abbrev pub answer_format : RequestKind → Format
+answer_format kind =
     field two_bytes identifier_objection (λ identifier.
     field (properties (answer_place kind)) any_value (λ list.
-    codes_format size (answer_codes kind) (answer kind identifier (listed (answer_place kind) list)) []))
+    all_codes (answer_codes kind) (answer kind identifier (listed (answer_place kind) list))))
 
 -- DISCONNECT (3.14) and AUTH (3.15): an empty one has the Reason Code 0x00, and where one ends after its code it has no
 -- properties.
@@ -281,9 +275,9 @@ format_of first size =
     if first == 98 then acknowledgement_format acknowledgements.Pubrel else
     if first == 112 then acknowledgement_format acknowledgements.Pubcomp else
     if first == 130 then request_format size requests.Subscribe else
-    if first == 144 then answer_format size requests.Subscribe else
+    if first == 144 then answer_format requests.Subscribe else
     if first == 162 then request_format size requests.Unsubscribe else
-    if first == 176 then answer_format size requests.Unsubscribe else
+    if first == 176 then answer_format requests.Unsubscribe else
     if first == 192 then done pingreq else
     if first == 208 then done pingresp else
     if first == 224 then ending_format endings.Disconnect else

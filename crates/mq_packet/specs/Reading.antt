@@ -98,9 +98,9 @@ abbrev pub Takes : {X Y : Type 0} → (X → Y) → Result X Stop → Result (Y 
 Takes see (Ok x) read new = read ≡ Ok (see x, new)
 Takes see (Err stop) read new = read ≡ Err (fault_of stop)
 
--- A reader of a packet answers the packet, or where the reading stops.
-abbrev pub Reads : {X : Type 0} → (X → Entry) → Result X Stop → Result Entry DecodeFault → Type 0
-Reads see (Ok packet) read = read ≡ Ok (see packet)
+-- A reader of all that is left answers what it is, as a packet or a list, or where the reading stops.
+abbrev pub Reads : {X Y : Type 0} → (X → Y) → Result X Stop → Result Y DecodeFault → Type 0
+Reads see (Ok x) read = read ≡ Ok (see x)
 Reads see (Err stop) read = read ≡ Err (fault_of stop)
 
 -- The call answers this packet, or this fault.

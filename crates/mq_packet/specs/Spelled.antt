@@ -1,5 +1,6 @@
 -- Which packet a first byte and a body spell, and which fault they have: relations, apart from any reading.
-use Rattle.std.specs.Prelude.{◌≡◌, ◌≢◌, ℕ, ◌+◌, ◌≤◌, ◌⊎◌, List, [], ◌∷◌, ◌++◌, length, Option, Some, None, Result, Ok, Err}
+use Rattle.std.specs.Prelude.{◌≡◌, ◌≢◌, ℕ, ◌+◌, ◌≤◌, ◌⊎◌, true, false, List, [], ◌∷◌, ◌++◌, length, Option, Some, None, Result, Ok, Err}
+use Rattle.std.specs.List.{list_all}
 use Rattle.mq_wire.specs.Spellings.{IsByte, byte_spelling, IsTwoBytes, two_bytes_spelling, IsText, text_spelling, IsBinary, binary_spelling, varint_spelling}
 use Rattle.mq_props.specs.Values.{body as properties_spelling}
 use Rattle.mq_props.specs.Allowed.{AreAllowed}
@@ -8,7 +9,7 @@ use Rattle.mq_packet.specs.declared.rule.PacketRule.TheVariants as rules
 use Rattle.mq_packet.specs.declared.fault.DecodeFault.{DecodeFault}
 use Rattle.mq_packet.specs.declared.fault.DecodeFault.TheVariants.{Broken, OtherVersion}
 use Rattle.mq_packet.specs.Entries.{Entry}
-use Rattle.mq_packet.specs.Formats.{Kind, byte, two_bytes, text, binary, properties, Value, Objection, Format, done, rest, refused, missing, field, at_end, format_of}
+use Rattle.mq_packet.specs.Formats.{Kind, byte, two_bytes, text, binary, properties, Value, Objection, is_code, Format, done, rest, all_codes, refused, missing, field, at_end, format_of}
 use Rattle.mq_packet.specs.Decoding.{broken, objected, body_start}
 use Rattle.mq_packet.specs.Misspellings.{Misspelled}
 
@@ -41,10 +42,22 @@ Good kind objection bytes then = (value : Value kind) × (left : List ℕ) × Be
 abbrev pub Objected : (kind : Kind) → (Value kind → Option Objection) → List ℕ → Objection → Type 0
 Objected kind objection bytes why = (value : Value kind) × (left : List ℕ) × Begin kind bytes value left × (objection value ≡ Some why)
 
+-- The bytes are Reason Codes of the table, a byte each, and then a byte that isn't one of them, which is at fault (2.4). Any
+-- others may follow.
+pub record BadCode (table : List ℕ) (at : ℕ) (bytes : List ℕ) (fault : DecodeFault) : Type 0 where
+  pub good : List ℕ
+  pub bad : ℕ
+  pub others : List ℕ
+  pub parts : bytes ≡ good ++ bad ∷ others
+  pub known : list_all (is_code table) good ≡ true
+  pub unknown : is_code table bad ≡ false
+  pub is : fault ≡ broken (at + length good) rules.W13
+
 -- The bytes are those of this packet by the format: its fields in their order, each of them good, and nothing else.
 abbrev pub Spells : Format → List ℕ → Entry → Type 0
 Spells (done packet) bytes entry = (bytes ≡ []) × (packet ≡ entry)
 Spells (rest packet) bytes entry = packet bytes ≡ entry
+Spells (all_codes table packet) bytes entry = (list_all (is_code table) bytes ≡ true) × (packet bytes ≡ entry)
 Spells (refused rule) bytes entry = ⊥
 Spells (missing rule) bytes entry = ⊥
 Spells (field kind objection next) bytes entry = Good kind objection bytes (λ value left. Spells (next value) left entry)
@@ -56,6 +69,7 @@ Spells (at_end whole more) (b ∷ bytes) entry = Spells more (b ∷ bytes) entry
 abbrev pub Fails : Format → ℕ → List ℕ → DecodeFault → Type 0
 Fails (done packet) at bytes fault = (bytes ≢ []) × (fault ≡ broken at rules.W06)
 Fails (rest packet) at bytes fault = ⊥
+Fails (all_codes table packet) at bytes fault = BadCode table at bytes fault
 Fails (refused rule) at bytes fault = fault ≡ broken 0 rule
 Fails (missing rule) at bytes fault = fault ≡ broken at rule
 Fails (field kind objection next) at bytes fault =

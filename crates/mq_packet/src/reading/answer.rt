@@ -1,6 +1,6 @@
 //! Reading SUBACK and UNSUBACK (MQTT 5.0, sections 3.9 and 3.11).
 
-ghost use Rattle.std.specs.Prelude.{◌≡◌, ℕ, ◌≤◌, length};
+ghost use Rattle.std.specs.Prelude.{◌≡◌};
 ghost use Rattle.mq_packet.specs.Entries.{answer, answer_place, answer_codes};
 ghost use Rattle.mq_packet.specs.Formats.{answer_format};
 ghost use Rattle.mq_packet.specs.Decoding.{read};
@@ -34,14 +34,14 @@ fn table(kind: RequestKind) -> &'static [u8]
     }
 }
 
-/// Reads a SUBACK or UNSUBACK (MQTT 5.0, sections 3.9 and 3.11) from all that is left, in a body of any size that is no less.
+/// Reads a SUBACK or UNSUBACK (MQTT 5.0, sections 3.9 and 3.11) from all that is left.
 ///
 /// # Errors
 ///
 /// The first rule that a field breaks: W06, W09, W13, or one of its property list.
 #[inline(never)]
 pub fn read_answer<'a>(mut cursor: Cursor<'a>, kind: RequestKind) -> Result<Answer<'a>, Stop>
-    ensures { (size : ℕ) → length cursor.entry.rest ≤ size → Reads (λ p. answer kind p.identifier p.properties p.codes) result (read (answer_format size kind) cursor.entry) }
+    ensures { Reads (λ p. answer kind p.identifier p.properties p.codes) result (read (answer_format kind) cursor.entry) }
 {
     let identifier = packet_identifier(&mut cursor)?;
     let properties = property_list(&mut cursor, list_place(kind))?;

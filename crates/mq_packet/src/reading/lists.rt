@@ -3,8 +3,8 @@
 ghost use Rattle.std.specs.Prelude.{◌≡◌, ℕ, ◌≤◌, ◌<◌, List, [], length, MatchResult};
 ghost use Rattle.mq_wire.specs.Spellings.{AreBytes};
 ghost use Rattle.mq_packet.specs.Entries.{Entry, AskedFilter};
-ghost use Rattle.mq_packet.specs.Formats.{byte, options_objection, are_options, filters_format, codes_format};
-ghost use Rattle.mq_packet.specs.Decoding.{read_field, read};
+ghost use Rattle.mq_packet.specs.Formats.{byte, options_objection, are_options, filters_format};
+ghost use Rattle.mq_packet.specs.Decoding.{read_field, codes_on, read};
 ghost use Rattle.mq_packet.specs.Reading.{Takes, Reads, fault_of};
 ghost use Rattle.mq_packet.specs.Elements.{options_on, filter_on, filter_view, AreRead, AreRefused};
 
@@ -100,7 +100,7 @@ pub fn filter_list<'a>(cursor: Cursor<'a>, asks: bool) -> Result<Filters<'a>, St
 ///
 /// W13 at the first that isn't in the table.
 pub fn code_list<'a>(cursor: Cursor<'a>, table: &[u8]) -> Result<Codes<'a>, Stop>
-    ensures { (n : ℕ) (packet : List ℕ → Entry) → length cursor.entry.rest ≤ n → Reads packet result (read (codes_format n table.now packet []) cursor.entry) }
+    ensures { Reads (λ codes. codes) result (codes_on table.now cursor.entry) }
 {
     let at = cursor.at();
     let bytes = cursor.rest();

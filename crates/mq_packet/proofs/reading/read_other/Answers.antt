@@ -1,8 +1,8 @@
 -- A list that ends a body is read in a body of this size.
 use Rattle.std.proofs.Common.{rules}
 use Rattle.mq_packet.specs.declared.packet.RequestKind.TheVariants as requests
-use Rattle.mq_packet.specs.Entries.{request, answer}
-use Rattle.mq_packet.specs.Formats.{request_format, answer_format}
+use Rattle.mq_packet.specs.Entries.{request}
+use Rattle.mq_packet.specs.Formats.{request_format}
 use Rattle.mq_packet.specs.Decoding.{read}
 use Rattle.mq_packet.specs.Reading.{Reads, view}
 use Rattle.mq_packet.proofs.reading.read_other.Goals as goal
@@ -12,19 +12,9 @@ returns-in-130 c =
     (let read_so : Reads (λ p. request requests.Subscribe p.identifier p.properties p.filters) c.read_request.result (read (request_format c.args.size requests.Subscribe) c.args.cursor) = c.read_request.ensures c.args.size c.requires.inside in
     search (rules, read_so))
 
-pub returns-in-144 : goal.returns-in-144
-returns-in-144 c =
-    (let read_so : Reads (λ p. answer requests.Subscribe p.identifier p.properties p.codes) c.read_answer.result (read (answer_format c.args.size requests.Subscribe) c.args.cursor) = c.read_answer.ensures c.args.size c.requires.inside in
-    search (rules, read_so))
-
 pub returns-in-162 : goal.returns-in-162
 returns-in-162 c =
     (let read_so : Reads (λ p. request requests.Unsubscribe p.identifier p.properties p.filters) c.read_request-in-162.result (read (request_format c.args.size requests.Unsubscribe) c.args.cursor) = c.read_request-in-162.ensures c.args.size c.requires.inside in
-    search (rules, read_so))
-
-pub returns-in-176 : goal.returns-in-176
-returns-in-176 c =
-    (let read_so : Reads (λ p. answer requests.Unsubscribe p.identifier p.properties p.codes) c.read_answer-in-176.result (read (answer_format c.args.size requests.Unsubscribe) c.args.cursor) = c.read_answer-in-176.ensures c.args.size c.requires.inside in
     search (rules, read_so))
 
 pub returns-in-192 : goal.returns-in-192
