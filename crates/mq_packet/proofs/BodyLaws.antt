@@ -1,9 +1,8 @@
 -- A packet that keeps no length of its body has only one: that of the body that is written of it.
-use Rattle.std.proofs.Common.{◌≡◌, ℕ, zero, suc, ◌+◌, Bool, true, false, List, [], ◌∷◌, ◌++◌, length, drop, Option, Some, None, Result, Ok, Err, refl, sym, ◌∙◌, ap, subst, arith, length-append, length-drop}
+use Rattle.std.proofs.Common.{◌≡◌, ℕ, suc, ◌+◌, Bool, true, false, List, [], ◌∷◌, length, drop, Option, Some, None, Result, Ok, Err, refl, sym, ◌∙◌, ap, subst, arith, length-append, length-drop}
 use Rattle.std.specs.Prelude.{nat_lt, ◌==◌, if◌then◌else◌, sum, IfOk, unwrap_or, bit_and, bytes_eq, codes}
 use Rattle.std.proofs.lemmas.Bool.{le-leb}
 use Rattle.std.proofs.lemmas.Slice.Eq.{bytes_eq-Decides}
-use Rattle.std.proofs.lemmas.Grind.{flat_map-append}
 use Rattle.mq_wire.specs.declared.fault.Reason.{Reason}
 use Rattle.mq_wire.specs.declared.fault.Reason.TheVariants as reasons
 use Rattle.mq_wire.specs.Fields.{varint_at}
@@ -25,9 +24,9 @@ use Rattle.mq_packet.specs.declared.rule.PacketRule.TheVariants as rules
 use Rattle.mq_packet.specs.declared.fault.DecodeFault.{DecodeFault}
 use Rattle.mq_packet.specs.declared.header.FixedHeader.{FixedHeader}
 use Rattle.mq_packet.specs.declared.header.FixedHeader.TheVariants.{Whole}
-use Rattle.mq_packet.specs.Entries.{Entry, connect, connack, publish, acknowledgement, request, answer, pingreq, pingresp, disconnect, auth, WillFields, ConnectFields, PublishFields, AskedFilter, listed, request_place, has_options}
-use Rattle.mq_packet.specs.Formats.{Kind, text, binary, Value, Format, done, rest, all_codes, refused, missing, field, at_end, field_if, will_if, has_bits, qos_of, options_if, filters_format, connect_format, connack_format, publish_from, publish_unacknowledged, publish_acknowledged, publish_format, acknowledgement_format, request_format, answer_format, ending_format, format_of}
-use Rattle.mq_packet.specs.Asking.{options_spelling, asked_spelling, filters_spelling}
+use Rattle.mq_packet.specs.Entries.{Entry, connect, connack, publish, acknowledgement, request, answer, pingreq, pingresp, disconnect, auth, WillFields, ConnectFields, PublishFields, AskedFilter, listed}
+use Rattle.mq_packet.specs.Formats.{Kind, text, binary, Value, Format, done, rest, all_codes, all_filters, refused, field, at_end, field_if, will_if, has_bits, qos_of, connect_format, connack_format, publish_from, publish_unacknowledged, publish_acknowledged, publish_format, acknowledgement_format, request_format, answer_format, ending_format, format_of}
+use Rattle.mq_packet.specs.Asking.{filters_spelling}
 use Rattle.mq_packet.specs.Canonical.{list_spelling, spelling_if, will_spelling, connect_body, connack_body, publish_body, request_body, answer_body}
 use Rattle.mq_packet.specs.Spelled.{spelling, Spells, IsSpelled}
 use Rattle.mq_packet.specs.Stream.{header_with, fixed_header_of}
@@ -57,8 +56,8 @@ abbrev Measures : Format → ℕ → Type 0
 Measures (done packet) n = HasLength n packet
 Measures (rest packet) n = (bytes : List ℕ) → HasLength (n + length bytes) (packet bytes)
 Measures (all_codes table packet) n = (reasons : List ℕ) → HasLength (n + length reasons) (packet reasons)
+Measures (all_filters asks packet) n = (filters : List AskedFilter) → HasLength (n + length (filters_spelling filters)) (packet filters)
 Measures (refused rule) n = Unit {0}
-Measures (missing rule) n = Unit {0}
 Measures (field kind objection next) n = (value : Value kind) → objection value ≡ None → Measures (next value) (n + length (spelling kind value))
 Measures (at_end whole more) n = Measures whole n × Measures more n
 
@@ -75,8 +74,9 @@ measured (done packet) n bytes entry h spelled =
     length_at entry n (n + length bytes) (omega (arith, ap (length {A = ℕ}) spelled.0)) (subst (λ (p : Entry). HasLength n p) spelled.1 h)
 measured (rest packet) n bytes entry h spelled = subst (λ (p : Entry). HasLength (n + length bytes) p) spelled (h bytes)
 measured (all_codes table packet) n bytes entry h spelled = subst (λ (p : Entry). HasLength (n + length bytes) p) spelled.1 (h bytes)
+measured (all_filters asks packet) n bytes entry h spelled =
+    subst (λ (l : List ℕ). HasLength (n + length l) entry) (sym spelled.2) (subst (λ (p : Entry). HasLength (n + length (filters_spelling spelled.0)) p) spelled.3 (h spelled.0))
 measured (refused rule) n bytes entry h spelled = absurd spelled
-measured (missing rule) n bytes entry h spelled = absurd spelled
 measured (field kind objection next) n bytes entry h spelled =
     (let whole : length bytes ≡ length (spelling kind spelled.0) + length spelled.1 = ap (length {A = ℕ}) spelled.2.spelled ∙ length-append (spelling kind spelled.0) spelled.1 in
     length_at entry (n + length (spelling kind spelled.0) + length spelled.1) (n + length bytes) (omega (arith, whole))
@@ -97,10 +97,6 @@ will_if_measured false flags next n h = measured_at (next None) (n + 0) n (omega
 will_if_measured true flags next n h = λ list _ topic _ payload _.
     (let will : WillFields = record { qos = qos_of 8 (bit_and flags 24); retain = has_bits 32 flags; properties = listed places.Will list; topic = topic; payload = payload } in
     measured_at (next (Some will)) (n + length (will_spelling will)) (n + length (list_spelling list) + length (text_spelling topic) + length (binary_spelling payload)) (omega (arith, will_length will)) (h (Some will)))
-
-options_if_measured : (asks : Bool) (next : Option ℕ → Format) (n : ℕ) → ((options : Option ℕ) → Measures (next options) (n + length (options_spelling options))) → Measures (options_if asks next) n
-options_if_measured false next n h = measured_at (next None) (n + 0) n (omega arith) (h None)
-options_if_measured true next n h = λ options _. h (Some options)
 
 -- ---- CONNECT, CONNACK and PUBLISH
 
@@ -145,32 +141,10 @@ publish_measured first =
 
 -- ---- SUBSCRIBE, UNSUBSCRIBE and their answers
 
--- One more filter.
-grown : (found : List AskedFilter) (asked : AskedFilter) → length (filters_spelling (found ++ asked ∷ [])) ≡ length (filters_spelling found) + length (text_spelling asked.filter) + length (options_spelling asked.options)
-grown found asked =
-    (let all : length (filters_spelling (found ++ asked ∷ [])) ≡ length (filters_spelling found) + length (filters_spelling (asked ∷ [])) =
-    ap (length {A = ℕ}) (flat_map-append asked_spelling found (asked ∷ [])) ∙ length-append (filters_spelling found) (filters_spelling (asked ∷ [])) in
-    let last : length (filters_spelling (asked ∷ [])) ≡ length (asked_spelling asked) + length (filters_spelling []) = length-append (asked_spelling asked) (filters_spelling []) in
-    let parts : length (asked_spelling asked) ≡ length (text_spelling asked.filter) + length (options_spelling asked.options) = length-append (text_spelling asked.filter) (options_spelling asked.options) in
-    omega (arith, all, last, parts))
-
-filters_measured : (asks : Bool) (packet : List AskedFilter → Entry) (before : ℕ) → ((filters : List AskedFilter) → HasLength (before + length (filters_spelling filters)) (packet filters))
-    → (n : ℕ) (found : List AskedFilter) → Measures (filters_format n asks packet found) (before + length (filters_spelling found))
-filters_measured asks packet before good zero found = good found
-filters_measured asks packet before good (suc n) found = (
-  elim (length found == 0) as (λ t. Measures (if t then missing rules.W16 else done (packet found)) (before + length (filters_spelling found))) [ true ↦ tt | false ↦ good found ],
-  λ filter _. options_if_measured asks _ _ (λ options.
-      (let asked : AskedFilter = record { filter = filter; options = options } in
-      measured_at (filters_format n asks packet (found ++ asked ∷ [])) (before + length (filters_spelling (found ++ asked ∷ []))) (before + length (filters_spelling found) + length (text_spelling filter) + length (options_spelling options)) (omega (arith, grown found asked))
-      (filters_measured asks packet before good n (found ++ asked ∷ [])))),
-)
-
-request_measured : (size : ℕ) (kind : RequestKind) → Measures (request_format size kind) 0
-request_measured size kind = λ identifier _ list _.
-    measured_at (filters_format size (has_options kind) (request kind identifier (listed (request_place kind) list)) []) (2 + length (list_spelling list) + 0) _ (omega arith)
-    (filters_measured (has_options kind) (request kind identifier (listed (request_place kind) list)) (2 + length (list_spelling list))
-    (λ filters. (let whole : sum (2 ∷ length (list_spelling list) ∷ length (filters_spelling filters) ∷ []) ≡ length (request_body identifier list filters) = request_length identifier list filters (length (list_spelling list)) (length (filters_spelling filters)) refl refl in
-    omega (arith, whole))) size [])
+request_measured : (kind : RequestKind) → Measures (request_format kind) 0
+request_measured kind = λ identifier _ list _ filters.
+    (let whole : sum (2 ∷ length (list_spelling list) ∷ length (filters_spelling filters) ∷ []) ≡ length (request_body identifier list filters) = request_length identifier list filters (length (list_spelling list)) (length (filters_spelling filters)) refl refl in
+    omega (arith, whole))
 
 answer_measured : (kind : RequestKind) → Measures (answer_format kind) 0
 answer_measured kind = λ identifier _ list _ reasons.
@@ -188,8 +162,8 @@ ending_measured endings.Auth = (tt, λ code _. (tt, λ list _. tt))
 
 -- ---- any first byte
 
-format_measured : (first size : ℕ) → Measures (format_of first size) 0
-format_measured first size =
+format_measured : (first : ℕ) → Measures (format_of first) 0
+format_measured first =
     or_next (nat_lt first 16) (refused rules.W02) _ tt (
     or_next (first == 16) connect_format _ connect_measured (
     or_next (first == 32) connack_format _ connack_measured (
@@ -199,9 +173,9 @@ format_measured first size =
     or_next (first == 80) (acknowledgement_format acknowledgements.Pubrec) _ (acknowledgement_measured acknowledgements.Pubrec) (
     or_next (first == 98) (acknowledgement_format acknowledgements.Pubrel) _ (acknowledgement_measured acknowledgements.Pubrel) (
     or_next (first == 112) (acknowledgement_format acknowledgements.Pubcomp) _ (acknowledgement_measured acknowledgements.Pubcomp) (
-    or_next (first == 130) (request_format size requests.Subscribe) _ (request_measured size requests.Subscribe) (
+    or_next (first == 130) (request_format requests.Subscribe) _ (request_measured requests.Subscribe) (
     or_next (first == 144) (answer_format requests.Subscribe) _ (answer_measured requests.Subscribe) (
-    or_next (first == 162) (request_format size requests.Unsubscribe) _ (request_measured size requests.Unsubscribe) (
+    or_next (first == 162) (request_format requests.Unsubscribe) _ (request_measured requests.Unsubscribe) (
     or_next (first == 176) (answer_format requests.Unsubscribe) _ (answer_measured requests.Unsubscribe) (
     or_next (first == 192) (done pingreq) _ refl (
     or_next (first == 208) (done pingresp) _ refl (
@@ -211,7 +185,7 @@ format_measured first size =
 -- A body that spells a packet has the length that the packet tells.
 spelled_length : (first : ℕ) (body : List ℕ) (entry : Entry) → IsSpelled first body entry → HasLength (length body) entry
 spelled_length first body entry spelled =
-    length_at entry (0 + length body) (length body) (omega arith) (measured (format_of first (length body)) 0 body entry (format_measured first (length body)) spelled)
+    length_at entry (0 + length body) (length body) (omega arith) (measured (format_of first) 0 body entry (format_measured first) spelled)
 
 -- A packet that keeps the length of its body.
 kept : (o : Option ℕ) (n other : ℕ) → o ≡ Some n → unwrap_or o other ≡ n

@@ -1,9 +1,9 @@
 -- What is valid is spelled by the bytes that are written of it.
-use Rattle.std.proofs.Common.{◌≡◌, ◌≢◌, ℕ, zero, suc, ◌+◌, ◌<◌, ◌≤◌, Bool, true, false, ◌&&◌, not, List, [], ◌∷◌, ◌++◌, length, Option, Some, None, refl, sym, ◌∙◌, ap, subst, arith, append_assoc, length-append}
+use Rattle.std.proofs.Common.{◌≡◌, ◌≢◌, ℕ, zero, suc, ◌<◌, ◌≤◌, Bool, true, false, ◌&&◌, not, List, [], ◌∷◌, ◌++◌, length, Option, Some, None, refl, sym, ◌∙◌, ap, subst, arith, append_assoc, length-append}
 use Rattle.std.specs.Prelude.{nat_lt, ◌==◌, if◌then◌else◌, is_some, IfSome, bit_and, codes}
 use Rattle.std.specs.List.{list_all, AllByRecursion}
 use Rattle.std.specs.Str.{IsUtf8, IsAscii}
-use Rattle.std.proofs.lemmas.Bool.{and_parts, eqb-true, ne_eqb, cond_both}
+use Rattle.std.proofs.lemmas.Bool.{and_parts, eqb-true, cond_both}
 use Rattle.std.proofs.lemmas.List.{append-nil}
 use Rattle.std.proofs.lemmas.Str.{IsUtf8-from_ascii}
 use Rattle.mq_wire.specs.Spellings.{IsText, IsBinary, text_spelling, binary_spelling, two_bytes_spelling, varint_spelling}
@@ -23,8 +23,8 @@ use Rattle.mq_packet.specs.declared.packet.RequestKind.{RequestKind}
 use Rattle.mq_packet.specs.declared.packet.RequestKind.TheVariants as requests
 use Rattle.mq_packet.specs.declared.rule.PacketRule.TheVariants as rules
 use Rattle.mq_packet.specs.Entries.{Entry, connect, connack, publish, acknowledgement, request, answer, pingreq, pingresp, disconnect, auth, WillFields, ConnectFields, PublishFields, AskedFilter, listed, none_listed, acknowledgement_place, acknowledgement_codes, request_place, answer_place, answer_codes, has_options}
-use Rattle.mq_packet.specs.Formats.{byte, text, binary, properties, Format, done, missing, field, at_end, field_if, will_if, is_code, names_topic, is_filter, are_options, are_connect_flags, has_bits, qos_of, options_if, filters_format, connect_from, connack_format, publish_from, publish_unacknowledged, publish_acknowledged, acknowledgement_format, request_format, answer_format, ending_format, any_value, code_objection}
-use Rattle.mq_packet.specs.Asking.{options_spelling, asked_spelling, filters_spelling}
+use Rattle.mq_packet.specs.Formats.{byte, text, binary, properties, Format, done, field, at_end, field_if, will_if, is_code, names_topic, is_filter, are_connect_flags, has_bits, qos_of, connect_from, connack_format, publish_from, publish_unacknowledged, publish_acknowledged, acknowledgement_format, request_format, answer_format, ending_format, any_value, code_objection}
+use Rattle.mq_packet.specs.Asking.{AreOptions, IsAsked, filters_spelling, AreAsked}
 use Rattle.mq_packet.specs.Spelled.{IsValue, Spells, IsSpelled}
 use Rattle.mq_packet.specs.Canonical.{bit, connect_flags, spelling_if, list_spelling, will_spelling, reason_spelling, first_byte, connect_body, connack_body, publish_body, acknowledgement_body, request_body, answer_body, disconnect_body, auth_body, canonical_body}
 use Rattle.mq_packet.specs.Valid.{is_text, is_binary, is_identifier, if_there, fits_qos, fits_request, valid_will, valid_connect, valid_connack, valid_publish, valid_acknowledgement, valid_filter, valid_filters, valid_request, valid_answer, valid_disconnect, valid_auth, valid, IsListed, IsWill, IsConnect, IsPublish, IsIdentified, IsAskedFilter, IsRequest, IsTyped}
@@ -240,72 +240,45 @@ publish_spelled fields ok e =
 
 -- ---- SUBSCRIBE, UNSUBSCRIBE and their answers
 
-options_spelled : (asks : Bool) (options : Option ℕ) (next : Option ℕ → Format) (left : List ℕ) (entry : Entry)
-    → IfSome options (λ o. o < 256) → fits_request asks options ≡ true → Spells (next options) left entry → Spells (options_if asks next) (options_spelling options ++ left) entry
-options_spelled false None next left entry small e h = h
-options_spelled false (Some options) next left entry small e h = absurd (cc)
-options_spelled true None next left entry small e h = absurd (cc)
-options_spelled true (Some options) next left entry small e h = (options, left, record { is_value = small; spelled = refl }, unobjected (are_options options) rules.W17 e, h)
+options_asked : (asks : Bool) (options : Option ℕ) → IfSome options (λ o. o < 256) → fits_request asks options ≡ true → AreOptions asks options
+options_asked false None small e = refl
+options_asked false (Some options) small e = absurd (cc)
+options_asked true None small e = absurd (cc)
+options_asked true (Some options) small e = (options, refl, small, e)
 
-filters_spelled : (asks : Bool) (packet : List AskedFilter → Entry) (n : ℕ) (found filters : List AskedFilter) → length filters ≤ n → 0 < length found + length filters
-    → AllByRecursion IsAskedFilter filters → list_all (valid_filter asks) filters ≡ true → Spells (filters_format n asks packet found) (filters_spelling filters) (packet (found ++ filters))
+-- Valid filters may stand in a request.
+filters_asked : (asks : Bool) (filters : List AskedFilter) → AllByRecursion IsAskedFilter filters → list_all (valid_filter asks) filters ≡ true → AllByRecursion (IsAsked asks) filters
 unfolding valid_filter
-filters_spelled asks packet zero found [] few some ok e = (refl, ap packet (sym (append-nil found)))
-filters_spelled asks packet zero found (asked ∷ filters) few some ok e = absurd (omega arith)
-filters_spelled asks packet (suc n) found [] few some ok e =
-    (let full : (length found == 0) ≡ false = ne_eqb (length found) 0 (λ (z : length found ≡ 0). omega arith) in
-    let ends : Spells (done (packet found)) [] (packet (found ++ [])) = (refl, ap packet (sym (append-nil found))) in
-    subst (λ (t : Bool). Spells (if t then missing rules.W16 else done (packet found)) [] (packet (found ++ []))) (sym full) ends)
-filters_spelled asks packet (suc n) found (asked ∷ filters) few some ok e =
+filters_asked asks [] ok e = tt
+filters_asked asks (asked ∷ filters) ok e =
     (let one : (valid_filter asks asked ≡ true) × (list_all (valid_filter asks) filters ≡ true) = and_parts _ _ e in
     let two : (is_text asked.filter ≡ true) × ((is_filter asked.filter && fits_request asks asked.options) ≡ true) = and_parts _ _ one.0 in
-    let three : (is_filter asked.filter ≡ true) × (fits_request asks asked.options ≡ true) = and_parts _ _ two.1 in
-    let grown : length (found ++ asked ∷ []) ≡ length found + 1 = simp length-append in
-    let rest : Spells (filters_format n asks packet (found ++ asked ∷ [])) (filters_spelling filters) (packet ((found ++ asked ∷ []) ++ filters)) =
-    filters_spelled asks packet n (found ++ asked ∷ []) filters (omega arith) (omega arith) ok.1 one.1 in
-    let joined : Spells (filters_format n asks packet (found ++ asked ∷ [])) (filters_spelling filters) (packet (found ++ asked ∷ filters)) =
-    subst (λ (l : List AskedFilter). Spells (filters_format n asks packet (found ++ asked ∷ [])) (filters_spelling filters) (packet l)) (append_assoc found (asked ∷ []) filters) rest in (
-      asked.filter,
-      options_spelling asked.options ++ filters_spelling filters,
-      record { is_value = text_value asked.filter ok.0.filter two.0; spelled = append_assoc (text_spelling asked.filter) (options_spelling asked.options) (filters_spelling filters) },
-      unobjected (is_filter asked.filter) rules.W15 three.0,
-      options_spelled asks asked.options (λ options. filters_format n asks packet (found ++ record { filter = asked.filter; options = options } ∷ [])) (filters_spelling filters) (packet (found ++ asked ∷ filters)) ok.0.options three.1 joined,
+    let three : (is_filter asked.filter ≡ true) × (fits_request asks asked.options ≡ true) = and_parts _ _ two.1 in (
+      record { text = text_value asked.filter ok.0.filter two.0; filter = three.0; options = options_asked asks asked.options ok.0.options three.1 },
+      filters_asked asks filters ok.1 one.1,
     ))
 
--- There are no more filters than bytes that spell them.
-filters_few : (filters : List AskedFilter) → length filters ≤ length (filters_spelling filters)
-filters_few [] = omega arith
-filters_few (asked ∷ filters) =
-    (let rest : length filters ≤ length (filters_spelling filters) = filters_few filters in
-    let whole : length (asked_spelling asked ++ filters_spelling filters) ≡ length (asked_spelling asked) + length (filters_spelling filters) = length-append (asked_spelling asked) (filters_spelling filters) in
-    let front : length (asked_spelling asked) ≡ length (text_spelling asked.filter) + length (options_spelling asked.options) = length-append (text_spelling asked.filter) (options_spelling asked.options) in
-    omega arith)
+-- Some are there.
+some_asked : (filters : List AskedFilter) → not (length filters == 0) ≡ true → filters ≢ []
+some_asked [] e = absurd (cc)
+some_asked (asked ∷ filters) e = λ (none : (asked ∷ filters) ≡ []). cc
 
 request_spells : (kind : RequestKind) (identifier : ℕ) (list : Listed) (filters : List AskedFilter) → IsRequest identifier list filters → valid_request kind identifier list filters ≡ true
-    → Spells (request_format (length (request_body identifier list.items filters)) kind) (request_body identifier list.items filters) (request kind identifier list filters)
+    → Spells (request_format kind) (request_body identifier list.items filters) (request kind identifier list filters)
 unfolding valid_request valid_filters request_body
 request_spells kind identifier list filters ok e =
     (let one : (same_place list.place (request_place kind) ≡ true) × ((is_identifier identifier && valid_filters (has_options kind) filters) ≡ true) = and_parts _ _ e in
     let two : (is_identifier identifier ≡ true) × (valid_filters (has_options kind) filters ≡ true) = and_parts _ _ one.1 in
     let three : (not (length filters == 0) ≡ true) × (list_all (valid_filter (has_options kind)) filters ≡ true) = and_parts _ _ two.1 in
-    let behind : length (list_spelling list.items ++ filters_spelling filters) ≡ length (list_spelling list.items) + length (filters_spelling filters) = length-append (list_spelling list.items) (filters_spelling filters) in
-    let whole : length (two_bytes_spelling identifier ++ (list_spelling list.items ++ filters_spelling filters)) ≡ length (two_bytes_spelling identifier) + length (list_spelling list.items ++ filters_spelling filters) = length-append (two_bytes_spelling identifier) (list_spelling list.items ++ filters_spelling filters) in
-    let few : length filters ≤ length (two_bytes_spelling identifier ++ (list_spelling list.items ++ filters_spelling filters)) = omega (arith, filters_few filters) in
-    let some : 0 < length filters = nonzero (length filters) three.0 in
-    let found : Spells (filters_format (length (two_bytes_spelling identifier ++ (list_spelling list.items ++ filters_spelling filters))) (has_options kind) (request kind identifier (listed (request_place kind) list.items)) []) (filters_spelling filters) (request kind identifier (listed (request_place kind) list.items) filters) =
-    filters_spelled (has_options kind) (request kind identifier (listed (request_place kind) list.items)) (length (two_bytes_spelling identifier ++ (list_spelling list.items ++ filters_spelling filters))) [] filters few (omega arith) ok.each three.1 in
-    let P : Listed → Type 0 = λ l. Spells (request_format (length (two_bytes_spelling identifier ++ (list_spelling list.items ++ filters_spelling filters))) kind) (two_bytes_spelling identifier ++ (list_spelling list.items ++ filters_spelling filters)) (request kind identifier l filters) in
+    let are : AreAsked (has_options kind) filters = record { some = some_asked filters three.0; each = filters_asked (has_options kind) filters ok.each three.1 } in
+    let P : Listed → Type 0 = λ l. Spells (request_format kind) (two_bytes_spelling identifier ++ (list_spelling list.items ++ filters_spelling filters)) (request kind identifier l filters) in
     subst P (listed_is (request_place kind) list one.0) (
       identifier,
       list_spelling list.items ++ filters_spelling filters,
       record { is_value = ok.identified.bound; spelled = refl },
       unobjected (is_identifier identifier) rules.W09 two.0,
-      (list.items, filters_spelling filters, record { is_value = list_value (request_place kind) list ok.identified.properties one.0; spelled = refl }, refl, found),
+      (list.items, filters_spelling filters, record { is_value = list_value (request_place kind) list ok.identified.properties one.0; spelled = refl }, refl, (filters, are, refl, refl)),
     ))
-  where
-    nonzero : (n : ℕ) → not (n == 0) ≡ true → 0 < n
-    nonzero zero e = absurd (cc)
-    nonzero (suc n) e = omega arith
 
 request_spelled : (kind : RequestKind) (identifier : ℕ) (list : Listed) (filters : List AskedFilter) → IsRequest identifier list filters → valid_request kind identifier list filters ≡ true
     → IsSpelled (first_byte (request kind identifier list filters)) (request_body identifier list.items filters) (request kind identifier list filters)

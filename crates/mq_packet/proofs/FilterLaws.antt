@@ -1,31 +1,46 @@
--- Reading the filters of a body one after another, as a loop does.
-use Rattle.std.proofs.Common.{◌≡◌, ℕ, zero, suc, ◌+◌, ◌-◌, ◌<◌, ◌≤◌, Bool, true, false, eqb, List, [], ◌∷◌, ◌++◌, length, drop, Option, None, Some, Result, Ok, Err, refl, sym, ap, subst, ◌∙◌, append_assoc, length-drop, length-append, arith}
-use Rattle.std.specs.Prelude.{◌≢◌}
+-- Reading the filters of a body one after another, as a loop does, and what bytes come to as filters.
+use Rattle.std.proofs.Common.{◌≡◌, ℕ, zero, suc, ◌+◌, ◌<◌, ◌≤◌, inl, inr, Bool, true, false, eqb, List, [], ◌∷◌, ◌++◌, length, drop, Option, None, Some, Result, Ok, Err, refl, sym, ap, subst, ◌∙◌, append_assoc, length-append, arith}
+use Rattle.std.specs.Prelude.{◌≢◌, ◌⊎◌, if◌then◌else◌}
 use Rattle.std.specs.List.{AllByRecursion}
 use Rattle.std.proofs.lemmas.Bool.{ne_eqb}
-use Rattle.std.proofs.lemmas.List.{drop_at, get_or-drop, append-nil}
+use Rattle.std.proofs.lemmas.List.{drop_at, append-nil}
 use Rattle.std.proofs.lemmas.List.Concat.{flat_map-append}
 use Rattle.mq_wire.specs.declared.fault.WireFault.{WireFault}
-use Rattle.mq_wire.specs.Left.{Left, past, placed}
-use Rattle.mq_wire.specs.Fields.{byte_at, text_at}
-use Rattle.mq_wire.specs.Spellings.{AreBytes, IsText, text_spelling}
-use Rattle.mq_wire.proofs.Placed.{placed_ok}
-use Rattle.mq_wire.proofs.Exact.{byte_exact, text_exact}
+use Rattle.mq_wire.specs.Left.{Left}
+use Rattle.mq_wire.specs.Spellings.{AreBytes, text_spelling}
+use Rattle.mq_props.proofs.Exact.{AreBytes-drop}
 use Rattle.mq_packet.specs.declared.fault.DecodeFault.{DecodeFault}
 use Rattle.mq_packet.specs.declared.rule.PacketRule.{PacketRule}
 use Rattle.mq_packet.specs.declared.rule.PacketRule.TheVariants as rules
-use Rattle.mq_packet.specs.Entries.{Entry, pingreq, AskedFilter}
-use Rattle.mq_packet.specs.Formats.{byte, text, Objection, unless_broken, is_filter, filter_objection, are_options, options_objection, Format, options_if, filters_format}
-use Rattle.mq_packet.specs.Decoding.{◌>>=◌, broken, spelled, field_on, unless, read_field, read}
+use Rattle.mq_packet.specs.Entries.{AskedFilter}
+use Rattle.mq_packet.specs.Formats.{Kind, byte, text, Value, Objection, unless_broken, is_filter, filter_objection, are_options, options_objection}
+use Rattle.mq_packet.specs.Decoding.{◌>>=◌, broken, spelled, field_on, unless, read_field, some_options, options_on, with_options, options_behind, filter_on, filters_within, filters_on}
 use Rattle.mq_packet.specs.Asking.{AreOptions, IsAsked, options_spelling, asked_spelling, filters_spelling, AreAsked, asked_of}
-use Rattle.mq_packet.specs.Elements.{some_options, options_on, with_options, options_behind, filter_on, AreRead, AreRefused}
-use Rattle.mq_packet.proofs.AskedLaws.{text_taken, some_is, asked_of_spelled}
+use Rattle.mq_packet.specs.Spelled.{spelling, Begin, FailsField, FailsOptions, FailsFilter, BadFilter}
+use Rattle.mq_packet.specs.Elements.{AreRead}
+use Rattle.mq_packet.proofs.AskedLaws.{some_is, asked_of_spelled}
+use Rattle.mq_packet.proofs.FieldLaws.{left_from, Front, field_found, field_read, field_misspelled, misspelled_field}
+use Rattle.mq_packet.proofs.ValueLaws.{unobjected}
 
--- ---- steps that succeeded
+-- ---- steps that succeeded, and steps that failed
 
 pub bind_ok : {A B : Type 0} (r : Result A DecodeFault) (f : A → Result B DecodeFault) (y : B) → (r >>= f) ≡ Ok y → (x : A) × (r ≡ Ok x) × (f x ≡ Ok y)
 bind_ok (Ok x) f y e = (x, refl, e)
 bind_ok (Err d) f y e = absurd cc
+
+abbrev failed : {A : Type 0} → DecodeFault → Result A DecodeFault
+failed fault = Err fault
+
+failed_is : {A : Type 0} (f g : DecodeFault) → failed {A = A} f ≡ failed g → f ≡ g
+failed_is f g e = cc
+
+-- The first failed, or the one after it.
+abbrev FailedSo : {A B : Type 0} → Result A DecodeFault → (A → Result B DecodeFault) → DecodeFault → Type 0
+FailedSo {A} r f fault = (r ≡ Err fault) ⊎ ((x : A) × (r ≡ Ok x) × (f x ≡ Err fault))
+
+bind_err : {A B : Type 0} (r : Result A DecodeFault) (f : A → Result B DecodeFault) (fault : DecodeFault) → (r >>= f) ≡ Err fault → FailedSo r f fault
+bind_err (Ok x) f fault e = inr (x, refl, e)
+bind_err {A} {B} (Err d) f fault e = inl (ap (λ (g : DecodeFault). failed {A = A} g) (failed_is {A = B} d fault e))
 
 abbrev pub done : {A : Type 0} → A → Result A DecodeFault
 done x = Ok x
@@ -45,246 +60,86 @@ pub unbroken : (good : Bool) (rule : PacketRule) → unless_broken good rule ≡
 unbroken true rule e = refl
 unbroken false rule e = absurd cc
 
--- ---- one filter
+-- What is left after bytes are bytes.
+pub behind_bytes : (bytes front left : List ℕ) → bytes ≡ front ++ left → AreBytes bytes → AreBytes left
+behind_bytes bytes front left is known =
+    (let behind : drop (length front) bytes ≡ left = ap (drop (length front)) is ∙ drop_at front left (length front) refl in
+    subst (λ (l : List ℕ). AreBytes l) behind (AreBytes-drop (length front) bytes known))
 
--- A text that was read and to which nothing was objected.
-pub record ReadsText (left : Left) (filter : List ℕ) (new : Left) : Type 0 where
-  pub size : ℕ
-  pub found : text_at left.rest ≡ Ok (filter, size)
-  pub behind : new ≡ past left size
-  pub good : is_filter filter ≡ true
+-- ---- one field
 
-text_read : (left : Left) (filter : List ℕ) (new : Left) → read_field text filter_objection left ≡ Ok (filter, new) → ReadsText left filter new
-text_read left filter new e =
-    let x = bind_ok (field_on text left) (λ x. unless left.at (filter_objection x.0) x) (filter, new) e in
-    let judged = unless_ok left.at (filter_objection x.0.0) x.0 (filter, new) x.2 in
-    let stood = placed_ok left (text_at left.rest) x.0.0 x.0.1 (spelled_ok (placed left (text_at left.rest)) x.0 x.1) in
-    let here : ReadsText left x.0.0 x.0.1 = record { size = stood.0; found = stood.1; behind = stood.2; good = unbroken (is_filter x.0.0) rules.W15 judged.0 } in
-    subst (λ (y : List ℕ × Left). ReadsText left y.0 y.1) judged.1 here
+module _ (kind : Kind) (objection : Value kind → Option Objection) (at : ℕ) (bytes : List ℕ) where
+  -- What was read, unless it is objected to.
+  abbrev judged : Result (Value kind × Left) DecodeFault → Result (Value kind × Left) DecodeFault
+  judged found = found >>= (λ x. unless at (objection x.0) x)
 
--- Options that were read, and to which nothing was objected, if they were asked for.
-pub record ReadsOptions (asks : Bool) (left : Left) (options : Option ℕ) (new : Left) : Type 0 where
-  pub within : length new.rest ≤ length left.rest
-  pub spelled : AreBytes left.rest → left.rest ≡ options_spelling options ++ new.rest
-  pub good : AreBytes left.rest → AreOptions asks options
+  -- A field that is taken stands at the front.
+  field_taken : AreBytes bytes → (value : Value kind) (new : Left) → read_field kind objection (left_from at bytes) ≡ Ok (value, new) → Front kind at bytes value new × (objection value ≡ None)
+  field_taken known value new e =
+      let x = bind_ok (field_on kind (left_from at bytes)) (λ x. unless at (objection x.0) x) (value, new) e in
+      let passed = unless_ok at (objection x.0.0) x.0 (value, new) x.2 in
+      let here : Front kind at bytes x.0.0 x.0.1 × (objection x.0.0 ≡ None) = (field_found kind at bytes x.0.0 x.0.1 known x.1, passed.0) in
+      subst (λ (y : Value kind × Left). Front kind at bytes y.0 y.1 × (objection y.0 ≡ None)) passed.1 here
 
-byte_read : (left : Left) (byte_value : ℕ) (new : Left) → read_field byte options_objection left ≡ Ok (byte_value, new) → ReadsOptions true left (Some byte_value) new
-byte_read left byte_value new e =
-    let x = bind_ok (field_on byte left) (λ x. unless left.at (options_objection x.0) x) (byte_value, new) e in
-    let judged = unless_ok left.at (options_objection x.0.0) x.0 (byte_value, new) x.2 in
-    let stood = placed_ok left (byte_at left.rest) x.0.0 x.0.1 (spelled_ok (placed left (byte_at left.rest)) x.0 x.1) in
-    let good : are_options x.0.0 ≡ true = unbroken (are_options x.0.0) rules.W17 judged.0 in
-    let rest_is : x.0.1.rest ≡ drop stood.0 left.rest = ap (λ (l : Left). l.rest) stood.2 in
-    let here : ReadsOptions true left (Some x.0.0) x.0.1 = record {
-      within = omega (arith, ap length rest_is, length-drop stood.0 left.rest);
-      spelled = λ fits. (byte_exact.only left.rest x.0.0 stood.0 fits stood.1).spelled ∙ ap (λ (rest : List ℕ). x.0.0 ∷ rest) (sym rest_is);
-      good = λ fits. (x.0.0, refl, (byte_exact.only left.rest x.0.0 stood.0 fits stood.1).value, good);
-    } in
-    subst (λ (y : ℕ × Left). ReadsOptions true left (Some y.0) y.1) judged.1 here
+  -- One that stands there is taken.
+  good_field : (value : Value kind) (left : List ℕ) → Begin kind bytes value left → objection value ≡ None → read_field kind objection (left_from at bytes) ≡ done (value, left_from (at + length (spelling kind value)) left)
+  good_field value left begin none =
+      let read : Value kind × Left = (value, left_from (at + length (spelling kind value)) left) in
+      ap judged (field_read kind at bytes value left begin) ∙ ap (λ (o : Option Objection). unless at o read) none
 
-options_read : (asks : Bool) (left : Left) (options : Option ℕ) (new : Left) → options_on asks left ≡ Ok (options, new) → ReadsOptions asks left options new
-options_read false left options new e =
-    let made : Option ℕ × Left = (None, left) in
-    let here : ReadsOptions false left None left = record { within = omega arith; spelled = λ fits. refl; good = λ fits. refl } in
-    subst (λ (y : Option ℕ × Left). ReadsOptions false left y.0 y.1) (done_is made (options, new) e) here
-options_read true left options new e =
-    let x = bind_ok (read_field byte options_objection left) some_options (options, new) e in
-    let made : Option ℕ × Left = (Some x.0.0, x.0.1) in
-    subst (λ (y : Option ℕ × Left). ReadsOptions true left y.0 y.1) (done_is made (options, new) x.2) (byte_read left x.0.0 x.0.1 x.1)
+  objected_so : (x : Value kind × Left) → Front kind at bytes x.0 x.1 → (why : Option Objection) → objection x.0 ≡ why → (fault : DecodeFault) → unless at why x ≡ Err fault → FailsField kind objection at bytes fault
+  objected_so x front None none fault e = absurd cc
+  objected_so x front (Some why) some fault e = inr (why, (x.0, x.1.rest, front.begin, some), sym (failed_is {A = Value kind × Left} _ fault e))
 
--- A filter that was read.
-pub record ReadsFilter (asks : Bool) (left : Left) (f : AskedFilter) (new : Left) : Type 0 where
-  pub shorter : length new.rest < length left.rest
-  pub spelled : AreBytes left.rest → left.rest ≡ asked_spelling f ++ new.rest
-  pub asked : AreBytes left.rest → IsAsked asks f
+  -- A field that isn't taken is at fault.
+  field_fails : AreBytes bytes → (fault : DecodeFault) → read_field kind objection (left_from at bytes) ≡ Err fault → FailsField kind objection at bytes fault
+  field_fails known fault e = by_found (field_on kind (left_from at bytes)) refl e
+    where
+      by_found : (found : Result (Value kind × Left) DecodeFault) → field_on kind (left_from at bytes) ≡ found → judged found ≡ Err fault → FailsField kind objection at bytes fault
+      by_found (Ok x) is h = objected_so x (field_found kind at bytes x.0 x.1 known is) (objection x.0) refl fault h
+      by_found (Err first) is h = inl (field_misspelled kind at bytes fault known (is ∙ h))
 
-AreBytes-drop : (n : ℕ) (bytes : List ℕ) → AreBytes bytes → AreBytes (drop n bytes)
-AreBytes-drop n bytes fits i = rw get_or-drop (fits (n + i))
+  -- One that is at fault isn't taken.
+  fails_field : AreBytes bytes → (fault : DecodeFault) → FailsField kind objection at bytes fault → read_field kind objection (left_from at bytes) ≡ failed fault
+  fails_field known fault (inl h) = ap judged (misspelled_field kind at bytes fault known h)
+  fails_field known fault (inr h) =
+      let read : Value kind × Left = (h.1.0, left_from (at + length (spelling kind h.1.0)) h.1.1) in
+      ap judged (field_read kind at bytes h.1.0 h.1.1 h.1.2)
+      ∙ ap (λ (o : Option Objection). unless at o read) h.1.3
+      ∙ ap (λ (f : DecodeFault). failed {A = Value kind × Left} f) (sym h.2)
 
-pub filter_read : (asks : Bool) (left : Left) (f : AskedFilter) (new : Left) → filter_on asks left ≡ Ok (f, new) → ReadsFilter asks left f new
-filter_read asks left f new e =
-    let x = bind_ok (read_field text filter_objection left) (options_behind asks) (f, new) e in
-    let y = bind_ok (options_on asks x.0.1) (with_options x.0.0) (f, new) x.2 in
-    let words = text_read left x.0.0 x.0.1 x.1 in
-    let more = options_read asks x.0.1 y.0.0 y.0.1 y.1 in
-    let taken = text_taken left.rest (x.0.0, words.size) words.found in
-    let rest_is : x.0.1.rest ≡ drop words.size left.rest = ap (λ (l : Left). l.rest) words.behind in
-    let fit : AreBytes left.rest → AreBytes x.0.1.rest = λ fits. subst AreBytes (sym rest_is) (AreBytes-drop words.size left.rest fits) in
-    let made : AskedFilter × Left = (record { filter = x.0.0; options = y.0.0 }, y.0.1) in
-    let here : ReadsFilter asks left (record { filter = x.0.0; options = y.0.0 }) y.0.1 = record {
-      shorter = omega (arith, taken.0, taken.1, more.within, ap length rest_is, length-drop words.size left.rest);
-      spelled = λ fits. (text_exact.only left.rest x.0.0 words.size fits words.found).spelled
-          ∙ ap (λ (rest : List ℕ). text_spelling x.0.0 ++ rest) (sym rest_is ∙ more.spelled (fit fits))
-          ∙ sym (append_assoc (text_spelling x.0.0) (options_spelling y.0.0) y.0.1.rest);
-      asked = λ fits. record { text = (text_exact.only left.rest x.0.0 words.size fits words.found).value; filter = words.good; options = more.good (fit fits) };
-    } in
-    subst (λ (z : AskedFilter × Left). ReadsFilter asks left z.0 z.1) (done_is made (f, new) y.2) here
+-- ---- the options after a filter
 
-pub filter_shorter : (asks : Bool) (left : Left) (f : AskedFilter) (new : Left) → filter_on asks left ≡ Ok (f, new) → length new.rest < length left.rest
-filter_shorter asks left f new e = (filter_read asks left f new e).shorter
+-- What was read of them.
+abbrev TakesOptions : Bool → ℕ → List ℕ → Option ℕ × Left → Type 0
+TakesOptions asks at bytes x = AreOptions asks x.0 × (bytes ≡ options_spelling x.0 ++ x.1.rest) × (x.1 ≡ left_from (at + length (options_spelling x.0)) x.1.rest)
 
--- ---- a format with filters, step by step
+options_taken : (asks : Bool) (at : ℕ) (bytes : List ℕ) → AreBytes bytes → (x : Option ℕ × Left) → options_on asks (left_from at bytes) ≡ Ok x → TakesOptions asks at bytes x
+options_taken false at bytes known x e =
+    let made : Option ℕ × Left = (None, left_from at bytes) in
+    let place : at ≡ at + 0 = omega arith in
+    subst (TakesOptions false at bytes) (done_is made x e) (refl, refl, ap (λ (n : ℕ). left_from n bytes) place)
+options_taken true at bytes known x e =
+    let y = bind_ok (read_field byte options_objection (left_from at bytes)) some_options x e in
+    let made : Option ℕ × Left = (Some y.0.0, y.0.1) in
+    let front = field_taken byte options_objection at bytes known y.0.0 y.0.1 y.1 in
+    subst (TakesOptions true at bytes) (done_is made x y.2)
+    ((y.0.0, refl, front.0.begin.is_value, unbroken (are_options y.0.0) rules.W17 front.1), front.0.begin.spelled, front.0.behind)
 
-module _ (next : AskedFilter → Format) where
-  abbrev asked_with : List ℕ → Option ℕ → AskedFilter
-  asked_with filter options = record { filter = filter; options = options }
+options_fail : (asks : Bool) (at : ℕ) (bytes : List ℕ) → AreBytes bytes → (fault : DecodeFault) → options_on asks (left_from at bytes) ≡ Err fault → FailsOptions asks at bytes fault
+options_fail false at bytes known fault e = absurd cc
+options_fail true at bytes known fault e = by_step (bind_err (read_field byte options_objection (left_from at bytes)) some_options fault e)
+  where
+    by_step : FailedSo (read_field byte options_objection (left_from at bytes)) some_options fault → FailsField byte options_objection at bytes fault
+    by_step (inl h) = field_fails byte options_objection at bytes known fault h
+    by_step (inr h) = absurd (let never = h.2 in cc)
 
-  -- What is left after a filter.
-  abbrev onwards : AskedFilter × Left → Result Entry DecodeFault
-  onwards x = read (next x.0) x.1
+fail_options : (asks : Bool) (at : ℕ) (bytes : List ℕ) → AreBytes bytes → (fault : DecodeFault) → FailsOptions asks at bytes fault → options_on asks (left_from at bytes) ≡ failed fault
+fail_options false at bytes known fault h = absurd h
+fail_options true at bytes known fault h = ap (λ (r : Result (ℕ × Left) DecodeFault). r >>= some_options) (fails_field byte options_objection at bytes known fault h)
 
-  abbrev with_byte : List ℕ → ℕ × Left → Result Entry DecodeFault
-  with_byte filter x = read (next (asked_with filter (Some x.0))) x.1
-
-  abbrev with_text : Bool → List ℕ × Left → Result Entry DecodeFault
-  with_text asks x = read (options_if asks (λ o. next (asked_with x.0 o))) x.1
-
-  options_step : (filter : List ℕ) (r : Result (ℕ × Left) DecodeFault) → (r >>= with_byte filter) ≡ (r >>= some_options >>= with_options filter >>= onwards)
-  options_step filter (Ok x) = refl
-  options_step filter (Err fault) = refl
-
-  text_step : (asks : Bool) (x : List ℕ × Left) → with_text asks x ≡ (options_behind asks x >>= onwards)
-  text_step false x = refl
-  text_step true x = options_step x.0 (read_field byte options_objection x.1)
-
-  filter_step : (asks : Bool) (r : Result (List ℕ × Left) DecodeFault) → (r >>= with_text asks) ≡ (r >>= options_behind asks >>= onwards)
-  filter_step asks (Ok x) = text_step asks x
-  filter_step asks (Err fault) = refl
-
-pub nil_at : (bytes : List ℕ) → length bytes ≡ 0 → bytes ≡ []
-nil_at [] e = refl
-nil_at (a ∷ bytes) e = absurd (omega (arith, e))
-
--- The format after one filter more.
-abbrev next_format : ℕ → Bool → (List AskedFilter → Entry) → List AskedFilter → AskedFilter → Format
-next_format n asks packet before f = filters_format n asks packet (before ++ f ∷ [])
-
--- One step, where something is left.
-step : (n : ℕ) (asks : Bool) (packet : List AskedFilter → Entry) (before : List AskedFilter) (left : Left) → left.rest ≢ [] → read (filters_format (suc n) asks packet before) left ≡ (filter_on asks left >>= onwards (next_format n asks packet before))
-step n asks packet before left some =
-    let ne : eqb (length left.rest) 0 ≡ false = ne_eqb (length left.rest) 0 (λ e. some (nil_at left.rest e)) in
-    rw ne (filter_step (next_format n asks packet before) asks (read_field text filter_objection left))
-
--- The end, where some were found.
-finish : (n : ℕ) (asks : Bool) (packet : List AskedFilter → Entry) (before : List AskedFilter) (left : Left) → before ≢ [] → left.rest ≡ [] → read (filters_format n asks packet before) left ≡ Ok (packet before)
-finish zero asks packet before left some none = rw none refl
-finish (suc n) asks packet [] left some none = absurd (some refl)
-finish (suc n) asks packet (f ∷ before) left some none =
-    let ne : eqb (length (f ∷ before)) 0 ≡ false = ne_eqb (length (f ∷ before)) 0 (λ e. omega (arith, e)) in
-    rw (none, ne) refl
-
--- ---- as a loop goes over them
-
--- Where the loop stands: after these filters, and what is left gives what the whole gives.
-pub record Goes (asks : Bool) (start left : Left) : Type 0 where
-  pub before : List AskedFilter
-  pub each : AllByRecursion (IsAsked asks) before
-  pub parts : start.rest ≡ filters_spelling before ++ left.rest
-  pub some : before ≡ [] → left.rest ≢ []
-  pub fewer : length before + length left.rest ≤ length start.rest
-  pub reads : (n : ℕ) (packet : List AskedFilter → Entry) → read (filters_format (length before + n) asks packet []) start ≡ read (filters_format n asks packet before) left
-
-pub begins : (asks : Bool) (start : Left) → start.rest ≢ [] → Goes asks start start
-begins asks start some = record {
-  before = [];
-  each = tt;
-  parts = refl;
-  some = λ none. some;
-  fewer = omega arith;
-  reads = λ n packet. (let size : 0 + n ≡ n = omega arith in ap (λ (k : ℕ). read (filters_format k asks packet []) start) size);
-}
-
-each_more : (asks : Bool) (fs : List AskedFilter) (f : AskedFilter) → AllByRecursion (IsAsked asks) fs → IsAsked asks f → AllByRecursion (IsAsked asks) (fs ++ f ∷ [])
-each_more asks [] f each is = (is, tt)
-each_more asks (g ∷ fs) f each is = (each.0, each_more asks fs f each.1 is)
-
-AreBytes-append : (front back : List ℕ) → AreBytes (front ++ back) → AreBytes back
-AreBytes-append front back fits = subst AreBytes (drop_at front back (length front) refl) (AreBytes-drop (length front) (front ++ back) fits)
-
-more_some : (fs : List AskedFilter) (f : AskedFilter) → fs ++ f ∷ [] ≢ []
-more_some fs f e = (let size : length (fs ++ f ∷ []) ≡ length fs + 1 = length-append fs (f ∷ []) in absurd (omega (arith, size, ap length e)))
-
-pub goes_on : (asks : Bool) (start left new : Left) (f : AskedFilter) → AreBytes start.rest → Goes asks start left → left.rest ≢ [] → filter_on asks left ≡ Ok (f, new) → Goes asks start new
-goes_on asks start left new f fits at some found =
-    let fit : AreBytes left.rest = AreBytes-append (filters_spelling at.before) left.rest (subst AreBytes at.parts fits) in
-    let read_here = filter_read asks left f new found in
-    let size : length (at.before ++ f ∷ []) ≡ length at.before + 1 = length-append at.before (f ∷ []) in
-    record {
-      before = at.before ++ f ∷ [];
-      each = each_more asks at.before f at.each (read_here.asked fit);
-      parts = at.parts
-          ∙ ap (λ (rest : List ℕ). filters_spelling at.before ++ rest) (read_here.spelled fit)
-          ∙ sym (append_assoc (filters_spelling at.before) (asked_spelling f) new.rest)
-          ∙ ap (λ (front : List ℕ). front ++ new.rest) (ap (λ (back : List ℕ). filters_spelling at.before ++ back) (sym (append-nil (asked_spelling f))) ∙ sym (flat_map-append asked_spelling at.before (f ∷ [])));
-      some = λ none. absurd (more_some at.before f none);
-      fewer = omega (arith, at.fewer, read_here.shorter, size);
-      reads = λ n packet. (
-          let count : length (at.before ++ f ∷ []) + n ≡ length at.before + suc n = omega (arith, size) in
-          ap (λ (k : ℕ). read (filters_format k asks packet []) start) count
-          ∙ at.reads (suc n) packet
-          ∙ step n asks packet at.before left some
-          ∙ ap (λ (r : Result (AskedFilter × Left) DecodeFault). r >>= onwards (next_format n asks packet at.before)) found);
-    }
-
--- A size above that of the whole.
-pub more_by : (before : ℕ) (n : ℕ) → before < n → (k : ℕ) × (n ≡ before + suc k)
-more_by before n less = (n - before - 1, omega (arith, less))
-
--- A filter that is refused is the fault of the whole.
-pub fails : (asks : Bool) (start left : Left) (fault : DecodeFault) → Goes asks start left → left.rest ≢ [] → filter_on asks left ≡ Err fault → AreRefused asks start fault
-fails asks start left fault at some refused n packet less =
-    let more = more_by (length at.before) n (omega (arith, less, at.fewer)) in
-    ap (λ (k : ℕ). read (filters_format k asks packet []) start) more.1
-    ∙ at.reads (suc more.0) packet
-    ∙ step more.0 asks packet at.before left some
-    ∙ ap (λ (r : Result (AskedFilter × Left) DecodeFault). r >>= onwards (next_format more.0 asks packet at.before)) refused
-
--- With nothing left, these are the filters.
-pub ends : (asks : Bool) (start left : Left) → Goes asks start left → left.rest ≡ [] → AreRead asks start
-ends asks start left at none =
-    let some : at.before ≢ [] = λ e. at.some e none in
-    let spelled : start.rest ≡ filters_spelling at.before = at.parts ∙ ap (λ (rest : List ℕ). filters_spelling at.before ++ rest) none ∙ append-nil (filters_spelling at.before) in
-    let same : asked_of asks start.rest ≡ at.before = ap (asked_of asks) spelled ∙ asked_of_spelled asks at.before at.each in
-    record {
-      filters = record {
-        spelled = spelled ∙ ap filters_spelling (sym same);
-        asked = subst (AreAsked asks) (sym same) (record { some = some; each = at.each });
-      };
-      reads = λ n packet less. (
-          let more = more_by (length at.before) n (omega (arith, less, at.fewer)) in
-          ap (λ (k : ℕ). read (filters_format k asks packet []) start) more.1
-          ∙ at.reads (suc more.0) packet
-          ∙ finish (suc more.0) asks packet at.before left some none
-          ∙ ap (λ (fs : List AskedFilter). Ok (packet fs)) (sym same));
-    }
-
--- No filter at all is a fault.
-pub none_refused : (asks : Bool) (start : Left) → start.rest ≡ [] → AreRefused asks start (broken start.at rules.W16)
-none_refused asks start none zero packet less = absurd (omega (arith, less))
-none_refused asks start none (suc n) packet less = rw none refl
-
--- ---- what is spelled is read
-
-abbrev left_at : ℕ → List ℕ → Left
-left_at at rest = record { at = at; rest = rest }
-
--- What a text that was read comes to.
-abbrev judged_text : Left → List ℕ × Left → Result (List ℕ × Left) DecodeFault
-judged_text left x = unless left.at (filter_objection x.0) x
-
-text_spelled : (at : ℕ) (filter more : List ℕ) → IsText filter → is_filter filter ≡ true → read_field text filter_objection (left_at at (text_spelling filter ++ more)) ≡ done (filter, left_at (at + length (text_spelling filter)) more)
-text_spelled at filter more is good =
-    let size : ℕ = length (text_spelling filter) in
-    let left : Left = left_at at (text_spelling filter ++ more) in
-    let behind : Left = left_at (at + size) (drop size (text_spelling filter ++ more)) in
-    let found : placed left (text_at left.rest) ≡ Ok (filter, behind) = ap (placed left) (text_exact.all filter more is) in
-    let fine : judged_text left (filter, behind) ≡ done (filter, behind) = rw good refl in
-    ap (λ (r : Result (List ℕ × Left) WireFault). spelled r >>= judged_text left) found
-    ∙ fine
-    ∙ ap (λ (rest : List ℕ). done (filter, left_at (at + size) rest)) (drop_at (text_spelling filter) more size refl)
-
-options_spelled : (asks : Bool) (at : ℕ) (options : Option ℕ) (rest : List ℕ) → AreOptions asks options → options_on asks (left_at at (options_spelling options ++ rest)) ≡ done (options, left_at (at + length (options_spelling options)) rest)
-options_spelled false at None rest is = (let place : at ≡ at + 0 = omega arith in ap (λ (k : ℕ). done (None, left_at k rest)) place)
+options_spelled : (asks : Bool) (at : ℕ) (options : Option ℕ) (rest : List ℕ) → AreOptions asks options → options_on asks (left_from at (options_spelling options ++ rest)) ≡ done (options, left_from (at + length (options_spelling options)) rest)
+options_spelled false at None rest is = (let place : at ≡ at + 0 = omega arith in ap (λ (k : ℕ). done (None, left_from k rest)) place)
 options_spelled false at (Some options) rest is = absurd cc
 options_spelled true at None rest is = absurd (let never = is.1 in cc)
 options_spelled true at (Some options) rest is =
@@ -292,44 +147,305 @@ options_spelled true at (Some options) rest is =
     let good : are_options options ≡ true = ap are_options same ∙ is.3 in
     rw good refl
 
+-- ---- one filter
+
+-- What was read of it.
+record TakesFilter (asks : Bool) (at : ℕ) (bytes : List ℕ) (x : AskedFilter × Left) : Type 0 where
+  asked : IsAsked asks x.0
+  parts : bytes ≡ asked_spelling x.0 ++ x.1.rest
+  behind : x.1 ≡ left_from (at + length (asked_spelling x.0)) x.1.rest
+
+filter_taken : (asks : Bool) (at : ℕ) (bytes : List ℕ) → AreBytes bytes → (x : AskedFilter × Left) → filter_on asks (left_from at bytes) ≡ Ok x → TakesFilter asks at bytes x
+filter_taken asks at bytes known x e =
+    let y = bind_ok (read_field text filter_objection (left_from at bytes)) (options_behind asks) x e in
+    let z = bind_ok (options_on asks y.0.1) (with_options y.0.0) x y.2 in
+    let front = field_taken text filter_objection at bytes known y.0.0 y.0.1 y.1 in
+    let more = options_taken asks y.0.1.at y.0.1.rest (behind_bytes bytes (text_spelling y.0.0) y.0.1.rest front.0.begin.spelled known) z.0 z.1 in
+    let filter : AskedFilter = record { filter = y.0.0; options = z.0.0 } in
+    let made : AskedFilter × Left = (filter, z.0.1) in
+    let size : length (asked_spelling filter) ≡ length (text_spelling y.0.0) + length (options_spelling z.0.0) = length-append (text_spelling y.0.0) (options_spelling z.0.0) in
+    let place : y.0.1.at + length (options_spelling z.0.0) ≡ at + length (asked_spelling filter) = omega (arith, size, ap (λ (l : Left). l.at) front.0.behind) in
+    let here : TakesFilter asks at bytes made = record {
+      asked = record { text = front.0.begin.is_value; filter = unbroken (is_filter y.0.0) rules.W15 front.1; options = more.0 };
+      parts = front.0.begin.spelled ∙ ap (λ (l : List ℕ). text_spelling y.0.0 ++ l) more.1 ∙ sym (append_assoc (text_spelling y.0.0) (options_spelling z.0.0) z.0.1.rest);
+      behind = more.2 ∙ ap (λ (n : ℕ). left_from n z.0.1.rest) place;
+    } in
+    subst (TakesFilter asks at bytes) (done_is made x z.2) here
+
+-- A filter has some bytes.
+filter_some : (f : AskedFilter) → 0 < length (asked_spelling f)
+filter_some f = omega (arith, length-append (text_spelling f.filter) (options_spelling f.options))
+
+filter_shorter_by : (asks : Bool) (at : ℕ) (bytes : List ℕ) (x : AskedFilter × Left) → TakesFilter asks at bytes x → length x.1.rest < length bytes
+filter_shorter_by asks at bytes x h = omega (arith, ap (λ (l : List ℕ). length l) h.parts, length-append (asked_spelling x.0) x.1.rest, filter_some x.0)
+
+filter_fails : (asks : Bool) (at : ℕ) (bytes : List ℕ) → AreBytes bytes → (fault : DecodeFault) → filter_on asks (left_from at bytes) ≡ Err fault → FailsFilter asks at bytes fault
+filter_fails asks at bytes known fault e = by_text (bind_err (read_field text filter_objection (left_from at bytes)) (options_behind asks) fault e)
+  where
+    by_options : (y : List ℕ × Left) → Front text at bytes y.0 y.1 → filter_objection y.0 ≡ None → FailedSo (options_on asks y.1) (with_options y.0) fault → FailsFilter asks at bytes fault
+    by_options y front none (inl h) =
+        (let wrong : FailsOptions asks y.1.at y.1.rest fault = options_fail asks y.1.at y.1.rest (behind_bytes bytes (text_spelling y.0) y.1.rest front.begin.spelled known) fault h in
+        inr (y.0, y.1.rest, front.begin, none, subst (λ (n : ℕ). FailsOptions asks n y.1.rest fault) (ap (λ (l : Left). l.at) front.behind) wrong))
+    by_options y front none (inr h) = absurd (let never = h.2 in cc)
+
+    by_text : FailedSo (read_field text filter_objection (left_from at bytes)) (options_behind asks) fault → FailsFilter asks at bytes fault
+    by_text (inl h) = inl (field_fails text filter_objection at bytes known fault h)
+    by_text (inr h) =
+        (let front = field_taken text filter_objection at bytes known h.0.0 h.0.1 h.1 in
+        by_options h.0 front.0 front.1 (bind_err (options_on asks h.0.1) (with_options h.0.0) fault h.2))
+
+fail_filter : (asks : Bool) (at : ℕ) (bytes : List ℕ) → AreBytes bytes → (fault : DecodeFault) → FailsFilter asks at bytes fault → filter_on asks (left_from at bytes) ≡ failed fault
+fail_filter asks at bytes known fault (inl h) = ap (λ (r : Result (List ℕ × Left) DecodeFault). r >>= options_behind asks) (fails_field text filter_objection at bytes known fault h)
+fail_filter asks at bytes known fault (inr h) =
+    ap (λ (r : Result (List ℕ × Left) DecodeFault). r >>= options_behind asks) (good_field text filter_objection at bytes h.0 h.1 h.2 h.3)
+    ∙ ap (λ (r : Result (Option ℕ × Left) DecodeFault). r >>= with_options h.0) (fail_options asks (at + length (text_spelling h.0)) h.1 (behind_bytes bytes (text_spelling h.0) h.1 h.2.spelled known) fault h.4)
+
 -- A filter is read at the front of its spelling.
-filter_spelled : (asks : Bool) (at : ℕ) (f : AskedFilter) (rest : List ℕ) → IsAsked asks f → (behind : ℕ) × (filter_on asks (left_at at (asked_spelling f ++ rest)) ≡ done (f, left_at behind rest))
+filter_spelled : (asks : Bool) (at : ℕ) (f : AskedFilter) (rest : List ℕ) → IsAsked asks f → filter_on asks (left_from at (asked_spelling f ++ rest)) ≡ done (f, left_from (at + length (asked_spelling f)) rest)
 filter_spelled asks at f rest is =
     let more : List ℕ = options_spelling f.options ++ rest in
     let inside : ℕ = at + length (text_spelling f.filter) in
-    let parts : asked_spelling f ++ rest ≡ text_spelling f.filter ++ more = append_assoc (text_spelling f.filter) (options_spelling f.options) rest in (
-      inside + length (options_spelling f.options),
-      ap (λ (bytes : List ℕ). filter_on asks (left_at at bytes)) parts
-          ∙ ap (λ (r : Result (List ℕ × Left) DecodeFault). r >>= options_behind asks) (text_spelled at f.filter more is.text is.filter)
-          ∙ ap (λ (r : Result (Option ℕ × Left) DecodeFault). r >>= with_options f.filter) (options_spelled asks inside f.options rest is.options),
+    let begin : Begin text (asked_spelling f ++ rest) f.filter more = record { is_value = is.text; spelled = append_assoc (text_spelling f.filter) (options_spelling f.options) rest } in
+    let size : length (asked_spelling f) ≡ length (text_spelling f.filter) + length (options_spelling f.options) = length-append (text_spelling f.filter) (options_spelling f.options) in
+    let place : inside + length (options_spelling f.options) ≡ at + length (asked_spelling f) = omega (arith, size) in
+    ap (λ (r : Result (List ℕ × Left) DecodeFault). r >>= options_behind asks) (good_field text filter_objection at (asked_spelling f ++ rest) f.filter more begin (unobjected (is_filter f.filter) rules.W15 is.filter))
+    ∙ ap (λ (r : Result (Option ℕ × Left) DecodeFault). r >>= with_options f.filter) (options_spelled asks inside f.options rest is.options)
+    ∙ ap (λ (n : ℕ). done (f, left_from n rest)) place
+
+-- ---- all that is left
+
+pub nil_at : (bytes : List ℕ) → length bytes ≡ 0 → bytes ≡ []
+nil_at [] e = refl
+nil_at (a ∷ bytes) e = absurd (omega (arith, e))
+
+pub some_left : (bytes : List ℕ) → bytes ≢ [] → eqb (length bytes) 0 ≡ false
+some_left bytes some = ne_eqb (length bytes) 0 (λ e. some (nil_at bytes e))
+
+-- Filters before others.
+abbrev after : List AskedFilter → List AskedFilter → Result (List AskedFilter) DecodeFault
+after fs others = Ok (fs ++ others)
+
+-- One filter, and those that are left after it.
+abbrev first_of : AskedFilter → List AskedFilter → Result (List AskedFilter) DecodeFault
+first_of f others = Ok (f ∷ others)
+
+abbrev onwards : ℕ → Bool → AskedFilter × Left → Result (List AskedFilter) DecodeFault
+onwards n asks x = filters_within n asks x.1 >>= first_of x.0
+
+-- One step, where something is left.
+step : (n : ℕ) (asks : Bool) (left : Left) → left.rest ≢ [] → filters_within (suc n) asks left ≡ (filter_on asks left >>= onwards n asks)
+step n asks left some = ap (λ (t : Bool). if t then Ok [] else (filter_on asks left >>= onwards n asks)) (some_left left.rest some)
+
+-- None, where nothing is.
+finish : (n : ℕ) (asks : Bool) (at : ℕ) → filters_within n asks (left_from at []) ≡ Ok []
+finish zero asks at = refl
+finish (suc n) asks at = refl
+
+after_none : (r : Result (List AskedFilter) DecodeFault) → r ≡ (r >>= after [])
+after_none (Ok fs) = refl
+after_none (Err fault) = refl
+
+after_first : (f : AskedFilter) (fs : List AskedFilter) (r : Result (List AskedFilter) DecodeFault) → (r >>= after fs >>= first_of f) ≡ (r >>= after (f ∷ fs))
+after_first f fs (Ok others) = refl
+after_first f fs (Err fault) = refl
+
+-- Filters that may be are read, and then what follows them.
+within_behind : (n : ℕ) (asks : Bool) (at : ℕ) (fs : List AskedFilter) (rest : List ℕ) → AllByRecursion (IsAsked asks) fs → length (filters_spelling fs ++ rest) ≤ n
+    → (m : ℕ) × (length rest ≤ m) × (filters_within n asks (left_from at (filters_spelling fs ++ rest)) ≡ (filters_within m asks (left_from (at + length (filters_spelling fs)) rest) >>= after fs))
+within_behind n asks at [] rest each enough =
+    let place : at ≡ at + 0 = omega arith in
+    (n, enough, after_none (filters_within n asks (left_from at rest)) ∙ ap (λ (k : ℕ). filters_within n asks (left_from k rest) >>= after []) place)
+within_behind zero asks at (f ∷ fs) rest each enough =
+    absurd (omega (arith, enough, length-append (asked_spelling f ++ filters_spelling fs) rest, length-append (asked_spelling f) (filters_spelling fs), filter_some f))
+within_behind (suc n) asks at (f ∷ fs) rest each enough =
+    let behind : List ℕ = filters_spelling fs ++ rest in
+    let there : ℕ = at + length (asked_spelling f) in
+    let parts : filters_spelling (f ∷ fs) ++ rest ≡ asked_spelling f ++ behind = append_assoc (asked_spelling f) (filters_spelling fs) rest in
+    let size : length (asked_spelling f ++ behind) ≡ length (asked_spelling f) + length behind = length-append (asked_spelling f) behind in
+    let whole : length (filters_spelling (f ∷ fs) ++ rest) ≡ length (asked_spelling f ++ behind) = ap (λ (l : List ℕ). length l) parts in
+    let more = within_behind n asks there fs rest each.1 (omega (arith, enough, whole, size, filter_some f)) in
+    let place : there + length (filters_spelling fs) ≡ at + length (filters_spelling (f ∷ fs)) = omega (arith, length-append (asked_spelling f) (filters_spelling fs)) in (
+      more.0,
+      more.1,
+      ap (λ (bytes : List ℕ). filters_within (suc n) asks (left_from at bytes)) parts
+          ∙ step n asks (left_from at (asked_spelling f ++ behind)) (λ e. omega (arith, ap (λ (l : List ℕ). length l) e, size, filter_some f))
+          ∙ ap (λ (r : Result (AskedFilter × Left) DecodeFault). r >>= onwards n asks) (filter_spelled asks at f behind each.0)
+          ∙ ap (λ (r : Result (List AskedFilter) DecodeFault). r >>= first_of f) more.2
+          ∙ after_first f fs (filters_within more.0 asks (left_from (there + length (filters_spelling fs)) rest))
+          ∙ ap (λ (k : ℕ). filters_within more.0 asks (left_from k rest) >>= after (f ∷ fs)) place,
     )
 
--- Filters that may be are read, after others, where there is one in all.
-spelled_behind : (n : ℕ) (asks : Bool) (packet : List AskedFilter → Entry) (before fs : List AskedFilter) (at : ℕ) → AllByRecursion (IsAsked asks) fs → before ++ fs ≢ [] → length (filters_spelling fs) < n
-    → read (filters_format n asks packet before) (left_at at (filters_spelling fs)) ≡ Ok (packet (before ++ fs))
-spelled_behind n asks packet before [] at each some less =
-    let same : before ++ [] ≡ before = append-nil before in
-    finish n asks packet before (left_at at []) (λ e. some (same ∙ e)) refl ∙ ap (λ (fs : List AskedFilter). Ok (packet fs)) (sym same)
-spelled_behind zero asks packet before (f ∷ fs) at each some less = absurd (omega (arith, less))
-spelled_behind (suc n) asks packet before (f ∷ fs) at each some less =
-    let found = filter_spelled asks at f (filters_spelling fs) each.0 in
-    let size : length (asked_spelling f ++ filters_spelling fs) ≡ length (asked_spelling f) + length (filters_spelling fs) = length-append (asked_spelling f) (filters_spelling fs) in
-    let taken : 0 < length (asked_spelling f) = asked_taken f in
-    let parts : (before ++ f ∷ []) ++ fs ≡ before ++ f ∷ fs = append_assoc before (f ∷ []) fs in
-    step n asks packet before (left_at at (filters_spelling (f ∷ fs))) (λ e. omega (arith, ap length e, size, taken))
-    ∙ ap (λ (r : Result (AskedFilter × Left) DecodeFault). r >>= onwards (next_format n asks packet before)) found.1
-    ∙ spelled_behind n asks packet (before ++ f ∷ []) fs found.0 each.1 (λ e. some (sym parts ∙ e)) (omega (arith, less, size, taken))
-    ∙ ap (λ (all : List AskedFilter). Ok (packet all)) parts
+-- Filters that may be, one at least, have some bytes.
+spelling_some : (fs : List AskedFilter) → fs ≢ [] → filters_spelling fs ≢ []
+spelling_some [] some = absurd (some refl)
+spelling_some (f ∷ fs) some = λ e. omega (arith, ap (λ (l : List ℕ). length l) e, length-append (asked_spelling f) (filters_spelling fs), filter_some f)
+
+-- Where something is left.
+on_some : (asks : Bool) (left : Left) → left.rest ≢ [] → filters_on asks left ≡ filters_within (length left.rest) asks left
+unfolding filters_on
+on_some asks left some = ap (λ (t : Bool). if t then Err (broken left.at rules.W16) else filters_within (length left.rest) asks left) (some_left left.rest some)
+
+-- Filters are read from their spellings.
+pub filters_known : (asks : Bool) (left : Left) (fs : List AskedFilter) → AreAsked asks fs → left.rest ≡ filters_spelling fs → filters_on asks left ≡ Ok fs
+filters_known asks left fs are parts =
+    let whole : left.rest ≡ filters_spelling fs ++ [] = parts ∙ sym (append-nil (filters_spelling fs)) in
+    let read = within_behind (length left.rest) asks left.at fs [] are.each (omega (arith, ap (λ (l : List ℕ). length l) whole)) in
+    on_some asks left (λ e. spelling_some fs are.some (sym parts ∙ e))
+    ∙ ap (λ (bytes : List ℕ). filters_within (length left.rest) asks (left_from left.at bytes)) whole
+    ∙ read.2
+    ∙ ap (λ (r : Result (List AskedFilter) DecodeFault). r >>= after fs) (finish read.0 asks (left.at + length (filters_spelling fs)))
+    ∙ ap (λ (l : List AskedFilter). done l) (append-nil fs)
+
+-- No filter is a fault.
+pub filters_none : (asks : Bool) (left : Left) → left.rest ≡ [] → filters_on asks left ≡ Err (broken left.at rules.W16)
+unfolding filters_on
+filters_none asks left none = rw none refl
+
+-- So is one that may not be, after others that may.
+pub filters_bad : (asks : Bool) (left : Left) (fault : DecodeFault) → AreBytes left.rest → BadFilter asks left.at left.rest fault → filters_on asks left ≡ Err fault
+filters_bad asks left fault known h =
+    let there : ℕ = left.at + length (filters_spelling h.good) in
+    let read = within_behind (length left.rest) asks left.at h.good h.others h.each (omega (arith, ap (λ (l : List ℕ). length l) h.parts)) in
+    let refused : filter_on asks (left_from there h.others) ≡ failed fault = fail_filter asks there h.others (behind_bytes left.rest (filters_spelling h.good) h.others h.parts known) fault h.refused in
+    on_some asks left (λ e. h.some (nothing_behind (filters_spelling h.good) h.others (sym h.parts ∙ e)))
+    ∙ ap (λ (bytes : List ℕ). filters_within (length left.rest) asks (left_from left.at bytes)) h.parts
+    ∙ read.2
+    ∙ ap (λ (r : Result (List AskedFilter) DecodeFault). r >>= after h.good) (stops read.0 there h.others read.1 h.some refused)
   where
-    asked_taken : (f : AskedFilter) → 0 < length (asked_spelling f)
-    asked_taken f = omega (arith, length-append (text_spelling f.filter) (options_spelling f.options))
+    nothing_behind : (front back : List ℕ) → front ++ back ≡ [] → back ≡ []
+    nothing_behind [] back e = e
+    nothing_behind (a ∷ front) back e = absurd cc
+
+    stops : (m there : ℕ) (others : List ℕ) → length others ≤ m → others ≢ [] → filter_on asks (left_from there others) ≡ failed fault → filters_within m asks (left_from there others) ≡ failed fault
+    stops zero there others enough some e = absurd (some (nil_at others (omega (arith, enough))))
+    stops (suc m) there others enough some e = step m asks (left_from there others) some ∙ ap (λ (r : Result (AskedFilter × Left) DecodeFault). r >>= onwards m asks) e
+
+-- ---- what bytes come to
+
+-- The bytes are filters that may be, of which there may be none; or one of them may not be.
+abbrev pub ComeTo : Bool → ℕ → List ℕ → Result (List AskedFilter) DecodeFault → Type 0
+ComeTo asks at bytes (Ok fs) = AllByRecursion (IsAsked asks) fs × (bytes ≡ filters_spelling fs)
+ComeTo asks at bytes (Err fault) = BadFilter asks at bytes fault
+
+module _ (asks : Bool) (at : ℕ) (bytes : List ℕ) where
+  one_more : (x : AskedFilter × Left) → TakesFilter asks at bytes x → (r : Result (List AskedFilter) DecodeFault) → ComeTo asks x.1.at x.1.rest r → ComeTo asks at bytes (r >>= first_of x.0)
+  one_more x first (Ok fs) h = ((first.asked, h.0), first.parts ∙ ap (λ (l : List ℕ). asked_spelling x.0 ++ l) h.1)
+  one_more x first (Err fault) h =
+      let place : x.1.at + length (filters_spelling h.good) ≡ at + length (filters_spelling (x.0 ∷ h.good)) = omega (arith, ap (λ (l : Left). l.at) first.behind, length-append (asked_spelling x.0) (filters_spelling h.good)) in
+      record {
+        good = x.0 ∷ h.good;
+        each = (first.asked, h.each);
+        others = h.others;
+        some = h.some;
+        parts = first.parts ∙ ap (λ (l : List ℕ). asked_spelling x.0 ++ l) h.parts ∙ sym (append_assoc (asked_spelling x.0) (filters_spelling h.good) h.others);
+        refused = subst (λ (n : ℕ). FailsFilter asks n h.others fault) place h.refused;
+      }
+
+  -- By the filter at the front, if one is read there.
+  by_filter : AreBytes bytes → bytes ≢ [] → (n : ℕ) → ((there : ℕ) (left : List ℕ) → AreBytes left → length left < length bytes → ComeTo asks there left (filters_within n asks (left_from there left)))
+      → (r : Result (AskedFilter × Left) DecodeFault) → filter_on asks (left_from at bytes) ≡ r → ComeTo asks at bytes (r >>= onwards n asks)
+  by_filter known some n later (Ok x) e =
+      let first = filter_taken asks at bytes known x e in
+      one_more x first (filters_within n asks x.1) (later x.1.at x.1.rest (behind_bytes bytes (asked_spelling x.0) x.1.rest first.parts known) (filter_shorter_by asks at bytes x first))
+  by_filter known some n later (Err fault) e =
+      let place : at ≡ at + 0 = omega arith in
+      record {
+        good = [];
+        each = tt;
+        others = bytes;
+        some = some;
+        parts = refl;
+        refused = subst (λ (k : ℕ). FailsFilter asks k bytes fault) place (filter_fails asks at bytes known fault e);
+      }
+
+within_come : (n : ℕ) (asks : Bool) (at : ℕ) (bytes : List ℕ) → AreBytes bytes → length bytes ≤ n → ComeTo asks at bytes (filters_within n asks (left_from at bytes))
+within_come zero asks at bytes known enough = (tt, nil_at bytes (omega (arith, enough)))
+within_come (suc n) asks at [] known enough = (tt, refl)
+within_come (suc n) asks at (b ∷ bytes) known enough =
+    let P : Result (List AskedFilter) DecodeFault → Type 0 = λ r. ComeTo asks at (b ∷ bytes) r in
+    let full : (b ∷ bytes) ≢ [] = λ (e : (b ∷ bytes) ≡ []). cc in
+    subst P (sym (step n asks (left_from at (b ∷ bytes)) full))
+    (by_filter asks at (b ∷ bytes) known full n (λ there left left_bytes less. within_come n asks there left left_bytes (omega (arith, less, enough))) (filter_on asks (left_from at (b ∷ bytes))) refl)
+
+-- Bytes, of which there are some, come to filters or to a fault.
+pub filters_come : (asks : Bool) (at : ℕ) (bytes : List ℕ) → bytes ≢ [] → AreBytes bytes → ComeTo asks at bytes (filters_on asks (left_from at bytes))
+filters_come asks at bytes some known =
+    let P : Result (List AskedFilter) DecodeFault → Type 0 = λ r. ComeTo asks at bytes r in
+    subst P (sym (on_some asks (left_from at bytes) some)) (within_come (length bytes) asks at bytes known (omega arith))
+
+-- ---- as a loop goes over them
+
+-- Where the loop stands: after these filters.
+pub record Goes (asks : Bool) (start left : Left) : Type 0 where
+  pub before : List AskedFilter
+  pub each : AllByRecursion (IsAsked asks) before
+  pub parts : start.rest ≡ filters_spelling before ++ left.rest
+  pub place : left.at ≡ start.at + length (filters_spelling before)
+  pub some : before ≡ [] → left.rest ≢ []
+
+pub begins : (asks : Bool) (start : Left) → start.rest ≢ [] → Goes asks start start
+begins asks start some = record { before = []; each = tt; parts = refl; place = omega arith; some = λ none. some }
+
+each_more : (asks : Bool) (fs : List AskedFilter) (f : AskedFilter) → AllByRecursion (IsAsked asks) fs → IsAsked asks f → AllByRecursion (IsAsked asks) (fs ++ f ∷ [])
+each_more asks [] f each is = (is, tt)
+each_more asks (g ∷ fs) f each is = (each.0, each_more asks fs f each.1 is)
+
+more_some : (fs : List AskedFilter) (f : AskedFilter) → fs ++ f ∷ [] ≢ []
+more_some fs f e = (let size : length (fs ++ f ∷ []) ≡ length fs + 1 = length-append fs (f ∷ []) in absurd (omega (arith, size, ap length e)))
+
+-- One filter more is spelled after the others.
+more_spelled : (fs : List AskedFilter) (f : AskedFilter) → filters_spelling (fs ++ f ∷ []) ≡ filters_spelling fs ++ asked_spelling f
+more_spelled fs f = flat_map-append asked_spelling fs (f ∷ []) ∙ ap (λ (l : List ℕ). filters_spelling fs ++ l) (append-nil (asked_spelling f))
+
+module _ (asks : Bool) (start left : Left) (known : AreBytes start.rest) (at : Goes asks start left) where
+  left_known : AreBytes left.rest
+  left_known = behind_bytes start.rest (filters_spelling at.before) left.rest at.parts known
+
+  pub filter_shorter : (f : AskedFilter) (new : Left) → filter_on asks left ≡ Ok (f, new) → length new.rest < length left.rest
+  filter_shorter f new found = filter_shorter_by asks left.at left.rest (f, new) (filter_taken asks left.at left.rest left_known (f, new) found)
+
+  pub goes_on : (f : AskedFilter) (new : Left) → filter_on asks left ≡ Ok (f, new) → Goes asks start new
+  goes_on f new found =
+      let first : TakesFilter asks left.at left.rest (f, new) = filter_taken asks left.at left.rest left_known (f, new) found in
+      let grown : filters_spelling (at.before ++ f ∷ []) ≡ filters_spelling at.before ++ asked_spelling f = more_spelled at.before f in
+      let size : length (filters_spelling (at.before ++ f ∷ [])) ≡ length (filters_spelling at.before) + length (asked_spelling f) = ap (λ (l : List ℕ). length l) grown ∙ length-append (filters_spelling at.before) (asked_spelling f) in
+      record {
+        before = at.before ++ f ∷ [];
+        each = each_more asks at.before f at.each first.asked;
+        parts = at.parts
+            ∙ ap (λ (rest : List ℕ). filters_spelling at.before ++ rest) first.parts
+            ∙ sym (append_assoc (filters_spelling at.before) (asked_spelling f) new.rest)
+            ∙ ap (λ (front : List ℕ). front ++ new.rest) (sym grown);
+        place = omega (arith, at.place, size, ap (λ (l : Left). l.at) first.behind);
+        some = λ none. absurd (more_some at.before f none);
+      }
+
+  -- A filter that is refused is the fault of the whole.
+  pub fails : (fault : DecodeFault) → left.rest ≢ [] → filter_on asks left ≡ Err fault → filters_on asks start ≡ Err fault
+  fails fault some refused =
+      filters_bad asks start fault known (record {
+        good = at.before;
+        each = at.each;
+        others = left.rest;
+        some = some;
+        parts = at.parts;
+        refused = subst (λ (n : ℕ). FailsFilter asks n left.rest fault) at.place (filter_fails asks left.at left.rest left_known fault refused);
+      })
+
+  -- With nothing left, these are the filters.
+  pub ends : left.rest ≡ [] → AreRead asks start
+  ends none =
+      let are : AreAsked asks at.before = record { some = λ e. at.some e none; each = at.each } in
+      let spelled : start.rest ≡ filters_spelling at.before = at.parts ∙ ap (λ (rest : List ℕ). filters_spelling at.before ++ rest) none ∙ append-nil (filters_spelling at.before) in
+      let same : asked_of asks start.rest ≡ at.before = ap (asked_of asks) spelled ∙ asked_of_spelled asks at.before at.each in
+      record {
+        filters = record {
+          spelled = spelled ∙ ap filters_spelling (sym same);
+          asked = subst (AreAsked asks) (sym same) are;
+        };
+        reads = filters_known asks start at.before are spelled ∙ ap (λ (fs : List AskedFilter). done fs) (sym same);
+      }
 
 -- Filters that may be aren't refused.
-pub never_refused : (asks : Bool) (start : Left) (fs : List AskedFilter) (fault : DecodeFault) → AreAsked asks fs → start.rest ≡ filters_spelling fs → AreRefused asks start fault → ⊥
-never_refused asks start fs fault are parts refused =
-    let n : ℕ = suc (length start.rest) in
-    let packet : List AskedFilter → Entry = λ found. pingreq in
-    let less : length (filters_spelling fs) < n = omega (arith, ap length parts) in
-    let good : read (filters_format n asks packet []) start ≡ Ok (packet fs) =
-    ap (λ (bytes : List ℕ). read (filters_format n asks packet []) (left_at start.at bytes)) parts ∙ spelled_behind n asks packet [] fs start.at are.each are.some less in
-    (let never = sym good ∙ refused n packet (omega arith) in cc)
+pub never_refused : (asks : Bool) (start : Left) (fs : List AskedFilter) (fault : DecodeFault) → AreAsked asks fs → start.rest ≡ filters_spelling fs → filters_on asks start ≡ Err fault → ⊥
+never_refused asks start fs fault are parts refused = (let never = sym (filters_known asks start fs are parts) ∙ refused in cc)

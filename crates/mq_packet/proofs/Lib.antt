@@ -23,4 +23,3 @@ pub mod StreamLaws
 pub mod AskedLaws
 pub mod FilterLaws
 pub mod CodeLaws
-pub mod ListBodyLaws

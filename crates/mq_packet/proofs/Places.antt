@@ -1,5 +1,5 @@
 -- The place of a broken rule lies in the packet, or after its last byte.
-use Rattle.std.proofs.Common.{◌≡◌, ℕ, ◌+◌, ◌≤◌, ◌<◌, Bool, eqb, ltb, true, false, cond, List, [], ◌∷◌, length, Option, Some, None, Result, Ok, Err, refl, ap, subst, arith}
+use Rattle.std.proofs.Common.{◌≡◌, ℕ, zero, suc, ◌+◌, ◌≤◌, ◌<◌, Bool, eqb, ltb, true, false, cond, List, [], ◌∷◌, length, Option, Some, None, Result, Ok, Err, refl, ap, subst, arith}
 use Rattle.std.specs.Prelude.{◌==◌, if◌then◌else◌}
 use Rattle.std.specs.List.{list_all, prefix_len}
 use Rattle.std.proofs.Common.{length-drop}
@@ -20,9 +20,9 @@ use Rattle.mq_packet.specs.declared.rule.PacketRule.{PacketRule}
 use Rattle.mq_packet.specs.declared.rule.PacketRule.TheVariants as rules
 use Rattle.mq_packet.specs.declared.fault.DecodeFault.{DecodeFault}
 use Rattle.mq_packet.specs.declared.fault.DecodeFault.TheVariants.{Broken, OtherVersion}
-use Rattle.mq_packet.specs.Entries.{Entry}
-use Rattle.mq_packet.specs.Formats.{Kind, byte, two_bytes, text, binary, properties, Value, Objection, breaks, other_version, is_code, Format, done, rest, all_codes, refused, missing, field, at_end, format_of, publish_format}
-use Rattle.mq_packet.specs.Decoding.{◌>>=◌, broken, objected, spelled, spelled_list, field_on, codes_on, read}
+use Rattle.mq_packet.specs.Entries.{Entry, AskedFilter}
+use Rattle.mq_packet.specs.Formats.{Kind, byte, two_bytes, text, binary, properties, Value, Objection, breaks, other_version, is_code, filter_objection, options_objection, Format, done, rest, all_codes, all_filters, refused, field, at_end, format_of, publish_format}
+use Rattle.mq_packet.specs.Decoding.{◌>>=◌, broken, objected, spelled, spelled_list, field_on, unless, read_field, codes_on, some_options, options_on, with_options, options_behind, filter_on, filters_within, filters_on, read}
 use Rattle.mq_packet.proofs.Readings.{by_field, by_objection}
 
 -- The place after the last byte that is left.
@@ -108,22 +108,102 @@ codes_fit table packet left =
     prefix_within test [] = omega arith
     prefix_within test (b ∷ bytes) = (let more = prefix_within test bytes in elim (test b) as (λ t. cond t (1 + prefix_len test bytes) 0 ≤ length (b ∷ bytes)) [ true ↦ omega (arith, more) | false ↦ omega arith ])
 
+-- The same up to a later place.
+ends_before : {X : Type 0} (m n : ℕ) (r : Result (X × Left) DecodeFault) → m ≤ n → Ends m r → Ends n r
+ends_before m n (Ok x) le h = omega (arith, le, h)
+ends_before m n (Err (Broken fault)) le h = omega (arith, le, h)
+ends_before m n (Err (OtherVersion version)) le h = tt
+
+-- A field with what is objected to it.
+read_ends : (kind : Kind) (objection : Value kind → Option Objection) (left : Left) → Ends (end_of left) (read_field kind objection left)
+read_ends kind objection left = by_found (field_on kind left) (field_ends kind left)
+  where
+    by_why : (x : Value kind × Left) → end_of x.1 ≤ end_of left → (why : Option Objection) → Ends (end_of left) (unless left.at why x)
+    by_why x h None = h
+    by_why x h (Some (breaks rule)) = omega arith
+    by_why x h (Some (other_version version)) = tt
+
+    by_found : (found : Result (Value kind × Left) DecodeFault) → Ends (end_of left) found → Ends (end_of left) (found >>= (λ x. unless left.at (objection x.0) x))
+    by_found (Ok x) h = by_why x h (objection x.0)
+    by_found (Err (Broken fault)) h = h
+    by_found (Err (OtherVersion version)) h = tt
+
+-- The options after a filter, and the filter with them.
+options_end : (last : ℕ) (filter : List ℕ) (found : Result (Option ℕ × Left) DecodeFault) → Ends last found → Ends last (found >>= with_options filter)
+options_end last filter (Ok x) h = h
+options_end last filter (Err (Broken fault)) h = h
+options_end last filter (Err (OtherVersion version)) h = tt
+
+byte_end : (last : ℕ) (found : Result (ℕ × Left) DecodeFault) → Ends last found → Ends last (found >>= some_options)
+byte_end last (Ok x) h = h
+byte_end last (Err (Broken fault)) h = h
+byte_end last (Err (OtherVersion version)) h = tt
+
+options_on_end : (asks : Bool) (left : Left) → Ends (end_of left) (options_on asks left)
+options_on_end false left = omega arith
+options_on_end true left = byte_end (end_of left) (read_field byte options_objection left) (read_ends byte options_objection left)
+
+text_end : (asks : Bool) (last : ℕ) (found : Result (List ℕ × Left) DecodeFault) → Ends last found → Ends last (found >>= options_behind asks)
+text_end asks last (Ok x) h = ends_before (end_of x.1) last (options_behind asks x) h (options_end (end_of x.1) x.0 (options_on asks x.1) (options_on_end asks x.1))
+text_end asks last (Err (Broken fault)) h = h
+text_end asks last (Err (OtherVersion version)) h = tt
+
+-- The place of a rule that filters break.
+abbrev rule_at : Result (List AskedFilter) DecodeFault → ℕ
+rule_at (Err (Broken fault)) = fault.at
+rule_at _ = 0
+
+others_fit : (filter : AskedFilter) (last : ℕ) (found : Result (List AskedFilter) DecodeFault) → rule_at found ≤ last → rule_at (found >>= (λ others. Ok (filter ∷ others))) ≤ last
+others_fit filter last (Ok fs) h = omega arith
+others_fit filter last (Err (Broken fault)) h = h
+others_fit filter last (Err (OtherVersion version)) h = h
+
+filter_fits : (n : ℕ) (asks : Bool) (last : ℕ) → ((left : Left) → rule_at (filters_within n asks left) ≤ end_of left) → (found : Result (AskedFilter × Left) DecodeFault) → Ends last found
+    → rule_at (found >>= (λ x. filters_within n asks x.1 >>= (λ others. Ok (x.0 ∷ others)))) ≤ last
+filter_fits n asks last later (Ok x) h = others_fit x.0 last (filters_within n asks x.1) (omega (arith, later x.1, h))
+filter_fits n asks last later (Err (Broken fault)) h = h
+filter_fits n asks last later (Err (OtherVersion version)) h = omega arith
+
+within_fits : (n : ℕ) (asks : Bool) (left : Left) → rule_at (filters_within n asks left) ≤ end_of left
+within_fits zero asks left = omega arith
+within_fits (suc n) asks left =
+    elim (length left.rest == 0) as (λ b. rule_at (if b then Ok [] else (filter_on asks left >>= (λ x. filters_within n asks x.1 >>= (λ others. Ok (x.0 ∷ others))))) ≤ end_of left) [
+      | true ↦ omega arith
+      | false ↦ filter_fits n asks (end_of left) (within_fits n asks) (filter_on asks left) (text_end asks (end_of left) (read_field text filter_objection left) (read_ends text filter_objection left))
+    ]
+
+on_fits : (asks : Bool) (left : Left) → rule_at (filters_on asks left) ≤ end_of left
+unfolding filters_on
+on_fits asks left =
+    elim (length left.rest == 0) as (λ b. rule_at (if b then Err (broken left.at rules.W16) else filters_within (length left.rest) asks left) ≤ end_of left) [
+      | true ↦ omega arith
+      | false ↦ within_fits (length left.rest) asks left
+    ]
+
+filters_fit : (asks : Bool) (packet : List AskedFilter → Entry) → PlacesFit (all_filters asks packet)
+filters_fit asks packet left = made (filters_on asks left) (on_fits asks left)
+  where
+    made : (found : Result (List AskedFilter) DecodeFault) → rule_at found ≤ end_of left → place_of (found >>= (λ filters. Ok (packet filters))) ≤ end_of left
+    made (Ok fs) h = omega arith
+    made (Err (Broken fault)) h = h
+    made (Err (OtherVersion version)) h = omega arith
+
 places_fit : (format : Format) → PlacesFit format
 places_fit (done packet) left = done_fits packet left
 places_fit (rest packet) left = omega arith
 places_fit (all_codes table packet) left = codes_fit table packet left
+places_fit (all_filters asks packet) left = filters_fit asks packet left
 places_fit (refused rule) left = omega arith
-places_fit (missing rule) left = omega arith
 places_fit (field kind objection next) left = found_fits kind objection next left (λ value. places_fit (next value)) (field_on kind left) (field_ends kind left)
 places_fit (at_end whole more) left = at_end_fits whole more (places_fit whole) (places_fit more) left
 
 -- A place in a packet that may be, of at most 268,435,460 bytes.
-pub place_fits : (first size at : ℕ) (left : Left) (rule : PacketRule) → read (format_of first size) left ≡ Err (broken at rule) → left.at ≤ 5 → length left.rest ≤ 268435455 → at ≤ 268435460
-place_fits first size at left rule e h fits = omega (arith, places_fit (format_of first size) left, ap place_of e, h, fits)
+pub place_fits : (first at : ℕ) (left : Left) (rule : PacketRule) → read (format_of first) left ≡ Err (broken at rule) → left.at ≤ 5 → length left.rest ≤ 268435455 → at ≤ 268435460
+place_fits first at left rule e h fits = omega (arith, places_fit (format_of first) left, ap place_of e, h, fits)
 
 -- From 48 to 63 a first byte is that of a PUBLISH.
-pub publish_format_of : (first size : ℕ) → 48 ≤ first → first < 64 → format_of first size ≡ publish_format first
-publish_format_of first size from to =
+pub publish_format_of : (first : ℕ) → 48 ≤ first → first < 64 → format_of first ≡ publish_format first
+publish_format_of first from to =
     let none : ltb first 16 ≡ false = le-ltb first 16 (omega (arith, from)) in
     let connect : eqb first 16 ≡ false = ne_eqb first 16 (λ e. omega (arith, from, e)) in
     let connack : eqb first 32 ≡ false = ne_eqb first 32 (λ e. omega (arith, from, e)) in

@@ -1,23 +1,23 @@
 -- Reading by a format gives what the bytes come to by it, and nothing else comes of them.
-use Rattle.std.proofs.Common.{◌≡◌, ◌≢◌, ℕ, ◌+◌, Bool, true, false, inl, inr, List, [], ◌∷◌, ◌++◌, length, drop, Option, Some, None, Result, Ok, Err, refl, sym, ◌∙◌, ap, subst, arith, eqb}
+use Rattle.std.proofs.Common.{◌≡◌, ◌≢◌, ℕ, ◌+◌, Bool, true, false, inl, inr, List, [], ◌∷◌, length, Option, Some, None, Result, Ok, Err, refl, sym, ◌∙◌, ap, subst, arith, eqb}
 use Rattle.std.proofs.lemmas.Bool.{ne_eqb}
-use Rattle.std.proofs.lemmas.List.{drop_at}
 use Rattle.std.specs.Prelude.{if◌then◌else◌, IfOk, IfErr}
 use Rattle.std.specs.List.{list_all, prefix_len}
 use Rattle.mq_wire.specs.Spellings.{AreBytes}
 use Rattle.mq_wire.specs.Left.{Left}
-use Rattle.mq_props.proofs.Exact.{AreBytes-drop}
 use Rattle.mq_packet.specs.declared.rule.PacketRule.{PacketRule}
 use Rattle.mq_packet.specs.declared.rule.PacketRule.TheVariants as rules
 use Rattle.mq_packet.specs.declared.fault.DecodeFault.{DecodeFault}
 use Rattle.mq_packet.specs.declared.fault.DecodeFault.TheVariants.{Broken, OtherVersion}
 use Rattle.mq_packet.specs.declared.packet.Packet.{Packet}
-use Rattle.mq_packet.specs.Entries.{Entry}
+use Rattle.mq_packet.specs.Entries.{Entry, AskedFilter}
+use Rattle.mq_packet.specs.Asking.{filters_spelling}
 use Rattle.mq_packet.specs.Reading.{view, Gives}
-use Rattle.mq_packet.specs.Formats.{Kind, Value, Objection, is_code, Format, done, rest, all_codes, refused, missing, field, at_end, format_of}
-use Rattle.mq_packet.specs.Decoding.{◌>>=◌, broken, body_start, field_on, unless, codes_on, read, decoded}
+use Rattle.mq_packet.specs.Formats.{Kind, Value, Objection, is_code, Format, done, rest, all_codes, all_filters, refused, field, at_end, format_of}
+use Rattle.mq_packet.specs.Decoding.{◌>>=◌, broken, body_start, field_on, unless, codes_on, filters_on, read, decoded}
 use Rattle.mq_packet.specs.Spelled.{spelling, Begin, Is, IsSpelled, HasFault, Comes}
 use Rattle.mq_packet.proofs.CodeLaws.{codes_known, codes_bad, first_bad}
+use Rattle.mq_packet.proofs.FilterLaws.{behind_bytes, ComeTo, filters_known, filters_none, filters_bad, filters_come}
 use Rattle.mq_packet.proofs.FieldLaws.{left_from, Front, field_found, field_read, field_misspelled, misspelled_field}
 
 -- The reading of a field and of what follows it, by what the field was read as.
@@ -35,12 +35,6 @@ IsRead format = (at : ℕ) (bytes : List ℕ) → AreBytes bytes → Is format a
 
 not_empty : (b : ℕ) (bytes : List ℕ) → eqb (length (b ∷ bytes)) 0 ≡ false
 not_empty b bytes = ne_eqb (length (b ∷ bytes)) 0 (λ (e : length (b ∷ bytes) ≡ 0). omega arith)
-
--- What is left after bytes are bytes.
-behind_bytes : (bytes front left : List ℕ) → bytes ≡ front ++ left → AreBytes bytes → AreBytes left
-behind_bytes bytes front left is known =
-    (let behind : drop (length front) bytes ≡ left = ap (drop (length front)) is ∙ drop_at front left (length front) refl in
-    subst (λ (l : List ℕ). AreBytes l) behind (AreBytes-drop (length front) bytes known))
 
 module _ (kind : Kind) (objection : Value kind → Option Objection) (next : Value kind → Format) (at : ℕ) (bytes : List ℕ) (known : AreBytes bytes) where
   good_next : (value : Value kind) (left : List ℕ) → Begin kind bytes value left → objection value ≡ None → (r : Result Entry DecodeFault) → Is (next value) (at + length (spelling kind value)) left r → Is (field kind objection next) at bytes r
@@ -89,12 +83,25 @@ is_codes table packet at bytes known =
       | false ↦ λ some. first_bad table at bytes some
     ] refl
 
+module _ (asks : Bool) (packet : List AskedFilter → Entry) (at : ℕ) where
+  filters_are : (bytes : List ℕ) → bytes ≢ [] → (r : Result (List AskedFilter) DecodeFault) → ComeTo asks at bytes r → Is (all_filters asks packet) at bytes (r >>= (λ filters. Ok (packet filters)))
+  filters_are bytes some (Ok fs) h = (fs, record { some = λ none. some (h.1 ∙ ap filters_spelling none); each = h.0 }, h.1, refl)
+  filters_are bytes some (Err fault) h = inr h
+
+  is_filters : (bytes : List ℕ) → AreBytes bytes → Is (all_filters asks packet) at bytes (read (all_filters asks packet) (left_from at bytes))
+  is_filters [] known =
+      (let P : Result (List AskedFilter) DecodeFault → Type 0 = λ r. Is (all_filters asks packet) at [] (r >>= (λ filters. Ok (packet filters))) in
+      subst P (sym (filters_none asks (left_from at []) refl)) (inl (refl, refl)))
+  is_filters (b ∷ bytes) known =
+      (let full : (b ∷ bytes) ≢ [] = λ (e : (b ∷ bytes) ≡ []). cc in
+      filters_are (b ∷ bytes) full (filters_on asks (left_from at (b ∷ bytes))) (filters_come asks at (b ∷ bytes) full known))
+
 pub is_read : (format : Format) → IsRead format
 is_read (done packet) at bytes known = is_done packet at bytes known
 is_read (rest packet) at bytes known = refl
 is_read (all_codes table packet) at bytes known = is_codes table packet at bytes known
+is_read (all_filters asks packet) at bytes known = is_filters asks packet at bytes known
 is_read (refused rule) at bytes known = refl
-is_read (missing rule) at bytes known = refl
 is_read (field kind objection next) at bytes known = field_is kind objection next at bytes known (λ value. is_read (next value)) (field_on kind (left_from at bytes)) refl
 is_read (at_end whole more) at bytes known = is_at_end whole more (is_read whole) (is_read more) at bytes known
 
@@ -153,41 +160,42 @@ only_codes : (table : List ℕ) (packet : List ℕ → Entry) → OnlyRead (all_
 only_codes table packet at bytes (Ok entry) known h = ap (made_of packet) (codes_known table (left_from at bytes) h.0) ∙ ap (λ (e : Entry). Ok e) h.1
 only_codes table packet at bytes (Err fault) known h = ap (made_of packet) (codes_bad table (left_from at bytes) fault h)
 
+only_filters : (asks : Bool) (packet : List AskedFilter → Entry) → OnlyRead (all_filters asks packet)
+only_filters asks packet at bytes (Ok entry) known h = ap (made_of packet) (filters_known asks (left_from at bytes) h.0 h.1 h.2) ∙ ap (λ (e : Entry). Ok e) h.3
+only_filters asks packet at bytes (Err fault) known (inl h) = ap (made_of packet) (filters_none asks (left_from at bytes) h.0) ∙ ap (λ (f : DecodeFault). Err f) (sym h.1)
+only_filters asks packet at bytes (Err fault) known (inr h) = ap (made_of packet) (filters_bad asks (left_from at bytes) fault known h)
+
 only_refused : (rule : PacketRule) → OnlyRead (refused rule)
 only_refused rule at bytes (Ok entry) known h = absurd h
 only_refused rule at bytes (Err fault) known h = ap (λ (f : DecodeFault). Err f) (sym h)
-
-only_missing : (rule : PacketRule) → OnlyRead (missing rule)
-only_missing rule at bytes (Ok entry) known h = absurd h
-only_missing rule at bytes (Err fault) known h = ap (λ (f : DecodeFault). Err f) (sym h)
 
 pub only_read : (format : Format) → OnlyRead format
 only_read (done packet) at bytes r known h = only_done packet at bytes r known h
 only_read (rest packet) at bytes r known h = only_rest packet at bytes r known h
 only_read (all_codes table packet) at bytes r known h = only_codes table packet at bytes r known h
+only_read (all_filters asks packet) at bytes r known h = only_filters asks packet at bytes r known h
 only_read (refused rule) at bytes r known h = only_refused rule at bytes r known h
-only_read (missing rule) at bytes r known h = only_missing rule at bytes r known h
 only_read (field kind objection next) at bytes r known h = only_field kind objection next at bytes known (λ value. only_read (next value)) r h
 only_read (at_end whole more) at bytes r known h = only_at_end whole more (only_read whole) (only_read more) at bytes r known h
 
 -- A first byte and a body come to what is decoded, and to nothing else.
-comes_of : (first : ℕ) (body : List ℕ) (r : Result Entry DecodeFault) → Is (format_of first (length body)) (body_start (length body)) body r → Comes first body r
+comes_of : (first : ℕ) (body : List ℕ) (r : Result Entry DecodeFault) → Is (format_of first) (body_start (length body)) body r → Comes first body r
 comes_of first body (Ok entry) h = h
 comes_of first body (Err (Broken fault)) h = h
 comes_of first body (Err (OtherVersion version)) h = h
 
-is_of : (first : ℕ) (body : List ℕ) (r : Result Entry DecodeFault) → Comes first body r → Is (format_of first (length body)) (body_start (length body)) body r
+is_of : (first : ℕ) (body : List ℕ) (r : Result Entry DecodeFault) → Comes first body r → Is (format_of first) (body_start (length body)) body r
 is_of first body (Ok entry) h = h
 is_of first body (Err (Broken fault)) h = h
 is_of first body (Err (OtherVersion version)) h = h
 
 pub comes_to_decoded : (first : ℕ) (body : List ℕ) → AreBytes body → Comes first body (decoded first body)
 unfolding decoded
-comes_to_decoded first body known = comes_of first body (decoded first body) (is_read (format_of first (length body)) (body_start (length body)) body known)
+comes_to_decoded first body known = comes_of first body (decoded first body) (is_read (format_of first) (body_start (length body)) body known)
 
 pub decoded_only : (first : ℕ) (body : List ℕ) (r : Result Entry DecodeFault) → AreBytes body → Comes first body r → decoded first body ≡ r
 unfolding decoded
-decoded_only first body r known h = only_read (format_of first (length body)) (body_start (length body)) body r known (is_of first body r h)
+decoded_only first body r known h = only_read (format_of first) (body_start (length body)) body r known (is_of first body r h)
 
 -- exactly one thing
 pub one_outcome : (first : ℕ) (body : List ℕ) → AreBytes body → (outcome : Result Entry DecodeFault) × Comes first body outcome × ((other : Result Entry DecodeFault) → Comes first body other → outcome ≡ other)

@@ -1,7 +1,6 @@
 -- What spells a packet is what is written of it, or a short form of that.
 use Rattle.std.proofs.Common.{◌≡◌, ℕ, zero, suc, ◌+◌, ◌*◌, ◌<◌, ◌≤◌, inl, inr, Bool, true, false, ◌||◌, not, List, [], ◌∷◌, ◌++◌, length, Option, Some, None, refl, sym, ◌∙◌, ap, subst, arith, append_assoc}
 use Rattle.std.specs.Prelude.{nat_lt, ◌==◌, if◌then◌else◌, is_some, IfSome, bit_and, bytes_eq, codes}
-use Rattle.std.specs.List.{AllByRecursion}
 use Rattle.std.specs.Str.{IsUtf8}
 use Rattle.std.proofs.lemmas.Bool.{eqb-true, ltb-true, agree_below_at}
 use Rattle.std.proofs.lemmas.List.{append-nil}
@@ -18,13 +17,14 @@ use Rattle.mq_packet.specs.declared.packet.EndingKind.TheVariants as endings
 use Rattle.mq_packet.specs.declared.packet.RequestKind.{RequestKind}
 use Rattle.mq_packet.specs.declared.packet.RequestKind.TheVariants as requests
 use Rattle.mq_packet.specs.declared.rule.PacketRule.TheVariants as rules
-use Rattle.mq_packet.specs.Entries.{Entry, request, pingreq, pingresp, WillFields, ConnectFields, AskedFilter, listed, none_listed, acknowledgement_place, request_place, has_options}
-use Rattle.mq_packet.specs.Formats.{Kind, text, binary, Value, other_version, version_objection, Format, done, rest, all_codes, refused, missing, field, at_end, field_if, will_if, are_connect_flags, has_bits, qos_of, options_if, filters_format, connect_format, connack_format, publish_from, publish_unacknowledged, publish_acknowledged, publish_format, acknowledgement_format, request_format, answer_format, ending_format, format_of}
-use Rattle.mq_packet.specs.Asking.{options_spelling, asked_spelling, filters_spelling}
+use Rattle.mq_packet.specs.Entries.{Entry, pingreq, pingresp, WillFields, ConnectFields, AskedFilter, listed, none_listed, acknowledgement_place, has_options}
+use Rattle.mq_packet.specs.Formats.{Kind, text, binary, Value, other_version, version_objection, Format, done, rest, all_codes, all_filters, refused, field, at_end, field_if, will_if, are_connect_flags, has_bits, qos_of, connect_format, connack_format, publish_from, publish_unacknowledged, publish_acknowledged, publish_format, acknowledgement_format, request_format, answer_format, ending_format, format_of}
+use Rattle.mq_packet.specs.Asking.{filters_spelling, AreAsked}
 use Rattle.mq_packet.specs.Spelled.{IsValue, spelling, Spells, IsSpelled}
 use Rattle.mq_packet.specs.Canonical.{acknowledgement_type, acknowledgement_flags, request_type, answer_type, type_number, bit, qos_bits, will_flags, connect_flags, spelling_if, list_spelling, will_spelling, first_byte, connect_body, connack_body, publish_body, request_body, answer_body}
-use Rattle.mq_packet.specs.Valid.{IsListed, IsWill, IsAskedFilter, IsTyped}
+use Rattle.mq_packet.specs.Valid.{IsListed, IsWill, IsTyped}
 use Rattle.mq_packet.specs.ShortForms.{SpellsEnd, IsBodyOf}
+use Rattle.mq_packet.proofs.RequestLaws.{all_typed}
 use Rattle.mq_packet.proofs.ValueLaws.{not_objected}
 
 -- ---- what the fields of a format write
@@ -34,8 +34,8 @@ abbrev Writes : (Entry → List ℕ → Type 0) → Format → (List ℕ → Lis
 Writes P (done packet) f = P packet (f [])
 Writes P (rest packet) f = (bytes : List ℕ) → P (packet bytes) (f bytes)
 Writes P (all_codes table packet) f = (reasons : List ℕ) → P (packet reasons) (f reasons)
+Writes P (all_filters asks packet) f = (filters : List AskedFilter) → AreAsked asks filters → P (packet filters) (f (filters_spelling filters))
 Writes P (refused rule) f = Unit {0}
-Writes P (missing rule) f = Unit {0}
 Writes P (field kind objection next) f = (value : Value kind) → IsValue kind value → objection value ≡ None → Writes P (next value) (λ left. f (spelling kind value ++ left))
 Writes P (at_end whole more) f = Writes P whole f × Writes P more f
 
@@ -44,8 +44,8 @@ written : (P : Entry → List ℕ → Type 0) (format : Format) (f : List ℕ �
 written P (done packet) f bytes entry h spelled = subst (λ (b : List ℕ). P entry (f b)) (sym spelled.0) (subst (λ (e : Entry). P e (f [])) spelled.1 h)
 written P (rest packet) f bytes entry h spelled = subst (λ (e : Entry). P e (f bytes)) spelled (h bytes)
 written P (all_codes table packet) f bytes entry h spelled = subst (λ (e : Entry). P e (f bytes)) spelled.1 (h bytes)
+written P (all_filters asks packet) f bytes entry h spelled = subst (λ (b : List ℕ). P entry (f b)) (sym spelled.2) (subst (λ (e : Entry). P e (f (filters_spelling spelled.0))) spelled.3 (h spelled.0 spelled.1))
 written P (refused rule) f bytes entry h spelled = absurd spelled
-written P (missing rule) f bytes entry h spelled = absurd spelled
 written P (field kind objection next) f bytes entry h spelled =
     subst (λ (b : List ℕ). P entry (f b)) (sym spelled.2.spelled)
     (written P (next spelled.0) (λ left. f (spelling kind spelled.0 ++ left)) spelled.1 entry (h spelled.0 spelled.2.is_value spelled.3) spelled.4)
@@ -57,8 +57,8 @@ writes_alike : (P : Entry → List ℕ → Type 0) (format : Format) (f g : List
 writes_alike P (done packet) f g e h = subst (λ (b : List ℕ). P packet b) (e []) h
 writes_alike P (rest packet) f g e h = λ bytes. subst (λ (b : List ℕ). P (packet bytes) b) (e bytes) (h bytes)
 writes_alike P (all_codes table packet) f g e h = λ reasons. subst (λ (b : List ℕ). P (packet reasons) b) (e reasons) (h reasons)
+writes_alike P (all_filters asks packet) f g e h = λ filters are. subst (λ (b : List ℕ). P (packet filters) b) (e (filters_spelling filters)) (h filters are)
 writes_alike P (refused rule) f g e h = tt
-writes_alike P (missing rule) f g e h = tt
 writes_alike P (field kind objection next) f g e h = λ value is none.
     writes_alike P (next value) (λ left. f (spelling kind value ++ left)) (λ left. g (spelling kind value ++ left)) (λ left. e (spelling kind value ++ left)) (h value is none)
 writes_alike P (at_end whole more) f g e h = (writes_alike P whole f g e h.0, writes_alike P more f g e h.1)
@@ -92,12 +92,6 @@ will_if_writes P true flags next f h = λ list is_list _ topic is_topic _ payloa
     let joined : (left : List ℕ) → will_spelling will ++ left ≡ list_spelling list ++ (text_spelling topic ++ (binary_spelling payload ++ left)) =
     λ left. append_assoc (list_spelling list) (text_spelling topic ++ binary_spelling payload) left ∙ ap (λ (l : List ℕ). list_spelling list ++ l) (append_assoc (text_spelling topic) (binary_spelling payload) left) in
     writes_alike P (next (Some will)) (λ left. f (will_spelling will ++ left)) (λ left. f (list_spelling list ++ (text_spelling topic ++ (binary_spelling payload ++ left)))) (λ left. ap f (joined left)) (h (Some will) refl typed))
-
-options_if_writes : (P : Entry → List ℕ → Type 0) (asks : Bool) (next : Option ℕ → Format) (f : List ℕ → List ℕ)
-    → ((options : Option ℕ) → IfSome options (λ o. o < 256) → Writes P (next options) (λ left. f (options_spelling options ++ left)))
-    → Writes P (options_if asks next) f
-options_if_writes P false next f h = h None tt
-options_if_writes P true next f h = λ options is none. h (Some options) is
 
 -- ---- the numbers of the flags
 
@@ -294,43 +288,14 @@ auth_writes first first_is = (
 
 -- ---- SUBSCRIBE, UNSUBSCRIBE and their answers
 
--- One filter more after those that were found.
-grown : (found : List AskedFilter) (asked : AskedFilter) (left : List ℕ) → filters_spelling (found ++ asked ∷ []) ++ left ≡ filters_spelling found ++ (text_spelling asked.filter ++ (options_spelling asked.options ++ left))
-grown [] asked left = append_assoc (asked_spelling asked) [] left ∙ append_assoc (text_spelling asked.filter) (options_spelling asked.options) left
-grown (g ∷ found) asked left =
-    append_assoc (asked_spelling g) (filters_spelling (found ++ asked ∷ [])) left
-    ∙ (ap (λ (l : List ℕ). asked_spelling g ++ l) (grown found asked left)
-    ∙ sym (append_assoc (asked_spelling g) (filters_spelling found) (text_spelling asked.filter ++ (options_spelling asked.options ++ left))))
-
-each_more : (found : List AskedFilter) (asked : AskedFilter) → AllByRecursion IsAskedFilter found → IsAskedFilter asked → AllByRecursion IsAskedFilter (found ++ asked ∷ [])
-each_more [] asked each is = (is, tt)
-each_more (g ∷ found) asked each is = (each.0, each_more found asked each.1 is)
-
-module _ (P : Entry → List ℕ → Type 0) (asks : Bool) (packet : List AskedFilter → Entry) (front : List ℕ → List ℕ)
-    (good : (filters : List AskedFilter) → AllByRecursion IsAskedFilter filters → P (packet filters) (front (filters_spelling filters))) where
-  filters_end : (found : List AskedFilter) → AllByRecursion IsAskedFilter found → (f : List ℕ → List ℕ) → ((left : List ℕ) → f left ≡ front (filters_spelling found ++ left)) → P (packet found) (f [])
-  filters_end found each f e = subst (λ (b : List ℕ). P (packet found) b) (sym (e [] ∙ ap front (append-nil (filters_spelling found)))) (good found each)
-
-  filters_write : (n : ℕ) (found : List AskedFilter) → AllByRecursion IsAskedFilter found → (f : List ℕ → List ℕ) → ((left : List ℕ) → f left ≡ front (filters_spelling found ++ left)) → Writes P (filters_format n asks packet found) f
-  filters_write zero found each f e = filters_end found each f e
-  filters_write (suc n) found each f e = (
-    elim (length found == 0) as (λ t. Writes P (if t then missing rules.W16 else done (packet found)) f) [ true ↦ tt | false ↦ filters_end found each f e ],
-    λ filter is_filter _. options_if_writes P asks (λ options. filters_format n asks packet (found ++ record { filter = filter; options = options } ∷ [])) (λ left. f (text_spelling filter ++ left)) (λ options is_options.
-        (let asked : AskedFilter = record { filter = filter; options = options } in
-        filters_write n (found ++ asked ∷ []) (each_more found asked each (record { filter = is_filter.utf8; options = is_options })) (λ left. f (text_spelling filter ++ (options_spelling options ++ left)))
-        (λ left. e (text_spelling filter ++ (options_spelling options ++ left)) ∙ ap front (sym (grown found asked left))))),
-  )
-
-request_writes : (first size : ℕ) (kind : RequestKind) → first ≡ 16 * type_number (request_type kind) + 2 → Writes (IsMade first) (request_format size kind) (λ left. left)
+request_writes : (first : ℕ) (kind : RequestKind) → first ≡ 16 * type_number (request_type kind) + 2 → Writes (IsMade first) (request_format kind) (λ left. left)
 unfolding request_body
-request_writes first size kind first_is = λ identifier is_identifier _ list is_list _.
-    filters_write (IsMade first) (has_options kind) (request kind identifier (listed (request_place kind) list)) (λ l. two_bytes_spelling identifier ++ (list_spelling list ++ l))
-    (λ filters each. record {
+request_writes first kind first_is = λ identifier is_identifier _ list is_list _ filters are.
+    record {
       first_is = first_is;
       body_is = refl;
-      typed = record { identified = record { bound = is_identifier; properties = record { allowed = is_list.0; bound = is_list.1 } }; each = each };
-    })
-    size [] tt (λ left. two_bytes_spelling identifier ++ (list_spelling list ++ left)) (λ left. refl)
+      typed = record { identified = record { bound = is_identifier; properties = record { allowed = is_list.0; bound = is_list.1 } }; each = all_typed (has_options kind) filters are.each };
+    }
 
 answer_writes : (first : ℕ) (kind : RequestKind) → first ≡ 16 * type_number (answer_type kind) + 0 → Writes (IsMade first) (answer_format kind) (λ left. left)
 unfolding answer_body
@@ -343,8 +308,8 @@ answer_writes first kind first_is = λ identifier is_identifier _ list is_list _
 
 -- ---- any first byte
 
-format_writes : (first size : ℕ) → Writes (IsMade first) (format_of first size) (λ left. left)
-format_writes first size =
+format_writes : (first : ℕ) → Writes (IsMade first) (format_of first) (λ left. left)
+format_writes first =
     or_known (IsMade first) (nat_lt first 16) (refused rules.W02) _ (λ _. tt) (λ _.
     or_known (IsMade first) (first == 16) connect_format _ (λ is. connect_writes first (eqb-true first 16 is)) (λ _.
     or_known (IsMade first) (first == 32) connack_format _ (λ is. connack_writes first (eqb-true first 32 is)) (λ _.
@@ -354,9 +319,9 @@ format_writes first size =
     or_known (IsMade first) (first == 80) (acknowledgement_format acknowledgements.Pubrec) _ (λ is. acknowledgement_writes first acknowledgements.Pubrec (eqb-true first 80 is)) (λ _.
     or_known (IsMade first) (first == 98) (acknowledgement_format acknowledgements.Pubrel) _ (λ is. acknowledgement_writes first acknowledgements.Pubrel (eqb-true first 98 is)) (λ _.
     or_known (IsMade first) (first == 112) (acknowledgement_format acknowledgements.Pubcomp) _ (λ is. acknowledgement_writes first acknowledgements.Pubcomp (eqb-true first 112 is)) (λ _.
-    or_known (IsMade first) (first == 130) (request_format size requests.Subscribe) _ (λ is. request_writes first size requests.Subscribe (eqb-true first 130 is)) (λ _.
+    or_known (IsMade first) (first == 130) (request_format requests.Subscribe) _ (λ is. request_writes first requests.Subscribe (eqb-true first 130 is)) (λ _.
     or_known (IsMade first) (first == 144) (answer_format requests.Subscribe) _ (λ is. answer_writes first requests.Subscribe (eqb-true first 144 is)) (λ _.
-    or_known (IsMade first) (first == 162) (request_format size requests.Unsubscribe) _ (λ is. request_writes first size requests.Unsubscribe (eqb-true first 162 is)) (λ _.
+    or_known (IsMade first) (first == 162) (request_format requests.Unsubscribe) _ (λ is. request_writes first requests.Unsubscribe (eqb-true first 162 is)) (λ _.
     or_known (IsMade first) (first == 176) (answer_format requests.Unsubscribe) _ (λ is. answer_writes first requests.Unsubscribe (eqb-true first 176 is)) (λ _.
     or_known (IsMade first) (first == 192) (done pingreq) _ (λ is. record { first_is = eqb-true first 192 is; body_is = refl; typed = tt }) (λ _.
     or_known (IsMade first) (first == 208) (done pingresp) _ (λ is. record { first_is = eqb-true first 208 is; body_is = refl; typed = tt }) (λ _.
@@ -365,4 +330,4 @@ format_writes first size =
 
 -- A packet that is spelled has this first byte, and a body that is one of its own.
 pub spelled_made : (first : ℕ) (body : List ℕ) (entry : Entry) → IsSpelled first body entry → IsMade first entry body
-spelled_made first body entry h = written (IsMade first) (format_of first (length body)) (λ left. left) body entry (format_writes first (length body)) h
+spelled_made first body entry h = written (IsMade first) (format_of first) (λ left. left) body entry (format_writes first) h

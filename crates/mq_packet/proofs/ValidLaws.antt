@@ -1,10 +1,9 @@
 -- What some bytes spell is valid.
-use Rattle.std.proofs.Common.{◌≡◌, ℕ, zero, suc, ◌+◌, ◌<◌, ◌↔◌, Bool, true, false, List, [], ◌∷◌, ◌++◌, length, Option, Some, None, refl, sym, ◌∙◌, ap, arith, length-append}
+use Rattle.std.proofs.Common.{◌≡◌, ℕ, ◌↔◌, Bool, true, false, List, [], ◌∷◌, Option, Some, None, refl, sym, ◌∙◌, ap}
 use Rattle.std.specs.Prelude.{nat_lt, ◌==◌, if◌then◌else◌, IfSome, bit_and}
-use Rattle.std.specs.List.{list_all}
-use Rattle.std.proofs.lemmas.Bool.{and_from, ne_eqb, not_from_false}
-use Rattle.std.proofs.lemmas.List.Folds.{list_all-append}
-use Rattle.mq_wire.specs.Spellings.{IsText, IsBinary, two_bytes_spelling}
+use Rattle.std.specs.Bool.{beq}
+use Rattle.std.proofs.lemmas.Bool.{and_from}
+use Rattle.mq_wire.specs.Spellings.{IsText, IsBinary}
 use Rattle.mq_topic.specs.Levels.{is_name}
 use Rattle.mq_props.specs.declared.table.Place.{Place}
 use Rattle.mq_props.specs.declared.table.Place.TheVariants as places
@@ -19,12 +18,13 @@ use Rattle.mq_packet.specs.declared.packet.RequestKind.{RequestKind}
 use Rattle.mq_packet.specs.declared.packet.RequestKind.TheVariants as requests
 use Rattle.mq_packet.specs.declared.rule.PacketRule.{PacketRule}
 use Rattle.mq_packet.specs.declared.rule.PacketRule.TheVariants as rules
-use Rattle.mq_packet.specs.Entries.{Entry, connect, connack, publish, acknowledgement, request, answer, pingreq, pingresp, disconnect, auth, WillFields, AskedFilter, listed, acknowledgement_place, acknowledgement_codes, request_place, answer_place, has_options}
-use Rattle.mq_packet.specs.Formats.{byte, text, binary, properties, Format, done, refused, missing, field, at_end, field_if, will_if, is_code, names_topic, is_filter, are_options, has_bits, qos_of, options_if, filters_format, connect_from, connect_format, connack_format, publish_from, publish_unacknowledged, publish_acknowledged, publish_format, acknowledgement_format, request_format, answer_format, ending_format, any_value, code_objection, filter_objection, format_of}
+use Rattle.mq_packet.specs.Entries.{Entry, connect, connack, publish, acknowledgement, request, answer, pingreq, pingresp, disconnect, auth, WillFields, listed, acknowledgement_place, acknowledgement_codes, request_place, answer_place, has_options}
+use Rattle.mq_packet.specs.Formats.{byte, text, binary, properties, Format, done, refused, field, at_end, field_if, will_if, is_code, names_topic, has_bits, qos_of, connect_from, connect_format, connack_format, publish_from, publish_unacknowledged, publish_acknowledged, publish_format, acknowledgement_format, request_format, answer_format, ending_format, any_value, code_objection, format_of}
 use Rattle.mq_packet.specs.Spelled.{Spells, IsSpelled}
-use Rattle.mq_packet.specs.Valid.{is_text, is_binary, is_identifier, if_there, fits_qos, fits_request, valid_will, valid_connect, valid_connack, valid_publish, valid_acknowledgement, valid_filter, valid_filters, valid_request, valid_answer, valid_disconnect, valid_auth, valid, IsTyped}
+use Rattle.mq_packet.specs.Valid.{is_text, is_binary, is_identifier, if_there, fits_qos, valid_will, valid_connect, valid_connack, valid_publish, valid_acknowledgement, valid_filters, valid_request, valid_answer, valid_disconnect, valid_auth, valid, IsTyped}
 use Rattle.mq_packet.specs.Canonical.{first_byte, canonical_body}
 use Rattle.mq_packet.proofs.CanonicalLaws.{canonical_spelled}
+use Rattle.mq_packet.proofs.RequestLaws.{filters_fit}
 use Rattle.mq_packet.proofs.ValueLaws.{same_as_itself, text_passes, binary_passes, not_objected, field_if_says, if_there_from}
 
 -- What a format spells is valid.
@@ -122,42 +122,16 @@ publish_sound first =
 
 -- ---- SUBSCRIBE, UNSUBSCRIBE and their answers
 
--- What the options of a filter are.
-options_say : (asks : Bool) (next : Option ℕ → Format) (bytes : List ℕ) (entry : Entry) → Spells (options_if asks next) bytes entry
-    → (options : Option ℕ) × (left : List ℕ) × (fits_request asks options ≡ true) × Spells (next options) left entry
-options_say false next bytes entry h = (None, bytes, refl, h)
-options_say true next bytes entry h = (Some h.0, h.1, not_objected (are_options h.0) rules.W17 h.3, h.4)
-
--- One more filter after those that were found.
-one_more : (asks : Bool) (found : List AskedFilter) (asked : AskedFilter) → list_all (valid_filter asks) found ≡ true → valid_filter asks asked ≡ true → list_all (valid_filter asks) (found ++ asked ∷ []) ≡ true
-one_more asks found asked all this = list_all-append (valid_filter asks) found (asked ∷ []) ∙ and_from _ _ all (and_from _ _ this refl)
-
-filters_sound : (asks : Bool) (packet : List AskedFilter → Entry) → ((filters : List AskedFilter) → valid_filters asks filters ≡ true → valid (packet filters) ≡ true)
-    → (n : ℕ) (found : List AskedFilter) → 0 < n + length found → list_all (valid_filter asks) found ≡ true → IsSound (filters_format n asks packet found)
-unfolding valid_filters valid_filter
-filters_sound asks packet good zero found some all = done_sound (packet found) (good found (and_from _ _ (not_from_false (length found == 0) (ne_eqb (length found) 0 (λ (z : length found ≡ 0). omega arith))) all))
-filters_sound asks packet good (suc n) found some all =
-    at_end_sound (if length found == 0 then missing rules.W16 else done (packet found))
-    (field text filter_objection (λ filter. options_if asks (λ options. filters_format n asks packet (found ++ record { filter = filter; options = options } ∷ []))))
-    (elim (length found == 0) as (λ t. (length found == 0) ≡ t → IsSound (if t then missing rules.W16 else done (packet found))) [
-      | true ↦ λ _ bytes entry h. absurd h
-      | false ↦ λ e. done_sound (packet found) (good found (and_from _ _ (not_from_false (length found == 0) e) all))
-    ] refl)
-    (λ bytes entry h.
-    (let said : (options : Option ℕ) × (left : List ℕ) × (fits_request asks options ≡ true) × Spells (filters_format n asks packet (found ++ record { filter = h.0; options = options } ∷ [])) left entry =
-    options_say asks (λ options. filters_format n asks packet (found ++ record { filter = h.0; options = options } ∷ [])) h.1 entry h.4 in
-    let this : valid_filter asks (record { filter = h.0; options = said.0 }) ≡ true = and_from _ _ (text_passes h.0 h.2.is_value) (and_from _ _ (not_objected (is_filter h.0) rules.W15 h.3) said.2) in
-    let grown : length (found ++ record { filter = h.0; options = said.0 } ∷ []) ≡ length found + 1 = simp length-append in
-    filters_sound asks packet good n (found ++ record { filter = h.0; options = said.0 } ∷ []) (omega arith) (one_more asks found (record { filter = h.0; options = said.0 }) all this) said.1 entry said.3))
-
-request_sound : (size : ℕ) (kind : RequestKind) (bytes : List ℕ) (entry : Entry) → size ≡ length bytes → Spells (request_format size kind) bytes entry → valid entry ≡ true
+request_sound : (kind : RequestKind) → IsSound (request_format kind)
 unfolding valid_request
-request_sound size kind bytes entry is h =
+request_sound kind bytes entry h =
     (let known : is_identifier h.0 ≡ true = not_objected (is_identifier h.0) rules.W09 h.3 in
-    let some : length bytes ≡ length (two_bytes_spelling h.0) + length h.1 = ap length h.2.spelled ∙ length-append (two_bytes_spelling h.0) h.1 in
-    filters_sound (has_options kind) (request kind h.0 (listed (request_place kind) h.4.0))
-    (λ filters e. and_from _ _ (same_as_itself (request_place kind)) (and_from _ _ known e))
-    size [] (omega arith) refl h.4.1 entry h.4.4)
+    let good : valid_filters (has_options kind) h.4.4.0 ≡ true = filters_fit (has_options kind) (has_options kind) h.4.4.0 h.4.4.1 ∙ same (has_options kind) in
+    by_packet (request kind h.0 (listed (request_place kind) h.4.0) h.4.4.0) entry h.4.4.3 (and_from _ _ (same_as_itself (request_place kind)) (and_from _ _ known good)))
+  where
+    same : (b : Bool) → beq b b ≡ true
+    same true = refl
+    same false = refl
 
 answer_sound : (kind : RequestKind) → IsSound (answer_format kind)
 unfolding valid_answer
@@ -197,41 +171,29 @@ connect_sound bytes entry h = connect_from_sound h.4.4.0 h.4.4.1 entry h.4.4.4
 
 -- ---- any first byte
 
--- What a format spells of so many bytes is valid.
-abbrev IsSoundAt : ℕ → Format → Type 0
-IsSoundAt size format = (bytes : List ℕ) (entry : Entry) → size ≡ length bytes → Spells format bytes entry → valid entry ≡ true
-
-at_any : (size : ℕ) (format : Format) → IsSound format → IsSoundAt size format
-at_any size format sound bytes entry is h = sound bytes entry h
-
--- One choice by the first byte.
-or_next : (size : ℕ) (b : Bool) (one two : Format) → IsSoundAt size one → IsSoundAt size two → IsSoundAt size (if b then one else two)
-or_next size true one two h k = h
-or_next size false one two h k = k
-
-format_sound : (first size : ℕ) → IsSoundAt size (format_of first size)
-format_sound first size =
-    or_next size (nat_lt first 16) _ _ (at_any size (refused rules.W02) (refused_sound rules.W02)) (
-    or_next size (first == 16) _ _ (at_any size connect_format connect_sound) (
-    or_next size (first == 32) _ _ (at_any size connack_format connack_sound) (
-    or_next size (nat_lt first 48) _ _ (at_any size (refused rules.W01) (refused_sound rules.W01)) (
-    or_next size (nat_lt first 64) _ _ (at_any size (publish_format first) (publish_sound first)) (
-    or_next size (first == 64) _ _ (at_any size (acknowledgement_format acknowledgements.Puback) (acknowledgement_sound acknowledgements.Puback)) (
-    or_next size (first == 80) _ _ (at_any size (acknowledgement_format acknowledgements.Pubrec) (acknowledgement_sound acknowledgements.Pubrec)) (
-    or_next size (first == 98) _ _ (at_any size (acknowledgement_format acknowledgements.Pubrel) (acknowledgement_sound acknowledgements.Pubrel)) (
-    or_next size (first == 112) _ _ (at_any size (acknowledgement_format acknowledgements.Pubcomp) (acknowledgement_sound acknowledgements.Pubcomp)) (
-    or_next size (first == 130) _ _ (request_sound size requests.Subscribe) (
-    or_next size (first == 144) _ _ (at_any size (answer_format requests.Subscribe) (answer_sound requests.Subscribe)) (
-    or_next size (first == 162) _ _ (request_sound size requests.Unsubscribe) (
-    or_next size (first == 176) _ _ (at_any size (answer_format requests.Unsubscribe) (answer_sound requests.Unsubscribe)) (
-    or_next size (first == 192) _ _ (at_any size (done pingreq) (done_sound pingreq refl)) (
-    or_next size (first == 208) _ _ (at_any size (done pingresp) (done_sound pingresp refl)) (
-    or_next size (first == 224) _ _ (at_any size (ending_format endings.Disconnect) disconnect_sound) (
-    or_next size (first == 240) _ _ (at_any size (ending_format endings.Auth) auth_sound)
-    (at_any size (refused rules.W01) (refused_sound rules.W01))))))))))))))))))
+format_sound : (first : ℕ) → IsSound (format_of first)
+format_sound first =
+    if_sound (nat_lt first 16) _ _ (refused_sound rules.W02) (
+    if_sound (first == 16) _ _ connect_sound (
+    if_sound (first == 32) _ _ connack_sound (
+    if_sound (nat_lt first 48) _ _ (refused_sound rules.W01) (
+    if_sound (nat_lt first 64) _ _ (publish_sound first) (
+    if_sound (first == 64) _ _ (acknowledgement_sound acknowledgements.Puback) (
+    if_sound (first == 80) _ _ (acknowledgement_sound acknowledgements.Pubrec) (
+    if_sound (first == 98) _ _ (acknowledgement_sound acknowledgements.Pubrel) (
+    if_sound (first == 112) _ _ (acknowledgement_sound acknowledgements.Pubcomp) (
+    if_sound (first == 130) _ _ (request_sound requests.Subscribe) (
+    if_sound (first == 144) _ _ (answer_sound requests.Subscribe) (
+    if_sound (first == 162) _ _ (request_sound requests.Unsubscribe) (
+    if_sound (first == 176) _ _ (answer_sound requests.Unsubscribe) (
+    if_sound (first == 192) _ _ (done_sound pingreq refl) (
+    if_sound (first == 208) _ _ (done_sound pingresp refl) (
+    if_sound (first == 224) _ _ disconnect_sound (
+    if_sound (first == 240) _ _ auth_sound
+    (refused_sound rules.W01)))))))))))))))))
 
 pub spelled_valid : (first : ℕ) (body : List ℕ) (entry : Entry) → IsSpelled first body entry → valid entry ≡ true
-spelled_valid first body entry h = format_sound first (length body) body entry refl h
+spelled_valid first body entry h = format_sound first body entry h
 
 -- A packet is valid exactly where it is spelled.
 pub valid_exactly : (entry : Entry) → IsTyped entry → (given : Bool) → given ≡ valid entry → (given ≡ true) ↔ ((first : ℕ) × (body : List ℕ) × IsSpelled first body entry)

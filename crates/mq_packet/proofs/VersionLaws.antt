@@ -18,11 +18,11 @@ use Rattle.mq_packet.specs.declared.rule.PacketRule.{PacketRule}
 use Rattle.mq_packet.specs.declared.rule.PacketRule.TheVariants as rules
 use Rattle.mq_packet.specs.declared.fault.DecodeFault.{DecodeFault}
 use Rattle.mq_packet.specs.declared.fault.DecodeFault.TheVariants.{OtherVersion}
-use Rattle.mq_packet.specs.Entries.{Entry, WillFields, AskedFilter, listed, acknowledgement_codes, has_options, request_place, request, pingreq, pingresp, ending_codes}
-use Rattle.mq_packet.specs.Formats.{Kind, byte, two_bytes, text, binary, properties, Value, Objection, breaks, other_version, unless_broken, name_objection, version_objection, are_connect_flags, connect_flags_objection, is_code, names_topic, is_filter, are_options, Format, done, rest, all_codes, refused, missing, field, at_end, field_if, will_if, has_bits, options_if, filters_format, connect_from, connect_format, connack_format, publish_from, publish_unacknowledged, publish_acknowledged, publish_format, acknowledgement_format, request_format, answer_format, ending_format, format_of}
+use Rattle.mq_packet.specs.Entries.{Entry, WillFields, acknowledgement_codes, pingreq, pingresp, ending_codes}
+use Rattle.mq_packet.specs.Formats.{Kind, byte, two_bytes, text, binary, properties, Value, Objection, breaks, other_version, unless_broken, name_objection, version_objection, are_connect_flags, connect_flags_objection, is_code, names_topic, is_filter, are_options, filter_objection, options_objection, Format, done, rest, all_codes, all_filters, refused, field, at_end, field_if, will_if, has_bits, connect_from, connect_format, connack_format, publish_from, publish_unacknowledged, publish_acknowledged, publish_format, acknowledgement_format, request_format, answer_format, ending_format, format_of}
 use Rattle.mq_packet.specs.Decoding.{objected, body_start, decoded}
 use Rattle.mq_packet.specs.Misspellings.{Misspelled}
-use Rattle.mq_packet.specs.Spelled.{spelling, Fails, IsOtherVersion, Comes}
+use Rattle.mq_packet.specs.Spelled.{spelling, FailsField, FailsOptions, FailsFilter, Fails, IsOtherVersion, Comes}
 use Rattle.mq_packet.specs.Versions.{IsConnectOfVersion}
 use Rattle.mq_packet.specs.Valid.{is_identifier}
 use Rattle.mq_packet.proofs.ValueLaws.{text_value, not_objected}
@@ -41,8 +41,8 @@ abbrev HasNoVersion : Format → Type 0
 HasNoVersion (done packet) = Unit {0}
 HasNoVersion (rest packet) = Unit {0}
 HasNoVersion (all_codes table packet) = Unit {0}
+HasNoVersion (all_filters asks packet) = Unit {0}
 HasNoVersion (refused rule) = Unit {0}
-HasNoVersion (missing rule) = Unit {0}
 HasNoVersion (field kind objection next) = (value : Value kind) → IsRule (objection value) × HasNoVersion (next value)
 HasNoVersion (at_end whole more) = HasNoVersion whole × HasNoVersion more
 
@@ -62,13 +62,26 @@ objected_no : (o : Option Objection) (why : Objection) (at version : ℕ) → Is
 objected_no o (breaks rule) at version h is e = cc
 objected_no o (other_version w) at version h is e = subst (λ (x : Option Objection). IsRule x) is h
 
+field_no : (kind : Kind) (objection : Value kind → Option Objection) → ((value : Value kind) → IsRule (objection value)) → (at : ℕ) (bytes : List ℕ) (version : ℕ) → FailsField kind objection at bytes (OtherVersion version) → ⊥
+field_no kind objection rule at bytes version (inl fails) = misspelled_no kind at bytes version fails
+field_no kind objection rule at bytes version (inr fails) = objected_no (objection fails.1.0) fails.0 at version (rule fails.1.0) fails.1.3 fails.2
+
+options_no : (asks : Bool) (at : ℕ) (bytes : List ℕ) (version : ℕ) → FailsOptions asks at bytes (OtherVersion version) → ⊥
+options_no false at bytes version fails = fails
+options_no true at bytes version fails = field_no byte options_objection (λ options. broken_rule (are_options options) rules.W17) at bytes version fails
+
+filter_no : (asks : Bool) (at : ℕ) (bytes : List ℕ) (version : ℕ) → FailsFilter asks at bytes (OtherVersion version) → ⊥
+filter_no asks at bytes version (inl fails) = field_no text filter_objection (λ filter. broken_rule (is_filter filter) rules.W15) at bytes version fails
+filter_no asks at bytes version (inr fails) = options_no asks _ fails.1 version fails.4
+
 -- So none is ever found.
 no_version : (format : Format) → HasNoVersion format → (at : ℕ) (bytes : List ℕ) (version : ℕ) → Fails format at bytes (OtherVersion version) → ⊥
 no_version (done packet) h at bytes version fails = (let never = fails.1 in cc)
 no_version (rest packet) h at bytes version fails = fails
 no_version (all_codes table packet) h at bytes version fails = (let never = fails.is in cc)
+no_version (all_filters asks packet) h at bytes version (inl fails) = (let never = fails.1 in cc)
+no_version (all_filters asks packet) h at bytes version (inr fails) = filter_no asks _ fails.others version fails.refused
 no_version (refused rule) h at bytes version fails = cc
-no_version (missing rule) h at bytes version fails = cc
 no_version (field kind objection next) h at bytes version (inl fails) = misspelled_no kind at bytes version fails
 no_version (field kind objection next) h at bytes version (inr (inl fails)) = objected_no (objection fails.1.0) fails.0 at version (h fails.1.0).0 fails.1.3 fails.2
 no_version (field kind objection next) h at bytes version (inr (inr fails)) = no_version (next fails.0) (h fails.0).1 _ fails.1 version fails.4
@@ -123,19 +136,8 @@ publish_none first =
 acknowledgement_none : (kind : AcknowledgementKind) → HasNoVersion (acknowledgement_format kind)
 acknowledgement_none kind = λ identifier. (broken_rule (is_identifier identifier) rules.W09, (tt, λ code. (broken_rule (is_code (acknowledgement_codes kind) code) rules.W13, (tt, λ list. (tt, tt)))))
 
-options_if_none : (asks : Bool) (next : Option ℕ → Format) → ((options : Option ℕ) → HasNoVersion (next options)) → HasNoVersion (options_if asks next)
-options_if_none false next h = h None
-options_if_none true next h = λ options. (broken_rule (are_options options) rules.W17, h (Some options))
-
-filters_none : (n : ℕ) (asks : Bool) (packet : List AskedFilter → Entry) (found : List AskedFilter) → HasNoVersion (filters_format n asks packet found)
-filters_none zero asks packet found = tt
-filters_none (suc n) asks packet found = (
-  or_next (length found == 0) (missing rules.W16) (done (packet found)) tt tt,
-  λ filter. (broken_rule (is_filter filter) rules.W15, options_if_none asks _ (λ options. filters_none n asks packet (found ++ record { filter = filter; options = options } ∷ []))),
-)
-
-request_none : (size : ℕ) (kind : RequestKind) → HasNoVersion (request_format size kind)
-request_none size kind = λ identifier. (broken_rule (is_identifier identifier) rules.W09, λ list. (tt, filters_none size (has_options kind) (request kind identifier (listed (request_place kind) list)) []))
+request_none : (kind : RequestKind) → HasNoVersion (request_format kind)
+request_none kind = λ identifier. (broken_rule (is_identifier identifier) rules.W09, λ list. (tt, tt))
 
 answer_none : (kind : RequestKind) → HasNoVersion (answer_format kind)
 answer_none kind = λ identifier. (broken_rule (is_identifier identifier) rules.W09, λ list. (tt, tt))
@@ -200,8 +202,8 @@ module _ (first at : ℕ) (body : List ℕ) (version : ℕ) where
   or_connect true two h k = connect_tells (h refl)
   or_connect false two h k = k
 
-  format_tells : (size : ℕ) → Tells (format_of first size)
-  format_tells size =
+  format_tells : Tells (format_of first)
+  format_tells =
       or_tells (nat_lt first 16) (refused rules.W02) _ tt (
       or_connect (first == 16) _ (eqb-true first 16) (
       or_tells (first == 32) connack_format _ connack_none (
@@ -211,9 +213,9 @@ module _ (first at : ℕ) (body : List ℕ) (version : ℕ) where
       or_tells (first == 80) (acknowledgement_format acknowledgements.Pubrec) _ (acknowledgement_none acknowledgements.Pubrec) (
       or_tells (first == 98) (acknowledgement_format acknowledgements.Pubrel) _ (acknowledgement_none acknowledgements.Pubrel) (
       or_tells (first == 112) (acknowledgement_format acknowledgements.Pubcomp) _ (acknowledgement_none acknowledgements.Pubcomp) (
-      or_tells (first == 130) (request_format size requests.Subscribe) _ (request_none size requests.Subscribe) (
+      or_tells (first == 130) (request_format requests.Subscribe) _ (request_none requests.Subscribe) (
       or_tells (first == 144) (answer_format requests.Subscribe) _ (answer_none requests.Subscribe) (
-      or_tells (first == 162) (request_format size requests.Unsubscribe) _ (request_none size requests.Unsubscribe) (
+      or_tells (first == 162) (request_format requests.Unsubscribe) _ (request_none requests.Unsubscribe) (
       or_tells (first == 176) (answer_format requests.Unsubscribe) _ (answer_none requests.Unsubscribe) (
       or_tells (first == 192) (done pingreq) _ tt (
       or_tells (first == 208) (done pingresp) _ tt (
@@ -221,7 +223,7 @@ module _ (first at : ℕ) (body : List ℕ) (version : ℕ) where
       or_tells (first == 240) (ending_format endings.Auth) (refused rules.W01) (ending_none endings.Auth) (none_tells (refused rules.W01) tt)))))))))))))))))
 
 version_connects : (first : ℕ) (body : List ℕ) (version : ℕ) → IsOtherVersion first body version → IsConnectOfVersion first body version
-version_connects first body version = format_tells first (body_start (length body)) body version (length body)
+version_connects first body version = format_tells first (body_start (length body)) body version
 
 -- ---- such bytes have another version
 

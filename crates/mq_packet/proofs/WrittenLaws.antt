@@ -5,8 +5,8 @@ use Rattle.std.proofs.lemmas.Bool.{ne_eqb}
 use Rattle.mq_wire.specs.Spellings.{varint_spelling}
 use Rattle.mq_packet.specs.declared.frame.Cut.TheVariants.{Frame}
 use Rattle.mq_packet.specs.declared.fault.DecodeFault.{DecodeFault}
-use Rattle.mq_packet.specs.Entries.{Entry}
-use Rattle.mq_packet.specs.Formats.{Kind, Value, Objection, Format, done, rest, all_codes, refused, missing, field, at_end, format_of}
+use Rattle.mq_packet.specs.Entries.{Entry, AskedFilter}
+use Rattle.mq_packet.specs.Formats.{Kind, Value, Objection, Format, done, rest, all_codes, all_filters, refused, field, at_end, format_of}
 use Rattle.mq_packet.specs.Spelled.{spelling, Spells, IsSpelled}
 use Rattle.mq_packet.specs.Valid.{valid, IsTyped}
 use Rattle.mq_packet.specs.Decoding.{◌>>=◌, body_start, read, decoded}
@@ -14,6 +14,7 @@ use Rattle.mq_packet.specs.Frames.{BeginsWithFrame, cut_of}
 use Rattle.mq_packet.specs.Canonical.{first_byte, canonical_body, canonical}
 use Rattle.mq_packet.proofs.FrameLaws.{begins_cut}
 use Rattle.mq_packet.proofs.CodeLaws.{codes_known}
+use Rattle.mq_packet.proofs.FilterLaws.{filters_known}
 use Rattle.mq_packet.proofs.FieldLaws.{left_from, field_read}
 use Rattle.mq_packet.proofs.Readings.{by_field, by_objection}
 use Rattle.mq_packet.proofs.CanonicalLaws.{canonical_spelled}
@@ -60,14 +61,14 @@ spelled_read : (format : Format) → ReadsSpelled format
 spelled_read (done packet) = done_reads packet
 spelled_read (rest packet) = λ at bytes entry h. ap (λ (e : Entry). Ok e) h
 spelled_read (all_codes table packet) = λ at bytes entry h. ap (λ (r : Result (List ℕ) DecodeFault). r >>= (λ reasons. Ok (packet reasons))) (codes_known table (left_from at bytes) h.0) ∙ ap (λ (e : Entry). Ok e) h.1
+spelled_read (all_filters asks packet) = λ at bytes entry h. ap (λ (r : Result (List AskedFilter) DecodeFault). r >>= (λ filters. Ok (packet filters))) (filters_known asks (left_from at bytes) h.0 h.1 h.2) ∙ ap (λ (e : Entry). Ok e) h.3
 spelled_read (refused rule) = λ at bytes entry h. absurd h
-spelled_read (missing rule) = λ at bytes entry h. absurd h
 spelled_read (field kind objection next) = field_reads kind objection next (λ value. spelled_read (next value))
 spelled_read (at_end whole more) = at_end_reads whole more (spelled_read whole) (spelled_read more)
 
 pub spelled_decoded : (first : ℕ) (body : List ℕ) (entry : Entry) → IsSpelled first body entry → decoded first body ≡ Ok entry
 unfolding decoded
-spelled_decoded first body entry h = spelled_read (format_of first (length body)) (body_start (length body)) body entry h
+spelled_decoded first body entry h = spelled_read (format_of first) (body_start (length body)) body entry h
 
 -- What is written of a valid packet is read as it.
 pub written_decoded : (entry : Entry) → IsTyped entry → valid entry ≡ true → decoded (first_byte entry) (canonical_body entry) ≡ Ok entry

@@ -1,5 +1,5 @@
 -- What a packet's bytes come to: the packet, or the first thing that isn't right with them.
-use Rattle.std.specs.Prelude.{ℕ, ◌+◌, ◌==◌, if◌then◌else◌, List, length, Option, Some, None, Result, Ok, Err}
+use Rattle.std.specs.Prelude.{ℕ, zero, suc, ◌+◌, ◌==◌, if◌then◌else◌, Bool, true, false, List, [], ◌∷◌, length, Option, Some, None, Result, Ok, Err}
 use Rattle.std.specs.List.{list_all, prefix_len}
 use Rattle.mq_wire.specs.declared.fault.Reason.{Reason}
 use Rattle.mq_wire.specs.declared.fault.Reason.TheVariants as reasons
@@ -15,8 +15,8 @@ use Rattle.mq_packet.specs.declared.rule.PacketRule.{PacketRule}
 use Rattle.mq_packet.specs.declared.rule.PacketRule.TheVariants as rules
 use Rattle.mq_packet.specs.declared.fault.DecodeFault.{DecodeFault}
 use Rattle.mq_packet.specs.declared.fault.DecodeFault.TheVariants.{Broken, OtherVersion}
-use Rattle.mq_packet.specs.Entries.{Entry}
-use Rattle.mq_packet.specs.Formats.{Kind, byte, two_bytes, text, binary, properties, Value, Objection, breaks, other_version, is_code, Format, done, rest, all_codes, refused, missing, field, at_end, format_of}
+use Rattle.mq_packet.specs.Entries.{Entry, AskedFilter}
+use Rattle.mq_packet.specs.Formats.{Kind, byte, two_bytes, text, binary, properties, Value, Objection, breaks, other_version, is_code, filter_objection, options_objection, Format, done, rest, all_codes, all_filters, refused, field, at_end, format_of}
 
 -- A step that is taken only where the one before it succeeded.
 infixl 10 ◌>>=◌
@@ -87,6 +87,36 @@ unfoldable pub codes_on : List ℕ → Left → Result (List ℕ) DecodeFault
 codes_on table left =
     if list_all (is_code table) left.rest then Ok left.rest else Err (broken (left.at + prefix_len (is_code table) left.rest) rules.W13)
 
+-- The options at the front of what is left, if they are asked for (3.8.3.1).
+abbrev pub some_options : ℕ × Left → Result (Option ℕ × Left) DecodeFault
+some_options x = Ok (Some x.0, x.1)
+
+abbrev pub options_on : Bool → Left → Result (Option ℕ × Left) DecodeFault
+options_on false left = Ok (None, left)
+options_on true left = read_field byte options_objection left >>= some_options
+
+-- The options at the front of what is left after this filter, if they are asked for.
+abbrev pub with_options : List ℕ → Option ℕ × Left → Result (AskedFilter × Left) DecodeFault
+with_options filter x = Ok (record { filter = filter; options = x.0 }, x.1)
+
+abbrev pub options_behind : Bool → List ℕ × Left → Result (AskedFilter × Left) DecodeFault
+options_behind asks x = options_on asks x.1 >>= with_options x.0
+
+-- The filter at the front of what is left, with its options if they are asked for (3.8.3, 3.10.3).
+abbrev pub filter_on : Bool → Left → Result (AskedFilter × Left) DecodeFault
+filter_on asks left = read_field text filter_objection left >>= options_behind asks
+
+-- All that is left as filters. Each takes some bytes, so there are at most n where n bytes are left.
+abbrev pub filters_within : ℕ → Bool → Left → Result (List AskedFilter) DecodeFault
+filters_within zero asks left = Ok []
+filters_within (suc n) asks left =
+    if length left.rest == 0 then Ok [] else (filter_on asks left >>= λ x. filters_within n asks x.1 >>= λ others. Ok (x.0 ∷ others))
+
+-- All that is left as filters, one at least (3.8.3, 3.10.3).
+unfoldable pub filters_on : Bool → Left → Result (List AskedFilter) DecodeFault
+filters_on asks left =
+    if length left.rest == 0 then Err (broken left.at rules.W16) else filters_within (length left.rest) asks left
+
 -- What is left of a packet, read by its format.
 abbrev pub read : Format → Left → Result Entry DecodeFault
 read (done packet) left = ended packet left
@@ -94,8 +124,10 @@ read (rest packet) left = Ok (packet left.rest)
 read (all_codes table packet) left = do
   reasons ← codes_on table left
   Ok (packet reasons)
+read (all_filters asks packet) left = do
+  filters ← filters_on asks left
+  Ok (packet filters)
 read (refused rule) left = Err (broken 0 rule)
-read (missing rule) left = Err (broken left.at rule)
 read (field kind objection next) left = do
   x ← read_field kind objection left
   read (next x.0) x.1
@@ -107,4 +139,4 @@ body_start size = 1 + length (varint_spelling size)
 
 -- The packet with this first byte and body, or the first fault.
 unfoldable pub decoded : ℕ → List ℕ → Result Entry DecodeFault
-decoded first body = read (format_of first (length body)) (record { at = body_start (length body); rest = body })
+decoded first body = read (format_of first) (record { at = body_start (length body); rest = body })

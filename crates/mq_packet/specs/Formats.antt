@@ -1,6 +1,6 @@
 -- The formats of the packets (MQTT 5.0, 3.1 to 3.15): which fields each has, in their order, and which values of a field
 -- are taken.
-use Rattle.std.specs.Prelude.{ℕ, zero, suc, ◌==◌, nat_lt, Bool, true, false, ◌&&◌, ◌||◌, not, if◌then◌else◌, List, [], ◌∷◌, ◌++◌, length, Option, Some, None, is_some, bit_and, bytes_eq, codes}
+use Rattle.std.specs.Prelude.{ℕ, ◌==◌, nat_lt, Bool, true, false, ◌&&◌, ◌||◌, not, if◌then◌else◌, List, length, Option, Some, None, is_some, bit_and, bytes_eq, codes}
 use Rattle.std.specs.List.{list_any}
 use Rattle.mq_topic.specs.Levels.{is_name, filter_fault}
 use Rattle.mq_props.specs.declared.table.Place.{Place}
@@ -49,10 +49,11 @@ pub data Format : Type 0 where
   rest : (List ℕ → Entry) → Format
   -- Reason Codes of this table, one after another, of which this packet is made
   all_codes : List ℕ → (List ℕ → Entry) → Format
+  -- Topic Filters, one at least, one after another, each with options after it if they are asked for, of which this packet
+  -- is made
+  all_filters : Bool → (List AskedFilter → Entry) → Format
   -- the first byte breaks this rule
   refused : PacketRule → Format
-  -- what is missing here breaks this rule
-  missing : PacketRule → Format
   -- a field, whose value may be objected to, and then what its value decides
   field : (kind : Kind) → (Value kind → Option Objection) → (Value kind → Format) → Format
   -- the first format if nothing is left, else the second
@@ -226,26 +227,12 @@ acknowledgement_format kind =
     (field byte (code_objection (acknowledgement_codes kind)) (λ code.
     last_properties (acknowledgement_place kind) (acknowledgement kind identifier code))))
 
--- The options after a filter, if they are asked for.
-abbrev pub options_if : Bool → (Option ℕ → Format) → Format
-options_if false next = next None
-options_if true next = field byte options_objection (λ options. next (Some options))
-
--- At most this many filters, with options or without, after those that were found: at least one in all (3.8.3, 3.10.3).
-abbrev pub filters_format : ℕ → Bool → (List AskedFilter → Entry) → List AskedFilter → Format
-filters_format zero asks packet found = done (packet found)
-filters_format (suc n) asks packet found =
-    at_end (if length found == 0 then missing rules.W16 else done (packet found))
-    (field text filter_objection (λ filter.
-    options_if asks (λ options.
-    filters_format n asks packet (found ++ record { filter = filter; options = options } ∷ []))))
-
--- SUBSCRIBE and UNSUBSCRIBE (3.8, 3.10) of so many bytes, so of no more filters.
-abbrev pub request_format : ℕ → RequestKind → Format
-request_format size kind =
+-- SUBSCRIBE and UNSUBSCRIBE (3.8, 3.10).
+abbrev pub request_format : RequestKind → Format
+request_format kind =
     field two_bytes identifier_objection (λ identifier.
     field (properties (request_place kind)) any_value (λ list.
-    filters_format size (has_options kind) (request kind identifier (listed (request_place kind) list)) []))
+    all_filters (has_options kind) (request kind identifier (listed (request_place kind) list))))
 
 -- SUBACK and UNSUBACK (3.9, 3.11).
 abbrev pub answer_format : RequestKind → Format
@@ -262,9 +249,9 @@ ending_format kind =
     (field byte (code_objection (ending_codes kind)) (λ code.
     last_properties (ending_place kind) (ending kind code)))
 
--- The format of a body of this size after a first byte: the packet's type, and the flags that it must have (2.1.2, 2.1.3).
-abbrev pub format_of : ℕ → ℕ → Format
-format_of first size =
+-- The format of a body after a first byte: the packet's type, and the flags that it must have (2.1.2, 2.1.3).
+abbrev pub format_of : ℕ → Format
+format_of first =
     if nat_lt first 16 then refused rules.W02 else
     if first == 16 then connect_format else
     if first == 32 then connack_format else
@@ -274,9 +261,9 @@ format_of first size =
     if first == 80 then acknowledgement_format acknowledgements.Pubrec else
     if first == 98 then acknowledgement_format acknowledgements.Pubrel else
     if first == 112 then acknowledgement_format acknowledgements.Pubcomp else
-    if first == 130 then request_format size requests.Subscribe else
+    if first == 130 then request_format requests.Subscribe else
     if first == 144 then answer_format requests.Subscribe else
-    if first == 162 then request_format size requests.Unsubscribe else
+    if first == 162 then request_format requests.Unsubscribe else
     if first == 176 then answer_format requests.Unsubscribe else
     if first == 192 then done pingreq else
     if first == 208 then done pingresp else

@@ -1,6 +1,6 @@
 -- Which packet a first byte and a body spell, and which fault they have: relations, apart from any reading.
-use Rattle.std.specs.Prelude.{◌≡◌, ◌≢◌, ℕ, ◌+◌, ◌≤◌, ◌⊎◌, true, false, List, [], ◌∷◌, ◌++◌, length, Option, Some, None, Result, Ok, Err}
-use Rattle.std.specs.List.{list_all}
+use Rattle.std.specs.Prelude.{◌≡◌, ◌≢◌, ℕ, ◌+◌, ◌≤◌, ◌⊎◌, Bool, true, false, List, [], ◌∷◌, ◌++◌, length, Option, Some, None, Result, Ok, Err}
+use Rattle.std.specs.List.{list_all, AllByRecursion}
 use Rattle.mq_wire.specs.Spellings.{IsByte, byte_spelling, IsTwoBytes, two_bytes_spelling, IsText, text_spelling, IsBinary, binary_spelling, varint_spelling}
 use Rattle.mq_props.specs.Values.{body as properties_spelling}
 use Rattle.mq_props.specs.Allowed.{AreAllowed}
@@ -8,9 +8,10 @@ use Rattle.mq_packet.specs.declared.rule.PacketRule.{PacketRule}
 use Rattle.mq_packet.specs.declared.rule.PacketRule.TheVariants as rules
 use Rattle.mq_packet.specs.declared.fault.DecodeFault.{DecodeFault}
 use Rattle.mq_packet.specs.declared.fault.DecodeFault.TheVariants.{Broken, OtherVersion}
-use Rattle.mq_packet.specs.Entries.{Entry}
-use Rattle.mq_packet.specs.Formats.{Kind, byte, two_bytes, text, binary, properties, Value, Objection, is_code, Format, done, rest, all_codes, refused, missing, field, at_end, format_of}
+use Rattle.mq_packet.specs.Entries.{Entry, AskedFilter}
+use Rattle.mq_packet.specs.Formats.{Kind, byte, two_bytes, text, binary, properties, Value, Objection, is_code, filter_objection, options_objection, Format, done, rest, all_codes, all_filters, refused, field, at_end, format_of}
 use Rattle.mq_packet.specs.Decoding.{broken, objected, body_start}
+use Rattle.mq_packet.specs.Asking.{IsAsked, filters_spelling, AreAsked}
 use Rattle.mq_packet.specs.Misspellings.{Misspelled}
 
 -- The values of a kind of field (1.5, 2.2.2).
@@ -53,13 +54,41 @@ pub record BadCode (table : List ℕ) (at : ℕ) (bytes : List ℕ) (fault : Dec
   pub unknown : is_code table bad ≡ false
   pub is : fault ≡ broken (at + length good) rules.W13
 
+-- The bytes don't begin with a field of this kind that may stand there, and have this fault so: they don't begin with one of
+-- the kind, or they begin with one that is objected to.
+abbrev pub FailsField : (kind : Kind) → (Value kind → Option Objection) → ℕ → List ℕ → DecodeFault → Type 0
+FailsField kind objection at bytes fault =
+    Misspelled kind at bytes fault ⊎ ((why : Objection) × Objected kind objection bytes why × (fault ≡ objected at why))
+
+-- The options that the bytes begin with after a filter are at fault, if options are asked for (3.8.3.1).
+abbrev pub FailsOptions : Bool → ℕ → List ℕ → DecodeFault → Type 0
+FailsOptions false at bytes fault = ⊥
+FailsOptions true at bytes fault = FailsField byte options_objection at bytes fault
+
+-- The bytes don't begin with a filter that may stand there, or after it options that are asked for are at fault (3.8.3,
+-- 3.10.3).
+abbrev pub FailsFilter : Bool → ℕ → List ℕ → DecodeFault → Type 0
+FailsFilter asks at bytes fault =
+    FailsField text filter_objection at bytes fault
+    ⊎ Good text filter_objection bytes (λ filter left. FailsOptions asks (at + length (text_spelling filter)) left fault)
+
+-- The bytes are the spellings of filters that may stand there, one after another, and then others, at least one; and the
+-- filter that begins the others is at fault.
+pub record BadFilter (asks : Bool) (at : ℕ) (bytes : List ℕ) (fault : DecodeFault) : Type 0 where
+  pub good : List AskedFilter
+  pub each : AllByRecursion (IsAsked asks) good
+  pub others : List ℕ
+  pub some : others ≢ []
+  pub parts : bytes ≡ filters_spelling good ++ others
+  pub refused : FailsFilter asks (at + length (filters_spelling good)) others fault
+
 -- The bytes are those of this packet by the format: its fields in their order, each of them good, and nothing else.
 abbrev pub Spells : Format → List ℕ → Entry → Type 0
 Spells (done packet) bytes entry = (bytes ≡ []) × (packet ≡ entry)
 Spells (rest packet) bytes entry = packet bytes ≡ entry
 Spells (all_codes table packet) bytes entry = (list_all (is_code table) bytes ≡ true) × (packet bytes ≡ entry)
+Spells (all_filters asks packet) bytes entry = (filters : List AskedFilter) × AreAsked asks filters × (bytes ≡ filters_spelling filters) × (packet filters ≡ entry)
 Spells (refused rule) bytes entry = ⊥
-Spells (missing rule) bytes entry = ⊥
 Spells (field kind objection next) bytes entry = Good kind objection bytes (λ value left. Spells (next value) left entry)
 Spells (at_end whole more) [] entry = Spells whole [] entry
 Spells (at_end whole more) (b ∷ bytes) entry = Spells more (b ∷ bytes) entry
@@ -70,8 +99,8 @@ abbrev pub Fails : Format → ℕ → List ℕ → DecodeFault → Type 0
 Fails (done packet) at bytes fault = (bytes ≢ []) × (fault ≡ broken at rules.W06)
 Fails (rest packet) at bytes fault = ⊥
 Fails (all_codes table packet) at bytes fault = BadCode table at bytes fault
+Fails (all_filters asks packet) at bytes fault = ((bytes ≡ []) × (fault ≡ broken at rules.W16)) ⊎ BadFilter asks at bytes fault
 Fails (refused rule) at bytes fault = fault ≡ broken 0 rule
-Fails (missing rule) at bytes fault = fault ≡ broken at rule
 Fails (field kind objection next) at bytes fault =
     Misspelled kind at bytes fault
     ⊎ (((why : Objection) × Objected kind objection bytes why × (fault ≡ objected at why))
@@ -86,15 +115,15 @@ Is format at bytes (Err fault) = Fails format at bytes fault
 
 -- The first byte and the body spell this packet.
 abbrev pub IsSpelled : ℕ → List ℕ → Entry → Type 0
-IsSpelled first body entry = Spells (format_of first (length body)) body entry
+IsSpelled first body entry = Spells (format_of first) body entry
 
 -- They break this rule, by the field at this place, which is counted from the packet's first byte.
 abbrev pub Breaks : ℕ → List ℕ → ℕ → PacketRule → Type 0
-Breaks first body at rule = Fails (format_of first (length body)) (body_start (length body)) body (broken at rule)
+Breaks first body at rule = Fails (format_of first) (body_start (length body)) body (broken at rule)
 
 -- They are a CONNECT of another protocol version, this one.
 abbrev pub IsOtherVersion : ℕ → List ℕ → ℕ → Type 0
-IsOtherVersion first body version = Fails (format_of first (length body)) (body_start (length body)) body (OtherVersion version)
+IsOtherVersion first body version = Fails (format_of first) (body_start (length body)) body (OtherVersion version)
 
 -- They have this fault.
 abbrev pub HasFault : ℕ → List ℕ → DecodeFault → Type 0

@@ -10,7 +10,7 @@ mod lists;
 mod publish;
 mod request;
 
-ghost use Rattle.std.specs.Prelude.{◌≡◌, ◌≢◌, ◌<◌, ◌≤◌, ◌⊎◌, IfOk, length};
+ghost use Rattle.std.specs.Prelude.{◌≡◌, ◌≢◌, ◌<◌, ◌≤◌, ◌⊎◌, IfOk};
 ghost use Rattle.mq_packet.specs.Formats.{format_of};
 ghost use Rattle.mq_packet.specs.Decoding.{read};
 ghost use Rattle.mq_packet.specs.Reading.{view, HasReadLen, Reads};
@@ -29,14 +29,13 @@ use mq_wire::Cursor;
 pub use publish::read_publish;
 pub use request::read_request;
 
-/// The packet with this first byte whose body, of no more than this size, is left in the cursor; or where the reading of it
-/// stops. But for PUBLISH, whose first byte has flags of its own, each type has one first byte (MQTT 5.0, sections 2.1.2 and
-/// 2.1.3). A packet that has several spellings keeps the size (MQTT 5.0, sections 3.4 to 3.7, 3.14 and 3.15).
+/// The packet with this first byte whose body, of this size, is left in the cursor; or where the reading of it stops. But for
+/// PUBLISH, whose first byte has flags of its own, each type has one first byte (MQTT 5.0, sections 2.1.2 and 2.1.3). A packet
+/// that has several spellings keeps the size (MQTT 5.0, sections 3.4 to 3.7, 3.14 and 3.15).
 #[inline(always)]
 pub fn read_packet<'a>(first: u8, cursor: Cursor<'a>, size: usize) -> Result<Packet<'a>, Stop>
-    requires inside { length cursor.rest ≤ size }
     requires bound { size ≤ 268435455 }
-    ensures read { Reads view result (read (format_of first size) cursor.entry) }
+    ensures read { Reads view result (read (format_of first) cursor.entry) }
     ensures read_len { IfOk result (λ packet. HasReadLen size packet) }
 {
     match first {
@@ -56,11 +55,10 @@ pub fn read_packet<'a>(first: u8, cursor: Cursor<'a>, size: usize) -> Result<Pac
 // its packets.
 #[inline(never)]
 fn read_other<'a>(first: u8, cursor: Cursor<'a>, size: usize) -> Result<Packet<'a>, Stop>
-    requires inside { length cursor.rest ≤ size }
     requires bound { size ≤ 268435455 }
     requires publish { (first < 48) ⊎ (64 ≤ first) }
     requires acknowledgement { (first ≢ 64) × (first ≢ 80) × (first ≢ 98) × (first ≢ 112) }
-    ensures read { Reads view result (read (format_of first size) cursor.entry) }
+    ensures read { Reads view result (read (format_of first) cursor.entry) }
     ensures read_len { IfOk result (λ packet. HasReadLen size packet) }
 {
     match first {

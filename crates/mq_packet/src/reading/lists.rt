@@ -1,12 +1,11 @@
 //! Readers of the lists that end a body: filters, and Reason Codes.
 
-ghost use Rattle.std.specs.Prelude.{◌≡◌, ℕ, ◌≤◌, ◌<◌, List, [], length, MatchResult};
+ghost use Rattle.std.specs.Prelude.{◌≡◌, Err, MatchResult};
 ghost use Rattle.mq_wire.specs.Spellings.{AreBytes};
-ghost use Rattle.mq_packet.specs.Entries.{Entry, AskedFilter};
-ghost use Rattle.mq_packet.specs.Formats.{byte, options_objection, are_options, filters_format};
-ghost use Rattle.mq_packet.specs.Decoding.{read_field, codes_on, read};
+ghost use Rattle.mq_packet.specs.Formats.{byte, options_objection, are_options};
+ghost use Rattle.mq_packet.specs.Decoding.{read_field, codes_on, options_on, filter_on, filters_on};
 ghost use Rattle.mq_packet.specs.Reading.{Takes, Reads, fault_of};
-ghost use Rattle.mq_packet.specs.Elements.{options_on, filter_on, filter_view, AreRead, AreRefused};
+ghost use Rattle.mq_packet.specs.Elements.{filter_view, AreRead};
 
 use crate::filters::{Filter, Filters};
 use crate::reading::fields::{reason_code, topic_filter};
@@ -66,7 +65,7 @@ fn asked_filter<'a>(cursor: &mut Cursor<'a>, asks: bool) -> Result<Filter<'a>, S
 /// The first rule that a field breaks: one of texts, W06, W15, W17; and W16 where there is no filter.
 pub fn check_filters(mut cursor: Cursor<'_>, asks: bool) -> Result<(), Stop>
     requires { AreBytes cursor.rest }
-    ensures { MatchResult result (λ _. AreRead asks cursor.entry) (λ stop. AreRefused asks cursor.entry (fault_of stop)) }
+    ensures { MatchResult result (λ _. AreRead asks cursor.entry) (λ stop. filters_on asks cursor.entry ≡ Err (fault_of stop)) }
 {
     if cursor.is_empty() {
         return Err(Stop::Broken {
@@ -86,7 +85,7 @@ pub fn check_filters(mut cursor: Cursor<'_>, asks: bool) -> Result<(), Stop>
 ///
 /// Those of `check_filters`.
 pub fn filter_list<'a>(cursor: Cursor<'a>, asks: bool) -> Result<Filters<'a>, Stop>
-    ensures { (n : ℕ) (packet : List AskedFilter → Entry) → length cursor.entry.rest < n → Reads packet result (read (filters_format n asks packet []) cursor.entry) }
+    ensures { Reads (λ filters. filters) result (filters_on asks cursor.entry) }
 {
     let at = cursor.at();
     let bytes = cursor.rest();

@@ -1,6 +1,6 @@
 //! Reading SUBSCRIBE and UNSUBSCRIBE (MQTT 5.0, sections 3.8 and 3.10).
 
-ghost use Rattle.std.specs.Prelude.{◌≡◌, ℕ, ◌≤◌, length};
+ghost use Rattle.std.specs.Prelude.{◌≡◌};
 ghost use Rattle.mq_packet.specs.Entries.{request, request_place, has_options};
 ghost use Rattle.mq_packet.specs.Formats.{request_format};
 ghost use Rattle.mq_packet.specs.Decoding.{read};
@@ -33,7 +33,7 @@ fn asks_options(kind: RequestKind) -> bool
     }
 }
 
-/// Reads a SUBSCRIBE or UNSUBSCRIBE (MQTT 5.0, sections 3.8 and 3.10) from all that is left, in a body of any size that is no less.
+/// Reads a SUBSCRIBE or UNSUBSCRIBE (MQTT 5.0, sections 3.8 and 3.10) from all that is left.
 ///
 /// # Errors
 ///
@@ -41,7 +41,7 @@ fn asks_options(kind: RequestKind) -> bool
 /// filter.
 #[inline(never)]
 pub fn read_request<'a>(mut cursor: Cursor<'a>, kind: RequestKind) -> Result<Request<'a>, Stop>
-    ensures { (size : ℕ) → length cursor.entry.rest ≤ size → Reads (λ p. request kind p.identifier p.properties p.filters) result (read (request_format size kind) cursor.entry) }
+    ensures { Reads (λ p. request kind p.identifier p.properties p.filters) result (read (request_format kind) cursor.entry) }
 {
     let identifier = packet_identifier(&mut cursor)?;
     let properties = property_list(&mut cursor, list_place(kind))?;
