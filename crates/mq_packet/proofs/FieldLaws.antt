@@ -3,17 +3,17 @@
 use Rattle.std.proofs.Common.{◌≡◌, ℕ, ◌+◌, Bool, true, false, ◌&&◌, not, eqb, ltb, List, [], ◌∷◌, ◌++◌, length, drop, Result, Ok, Err, refl, sym, ap, ◌∙◌}
 use Rattle.std.proofs.lemmas.List.{drop_at}
 use Rattle.mq_wire.specs.declared.fault.Reason.{Reason}
-use Rattle.mq_wire.specs.declared.fault.Reason.TheVariants as reasons
 use Rattle.mq_wire.specs.declared.fault.WireFault.{WireFault}
 use Rattle.mq_wire.specs.Left.{Left, placed}
 use Rattle.mq_wire.specs.Fields.{text_at}
-use Rattle.mq_wire.specs.Refused.{IsCutShort, RefusesShort}
+use Rattle.mq_wire.specs.FieldTypes.{FieldType, byte as one_byte, two_byte_integer, utf8_string, binary_data}
+use Rattle.mq_wire.specs.Misspelled.{RefusesMisspelled}
 use Rattle.mq_wire.specs.Spellings.{AreBytes, Stands, IsExact}
 use Rattle.mq_wire.specs.Plain.{is_plain, is_plain_byte}
 use Rattle.mq_wire.proofs.Placed.{placed_ok, placed_err}
 use Rattle.mq_wire.proofs.PlainLaws.{both}
 use Rattle.mq_wire.proofs.Exact.{byte_exact, two_bytes_exact, text_exact, binary_exact}
-use Rattle.mq_wire.proofs.Refusals.{byte_refused, two_bytes_refused, text_refused, binary_refused}
+use Rattle.mq_wire.proofs.MisspelledLaws.{byte_misspelled, two_bytes_misspelled, text_misspelled, binary_misspelled}
 use Rattle.mq_topic.specs.Levels.{is_name}
 use Rattle.mq_props.specs.declared.fault.PropFault.{PropFault}
 use Rattle.mq_props.specs.declared.table.Place.{Place}
@@ -22,12 +22,10 @@ use Rattle.mq_props.specs.Allowed.{Lists}
 use Rattle.mq_props.specs.Reading.{list_on}
 use Rattle.mq_props.proofs.Lists.{Listing, list_found, list_only, list_breaks}
 use Rattle.mq_props.proofs.Broken.{breaks_list}
-use Rattle.mq_packet.specs.declared.rule.PacketRule.{PacketRule}
-use Rattle.mq_packet.specs.declared.rule.PacketRule.TheVariants as rules
 use Rattle.mq_packet.specs.declared.fault.DecodeFault.{DecodeFault}
 use Rattle.mq_packet.specs.Formats.{Kind, byte, two_bytes, text, binary, properties, Value, topic_objection}
 use Rattle.mq_packet.specs.Decoding.{broken, rule_of, list_rule, spelled, spelled_list, field_on, read_field}
-use Rattle.mq_packet.specs.Misspellings.{MisspellsText, cut_short, not_utf8, nul, Misspelled}
+use Rattle.mq_packet.specs.Misspellings.{MisspelledField, BrokenList, Misspelled}
 use Rattle.mq_packet.specs.Spelled.{spelling, Begin}
 
 -- What is left: these bytes, from this place on.
@@ -128,65 +126,41 @@ field_read (properties place) at bytes value left begin = ap spelled_list (list_
 
 -- ---- faults
 
--- a reading that refuses only what is cut short
-short_found : {X : Type 0} {read : List ℕ → Result (X × ℕ) Reason} {Values : X → Type 0} {spells : X → List ℕ} → RefusesShort read Values spells → (at : ℕ) (bytes : List ℕ) (fault : DecodeFault) → AreBytes bytes → spelled (placed (left_from at bytes) (read bytes)) ≡ Err fault
-    → IsCutShort Values spells bytes × (fault ≡ broken at rules.W06)
-short_found {X} {read} {Values} {spells} refuses at bytes fault known e =
+-- of a reading that refuses what is misspelled: what it is refused for
+wire_misspelled : {X : Type 0} {read : List ℕ → Result (X × ℕ) Reason} (type : FieldType) → RefusesMisspelled read type → (at : ℕ) (bytes : List ℕ) (fault : DecodeFault) → AreBytes bytes → spelled (placed (left_from at bytes) (read bytes)) ≡ Err fault
+    → MisspelledField type at bytes fault
+wire_misspelled {X} {read} type refuses at bytes fault known e =
     let first = spelled_err (placed (left_from at bytes) (read bytes)) fault e in
     let why = placed_err (left_from at bytes) (read bytes) first.0 first.1 in
-    let short : first.0.reason ≡ reasons.Short = refuses.only_so bytes first.0.reason why.0 in
-    let is : read bytes ≡ Err reasons.Short = why.0 ∙ ap (λ (reason : Reason). Err reason) short in
-    ((refuses.short bytes known).0 is, first.2 ∙ ap (λ (n : ℕ). broken n (rule_of first.0.reason)) why.1 ∙ ap (λ (reason : Reason). broken at (rule_of reason)) short)
+    record { reason = first.0.reason; misspelled = (refuses.exactly bytes first.0.reason known).0 why.0; is = first.2 ∙ ap (λ (n : ℕ). broken n (rule_of first.0.reason)) why.1 }
 
--- bytes that are cut short are refused
-short_refused : {X : Type 0} {read : List ℕ → Result (X × ℕ) Reason} {Values : X → Type 0} {spells : X → List ℕ} → RefusesShort read Values spells → (at : ℕ) (bytes : List ℕ) (fault : DecodeFault) → AreBytes bytes → IsCutShort Values spells bytes × (fault ≡ broken at rules.W06)
+-- and what it refuses
+misspelled_wire : {X : Type 0} {read : List ℕ → Result (X × ℕ) Reason} (type : FieldType) → RefusesMisspelled read type → (at : ℕ) (bytes : List ℕ) (fault : DecodeFault) → AreBytes bytes → MisspelledField type at bytes fault
     → spelled (placed (left_from at bytes) (read bytes)) ≡ Err fault
-short_refused {X} {read} refuses at bytes fault known h =
-    ap (λ (r : Result (X × ℕ) Reason). spelled (placed (left_from at bytes) r)) ((refuses.short bytes known).1 h.0) ∙ ap (λ (f : DecodeFault). failed {A = X × Left} f) (sym h.1)
-
--- why a text is refused
-text_reason : (bytes : List ℕ) (reason : Reason) → AreBytes bytes → text_at bytes ≡ Err reason → MisspellsText bytes (rule_of reason)
-text_reason bytes reasons.Short known e = cut_short ((text_refused.short bytes known).0 e)
-text_reason bytes reasons.NotUtf8 known e = not_utf8 ((text_refused.not_utf8 bytes known).0 e)
-text_reason bytes reasons.Nul known e = nul ((text_refused.nul bytes known).0 e)
-text_reason bytes reasons.Overlong known e = absurd (text_refused.only_so bytes known e)
-
-text_found : (at : ℕ) (bytes : List ℕ) (fault : DecodeFault) → AreBytes bytes → field_on text (left_from at bytes) ≡ Err fault → Misspelled text at bytes fault
-text_found at bytes fault known e =
-    let first = spelled_err (placed (left_from at bytes) (text_at bytes)) fault e in
-    let why = placed_err (left_from at bytes) (text_at bytes) first.0 first.1 in
-    (rule_of first.0.reason, text_reason bytes first.0.reason known why.0, first.2 ∙ ap (λ (n : ℕ). broken n (rule_of first.0.reason)) why.1)
-
--- a text that is refused for a reason
-text_broken : (at : ℕ) (bytes : List ℕ) (reason : Reason) → text_at bytes ≡ Err reason → field_on text (left_from at bytes) ≡ Err (broken at (rule_of reason))
-text_broken at bytes reason e = ap (λ (r : Result (List ℕ × ℕ) Reason). spelled (placed (left_from at bytes) r)) e
-
-text_misspelled : (at : ℕ) (bytes : List ℕ) (rule : PacketRule) → AreBytes bytes → MisspellsText bytes rule → field_on text (left_from at bytes) ≡ Err (broken at rule)
-text_misspelled at bytes _ known (cut_short h) = text_broken at bytes reasons.Short ((text_refused.short bytes known).1 h)
-text_misspelled at bytes _ known (not_utf8 h) = text_broken at bytes reasons.NotUtf8 ((text_refused.not_utf8 bytes known).1 h)
-text_misspelled at bytes _ known (nul h) = text_broken at bytes reasons.Nul ((text_refused.nul bytes known).1 h)
+misspelled_wire {X} {read} type refuses at bytes fault known h =
+    ap (λ (r : Result (X × ℕ) Reason). spelled (placed (left_from at bytes) r)) ((refuses.exactly bytes h.reason known).1 h.misspelled) ∙ ap (λ (f : DecodeFault). failed {A = X × Left} f) (sym h.is)
 
 list_misspelled : (place : Place) (at : ℕ) (bytes : List ℕ) (fault : DecodeFault) → AreBytes bytes → field_on (properties place) (left_from at bytes) ≡ Err fault → Misspelled (properties place) at bytes fault
 list_misspelled place at bytes fault known e =
     let first = list_err (list_on place (left_from at bytes)) fault e in
-    (first.0, list_breaks place (left_from at bytes) first.0 known first.1, first.2)
+    record { first = first.0; breaks = list_breaks place (left_from at bytes) first.0 known first.1; is = first.2 }
 
 -- A field that is refused isn't spelled at the front, and has the fault of that.
 pub field_misspelled : (kind : Kind) (at : ℕ) (bytes : List ℕ) (fault : DecodeFault) → AreBytes bytes → field_on kind (left_from at bytes) ≡ Err fault → Misspelled kind at bytes fault
-field_misspelled byte at bytes fault known e = short_found byte_refused at bytes fault known e
-field_misspelled two_bytes at bytes fault known e = short_found two_bytes_refused at bytes fault known e
-field_misspelled text at bytes fault known e = text_found at bytes fault known e
-field_misspelled binary at bytes fault known e = short_found binary_refused at bytes fault known e
+field_misspelled byte at bytes fault known e = wire_misspelled one_byte byte_misspelled at bytes fault known e
+field_misspelled two_bytes at bytes fault known e = wire_misspelled two_byte_integer two_bytes_misspelled at bytes fault known e
+field_misspelled text at bytes fault known e = wire_misspelled utf8_string text_misspelled at bytes fault known e
+field_misspelled binary at bytes fault known e = wire_misspelled binary_data binary_misspelled at bytes fault known e
 field_misspelled (properties place) at bytes fault known e = list_misspelled place at bytes fault known e
 
 -- Bytes that don't begin with a field of the kind are refused, for the fault that they have so.
 pub misspelled_field : (kind : Kind) (at : ℕ) (bytes : List ℕ) (fault : DecodeFault) → AreBytes bytes → Misspelled kind at bytes fault → field_on kind (left_from at bytes) ≡ Err fault
-misspelled_field byte at bytes fault known h = short_refused byte_refused at bytes fault known h
-misspelled_field two_bytes at bytes fault known h = short_refused two_bytes_refused at bytes fault known h
-misspelled_field text at bytes fault known h = text_misspelled at bytes h.0 known h.1 ∙ ap (λ (f : DecodeFault). failed {A = List ℕ × Left} f) (sym h.2)
-misspelled_field binary at bytes fault known h = short_refused binary_refused at bytes fault known h
+misspelled_field byte at bytes fault known h = misspelled_wire one_byte byte_misspelled at bytes fault known h
+misspelled_field two_bytes at bytes fault known h = misspelled_wire two_byte_integer two_bytes_misspelled at bytes fault known h
+misspelled_field text at bytes fault known h = misspelled_wire utf8_string text_misspelled at bytes fault known h
+misspelled_field binary at bytes fault known h = misspelled_wire binary_data binary_misspelled at bytes fault known h
 misspelled_field (properties place) at bytes fault known h =
-    ap spelled_list (breaks_list place (left_from at bytes) h.0 h.1) ∙ ap (λ (f : DecodeFault). failed {A = List Property × Left} f) (sym h.2)
+    ap spelled_list (breaks_list place (left_from at bytes) h.first known h.breaks) ∙ ap (λ (f : DecodeFault). failed {A = List Property × Left} f) (sym h.is)
 
 -- ---- a Topic Name of plain bytes
 

@@ -6,7 +6,7 @@ use Rattle.std.proofs.lemmas.List.{append-nil, drop_at, length-replicate}
 use Rattle.mq_wire.specs.declared.fault.Reason.{Reason}
 use Rattle.mq_wire.specs.declared.fault.Reason.TheVariants as reasons
 use Rattle.mq_wire.specs.Fields.{varint_at}
-use Rattle.mq_wire.specs.Refused.{IsCutShort, NoneStands}
+use Rattle.mq_wire.specs.Misspelled.{IsCutShort, NoneStands}
 use Rattle.mq_wire.specs.Spellings.{AreBytes, IsVarint, Stands, varint_spelling}
 use Rattle.mq_wire.proofs.Refusals.{varint_refused}
 use Rattle.mq_wire.proofs.Varint.{varint_exact}

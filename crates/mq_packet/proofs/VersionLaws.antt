@@ -52,11 +52,11 @@ broken_rule false rule = tt
 
 -- Neither is a field that isn't spelled.
 misspelled_no : (kind : Kind) (at : ℕ) (bytes : List ℕ) (version : ℕ) → Misspelled kind at bytes (OtherVersion version) → ⊥
-misspelled_no byte at bytes version h = (let never = h.1 in cc)
-misspelled_no two_bytes at bytes version h = (let never = h.1 in cc)
-misspelled_no text at bytes version h = (let never = h.2 in cc)
-misspelled_no binary at bytes version h = (let never = h.1 in cc)
-misspelled_no (properties place) at bytes version h = (let never = h.2 in cc)
+misspelled_no byte at bytes version h = (let never = h.is in cc)
+misspelled_no two_bytes at bytes version h = (let never = h.is in cc)
+misspelled_no text at bytes version h = (let never = h.is in cc)
+misspelled_no binary at bytes version h = (let never = h.is in cc)
+misspelled_no (properties place) at bytes version h = (let never = h.is in cc)
 
 objected_no : (o : Option Objection) (why : Objection) (at version : ℕ) → IsRule o → o ≡ Some why → OtherVersion version ≡ objected at why → ⊥
 objected_no o (breaks rule) at version h is e = cc

@@ -1,11 +1,14 @@
 -- A property is refused for its first bad field.
-use Rattle.std.proofs.Common.{◌≡◌, ℕ, ◌+◌, List, length, drop, Option, None, Some, Result, Ok, Err, refl, sym, ap, subst, ◌∙◌, ◌⊎◌, inl, inr}
+use Rattle.std.proofs.Common.{◌≡◌, ℕ, ◌+◌, List, ◌++◌, length, drop, Option, None, Some, Result, Ok, Err, refl, sym, ap, subst, ◌∙◌, ◌⊎◌, inl, inr}
 use Rattle.std.proofs.lemmas.Bool.{cases_Bool}
+use Rattle.std.proofs.lemmas.List.{drop_at}
 use Rattle.mq_wire.specs.declared.fault.Reason.{Reason}
 use Rattle.mq_wire.specs.declared.fault.WireFault.{WireFault}
 use Rattle.mq_wire.specs.Left.{Left, placed}
 use Rattle.mq_wire.specs.Fields.{varint_at, byte_at, two_bytes_at, four_bytes_at, text_at, pair_at, binary_at}
 use Rattle.mq_wire.specs.Spellings.{AreBytes, IsVarint, varint_spelling, Stands}
+use Rattle.mq_wire.specs.Misspelled.{Misspelled}
+use Rattle.mq_wire.proofs.MisspelledLaws.{byte_misspelled, two_bytes_misspelled, four_bytes_misspelled, varint_misspelled, text_misspelled, pair_misspelled, binary_misspelled}
 use Rattle.mq_wire.proofs.Placed.{placed_ok}
 use Rattle.mq_wire.proofs.Varint.{varint_exact}
 use Rattle.mq_props.specs.declared.fault.PropFault.{PropFault}
@@ -16,7 +19,7 @@ use Rattle.mq_props.specs.declared.table.ValueType.TheVariants as types
 use Rattle.mq_props.specs.Table.{Line, row_of, is_listed}
 use Rattle.mq_props.specs.Values.{Value, byte, two_bytes, four_bytes, varint, text, binary, Property, value_spelling}
 use Rattle.mq_props.specs.Allowed.{is_repeated, in_range, is_wild}
-use Rattle.mq_props.specs.BadFields.{Named, NamedBy, Begins, IsValued, IsUnspelled, BreaksIdentifier, BreaksValue, BreaksProperty}
+use Rattle.mq_props.specs.BadFields.{Numbered, NamedBy, field_type, Begins, IsValued, BreaksIdentifier, BreaksValue, BreaksProperty}
 use Rattle.mq_props.specs.Reading.{◌>>=◌, from_wire, judged_at, value_on, admitted, valued, property_on}
 use Rattle.mq_props.proofs.Finding.{line_known}
 use Rattle.mq_props.proofs.Fields.{value_at, value_on_is, mapped, pair_of, IsOf, value_exact}
@@ -42,13 +45,13 @@ with_id place before at r = from_wire r >>= λ id. with_line place id.1 (judged_
 
 -- ---- a bad field is refused
 
-named_on : (left : Left) (id : ℕ) (behind : Left) → Named left id behind → placed left (varint_at left.rest) ≡ read (id, behind)
+pub named_on : (left : Left) (id : ℕ) (behind : Left) → Numbered left id behind → placed left (varint_at left.rest) ≡ read (id, behind)
 named_on left id behind named =
     ap (λ (bytes : List ℕ). placed (left_at left.at bytes) (varint_at bytes)) named.spelled
-    ∙ named_read left.at id behind.rest named.number
+    ∙ named_read left.at id behind.rest named.is_number
     ∙ ap (λ (at : ℕ). read (id, left_at at behind.rest)) (sym named.place)
 
-property_named : (place : Place) (before : List Property) (left : Left) (id : ℕ) (behind : Left) → Named left id behind → property_on place before left ≡ with_line place behind (judged_at left.at (admitted place before (row_of id)))
+property_named : (place : Place) (before : List Property) (left : Left) (id : ℕ) (behind : Left) → Numbered left id behind → property_on place before left ≡ with_line place behind (judged_at left.at (admitted place before (row_of id)))
 unfolding property_on
 property_named place before left id behind named = ap (with_id place before left.at) (named_on left id behind named)
 
@@ -59,48 +62,58 @@ property_known place before left line behind named =
 property_begun : (place : Place) (before : List Property) (left : Left) (line : Line) (behind : Left) → Begins place before left line behind → property_on place before left ≡ with_value place line behind.at (value_on line.kind behind)
 property_begun place before left line behind begins = property_known place before left line behind begins.named ∙ rw (begins.listed, begins.once) refl
 
-pub breaks_identifier : (place : Place) (before : List Property) (left : Left) (fault : PropFault) → BreaksIdentifier place before left fault → property_on place before left ≡ Err fault
+pub breaks_identifier : (place : Place) (before : List Property) (left : Left) (fault : PropFault) → AreBytes left.rest → BreaksIdentifier place before left fault → property_on place before left ≡ Err fault
 unfolding property_on
-breaks_identifier place before left fault (inl bad) = ap (λ (r : Result (ℕ × ℕ) Reason). with_id place before left.at (placed left r)) bad.unspelled ∙ ap failed (sym bad.is)
-breaks_identifier place before left fault (inr (inl bad)) =
+breaks_identifier place before left fault fits (inl bad) =
+    ap (λ (r : Result (ℕ × ℕ) Reason). with_id place before left.at (placed left r)) ((varint_misspelled.exactly left.rest bad.reason fits).1 bad.misspelled) ∙ ap failed (sym bad.is)
+breaks_identifier place before left fault fits (inr (inl bad)) =
     property_named place before left bad.id bad.behind bad.named ∙ ap (λ (o : Option Line). with_line place bad.behind (judged_at left.at (admitted place before o))) bad.unknown ∙ ap failed (sym bad.is)
-breaks_identifier place before left fault (inr (inr (inl bad))) = property_known place before left bad.line bad.behind bad.named ∙ rw bad.unlisted (ap failed (sym bad.is))
-breaks_identifier place before left fault (inr (inr (inr bad))) = property_known place before left bad.line bad.behind bad.named ∙ rw (bad.listed, bad.again) (ap failed (sym bad.is))
+breaks_identifier place before left fault fits (inr (inr (inl bad))) = property_known place before left bad.line bad.behind bad.named ∙ rw bad.unlisted (ap failed (sym bad.is))
+breaks_identifier place before left fault fits (inr (inr (inr bad))) = property_known place before left bad.line bad.behind bad.named ∙ rw (bad.listed, bad.again) (ap failed (sym bad.is))
 
 abbrev refused_for : {A : Type 0} → Reason → Result A Reason
 refused_for reason = Err reason
 
-unspelled_at : (kind : ValueType) (bytes : List ℕ) (reason : Reason) → IsUnspelled kind bytes reason → value_at kind bytes ≡ refused_for reason
-unspelled_at types.Byte bytes reason e = ap (mapped byte) e
-unspelled_at types.TwoBytes bytes reason e = ap (mapped two_bytes) e
-unspelled_at types.FourBytes bytes reason e = ap (mapped four_bytes) e
-unspelled_at types.Varint bytes reason e = ap (mapped varint) e
-unspelled_at types.Text bytes reason e = ap (mapped text) e
-unspelled_at types.Pair bytes reason e = ap (mapped pair_of) e
-unspelled_at types.Binary bytes reason e = ap (mapped binary) e
+misspelled_at : (kind : ValueType) (bytes : List ℕ) (reason : Reason) → AreBytes bytes → Misspelled (field_type kind) bytes reason → value_at kind bytes ≡ refused_for reason
+misspelled_at types.Byte bytes reason fits h = ap (mapped byte) ((byte_misspelled.exactly bytes reason fits).1 h)
+misspelled_at types.TwoBytes bytes reason fits h = ap (mapped two_bytes) ((two_bytes_misspelled.exactly bytes reason fits).1 h)
+misspelled_at types.FourBytes bytes reason fits h = ap (mapped four_bytes) ((four_bytes_misspelled.exactly bytes reason fits).1 h)
+misspelled_at types.Varint bytes reason fits h = ap (mapped varint) ((varint_misspelled.exactly bytes reason fits).1 h)
+misspelled_at types.Text bytes reason fits h = ap (mapped text) ((text_misspelled.exactly bytes reason fits).1 h)
+misspelled_at types.Pair bytes reason fits h = ap (mapped pair_of) ((pair_misspelled.exactly bytes reason fits).1 h)
+misspelled_at types.Binary bytes reason fits h = ap (mapped binary) ((binary_misspelled.exactly bytes reason fits).1 h)
+
+-- bytes after others are bytes
+pub bytes_behind : (front bytes whole : List ℕ) → AreBytes whole → whole ≡ front ++ bytes → AreBytes bytes
+bytes_behind front bytes whole fits is =
+    subst (λ (rest : List ℕ). AreBytes rest) (ap (drop (length front)) is ∙ drop_at front bytes (length front) refl) (AreBytes-drop (length front) whole fits)
+
+-- so are those after an identifier
+bytes_begun : (place : Place) (before : List Property) (left : Left) (line : Line) (behind : Left) → AreBytes left.rest → Begins place before left line behind → AreBytes behind.rest
+bytes_begun place before left line behind fits begins = bytes_behind (varint_spelling line.id) behind.rest left.rest fits begins.named.named.spelled
 
 -- the value that stands spelled is read
 valued_on : (kind : ValueType) (left : Left) (value : Value) (is : IsValued kind left value) → value_on kind left ≡ read (value, left_at (left.at + length (value_spelling value)) is.rest)
 valued_on kind left value is = ap (λ (bytes : List ℕ). value_on kind (left_at left.at bytes)) is.spelled ∙ value_read left.at kind value is.rest (is.typed, is.valid)
 
-pub breaks_value : (place : Place) (before : List Property) (left : Left) (fault : PropFault) → BreaksValue place before left fault → property_on place before left ≡ Err fault
-breaks_value place before left fault (inl bad) =
+pub breaks_value : (place : Place) (before : List Property) (left : Left) (fault : PropFault) → AreBytes left.rest → BreaksValue place before left fault → property_on place before left ≡ Err fault
+breaks_value place before left fault fits (inl bad) =
     property_begun place before left bad.line bad.behind bad.begins
     ∙ ap (with_value place bad.line bad.behind.at) (value_on_is bad.line.kind bad.behind)
-    ∙ ap (λ (r : Result (Value × ℕ) Reason). with_value place bad.line bad.behind.at (placed bad.behind r)) (unspelled_at bad.line.kind bad.behind.rest bad.reason bad.unspelled)
+    ∙ ap (λ (r : Result (Value × ℕ) Reason). with_value place bad.line bad.behind.at (placed bad.behind r)) (misspelled_at bad.line.kind bad.behind.rest bad.reason (bytes_begun place before left bad.line bad.behind fits bad.begins) bad.misspelled)
     ∙ ap failed (sym bad.is)
-breaks_value place before left fault (inr (inl bad)) =
+breaks_value place before left fault fits (inr (inl bad)) =
     property_begun place before left bad.line bad.behind bad.begins
     ∙ ap (with_value place bad.line bad.behind.at) (valued_on bad.line.kind bad.behind bad.value bad.valued)
     ∙ rw bad.out (ap failed (sym bad.is))
-breaks_value place before left fault (inr (inr bad)) =
+breaks_value place before left fault fits (inr (inr bad)) =
     property_begun place before left bad.line bad.behind bad.begins
     ∙ ap (with_value place bad.line bad.behind.at) (valued_on bad.line.kind bad.behind bad.value bad.valued)
     ∙ rw (bad.ranged, bad.wild) (ap failed (sym bad.is))
 
-pub breaks_property : (place : Place) (before : List Property) (left : Left) (fault : PropFault) → BreaksProperty place before left fault → property_on place before left ≡ Err fault
-breaks_property place before left fault (inl bad) = breaks_identifier place before left fault bad
-breaks_property place before left fault (inr bad) = breaks_value place before left fault bad
+pub breaks_property : (place : Place) (before : List Property) (left : Left) (fault : PropFault) → AreBytes left.rest → BreaksProperty place before left fault → property_on place before left ≡ Err fault
+breaks_property place before left fault fits (inl bad) = breaks_identifier place before left fault fits bad
+breaks_property place before left fault fits (inr bad) = breaks_value place before left fault fits bad
 
 -- ---- what is refused has a bad field
 
@@ -114,21 +127,21 @@ wire_err left (Ok x) fault e = absurd cc
 wire_err {X} left (Err reason) fault e = (reason, refl, sym (failed_is {A = X × Left} (record { at = left.at; reason = Wire reason }) fault e))
 
 -- an identifier that was read
-named_from : (left : Left) (id : ℕ) (behind : Left) → AreBytes left.rest → from_wire (placed left (varint_at left.rest)) ≡ Ok (id, behind) → Named left id behind × AreBytes behind.rest
+pub named_from : (left : Left) (id : ℕ) (behind : Left) → AreBytes left.rest → from_wire (placed left (varint_at left.rest)) ≡ Ok (id, behind) → Numbered left id behind × AreBytes behind.rest
 named_from left id behind fits e =
     let found = placed_ok left (varint_at left.rest) id behind (from_wire_ok (placed left (varint_at left.rest)) (id, behind) e) in
     let stands : Stands IsVarint varint_spelling left.rest id found.0 = varint_exact.only left.rest id found.0 fits found.1 in
-    subst (λ (l : Left). Named left id l × AreBytes l.rest) (sym found.2)
-    (record { number = stands.value; spelled = stands.spelled; place = ap (λ (n : ℕ). left.at + n) stands.taken }, AreBytes-drop found.0 left.rest fits)
+    subst (λ (l : Left). Numbered left id l × AreBytes l.rest) (sym found.2)
+    (record { is_number = stands.value; spelled = stands.spelled; place = ap (λ (n : ℕ). left.at + n) stands.taken }, AreBytes-drop found.0 left.rest fits)
 
 -- an identifier's line names the property
-named_by : (left : Left) (id : ℕ) (behind : Left) (line : Line) → Named left id behind → row_of id ≡ Some line → NamedBy left line behind
+named_by : (left : Left) (id : ℕ) (behind : Left) (line : Line) → Numbered left id behind → row_of id ≡ Some line → NamedBy left line behind
 named_by left id behind line named known =
     let same = sym (line_known id line known) in
-    record { named = subst (λ (i : ℕ). Named left i behind) same named; known = subst (λ (i : ℕ). row_of i ≡ Some line) same known }
+    record { named = subst (λ (i : ℕ). Numbered left i behind) same named; known = subst (λ (i : ℕ). row_of i ≡ Some line) same known }
 
 -- the line of an identifier is refused
-line_breaks : (place : Place) (before : List Property) (left : Left) (id : ℕ) (behind : Left) (fault : PropFault) (o : Option Line) → Named left id behind → row_of id ≡ o → judged_at left.at (admitted place before o) ≡ Err fault → BreaksIdentifier place before left fault
+line_breaks : (place : Place) (before : List Property) (left : Left) (id : ℕ) (behind : Left) (fault : PropFault) (o : Option Line) → Numbered left id behind → row_of id ≡ o → judged_at left.at (admitted place before o) ≡ Err fault → BreaksIdentifier place before left fault
 line_breaks place before left id behind fault None named known e = inr (inl (record { id = id; behind = behind; named = named; unknown = known; is = sym (failed_is {A = Line} (record { at = left.at; reason = Unknown }) fault e) }))
 line_breaks place before left id behind fault (Some line) named known e =
     let by_line = named_by left id behind line named known in
@@ -148,14 +161,14 @@ mapped_err {X} {Y} make (Err first) reason e = ap (λ (other : Reason). refused_
     reason_is : {A : Type 0} (a b : Reason) → refused_for {A = A} a ≡ refused_for b → a ≡ b
     reason_is a b same = cc
 
-unspelled_from : (kind : ValueType) (bytes : List ℕ) (reason : Reason) → value_at kind bytes ≡ Err reason → IsUnspelled kind bytes reason
-unspelled_from types.Byte bytes reason e = mapped_err byte (byte_at bytes) reason e
-unspelled_from types.TwoBytes bytes reason e = mapped_err two_bytes (two_bytes_at bytes) reason e
-unspelled_from types.FourBytes bytes reason e = mapped_err four_bytes (four_bytes_at bytes) reason e
-unspelled_from types.Varint bytes reason e = mapped_err varint (varint_at bytes) reason e
-unspelled_from types.Text bytes reason e = mapped_err text (text_at bytes) reason e
-unspelled_from types.Pair bytes reason e = mapped_err pair_of (pair_at bytes) reason e
-unspelled_from types.Binary bytes reason e = mapped_err binary (binary_at bytes) reason e
+misspelled_from : (kind : ValueType) (bytes : List ℕ) (reason : Reason) → AreBytes bytes → value_at kind bytes ≡ Err reason → Misspelled (field_type kind) bytes reason
+misspelled_from types.Byte bytes reason fits e = (byte_misspelled.exactly bytes reason fits).0 (mapped_err byte (byte_at bytes) reason e)
+misspelled_from types.TwoBytes bytes reason fits e = (two_bytes_misspelled.exactly bytes reason fits).0 (mapped_err two_bytes (two_bytes_at bytes) reason e)
+misspelled_from types.FourBytes bytes reason fits e = (four_bytes_misspelled.exactly bytes reason fits).0 (mapped_err four_bytes (four_bytes_at bytes) reason e)
+misspelled_from types.Varint bytes reason fits e = (varint_misspelled.exactly bytes reason fits).0 (mapped_err varint (varint_at bytes) reason e)
+misspelled_from types.Text bytes reason fits e = (text_misspelled.exactly bytes reason fits).0 (mapped_err text (text_at bytes) reason e)
+misspelled_from types.Pair bytes reason fits e = (pair_misspelled.exactly bytes reason fits).0 (mapped_err pair_of (pair_at bytes) reason e)
+misspelled_from types.Binary bytes reason fits e = (binary_misspelled.exactly bytes reason fits).0 (mapped_err binary (binary_at bytes) reason e)
 
 -- a property, with what is left after it
 abbrev with_rest : Left → Property → Result (Property × Left) PropFault
@@ -180,7 +193,7 @@ value_breaks place before left line behind fault fits begins e =
     elim (bind_err (from_wire (value_on line.kind behind)) (λ value. judged_at behind.at (valued place line value.0) >>= λ property. Ok (property, value.1)) fault e) [
       | inl first ↦
           let x = wire_err behind (value_at line.kind behind.rest) fault (sym (ap from_wire (value_on_is line.kind behind)) ∙ first) in
-          inl (record { line = line; behind = behind; begins = begins; reason = x.0; unspelled = unspelled_from line.kind behind.rest x.0 x.1; is = x.2 })
+          inl (record { line = line; behind = behind; begins = begins; reason = x.0; misspelled = misspelled_from line.kind behind.rest x.0 fits x.1; is = x.2 })
       | inr value ↦
           let found = placed_ok behind (value_at line.kind behind.rest) value.0.0 value.0.1 (sym (value_on_is line.kind behind) ∙ from_wire_ok (value_on line.kind behind) value.0 value.1) in
           let stands : Stands (IsOf line.kind) value_spelling behind.rest value.0.0 found.0 = (value_exact line.kind).only behind.rest value.0.0 found.0 fits found.1 in
@@ -192,7 +205,7 @@ pub property_breaks : (place : Place) (before : List Property) (left : Left) (fa
 unfolding property_on
 property_breaks place before left fault fits e =
     elim (bind_err (from_wire (placed left (varint_at left.rest))) (λ id. with_line place id.1 (judged_at left.at (admitted place before (row_of id.0)))) fault e) [
-      | inl first ↦ let x = wire_err left (varint_at left.rest) fault first in inl (inl (record { reason = x.0; unspelled = x.1; is = x.2 }))
+      | inl first ↦ let x = wire_err left (varint_at left.rest) fault first in inl (inl (record { reason = x.0; misspelled = (varint_misspelled.exactly left.rest x.0 fits).0 x.1; is = x.2 }))
       | inr id ↦
           let named = named_from left id.0.0 id.0.1 fits id.1 in
           elim (bind_err (judged_at left.at (admitted place before (row_of id.0.0))) (λ line. with_value place line id.0.1.at (value_on line.kind id.0.1)) fault id.2) [

@@ -1,20 +1,22 @@
 -- A property list that breaks in a field is refused for it.
-use Rattle.std.proofs.Common.{◌≡◌, ℕ, zero, suc, ◌+◌, ◌<◌, ◌≤◌, List, [], ◌∷◌, ◌++◌, length, drop, Result, Ok, Err, sym, ap, ◌∙◌, inl, inr, append_assoc, length-append, arith}
+use Rattle.std.proofs.Common.{◌≡◌, ℕ, zero, suc, ◌+◌, ◌<◌, ◌≤◌, List, [], ◌∷◌, ◌++◌, length, take, Result, Ok, Err, refl, sym, ap, subst, ◌∙◌, inl, inr, append_assoc, length-append, arith}
 use Rattle.std.proofs.lemmas.Bool.{lt-ltb, le-ltb}
-use Rattle.std.proofs.lemmas.List.{append-nil}
+use Rattle.std.proofs.lemmas.List.{append-nil, take_at}
 use Rattle.std.proofs.lemmas.List.Concat.{flat_map-cons}
 use Rattle.mq_wire.specs.declared.fault.Reason.{Reason}
+use Rattle.mq_wire.specs.declared.fault.WireFault.{WireFault}
 use Rattle.mq_wire.specs.Left.{Left, past, placed}
 use Rattle.mq_wire.specs.Fields.{varint_at}
-use Rattle.mq_wire.specs.Spellings.{varint_spelling}
+use Rattle.mq_wire.specs.Spellings.{AreBytes, varint_spelling}
+use Rattle.mq_wire.proofs.MisspelledLaws.{varint_misspelled}
 use Rattle.mq_props.specs.declared.fault.PropFault.{PropFault}
 use Rattle.mq_props.specs.declared.table.Place.{Place}
 use Rattle.mq_props.specs.Values.{Property, value_spelling, property_spelling, body}
 use Rattle.mq_props.specs.Allowed.{AllowedBehind}
 use Rattle.mq_props.specs.Breaks.{LongLength, BadProperty, Breaks}
 use Rattle.mq_props.specs.Reading.{◌>>=◌, from_wire, counted, property_on, properties_within, properties_on, list_on}
-use Rattle.mq_props.proofs.BadFieldLemmas.{breaks_property}
-use Rattle.mq_props.proofs.Exact.{left_at, after, property_read, spelling_some, some_bytes}
+use Rattle.mq_props.proofs.BadFieldLemmas.{named_on, bytes_behind, breaks_property}
+use Rattle.mq_props.proofs.Exact.{AreBytes-take, left_at, after, property_read, spelling_some, some_bytes}
 
 abbrev done : {A : Type 0} → A → Result A PropFault
 done x = Ok x
@@ -54,8 +56,8 @@ unfolding properties_on
 refused_all place good at others fault some allowed e = refused_behind (length (body good ++ others)) place [] good at others fault (omega arith) some allowed e
 
 -- the list whose length was read
-abbrev list_of_length : Place → Left → Result (ℕ × ℕ) Reason → Result (List Property × Left) PropFault
-list_of_length place left r = from_wire (placed left r) >>= λ len. counted left len.0 len.1 >>= λ inside. properties_on place [] inside >>= λ ps. Ok (ps, past len.1 len.0)
+abbrev list_of_length : Place → Left → Result (ℕ × Left) WireFault → Result (List Property × Left) PropFault
+list_of_length place left r = from_wire r >>= λ len. counted left len.0 len.1 >>= λ inside. properties_on place [] inside >>= λ ps. Ok (ps, past len.1 len.0)
 
 abbrev list_inside : Place → Left → Result Left PropFault → Result (List Property × Left) PropFault
 list_inside place behind r = r >>= λ inside. properties_on place [] inside >>= λ ps. Ok (ps, behind)
@@ -63,21 +65,36 @@ list_inside place behind r = r >>= λ inside. properties_on place [] inside >>= 
 abbrev list_from : Left → Result (List Property) PropFault → Result (List Property × Left) PropFault
 list_from behind r = r >>= λ ps. Ok (ps, behind)
 
-long_list : (place : Place) (left : Left) (fault : PropFault) → LongLength left fault → list_of_length place left (varint_at left.rest) ≡ failed fault
+long_list : (place : Place) (left : Left) (fault : PropFault) → LongLength left fault → list_of_length place left (placed left (varint_at left.rest)) ≡ failed fault
 long_list place left fault long =
-    ap (list_of_length place left) long.spelled ∙ rw (lt-ltb (length (drop long.size left.rest)) long.len long.passes) (ap failed (sym long.is))
+    ap (list_of_length place left) (named_on left long.len long.inside long.numbered) ∙ rw (lt-ltb (length long.inside.rest) long.len long.passes) (ap failed (sym long.is))
 
-bad_list : (place : Place) (left : Left) (fault : PropFault) → BadProperty place left fault → list_of_length place left (varint_at left.rest) ≡ failed fault
-bad_list place left fault bad =
-    let behind : Left = past (past left bad.size) bad.len in
-    let inside : counted left bad.len (past left bad.size) ≡ done (left_at (left.at + bad.size) (body bad.good ++ bad.others)) =
-    rw (le-ltb (length (drop bad.size left.rest)) bad.len bad.within) (ap (λ (bytes : List ℕ). done (left_at (left.at + bad.size) bytes)) bad.parts) in
-    ap (list_of_length place left) bad.spelled
-    ∙ ap (list_inside place behind) inside
-    ∙ ap (list_from behind) (refused_all place bad.good (left.at + bad.size) bad.others fault bad.some bad.allowed (breaks_property place bad.good (left_at (left.at + bad.size + length (body bad.good)) bad.others) fault bad.refused))
+-- the bytes that the length counts
+counted_inside : (start inside : Left) (counts behind : List ℕ) → inside.rest ≡ counts ++ behind → counted start (length counts) inside ≡ done (left_at inside.at counts)
+counted_inside start inside counts behind is =
+    let enough : length counts ≤ length inside.rest = omega (arith, ap length is, length-append counts behind) in
+    rw (le-ltb (length inside.rest) (length counts) enough) (ap (λ (bytes : List ℕ). done (left_at inside.at bytes)) (ap (take (length counts)) is ∙ take_at counts behind (length counts) refl))
 
-pub breaks_list : (place : Place) (left : Left) (fault : PropFault) → Breaks place left fault → list_on place left ≡ Err fault
+-- the others are bytes
+others_fit : (place : Place) (left : Left) (fault : PropFault) (bad : BadProperty place left fault) → AreBytes left.rest → AreBytes bad.others
+others_fit place left fault bad fits =
+    let counts : List ℕ = body bad.good ++ bad.others in
+    let inside : AreBytes bad.inside.rest = bytes_behind (varint_spelling (length counts)) bad.inside.rest left.rest fits bad.numbered.spelled in
+    let counted : AreBytes counts = subst (λ (bytes : List ℕ). AreBytes bytes) (ap (take (length counts)) bad.parts ∙ take_at counts bad.behind (length counts) refl) (AreBytes-take (length counts) bad.inside.rest inside) in
+    bytes_behind (body bad.good) bad.others counts counted refl
+
+bad_list : (place : Place) (left : Left) (fault : PropFault) → AreBytes left.rest → BadProperty place left fault → list_of_length place left (placed left (varint_at left.rest)) ≡ failed fault
+bad_list place left fault fits bad =
+    let counts : List ℕ = body bad.good ++ bad.others in
+    let after_all : Left = past bad.inside (length counts) in
+    let first : Left = left_at (bad.inside.at + length (body bad.good)) bad.others in
+    ap (list_of_length place left) (named_on left (length counts) bad.inside bad.numbered)
+    ∙ ap (list_inside place after_all) (counted_inside left bad.inside counts bad.behind bad.parts)
+    ∙ ap (list_from after_all) (refused_all place bad.good bad.inside.at bad.others fault bad.some bad.allowed (breaks_property place bad.good first fault (others_fit place left fault bad fits) bad.refused))
+
+pub breaks_list : (place : Place) (left : Left) (fault : PropFault) → AreBytes left.rest → Breaks place left fault → list_on place left ≡ Err fault
 unfolding list_on
-breaks_list place left fault (inl bad) = ap (list_of_length place left) bad.unspelled ∙ ap failed (sym bad.is)
-breaks_list place left fault (inr (inl long)) = long_list place left fault long
-breaks_list place left fault (inr (inr bad)) = bad_list place left fault bad
+breaks_list place left fault fits (inl bad) =
+    ap (λ (r : Result (ℕ × ℕ) Reason). list_of_length place left (placed left r)) ((varint_misspelled.exactly left.rest bad.reason fits).1 bad.misspelled) ∙ ap failed (sym bad.is)
+breaks_list place left fault fits (inr (inl long)) = long_list place left fault long
+breaks_list place left fault fits (inr (inr bad)) = bad_list place left fault fits bad

@@ -1,8 +1,8 @@
 -- The reading of a property list is exact, and names the first bad field.
 use Rattle.std.proofs.Common.{◌≡◌, ℕ, zero, suc, ◌+◌, ◌<◌, ◌≤◌, eqb, ltb, false, List, [], ◌∷◌, ◌++◌, length, take, drop, Result, Ok, Err, refl, sym, ap, subst, ◌∙◌, inl, inr, append_assoc, length-append, arith}
 use Rattle.std.specs.Prelude.{IsOkAnd, IfOk, IfErr}
-use Rattle.std.proofs.lemmas.Bool.{cases_Bool, cases_lt, ltb-true, ltb-false, le-ltb}
-use Rattle.std.proofs.lemmas.List.{take_at, drop_at, drop-drop, get_or-take, get_or_past, length-take, append-nil, take-append-drop}
+use Rattle.std.proofs.lemmas.Bool.{cases_Bool, ltb-true, ltb-false, le-ltb}
+use Rattle.std.proofs.lemmas.List.{take_at, drop_at, drop-drop, length-take, append-nil, take-append-drop}
 use Rattle.std.proofs.lemmas.List.Concat.{flat_map-cons}
 use Rattle.mq_wire.specs.declared.fault.Reason.{Reason}
 use Rattle.mq_wire.specs.declared.fault.Reason.TheVariants.{Short}
@@ -10,6 +10,7 @@ use Rattle.mq_wire.specs.declared.fault.WireFault.{WireFault}
 use Rattle.mq_wire.specs.Left.{Left, past, placed}
 use Rattle.mq_wire.specs.Fields.{varint_at}
 use Rattle.mq_wire.specs.Spellings.{AreBytes, IsVarint, varint_spelling, Stands}
+use Rattle.mq_wire.proofs.MisspelledLaws.{varint_misspelled}
 use Rattle.mq_wire.proofs.Placed.{placed_ok}
 use Rattle.mq_wire.proofs.Varint.{varint_exact}
 use Rattle.mq_props.specs.declared.fault.PropFault.{PropFault}
@@ -17,19 +18,13 @@ use Rattle.mq_props.specs.declared.fault.PropReason.TheVariants.{Wire}
 use Rattle.mq_props.specs.declared.table.Place.{Place}
 use Rattle.mq_props.specs.Values.{Property, property_spelling, body}
 use Rattle.mq_props.specs.Allowed.{AllowedBehind, AreAllowed, Lists}
+use Rattle.mq_props.specs.BadFields.{Numbered}
 use Rattle.mq_props.specs.Breaks.{Breaks}
 use Rattle.mq_props.specs.Listed.{Listed}
 use Rattle.mq_props.specs.Reading.{◌>>=◌, from_wire, counted, property_on, properties_within, properties_on, list_on, Reads}
 use Rattle.mq_props.proofs.Steps.{property_on_ok, found_shorter, bind_ok, done_is, from_wire_ok}
-use Rattle.mq_props.proofs.BadFieldLemmas.{property_breaks}
-use Rattle.mq_props.proofs.Exact.{AreBytes-drop, found_spells, named_read, properties_only, properties_all}
-
-AreBytes-take : (n : ℕ) (bytes : List ℕ) → AreBytes bytes → AreBytes (take n bytes)
-AreBytes-take n bytes fits i =
-    elim (cases_lt i n) [
-      | inl lt ↦ rw (get_or-take n bytes i 0 lt) (fits i)
-      | inr le ↦ rw (get_or_past (take n bytes) i 0 (omega (arith, length-take n bytes, le))) (omega arith)
-    ]
+use Rattle.mq_props.proofs.BadFieldLemmas.{bytes_behind, property_breaks}
+use Rattle.mq_props.proofs.Exact.{AreBytes-drop, AreBytes-take, found_spells, named_read, properties_only, properties_all}
 
 abbrev done : {A : Type 0} → A → Result A PropFault
 done x = Ok x
@@ -206,21 +201,27 @@ with_rest new ps = Ok (ps, new)
 breaks_behind : (place : Place) (left : Left) (fault : PropFault) (len n : ℕ) → AreBytes left.rest → varint_at left.rest ≡ Ok (len, n)
     → (counted left len (past left n) >>= λ inside. properties_on place [] inside >>= λ qs. with_rest (past (past left n) len) qs) ≡ Err fault → Breaks place left fault
 breaks_behind place left fault len n fits named e =
+    let stands : Stands IsVarint varint_spelling left.rest len n = varint_exact.only left.rest len n fits named in
+    let numbered : Numbered left len (past left n) = record { is_number = stands.value; spelled = stands.spelled; place = ap (λ (k : ℕ). left.at + k) stands.taken } in
     elim (cases_Bool (ltb (length (drop n left.rest)) len)) [
-      | inl short ↦ inr (inl (record { len = len; size = n; spelled = named; passes = ltb-true (length (drop n left.rest)) len short; is = sym (failed_is {A = List Property × Left} (record { at = left.at; reason = Wire Short }) fault (rw short at e)) }))
+      | inl short ↦ inr (inl (record { len = len; inside = past left n; numbered = numbered; passes = ltb-true (length (drop n left.rest)) len short; is = sym (failed_is {A = List Property × Left} (record { at = left.at; reason = Wire Short }) fault (rw short at e)) }))
       | inr enough ↦
-          let inside : Left = left_at (left.at + n) (take len (drop n left.rest)) in
+          let rest : List ℕ = drop n left.rest in
+          let inside : Left = left_at (left.at + n) (take len rest) in
+          let inside_fits : AreBytes inside.rest = AreBytes-take len rest (AreBytes-drop n left.rest fits) in
           let f : properties_on place [] inside ≡ Err fault = last_err (properties_on place [] inside) (λ (qs : List Property). (qs, past (past left n) len)) fault (rw enough at e) in
-          let refused = refused_on_all place inside fault (AreBytes-take len (drop n left.rest) (AreBytes-drop n left.rest fits)) f in
-          let others_fit : AreBytes refused.others =
-          subst (λ (bytes : List ℕ). AreBytes bytes) (ap (drop (length (body refused.good))) refused.parts ∙ drop_at (body refused.good) refused.others (length (body refused.good)) refl) (AreBytes-drop (length (body refused.good)) inside.rest (AreBytes-take len (drop n left.rest) (AreBytes-drop n left.rest fits))) in
+          let refused = refused_on_all place inside fault inside_fits f in
+          let others_fit : AreBytes refused.others = bytes_behind (body refused.good) refused.others inside.rest inside_fits refused.parts in
+          let size : len ≡ length (body refused.good ++ refused.others) = omega (arith, ap length refused.parts, length-take len rest, ltb-false (length rest) len enough) in
+          let whole : rest ≡ (body refused.good ++ refused.others) ++ drop len rest = sym (take-append-drop len rest) ∙ ap (λ (front : List ℕ). front ++ drop len rest) refused.parts in
           let bad = property_breaks place refused.good (left_at (left.at + n + length (body refused.good)) refused.others) fault others_fit refused.refused in
-          inr (inr (record { len = len; size = n; spelled = named; within = ltb-false (length (drop n left.rest)) len enough; good = refused.good; allowed = refused.allowed; others = refused.others; some = refused.some; parts = refused.parts; refused = bad }))
+          inr (inr (record { good = refused.good; others = refused.others; behind = drop len rest; inside = past left n; numbered = subst (λ (k : ℕ). Numbered left k (past left n)) size numbered; parts = whole; allowed = refused.allowed; some = refused.some; refused = bad }))
     ]
 
 breaks_by : (place : Place) (left : Left) (fault : PropFault) (r : Result (ℕ × ℕ) Reason) → AreBytes left.rest → varint_at left.rest ≡ r
     → (from_wire (placed left r) >>= λ len. counted left len.0 len.1 >>= λ inside. properties_on place [] inside >>= λ qs. with_rest (past len.1 len.0) qs) ≡ Err fault → Breaks place left fault
-breaks_by place left fault (Err reason) fits is e = inl (record { reason = reason; unspelled = is; is = sym (failed_is {A = List Property × Left} (record { at = left.at; reason = Wire reason }) fault e) })
+breaks_by place left fault (Err reason) fits is e =
+    inl (record { reason = reason; misspelled = (varint_misspelled.exactly left.rest reason fits).0 is; is = sym (failed_is {A = List Property × Left} (record { at = left.at; reason = Wire reason }) fault e) })
 breaks_by place left fault (Ok x) fits is e = breaks_behind place left fault x.0 x.1 fits is e
 
 pub list_breaks : (place : Place) (left : Left) (fault : PropFault) → AreBytes left.rest → list_on place left ≡ Err fault → Breaks place left fault

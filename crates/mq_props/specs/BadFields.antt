@@ -1,8 +1,9 @@
 -- The first bad field of a property (MQTT 5.0, 2.2.2.2), apart from any reading of properties.
-use Rattle.std.specs.Prelude.{◌≡◌, ℕ, ◌+◌, ◌⊎◌, true, false, List, ◌++◌, length, None, Some, Err}
+use Rattle.std.specs.Prelude.{◌≡◌, ℕ, ◌+◌, ◌⊎◌, true, false, List, ◌++◌, length, None, Some}
 use Rattle.mq_wire.specs.declared.fault.Reason.{Reason}
 use Rattle.mq_wire.specs.Left.{Left}
-use Rattle.mq_wire.specs.Fields.{byte_at, two_bytes_at, four_bytes_at, varint_at, text_at, binary_at, pair_at}
+use Rattle.mq_wire.specs.FieldTypes.{FieldType, byte, two_byte_integer, four_byte_integer, variable_byte_integer, utf8_string, string_pair, binary_data}
+use Rattle.mq_wire.specs.Misspelled.{Misspelled}
 use Rattle.mq_wire.specs.Spellings.{IsVarint, varint_spelling}
 use Rattle.mq_props.specs.declared.fault.PropFault.{PropFault}
 use Rattle.mq_props.specs.declared.fault.PropReason.TheVariants.{Wire, Unknown, NotAllowed, Repeated, Value as BadValue, Wildcard}
@@ -13,15 +14,15 @@ use Rattle.mq_props.specs.Table.{Line, row_of, is_listed}
 use Rattle.mq_props.specs.Values.{Value, Property, type_of, IsValue, value_spelling}
 use Rattle.mq_props.specs.Allowed.{is_repeated, in_range, is_wild}
 
--- An identifier stands spelled at the front of what is left, and this is left after it.
-pub record Named (left : Left) (id : ℕ) (behind : Left) : Type 0 where
-  pub number : IsVarint id
-  pub spelled : left.rest ≡ varint_spelling id ++ behind.rest
-  pub place : behind.at ≡ left.at + length (varint_spelling id)
+-- A Variable Byte Integer stands spelled at the front of what is left, and this is left after it.
+pub record Numbered (left : Left) (number : ℕ) (behind : Left) : Type 0 where
+  pub is_number : IsVarint number
+  pub spelled : left.rest ≡ varint_spelling number ++ behind.rest
+  pub place : behind.at ≡ left.at + length (varint_spelling number)
 
 -- The identifier of a line of the table stands there.
 pub record NamedBy (left : Left) (line : Line) (behind : Left) : Type 0 where
-  pub named : Named left line.id behind
+  pub named : Numbered left line.id behind
   pub known : row_of line.id ≡ Some line
 
 -- It does, and a property of the line may stand in the place's list after these.
@@ -37,28 +38,27 @@ pub record IsValued (kind : ValueType) (left : Left) (value : Value) : Type 0 wh
   pub rest : List ℕ
   pub spelled : left.rest ≡ value_spelling value ++ rest
 
--- No value of the type is spelled at the front of the bytes, for this reason. Which bytes are refused so is said for
--- each type of field apart from its reading (mq_wire's Refused).
-abbrev pub IsUnspelled : ValueType → List ℕ → Reason → Type 0
-IsUnspelled types.Byte bytes reason = byte_at bytes ≡ Err reason
-IsUnspelled types.TwoBytes bytes reason = two_bytes_at bytes ≡ Err reason
-IsUnspelled types.FourBytes bytes reason = four_bytes_at bytes ≡ Err reason
-IsUnspelled types.Varint bytes reason = varint_at bytes ≡ Err reason
-IsUnspelled types.Text bytes reason = text_at bytes ≡ Err reason
-IsUnspelled types.Pair bytes reason = pair_at bytes ≡ Err reason
-IsUnspelled types.Binary bytes reason = binary_at bytes ≡ Err reason
+-- The type of field that the values of a type are (1.5).
+abbrev pub field_type : ValueType → FieldType
+field_type types.Byte = byte
+field_type types.TwoBytes = two_byte_integer
+field_type types.FourBytes = four_byte_integer
+field_type types.Varint = variable_byte_integer
+field_type types.Text = utf8_string
+field_type types.Pair = string_pair
+field_type types.Binary = binary_data
 
--- The identifier isn't spelled.
+-- The identifier is misspelled.
 pub record BadIdentifier (left : Left) (fault : PropFault) : Type 0 where
   pub reason : Reason
-  pub unspelled : varint_at left.rest ≡ Err reason
+  pub misspelled : Misspelled variable_byte_integer left.rest reason
   pub is : fault ≡ record { at = left.at; reason = Wire reason }
 
 -- No property has the identifier.
 pub record UnknownProperty (left : Left) (fault : PropFault) : Type 0 where
   pub id : ℕ
   pub behind : Left
-  pub named : Named left id behind
+  pub named : Numbered left id behind
   pub unknown : row_of id ≡ None
   pub is : fault ≡ record { at = left.at; reason = Unknown }
 
@@ -79,13 +79,13 @@ pub record RepeatedProperty (place : Place) (before : List Property) (left : Lef
   pub again : is_repeated place before line.id ≡ true
   pub is : fault ≡ record { at = left.at; reason = Repeated }
 
--- The property may stand there, and its value isn't spelled.
-pub record UnspelledValue (place : Place) (before : List Property) (left : Left) (fault : PropFault) : Type 0 where
+-- The property may stand there, and its value is misspelled.
+pub record MisspelledValue (place : Place) (before : List Property) (left : Left) (fault : PropFault) : Type 0 where
   pub line : Line
   pub behind : Left
   pub begins : Begins place before left line behind
   pub reason : Reason
-  pub unspelled : IsUnspelled line.kind behind.rest reason
+  pub misspelled : Misspelled (field_type line.kind) behind.rest reason
   pub is : fault ≡ record { at = behind.at; reason = Wire reason }
 
 -- The value is spelled, and out of its range.
@@ -115,7 +115,7 @@ BreaksIdentifier place before left fault = BadIdentifier left fault ⊎ (Unknown
 
 -- It is that of the value after an identifier that may stand there.
 abbrev pub BreaksValue : Place → List Property → Left → PropFault → Type 0
-BreaksValue place before left fault = UnspelledValue place before left fault ⊎ (ValueOutOfRange place before left fault ⊎ WildValue place before left fault)
+BreaksValue place before left fault = MisspelledValue place before left fault ⊎ (ValueOutOfRange place before left fault ⊎ WildValue place before left fault)
 
 -- It is that of the property's first bad field.
 abbrev pub BreaksProperty : Place → List Property → Left → PropFault → Type 0

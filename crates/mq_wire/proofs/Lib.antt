@@ -1,5 +1,6 @@
 pub mod Back
 pub mod Exact
+pub mod MisspelledLaws
 pub mod Placed
 pub mod PlainLaws
 pub mod Refusals

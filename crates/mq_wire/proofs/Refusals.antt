@@ -1,6 +1,6 @@
 -- Why each kind of field is refused.
 use Rattle.std.proofs.Common.{◌≡◌, ℕ, zero, suc, ◌+◌, ◌-◌, ◌*◌, ◌<◌, ◌⊎◌, Bool, true, false, cond, List, [], ◌∷◌, ◌++◌, length, drop, Result, Ok, Err, refl, sym, ap, ◌∙◌, inl, inr, arith}
-use Rattle.std.specs.Prelude.{replicate}
+use Rattle.std.specs.Prelude.{◌≢◌, ◌↔◌, replicate}
 use Rattle.std.specs.Int.{w16, w32, from_be_bytes}
 use Rattle.std.specs.Str.{IsUtf8, is_utf8}
 use Rattle.std.proofs.lemmas.Bool.{cases_lt, lt-ltb, le-ltb, ne_eqb}
@@ -10,10 +10,28 @@ use Rattle.mq_wire.specs.declared.fault.Reason.{Reason}
 use Rattle.mq_wire.specs.declared.fault.Reason.TheVariants.{Short, Overlong, NotUtf8, Nul}
 use Rattle.mq_wire.specs.Fields.{◌>>=◌, byte_at, two_bytes_at, four_bytes_at, ended_by, fourth_byte, third_byte, second_byte, varint_at, counted, binary_at, text_of, text_at, pair_at}
 use Rattle.mq_wire.specs.Spellings.{AreBytes, IsByte, byte_spelling, IsTwoBytes, two_bytes_spelling, IsFourBytes, four_bytes_spelling, IsVarint, varint_spelling, IsBinary, binary_spelling, has_nul, Stands, IsExact}
-use Rattle.mq_wire.specs.Refused.{IsCutShort, NoneStands, RefusesShort, RefusesVarints, RefusesTexts, RefusesPairs}
+use Rattle.mq_wire.specs.Misspelled.{IsCutShort, NoneStands, IsNotUtf8, HasNul}
 use Rattle.mq_wire.proofs.Exact.{done, done_is, byte_exact, two_bytes_from, two_bytes_exact, four_bytes_from, four_bytes_exact, binary_exact, exact_settled}
 use Rattle.mq_wire.proofs.Texts.{not_utf8, with_nul}
 use Rattle.mq_wire.proofs.Varint.{spelling_of_1, spelling_of_2, spelling_of_3, spelling_of_4, varint_exact, varint_settled}
+
+-- a reading that refuses nothing but bytes that end before the field does
+pub record RefusesShort {X : Type 0} (read : List ℕ → Result (X × ℕ) Reason) (IsValue : X → Type 0) (spelling : X → List ℕ) : Type 0 where
+  pub short : (bytes : List ℕ) → AreBytes bytes → (read bytes ≡ Err Short) ↔ IsCutShort IsValue spelling bytes
+  pub only_so : (bytes : List ℕ) (reason : Reason) → read bytes ≡ Err reason → reason ≡ Short
+
+-- numbers that end too early, and those that are too long: neither cut short nor spelled
+pub record RefusesVarints : Type 0 where
+  pub short : (bytes : List ℕ) → AreBytes bytes → (varint_at bytes ≡ Err Short) ↔ IsCutShort IsVarint varint_spelling bytes
+  pub overlong : (bytes : List ℕ) → AreBytes bytes → (varint_at bytes ≡ Err Overlong) ↔ ((¬ IsCutShort IsVarint varint_spelling bytes) × NoneStands IsVarint varint_spelling bytes)
+  pub only_so : (bytes : List ℕ) (reason : Reason) → varint_at bytes ≡ Err reason → (reason ≡ Short) ⊎ (reason ≡ Overlong)
+
+-- texts that end too early, else those that aren't UTF-8, else those with U+0000
+pub record RefusesTexts : Type 0 where
+  pub short : (bytes : List ℕ) → AreBytes bytes → (text_at bytes ≡ Err Short) ↔ IsCutShort IsBinary binary_spelling bytes
+  pub not_utf8 : (bytes : List ℕ) → AreBytes bytes → (text_at bytes ≡ Err NotUtf8) ↔ IsNotUtf8 bytes
+  pub nul : (bytes : List ℕ) → AreBytes bytes → (text_at bytes ≡ Err Nul) ↔ HasNul bytes
+  pub only_so : (bytes : List ℕ) → AreBytes bytes → text_at bytes ≢ Err Overlong
 
 -- a reading that was refused for this
 abbrev failed : {A : Type 0} → Reason → Result A Reason
@@ -234,7 +252,7 @@ varint_overlong bytes fits not_cut none (Err reason) e =
     ]
 
 -- what stands at the front of the bytes is read
-stands_read : {X : Type 0} {read : List ℕ → Result (X × ℕ) Reason} {IsValue : X → Type 0} {spelling : X → List ℕ} → IsExact read IsValue spelling → (bytes : List ℕ) (x : X) (n : ℕ) → Stands IsValue spelling bytes x n → read bytes ≡ Ok (x, n)
+pub stands_read : {X : Type 0} {read : List ℕ → Result (X × ℕ) Reason} {IsValue : X → Type 0} {spelling : X → List ℕ} → IsExact read IsValue spelling → (bytes : List ℕ) (x : X) (n : ℕ) → Stands IsValue spelling bytes x n → read bytes ≡ Ok (x, n)
 stands_read {X} {read} exact bytes x n stands =
     ap read stands.spelled ∙ exact.all x (drop n bytes) stands.value ∙ ap (λ (k : ℕ). Ok (x, k)) (sym stands.taken)
 
@@ -382,16 +400,13 @@ text_refused = record {
 
 -- ---- pairs of texts
 
-pair_first : (bytes : List ℕ) (reason : Reason) → text_at bytes ≡ Err reason → pair_at bytes ≡ Err reason
+pub pair_first : (bytes : List ℕ) (reason : Reason) → text_at bytes ≡ Err reason → pair_at bytes ≡ Err reason
 unfolding pair_at
 pair_first bytes reason e =
     ap (λ (found : Result (List ℕ × ℕ) Reason). found >>= λ name. text_at (drop name.1 bytes) >>= λ value. Ok ((name.0, value.0), name.1 + value.1)) e
 
-pair_second : (bytes name : List ℕ) (n : ℕ) (reason : Reason) → text_at bytes ≡ Ok (name, n) → text_at (drop n bytes) ≡ Err reason → pair_at bytes ≡ Err reason
+pub pair_second : (bytes name : List ℕ) (n : ℕ) (reason : Reason) → text_at bytes ≡ Ok (name, n) → text_at (drop n bytes) ≡ Err reason → pair_at bytes ≡ Err reason
 unfolding pair_at
 pair_second bytes name n reason is e =
     ap (λ (found : Result (List ℕ × ℕ) Reason). found >>= λ name. text_at (drop name.1 bytes) >>= λ value. Ok ((name.0, value.0), name.1 + value.1)) is
     ∙ ap (λ (found : Result (List ℕ × ℕ) Reason). found >>= λ value. Ok ((name, value.0), n + value.1)) e
-
-pub pair_refused : RefusesPairs
-pair_refused = record { first = pair_first; second = pair_second }

@@ -1,5 +1,6 @@
+pub mod FieldTypes
 pub mod Fields
 pub mod Left
+pub mod Misspelled
 pub mod Plain
-pub mod Refused
 pub mod Spellings

@@ -1,8 +1,11 @@
 //! Laws of the fields. Each is proved as the contract of a function that does nothing.
 
+ghost use Rattle.std.specs.Prelude.{◌≡◌, ◌↔◌, ℕ, List};
+ghost use Rattle.mq_wire.specs.declared.fault.Reason.{Reason};
 ghost use Rattle.mq_wire.specs.Fields.{byte_at, two_bytes_at, four_bytes_at, varint_at, text_at, binary_at, pair_at};
-ghost use Rattle.mq_wire.specs.Refused.{RefusesShort, RefusesVarints, RefusesTexts, RefusesPairs};
-ghost use Rattle.mq_wire.specs.Spellings.{IsExact, IsByte, byte_spelling, IsTwoBytes, two_bytes_spelling, IsFourBytes, four_bytes_spelling, IsVarint, varint_spelling, IsBinary, binary_spelling, IsText, text_spelling, IsPair, pair_spelling};
+ghost use Rattle.mq_wire.specs.FieldTypes.{FieldType, byte, two_byte_integer, four_byte_integer, variable_byte_integer, utf8_string, string_pair, binary_data, IsFieldValue, field_spelling};
+ghost use Rattle.mq_wire.specs.Misspelled.{NoneStands, Misspelled, RefusesMisspelled};
+ghost use Rattle.mq_wire.specs.Spellings.{AreBytes, IsExact, IsByte, byte_spelling, IsTwoBytes, two_bytes_spelling, IsFourBytes, four_bytes_spelling, IsVarint, varint_spelling, IsBinary, binary_spelling, IsText, text_spelling, IsPair, pair_spelling};
 
 /// A byte: what is read is spelled so, and what is spelled so is read.
 #[tactic(auto, using(crate::proofs::Exact::byte_exact))]
@@ -49,47 +52,56 @@ pub fn pair_is_exact()
 {}
 
 /// A byte: refused are exactly the bytes that end before it, as `Short`.
-#[tactic(auto, using(crate::proofs::Refusals::byte_refused))]
+#[tactic(auto, using(crate::proofs::MisspelledLaws::byte_misspelled))]
 pub fn byte_is_refused()
-    ensures { RefusesShort byte_at IsByte byte_spelling }
+    ensures { RefusesMisspelled byte_at byte }
 {}
 
 /// A Two Byte Integer: refused are exactly the bytes that end before it does, as `Short` (MQTT 5.0,
 /// 1.5.2).
-#[tactic(auto, using(crate::proofs::Refusals::two_bytes_refused))]
+#[tactic(auto, using(crate::proofs::MisspelledLaws::two_bytes_misspelled))]
 pub fn two_bytes_is_refused()
-    ensures { RefusesShort two_bytes_at IsTwoBytes two_bytes_spelling }
+    ensures { RefusesMisspelled two_bytes_at two_byte_integer }
 {}
 
 /// A Four Byte Integer: refused are exactly the bytes that end before it does, as `Short` (MQTT 5.0,
 /// 1.5.3).
-#[tactic(auto, using(crate::proofs::Refusals::four_bytes_refused))]
+#[tactic(auto, using(crate::proofs::MisspelledLaws::four_bytes_misspelled))]
 pub fn four_bytes_is_refused()
-    ensures { RefusesShort four_bytes_at IsFourBytes four_bytes_spelling }
+    ensures { RefusesMisspelled four_bytes_at four_byte_integer }
 {}
 
-/// A Variable Byte Integer: bytes that end before it does are `Short`, and all others that don't
-/// begin with one are `Overlong` (MQTT 5.0, 1.5.5).
-#[tactic(auto, using(crate::proofs::Refusals::varint_refused))]
+/// A Variable Byte Integer: bytes that end before it does are `Short`, and those in which it has a
+/// shorter form or runs past four bytes are `Overlong` (MQTT 5.0, 1.5.5).
+#[tactic(auto, using(crate::proofs::MisspelledLaws::varint_misspelled))]
 pub fn varint_is_refused()
-    ensures { RefusesVarints }
+    ensures { RefusesMisspelled varint_at variable_byte_integer }
 {}
 
 /// Binary Data: refused are exactly the bytes that end before it does, as `Short` (MQTT 5.0, 1.5.6).
-#[tactic(auto, using(crate::proofs::Refusals::binary_refused))]
+#[tactic(auto, using(crate::proofs::MisspelledLaws::binary_misspelled))]
 pub fn binary_is_refused()
-    ensures { RefusesShort binary_at IsBinary binary_spelling }
+    ensures { RefusesMisspelled binary_at binary_data }
 {}
 
 /// A UTF-8 Encoded String: bytes that end before it does are `Short`, else those that aren't
 /// well-formed UTF-8 are `NotUtf8`, else those with U+0000 are `Nul` (MQTT 5.0, 1.5.4).
-#[tactic(auto, using(crate::proofs::Refusals::text_refused))]
+#[tactic(auto, using(crate::proofs::MisspelledLaws::text_misspelled))]
 pub fn text_is_refused()
-    ensures { RefusesTexts }
+    ensures { RefusesMisspelled text_at utf8_string }
 {}
 
 /// A UTF-8 String Pair: refused as its first text is, else as its second (MQTT 5.0, 1.5.7).
-#[tactic(auto, using(crate::proofs::Refusals::pair_refused))]
+#[tactic(auto, using(crate::proofs::MisspelledLaws::pair_misspelled))]
 pub fn pair_is_refused()
-    ensures { RefusesPairs }
+    ensures { RefusesMisspelled pair_at string_pair }
+{}
+
+/// What is misspelled for some reason is exactly what begins with no value of the type, and the reason
+/// is one (MQTT 5.0, 1.5).
+pub fn misspelled_is_unspelled()
+    ensures none { (type : FieldType) (bytes : List ℕ) → AreBytes bytes
+        → ((reason : Reason) × Misspelled type bytes reason) ↔ NoneStands (IsFieldValue type) (field_spelling type) bytes }
+    ensures once { (type : FieldType) (bytes : List ℕ) (reason other : Reason) → AreBytes bytes
+        → Misspelled type bytes reason → Misspelled type bytes other → reason ≡ other }
 {}

@@ -12,7 +12,7 @@ pub use cursor::Cursor;
 pub use fault::{PutFault, Reason, WireFault};
 pub use laws::{
     binary_is_exact, binary_is_refused, byte_is_exact, byte_is_refused, four_bytes_is_exact,
-    four_bytes_is_refused, pair_is_exact, pair_is_refused, text_is_exact, text_is_refused,
-    two_bytes_is_exact, two_bytes_is_refused, varint_is_exact, varint_is_refused,
+    four_bytes_is_refused, misspelled_is_unspelled, pair_is_exact, pair_is_refused, text_is_exact,
+    text_is_refused, two_bytes_is_exact, two_bytes_is_refused, varint_is_exact, varint_is_refused,
 };
 pub use put::{put_binary, put_pair, put_text, put_u8, put_u16, put_u32, put_varint};
