@@ -234,5 +234,16 @@ properties_all place at ps allowed = properties_read (length (body ps)) place []
 pub list_read : (place : Place) (at : ℕ) (bytes : List ℕ) (ps : List Property) → AreBytes bytes → length bytes ≤ 268435455 → properties_on place [] (left_at at bytes) ≡ Ok ps → (items_of bytes ≡ ps) × IsList place bytes
 list_read place at bytes ps fits bound e =
     let only = properties_only place at bytes ps fits e in
-    let same : items_of bytes ≡ ps = ap items_of only.0 ∙ items_of-body place ps only.1 in
-    (same, record { spelled = only.0 ∙ ap body (sym same); allowed = subst (λ (qs : List Property). AreAllowed place qs) (sym same) only.1; bound = bound })
+    (ap items_of only.0 ∙ items_of-body place ps only.1, record { properties = ps; allowed = only.1; spelled = only.0; bound = bound })
+
+-- a list's properties are those that are read from its bytes
+pub list_items : (place : Place) (bytes : List ℕ) (is : IsList place bytes) → items_of bytes ≡ is.properties
+list_items place bytes is = ap items_of is.spelled ∙ items_of-body place is.properties is.allowed
+
+-- so the bytes spell what is read from them
+pub list_spelled : (place : Place) (bytes : List ℕ) → IsList place bytes → bytes ≡ body (items_of bytes)
+list_spelled place bytes is = is.spelled ∙ ap body (sym (list_items place bytes is))
+
+-- and it may make a list in the place
+pub list_allowed : (place : Place) (bytes : List ℕ) → IsList place bytes → AreAllowed place (items_of bytes)
+list_allowed place bytes is = subst (λ (ps : List Property). AreAllowed place ps) (sym (list_items place bytes is)) is.allowed

@@ -14,11 +14,14 @@ use Rattle.mq_props.specs.Table.{Line, row_of, is_listed}
 use Rattle.mq_props.specs.Values.{Value, Property, IsValue, type_of, value_spelling, property_spelling, body}
 use Rattle.mq_props.specs.Allowed.{is_repeated, in_range, is_wild, IsAllowed, AllowedBehind, AreAllowed}
 use Rattle.mq_props.specs.Reading.{items_of, items_on}
+use Rattle.mq_props.specs.declared.seen.Seen.{Seen}
+use Rattle.mq_props.specs.Views.{Sees}
 use Rattle.mq_props.specs.Listed.{Listed, IsList}
+use Rattle.mq_props.specs.Making.{Keeps}
 use Rattle.mq_props.specs.Pushing.{nul_in, is_long, is_large, is_bad, overflows, fault_of}
 use Rattle.mq_props.proofs.Finding.{line_known}
 use Rattle.mq_props.proofs.PropLines.{prop_line}
-use Rattle.mq_props.proofs.Exact.{items_of-body}
+use Rattle.mq_props.proofs.Exact.{items_of-body, list_items, list_spelled, list_allowed}
 
 -- an identifier is spelled in one byte
 pub id_spelled : (id : ℕ) → id < 128 → varint_spelling id ≡ id ∷ []
@@ -121,6 +124,7 @@ pushed place bytes p line is known typed valid e =
     let list : Listed = record { place = place; items = items_of bytes } in
     let t = taken list p line known e in
     let same = line_known p.id line known in
+    let spelled : bytes ≡ body (items_of bytes) = list_spelled place bytes is in
     let allowed : IsAllowed place (items_of bytes) p = record {
       line = line;
       known = known;
@@ -131,23 +135,23 @@ pushed place bytes p line is known typed valid e =
       ranged = t.ranged;
       plain = subst (λ (id : ℕ). is_wild place id p.value ≡ false) same t.plain;
     } in
-    let all : AreAllowed place (items_of bytes ++ p ∷ []) = allowed-push place [] (items_of bytes) p is.allowed allowed in
-    let whole : bytes ++ property_spelling p ≡ body (items_of bytes ++ p ∷ []) = ap (λ (front : List ℕ). front ++ property_spelling p) is.spelled ∙ sym (body-push (items_of bytes) p) in
+    let all : AreAllowed place (items_of bytes ++ p ∷ []) = allowed-push place [] (items_of bytes) p (list_allowed place bytes is) allowed in
+    let whole : bytes ++ property_spelling p ≡ body (items_of bytes ++ p ∷ []) = ap (λ (front : List ℕ). front ++ property_spelling p) spelled ∙ sym (body-push (items_of bytes) p) in
     let items : items_of (bytes ++ property_spelling p) ≡ items_of bytes ++ p ∷ [] = ap items_of whole ∙ items_of-body place (items_of bytes ++ p ∷ []) all in
     let size : length (property_spelling (record { id = line.id; value = p.value })) ≡ length (property_spelling p) = ap (λ (id : ℕ). length (property_spelling (record { id = id; value = p.value }))) same in
     record {
       items = items;
       is_list = record {
-        spelled = whole ∙ ap body (sym items);
-        allowed = subst (λ (ps : List Property). AreAllowed place ps) (sym items) all;
-        bound = omega (arith, t.fits, size, ap length is.spelled, length-append bytes (property_spelling p));
+        properties = items_of bytes ++ p ∷ [];
+        allowed = all;
+        spelled = whole;
+        bound = omega (arith, t.fits, size, ap length spelled, length-append bytes (property_spelling p));
       };
     }
 
 -- a list of no properties
 pub empty_list : (place : Place) → IsList place []
-unfolding items_of items_on
-empty_list place = record { spelled = refl; allowed = tt; bound = omega arith }
+empty_list place = record { properties = []; allowed = tt; spelled = refl; bound = omega arith }
 
 pub items_of-nil : items_of [] ≡ []
 unfolding items_of items_on
@@ -188,6 +192,18 @@ leaves place bytes new prop p same is e ok valid =
     let typed : type_of p.value ≡ line.line.kind = ap (λ (q : Property). type_of q.value) same ∙ line.typed in
     let done = pushed place bytes p line.line is known typed valid e in
     record { is_list = subst (λ (all : List ℕ). IsList place all) (sym ok) done.is_list; items = ap items_of ok ∙ done.items }
+
+-- where nothing was seen, no property is kept
+pub keeps_nothing : (place : Place) (seen : Seen) → Sees seen [] → Keeps place seen []
+keeps_nothing place seen sees = record { is_list = record { properties = []; allowed = tt; spelled = refl; bound = omega arith }; sees = sees }
+
+-- what was seen are the properties that are read from the bytes
+pub sees_items : (place : Place) (seen : Seen) (bytes : List ℕ) → Keeps place seen bytes → Sees seen (items_of bytes)
+sees_items place seen bytes keeps = subst (λ (ps : List Property). Sees seen ps) (sym (list_items place bytes keeps.is_list)) keeps.sees
+
+-- it is kept, where the property was seen
+pub keeps_more : (place : Place) (seen : Seen) (bytes new : List ℕ) (p : Property) → Leaves place bytes new p → Sees seen (items_of bytes ++ p ∷ []) → Keeps place seen new
+keeps_more place seen bytes new p left sees = record { is_list = left.is_list; sees = subst (λ (ps : List Property). Sees seen ps) (sym left.items ∙ list_items place new left.is_list) sees }
 
 pub listed_after : (place : Place) (bytes new : List ℕ) (list : Listed) (p q : Property) → (let was : Listed = record { place = place; items = items_of bytes } in was) ≡ list → p ≡ q → items_of new ≡ items_of bytes ++ p ∷ []
     → (let now : Listed = record { place = place; items = items_of new } in now) ≡ record { place = list.place; items = list.items ++ q ∷ [] }

@@ -3,15 +3,15 @@ use Rattle.std.specs.Prelude.{◌≡◌, ℕ, ◌≤◌, List, length}
 use Rattle.mq_props.specs.declared.table.Place.{Place}
 use Rattle.mq_props.specs.Values.{Property, body}
 use Rattle.mq_props.specs.Allowed.{AreAllowed}
-use Rattle.mq_props.specs.Reading.{items_of}
 
 -- A list of properties, and where it stands.
 pub record Listed : Type 0 where
   pub place : Place
   pub items : List Property
 
--- The bytes spell properties that may make a list in the place, and no more than a length can count.
+-- Some properties that may make a list in the place have these bytes, no more than a length can count.
 pub record IsList (place : Place) (bytes : List ℕ) : Type 0 where
-  pub spelled : bytes ≡ body (items_of bytes)
-  pub allowed : AreAllowed place (items_of bytes)
+  pub properties : List Property
+  pub allowed : AreAllowed place properties
+  pub spelled : bytes ≡ body properties
   pub bound : length bytes ≤ 268435455

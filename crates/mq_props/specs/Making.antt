@@ -2,7 +2,6 @@
 use Rattle.std.specs.Prelude.{ℕ, List}
 use Rattle.mq_props.specs.declared.table.Place.{Place}
 use Rattle.mq_props.specs.declared.seen.Seen.{Seen}
-use Rattle.mq_props.specs.Reading.{items_of}
 use Rattle.mq_props.specs.Listed.{Listed, IsList}
 use Rattle.mq_props.specs.Views.{Sees}
 
@@ -11,7 +10,7 @@ pub record Made : Type 0 where
   pub list : Listed
   pub spare : ℕ
 
--- The bytes are those of a list in the place, and the identifiers of its properties have been seen.
+-- The bytes are those of a list in the place, and the identifiers that were seen are those of its properties.
 pub record Keeps (place : Place) (seen : Seen) (bytes : List ℕ) : Type 0 where
   pub is_list : IsList place bytes
-  pub sees : Sees seen (items_of bytes)
+  pub sees : Sees seen is_list.properties

@@ -8,7 +8,8 @@ use Rattle.mq_props.specs.Reading.{items_of}
 use Rattle.mq_props.specs.Listed.{Listed}
 use Rattle.mq_props.specs.Making.{Made}
 use Rattle.mq_props.specs.Pushing.{fault_of}
-use Rattle.mq_props.proofs.Pushes.{writes, never_memory, leaves, listed_after}
+use Rattle.mq_props.proofs.Exact.{list_spelled}
+use Rattle.mq_props.proofs.Pushes.{writes, never_memory, sees_items, keeps_more, leaves, listed_after}
 use Rattle.mq_props.proofs.buf.PropsBuf.push.Goals as goal
 
 pub returns-in-Some-clause-memory : goal.returns-in-Some-clause-memory
@@ -18,6 +19,12 @@ returns-in-Some-clause-memory c = λ is.
     let same : c.in-Some.fault ≡ Memory = cc in
     let found : fault_of list item.value (row_of item.id) ≡ Some c.in-Some.fault = rw c.deref.ensures.value at (sym c.fault_in.ensures ∙ c.in-Some.is) in
     absurd (never_memory list item.value (row_of item.id) (subst (λ (f : PushFault). fault_of list item.value (row_of item.id) ≡ Some f) same found))
+
+pub fault_in-requires-clause-sees : goal.fault_in-requires-clause-sees
+fault_in-requires-clause-sees c = rw c.deref.ensures.value (sees_items c.self.inside.place c.self.inside.seen c.self.inside.bytes.items c.self.invariant)
+
+pub fault_in-requires-clause-spelled : goal.fault_in-requires-clause-spelled
+fault_in-requires-clause-spelled c = rw c.deref.ensures.value (list_spelled c.self.inside.place c.self.inside.bytes.items c.self.invariant.is_list)
 
 pub append-requires-clause-long : goal.append-requires-clause-long
 append-requires-clause-long c =
@@ -39,10 +46,8 @@ invariant_of-self-2 c =
     let bytes = c.self.inside.bytes.items in
     let e : fault_of (record { place = c.self.inside.place; items = items_of bytes }) item.value (row_of item.id) ≡ None = rw c.deref.ensures.value at (sym c.fault_in.ensures ∙ c.in_default.is) in
     let left = leaves c.self.inside.place bytes c.append.new.out.items c.args.prop.now item c.item_of-item.ensures c.self.invariant.is_list e c.in_ok-append.ensures.ok c.in_ok-append.ensures.valid in
-    record {
-      is_list = left.is_list;
-      sees = subst (λ (ps : List Property). Sees c.add.new.self ps) (sym left.items) (c.add.ensures (items_of bytes) item c.self.invariant.sees refl);
-    }
+    let seen = sees_items c.self.inside.place c.self.inside.seen bytes c.self.invariant in
+    keeps_more c.self.inside.place c.add.new.self bytes c.append.new.out.items item left (c.add.ensures (items_of bytes) item seen refl)
 
 pub returns-clause-ok : goal.returns-clause-ok
 returns-clause-ok c =
