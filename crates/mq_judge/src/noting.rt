@@ -1,11 +1,16 @@
 //! What is noted of the events of a log.
 ghost use Rattle.std.specs.Prelude.{◌≡◌, ◌≤◌, ◌⊎◌, [], ◌∷◌, length, reverse, true, vec_len, vec_capacity, OnOk, OnErr};
+ghost use Rattle.mq_packet.specs.Entries.{publish as publish_entry};
+ghost use Rattle.mq_packet.specs.Reading.{publish_view};
+ghost use Rattle.mq_trace.specs.Events.{packet};
+ghost use Rattle.mq_trace.specs.Flows.{going};
 ghost use Rattle.mq_trace.specs.Hearing.{event_of, placed_at};
 ghost use Rattle.mq_rules.specs.Notes.{note_keeps_text, note_of, seen};
 ghost use Rattle.mq_rules.specs.Moments.{IsPlaced};
 
+use mq_packet::Publish;
 use mq_rules::{Memory, Note, Seen};
-use mq_trace::{Event, Place3, Refusal, Sink};
+use mq_trace::{Event, Place3, Refusal, Sink, Way};
 use std::alloc::Global;
 
 /// The events that were received, the oldest first.
@@ -44,6 +49,29 @@ impl Notes {
         Ok(())
     }
 
+    /// Notes the next event, which is a PUBLISH of so many bytes, goes this way, and stands at this place.
+    ///
+    /// # Errors
+    ///
+    /// `Memory` where there is no room for one more note, or none for a text that the note keeps. The notes are then unchanged.
+    #[inline(always)]
+    fn note_publish(
+        &mut self,
+        place: Place3,
+        way: Way,
+        size: u32,
+        publish: &Publish<'_>,
+    ) -> Result<(), Memory>
+        ensures noted { OnOk result (reverse self.new.seen.items ≡ record { place = place; note = note_of (going way (packet size (publish_entry (publish_view publish.now)))) } ∷ reverse self.old.seen.items) }
+        ensures needed { OnErr result ((vec_capacity self.old.seen ≤ vec_len self.old.seen) ⊎ (note_keeps_text (note_of (going way (packet size (publish_entry (publish_view publish.now))))) ≡ true)) }
+        ensures unchanged { OnErr result (self.new.seen.items ≡ self.old.seen.items) }
+    {
+        self.seen.reserve(1)?;
+        let note = Note::of_publish(self.alloc, way, size, publish)?;
+        self.seen.push(Seen { place, note }).unwrap();
+        Ok(())
+    }
+
     /// How many events were received: the newest one's position.
     pub fn count(&self) -> u32
         ensures { IsPlaced (reverse self.now.seen.items) → result ≡ length self.now.seen.items }
@@ -68,6 +96,20 @@ impl Sink for Notes {
     #[inline(always)]
     fn event(&mut self, place: Place3, event: Event<'_>) -> Result<(), Refusal> {
         match self.note(place, &event) {
+            Ok(()) => Ok(()),
+            Err(Memory) => Err(Refusal::Memory(0)),
+        }
+    }
+
+    #[inline(always)]
+    fn publish(
+        &mut self,
+        place: Place3,
+        way: Way,
+        size: u32,
+        publish: Publish<'_>,
+    ) -> Result<(), Refusal> {
+        match self.note_publish(place, way, size, &publish) {
             Ok(()) => Ok(()),
             Err(Memory) => Err(Refusal::Memory(0)),
         }

@@ -8,7 +8,7 @@ use Rattle.mq_wire.specs.Left.{Left, placed}
 use Rattle.mq_wire.specs.Fields.{varint_at, ended_by, second_byte, third_byte, fourth_byte}
 
 -- One to four bytes were taken.
-abbrev OneToFour : Result (ℕ × ℕ) Reason → Type 0
+abbrev pub OneToFour : Result (ℕ × ℕ) Reason → Type 0
 OneToFour (Ok x) = (1 ≤ x.1) × (x.1 ≤ 4)
 OneToFour (Err reason) = Unit {0}
 
@@ -40,7 +40,7 @@ second_length n (d ∷ c) =
       | false ↦ third_length (n + 128 * (d - 128)) c
     ]
 
-varint_length : (c : List ℕ) → OneToFour (varint_at c)
+pub varint_length : (c : List ℕ) → OneToFour (varint_at c)
 unfolding varint_at
 varint_length [] = tt
 varint_length (d ∷ c) =

@@ -8,6 +8,7 @@ use Rattle.mq_wire.specs.declared.fault.Reason.TheVariants as reasons
 use Rattle.mq_wire.specs.Fields.{varint_at, second_byte, third_byte, fourth_byte, ended_by}
 use Rattle.mq_packet.specs.declared.header.FixedHeader.{FixedHeader}
 use Rattle.mq_packet.specs.declared.header.FixedHeader.TheVariants.{Short, Lost, Whole}
+use Rattle.mq_packet.proofs.Lengths.{OneToFour, varint_length}
 use Rattle.mq_packet.specs.Stream.{remaining_length, header_with, fixed_header_of, size_within, frame_size, is_overlong, is_lost}
 
 -- A number that was read has more than n bytes.
@@ -253,6 +254,19 @@ size_above a header size e = told (remaining_length a) e
     told (Err reasons.Overlong) e = (cc)
     told (Err reasons.NotUtf8) e = (cc)
     told (Err reasons.Nul) e = (cc)
+
+-- A whole fixed header has five bytes at most.
+pub header_few : (a : List ℕ) (header size : ℕ) → fixed_header_of a ≡ Whole header size → header ≤ 5
+unfolding fixed_header_of
+header_few [] header size e = (cc)
+header_few (first ∷ behind) header size e = told (varint_at behind) (varint_length behind) e
+  where
+    told : (r : Result (ℕ × ℕ) Reason) → OneToFour r → header_with r ≡ Whole header size → header ≤ 5
+    told (Ok x) bounds e = (let h : 1 + x.1 ≡ header = cc in omega (arith, h, bounds.1))
+    told (Err reasons.Short) bounds e = (cc)
+    told (Err reasons.Overlong) bounds e = (cc)
+    told (Err reasons.NotUtf8) bounds e = (cc)
+    told (Err reasons.Nul) bounds e = (cc)
 
 -- The size that a fixed header names isn't 0.
 pub not_empty : (a : List ℕ) (header size : ℕ) → fixed_header_of a ≡ Whole header size → 0 < size

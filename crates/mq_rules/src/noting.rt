@@ -7,6 +7,9 @@ ghost use Rattle.mq_props.specs.First.{first_two_bytes, first_four_bytes, first_
 ghost use Rattle.mq_packet.specs.declared.packet.RequestKind.TheVariants as requests;
 ghost use Rattle.mq_packet.specs.Reading.{view, connect_view, publish_view};
 ghost use Rattle.mq_packet.specs.Sizes.{size_with, remaining_length};
+ghost use Rattle.mq_packet.specs.Entries.{publish as publish_entry};
+ghost use Rattle.mq_trace.specs.Events.{packet};
+ghost use Rattle.mq_trace.specs.Flows.{going};
 ghost use Rattle.mq_trace.specs.Hearing.{item_of, event_of};
 ghost use Rattle.mq_rules.specs.Notes.{kept, is_sent_way, connect_note, connack_note, publish_note, packet_fields, properties_of, packet_note, item_note, note_of, request_fields, answer_fields, keeps_text, item_keeps_text, note_keeps_text};
 
@@ -165,8 +168,16 @@ impl PublishNote {
         ensures needed { OnErr result (0 < length (publish_note way (publish_view publish.now)).topic) }
     {
         let topic = kept_topic(alloc, way, publish.topic)?;
+        Ok(PublishNote::with_topic(topic, publish))
+    }
+
+    /// What the statements look at of this PUBLISH, where this is kept of its Topic Name.
+    #[inline(always)]
+    fn with_topic(topic: Text, publish: &Publish<'_>) -> PublishNote
+        ensures { (way : Way) → topic ≡ kept (is_sent_way way) publish.now.topic.now → result ≡ publish_note way (publish_view publish.now) }
+    {
         let properties = filled(&publish.properties);
-        Ok(PublishNote {
+        PublishNote {
             identifier: publish.identifier,
             qos: publish.qos,
             duplicate: publish.duplicate,
@@ -174,7 +185,7 @@ impl PublishNote {
             topic_alias: topic_alias(properties),
             has_message_expiry: has_message_expiry(properties),
             has_subscription_identifier: has_subscription_identifier(properties),
-        })
+        }
     }
 }
 
@@ -351,6 +362,46 @@ impl ItemNote {
 }
 
 impl Note {
+    /// What the statements look at of a PUBLISH of so many bytes, which went this way.
+    ///
+    /// # Errors
+    ///
+    /// `Memory` where room for its Topic Name was refused, which is kept of a PUBLISH that was sent.
+    #[inline(always)]
+    pub fn of_publish(
+        alloc: Global,
+        way: Way,
+        size: u32,
+        publish: &Publish<'_>,
+    ) -> Result<Note, Memory>
+        ensures exact { IfOk result (λ note. note ≡ note_of (going way (packet size (publish_entry (publish_view publish.now))))) }
+        ensures needed { OnErr result (note_keeps_text (note_of (going way (packet size (publish_entry (publish_view publish.now))))) ≡ true) }
+    {
+        match kept_topic(alloc, way, publish.topic) {
+            Ok(topic) => Ok(Note::with_topic(way, size, topic, publish)),
+            Err(memory) => Err(memory),
+        }
+    }
+
+    /// The same, where this is kept of the Topic Name. It is made in one piece, since each move of a note costs more than what is
+    /// noted.
+    #[inline(always)]
+    fn with_topic(way: Way, size: u32, topic: Text, publish: &Publish<'_>) -> Note
+        ensures { topic ≡ kept (is_sent_way way) publish.now.topic.now → result ≡ note_of (going way (packet size (publish_entry (publish_view publish.now)))) }
+    {
+        let properties = filled(&publish.properties);
+        let note = ItemNote::Packet(PacketNote {
+            size,
+            has_reason_string: has_reason_string(properties),
+            has_user_property: has_user_property(properties),
+            fields: PacketFields::Publish(PublishNote::with_topic(topic, publish)),
+        });
+        match way {
+            Way::Sent => Note::Sent(note),
+            Way::Recv => Note::Recv(note),
+        }
+    }
+
     /// What the statements look at of this event.
     ///
     /// # Errors

@@ -51,15 +51,20 @@ read_by_body frame header size e =
     (let rest : take (length frame - header) (drop header frame) ≡ drop header frame = grind (arith, take_all, length-drop) in
     rw (rest, ← e) refl)
 
+-- The size of a packet that was read of a frame's body.
+pub packet_sized : (frame : List ℕ) (header size : ℕ) (p : Packet) → ((i : ℕ) → slice_index frame i < 256) → frame_size frame ≡ Some (length frame) → Whole header size ≡ fixed_header_of frame
+    → remaining_length p ≡ length (take (length frame - header) (drop header frame))
+    → size_with (remaining_length p) ≡ Some (length frame)
+packet_sized frame header size p bytes whole e is =
+    (let rest : take (length frame - header) (drop header frame) ≡ drop header frame = grind (arith, take_all, length-drop) in
+    let known : (length frame ≡ size) × (1 ≤ header) × (header ≤ size) = framed frame header size whole e in
+    size_of_frame frame header size p bytes (sym e) known.0 (is ∙ ap length rest))
+
 -- A packet that was read of a frame's body, with its size.
 pub packet_read : (frame : List ℕ) (header size : ℕ) (p : Packet) → ((i : ℕ) → slice_index frame i < 256) → frame_size frame ≡ Some (length frame) → Whole header size ≡ fixed_header_of frame
     → remaining_length p ≡ length (take (length frame - header) (drop header frame))
     → packet (unwrap_or (size_with (remaining_length p)) 0) (view p) ≡ packet (length frame) (view p)
-packet_read frame header size p bytes whole e is =
-    (let rest : take (length frame - header) (drop header frame) ≡ drop header frame = grind (arith, take_all, length-drop) in
-    let known : (length frame ≡ size) × (1 ≤ header) × (header ≤ size) = framed frame header size whole e in
-    let sized : size_with (remaining_length p) ≡ Some (length frame) = size_of_frame frame header size p bytes (sym e) known.0 (is ∙ ap length rest) in
-    ap (λ (o : Option ℕ). packet (unwrap_or o 0) (view p)) sized)
+packet_read frame header size p bytes whole e is = ap (λ (o : Option ℕ). packet (unwrap_or o 0) (view p)) (packet_sized frame header size p bytes whole e is)
 
 -- What a frame is, by what its body says.
 pub packet_item : (frame : List ℕ) (header : ℕ) (p : Packet) → ((i : ℕ) → slice_index frame i < 256) → Whole header (length frame) ≡ fixed_header_of frame

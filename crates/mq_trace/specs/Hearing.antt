@@ -1,5 +1,7 @@
 -- What a sink receives of a log.
 use Rattle.std.specs.Prelude.{◌≡◌, ℕ, List, ◌++◌, Option, None, unwrap_or}
+use Rattle.mq_packet.specs.declared.packet.Publish.{Publish}
+use Rattle.mq_packet.specs.declared.packet.Packet.TheVariants as packets
 use Rattle.mq_packet.specs.Reading.{view}
 use Rattle.mq_packet.specs.Sizes.{size_with, remaining_length}
 use Rattle.mq_trace.specs.declared.place.Place3.{Place3}
@@ -8,6 +10,8 @@ use Rattle.mq_trace.specs.declared.event.Item.{Item as HeardItem}
 use Rattle.mq_trace.specs.declared.event.Item.TheVariants as items
 use Rattle.mq_trace.specs.declared.event.Event.{Event as HeardEvent}
 use Rattle.mq_trace.specs.declared.event.Event.TheVariants as heard
+use Rattle.mq_trace.specs.declared.kind.Way.{Way}
+use Rattle.mq_trace.specs.Flows.{going}
 use Rattle.mq_trace.specs.Events.{Item, Event, Placed, packet, bad, lost, opened, closed, rested, released, sent, received, events}
 use Rattle.mq_trace.specs.Refusals.{refused}
 
@@ -28,6 +32,10 @@ event_of (heard.Recv item) = received (item_of item)
 -- the event at its place
 abbrev pub placed_at : Place3 → HeardEvent → Placed
 placed_at place event = record { place = place; event = event_of event }
+
+-- the event of a PUBLISH that goes this way, at its place
+abbrev pub published_at : Place3 → Way → Publish → Placed
+published_at place way p = record { place = place; event = going way (item_of (items.Packet (packets.Publish p))) }
 
 -- These are the events of some log that isn't refused, the newest first.
 pub record AreEvents (heard : List Placed) : Type 0 where

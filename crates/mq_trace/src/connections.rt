@@ -1,16 +1,22 @@
 //! What is kept of the events of a log, and telling a sink of the next one.
 
-ghost use Rattle.std.specs.Prelude.{◌≡◌, ◌+◌, [], ◌∷◌, ◌<◌, ◌&&◌, not, List, Some, None, OnOk, IfErr};
-ghost use Rattle.mq_trace.specs.Events.{Placed};
+ghost use Rattle.std.specs.Prelude.{◌≡◌, ◌+◌, ℕ, Bool, [], ◌∷◌, ◌<◌, ◌&&◌, not, List, Some, None, OnOk, IfErr, unwrap_or};
+ghost use Rattle.mq_packet.specs.Entries.{PublishFields, publish};
+ghost use Rattle.mq_packet.specs.Sizes.{size_with, remaining_length};
+ghost use Rattle.mq_packet.specs.declared.packet.Packet.TheVariants as packets;
+ghost use Rattle.mq_trace.specs.Events.{Placed, packet};
+ghost use Rattle.mq_trace.specs.Flows.{going};
+ghost use Rattle.mq_trace.specs.declared.event.Item.TheVariants as items;
 ghost use Rattle.mq_trace.specs.Connections.{begins, ends, is_answer, needs_answer, is_packet, is_connack, needs_session};
 ghost use Rattle.mq_trace.specs.Hearing.{AreEvents, Declines, event_of, item_of};
 ghost use Rattle.mq_trace.specs.Telling.{met_by, connections_with, next_placed, Untold, RefusedBySink};
 
 use super::event::{Event, Item};
+use super::kind::Way;
 use super::place::Place3;
 use super::refusal::Refusal;
 use super::sink::Sink;
-use mq_packet::Packet;
+use mq_packet::{Packet, Publish};
 
 /// What is kept of the events of a log.
 #[derive(Clone, Copy, Debug, PartialEq, Eq)]
@@ -46,6 +52,85 @@ pub fn tell<S: Sink>(
     match met_by(*connections, at, &event) {
         Some(refusal) => Err(refusal),
         None => tell_next(connections, server, at, record_no, event, sink),
+    }
+}
+
+/// Tells a sink of the next event, which is a PUBLISH that goes this way and has so many bytes, as `tell` tells it of any event.
+/// It needs its connection's CONNACK, and no connection begins, is answered or ends with it.
+///
+/// # Errors
+///
+/// As in `tell`.
+#[inline(always)]
+pub fn tell_published<S: Sink>(
+    connections: &mut Connections,
+    at: u64,
+    record_no: u32,
+    way: Way,
+    size: u32,
+    publish: Publish<'_>,
+    sink: &mut S,
+) -> Result<(), Refusal>
+    requires { size ≡ unwrap_or (size_with (remaining_length (packets.Publish publish))) 0 }
+    ensures met { OnOk result (met_by at connections.old (going way (item_of (items.Packet (packets.Publish publish.entry)))) ≡ None) }
+    ensures kept { (server : Bool) → OnOk result (connections.new ≡ connections_with server connections.old (going way (item_of (items.Packet (packets.Publish publish.entry))))) }
+    ensures heard { (earlier : List Placed) → S.agrees sink.old earlier → AreEvents (next_placed connections.old record_no (going way (item_of (items.Packet (packets.Publish publish.entry)))) ∷ earlier)
+        → OnOk result (S.agrees sink.new (next_placed connections.old record_no (going way (item_of (items.Packet (packets.Publish publish.entry)))) ∷ earlier)) }
+    ensures err { IfErr result (λ refusal. Untold (Declines S.agrees S.refuses) at (met_by at connections.old (going way (item_of (items.Packet (packets.Publish publish.entry))))) (next_placed connections.old record_no (going way (item_of (items.Packet (packets.Publish publish.entry)))) ∷ []) sink.old sink.new refusal) }
+{
+    match met_by_publish(*connections, at) {
+        Some(met) => Err(met),
+        None => tell_next_publish(connections, at, record_no, way, size, publish, sink),
+    }
+}
+
+/// The refusal that a PUBLISH meets which the byte at this offset completes.
+#[inline(always)]
+fn met_by_publish(connections: Connections, at: u64) -> Option<Refusal>
+    ensures met { (way : Way) (size : ℕ) (fields : PublishFields) → result ≡ met_by at connections (going way (packet size (publish fields))) }
+    ensures room { result ≡ None → connections.events < 4294967295 }
+{
+    if connections.connected && !connections.answered {
+        Some(Refusal::Early(at))
+    } else if connections.events == u32::MAX {
+        Some(Refusal::TooLong(at))
+    } else {
+        None
+    }
+}
+
+/// Tells a sink of the next event, a PUBLISH that meets no refusal.
+///
+/// # Errors
+///
+/// The sink's own refusal, at this byte.
+#[inline(always)]
+fn tell_next_publish<S: Sink>(
+    connections: &mut Connections,
+    at: u64,
+    record_no: u32,
+    way: Way,
+    size: u32,
+    publish: Publish<'_>,
+    sink: &mut S,
+) -> Result<(), Refusal>
+    requires room { connections.old.events < 4294967295 }
+    requires size { size ≡ unwrap_or (size_with (remaining_length (packets.Publish publish))) 0 }
+    ensures kept { (server : Bool) → OnOk result (connections.new ≡ connections_with server connections.old (going way (item_of (items.Packet (packets.Publish publish.entry))))) }
+    ensures heard { (earlier : List Placed) → S.agrees sink.old earlier → AreEvents (next_placed connections.old record_no (going way (item_of (items.Packet (packets.Publish publish.entry)))) ∷ earlier)
+        → OnOk result (S.agrees sink.new (next_placed connections.old record_no (going way (item_of (items.Packet (packets.Publish publish.entry)))) ∷ earlier)) }
+    ensures err { IfErr result (λ refusal. RefusedBySink (Declines S.agrees S.refuses) at (next_placed connections.old record_no (going way (item_of (items.Packet (packets.Publish publish.entry)))) ∷ []) sink.old sink.new refusal) }
+{
+    let place = Place3 {
+        position: connections.events + 1,
+        record_no,
+    };
+    match sink.publish(place, way, size, publish) {
+        Ok(()) => {
+            connections.events = place.position;
+            Ok(())
+        }
+        Err(refusal) => Err(refusal.moved(at)),
     }
 }
 

@@ -19,8 +19,8 @@ ghost use Rattle.mq_trace.specs.Settling.{IsByteMore, IsStep};
 ghost use Rattle.mq_trace.specs.Flows.{going, flow_placed_with, flow_refused, flow_heard, flow_behind};
 ghost use Rattle.mq_trace.specs.Directing.{bed_of, flow_of, frame_event, frame_met, connections_then, FlowStops, FlowComes};
 
-use super::connections::{Connections, tell};
-use super::event::{Event, Item};
+use super::connections::{Connections, tell, tell_published};
+use super::event::{Item, going};
 use super::kind::Way;
 use super::refusal::Refusal;
 use super::sink::Sink;
@@ -501,7 +501,15 @@ fn tell_publish<S: Sink>(
         (put (flow_placed_with (bed_of bed) (flow_of at (record { unfinished = []; lost = false }) connections.old) (frame_event bed.way frame.now)) []) sink.old sink.new refusal) }
 {
     match decode_publish(frame[0], &frame[header..]) {
-        Ok(publish) => tell_packet(bed, connections, at, Packet::Publish(publish), sink),
+        Ok(publish) => tell_published(
+            connections,
+            at,
+            bed.record_no,
+            bed.way,
+            frame.len() as u32,
+            publish,
+            sink,
+        ),
         Err(fault) => tell_fault(bed, connections, at, header, frame, fault, sink),
     }
 }
@@ -648,15 +656,4 @@ fn tell_bad<S: Sink>(
         going(bed.way, item),
         sink,
     )
-}
-
-/// An item that goes this way.
-#[inline(always)]
-fn going(way: Way, item: Item<'_>) -> Event<'_>
-    ensures { event_of result ≡ going way (item_of item.entry) }
-{
-    match way {
-        Way::Sent => Event::Sent(item),
-        Way::Recv => Event::Recv(item),
-    }
 }

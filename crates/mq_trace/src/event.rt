@@ -1,5 +1,10 @@
 //! What a log's bytes complete: an event at a time.
 
+ghost use Rattle.std.specs.Prelude.{◌≡◌};
+ghost use Rattle.mq_trace.specs.Flows.{going};
+ghost use Rattle.mq_trace.specs.Hearing.{event_of, item_of};
+
+use super::kind::Way;
 use mq_packet::{Packet, PacketRule};
 
 /// What stands in one direction's stream of packets.
@@ -37,4 +42,15 @@ pub enum Event<'a> {
     Sent(Item<'a>),
     /// The tested end received this.
     Recv(Item<'a>),
+}
+
+/// An item that goes this way.
+#[inline(always)]
+pub fn going(way: Way, item: Item<'_>) -> Event<'_>
+    ensures { event_of result ≡ going way (item_of item.entry) }
+{
+    match way {
+        Way::Sent => Event::Sent(item),
+        Way::Recv => Event::Recv(item),
+    }
 }

@@ -1,11 +1,12 @@
 -- A PUBLISH is told as what it is.
-use Rattle.std.proofs.Common.{◌<◌, ◌≤◌, [], false, length, sym, rules, arith, length-take, length-drop}
-use Rattle.mq_packet.proofs.StreamLaws.{size_above}
+use Rattle.std.proofs.Common.{ℕ, Option, ◌<◌, ◌≤◌, [], false, length, sym, ap, rules, arith, length-take, length-drop}
+use Rattle.std.specs.Prelude.{unwrap_or}
+use Rattle.mq_packet.proofs.StreamLaws.{size_above, header_few}
 use Rattle.mq_packet.specs.declared.packet.Packet.TheVariants as packets
 use Rattle.mq_trace.specs.declared.event.Item.TheVariants as items
 use Rattle.mq_trace.specs.Directing.{bed_of}
 use Rattle.mq_trace.specs.Hearing.{Declines, item_of}
-use Rattle.mq_trace.proofs.ItemLaws.{packet_item, told_met, told_kept, told_heard, told_err}
+use Rattle.mq_trace.proofs.ItemLaws.{frame_by_header, packet_sized, packet_item, told_met, told_kept, told_heard, told_err}
 use Rattle.mq_trace.proofs.direction.tell_publish.Goals as goal
 
 pub bounds-frame-0 : goal.bounds-frame-0
@@ -30,19 +31,32 @@ decode_publish-requires-clause-bound g c =
 pub returns-in-Ok-clause-met : goal.returns-in-Ok-clause-met
 returns-in-Ok-clause-met g c =
     let is = packet_item c.args.frame.now c.args.header (packets.Publish c.in-Ok.publish) (λ i. omega (arith, c.type_inv.frame i)) (sym c.requires.whole) (rw c.in-Ok.is at c.decode_publish.ensures.size) (rw c.in-Ok.is at c.decode_publish.ensures.exact) in
-    told_met g.S.Sink.agrees (Declines g.S.Sink.agrees g.S.Sink.refuses) c.tell_packet.result c.args.at (record { unfinished = []; lost = false }) c.args.connections.now (bed_of c.args.bed) c.args.frame.now (item_of (items.Packet (packets.Publish c.in-Ok.publish))) is c.tell_packet.ensures.met
+    told_met g.S.Sink.agrees (Declines g.S.Sink.agrees g.S.Sink.refuses) c.tell_published.result c.args.at (record { unfinished = []; lost = false }) c.args.connections.now (bed_of c.args.bed) c.args.frame.now (item_of (items.Packet (packets.Publish c.in-Ok.publish))) is c.tell_published.ensures.met
 
 pub returns-in-Ok-clause-kept : goal.returns-in-Ok-clause-kept
 returns-in-Ok-clause-kept g c =
     let is = packet_item c.args.frame.now c.args.header (packets.Publish c.in-Ok.publish) (λ i. omega (arith, c.type_inv.frame i)) (sym c.requires.whole) (rw c.in-Ok.is at c.decode_publish.ensures.size) (rw c.in-Ok.is at c.decode_publish.ensures.exact) in
-    told_kept g.S.Sink.agrees (Declines g.S.Sink.agrees g.S.Sink.refuses) c.tell_packet.result c.args.at (record { unfinished = []; lost = false }) c.args.connections.now (bed_of c.args.bed) c.args.frame.now (item_of (items.Packet (packets.Publish c.in-Ok.publish))) is c.tell_packet.new.connections c.tell_packet.ensures.kept
+    told_kept g.S.Sink.agrees (Declines g.S.Sink.agrees g.S.Sink.refuses) c.tell_published.result c.args.at (record { unfinished = []; lost = false }) c.args.connections.now (bed_of c.args.bed) c.args.frame.now (item_of (items.Packet (packets.Publish c.in-Ok.publish))) is c.tell_published.new.connections (c.tell_published.ensures.kept c.args.bed.server)
 
 pub returns-in-Ok-clause-heard : goal.returns-in-Ok-clause-heard
 returns-in-Ok-clause-heard g c =
     let is = packet_item c.args.frame.now c.args.header (packets.Publish c.in-Ok.publish) (λ i. omega (arith, c.type_inv.frame i)) (sym c.requires.whole) (rw c.in-Ok.is at c.decode_publish.ensures.size) (rw c.in-Ok.is at c.decode_publish.ensures.exact) in
-    told_heard g.S.Sink.agrees (Declines g.S.Sink.agrees g.S.Sink.refuses) c.tell_packet.result c.args.at (record { unfinished = []; lost = false }) c.args.connections.now (bed_of c.args.bed) c.args.frame.now (item_of (items.Packet (packets.Publish c.in-Ok.publish))) is c.args.sink.now c.tell_packet.new.sink c.tell_packet.ensures.heard
+    told_heard g.S.Sink.agrees (Declines g.S.Sink.agrees g.S.Sink.refuses) c.tell_published.result c.args.at (record { unfinished = []; lost = false }) c.args.connections.now (bed_of c.args.bed) c.args.frame.now (item_of (items.Packet (packets.Publish c.in-Ok.publish))) is c.args.sink.now c.tell_published.new.sink c.tell_published.ensures.heard
 
 pub returns-in-Ok-clause-err : goal.returns-in-Ok-clause-err
 returns-in-Ok-clause-err g c =
     let is = packet_item c.args.frame.now c.args.header (packets.Publish c.in-Ok.publish) (λ i. omega (arith, c.type_inv.frame i)) (sym c.requires.whole) (rw c.in-Ok.is at c.decode_publish.ensures.size) (rw c.in-Ok.is at c.decode_publish.ensures.exact) in
-    told_err g.S.Sink.agrees (Declines g.S.Sink.agrees g.S.Sink.refuses) c.tell_packet.result c.args.at (record { unfinished = []; lost = false }) c.args.connections.now (bed_of c.args.bed) c.args.frame.now (item_of (items.Packet (packets.Publish c.in-Ok.publish))) is c.args.sink.now c.tell_packet.new.sink c.tell_packet.ensures.err
+    told_err g.S.Sink.agrees (Declines g.S.Sink.agrees g.S.Sink.refuses) c.tell_published.result c.args.at (record { unfinished = []; lost = false }) c.args.connections.now (bed_of c.args.bed) c.args.frame.now (item_of (items.Packet (packets.Publish c.in-Ok.publish))) is c.args.sink.now c.tell_published.new.sink c.tell_published.ensures.err
+
+pub overflow_cast-frame : goal.overflow_cast-frame
+overflow_cast-frame g c =
+    let known = size_above c.args.frame.now c.args.header (length c.args.frame.now) c.requires.whole in
+    let few : c.args.header ≤ 5 = header_few c.args.frame.now c.args.header (length c.args.frame.now) c.requires.whole in
+    omega (arith, few, c.requires.fits)
+
+pub tell_published-requires : goal.tell_published-requires
+tell_published-requires g c =
+    let frame = c.args.frame.now in
+    let whole = frame_by_header frame c.args.header c.requires.whole in
+    let sized = packet_sized frame c.args.header (length frame) (packets.Publish c.in-Ok.publish) (λ i. omega (arith, c.type_inv.frame i)) whole (sym c.requires.whole) (rw c.in-Ok.is at c.decode_publish.ensures.size) in
+    sym (ap (λ (o : Option ℕ). unwrap_or o 0) sized)
