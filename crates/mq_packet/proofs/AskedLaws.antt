@@ -9,7 +9,8 @@ use Rattle.mq_wire.specs.Fields.{◌>>=◌, two_bytes_at, counted, binary_at, te
 use Rattle.mq_wire.specs.Spellings.{text_spelling}
 use Rattle.mq_wire.proofs.Exact.{bind_ok, done, done_is, text_exact}
 use Rattle.mq_packet.specs.Entries.{AskedFilter}
-use Rattle.mq_packet.specs.Asking.{AreOptions, IsAsked, options_spelling, asked_spelling, filters_spelling, asked_with, asked_behind, asked_at, asked_then, asked_within, asked_of}
+use Rattle.mq_packet.specs.Asking.{AreOptions, IsAsked, options_spelling, asked_spelling, filters_spelling, AreAsked, AreFilters}
+use Rattle.mq_packet.specs.Elements.{asked_with, asked_behind, asked_at, asked_then, asked_within, asked_of}
 
 -- ---- one filter
 
@@ -128,6 +129,16 @@ asked_of_spelled asks [] each = asked_of-nil asks
 asked_of_spelled asks (f ∷ fs) each =
     asked_of-some asks (filters_spelling (f ∷ fs)) f (filters_spelling fs) (asked_at_spelled asks f (filters_spelling fs) each.0)
     ∙ ap (λ (others : List AskedFilter). f ∷ others) (asked_of_spelled asks fs each.1)
+
+-- Where the bytes are such filters, they are these, and may stand there.
+pub filters_are : (asks : Bool) (bytes : List ℕ) → (h : AreFilters asks bytes) → asked_of asks bytes ≡ h.filters
+filters_are asks bytes h = ap (asked_of asks) h.spelled ∙ asked_of_spelled asks h.filters h.asked.each
+
+pub filters_spelled : (asks : Bool) (bytes : List ℕ) → AreFilters asks bytes → bytes ≡ filters_spelling (asked_of asks bytes)
+filters_spelled asks bytes h = h.spelled ∙ ap filters_spelling (sym (filters_are asks bytes h))
+
+pub filters_asked : (asks : Bool) (bytes : List ℕ) → AreFilters asks bytes → AreAsked asks (asked_of asks bytes)
+filters_asked asks bytes h = subst (AreAsked asks) (sym (filters_are asks bytes h)) h.asked
 
 -- ---- how many there are
 

@@ -15,9 +15,9 @@ use Rattle.mq_packet.specs.declared.rule.PacketRule.TheVariants as rules
 use Rattle.mq_packet.specs.Entries.{AskedFilter}
 use Rattle.mq_packet.specs.Formats.{Kind, byte, text, Value, Objection, unless_broken, is_filter, filter_objection, are_options, options_objection}
 use Rattle.mq_packet.specs.Decoding.{◌>>=◌, broken, spelled, field_on, unless, read_field, some_options, options_on, with_options, options_behind, filter_on, filters_within, filters_on}
-use Rattle.mq_packet.specs.Asking.{AreOptions, IsAsked, options_spelling, asked_spelling, filters_spelling, AreAsked, asked_of}
+use Rattle.mq_packet.specs.Asking.{AreOptions, IsAsked, options_spelling, asked_spelling, filters_spelling, AreAsked}
 use Rattle.mq_packet.specs.Spelled.{spelling, Begin, FailsField, FailsOptions, FailsFilter, BadFilter}
-use Rattle.mq_packet.specs.Elements.{AreRead}
+use Rattle.mq_packet.specs.Elements.{asked_of, AreRead}
 use Rattle.mq_packet.proofs.AskedLaws.{some_is, asked_of_spelled}
 use Rattle.mq_packet.proofs.FieldLaws.{left_from, Front, field_found, field_read, field_misspelled, misspelled_field}
 use Rattle.mq_packet.proofs.ValueLaws.{unobjected}
@@ -439,10 +439,7 @@ module _ (asks : Bool) (start left : Left) (known : AreBytes start.rest) (at : G
       let spelled : start.rest ≡ filters_spelling at.before = at.parts ∙ ap (λ (rest : List ℕ). filters_spelling at.before ++ rest) none ∙ append-nil (filters_spelling at.before) in
       let same : asked_of asks start.rest ≡ at.before = ap (asked_of asks) spelled ∙ asked_of_spelled asks at.before at.each in
       record {
-        filters = record {
-          spelled = spelled ∙ ap filters_spelling (sym same);
-          asked = subst (AreAsked asks) (sym same) are;
-        };
+        filters = record { filters = at.before; asked = are; spelled = spelled };
         reads = filters_known asks start at.before are spelled ∙ ap (λ (fs : List AskedFilter). done fs) (sym same);
       }
 

@@ -3,8 +3,8 @@
 ghost use Rattle.std.specs.Prelude.{◌≡◌, ◌<◌, ◌^◌, length, Bool, [], ◌∷◌, Some, None, List, IfSome, IsSomeAnd, MatchOption};
 ghost use Rattle.std.specs.Iterator.{YieldsFirstBy, item_count};
 ghost use Rattle.mq_packet.specs.Entries.{AskedFilter};
-ghost use Rattle.mq_packet.specs.Asking.{asked_at, asked_of, filters_spelling, AreAsked};
-ghost use Rattle.mq_packet.specs.Elements.{filter_view};
+ghost use Rattle.mq_packet.specs.Asking.{filters_spelling, AreAsked};
+ghost use Rattle.mq_packet.specs.Elements.{filter_view, asked_at, asked_of};
 
 use crate::reading::check_filters;
 use mq_wire::Cursor;
@@ -32,7 +32,8 @@ pub struct Filter<'a> {
 impl<'a> Model for Filters<'a> {
     ghost use Rattle.std.specs.Prelude.{List};
     ghost use Rattle.mq_packet.specs.Entries.{AskedFilter};
-    ghost use Rattle.mq_packet.specs.Asking.{asked_of, AreFilters};
+    ghost use Rattle.mq_packet.specs.Asking.{AreFilters};
+    ghost use Rattle.mq_packet.specs.Elements.{asked_of};
 
     ghost Value = { List AskedFilter };
 
@@ -49,6 +50,7 @@ impl<'a> Filters<'a> {
     ///
     /// None where the bytes spell no such filters: where there are none at all, where one isn't spelled or may not be, where
     /// options are missing or may not be, or where something is left over.
+    #[tactic(auto, using(crate::proofs::AskedLaws::filters_spelled, crate::proofs::AskedLaws::filters_asked))]
     pub fn of(bytes: &'a [u8], options: bool) -> Option<Filters<'a>>
         ensures some { IfSome result (λ filters. (bytes.entry.now ≡ filters_spelling filters) × AreAsked options filters) }
         ensures all { (fs : List AskedFilter) → AreAsked options fs → bytes.entry.now ≡ filters_spelling fs → IsSomeAnd result (λ filters. filters ≡ fs) }
@@ -68,6 +70,7 @@ impl<'a> Filters<'a> {
     }
 
     /// Whether the filters have Subscription Options: in a SUBSCRIBE each has, in an UNSUBSCRIBE none.
+    #[tactic(auto, using(crate::proofs::AskedLaws::filters_asked))]
     pub fn have_options(&self) -> bool
         ensures { AreAsked result self.now }
     {
@@ -75,6 +78,7 @@ impl<'a> Filters<'a> {
     }
 
     /// The bytes that spell the filters, one after another. Filters have one spelling.
+    #[tactic(auto, using(crate::proofs::AskedLaws::filters_spelled, crate::proofs::AskedLaws::filters_asked))]
     pub fn as_bytes(&self) -> &'a [u8]
         ensures spelled { result.now ≡ filters_spelling self.now }
         ensures asked { (options : Bool) × AreAsked options self.now }
@@ -104,7 +108,7 @@ pub struct FiltersIter<'a> {
 impl<'a> Model for FiltersIter<'a> {
     ghost use Rattle.std.specs.Prelude.{List};
     ghost use Rattle.mq_packet.specs.Entries.{AskedFilter};
-    ghost use Rattle.mq_packet.specs.Asking.{asked_of};
+    ghost use Rattle.mq_packet.specs.Elements.{asked_of};
 
     ghost Value = { List AskedFilter };
 
@@ -112,7 +116,7 @@ impl<'a> Model for FiltersIter<'a> {
 }
 
 // The filter at the front of what is left, if one stands there.
-#[tactic(auto, unfolding(crate::specs::Asking::asked_at))]
+#[tactic(auto, unfolding(crate::specs::Elements::asked_at))]
 fn filter_at<'a>(cursor: &mut Cursor<'a>, options: bool) -> Option<Filter<'a>>
     ensures { MatchOption result (asked_at options cursor.old.rest ≡ None) (λ f. asked_at options cursor.old.rest ≡ Some (filter_view f, cursor.new.rest)) }
 {

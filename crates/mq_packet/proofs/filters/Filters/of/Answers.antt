@@ -1,5 +1,5 @@
 use Rattle.std.proofs.Common.{ap, ◌∙◌}
-use Rattle.mq_packet.specs.Asking.{asked_of}
+use Rattle.mq_packet.specs.Elements.{asked_of}
 use Rattle.mq_packet.specs.Reading.{fault_of}
 use Rattle.mq_packet.proofs.AskedLaws.{asked_of_spelled}
 use Rattle.mq_packet.proofs.FilterLaws.{never_refused}
