@@ -15,10 +15,10 @@ use Rattle.mq_packet.specs.declared.rule.PacketRule.TheVariants as rules
 use Rattle.mq_packet.specs.Entries.{AskedFilter}
 use Rattle.mq_packet.specs.Formats.{Kind, byte, text, Value, Objection, unless_broken, is_filter, filter_objection, are_options, options_objection}
 use Rattle.mq_packet.specs.Decoding.{◌>>=◌, broken, spelled, field_on, unless, read_field, some_options, options_on, with_options, options_behind, filter_on, filters_within, filters_on}
-use Rattle.mq_packet.specs.Asking.{AreOptions, IsAsked, options_spelling, asked_spelling, filters_spelling, AreAsked}
+use Rattle.mq_packet.specs.Asking.{AreOptions, IsAsked, options_spelling, asked_spelling, filters_spelling, AreAsked, AreListed, AreFilters}
 use Rattle.mq_packet.specs.Spelled.{spelling, Begin, FailsField, FailsOptions, FailsFilter, BadFilter}
-use Rattle.mq_packet.specs.Elements.{asked_of, AreRead}
-use Rattle.mq_packet.proofs.AskedLaws.{some_is, asked_of_spelled}
+use Rattle.mq_packet.specs.Elements.{asked_at, read_or_none, filters_in, AreRead}
+use Rattle.mq_packet.proofs.AskedLaws.{some_is, asked_at_nil, asked_at_spelled}
 use Rattle.mq_packet.proofs.FieldLaws.{left_from, Front, field_found, field_read, field_misspelled, misspelled_field}
 use Rattle.mq_packet.proofs.ValueLaws.{unobjected}
 
@@ -285,16 +285,21 @@ on_some : (asks : Bool) (left : Left) → left.rest ≢ [] → filters_on asks l
 unfolding filters_on
 on_some asks left some = ap (λ (t : Bool). if t then Err (broken left.at rules.W16) else filters_within (length left.rest) asks left) (some_left left.rest some)
 
--- Filters are read from their spellings.
+-- Filters that may be are read from their spellings.
+within_all : (n : ℕ) (asks : Bool) (at : ℕ) (fs : List AskedFilter) → AllByRecursion (IsAsked asks) fs → length (filters_spelling fs) ≤ n → filters_within n asks (left_from at (filters_spelling fs)) ≡ done fs
+within_all n asks at fs each enough =
+    let whole : filters_spelling fs ≡ filters_spelling fs ++ [] = sym (append-nil (filters_spelling fs)) in
+    let read = within_behind n asks at fs [] each (omega (arith, enough, ap (λ (l : List ℕ). length l) whole)) in
+    ap (λ (bytes : List ℕ). filters_within n asks (left_from at bytes)) whole
+    ∙ read.2
+    ∙ ap (λ (r : Result (List AskedFilter) DecodeFault). r >>= after fs) (finish read.0 asks (at + length (filters_spelling fs)))
+    ∙ ap (λ (l : List AskedFilter). done l) (append-nil fs)
+
 pub filters_known : (asks : Bool) (left : Left) (fs : List AskedFilter) → AreAsked asks fs → left.rest ≡ filters_spelling fs → filters_on asks left ≡ Ok fs
 filters_known asks left fs are parts =
-    let whole : left.rest ≡ filters_spelling fs ++ [] = parts ∙ sym (append-nil (filters_spelling fs)) in
-    let read = within_behind (length left.rest) asks left.at fs [] are.each (omega (arith, ap (λ (l : List ℕ). length l) whole)) in
     on_some asks left (λ e. spelling_some fs are.some (sym parts ∙ e))
-    ∙ ap (λ (bytes : List ℕ). filters_within (length left.rest) asks (left_from left.at bytes)) whole
-    ∙ read.2
-    ∙ ap (λ (r : Result (List AskedFilter) DecodeFault). r >>= after fs) (finish read.0 asks (left.at + length (filters_spelling fs)))
-    ∙ ap (λ (l : List AskedFilter). done l) (append-nil fs)
+    ∙ ap (λ (bytes : List ℕ). filters_within (length left.rest) asks (left_from left.at bytes)) parts
+    ∙ within_all (length left.rest) asks left.at fs are.each (omega (arith, ap (λ (l : List ℕ). length l) parts))
 
 -- No filter is a fault.
 pub filters_none : (asks : Bool) (left : Left) → left.rest ≡ [] → filters_on asks left ≡ Err (broken left.at rules.W16)
@@ -373,6 +378,66 @@ filters_come asks at bytes some known =
     let P : Result (List AskedFilter) DecodeFault → Type 0 = λ r. ComeTo asks at bytes r in
     subst P (sym (on_some asks (left_from at bytes) some)) (within_come (length bytes) asks at bytes known (omega arith))
 
+-- ---- filters in memory
+
+in_spelled : (asks : Bool) (fs : List AskedFilter) → AllByRecursion (IsAsked asks) fs → filters_in asks (filters_spelling fs) ≡ fs
+unfolding filters_in
+in_spelled asks fs each = ap read_or_none (within_all (length (filters_spelling fs)) asks 0 fs each (omega arith))
+
+-- Bytes that spell filters are these in memory.
+pub in_memory : (asks : Bool) (bytes : List ℕ) (fs : List AskedFilter) → AllByRecursion (IsAsked asks) fs → bytes ≡ filters_spelling fs → filters_in asks bytes ≡ fs
+in_memory asks bytes fs each parts = ap (filters_in asks) parts ∙ in_spelled asks fs each
+
+pub filters_spelled : (asks : Bool) (bytes : List ℕ) → AreFilters asks bytes → bytes ≡ filters_spelling (filters_in asks bytes)
+filters_spelled asks bytes h = h.spelled ∙ ap filters_spelling (sym (in_memory asks bytes h.filters h.asked.each h.spelled))
+
+pub filters_asked : (asks : Bool) (bytes : List ℕ) → AreFilters asks bytes → AreAsked asks (filters_in asks bytes)
+filters_asked asks bytes h = subst (AreAsked asks) (sym (in_memory asks bytes h.filters h.asked.each h.spelled)) h.asked
+
+pub filters_listed : (asks : Bool) (bytes : List ℕ) → AreFilters asks bytes → AreListed asks bytes
+filters_listed asks bytes h = record { filters = h.filters; each = h.asked.each; spelled = h.spelled }
+
+-- There are no more of them than bytes.
+pub no_more : (asks : Bool) (bytes : List ℕ) → AreListed asks bytes → length (filters_in asks bytes) ≤ length bytes
+no_more asks bytes h =
+    let same : length (filters_in asks bytes) ≡ length h.filters = ap (λ (fs : List AskedFilter). length fs) (in_memory asks bytes h.filters h.each h.spelled) in
+    omega (arith, same, few h.filters, ap (λ (l : List ℕ). length l) h.spelled)
+  where
+    few : (fs : List AskedFilter) → length fs ≤ length (filters_spelling fs)
+    few [] = omega arith
+    few (f ∷ fs) = omega (arith, few fs, filter_some f, length-append (asked_spelling f) (filters_spelling fs))
+
+-- No bytes are no filters.
+pub none_listed : (asks : Bool) → AreListed asks []
+none_listed asks = record { filters = []; each = tt; spelled = refl }
+
+pub none_in : (asks : Bool) → filters_in asks [] ≡ []
+none_in asks = in_spelled asks [] tt
+
+-- Where no filter stands at the front, there are none.
+pub next_none : (asks : Bool) (bytes : List ℕ) → AreListed asks bytes → asked_at asks bytes ≡ None → filters_in asks bytes ≡ []
+next_none asks bytes h none = by_list h.filters h.each h.spelled
+  where
+    by_list : (fs : List AskedFilter) → AllByRecursion (IsAsked asks) fs → bytes ≡ filters_spelling fs → filters_in asks bytes ≡ []
+    by_list [] each parts = in_memory asks bytes [] each parts
+    by_list (f ∷ fs) each parts = absurd (let never = sym none ∙ ap (asked_at asks) parts ∙ asked_at_spelled asks f (filters_spelling fs) each.0 in cc)
+
+-- The filter that stands there is the first, and what is left after it are the others.
+pub next_some : (asks : Bool) (bytes : List ℕ) (f : AskedFilter) (left : List ℕ) → AreListed asks bytes → asked_at asks bytes ≡ Some (f, left) → (filters_in asks bytes ≡ f ∷ filters_in asks left) × AreListed asks left
+next_some asks bytes f left h found = by_list h.filters h.each h.spelled
+  where
+    by_list : (fs : List AskedFilter) → AllByRecursion (IsAsked asks) fs → bytes ≡ filters_spelling fs → (filters_in asks bytes ≡ f ∷ filters_in asks left) × AreListed asks left
+    by_list [] each parts = absurd (let never = sym found ∙ ap (asked_at asks) parts ∙ asked_at_nil asks in cc)
+    by_list (g ∷ fs) each parts =
+        (let here : AskedFilter × List ℕ = (f, left) in
+        let first : AskedFilter × List ℕ = (g, filters_spelling fs) in
+        let same : here ≡ first = some_is here first (sym found ∙ ap (asked_at asks) parts ∙ asked_at_spelled asks g (filters_spelling fs) each.0) in
+        let rest : left ≡ filters_spelling fs = ap (λ (x : AskedFilter × List ℕ). x.1) same in
+        let one : f ≡ g = ap (λ (x : AskedFilter × List ℕ). x.0) same in (
+          in_memory asks bytes (g ∷ fs) each parts ∙ ap (λ (x : AskedFilter). x ∷ fs) (sym one) ∙ ap (λ (others : List AskedFilter). f ∷ others) (sym (in_memory asks left fs each.1 rest)),
+          record { filters = fs; each = each.1; spelled = rest },
+        ))
+
 -- ---- as a loop goes over them
 
 -- Where the loop stands: after these filters.
@@ -437,7 +502,7 @@ module _ (asks : Bool) (start left : Left) (known : AreBytes start.rest) (at : G
   ends none =
       let are : AreAsked asks at.before = record { some = λ e. at.some e none; each = at.each } in
       let spelled : start.rest ≡ filters_spelling at.before = at.parts ∙ ap (λ (rest : List ℕ). filters_spelling at.before ++ rest) none ∙ append-nil (filters_spelling at.before) in
-      let same : asked_of asks start.rest ≡ at.before = ap (asked_of asks) spelled ∙ asked_of_spelled asks at.before at.each in
+      let same : filters_in asks start.rest ≡ at.before = in_memory asks start.rest at.before at.each spelled in
       record {
         filters = record { filters = at.before; asked = are; spelled = spelled };
         reads = filters_known asks start at.before are spelled ∙ ap (λ (fs : List AskedFilter). done fs) (sym same);

@@ -33,6 +33,12 @@ pub record AreAsked (asks : Bool) (filters : List AskedFilter) : Type 0 where
   pub some : filters ≢ []
   pub each : AllByRecursion (IsAsked asks) filters
 
+-- The bytes are the spellings of filters, one after another, each of which may stand in such a body. There may be none.
+pub record AreListed (asks : Bool) (bytes : List ℕ) : Type 0 where
+  pub filters : List AskedFilter
+  pub each : AllByRecursion (IsAsked asks) filters
+  pub spelled : bytes ≡ filters_spelling filters
+
 -- The bytes are the spellings of filters that may stand in such a body, one after another.
 pub record AreFilters (asks : Bool) (bytes : List ℕ) : Type 0 where
   pub filters : List AskedFilter

@@ -1,12 +1,13 @@
--- The filters of a body in memory: which list the bytes are, computed from left to right, and what their reader answers
--- (MQTT 5.0, 3.8.3 and 3.10.3).
-use Rattle.std.specs.Prelude.{◌≡◌, ℕ, zero, suc, Bool, true, false, List, [], ◌∷◌, length, drop, Option, Some, None, Result, Ok, Err}
+-- The filters of a body in memory: which list they are, the next of them, and what their reader answers (MQTT 5.0, 3.8.3 and
+-- 3.10.3).
+use Rattle.std.specs.Prelude.{◌≡◌, ℕ, Bool, true, false, List, [], ◌∷◌, length, drop, Option, Some, None, Result, Ok, Err}
 use Rattle.mq_wire.specs.declared.fault.Reason.{Reason}
 use Rattle.mq_wire.specs.Fields.{text_at}
 use Rattle.mq_wire.specs.Left.{Left}
+use Rattle.mq_packet.specs.declared.fault.DecodeFault.{DecodeFault}
 use Rattle.mq_packet.specs.declared.filters.Filter.{Filter}
 use Rattle.mq_packet.specs.Entries.{AskedFilter}
-use Rattle.mq_packet.specs.Decoding.{filters_on}
+use Rattle.mq_packet.specs.Decoding.{filters_within, filters_on}
 use Rattle.mq_packet.specs.Asking.{AreFilters}
 
 -- A filter in memory.
@@ -27,21 +28,16 @@ asked_behind asks bytes (Err reason) = None
 unfoldable pub asked_at : Bool → List ℕ → Option (AskedFilter × List ℕ)
 asked_at asks bytes = asked_behind asks bytes (text_at bytes)
 
--- The filters that stand one after another, as far as they go. Each takes some bytes, so there are at most n where n bytes
--- are left.
-abbrev pub asked_then : Option (AskedFilter × List ℕ) → (List ℕ → List AskedFilter) → List AskedFilter
-asked_then None others = []
-asked_then (Some x) others = x.0 ∷ others x.1
+-- The filters that are read, or none.
+abbrev pub read_or_none : Result (List AskedFilter) DecodeFault → List AskedFilter
+read_or_none (Ok filters) = filters
+read_or_none (Err fault) = []
 
-abbrev pub asked_within : ℕ → Bool → List ℕ → List AskedFilter
-asked_within zero asks bytes = []
-asked_within (suc n) asks bytes = asked_then (asked_at asks bytes) (asked_within n asks)
-
--- The filters of a body in memory, as a list.
-unfoldable pub asked_of : Bool → List ℕ → List AskedFilter
-asked_of asks bytes = asked_within (length bytes) asks bytes
+-- The filters of these bytes in memory, as a list: those that are read.
+unfoldable pub filters_in : Bool → List ℕ → List AskedFilter
+filters_in asks bytes = read_or_none (filters_within (length bytes) asks (record { at = 0; rest = bytes }))
 
 -- All that is left are the filters of a body, and they are what is read.
 pub record AreRead (asks : Bool) (left : Left) : Type 0 where
   pub filters : AreFilters asks left.rest
-  pub reads : filters_on asks left ≡ Ok (asked_of asks left.rest)
+  pub reads : filters_on asks left ≡ Ok (filters_in asks left.rest)

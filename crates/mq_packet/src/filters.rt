@@ -3,8 +3,8 @@
 ghost use Rattle.std.specs.Prelude.{◌≡◌, ◌<◌, ◌^◌, length, Bool, [], ◌∷◌, Some, None, List, IfSome, IsSomeAnd, MatchOption};
 ghost use Rattle.std.specs.Iterator.{YieldsFirstBy, item_count};
 ghost use Rattle.mq_packet.specs.Entries.{AskedFilter};
-ghost use Rattle.mq_packet.specs.Asking.{filters_spelling, AreAsked};
-ghost use Rattle.mq_packet.specs.Elements.{filter_view, asked_at, asked_of};
+ghost use Rattle.mq_packet.specs.Asking.{filters_spelling, AreAsked, AreListed};
+ghost use Rattle.mq_packet.specs.Elements.{filter_view, asked_at, filters_in};
 
 use crate::reading::check_filters;
 use mq_wire::Cursor;
@@ -33,11 +33,11 @@ impl<'a> Model for Filters<'a> {
     ghost use Rattle.std.specs.Prelude.{List};
     ghost use Rattle.mq_packet.specs.Entries.{AskedFilter};
     ghost use Rattle.mq_packet.specs.Asking.{AreFilters};
-    ghost use Rattle.mq_packet.specs.Elements.{asked_of};
+    ghost use Rattle.mq_packet.specs.Elements.{filters_in};
 
     ghost Value = { List AskedFilter };
 
-    ghost view = { λ f. asked_of f.options f.bytes.now };
+    ghost view = { λ f. filters_in f.options f.bytes.now };
 
     ghost invariant = { λ f. AreFilters f.options f.bytes.now };
 }
@@ -50,7 +50,7 @@ impl<'a> Filters<'a> {
     ///
     /// None where the bytes spell no such filters: where there are none at all, where one isn't spelled or may not be, where
     /// options are missing or may not be, or where something is left over.
-    #[tactic(auto, using(crate::proofs::AskedLaws::filters_spelled, crate::proofs::AskedLaws::filters_asked))]
+    #[tactic(auto, using(crate::proofs::FilterLaws::filters_spelled, crate::proofs::FilterLaws::filters_asked))]
     pub fn of(bytes: &'a [u8], options: bool) -> Option<Filters<'a>>
         ensures some { IfSome result (λ filters. (bytes.entry.now ≡ filters_spelling filters) × AreAsked options filters) }
         ensures all { (fs : List AskedFilter) → AreAsked options fs → bytes.entry.now ≡ filters_spelling fs → IsSomeAnd result (λ filters. filters ≡ fs) }
@@ -64,13 +64,13 @@ impl<'a> Filters<'a> {
     // The filters of bytes that are those of a body.
     pub(crate) fn checked(bytes: &'a [u8], options: bool) -> Filters<'a>
         requires { AreFilters options bytes.now }
-        ensures { result ≡ asked_of options bytes.entry.now }
+        ensures { result ≡ filters_in options bytes.entry.now }
     {
         Filters { bytes, options }
     }
 
     /// Whether the filters have Subscription Options: in a SUBSCRIBE each has, in an UNSUBSCRIBE none.
-    #[tactic(auto, using(crate::proofs::AskedLaws::filters_asked))]
+    #[tactic(auto, using(crate::proofs::FilterLaws::filters_asked))]
     pub fn have_options(&self) -> bool
         ensures { AreAsked result self.now }
     {
@@ -78,7 +78,7 @@ impl<'a> Filters<'a> {
     }
 
     /// The bytes that spell the filters, one after another. Filters have one spelling.
-    #[tactic(auto, using(crate::proofs::AskedLaws::filters_spelled, crate::proofs::AskedLaws::filters_asked))]
+    #[tactic(auto, using(crate::proofs::FilterLaws::filters_spelled, crate::proofs::FilterLaws::filters_asked))]
     pub fn as_bytes(&self) -> &'a [u8]
         ensures spelled { result.now ≡ filters_spelling self.now }
         ensures asked { (options : Bool) × AreAsked options self.now }
@@ -87,6 +87,7 @@ impl<'a> Filters<'a> {
     }
 
     /// The filters, in order.
+    #[tactic(auto, using(crate::proofs::FilterLaws::filters_listed))]
     pub fn iter(&self) -> FiltersIter<'a>
         ensures items { result ≡ self.now }
         ensures bound { length result < 2 ^ 63 }
@@ -108,11 +109,14 @@ pub struct FiltersIter<'a> {
 impl<'a> Model for FiltersIter<'a> {
     ghost use Rattle.std.specs.Prelude.{List};
     ghost use Rattle.mq_packet.specs.Entries.{AskedFilter};
-    ghost use Rattle.mq_packet.specs.Elements.{asked_of};
+    ghost use Rattle.mq_packet.specs.Asking.{AreListed};
+    ghost use Rattle.mq_packet.specs.Elements.{filters_in};
 
     ghost Value = { List AskedFilter };
 
-    ghost view = { λ s. asked_of s.options s.cursor.rest };
+    ghost view = { λ s. filters_in s.options s.cursor.rest };
+
+    ghost invariant = { λ s. AreListed s.options s.cursor.rest };
 }
 
 // The filter at the front of what is left, if one stands there.
@@ -140,7 +144,9 @@ fn filter_at<'a>(cursor: &mut Cursor<'a>, options: bool) -> Option<Filter<'a>>
 
 // The next filter, if one stands at the front of what is left. With none, nothing is left.
 fn next_filter<'a>(cursor: &mut Cursor<'a>, options: bool) -> Option<Filter<'a>>
-    ensures { MatchOption result ((asked_of options cursor.old.rest ≡ []) × (asked_of options cursor.new.rest ≡ [])) (λ f. asked_of options cursor.old.rest ≡ filter_view f ∷ asked_of options cursor.new.rest) }
+    requires { AreListed options cursor.now.rest }
+    ensures listed { AreListed options cursor.new.rest }
+    ensures gives { MatchOption result ((filters_in options cursor.old.rest ≡ []) × (filters_in options cursor.new.rest ≡ [])) (λ f. filters_in options cursor.old.rest ≡ filter_view f ∷ filters_in options cursor.new.rest) }
 {
     let Some(filter) = filter_at(cursor, options) else {
         *cursor = Cursor::new(&[]);
