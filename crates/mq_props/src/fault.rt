@@ -1,29 +1,54 @@
 //! Why a property list is refused.
 
 ghost use Rattle.std.specs.Prelude.{◌≡◌};
+ghost use Rattle.mq_props.specs.Faults.{prop_reason_number, push_fault_number};
 
 use mq_wire::{Reason, WireFault};
+use thiserror::Error;
 
 /// What is wrong with a property list, in the order in which a property is judged.
-#[derive(Debug, Clone, Copy, PartialEq, Eq)]
+#[derive(Debug, Clone, Copy, PartialEq, Eq, Error)]
 pub enum PropReason {
     /// A length, an identifier or a value isn't spelled as its type asks, or passes the list's end
     /// (MQTT 5.0, 1.5).
+    #[error(transparent)]
     Wire(Reason),
     /// No property has the identifier (MQTT 5.0, 2.2.2.2).
+    #[error("no property has the identifier")]
     Unknown,
     /// The property isn't one of this list (MQTT 5.0, 2.2.2.2).
+    #[error("the property isn't one of this list")]
     NotAllowed,
     /// The property stands in the list already, and may stand there only once.
+    #[error("the property may stand in the list only once")]
     Repeated,
     /// The property may not have this value.
+    #[error("the property may not have this value")]
     Value,
     /// A wildcard stands in the Response Topic of a PUBLISH (MQTT 5.0, 3.3.2.3.5).
+    #[error("a Response Topic has a wildcard")]
     Wildcard,
 }
 
+impl PropReason {
+    /// Its number, 1 to 6.
+    pub fn number(self) -> u8
+        ensures { result ≡ prop_reason_number self }
+    {
+        match self {
+            PropReason::Wire(_) => 1,
+            PropReason::Unknown => 2,
+            PropReason::NotAllowed => 3,
+            PropReason::Repeated => 4,
+            PropReason::Value => 5,
+            PropReason::Wildcard => 6,
+        }
+    }
+}
+
 /// The first bad field of a property list.
-#[derive(Debug, Clone, Copy, PartialEq, Eq)]
+#[derive(Debug, Clone, Copy, PartialEq, Eq, Error)]
+#[error("{reason}, at byte {at}")]
 pub struct PropFault {
     /// Where the field begins, as the cursor counts: the list's length, a property's identifier or
     /// its value.
@@ -46,17 +71,37 @@ impl From<WireFault> for PropFault {
 }
 
 /// Why a property isn't taken into a list that is made: the lowest number that stands.
-#[derive(Debug, Clone, Copy, PartialEq, Eq)]
+#[derive(Debug, Clone, Copy, PartialEq, Eq, Error)]
 pub enum PushFault {
     /// The property isn't one of this list (MQTT 5.0, 2.2.2.2).
-    NotAllowed = 1,
+    #[error("the property isn't one of this list")]
+    NotAllowed,
     /// The property stands in the list already, and may stand there only once.
-    Repeated = 2,
+    #[error("the property may stand in the list only once")]
+    Repeated,
     /// The property may not have this value: it is out of range, a Response Topic of a PUBLISH with a
     /// wildcard, a text with U+0000, or a number above 268,435,455.
-    Value = 3,
+    #[error("the property may not have this value")]
+    Value,
     /// A text or binary data has more than 65,535 bytes, or the list would have more than 268,435,455.
-    TooLong = 4,
+    #[error("the value or the list is too long")]
+    TooLong,
     /// No memory was left.
-    Memory = 5,
+    #[error("no memory was left")]
+    Memory,
+}
+
+impl PushFault {
+    /// Its number, 1 to 5.
+    pub fn number(self) -> u8
+        ensures { result ≡ push_fault_number self }
+    {
+        match self {
+            PushFault::NotAllowed => 1,
+            PushFault::Repeated => 2,
+            PushFault::Value => 3,
+            PushFault::TooLong => 4,
+            PushFault::Memory => 5,
+        }
+    }
 }

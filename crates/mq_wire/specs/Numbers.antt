@@ -1,0 +1,19 @@
+-- The numbers of faults.
+use Rattle.std.specs.Prelude.{ℕ}
+use Rattle.mq_wire.specs.declared.fault.Reason.{Reason}
+use Rattle.mq_wire.specs.declared.fault.Reason.TheVariants as reasons
+use Rattle.mq_wire.specs.declared.fault.PutFault.{PutFault}
+use Rattle.mq_wire.specs.declared.fault.PutFault.TheVariants as puts
+
+-- Of what is wrong with the bytes of a field.
+abbrev pub reason_number : Reason → ℕ
+reason_number reasons.Short = 1
+reason_number reasons.Overlong = 2
+reason_number reasons.NotUtf8 = 3
+reason_number reasons.Nul = 4
+
+-- Of why a field isn't written. The lowest one that stands is answered.
+abbrev pub put_fault_number : PutFault → ℕ
+put_fault_number puts.TooLong = 1
+put_fault_number puts.Nul = 2
+put_fault_number puts.Memory = 3
