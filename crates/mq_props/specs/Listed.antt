@@ -1,5 +1,6 @@
 -- A property list as its callers see it.
-use Rattle.std.specs.Prelude.{◌≡◌, ℕ, ◌≤◌, List, length}
+use Rattle.std.specs.Prelude.{◌≡◌, ℕ, List, length}
+use Rattle.mq_wire.specs.Spellings.{IsVarint}
 use Rattle.mq_props.specs.declared.table.Place.{Place}
 use Rattle.mq_props.specs.Values.{Property, body}
 use Rattle.mq_props.specs.Allowed.{AreAllowed}
@@ -14,4 +15,4 @@ pub record IsList (place : Place) (bytes : List ℕ) : Type 0 where
   pub properties : List Property
   pub allowed : AreAllowed place properties
   pub spelled : bytes ≡ body properties
-  pub bound : length bytes ≤ 268435455
+  pub bound : IsVarint (length bytes)

@@ -1,7 +1,7 @@
 -- Which properties a list that is made takes at its end.
 use Rattle.std.specs.Prelude.{◌≡◌, ℕ, ◌+◌, ◌<◌, ◌≤◌, Bool, false, not, ◌||◌, List, ◌++◌, length, Option, Some, None, Result, OnOk, OnErr, IsOkUnless, nat_lt, if◌then◌else◌, Vec, vec_len, vec_capacity}
 use Rattle.std.specs.declared.alloc.Global.{Global}
-use Rattle.mq_wire.specs.Spellings.{has_nul}
+use Rattle.mq_wire.specs.Spellings.{max_two_bytes, max_varint, has_nul}
 use Rattle.mq_props.specs.declared.fault.PushFault.{PushFault}
 use Rattle.mq_props.specs.declared.fault.PushFault.TheVariants.{NotAllowed, Repeated, Value as BadValue, TooLong, Memory}
 use Rattle.mq_props.specs.declared.table.Place.{Place}
@@ -26,16 +26,16 @@ is_long (byte n) = false
 is_long (two_bytes n) = false
 is_long (four_bytes n) = false
 is_long (varint n) = false
-is_long (text t) = nat_lt 65535 (length t)
-is_long (pair name value) = nat_lt 65535 (length name) || nat_lt 65535 (length value)
-is_long (binary bytes) = nat_lt 65535 (length bytes)
+is_long (text t) = nat_lt max_two_bytes (length t)
+is_long (pair name value) = nat_lt max_two_bytes (length name) || nat_lt max_two_bytes (length value)
+is_long (binary bytes) = nat_lt max_two_bytes (length bytes)
 
 -- The value is a number above the largest Variable Byte Integer.
 abbrev pub is_large : Value → Bool
 is_large (byte n) = false
 is_large (two_bytes n) = false
 is_large (four_bytes n) = false
-is_large (varint n) = nat_lt 268435455 n
+is_large (varint n) = nat_lt max_varint n
 is_large (text t) = false
 is_large (pair name value) = false
 is_large (binary bytes) = false
@@ -46,7 +46,7 @@ is_bad place line value = not (in_range line.range value) || (is_wild place line
 
 -- With the property, the list would have more bytes than its length can count.
 abbrev pub overflows : List Property → Property → Bool
-overflows ps p = nat_lt 268435455 (length (body ps) + length (property_spelling p))
+overflows ps p = nat_lt max_varint (length (body ps) + length (property_spelling p))
 
 -- Why the list doesn't take a property of this line with this value, if so: the lowest reason of the first four that stands.
 abbrev pub fault_of : Listed → Value → Option Line → Option PushFault

@@ -1,7 +1,7 @@
 //! A property list that is made property by property.
 
 ghost use Rattle.std.specs.Prelude.{◌≡◌, ◌+◌, ◌<◌, ◌≤◌, ◌||◌, false, [], ◌∷◌, ◌++◌, length, take, OnOk, OnErr, IsOkUnless, MatchOption, Some, Err, nat_lt, vec_len, vec_capacity};
-ghost use Rattle.mq_wire.specs.Spellings.{varint_spelling, has_nul};
+ghost use Rattle.mq_wire.specs.Spellings.{max_two_bytes, max_varint, has_nul};
 ghost use Rattle.mq_props.specs.Table.{row_view, row_of};
 ghost use Rattle.mq_props.specs.Values.{byte, two_bytes, four_bytes, varint, text, pair, binary, IsValue, value_spelling, property_spelling, body};
 ghost use Rattle.mq_props.specs.Reading.{items_of};
@@ -15,15 +15,12 @@ use crate::props::Props;
 use crate::seen::Seen;
 use crate::table::{Place, Row, find_row, lists_place, may_repeat_in};
 use crate::value::{Item, Value, is_in_range, is_wild_in};
-use mq_wire::{put_binary, put_pair, put_text, put_u8, put_u16, put_u32, put_varint};
+use mq_wire::{
+    MAX_LEN, MAX_VARINT, contains_nul, put_binary, put_pair, put_text, put_u8, put_u16, put_u32,
+    put_varint, varint_len,
+};
 use std::alloc::Global;
 use std::marker::Model;
-
-// The most bytes that a text or binary data can have.
-const MAX_LEN: usize = 65_535;
-
-// The largest Variable Byte Integer, which is the most bytes that a list can have.
-const MAX_VARINT: usize = 268_435_455;
 
 /// A property list that is made for its place, and may stand there at any moment (MQTT 5.0, 2.2.2).
 ///
@@ -48,15 +45,9 @@ impl Model for PropsBuf {
 }
 
 fn is_over(bytes: &[u8]) -> bool
-    ensures { result ≡ nat_lt 65535 (length bytes.now) }
+    ensures { result ≡ nat_lt max_two_bytes (length bytes.now) }
 {
     bytes.len() > MAX_LEN
-}
-
-fn contains_nul(text: &str) -> bool
-    ensures { result ≡ has_nul text.now }
-{
-    text.as_bytes().contains(&0)
 }
 
 fn has_nul_in(value: &Value) -> bool
@@ -91,7 +82,7 @@ fn is_large_value(value: &Value) -> bool
     ensures { result ≡ is_large (value_view value.now) }
 {
     match *value {
-        Value::Varint(number) => number as usize > MAX_VARINT,
+        Value::Varint(number) => number > MAX_VARINT,
         Value::Byte(_) => false,
         Value::TwoBytes(_) => false,
         Value::FourBytes(_) => false,
@@ -108,19 +99,6 @@ fn is_bad_value(place: Place, row: Row, value: &Value) -> bool
         || is_wild_in(place, row.0, value)
         || has_nul_in(value)
         || is_large_value(value)
-}
-
-#[tactic(auto, unfolding(mq_wire::specs::Spellings::varint_spelling))]
-fn varint_len(number: u32) -> usize
-    ensures len { result ≡ length (varint_spelling number) }
-    ensures bound { result ≤ 4 }
-{
-    match number {
-        0..128 => 1,
-        128..16_384 => 2,
-        16_384..2_097_152 => 3,
-        _ => 4,
-    }
 }
 
 // How many bytes spell the value.
@@ -143,16 +121,16 @@ fn value_len(value: &Value) -> usize
 // Whether the property makes the list, which has so many bytes, longer than its length can count.
 fn is_over_all(len: usize, value: &Value) -> bool
     requires long { is_long (value_view value.now) ≡ false }
-    requires len { len ≤ 268435455 }
-    ensures { result ≡ nat_lt 268435455 (len + (1 + length (value_spelling (value_view value.now)))) }
+    requires len { len ≤ max_varint }
+    ensures { result ≡ nat_lt max_varint (len + (1 + length (value_spelling (value_view value.now)))) }
 {
-    len + (1 + value_len(value)) > MAX_VARINT
+    len + (1 + value_len(value)) > MAX_VARINT as usize
 }
 
 // Whether the list of these bytes would have more than its length can count with the property.
 fn is_over_list(bytes: &[u8], id: u8, value: &Value) -> bool
     requires spelled { bytes.now ≡ body (items_of bytes.now) }
-    requires bound { length bytes.now ≤ 268435455 }
+    requires bound { length bytes.now ≤ max_varint }
     requires known { id < 43 }
     requires long { is_long (value_view value.now) ≡ false }
     ensures { result ≡ overflows (items_of bytes.now) (record { id = id; value = value_view value.now }) }
@@ -162,7 +140,7 @@ fn is_over_list(bytes: &[u8], id: u8, value: &Value) -> bool
 
 fn is_too_long(bytes: &[u8], id: u8, value: &Value) -> bool
     requires spelled { bytes.now ≡ body (items_of bytes.now) }
-    requires bound { length bytes.now ≤ 268435455 }
+    requires bound { length bytes.now ≤ max_varint }
     requires known { id < 43 }
     ensures { result ≡ (is_long (value_view value.now) || overflows (items_of bytes.now) (record { id = id; value = value_view value.now })) }
 {
@@ -173,7 +151,7 @@ fn is_too_long(bytes: &[u8], id: u8, value: &Value) -> bool
 fn fault_with(place: Place, seen: &Seen, bytes: &[u8], row: Row, value: &Value) -> Option<PushFault>
     requires sees { Sees seen.now (items_of bytes.now) }
     requires spelled { bytes.now ≡ body (items_of bytes.now) }
-    requires bound { length bytes.now ≤ 268435455 }
+    requires bound { length bytes.now ≤ max_varint }
     requires known { row.0 < 43 }
     ensures { result ≡ fault_of (record { place = place; items = items_of bytes.now }) (value_view value.now) (Some (row_view row.entry)) }
 {
@@ -195,7 +173,7 @@ fn fault_with(place: Place, seen: &Seen, bytes: &[u8], row: Row, value: &Value) 
 fn fault_in(place: Place, seen: &Seen, bytes: &[u8], item: &Item) -> Option<PushFault>
     requires sees { Sees seen.now (items_of bytes.now) }
     requires spelled { bytes.now ≡ body (items_of bytes.now) }
-    requires bound { length bytes.now ≤ 268435455 }
+    requires bound { length bytes.now ≤ max_varint }
     ensures { result ≡ push_fault (record { place = place; items = items_of bytes.now }) (item_view item.now) }
 {
     match find_row(u32::from(item.id)) {
@@ -227,7 +205,7 @@ fn put_four_bytes(out: &mut Vec<u8>, number: u32) -> Result<(), PushFault>
 
 #[tactic(auto, using(mq_wire::proofs::RoomLaws::counted_room))]
 fn put_number(out: &mut Vec<u8>, number: u32) -> Result<(), PushFault>
-    requires { number ≤ 268435455 }
+    requires { number ≤ max_varint }
     ensures { Puts (varint number) result out.old out.new }
 {
     put_varint(out, number).map_err(|_| PushFault::Memory)
@@ -235,7 +213,7 @@ fn put_number(out: &mut Vec<u8>, number: u32) -> Result<(), PushFault>
 
 #[tactic(auto, using(mq_wire::proofs::RoomLaws::text_room))]
 fn put_string(out: &mut Vec<u8>, string: &str) -> Result<(), PushFault>
-    requires short { length string.now ≤ 65535 }
+    requires short { length string.now ≤ max_two_bytes }
     requires no_nul { has_nul string.now ≡ false }
     ensures { Puts (text string.now) result out.old out.new }
 {
@@ -244,8 +222,8 @@ fn put_string(out: &mut Vec<u8>, string: &str) -> Result<(), PushFault>
 
 #[tactic(auto, using(mq_wire::proofs::RoomLaws::pair_room))]
 fn put_strings(out: &mut Vec<u8>, name: &str, value: &str) -> Result<(), PushFault>
-    requires name_short { length name.now ≤ 65535 }
-    requires value_short { length value.now ≤ 65535 }
+    requires name_short { length name.now ≤ max_two_bytes }
+    requires value_short { length value.now ≤ max_two_bytes }
     requires name_no_nul { has_nul name.now ≡ false }
     requires value_no_nul { has_nul value.now ≡ false }
     ensures { Puts (pair name.now value.now) result out.old out.new }
@@ -255,7 +233,7 @@ fn put_strings(out: &mut Vec<u8>, name: &str, value: &str) -> Result<(), PushFau
 
 #[tactic(auto, using(mq_wire::proofs::RoomLaws::counted_room))]
 fn put_bytes(out: &mut Vec<u8>, bytes: &[u8]) -> Result<(), PushFault>
-    requires { length bytes.now ≤ 65535 }
+    requires { length bytes.now ≤ max_two_bytes }
     ensures { Puts (binary bytes.now) result out.old out.new }
 {
     put_binary(out, bytes).map_err(|_| PushFault::Memory)

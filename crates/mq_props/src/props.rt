@@ -4,7 +4,7 @@ ghost use Rattle.std.specs.Prelude.{◌≡◌, ℕ, ◌+◌, ◌≤◌, ◌<◌,
 ghost use Rattle.std.specs.Option.{option_map};
 ghost use Rattle.std.specs.Iterator.{YieldsFirstBy, item_count};
 ghost use Rattle.mq_wire.specs.Left.{past};
-ghost use Rattle.mq_wire.specs.Spellings.{AreBytes};
+ghost use Rattle.mq_wire.specs.Spellings.{AreBytes, max_varint};
 ghost use Rattle.mq_props.specs.Values.{Property, body};
 ghost use Rattle.mq_props.specs.Allowed.{first_of, AreAllowed, Lists};
 ghost use Rattle.mq_props.specs.Breaks.{Breaks};
@@ -58,7 +58,7 @@ fn rest_of<'a>(cursor: &mut Cursor<'a>) -> &'a [u8]
 // The properties that all of the bytes spell, which begin at a place.
 fn all_of<'a>(place: Place, at: usize, bytes: &'a [u8]) -> Result<Props<'a>, PropFault>
     requires place { at + length bytes.now < 2 ^ 63 }
-    requires bound { length bytes.now ≤ 268435455 }
+    requires bound { length bytes.now ≤ max_varint }
     ensures exact { MatchResult result
         (λ props. properties_on place [] (record { at = at; rest = bytes.entry.now }) ≡ Ok props.items)
         (λ fault. properties_on place [] (record { at = at; rest = bytes.entry.now }) ≡ Err fault) }
@@ -212,7 +212,7 @@ impl<'a> Props<'a> {
     pub fn as_bytes(&self) -> &'a [u8]
         ensures spelled { result.now ≡ body self.now.items }
         ensures allowed { AreAllowed self.now.place self.now.items }
-        ensures bound { length result.now ≤ 268435455 }
+        ensures bound { length result.now ≤ max_varint }
     {
         self.bytes
     }

@@ -18,9 +18,13 @@ IsByte n = n < 256
 abbrev pub byte_spelling : ℕ → List ℕ
 byte_spelling n = n ∷ []
 
+-- The largest Two Byte Integer (1.5.2).
+abbrev pub max_two_bytes : ℕ
+max_two_bytes = 65535
+
 -- The values of a Two Byte Integer (1.5.2).
 abbrev pub IsTwoBytes : ℕ → Type 0
-IsTwoBytes n = n ≤ 65535
+IsTwoBytes n = n ≤ max_two_bytes
 
 -- Two bytes, the most significant first.
 abbrev pub two_bytes_spelling : ℕ → List ℕ
@@ -34,9 +38,13 @@ IsFourBytes n = n ≤ 4294967295
 abbrev pub four_bytes_spelling : ℕ → List ℕ
 four_bytes_spelling n = to_be_bytes w32 n
 
+-- The largest Variable Byte Integer (1.5.5).
+abbrev pub max_varint : ℕ
+max_varint = 268435455
+
 -- The values of a Variable Byte Integer (1.5.5).
 abbrev pub IsVarint : ℕ → Type 0
-IsVarint n = n ≤ 268435455
+IsVarint n = n ≤ max_varint
 
 -- One byte up to 127, two up to 16,383, three up to 2,097,151, else four: seven bits each, the least
 -- significant first, with bit 7 in all but the last.
@@ -47,9 +55,9 @@ varint_spelling n =
     if nat_lt n 2097152 then (128 + n % 128) ∷ (128 + n / 128 % 128) ∷ (n / 16384) ∷ [] else
     (128 + n % 128) ∷ (128 + n / 128 % 128) ∷ (128 + n / 16384 % 128) ∷ (n / 2097152) ∷ []
 
--- The values of Binary Data (1.5.6).
+-- The values of Binary Data (1.5.6): as many bytes as a Two Byte Integer can count.
 abbrev pub IsBinary : List ℕ → Type 0
-IsBinary bytes = length bytes ≤ 65535
+IsBinary bytes = IsTwoBytes (length bytes)
 
 -- Two bytes of length, and the bytes.
 abbrev pub binary_spelling : List ℕ → List ℕ
@@ -59,9 +67,10 @@ binary_spelling bytes = two_bytes_spelling (length bytes) ++ bytes
 abbrev pub has_nul : List ℕ → Bool
 has_nul bytes = list_any (λ b. b == 0) bytes
 
--- The values of a UTF-8 Encoded String (1.5.4): well-formed UTF-8, so without surrogates, and without U+0000.
+-- The values of a UTF-8 Encoded String (1.5.4): as many bytes as a Two Byte Integer can count, in well-formed UTF-8, so without
+-- surrogates, and without U+0000.
 pub record IsText (bytes : List ℕ) : Type 0 where
-  pub bound : length bytes ≤ 65535
+  pub bound : IsTwoBytes (length bytes)
   pub utf8 : IsUtf8 bytes
   pub no_nul : has_nul bytes ≡ false
 

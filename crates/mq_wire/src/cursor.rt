@@ -1,12 +1,12 @@
 //! Reading fields from the front of a slice.
 
 ghost use Rattle.std.specs.Prelude.{◌≡◌, ◌+◌, ◌<◌, ◌≤◌, ◌^◌, ◌==◌, ◌↔◌, [], true, Some, None, Ok, IsTrue, IfOk, IfSome, MatchOption, length};
-ghost use Rattle.std.specs.List.{list_any};
 ghost use Rattle.mq_wire.specs.Left.{past, placed, Took, Gives};
 ghost use Rattle.mq_wire.specs.Fields.{byte_at, two_bytes_at, four_bytes_at, varint_at, text_of, text_at, binary_at, pair_at};
 ghost use Rattle.mq_wire.specs.Plain.{is_plain, plain_text_at};
 
 use crate::fault::{Reason, WireFault};
+use crate::limits::contains_nul;
 use crate::plain::plain_str;
 use std::marker::Model;
 
@@ -302,14 +302,8 @@ fn checked_text(bytes: &[u8]) -> Result<&str, Reason>
     let Ok(text) = simdutf8::basic::from_utf8(bytes) else {
         return Err(Reason::NotUtf8);
     };
-    if has_nul(bytes) {
+    if contains_nul(text) {
         return Err(Reason::Nul);
     }
     Ok(text)
-}
-
-fn has_nul(bytes: &[u8]) -> bool
-    ensures { result ≡ list_any (λ b. b == 0) bytes.now }
-{
-    bytes.contains(&0)
 }

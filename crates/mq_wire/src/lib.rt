@@ -5,6 +5,7 @@
 mod cursor;
 mod fault;
 mod laws;
+mod limits;
 mod plain;
 mod put;
 
@@ -15,4 +16,5 @@ pub use laws::{
     four_bytes_is_refused, misspelled_is_unspelled, pair_is_exact, pair_is_refused, text_is_exact,
     text_is_refused, two_bytes_is_exact, two_bytes_is_refused, varint_is_exact, varint_is_refused,
 };
+pub use limits::{MAX_LEN, MAX_VARINT, contains_nul, varint_len};
 pub use put::{put_binary, put_pair, put_text, put_u8, put_u16, put_u32, put_varint};

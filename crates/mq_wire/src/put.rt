@@ -3,16 +3,11 @@
 ghost use Rattle.std.specs.Prelude.{◌≡◌, ◌+◌, ◌%◌, ◌≤◌, ◌<◌, ◌++◌, ◌↔◌, ◌⊎◌, true, length, OnOk, OnErr, IfErr, vec_len};
 ghost use Rattle.std.specs.Vec.{vec_capacity};
 ghost use Rattle.mq_wire.specs.declared.fault.PutFault.TheVariants.{TooLong, Nul, Memory};
-ghost use Rattle.mq_wire.specs.Spellings.{byte_spelling, two_bytes_spelling, four_bytes_spelling, varint_spelling, binary_spelling, text_spelling, pair_spelling, has_nul, ReadsBack};
+ghost use Rattle.mq_wire.specs.Spellings.{byte_spelling, two_bytes_spelling, four_bytes_spelling, varint_spelling, binary_spelling, text_spelling, pair_spelling, max_two_bytes, max_varint, has_nul, ReadsBack};
 ghost use Rattle.mq_wire.specs.Fields.{byte_at, two_bytes_at, four_bytes_at, varint_at, text_at, binary_at, pair_at};
 
 use crate::fault::PutFault;
-
-// The most bytes that a text or binary data can have.
-const MAX_LEN: usize = 65_535;
-
-// The largest Variable Byte Integer.
-const MAX_VARINT: u32 = 268_435_455;
+use crate::limits::{MAX_LEN, MAX_VARINT, contains_nul};
 
 /// Appends a byte.
 ///
@@ -66,7 +61,7 @@ pub fn put_varint(out: &mut Vec<u8>, number: u32) -> Result<(), PutFault>
     ensures ok { OnOk result (out.new.items ≡ out.old.items ++ varint_spelling number) }
     ensures read_back { OnOk result (ReadsBack varint_at number out.old.items out.new.items) }
     ensures err { OnErr result (out.new.items ≡ out.old.items) }
-    ensures too_long { (result ≡ Err TooLong) ↔ (268435455 < number) }
+    ensures too_long { (result ≡ Err TooLong) ↔ (max_varint < number) }
     ensures memory { IfErr result (λ fault. (fault ≡ TooLong) ⊎ ((fault ≡ Memory) × (vec_capacity out.old < vec_len out.old + length (varint_spelling number)))) }
     ensures capacity { vec_capacity out.old ≤ vec_capacity out.new }
 {
@@ -110,7 +105,7 @@ pub fn put_binary(out: &mut Vec<u8>, bytes: &[u8]) -> Result<(), PutFault>
     ensures ok { OnOk result (out.new.items ≡ out.old.items ++ binary_spelling bytes.now) }
     ensures read_back { OnOk result (ReadsBack binary_at bytes.now out.old.items out.new.items) }
     ensures err { OnErr result (out.new.items ≡ out.old.items) }
-    ensures too_long { (result ≡ Err TooLong) ↔ (65535 < length bytes.now) }
+    ensures too_long { (result ≡ Err TooLong) ↔ (max_two_bytes < length bytes.now) }
     ensures memory { IfErr result (λ fault. (fault ≡ TooLong) ⊎ ((fault ≡ Memory) × (vec_capacity out.old < vec_len out.old + (2 + length bytes.now)))) }
     ensures capacity { vec_capacity out.old ≤ vec_capacity out.new }
 {
@@ -131,8 +126,8 @@ pub fn put_text(out: &mut Vec<u8>, text: &str) -> Result<(), PutFault>
     ensures ok { OnOk result (out.new.items ≡ out.old.items ++ text_spelling text.now) }
     ensures read_back { OnOk result (ReadsBack text_at text.now out.old.items out.new.items) }
     ensures err { OnErr result (out.new.items ≡ out.old.items) }
-    ensures too_long { (result ≡ Err TooLong) ↔ (65535 < length text.now) }
-    ensures nul { (result ≡ Err Nul) ↔ ((length text.now ≤ 65535) × (has_nul text.now ≡ true)) }
+    ensures too_long { (result ≡ Err TooLong) ↔ (max_two_bytes < length text.now) }
+    ensures nul { (result ≡ Err Nul) ↔ ((length text.now ≤ max_two_bytes) × (has_nul text.now ≡ true)) }
     ensures memory { result ≡ Err Memory → vec_capacity out.old < vec_len out.old + (2 + length text.now) }
     ensures capacity { vec_capacity out.old ≤ vec_capacity out.new }
 {
@@ -157,8 +152,8 @@ pub fn put_pair(out: &mut Vec<u8>, name: &str, value: &str) -> Result<(), PutFau
     ensures ok { OnOk result (out.new.items ≡ out.old.items ++ pair_spelling (name.now, value.now)) }
     ensures read_back { OnOk result (ReadsBack pair_at (name.now, value.now) out.old.items out.new.items) }
     ensures err { OnErr result (out.new.items ≡ out.old.items) }
-    ensures too_long { (result ≡ Err TooLong) ↔ ((65535 < length name.now) ⊎ (65535 < length value.now)) }
-    ensures nul { (result ≡ Err Nul) ↔ ((length name.now ≤ 65535) × (length value.now ≤ 65535) × ((has_nul name.now ≡ true) ⊎ (has_nul value.now ≡ true))) }
+    ensures too_long { (result ≡ Err TooLong) ↔ ((max_two_bytes < length name.now) ⊎ (max_two_bytes < length value.now)) }
+    ensures nul { (result ≡ Err Nul) ↔ ((length name.now ≤ max_two_bytes) × (length value.now ≤ max_two_bytes) × ((has_nul name.now ≡ true) ⊎ (has_nul value.now ≡ true))) }
     ensures memory { result ≡ Err Memory → vec_capacity out.old < vec_len out.old + (4 + length name.now + length value.now) }
     ensures capacity { vec_capacity out.old ≤ vec_capacity out.new }
 {
@@ -172,12 +167,6 @@ pub fn put_pair(out: &mut Vec<u8>, name: &str, value: &str) -> Result<(), PutFau
     append_counted(out, name.as_bytes());
     append_counted(out, value.as_bytes());
     Ok(())
-}
-
-fn contains_nul(text: &str) -> bool
-    ensures { result ≡ has_nul text.now }
-{
-    text.as_bytes().contains(&0)
 }
 
 // Appends the bytes, or nothing.
@@ -203,7 +192,7 @@ fn reserve(out: &mut Vec<u8>, additional: usize) -> Result<(), PutFault>
 
 // Appends the length of the bytes and then the bytes, for which there is room.
 fn append_counted(out: &mut Vec<u8>, bytes: &[u8])
-    requires short { length bytes.now ≤ 65535 }
+    requires short { length bytes.now ≤ max_two_bytes }
     requires room { vec_len out.old + (2 + length bytes.now) ≤ vec_capacity out.old }
     ensures items { out.new.items ≡ out.old.items ++ binary_spelling bytes.now }
     ensures len { vec_len out.new ≡ vec_len out.old + (2 + length bytes.now) }
