@@ -1,13 +1,13 @@
 -- A property is refused for its first bad field.
 use Rattle.std.proofs.Common.{◌≡◌, ℕ, ◌+◌, List, ◌++◌, length, drop, Option, None, Some, Result, Ok, Err, refl, sym, ap, subst, ◌∙◌, ◌⊎◌, inl, inr}
 use Rattle.std.proofs.lemmas.Bool.{cases_Bool}
-use Rattle.std.proofs.lemmas.List.{drop_at}
 use Rattle.mq_wire.specs.declared.fault.Reason.{Reason}
 use Rattle.mq_wire.specs.declared.fault.WireFault.{WireFault}
 use Rattle.mq_wire.specs.Left.{Left, placed}
 use Rattle.mq_wire.specs.Fields.{varint_at, byte_at, two_bytes_at, four_bytes_at, text_at, pair_at, binary_at}
 use Rattle.mq_wire.specs.Spellings.{AreBytes, IsVarint, varint_spelling, Stands}
 use Rattle.mq_wire.specs.Misspelled.{Misspelled}
+use Rattle.mq_wire.proofs.Bytes.{AreBytes-drop, AreBytes-behind}
 use Rattle.mq_wire.proofs.MisspelledLaws.{byte_misspelled, two_bytes_misspelled, four_bytes_misspelled, varint_misspelled, text_misspelled, pair_misspelled, binary_misspelled}
 use Rattle.mq_wire.proofs.Placed.{placed_ok}
 use Rattle.mq_wire.proofs.Varint.{varint_exact}
@@ -24,7 +24,7 @@ use Rattle.mq_props.specs.Reading.{◌>>=◌, from_wire, judged_at, value_on, ad
 use Rattle.mq_props.proofs.Finding.{line_known}
 use Rattle.mq_props.proofs.Fields.{value_at, value_on_is, mapped, pair_of, IsOf, value_exact}
 use Rattle.mq_props.proofs.Steps.{from_wire_ok, admitted_ok, judged_ok}
-use Rattle.mq_props.proofs.Exact.{AreBytes-drop, left_at, read, named_read, value_read}
+use Rattle.mq_props.proofs.Exact.{left_at, read, named_read, value_read}
 
 abbrev failed : {A : Type 0} → PropFault → Result A PropFault
 failed fault = Err fault
@@ -83,14 +83,9 @@ misspelled_at types.Text bytes reason fits h = ap (mapped text) ((text_misspelle
 misspelled_at types.Pair bytes reason fits h = ap (mapped pair_of) ((pair_misspelled.exactly bytes reason fits).1 h)
 misspelled_at types.Binary bytes reason fits h = ap (mapped binary) ((binary_misspelled.exactly bytes reason fits).1 h)
 
--- bytes after others are bytes
-pub bytes_behind : (front bytes whole : List ℕ) → AreBytes whole → whole ≡ front ++ bytes → AreBytes bytes
-bytes_behind front bytes whole fits is =
-    subst (λ (rest : List ℕ). AreBytes rest) (ap (drop (length front)) is ∙ drop_at front bytes (length front) refl) (AreBytes-drop (length front) whole fits)
-
--- so are those after an identifier
+-- what stands after an identifier are bytes
 bytes_begun : (place : Place) (before : List Property) (left : Left) (line : Line) (behind : Left) → AreBytes left.rest → Begins place before left line behind → AreBytes behind.rest
-bytes_begun place before left line behind fits begins = bytes_behind (varint_spelling line.id) behind.rest left.rest fits begins.named.named.spelled
+bytes_begun place before left line behind fits begins = AreBytes-behind (varint_spelling line.id) behind.rest left.rest fits begins.named.named.spelled
 
 -- the value that stands spelled is read
 valued_on : (kind : ValueType) (left : Left) (value : Value) (is : IsValued kind left value) → value_on kind left ≡ read (value, left_at (left.at + length (value_spelling value)) is.rest)

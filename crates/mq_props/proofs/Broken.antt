@@ -8,6 +8,7 @@ use Rattle.mq_wire.specs.declared.fault.WireFault.{WireFault}
 use Rattle.mq_wire.specs.Left.{Left, past, placed}
 use Rattle.mq_wire.specs.Fields.{varint_at}
 use Rattle.mq_wire.specs.Spellings.{AreBytes, varint_spelling}
+use Rattle.mq_wire.proofs.Bytes.{AreBytes-take, AreBytes-behind}
 use Rattle.mq_wire.proofs.MisspelledLaws.{varint_misspelled}
 use Rattle.mq_props.specs.declared.fault.PropFault.{PropFault}
 use Rattle.mq_props.specs.declared.table.Place.{Place}
@@ -15,8 +16,8 @@ use Rattle.mq_props.specs.Values.{Property, value_spelling, property_spelling, b
 use Rattle.mq_props.specs.Allowed.{AllowedBehind}
 use Rattle.mq_props.specs.Breaks.{LongLength, BadProperty, Breaks}
 use Rattle.mq_props.specs.Reading.{◌>>=◌, from_wire, counted, property_on, properties_within, properties_on, list_on}
-use Rattle.mq_props.proofs.BadFieldLemmas.{named_on, bytes_behind, breaks_property}
-use Rattle.mq_props.proofs.Exact.{AreBytes-take, left_at, after, property_read, spelling_some, some_bytes}
+use Rattle.mq_props.proofs.BadFieldLemmas.{named_on, breaks_property}
+use Rattle.mq_props.proofs.Exact.{left_at, after, property_read, spelling_some, some_bytes}
 
 abbrev done : {A : Type 0} → A → Result A PropFault
 done x = Ok x
@@ -79,9 +80,9 @@ counted_inside start inside counts behind is =
 others_fit : (place : Place) (left : Left) (fault : PropFault) (bad : BadProperty place left fault) → AreBytes left.rest → AreBytes bad.others
 others_fit place left fault bad fits =
     let counts : List ℕ = body bad.good ++ bad.others in
-    let inside : AreBytes bad.inside.rest = bytes_behind (varint_spelling (length counts)) bad.inside.rest left.rest fits bad.numbered.spelled in
+    let inside : AreBytes bad.inside.rest = AreBytes-behind (varint_spelling (length counts)) bad.inside.rest left.rest fits bad.numbered.spelled in
     let counted : AreBytes counts = subst (λ (bytes : List ℕ). AreBytes bytes) (ap (take (length counts)) bad.parts ∙ take_at counts bad.behind (length counts) refl) (AreBytes-take (length counts) bad.inside.rest inside) in
-    bytes_behind (body bad.good) bad.others counts counted refl
+    AreBytes-behind (body bad.good) bad.others counts counted refl
 
 bad_list : (place : Place) (left : Left) (fault : PropFault) → AreBytes left.rest → BadProperty place left fault → list_of_length place left (placed left (varint_at left.rest)) ≡ failed fault
 bad_list place left fault fits bad =

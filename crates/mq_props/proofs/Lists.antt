@@ -10,6 +10,7 @@ use Rattle.mq_wire.specs.declared.fault.WireFault.{WireFault}
 use Rattle.mq_wire.specs.Left.{Left, past, placed}
 use Rattle.mq_wire.specs.Fields.{varint_at}
 use Rattle.mq_wire.specs.Spellings.{AreBytes, IsVarint, varint_spelling, Stands}
+use Rattle.mq_wire.proofs.Bytes.{AreBytes-drop, AreBytes-take, AreBytes-behind}
 use Rattle.mq_wire.proofs.MisspelledLaws.{varint_misspelled}
 use Rattle.mq_wire.proofs.Placed.{placed_ok}
 use Rattle.mq_wire.proofs.Varint.{varint_exact}
@@ -23,8 +24,8 @@ use Rattle.mq_props.specs.Breaks.{Breaks}
 use Rattle.mq_props.specs.Listed.{Listed}
 use Rattle.mq_props.specs.Reading.{◌>>=◌, from_wire, counted, property_on, properties_within, properties_on, list_on, Reads}
 use Rattle.mq_props.proofs.Steps.{property_on_ok, found_shorter, bind_ok, done_is, from_wire_ok}
-use Rattle.mq_props.proofs.BadFieldLemmas.{bytes_behind, property_breaks}
-use Rattle.mq_props.proofs.Exact.{AreBytes-drop, AreBytes-take, found_spells, named_read, properties_only, properties_all}
+use Rattle.mq_props.proofs.BadFieldLemmas.{property_breaks}
+use Rattle.mq_props.proofs.Exact.{found_spells, named_read, properties_only, properties_all}
 
 abbrev done : {A : Type 0} → A → Result A PropFault
 done x = Ok x
@@ -211,7 +212,7 @@ breaks_behind place left fault len n fits named e =
           let inside_fits : AreBytes inside.rest = AreBytes-take len rest (AreBytes-drop n left.rest fits) in
           let f : properties_on place [] inside ≡ Err fault = last_err (properties_on place [] inside) (λ (qs : List Property). (qs, past (past left n) len)) fault (rw enough at e) in
           let refused = refused_on_all place inside fault inside_fits f in
-          let others_fit : AreBytes refused.others = bytes_behind (body refused.good) refused.others inside.rest inside_fits refused.parts in
+          let others_fit : AreBytes refused.others = AreBytes-behind (body refused.good) refused.others inside.rest inside_fits refused.parts in
           let size : len ≡ length (body refused.good ++ refused.others) = omega (arith, ap length refused.parts, length-take len rest, ltb-false (length rest) len enough) in
           let whole : rest ≡ (body refused.good ++ refused.others) ++ drop len rest = sym (take-append-drop len rest) ∙ ap (λ (front : List ℕ). front ++ drop len rest) refused.parts in
           let bad = property_breaks place refused.good (left_at (left.at + n + length (body refused.good)) refused.others) fault others_fit refused.refused in

@@ -1,4 +1,5 @@
 pub mod Back
+pub mod Bytes
 pub mod Exact
 pub mod MisspelledLaws
 pub mod Placed

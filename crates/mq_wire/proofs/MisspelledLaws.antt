@@ -8,7 +8,8 @@ use Rattle.mq_wire.specs.Fields.{byte_at, two_bytes_at, four_bytes_at, ended_by,
 use Rattle.mq_wire.specs.FieldTypes.{FieldType, byte, two_byte_integer, four_byte_integer, variable_byte_integer, utf8_string, string_pair, binary_data, IsFieldValue, field_spelling}
 use Rattle.mq_wire.specs.Spellings.{AreBytes, IsExact}
 use Rattle.mq_wire.specs.Misspelled.{IsCutShort, NoneStands, AllContinue, HasShorterForm, RunsPastFour, MisspelledNumber, MisspelledString, MisspelledPair, Misspelled, RefusesMisspelled}
-use Rattle.mq_wire.proofs.Exact.{AreBytes-drop, byte_exact, two_bytes_exact, four_bytes_exact, binary_exact, text_exact, pair_exact}
+use Rattle.mq_wire.proofs.Bytes.{AreBytes-drop}
+use Rattle.mq_wire.proofs.Exact.{byte_exact, two_bytes_exact, four_bytes_exact, binary_exact, text_exact, pair_exact}
 use Rattle.mq_wire.proofs.Varint.{varint_exact}
 use Rattle.mq_wire.proofs.Refusals.{RefusesShort, stands_read, byte_refused, two_bytes_refused, four_bytes_refused, varint_refused, binary_refused, text_refused, pair_first, pair_second}
 

@@ -11,6 +11,7 @@ use Rattle.mq_wire.specs.declared.fault.Reason.TheVariants.{Short, Overlong, Not
 use Rattle.mq_wire.specs.Fields.{◌>>=◌, byte_at, two_bytes_at, four_bytes_at, ended_by, fourth_byte, third_byte, second_byte, varint_at, counted, binary_at, text_of, text_at, pair_at}
 use Rattle.mq_wire.specs.Spellings.{AreBytes, IsByte, byte_spelling, IsTwoBytes, two_bytes_spelling, IsFourBytes, four_bytes_spelling, IsVarint, varint_spelling, IsBinary, binary_spelling, has_nul, Stands, IsExact}
 use Rattle.mq_wire.specs.Misspelled.{IsCutShort, NoneStands, IsNotUtf8, HasNul}
+use Rattle.mq_wire.proofs.Bytes.{AreBytes-nil, AreBytes-cons}
 use Rattle.mq_wire.proofs.Exact.{done, done_is, byte_exact, two_bytes_from, two_bytes_exact, four_bytes_from, four_bytes_exact, binary_exact, exact_settled}
 use Rattle.mq_wire.proofs.Texts.{not_utf8, with_nul}
 use Rattle.mq_wire.proofs.Varint.{spelling_of_1, spelling_of_2, spelling_of_3, spelling_of_4, varint_exact, varint_settled}
@@ -40,13 +41,6 @@ failed reason = Err reason
 -- a text, with how many bytes its field takes
 abbrev sized : ℕ → List ℕ → Result (List ℕ × ℕ) Reason
 sized n text = Ok (text, n)
-
-AreBytes-cons : (a : ℕ) (bytes : List ℕ) → a < 256 → AreBytes bytes → AreBytes (a ∷ bytes)
-AreBytes-cons a bytes fits all zero = fits
-AreBytes-cons a bytes fits all (suc i) = all i
-
-AreBytes-nil : AreBytes []
-AreBytes-nil i = omega arith
 
 -- one zero byte
 zero_byte : AreBytes (0 ∷ [])
