@@ -7,7 +7,7 @@ use Rattle.mq_wire.specs.Left.{Left, placed}
 use Rattle.mq_wire.specs.Fields.{varint_at, byte_at, two_bytes_at, four_bytes_at, text_at, pair_at, binary_at}
 use Rattle.mq_wire.specs.Spellings.{AreBytes, IsVarint, varint_spelling, Stands}
 use Rattle.mq_wire.specs.Misspelled.{Misspelled}
-use Rattle.mq_wire.proofs.Bytes.{AreBytes-drop, AreBytes-behind}
+use Rattle.mq_wire.proofs.Bytes.{AreBytes-drop, AreBytes-after}
 use Rattle.mq_wire.proofs.MisspelledLaws.{byte_misspelled, two_bytes_misspelled, four_bytes_misspelled, varint_misspelled, text_misspelled, pair_misspelled, binary_misspelled}
 use Rattle.mq_wire.proofs.Placed.{placed_ok}
 use Rattle.mq_wire.proofs.Varint.{varint_exact}
@@ -85,7 +85,7 @@ misspelled_at types.Binary bytes reason fits h = ap (mapped binary) ((binary_mis
 
 -- what stands after an identifier are bytes
 bytes_begun : (place : Place) (before : List Property) (left : Left) (line : Line) (behind : Left) → AreBytes left.rest → Begins place before left line behind → AreBytes behind.rest
-bytes_begun place before left line behind fits begins = AreBytes-behind (varint_spelling line.id) behind.rest left.rest fits begins.named.named.spelled
+bytes_begun place before left line behind fits begins = AreBytes-after (varint_spelling line.id) behind.rest left.rest fits begins.named.named.spelled
 
 -- the value that stands spelled is read
 valued_on : (kind : ValueType) (left : Left) (value : Value) (is : IsValued kind left value) → value_on kind left ≡ read (value, left_at (left.at + length (value_spelling value)) is.rest)

@@ -8,7 +8,7 @@ use Rattle.mq_wire.specs.declared.fault.WireFault.{WireFault}
 use Rattle.mq_wire.specs.Left.{Left, past, placed}
 use Rattle.mq_wire.specs.Fields.{varint_at}
 use Rattle.mq_wire.specs.Spellings.{AreBytes, varint_spelling}
-use Rattle.mq_wire.proofs.Bytes.{AreBytes-take, AreBytes-behind}
+use Rattle.mq_wire.proofs.Bytes.{AreBytes-take, AreBytes-after}
 use Rattle.mq_wire.proofs.MisspelledLaws.{varint_misspelled}
 use Rattle.mq_props.specs.declared.fault.PropFault.{PropFault}
 use Rattle.mq_props.specs.declared.table.Place.{Place}
@@ -80,9 +80,9 @@ counted_inside start inside counts behind is =
 others_fit : (place : Place) (left : Left) (fault : PropFault) (bad : BadProperty place left fault) → AreBytes left.rest → AreBytes bad.others
 others_fit place left fault bad fits =
     let counts : List ℕ = body bad.good ++ bad.others in
-    let inside : AreBytes bad.inside.rest = AreBytes-behind (varint_spelling (length counts)) bad.inside.rest left.rest fits bad.numbered.spelled in
-    let counted : AreBytes counts = subst (λ (bytes : List ℕ). AreBytes bytes) (ap (take (length counts)) bad.parts ∙ take_at counts bad.behind (length counts) refl) (AreBytes-take (length counts) bad.inside.rest inside) in
-    AreBytes-behind (body bad.good) bad.others counts counted refl
+    let inside : AreBytes bad.inside.rest = AreBytes-after (varint_spelling (length counts)) bad.inside.rest left.rest fits bad.numbered.spelled in
+    let counted : AreBytes counts = subst (λ (bytes : List ℕ). AreBytes bytes) (ap (take (length counts)) bad.parts ∙ take_at counts bad.rest (length counts) refl) (AreBytes-take (length counts) bad.inside.rest inside) in
+    AreBytes-after (body bad.good) bad.others counts counted refl
 
 bad_list : (place : Place) (left : Left) (fault : PropFault) → AreBytes left.rest → BadProperty place left fault → list_of_length place left (placed left (varint_at left.rest)) ≡ failed fault
 bad_list place left fault fits bad =
@@ -90,7 +90,7 @@ bad_list place left fault fits bad =
     let after_all : Left = past bad.inside (length counts) in
     let first : Left = left_at (bad.inside.at + length (body bad.good)) bad.others in
     ap (list_of_length place left) (named_on left (length counts) bad.inside bad.numbered)
-    ∙ ap (list_inside place after_all) (counted_inside left bad.inside counts bad.behind bad.parts)
+    ∙ ap (list_inside place after_all) (counted_inside left bad.inside counts bad.rest bad.parts)
     ∙ ap (list_from after_all) (refused_all place bad.good bad.inside.at bad.others fault bad.some bad.allowed (breaks_property place bad.good first fault (others_fit place left fault bad fits) bad.refused))
 
 pub breaks_list : (place : Place) (left : Left) (fault : PropFault) → AreBytes left.rest → Breaks place left fault → list_on place left ≡ Err fault

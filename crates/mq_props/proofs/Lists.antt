@@ -10,7 +10,7 @@ use Rattle.mq_wire.specs.declared.fault.WireFault.{WireFault}
 use Rattle.mq_wire.specs.Left.{Left, past, placed}
 use Rattle.mq_wire.specs.Fields.{varint_at}
 use Rattle.mq_wire.specs.Spellings.{AreBytes, IsVarint, varint_spelling, Stands}
-use Rattle.mq_wire.proofs.Bytes.{AreBytes-drop, AreBytes-take, AreBytes-behind}
+use Rattle.mq_wire.proofs.Bytes.{AreBytes-drop, AreBytes-take, AreBytes-after}
 use Rattle.mq_wire.proofs.MisspelledLaws.{varint_misspelled}
 use Rattle.mq_wire.proofs.Placed.{placed_ok}
 use Rattle.mq_wire.proofs.Varint.{varint_exact}
@@ -207,16 +207,16 @@ breaks_behind place left fault len n fits named e =
     elim (cases_Bool (ltb (length (drop n left.rest)) len)) [
       | inl short ↦ inr (inl (record { len = len; inside = past left n; numbered = numbered; passes = ltb-true (length (drop n left.rest)) len short; is = sym (failed_is {A = List Property × Left} (record { at = left.at; reason = Wire Short }) fault (rw short at e)) }))
       | inr enough ↦
-          let rest : List ℕ = drop n left.rest in
-          let inside : Left = left_at (left.at + n) (take len rest) in
-          let inside_fits : AreBytes inside.rest = AreBytes-take len rest (AreBytes-drop n left.rest fits) in
+          let held : List ℕ = drop n left.rest in
+          let inside : Left = left_at (left.at + n) (take len held) in
+          let inside_fits : AreBytes inside.rest = AreBytes-take len held (AreBytes-drop n left.rest fits) in
           let f : properties_on place [] inside ≡ Err fault = last_err (properties_on place [] inside) (λ (qs : List Property). (qs, past (past left n) len)) fault (rw enough at e) in
           let refused = refused_on_all place inside fault inside_fits f in
-          let others_fit : AreBytes refused.others = AreBytes-behind (body refused.good) refused.others inside.rest inside_fits refused.parts in
-          let size : len ≡ length (body refused.good ++ refused.others) = omega (arith, ap length refused.parts, length-take len rest, ltb-false (length rest) len enough) in
-          let whole : rest ≡ (body refused.good ++ refused.others) ++ drop len rest = sym (take-append-drop len rest) ∙ ap (λ (front : List ℕ). front ++ drop len rest) refused.parts in
+          let others_fit : AreBytes refused.others = AreBytes-after (body refused.good) refused.others inside.rest inside_fits refused.parts in
+          let size : len ≡ length (body refused.good ++ refused.others) = omega (arith, ap length refused.parts, length-take len held, ltb-false (length held) len enough) in
+          let whole : held ≡ (body refused.good ++ refused.others) ++ drop len held = sym (take-append-drop len held) ∙ ap (λ (front : List ℕ). front ++ drop len held) refused.parts in
           let bad = property_breaks place refused.good (left_at (left.at + n + length (body refused.good)) refused.others) fault others_fit refused.refused in
-          inr (inr (record { good = refused.good; others = refused.others; behind = drop len rest; inside = past left n; numbered = subst (λ (k : ℕ). Numbered left k (past left n)) size numbered; parts = whole; allowed = refused.allowed; some = refused.some; refused = bad }))
+          inr (inr (record { good = refused.good; others = refused.others; rest = drop len held; inside = past left n; numbered = subst (λ (k : ℕ). Numbered left k (past left n)) size numbered; parts = whole; allowed = refused.allowed; some = refused.some; refused = bad }))
     ]
 
 breaks_by : (place : Place) (left : Left) (fault : PropFault) (r : Result (ℕ × ℕ) Reason) → AreBytes left.rest → varint_at left.rest ≡ r

@@ -1,4 +1,4 @@
--- The first bad field of a property (MQTT 5.0, 2.2.2.2), apart from any reading of properties.
+-- The first bad field of a property (MQTT 5.0, 2.2.2.2), apart from any reading.
 use Rattle.std.specs.Prelude.{◌≡◌, ℕ, ◌+◌, ◌⊎◌, true, false, List, ◌++◌, length, None, Some}
 use Rattle.mq_wire.specs.declared.fault.Reason.{Reason}
 use Rattle.mq_wire.specs.Left.{Left}

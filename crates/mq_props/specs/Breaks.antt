@@ -31,10 +31,10 @@ pub record LongLength (left : Left) (fault : PropFault) : Type 0 where
 pub record BadProperty (place : Place) (left : Left) (fault : PropFault) : Type 0 where
   pub good : List Property
   pub others : List ℕ
-  pub behind : List ℕ
+  pub rest : List ℕ
   pub inside : Left
   pub numbered : Numbered left (length (body good ++ others)) inside
-  pub parts : inside.rest ≡ (body good ++ others) ++ behind
+  pub parts : inside.rest ≡ (body good ++ others) ++ rest
   pub allowed : AreAllowed place good
   pub some : 0 < length others
   pub refused : BreaksProperty place good (record { at = inside.at + length (body good); rest = others }) fault

@@ -22,6 +22,6 @@ AreBytes-take n bytes fits i =
     ]
 
 -- what stands after others
-pub AreBytes-behind : (front bytes whole : List ℕ) → AreBytes whole → whole ≡ front ++ bytes → AreBytes bytes
-AreBytes-behind front bytes whole fits is =
+pub AreBytes-after : (front bytes whole : List ℕ) → AreBytes whole → whole ≡ front ++ bytes → AreBytes bytes
+AreBytes-after front bytes whole fits is =
     subst (λ (rest : List ℕ). AreBytes rest) (ap (drop (length front)) is ∙ drop_at front bytes (length front) refl) (AreBytes-drop (length front) whole fits)

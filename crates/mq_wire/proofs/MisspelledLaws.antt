@@ -43,22 +43,22 @@ binary_misspelled = record { exactly = short_only binary_refused }
 
 -- ---- Variable Byte Integers
 
-shorter_read : (front behind : List ℕ) → 0 < length front → length front ≤ 3 → AllContinue front → varint_at (front ++ 0 ∷ behind) ≡ Err Overlong
+shorter_read : (front rest : List ℕ) → 0 < length front → length front ≤ 3 → AllContinue front → varint_at (front ++ 0 ∷ rest) ≡ Err Overlong
 unfolding varint_at
-shorter_read [] behind some most continues = absurd (omega (arith, some))
-shorter_read (a ∷ []) behind some most continues = rw (le-ltb a 128 continues.0) refl
-shorter_read (a ∷ b ∷ []) behind some most continues = rw (le-ltb a 128 continues.0, le-ltb b 128 continues.1.0) refl
-shorter_read (a ∷ b ∷ c ∷ []) behind some most continues = rw (le-ltb a 128 continues.0, le-ltb b 128 continues.1.0, le-ltb c 128 continues.1.1.0) refl
-shorter_read (a ∷ b ∷ c ∷ d ∷ front) behind some most continues = absurd (omega (arith, most))
+shorter_read [] rest some most continues = absurd (omega (arith, some))
+shorter_read (a ∷ []) rest some most continues = rw (le-ltb a 128 continues.0) refl
+shorter_read (a ∷ b ∷ []) rest some most continues = rw (le-ltb a 128 continues.0, le-ltb b 128 continues.1.0) refl
+shorter_read (a ∷ b ∷ c ∷ []) rest some most continues = rw (le-ltb a 128 continues.0, le-ltb b 128 continues.1.0, le-ltb c 128 continues.1.1.0) refl
+shorter_read (a ∷ b ∷ c ∷ d ∷ front) rest some most continues = absurd (omega (arith, most))
 
-past_four_read : (front behind : List ℕ) → length front ≡ 4 → AllContinue front → varint_at (front ++ behind) ≡ Err Overlong
+past_four_read : (front rest : List ℕ) → length front ≡ 4 → AllContinue front → varint_at (front ++ rest) ≡ Err Overlong
 unfolding varint_at
-past_four_read [] behind four continues = absurd (omega (arith, four))
-past_four_read (a ∷ []) behind four continues = absurd (omega (arith, four))
-past_four_read (a ∷ b ∷ []) behind four continues = absurd (omega (arith, four))
-past_four_read (a ∷ b ∷ c ∷ []) behind four continues = absurd (omega (arith, four))
-past_four_read (a ∷ b ∷ c ∷ d ∷ []) behind four continues = rw (le-ltb a 128 continues.0, le-ltb b 128 continues.1.0, le-ltb c 128 continues.1.1.0, le-ltb d 128 continues.1.1.1.0) refl
-past_four_read (a ∷ b ∷ c ∷ d ∷ e ∷ front) behind four continues = absurd (omega (arith, four))
+past_four_read [] rest four continues = absurd (omega (arith, four))
+past_four_read (a ∷ []) rest four continues = absurd (omega (arith, four))
+past_four_read (a ∷ b ∷ []) rest four continues = absurd (omega (arith, four))
+past_four_read (a ∷ b ∷ c ∷ []) rest four continues = absurd (omega (arith, four))
+past_four_read (a ∷ b ∷ c ∷ d ∷ []) rest four continues = rw (le-ltb a 128 continues.0, le-ltb b 128 continues.1.0, le-ltb c 128 continues.1.1.0, le-ltb d 128 continues.1.1.1.0) refl
+past_four_read (a ∷ b ∷ c ∷ d ∷ e ∷ front) rest four continues = absurd (omega (arith, four))
 
 -- the last byte of a number that is too long, if it has one
 ended_zero : (last number taken : ℕ) → ended_by last number taken ≡ Err Overlong → last ≡ 0
@@ -74,8 +74,8 @@ fourth_too_long a b c n (d ∷ bytes) ha hb hc e =
     elim (cases_lt d 128) [
       | inl lt ↦
           let last : d ≡ 0 = ended_zero d _ _ (rw (lt-ltb d 128 lt) at e) in
-          inl (record { front = a ∷ b ∷ c ∷ []; behind = bytes; some = omega arith; most = omega arith; continues = (ha, (hb, (hc, tt))); is = ap (λ (x : ℕ). a ∷ b ∷ c ∷ x ∷ bytes) last })
-      | inr le ↦ inr (record { front = a ∷ b ∷ c ∷ d ∷ []; behind = bytes; four = refl; continues = (ha, (hb, (hc, (le, tt)))); is = refl })
+          inl (record { front = a ∷ b ∷ c ∷ []; rest = bytes; some = omega arith; most = omega arith; continues = (ha, (hb, (hc, tt))); is = ap (λ (x : ℕ). a ∷ b ∷ c ∷ x ∷ bytes) last })
+      | inr le ↦ inr (record { front = a ∷ b ∷ c ∷ d ∷ []; rest = bytes; four = refl; continues = (ha, (hb, (hc, (le, tt)))); is = refl })
     ]
 
 third_too_long : (a b n : ℕ) (bytes : List ℕ) → 128 ≤ a → 128 ≤ b → third_byte n bytes ≡ Err Overlong → IsTooLong (a ∷ b ∷ bytes)
@@ -84,7 +84,7 @@ third_too_long a b n (c ∷ bytes) ha hb e =
     elim (cases_lt c 128) [
       | inl lt ↦
           let last : c ≡ 0 = ended_zero c _ _ (rw (lt-ltb c 128 lt) at e) in
-          inl (record { front = a ∷ b ∷ []; behind = bytes; some = omega arith; most = omega arith; continues = (ha, (hb, tt)); is = ap (λ (x : ℕ). a ∷ b ∷ x ∷ bytes) last })
+          inl (record { front = a ∷ b ∷ []; rest = bytes; some = omega arith; most = omega arith; continues = (ha, (hb, tt)); is = ap (λ (x : ℕ). a ∷ b ∷ x ∷ bytes) last })
       | inr le ↦ fourth_too_long a b c (n + 16384 * (c - 128)) bytes ha hb le (rw (le-ltb c 128 le) at e)
     ]
 
@@ -94,7 +94,7 @@ second_too_long a n (b ∷ bytes) ha e =
     elim (cases_lt b 128) [
       | inl lt ↦
           let last : b ≡ 0 = ended_zero b _ _ (rw (lt-ltb b 128 lt) at e) in
-          inl (record { front = a ∷ []; behind = bytes; some = omega arith; most = omega arith; continues = (ha, tt); is = ap (λ (x : ℕ). a ∷ x ∷ bytes) last })
+          inl (record { front = a ∷ []; rest = bytes; some = omega arith; most = omega arith; continues = (ha, tt); is = ap (λ (x : ℕ). a ∷ x ∷ bytes) last })
       | inr le ↦ third_too_long a b (n + 128 * (b - 128)) bytes ha le (rw (le-ltb b 128 le) at e)
     ]
 
@@ -108,8 +108,8 @@ too_long_from (a ∷ bytes) e =
     ]
 
 too_long_read : (bytes : List ℕ) → IsTooLong bytes → varint_at bytes ≡ Err Overlong
-too_long_read bytes (inl h) = ap varint_at h.is ∙ shorter_read h.front h.behind h.some h.most h.continues
-too_long_read bytes (inr h) = ap varint_at h.is ∙ past_four_read h.front h.behind h.four h.continues
+too_long_read bytes (inl h) = ap varint_at h.is ∙ shorter_read h.front h.rest h.some h.most h.continues
+too_long_read bytes (inr h) = ap varint_at h.is ∙ past_four_read h.front h.rest h.four h.continues
 
 varint_exactly : (bytes : List ℕ) (reason : Reason) → AreBytes bytes → (varint_at bytes ≡ Err reason) ↔ MisspelledNumber bytes reason
 varint_exactly bytes Short fits = varint_refused.short bytes fits

@@ -27,19 +27,19 @@ AllContinue bytes = AllByRecursion (λ b. 128 ≤ b) bytes
 -- The bytes begin with a number whose last byte, the second to the fourth, is 0: the number has a shorter form (1.5.5).
 pub record HasShorterForm (bytes : List ℕ) : Type 0 where
   pub front : List ℕ
-  pub behind : List ℕ
+  pub rest : List ℕ
   pub some : 0 < length front
   pub most : length front ≤ 3
   pub continues : AllContinue front
-  pub is : bytes ≡ front ++ 0 ∷ behind
+  pub is : bytes ≡ front ++ 0 ∷ rest
 
 -- The bytes begin with four that all say that another follows (1.5.5).
 pub record RunsPastFour (bytes : List ℕ) : Type 0 where
   pub front : List ℕ
-  pub behind : List ℕ
+  pub rest : List ℕ
   pub four : length front ≡ 4
   pub continues : AllContinue front
-  pub is : bytes ≡ front ++ behind
+  pub is : bytes ≡ front ++ rest
 
 -- Why the bytes begin with no Variable Byte Integer (1.5.5): they end before it does; or it isn't in the shortest form, or runs
 -- past four bytes.
