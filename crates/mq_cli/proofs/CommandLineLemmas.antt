@@ -235,8 +235,11 @@ pub same_check : {file file' : Option Text} {json json' summary summary' : Bool}
 same_check {file} {file'} {json} {json'} {summary} {summary'} f j s = ap (λ (x : Option Text). Some (check_request x json summary)) f
     ∙ ap (λ (x : Bool). Some (check_request file' x summary)) j ∙ ap (λ (x : Bool). Some (check_request file' json' x)) s
 
-pub same_show : {file file' : Option Text} {long long' : Bool} → file ≡ file' → long ≡ long' → Some (show_request file long) ≡ Some (show_request file' long')
-same_show {file} {file'} {long} {long'} f l = ap (λ (x : Option Text). Some (show_request x long)) f ∙ ap (λ (x : Bool). Some (show_request file' x)) l
+pub same_show : {file file' : Option Text} {long long' faults faults' : Bool} {around around' : Option Text} → file ≡ file' → long ≡ long' → faults ≡ faults' → around ≡ around'
+    → Some (show_request file long faults around) ≡ Some (show_request file' long' faults' around')
+same_show {file} {file'} {long} {long'} {faults} {faults'} {around} {around'} f l a n = ap (λ (x : Option Text). Some (show_request x long faults around)) f
+    ∙ ap (λ (x : Bool). Some (show_request file' x faults around)) l ∙ ap (λ (x : Bool). Some (show_request file' long' x around)) a
+    ∙ ap (λ (x : Option Text). Some (show_request file' long' faults' x)) n
 
 pub request_is_check : (words : List Text) (m check : ArgMatches) → subcommand_rows_of m ≡ subcommand_of mqjudge words → subcommand_name_of m ≡ Some (codes "check")
     → option_map (λ p. p.1) (subcommand_rows_of m) ≡ Some (rows_of (found_of check)) → request_of words ≡ Some (check_request (first_value (found_of check) (codes "FILE"))
@@ -248,10 +251,11 @@ request_is_check words m check same named rows =
 
 pub request_is_show : (words : List Text) (m shown : ArgMatches) → subcommand_rows_of m ≡ subcommand_of mqjudge words → subcommand_name_of m ≡ Some (codes "show")
     → option_map (λ p. p.1) (subcommand_rows_of m) ≡ Some (rows_of (found_of shown)) → request_of words ≡ Some (show_request (first_value (found_of shown) (codes "FILE"))
-    (is_true (first_value (found_of shown) (codes "long"))))
+    (is_true (first_value (found_of shown) (codes "long"))) (is_true (first_value (found_of shown) (codes "faults"))) (first_value (found_of shown) (codes "N")))
 request_is_show words m shown same named rows =
     ap (option_map request_in) (met_by words m shown (codes "show") same named rows)
     ∙ same_show (sym (first_value-rows (found_of shown) (codes "FILE"))) (ap is_true (sym (first_value-rows (found_of shown) (codes "long"))))
+    (ap is_true (sym (first_value-rows (found_of shown) (codes "faults")))) (sym (first_value-rows (found_of shown) (codes "N")))
 
 pub request_is_packet : (words : List Text) (m packet : ArgMatches) → subcommand_rows_of m ≡ subcommand_of mqjudge words → subcommand_name_of m ≡ Some (codes "packet")
     → option_map (λ p. p.1) (subcommand_rows_of m) ≡ Some (rows_of (found_of packet)) → request_of words ≡ Some (packet_request (first_value (found_of packet) (codes "HEX")))

@@ -1,4 +1,5 @@
 pub mod CommandLineLemmas
 pub mod ExplainingLemmas
 pub mod ProgramLemmas
+pub mod ReviewingLemmas
 pub mod ToldLemmas

@@ -26,7 +26,7 @@ for_log (Some log) P Q f h = f log h
 -- ---- parts of a text
 
 -- nothing of it was written
-part-kept : (old new : Option (List ℕ)) (text : List ℕ) → Keeps old new → AppendsPart old new text
+pub part-kept : (old new : Option (List ℕ)) (text : List ℕ) → Keeps old new → AppendsPart old new text
 part-kept old new text kept = record { written = []; unwritten = text; whole = refl; appended = appends-kept old new kept }
 
 -- all of it was
@@ -55,12 +55,12 @@ whole_is_begun old middle new text (Err e) a k = part-whole old new text (Append
 -- ---- refusals
 
 -- a refusal that lies in the log isn't that reading failed
-next_refused : (taken later : List ℕ) (left : Option (List ℕ)) (refusal : Refusal) → IsOfLog refusal
+pub next_refused : (taken later : List ℕ) (left : Option (List ℕ)) (refusal : Refusal) → IsOfLog refusal
     → IsRefusedNext default_limit taken later refusal ⊎ IsUnread taken later left refusal → IsRefusedNext default_limit taken later refusal
 next_refused taken later left refusal own (inl why) = why
 next_refused taken later left refusal own (inr unread) = absurd (subst IsOfLog unread.0 own)
 
-abbrev own_refusal : (log : List ℕ) (left : Option (List ℕ)) (refusal : Refusal) → IsOfLog refusal → IsRefusedAt default_limit log left refusal
+abbrev pub own_refusal : (log : List ℕ) (left : Option (List ℕ)) (refusal : Refusal) → IsOfLog refusal → IsRefusedAt default_limit log left refusal
     → IsRefusedBy log refusal
 own_refusal log left refusal own stops = record {
   own = own;

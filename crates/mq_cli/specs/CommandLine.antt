@@ -7,6 +7,8 @@ use Rattle.clap.specs.Simple.{on_top}
 use Rattle.clap.specs.declared.builder.action.ArgAction.TheVariants.{SetTrue}
 use Rattle.clap.specs.declared.error.kind.ErrorKind.{ErrorKind}
 use Rattle.clap.specs.declared.error.kind.ErrorKind.TheVariants.{DisplayHelp, DisplayVersion}
+use Rattle.mq_cli.specs.declared.command_line.Work.{Work}
+use Rattle.mq_cli.specs.declared.command_line.Work.TheVariants.{Once, Twice}
 use Rattle.mq_cli.specs.declared.command_line.Task.{Task}
 use Rattle.mq_cli.specs.declared.command_line.Task.TheVariants.{Check, Show, Packet, Rules, Explain}
 use Rattle.mq_cli.specs.declared.command_line.Stop.{Stop}
@@ -20,9 +22,10 @@ flag name = record (new_rule name) { long = Some name; action = Some SetTrue }
 abbrev pub check_command : App
 check_command = with_rule (with_rule (with_rule (new_app (codes "check")) (new_rule (codes "FILE"))) (flag (codes "json"))) (flag (codes "summary"))
 
--- `show [--long] [FILE]`
+-- `show [--long] [--faults] [--around N] [FILE]`
 abbrev pub show_command : App
-show_command = with_rule (with_rule (new_app (codes "show")) (new_rule (codes "FILE"))) (flag (codes "long"))
+show_command = with_rule (with_rule (with_rule (with_rule (new_app (codes "show")) (new_rule (codes "FILE"))) (flag (codes "long"))) (flag (codes "faults")))
+    (record (new_rule (codes "N")) { long = Some (codes "around") })
 
 -- `packet HEX`
 abbrev pub packet_command : App
@@ -50,34 +53,41 @@ mqjudge = with_subcommand
     rules_command.top)
     explain_command.top
 
--- what a command line asks for: a subcommand, its operand, its flags, and the end that it is for
+-- what a command line asks for: a subcommand, its operand, its flags, the number after `--around`, and the end that it is for
 pub record Request : Type 0 where
   pub subcommand : Text
   pub operand : Option Text
   pub json : Bool
   pub summary : Bool
   pub long : Bool
+  pub faults : Bool
+  pub around : Option Text
   pub role : Option Text
+
+-- a subcommand on this operand, with nothing else
+abbrev pub plain_request : Text → Option Text → Request
+plain_request subcommand operand =
+    record { subcommand = subcommand; operand = operand; json = false; summary = false; long = false; faults = false; around = None; role = None }
 
 -- `check` on this file, with these flags
 abbrev pub check_request : Option Text → Bool → Bool → Request
-check_request file json summary = record { subcommand = codes "check"; operand = file; json = json; summary = summary; long = false; role = None }
+check_request file json summary = record (plain_request (codes "check") file) { json = json; summary = summary }
 
--- `show` of this file, with this flag
-abbrev pub show_request : Option Text → Bool → Request
-show_request file long = record { subcommand = codes "show"; operand = file; json = false; summary = false; long = long; role = None }
+-- `show` of this file, with these flags and this number
+abbrev pub show_request : Option Text → (long faults : Bool) → (around : Option Text) → Request
+show_request file long faults around = record (plain_request (codes "show") file) { long = long; faults = faults; around = around }
 
 -- `packet` on these digits; the operand may not be left out
 abbrev pub packet_request : Option Text → Request
-packet_request hex = record { subcommand = codes "packet"; operand = Some (unwrap_or hex []); json = false; summary = false; long = false; role = None }
+packet_request hex = plain_request (codes "packet") (Some (unwrap_or hex []))
 
 -- `rules` for the end that this word names
 abbrev pub rules_request : Option Text → Request
-rules_request role = record { subcommand = codes "rules"; operand = None; json = false; summary = false; long = false; role = role }
+rules_request role = record (plain_request (codes "rules") None) { role = role }
 
 -- `explain` of this code; the operand may not be left out
 abbrev pub explain_request : Option Text → Request
-explain_request code = record { subcommand = codes "explain"; operand = Some (unwrap_or code []); json = false; summary = false; long = false; role = None }
+explain_request code = plain_request (codes "explain") (Some (unwrap_or code []))
 
 -- the value of a flag is `true`
 abbrev pub is_true : Option Text → Bool
@@ -88,6 +98,7 @@ is_true (Some value) = bytes_eq value (codes "true")
 abbrev pub request_in : Text × List Row → Request
 request_in met = if bytes_eq met.0 (codes "check") then check_request (first_of (codes "FILE") met.1) (is_true (first_of (codes "json") met.1)) (is_true (first_of (codes "summary") met.1))
     else (if bytes_eq met.0 (codes "show") then show_request (first_of (codes "FILE") met.1) (is_true (first_of (codes "long") met.1))
+    (is_true (first_of (codes "faults") met.1)) (first_of (codes "N") met.1)
     else (if bytes_eq met.0 (codes "packet") then packet_request (first_of (codes "HEX") met.1)
     else (if bytes_eq met.0 (codes "rules") then rules_request (first_of (codes "role") met.1)
     else explain_request (first_of (codes "CODE") met.1))))
@@ -100,13 +111,14 @@ request_of words = option_map request_in (subcommand_of mqjudge words)
 abbrev pub faults_of : List Text → Kinds
 faults_of words = fault_of mqjudge words
 
--- the request that a task stands for
-abbrev pub request_by : Task → Request
-request_by (Check file json summary) = check_request (option_map string_bytes file) json summary
-request_by (Show file long) = show_request (option_map string_bytes file) long
-request_by (Packet hex) = packet_request (Some (string_bytes hex))
-request_by (Rules role) = rules_request (option_map string_bytes role)
-request_by (Explain code) = explain_request (Some (string_bytes code))
+-- the request that some work stands for
+abbrev pub request_by : Work → Request
+request_by (Once (Check file json summary)) = check_request (option_map string_bytes file) json summary
+request_by (Once (Show file long)) = show_request (option_map string_bytes file) long false None
+request_by (Once (Packet hex)) = packet_request (Some (string_bytes hex))
+request_by (Once (Rules role)) = rules_request (option_map string_bytes role)
+request_by (Once (Explain code)) = explain_request (Some (string_bytes code))
+request_by (Twice review) = show_request (option_map string_bytes review.file) review.long review.faults (option_map string_bytes review.around)
 
 -- the kind asks for a text to be shown: help, or the version
 abbrev pub IsShown : ErrorKind → Type 0

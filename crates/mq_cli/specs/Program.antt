@@ -1,11 +1,16 @@
 -- What the program does with the words of its command line, by the status that it exits with.
-use Rattle.std.specs.Prelude.{◌≡◌, ◌⊎◌, Option, Some, None, List, ℕ}
+use Rattle.std.specs.Prelude.{◌≡◌, ◌⊎◌, Option, Some, None, List, ℕ, IfSome, IsErrAnd, IsOkAnd}
 use Rattle.std.specs.Io.KnownBytes.{Appends, Keeps}
 use Rattle.clap.specs.Words.{Text}
 use Rattle.mq_cli.specs.declared.command_line.Stop.{Stop}
+use Rattle.mq_cli.specs.declared.command_line.Review.{Review}
 use Rattle.mq_cli.specs.declared.command_line.Task.{Task}
+use Rattle.mq_cli.specs.declared.command_line.Work.{Work}
+use Rattle.mq_cli.specs.declared.command_line.Work.TheVariants.{Once, Twice}
 use Rattle.mq_cli.specs.declared.failure.Failure.{Failure}
+use Rattle.mq_cli.specs.declared.failure.Failure.TheVariants.{Memory}
 use Rattle.mq_cli.specs.CommandLine.{StopsFor, faults_of, path_of, request_by, request_of}
+use Rattle.mq_cli.specs.Reviewing.{IsReviewed, Plan, RefusesPlan, StopsPlan, plan_of}
 use Rattle.mq_cli.specs.Told.{AppendsPart, FailsMisnamed, FailsStop, FailsTask, HasFailed, HasPassed, IsMisnamed, IsRefusedOn, IsReportedOn, IsShownOn, IsToldOn, failure_line, misnamed_line}
 
 -- What the program is given: the words of its command line, the bytes of the file at a path and those of standard input, each where
@@ -44,39 +49,102 @@ abbrev pub FailsRead : Given → Task → Option (List ℕ) → Option (List ℕ
 FailsRead given task old new error_old error_new = IsUnopened given task old new error_old error_new
     ⊎ (FailsPerforming given task old new error_old error_new ⊎ FailsMisnamed task old new error_old error_new)
 
+-- ---- a log that is shown with the faults at its events
+
+-- 0: what is asked for was shown
+abbrev pub PassesReview : Given → Review → Option (List ℕ) → Option (List ℕ) → Type 0
+PassesReview given review old new = IsOkAnd (plan_of review) (λ plan. IfSome (given.file plan.path) (λ log. IsReviewed plan log log old new))
+
+-- 2: the log is refused, and the line that says so was written
+abbrev pub RefusesReview : Given → Review → Option (List ℕ) → Option (List ℕ) → Type 0
+RefusesReview given review old new = IsOkAnd (plan_of review) (λ plan. IfSome (given.file plan.path) (λ log. RefusesPlan plan log log old new))
+
+-- 3: there is nothing to show, and the line that says so was written
+abbrev pub MisusesReview : Review → Option (List ℕ) → Option (List ℕ) → Type 0
+MisusesReview review error_old error_new = IsErrAnd (plan_of review) (λ line. Appends error_old error_new line)
+
+-- the file couldn't be opened, and nothing was written; or a reading of it failed, or writing; what the two readers have left is not told
+abbrev pub StopsFile : Given → Plan → Failure → (old new : Option (List ℕ)) → Type 0
+StopsFile given plan failure old new = (given.unopened plan.path failure × Keeps old new)
+    ⊎ ((judged_left : Option (List ℕ)) × (shown_left : Option (List ℕ))
+    × IfSome (given.file plan.path) (λ log. StopsPlan plan failure log log judged_left shown_left old new))
+
+-- 4: what failed is told on the error stream, as far as that took it
+pub record FailsFile (given : Given) (plan : Plan) (old new error_old error_new : Option (List ℕ)) : Type 0 where
+  pub failure : Failure
+  pub stops : StopsFile given plan failure old new
+  pub told : AppendsPart error_old error_new (failure_line failure)
+
+-- 4: there is nothing to show, and the error stream didn't take the line that says so, or memory for that ran out
+pub record FailsUnplanned (line : Text) (old new error_old error_new : Option (List ℕ)) : Type 0 where
+  pub unwritten : Keeps old new
+  pub told : AppendsPart error_old error_new line ⊎ AppendsPart error_old error_new (failure_line Memory)
+
+-- 4: showing failed, or there is nothing to show
+abbrev pub FailsReview : Given → Review → (old new error_old error_new : Option (List ℕ)) → Type 0
+FailsReview given review old new error_old error_new = IsOkAnd (plan_of review) (λ plan. FailsFile given plan old new error_old error_new)
+    ⊎ IsErrAnd (plan_of review) (λ line. FailsUnplanned line old new error_old error_new)
+
+-- ---- what a status says of some work
+
+-- 0: it was done, and all that it tells was written
+abbrev pub PassesWork : Given → Work → Option (List ℕ) → Option (List ℕ) → Type 0
+PassesWork given (Once task) old new = HasPassed task (input_of given task) × IsReportedOn task (input_of given task) old new
+PassesWork given (Twice review) old new = PassesReview given review old new
+
+-- 1: it found faults, and all that it tells was written
+abbrev pub FindsFaultsIn : Given → Work → Option (List ℕ) → Option (List ℕ) → Type 0
+FindsFaultsIn given (Once task) old new = HasFailed task (input_of given task) × IsReportedOn task (input_of given task) old new
+FindsFaultsIn given (Twice review) old new = ⊥
+
+-- 2: its log is refused, and all that it tells was written
+abbrev pub RefusesWork : Given → Work → Option (List ℕ) → Option (List ℕ) → Type 0
+RefusesWork given (Once task) old new = IsRefusedOn task (input_of given task) old new
+RefusesWork given (Twice review) old new = RefusesReview given review old new
+
+-- 3: the digits of a packet are invalid, a word names no end, no statement or no number, or there is no file to read twice, and the error stream took the line
+-- that says so
+abbrev pub MisusesWork : Work → Option (List ℕ) → Option (List ℕ) → Type 0
+MisusesWork (Once task) error_old error_new = IsMisnamed task × Appends error_old error_new (misnamed_line task)
+MisusesWork (Twice review) error_old error_new = MisusesReview review error_old error_new
+
+-- 4: it failed, or its file couldn't be opened
+abbrev pub FailsWork : Given → Work → Option (List ℕ) → Option (List ℕ) → Option (List ℕ) → Option (List ℕ) → Type 0
+FailsWork given (Once task) old new error_old error_new = FailsRead given task old new error_old error_new
+FailsWork given (Twice review) old new error_old error_new = FailsReview given review old new error_old error_new
+
 -- ---- of these words
 
--- they ask for this task
-abbrev pub AsksFor : List Text → Task → Type 0
-AsksFor words task = request_of words ≡ Some (request_by task)
+-- they ask for this
+abbrev pub AsksFor : List Text → Work → Type 0
+AsksFor words work = request_of words ≡ Some (request_by work)
 
--- they ask for no task, and this is why
+-- they ask for nothing to do, and this is why
 abbrev pub StopsAt : List Text → Stop → Type 0
 StopsAt words stop = StopsFor (faults_of words) stop
 
--- 0: they ask for help or the version, which was written; or for a task that passed, and all that it tells was written
+-- 0: they ask for help or the version, which was written; or for work that was done, and all that it tells was written
 abbrev pub Passes : List Text → Given → Option (List ℕ) → Option (List ℕ) → Type 0
 Passes words given old new = ((stop : Stop) × StopsAt words stop × IsShownOn stop old new)
-    ⊎ ((task : Task) × AsksFor words task × HasPassed task (input_of given task) × IsReportedOn task (input_of given task) old new)
+    ⊎ ((work : Work) × AsksFor words work × PassesWork given work old new)
 
--- 1: they ask for a task that found faults, and all that it tells was written
+-- 1: they ask for work that found faults, and all that it tells was written
 abbrev pub FindsFaults : List Text → Given → Option (List ℕ) → Option (List ℕ) → Type 0
-FindsFaults words given old new =
-    (task : Task) × AsksFor words task × HasFailed task (input_of given task) × IsReportedOn task (input_of given task) old new
+FindsFaults words given old new = (work : Work) × AsksFor words work × FindsFaultsIn given work old new
 
--- 2: they ask for a task on a log that is refused, and all that it tells was written
+-- 2: they ask for work on a log that is refused, and all that it tells was written
 abbrev pub Refuses : List Text → Given → Option (List ℕ) → Option (List ℕ) → Type 0
-Refuses words given old new = (task : Task) × AsksFor words task × IsRefusedOn task (input_of given task) old new
+Refuses words given old new = (work : Work) × AsksFor words work × RefusesWork given work old new
 
--- 3: they are no command line, or ask for a packet whose digits are invalid, or for an end or a statement that there isn't, and the error stream took the text that says so
+-- 3: they are no command line, or ask for what can't be done, and the error stream took the text that says so
 abbrev pub IsMisuse : List Text → Option (List ℕ) → Option (List ℕ) → Type 0
 IsMisuse words error_old error_new = ((stop : Stop) × StopsAt words stop × IsToldOn stop error_old error_new)
-    ⊎ ((task : Task) × AsksFor words task × IsMisnamed task × Appends error_old error_new (misnamed_line task))
+    ⊎ ((work : Work) × AsksFor words work × MisusesWork work error_old error_new)
 
--- 4: the text for words that ask for no task couldn't be written; or they ask for a task that failed, or whose file couldn't be opened
+-- 4: the text for words that ask for nothing to do couldn't be written; or they ask for work that failed, or whose file couldn't be opened
 abbrev pub Fails : List Text → Given → Option (List ℕ) → Option (List ℕ) → Option (List ℕ) → Option (List ℕ) → Type 0
 Fails words given old new error_old error_new = ((stop : Stop) × StopsAt words stop × FailsStop stop old new error_old error_new)
-    ⊎ ((task : Task) × AsksFor words task × FailsRead given task old new error_old error_new)
+    ⊎ ((work : Work) × AsksFor words work × FailsWork given work old new error_old error_new)
 
 -- 4: The words couldn't be read: nothing was written, and why is told on the error stream, as far as that took it.
 pub record IsUnread (given : Given) (old new error_old error_new : Option (List ℕ)) : Type 0 where

@@ -1,5 +1,6 @@
 -- What the caller is told, and where.
 use Rattle.std.specs.Prelude.{Bool, true, false, ◌≡◌, ◌⊎◌, ⊤, List, ℕ, Option, None, [], ◌∷◌, ◌++◌, codes, string_bytes, unwrap_or, option_map, IfSome, IsSome, IsSomeAnd, IsErr, Ok}
+use Rattle.std.specs.FinMap as map
 use Rattle.std.specs.Io.KnownBytes.{Appends, Keeps}
 use Rattle.hex.specs.Hex.{decode_of}
 use Rattle.mq_judge.specs.declared.Form.{Form}
@@ -9,7 +10,7 @@ use Rattle.mq_judge.specs.declared.Refusal.TheVariants as refusals
 use Rattle.mq_judge.specs.OnePacket.{IsOnePacket, packet_report}
 use Rattle.mq_judge.specs.Report.{refused_line, refused_report, report}
 use Rattle.mq_judge.specs.Running.{IsFaultless, IsJudged, default_limit}
-use Rattle.mq_judge.specs.Showing.{WritesBeginning, lines_of, long_lines_of}
+use Rattle.mq_judge.specs.Showing.{WritesBeginning, annotated, lines_of, long_lines_of}
 use Rattle.mq_judge.specs.Stopping.{IsRefusedAt, IsRefusedNext}
 use Rattle.mq_trace.specs.Events.{Placed, events}
 use Rattle.mq_trace.specs.Refusals.{refused}
@@ -17,6 +18,8 @@ use Rattle.mq_cli.specs.Explaining.{explained_for}
 use Rattle.mq_cli.specs.Listing.{listed_for}
 use Rattle.mq_cli.specs.declared.command_line.Task.{Task}
 use Rattle.mq_cli.specs.declared.command_line.Task.TheVariants.{Check, Show, Packet, Rules, Explain}
+use Rattle.mq_cli.specs.declared.tasks.View.{View}
+use Rattle.mq_cli.specs.declared.tasks.View.TheVariants.{Lines, Faults}
 use Rattle.mq_cli.specs.declared.command_line.Stop.{Stop}
 use Rattle.mq_cli.specs.declared.command_line.Stop.TheVariants.{Help, Usage, Memory}
 use Rattle.mq_cli.specs.declared.failure.Failure.{Failure}
@@ -94,6 +97,11 @@ RefusesCheck form log old new = (refusal : Refusal) × IsRefusedBy log refusal �
 abbrev pub text_for : (long : Bool) → List Placed → List ℕ
 text_for false = lines_of
 text_for true = long_lines_of
+
+-- the text of events by a view of them
+abbrev pub text_by : View → List Placed → List ℕ
+text_by (Lines long) = text_for long
+text_by (Faults faults role around long) = annotated (record { role = role; faults = map.entries faults.now; around = around; long = long })
 
 -- Showing the log by this text of events was refused: that of the events that are complete before the refused byte was written, then the line on the
 -- refusal, and nothing else.

@@ -1,9 +1,9 @@
 //! The words of a command line, read into a task.
-ghost use Rattle.std.specs.Prelude.{◌≡◌, [], Some, false, IfOk, IfErr, map, option_map, string_bytes};
-ghost use Rattle.clap.specs.Words.{HasKind, Kinds, app_of, subcommand_of, subcommand_rows_of};
+ghost use Rattle.std.specs.Prelude.{◌≡◌, [], Some, codes, false, IfOk, IfErr, map, option_map, string_bytes};
+ghost use Rattle.clap.specs.Words.{HasKind, Kinds, app_of, new_rule, rule_of, subcommand_of, subcommand_rows_of};
 ghost use Rattle.clap.specs.declared.builder.command.Command.TheViews.{out-Command};
 ghost use Rattle.mq_cli.specs.CommandLine.{StopsFor, check_command, check_request, explain_command};
-ghost use Rattle.mq_cli.specs.CommandLine.{explain_request, faults_of, is_true, mqjudge, packet_command, packet_request};
+ghost use Rattle.mq_cli.specs.CommandLine.{explain_request, faults_of, flag, is_true, mqjudge, packet_command, packet_request};
 ghost use Rattle.mq_cli.specs.CommandLine.{path_named, path_of, request_by, request_of, rules_command};
 ghost use Rattle.mq_cli.specs.CommandLine.{rules_request, show_command, show_request};
 
@@ -27,7 +27,7 @@ const CHECK_HELP: &str =
 const SHOW_HELP: &str =
     "Statuses: 0 where the log was shown, 2 for a log that is refused, 3 for misuse,\n\
     4 where reading or writing failed or memory ran out.\n\
-    Example: mqjudge show --long session.log\n\
+    Example: mqjudge show --faults --around 3 session.log\n\
     The log's format: docs/LOG_FORMAT.md";
 
 const PACKET_HELP: &str = "Statuses: 0 for one packet, 1 for bytes that aren't, 3 for misuse,\n\
@@ -47,6 +47,29 @@ const EXPLAIN_HELP: &str =
     The log's format: docs/LOG_FORMAT.md";
 
 /// What the program is asked to do.
+#[derive(Debug, Drop)]
+pub enum Work {
+    /// What reads its log once, or no log.
+    Once(Task),
+    /// What reads its log twice.
+    Twice(Review),
+}
+
+/// Show the events of a log with the faults at them: one reading finds the faults, and another one
+/// shows the events.
+#[derive(Debug, Drop)]
+pub struct Review {
+    /// The log's path. Standard input can't be read twice.
+    pub file: Option<String>,
+    /// Whether faults are asked for at all, without which there is nothing to be near to.
+    pub faults: bool,
+    /// Show only the events that are at most so many positions from a fault: a number, in digits.
+    pub around: Option<String>,
+    /// Say what else each packet says.
+    pub long: bool,
+}
+
+/// What is done with one reading of a log, or with none.
 #[derive(Debug, Drop)]
 pub enum Task {
     /// Judge the log in `file`, or on standard input where there is none or it is `-`.
@@ -96,8 +119,8 @@ impl Task {
     }
 }
 
-// The path that an operand names, where it names one.
-fn path_named(file: &Option<String>) -> Option<&str>
+/// The path that an operand names, where it names one: `-` names none.
+pub fn path_named(file: &Option<String>) -> Option<&str>
     ensures { option_map (λ path. path.now) result ≡ path_named (option_map string_bytes file.now) }
 {
     match file {
@@ -119,14 +142,14 @@ pub enum Stop {
 }
 
 /// Reads the words of a command line, `mqjudge check [--json] [--summary] [FILE]`,
-/// `mqjudge show [--long] [FILE]`,
+/// `mqjudge show [--long] [--faults] [--around N] [FILE]`,
 /// `mqjudge packet HEX`, `mqjudge rules [--role ROLE]` or `mqjudge explain CODE`, of which the
 /// first is the program's name. A request for help or the version comes as a `Stop`, and so do
 /// words that are no such command line.
-pub fn parse<S: AsStr>(alloc: Global, words: &[S]) -> Result<Task, Stop>
+pub fn parse<S: AsStr>(alloc: Global, words: &[S]) -> Result<Work, Stop>
     ensures taken { IfOk result (λ _. faults_of (map S.text words.now) ≡ []) }
-    ensures task { IfOk result (λ task.
-        request_of (map S.text words.now) ≡ Some (request_by task)) }
+    ensures work { IfOk result (λ work.
+        request_of (map S.text words.now) ≡ Some (request_by work)) }
     ensures stop { IfErr result (StopsFor (faults_of (map S.text words.now))) }
 {
     match matches_of(alloc, words) {
@@ -138,9 +161,13 @@ pub fn parse<S: AsStr>(alloc: Global, words: &[S]) -> Result<Task, Stop>
                 is_true(check.get_str("summary")),
             ),
             None => match matches.subcommand_matches("show") {
-                Some(show) => {
-                    show_task(alloc, show.get_str("FILE"), is_true(show.get_str("long")))
-                }
+                Some(show) => show_task(
+                    alloc,
+                    show.get_str("FILE"),
+                    is_true(show.get_str("long")),
+                    is_true(show.get_str("faults")),
+                    show.get_str("N"),
+                ),
                 None => match matches.subcommand_matches("packet") {
                     Some(packet) => packet_task(alloc, packet.get_str("HEX")),
                     None => match matches.subcommand_matches("rules") {
@@ -193,19 +220,20 @@ fn check_command<'a>(alloc: Global) -> Result<Command<'a>, AllocError>
     ensures app { IfOk result (λ command. app_of command ≡ check_command) }
     ensures local { IfOk result (λ command. (out-Command command).has_globals ≡ false) }
 {
-    let file = Arg::new(alloc, "FILE").help("The log; standard input where it is left out or `-`");
-    let json = Arg::new(alloc, "json")
-        .help("Report all in one line of JSON, with --summary too")
-        .long("json")
-        .action(ArgAction::SetTrue);
-    let summary = Arg::new(alloc, "summary")
-        .help("Report a line for each statement that has faults")
-        .long("summary")
-        .action(ArgAction::SetTrue);
+    let json = flag(
+        alloc,
+        "json",
+        "Report all in one line of JSON, with --summary too",
+    );
+    let summary = flag(
+        alloc,
+        "summary",
+        "Report a line for each statement that has faults",
+    );
     Command::new(alloc, "check")
         .about("Judges a log and reports each fault")
         .after_help(CHECK_HELP)
-        .arg(file)?
+        .arg(log_operand(alloc))?
         .arg(json)?
         .arg(summary)
 }
@@ -215,16 +243,45 @@ fn show_command<'a>(alloc: Global) -> Result<Command<'a>, AllocError>
     ensures app { IfOk result (λ command. app_of command ≡ show_command) }
     ensures local { IfOk result (λ command. (out-Command command).has_globals ≡ false) }
 {
-    let file = Arg::new(alloc, "FILE").help("The log; standard input where it is left out or `-`");
-    let long = Arg::new(alloc, "long")
-        .help("Show the other fields and the properties of each packet")
-        .long("long")
-        .action(ArgAction::SetTrue);
+    let long = flag(
+        alloc,
+        "long",
+        "Show the other fields and the properties of each packet",
+    );
+    let faults = flag(
+        alloc,
+        "faults",
+        "Show the faults under their events; reads FILE twice",
+    );
+    let around = Arg::new(alloc, "N")
+        .help("With --faults: only the events within N positions of a fault")
+        .long("around");
     Command::new(alloc, "show")
         .about("Shows each event of a log")
         .after_help(SHOW_HELP)
-        .arg(file)?
-        .arg(long)
+        .arg(log_operand(alloc))?
+        .arg(long)?
+        .arg(faults)?
+        .arg(around)
+}
+
+// The operand that names a log.
+fn log_operand<'a>(alloc: Global) -> Arg<'a>
+    ensures rule { rule_of result ≡ new_rule (codes "FILE") }
+    ensures local { result.global ≡ false }
+{
+    Arg::new(alloc, "FILE").help("The log; standard input where it is left out or `-`")
+}
+
+// A flag of this name.
+fn flag<'a>(alloc: Global, name: &'a str, help: &'a str) -> Arg<'a>
+    ensures rule { rule_of result ≡ flag name.now }
+    ensures local { result.global ≡ false }
+{
+    Arg::new(alloc, name)
+        .help(help)
+        .long(name)
+        .action(ArgAction::SetTrue)
 }
 
 // The definition of `packet`.
@@ -280,78 +337,91 @@ fn is_true(value: Option<&str>) -> bool
 }
 
 // The task of `check` on this operand and these flags.
-fn check_task(alloc: Global, file: Option<&str>, json: bool, summary: bool) -> Result<Task, Stop>
-    ensures task { IfOk result (λ task.
-        request_by task ≡ check_request (option_map (λ path. path.now) file.entry) json summary) }
+fn check_task(alloc: Global, file: Option<&str>, json: bool, summary: bool) -> Result<Work, Stop>
+    ensures work { IfOk result (λ work.
+        request_by work ≡ check_request (option_map (λ path. path.now) file.entry) json summary) }
     ensures stop { IfErr result (λ stop. stop ≡ Stop.Memory) }
 {
-    let file = match file {
-        Some(path) => match String::from_str(alloc, path) {
-            Ok(path) => Some(path),
-            Err(_) => return Err(Stop::Memory),
-        },
-        None => None,
-    };
-    Ok(Task::Check {
+    let file = copied(alloc, file)?;
+    Ok(Work::Once(Task::Check {
         file,
         json,
         summary,
-    })
+    }))
 }
 
-// The task of `show` on this operand, with this flag.
-fn show_task(alloc: Global, file: Option<&str>, long: bool) -> Result<Task, Stop>
-    ensures task { IfOk result (λ task.
-        request_by task ≡ show_request (option_map (λ path. path.now) file.entry) long) }
+// The work of `show` on this operand, with these flags and this number.
+fn show_task(
+    alloc: Global,
+    file: Option<&str>,
+    long: bool,
+    faults: bool,
+    around: Option<&str>,
+) -> Result<Work, Stop>
+    ensures work { IfOk result (λ work.
+        request_by work ≡ show_request (option_map (λ path. path.now) file.entry) long faults
+        (option_map (λ number. number.now) around.entry)) }
     ensures stop { IfErr result (λ stop. stop ≡ Stop.Memory) }
 {
-    let file = match file {
-        Some(path) => match String::from_str(alloc, path) {
-            Ok(path) => Some(path),
-            Err(_) => return Err(Stop::Memory),
-        },
-        None => None,
-    };
-    Ok(Task::Show { file, long })
+    let file = copied(alloc, file)?;
+    let around = copied(alloc, around)?;
+    if !faults && around.is_none() {
+        return Ok(Work::Once(Task::Show { file, long }));
+    }
+    Ok(Work::Twice(Review {
+        file,
+        faults,
+        around,
+        long,
+    }))
 }
 
 // The task of `packet` on this operand; an operand that is left out counts as an empty one.
-fn packet_task(alloc: Global, hex: Option<&str>) -> Result<Task, Stop>
-    ensures task { IfOk result (λ task.
-        request_by task ≡ packet_request (option_map (λ text. text.now) hex.entry)) }
+fn packet_task(alloc: Global, hex: Option<&str>) -> Result<Work, Stop>
+    ensures work { IfOk result (λ work.
+        request_by work ≡ packet_request (option_map (λ text. text.now) hex.entry)) }
     ensures stop { IfErr result (λ stop. stop ≡ Stop.Memory) }
 {
     match String::from_str(alloc, hex.unwrap_or("")) {
-        Ok(hex) => Ok(Task::Packet { hex }),
+        Ok(hex) => Ok(Work::Once(Task::Packet { hex })),
         Err(_) => Err(Stop::Memory),
     }
 }
 
 // The task of `rules` for this end.
-fn rules_task(alloc: Global, role: Option<&str>) -> Result<Task, Stop>
-    ensures task { IfOk result (λ task.
-        request_by task ≡ rules_request (option_map (λ word. word.now) role.entry)) }
+fn rules_task(alloc: Global, role: Option<&str>) -> Result<Work, Stop>
+    ensures work { IfOk result (λ work.
+        request_by work ≡ rules_request (option_map (λ word. word.now) role.entry)) }
     ensures stop { IfErr result (λ stop. stop ≡ Stop.Memory) }
 {
-    let role = match role {
-        Some(word) => match String::from_str(alloc, word) {
-            Ok(word) => Some(word),
-            Err(_) => return Err(Stop::Memory),
-        },
-        None => None,
-    };
-    Ok(Task::Rules { role })
+    let role = copied(alloc, role)?;
+    Ok(Work::Once(Task::Rules { role }))
 }
 
 // The task of `explain` on this operand; an operand that is left out counts as an empty one.
-fn explain_task(alloc: Global, code: Option<&str>) -> Result<Task, Stop>
-    ensures task { IfOk result (λ task.
-        request_by task ≡ explain_request (option_map (λ text. text.now) code.entry)) }
+fn explain_task(alloc: Global, code: Option<&str>) -> Result<Work, Stop>
+    ensures work { IfOk result (λ work.
+        request_by work ≡ explain_request (option_map (λ text. text.now) code.entry)) }
     ensures stop { IfErr result (λ stop. stop ≡ Stop.Memory) }
 {
     match String::from_str(alloc, code.unwrap_or("")) {
-        Ok(code) => Ok(Task::Explain { code }),
+        Ok(code) => Ok(Work::Once(Task::Explain { code })),
         Err(_) => Err(Stop::Memory),
+    }
+}
+
+// A copy of a word, where there is one.
+fn copied(alloc: Global, word: Option<&str>) -> Result<Option<String>, Stop>
+    ensures copy { IfOk result (λ copy.
+        option_map string_bytes copy ≡ option_map (λ text. text.now) word.entry) }
+    ensures stop { IfErr result (λ stop. stop ≡ Stop.Memory) }
+{
+    match word {
+        Some(word) => match String::from_str(alloc, word) {
+            Ok(word) => Ok(Some(word)),
+            Err(_) => Err(Stop::Memory),
+        },
+        None => Ok(None),
     }
 }
 

@@ -1,5 +1,6 @@
-use crate::command_line::{Stop, parse};
+use crate::command_line::Stop;
 use crate::tasks::perform;
+use crate::tests::task_of;
 use std::alloc::{AllocError, Global};
 use std::io::Write;
 use std::test::Fail;
@@ -30,7 +31,7 @@ fn does(
     status: u8,
     written: &[u8],
 ) -> Result<bool, Stop> {
-    let task = parse(alloc, words)?;
+    let task = task_of(alloc, words)?;
     let mut output = Vec::new(alloc);
     let mut error = Vec::new(alloc);
     let given = perform(alloc, &task, &mut &log[..], &mut output, &mut error);

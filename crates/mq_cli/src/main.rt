@@ -16,6 +16,9 @@ mod program;
 #[cfg(test)]
 mod program_tests;
 #[cfg(test)]
+mod review_tests;
+mod reviewing;
+#[cfg(test)]
 mod show_tests;
 #[cfg(test)]
 mod statement_tests;

@@ -1,7 +1,7 @@
 use crate::command_line::{Stop, Task, parse};
 use crate::failure::{FAILED, FAULTY, MISUSED, PASSED};
 use crate::tasks::{perform, stop};
-use crate::tests::{Narrow, Told, is_failed_write};
+use crate::tests::{Narrow, Told, is_failed_write, task_of};
 use std::alloc::Global;
 use std::io;
 use std::io::Cursor;
@@ -259,7 +259,7 @@ static ROWS: [Row; 48] = [
 ];
 
 fn told_of_packet(alloc: Global, hex: &str) -> Result<Told, Stop> {
-    let task = parse(alloc, &["mqjudge", "packet", hex])?;
+    let task = task_of(alloc, &["mqjudge", "packet", hex])?;
     let mut output = Vec::new(alloc);
     let mut error = Vec::new(alloc);
     let status = perform(alloc, &task, &mut io::empty(), &mut output, &mut error);
@@ -305,7 +305,7 @@ fn tells_of_a_packet_line_that_fails(rt: HostRuntime) -> Result<(), Fail> {
 fn tells_of_a_packet_without_memory(rt: HostRuntime) {
     let mut output = Cursor::new([0; 64]);
     let mut error = Cursor::new([0; 64]);
-    let status = match parse(rt.alloc(), &["mqjudge", "packet", "40020001"]) {
+    let status = match task_of(rt.alloc(), &["mqjudge", "packet", "40020001"]) {
         Ok(task) => perform(rt.alloc(), &task, &mut io::empty(), &mut output, &mut error),
         Err(why) => stop(&why, &mut output, &mut error),
     };
@@ -323,7 +323,7 @@ fn tells_of_a_packet_without_memory(rt: HostRuntime) {
 
 #[test]
 fn reads_the_words_of_a_packet(rt: HostRuntime) -> Result<(), Fail> {
-    let Task::Packet { hex } = parse(rt.alloc(), &["mqjudge", "packet", "c000"])? else {
+    let Task::Packet { hex } = task_of(rt.alloc(), &["mqjudge", "packet", "c000"])? else {
         return Err("no packet".into());
     };
     assert!(rt; hex.as_str() == "c000");

@@ -1,19 +1,21 @@
 //! The program: from the words of its command line to its status.
 ghost use Rattle.std.specs.Prelude.{◌≡◌, ◌≤◌, ◌⊎◌, IfSome, map};
 ghost use Rattle.std.specs.Io.KnownBytes.{Appends, Keeps};
-ghost use Rattle.mq_cli.specs.Program.{Fails, FailsRead, FindsFaults, IsMisuse, IsUnread, Passes, Refuses, input_of};
+ghost use Rattle.mq_cli.specs.Program.{Fails, FailsRead, FailsWork, FindsFaults, FindsFaultsIn, IsMisuse, IsUnread};
+ghost use Rattle.mq_cli.specs.Program.{MisusesWork, Passes, PassesWork, Refuses, RefusesWork, input_of};
 ghost use Rattle.mq_cli.specs.Told.{HasFailed, HasPassed, IsMisnamed, IsRefusedOn, IsReportedOn, misnamed_line};
 
-use crate::command_line::{Task, parse};
+use crate::command_line::{Task, Work, parse};
 use crate::host::Host;
+use crate::reviewing::review;
 use crate::tasks::{perform, stop};
 use std::alloc::Global;
 use std::convert::AsStr;
 use std::io::Write;
 
 /// Does what the words of the command line ask for, and gives the status to exit with: what
-/// `perform` gives for a task and `stop` for help, the version and a misuse, and 4 where the words
-/// couldn't be read.
+/// `perform` gives for a task, `review` for a log that is read twice, and `stop` for help, the
+/// version and a misuse; and 4 where the words couldn't be read.
 pub fn run<H: Host, W: Write, E: Write>(
     alloc: Global,
     host: &H,
@@ -65,8 +67,32 @@ fn respond<S: AsStr, H: Host, W: Write, E: Write>(
         (W.contents output.old) (W.contents output.new) (E.contents error.old) (E.contents error.new) }
 {
     match parse(alloc, words) {
-        Ok(task) => read_and_perform(alloc, host, &task, output, error),
+        Ok(work) => work_on(alloc, host, &work, output, error),
         Err(why) => stop(&why, output, error),
+    }
+}
+
+// Does the work, and gives the status to exit with.
+fn work_on<H: Host, W: Write, E: Write>(
+    alloc: Global,
+    host: &H,
+    work: &Work,
+    output: &mut W,
+    error: &mut E,
+) -> u8
+    ensures statuses { result ≤ 4 }
+    ensures quiet { result ≤ 2 → Keeps (E.contents error.old) (E.contents error.new) }
+    ensures untold { result ≡ 3 → Keeps (W.contents output.old) (W.contents output.new) }
+    ensures passed { result ≡ 0 → PassesWork (H.gives host.now) work.now (W.contents output.old) (W.contents output.new) }
+    ensures faulty { result ≡ 1 → FindsFaultsIn (H.gives host.now) work.now (W.contents output.old) (W.contents output.new) }
+    ensures refused { result ≡ 2 → RefusesWork (H.gives host.now) work.now (W.contents output.old) (W.contents output.new) }
+    ensures misused { result ≡ 3 → MisusesWork work.now (E.contents error.old) (E.contents error.new) }
+    ensures failed { result ≡ 4 → FailsWork (H.gives host.now) work.now
+        (W.contents output.old) (W.contents output.new) (E.contents error.old) (E.contents error.new) }
+{
+    match work {
+        Work::Once(task) => read_and_perform(alloc, host, task, output, error),
+        Work::Twice(asked) => review(alloc, host, asked, output, error),
     }
 }
 

@@ -246,6 +246,132 @@ static ROWS: [Row; 27] = [
     ),
 ];
 
+const FAULTY_LINES: &str = "1 record 1 OPEN\n\
+    2 record 2 SENT CONNECT size 15\n\
+    3 record 3 RECV CONNACK size 5\n\
+    4 record 4 SENT BAD W09 offset 5\n\
+    \x20 fault W09 sec-2.2.1 A Packet Identifier isn't 0. (offset 5)\n";
+
+const NEAR_LINES: &str = "..\n\
+    4 record 4 SENT BAD W09 offset 5\n\
+    \x20 fault W09 sec-2.2.1 A Packet Identifier isn't 0. (offset 5)\n";
+
+const NO_FILE: &str =
+    "mqjudge: --faults reads the log twice, so it needs a FILE, not standard input\n";
+
+static REVIEWS: [Row; 14] = [
+    (
+        &["mqjudge", "show", "--faults", "a.log"],
+        [FAULTY, NESTED],
+        0,
+        FAULTY_LINES,
+        "",
+    ),
+    (
+        &["mqjudge", "show", "--faults", "--around", "1", "./a.log"],
+        [FAULTY, FAULTY],
+        4,
+        "",
+        READ_FAILED,
+    ),
+    (
+        &["mqjudge", "show", "--around", "0", "a.log", "--faults"],
+        [FAULTY, NESTED],
+        0,
+        NEAR_LINES,
+        "",
+    ),
+    (
+        &[
+            "mqjudge",
+            "show",
+            "--faults",
+            "--around=4294967295",
+            "a.log",
+        ],
+        [FAULTY, NESTED],
+        0,
+        FAULTY_LINES,
+        "",
+    ),
+    (
+        &["mqjudge", "show", "--faults", "a.log"],
+        [GOOD, FAULTY],
+        0,
+        LINES,
+        "",
+    ),
+    (
+        &["mqjudge", "show", "--faults", "a.log"],
+        [NESTED, GOOD],
+        2,
+        REFUSED,
+        "",
+    ),
+    (
+        &["mqjudge", "show", "--faults"],
+        [GOOD, GOOD],
+        3,
+        "",
+        NO_FILE,
+    ),
+    (
+        &["mqjudge", "show", "--faults", "-"],
+        [GOOD, GOOD],
+        3,
+        "",
+        NO_FILE,
+    ),
+    (
+        &["mqjudge", "show", "--around", "1", "a.log"],
+        [GOOD, GOOD],
+        3,
+        "",
+        "mqjudge: --around needs --faults\n",
+    ),
+    (
+        &["mqjudge", "show", "--around", "x"],
+        [GOOD, GOOD],
+        3,
+        "",
+        "mqjudge: --around needs --faults\n",
+    ),
+    (
+        &["mqjudge", "show", "--faults", "--around", "x", "a.log"],
+        [GOOD, GOOD],
+        3,
+        "",
+        "mqjudge: no number x\n",
+    ),
+    (
+        &["mqjudge", "show", "--faults", "--around=-1", "a.log"],
+        [GOOD, GOOD],
+        3,
+        "",
+        "mqjudge: no number -1\n",
+    ),
+    (
+        &[
+            "mqjudge",
+            "show",
+            "--faults",
+            "--around=4294967296",
+            "a.log",
+        ],
+        [GOOD, GOOD],
+        3,
+        "",
+        "mqjudge: no number 4294967296\n",
+    ),
+    (
+        &["mqjudge", "show", "--faults", "--around=", "a.log"],
+        [GOOD, GOOD],
+        3,
+        "",
+        "mqjudge: no number \n",
+    ),
+];
+
 // Whether the program, with these words and this file and standard input, does this; `failure` is why the host fails, where it does.
 fn does(alloc: Global, failure: Failure, row: &Row) -> bool {
     let (words, [file, input], status, shown, told) = *row;
@@ -266,6 +392,13 @@ fn does(alloc: Global, failure: Failure, row: &Row) -> bool {
 #[test]
 fn does_what_the_words_ask_for(rt: HostRuntime) {
     for row in &ROWS {
+        assert!(rt; does(rt.alloc(), Failure::Read, row), "{:?}", row.0);
+    }
+}
+
+#[test]
+fn shows_the_faults_that_the_words_ask_for(rt: HostRuntime) {
+    for row in &REVIEWS {
         assert!(rt; does(rt.alloc(), Failure::Read, row), "{:?}", row.0);
     }
 }

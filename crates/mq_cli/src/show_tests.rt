@@ -1,7 +1,7 @@
 use crate::command_line::{Stop, Task, parse};
 use crate::failure::{FAILED, PASSED, REFUSED};
 use crate::tasks::{perform, stop};
-use crate::tests::{Narrow, Told, Trickle, is_failed_write};
+use crate::tests::{Narrow, Told, Trickle, is_failed_write, task_of};
 use std::alloc::Global;
 use std::io::{Cursor, Read};
 use std::test::Fail;
@@ -101,7 +101,7 @@ fn shown_of<R: Read>(alloc: Global, input: &mut R) -> Result<Told, Stop> {
 }
 
 fn shown_by<R: Read>(alloc: Global, words: &[&str], input: &mut R) -> Result<Told, Stop> {
-    let task = parse(alloc, words)?;
+    let task = task_of(alloc, words)?;
     let mut output = Vec::new(alloc);
     let mut error = Vec::new(alloc);
     let status = perform(alloc, &task, input, &mut output, &mut error);
@@ -180,7 +180,7 @@ fn tells_of_a_failed_write(rt: HostRuntime) -> Result<(), Fail> {
 fn tells_of_a_show_without_memory(rt: HostRuntime) {
     let mut output = Cursor::new([0; 1024]);
     let mut error = Cursor::new([0; 64]);
-    let status = match parse(rt.alloc(), &["mqjudge", "show"]) {
+    let status = match task_of(rt.alloc(), &["mqjudge", "show"]) {
         Ok(task) => perform(
             rt.alloc(),
             &task,
@@ -210,11 +210,11 @@ fn tells_of_a_show_without_memory(rt: HostRuntime) {
 
 #[test]
 fn reads_the_words_of_a_show(rt: HostRuntime) -> Result<(), Fail> {
-    let Task::Show { file, .. } = parse(rt.alloc(), &["mqjudge", "show"])? else {
+    let Task::Show { file, .. } = task_of(rt.alloc(), &["mqjudge", "show"])? else {
         return Err("no show".into());
     };
     assert!(rt; file.is_none());
-    let Task::Show { file, .. } = parse(rt.alloc(), &["mqjudge", "show", "a.log"])? else {
+    let Task::Show { file, .. } = task_of(rt.alloc(), &["mqjudge", "show", "a.log"])? else {
         return Err("no show".into());
     };
     let path = file.ok_or("no file")?;

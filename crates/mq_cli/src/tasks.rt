@@ -8,7 +8,7 @@ ghost use Rattle.mq_cli.specs.Told.{AppendsLineOf, AppendsPart, BeginsRefusal, F
 ghost use Rattle.mq_cli.specs.Told.{FailsStop, FailsTask, HasFailed, HasPassed, IsMisnamed};
 ghost use Rattle.mq_cli.specs.Told.{IsOfLog, IsRefusedOn, IsReportedOn, IsShownOn, IsToldOn, RefusesCheck};
 ghost use Rattle.mq_cli.specs.Told.{RefusesShow, SpellsNoPacket, SpellsPacket, StopsCheck, StopsShow};
-ghost use Rattle.mq_cli.specs.Told.{Tells, text_for, failure_line, failure_of, form_of, misnamed_line, no_role_line, no_statement_line, not_hex_line};
+ghost use Rattle.mq_cli.specs.Told.{Tells, text_by, failure_line, failure_of, form_of, misnamed_line, no_role_line, no_statement_line, not_hex_line};
 ghost use Rattle.mq_judge.specs.OnePacket.{IsOnePacket, packet_report};
 ghost use Rattle.mq_judge.specs.Report.{refused_report, report};
 ghost use Rattle.mq_judge.specs.Running.{IsFaultless, IsJudged};
@@ -22,7 +22,8 @@ use crate::listing::{listing, role_named};
 use crate::writing::{flush, write_out};
 use hex::{FromHexError, decode};
 use mq_judge::{
-    Form, Outcome, Refusal, RunFault, run, show, show_long, write_packet, write_refused,
+    Faults, Form, Outcome, Refusal, RunFault, run, show, show_faults, show_long, write_packet,
+    write_refused,
 };
 use mq_rules::{Role, Rule};
 use std::alloc::{AllocError, Global};
@@ -74,7 +75,12 @@ pub fn perform<R: Read, W: Write, E: Write>(
             Ok(status) => status,
             Err(failure) => failure.report(error),
         },
-        Task::Show { long, .. } => match show_log(alloc, *long, input, output) {
+        Task::Show { long, .. } => match show_log(
+            alloc,
+            View::Lines { long: *long },
+            input,
+            output,
+        ) {
             Ok(status) => status,
             Err(failure) => failure.report(error),
         },
@@ -123,23 +129,48 @@ fn check<R: Read, W: Write>(
     }
 }
 
-// Shows the events of a log, in long lines or short ones.
-fn show_log<R: Read, W: Write>(
+/// What is shown of the events of a log.
+#[derive(Clone, Copy)]
+pub enum View<'a> {
+    /// A line for each.
+    Lines {
+        /// Whether it is a long one.
+        long: bool,
+    },
+    /// The same, with the faults at them.
+    Faults {
+        /// The faults.
+        faults: &'a Faults,
+        /// The role of the end whose faults they are.
+        role: Role,
+        /// How many positions an event is from a fault at most that is shown; all are where there is none.
+        around: Option<u32>,
+        /// Whether lines are long.
+        long: bool,
+    },
+}
+
+/// Shows the events of a log, and gives the status.
+///
+/// # Errors
+///
+/// What failed.
+pub fn show_log<R: Read, W: Write>(
     alloc: Global,
-    long: bool,
+    view: View<'_>,
     input: &mut R,
     output: &mut W,
 ) -> Result<u8, Failure>
     ensures passed { IfOk result (λ status. status ≡ PASSED → IfSome (R.remaining input.old) IsJudged) }
     ensures shown { IfOk result (λ status. status ≡ PASSED → IfSome (R.remaining input.old)
-        (λ log. Appends (W.contents output.old) (W.contents output.new) (text_for long (events log)))) }
+        (λ log. Appends (W.contents output.old) (W.contents output.new) (text_by view.entry (events log)))) }
     ensures refused { IfOk result (λ status. status ≡ REFUSED → IfSome (R.remaining input.old)
-        (λ log. RefusesShow (text_for long) log (W.contents output.old) (W.contents output.new))) }
+        (λ log. RefusesShow (text_by view.entry) log (W.contents output.old) (W.contents output.new))) }
     ensures stops { IfErr result (λ failure. IfSome (R.remaining input.old)
-        (λ log. StopsShow (text_for long) failure log (R.remaining input.new) (W.contents output.old) (W.contents output.new))) }
+        (λ log. StopsShow (text_by view.entry) failure log (R.remaining input.new) (W.contents output.old) (W.contents output.new))) }
     ensures statuses { IfOk result (λ status. (status ≡ PASSED) ⊎ (status ≡ REFUSED)) }
 {
-    match show_lines(alloc, long, input, output) {
+    match show_lines(alloc, view, input, output) {
         Ok(()) => see_out(PASSED, output),
         Err(RunFault::Refused(why)) => refuse(alloc, &why, Form::Text, output),
         Err(RunFault::Write) => Err(Failure::Write),
@@ -147,25 +178,34 @@ fn show_log<R: Read, W: Write>(
     }
 }
 
-// Writes the lines of the events of a log, long or short.
+// Writes what is shown of the events of a log.
 fn show_lines<R: Read, W: Write>(
     alloc: Global,
-    long: bool,
+    view: View<'_>,
     input: &mut R,
     output: &mut W,
 ) -> Result<(), RunFault>
-    ensures { IfSome (R.remaining input.old) (λ log. Shows (text_for long) log (R.remaining input.new) result
+    ensures { IfSome (R.remaining input.old) (λ log. Shows (text_by view.entry) log (R.remaining input.new) result
         (W.contents output.old) (W.contents output.new)) }
 {
-    if long {
-        show_long(alloc, input, output)
-    } else {
-        show(alloc, input, output)
+    match view {
+        View::Lines { long: false } => show(alloc, input, output),
+        View::Lines { long: true } => show_long(alloc, input, output),
+        View::Faults {
+            faults,
+            role,
+            around,
+            long,
+        } => show_faults(alloc, faults, role, around, long, input, output),
     }
 }
 
-// Writes why the log is refused in this form, where that lies in the log.
-fn refuse<W: Write>(
+/// Writes why the log is refused in this form, where that lies in the log.
+///
+/// # Errors
+///
+/// What failed.
+pub fn refuse<W: Write>(
     alloc: Global,
     refusal: &Refusal,
     form: Form,
@@ -211,7 +251,7 @@ fn packet<W: Write, E: Write>(alloc: Global, hex: &str, output: &mut W, error: &
             Err(failure) => failure.report(error),
         },
         Err(FromHexError::OutOfMemory) => Failure::Memory.report(error),
-        Err(_) => refuse_hex(error),
+        Err(_) => misuse("mqjudge: not hex\n", error),
     }
 }
 
@@ -233,15 +273,13 @@ fn tell_packet<W: Write>(bytes: &[u8], output: &mut W) -> Result<u8, Failure>
     }
 }
 
-// Says that the digits of a packet are invalid, and gives the status.
-fn refuse_hex<E: Write>(error: &mut E) -> u8
-    ensures told { result ≡ MISUSED
-        → Appends (E.contents error.old) (E.contents error.new) not_hex_line }
-    ensures failed { result ≡ FAILED
-        → AppendsPart (E.contents error.old) (E.contents error.new) not_hex_line }
+/// Says on `error` what is wrong with the words, and gives the status.
+pub fn misuse<E: Write>(text: &str, error: &mut E) -> u8
+    ensures told { result ≡ MISUSED → Appends (E.contents error.old) (E.contents error.new) text.now }
+    ensures failed { result ≡ FAILED → AppendsPart (E.contents error.old) (E.contents error.new) text.now }
     ensures statuses { (result ≡ MISUSED) ⊎ (result ≡ FAILED) }
 {
-    match write_out("mqjudge: not hex\n", error) {
+    match write_out(text, error) {
         Ok(()) => MISUSED,
         Err(_) => FAILED,
     }
@@ -325,8 +363,8 @@ fn tell<W: Write, E: Write>(text: &str, output: &mut W, error: &mut E) -> u8
     }
 }
 
-// Tells that a word names nothing, in a line that begins so, and gives the status.
-fn refuse_word<E: Write>(alloc: Global, start: &str, word: &str, error: &mut E) -> u8
+/// Tells that a word names nothing, in a line that begins so, and gives the status.
+pub fn refuse_word<E: Write>(alloc: Global, start: &str, word: &str, error: &mut E) -> u8
     ensures told { result ≡ MISUSED
         → Appends (E.contents error.old) (E.contents error.new) (start.now ++ word.now ++ codes "\n") }
     ensures failed { result ≡ FAILED
@@ -335,10 +373,7 @@ fn refuse_word<E: Write>(alloc: Global, start: &str, word: &str, error: &mut E) 
     ensures statuses { (result ≡ MISUSED) ⊎ (result ≡ FAILED) }
 {
     match line_on(alloc, start, word) {
-        Ok(line) => match write_out(line.as_str(), error) {
-            Ok(()) => MISUSED,
-            Err(_) => FAILED,
-        },
+        Ok(line) => misuse(line.as_str(), error),
         Err(_) => Failure::Memory.report(error),
     }
 }

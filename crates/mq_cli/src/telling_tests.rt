@@ -1,13 +1,14 @@
-use crate::command_line::{Stop, parse};
+use crate::command_line::Stop;
 use crate::explanations::explanation;
 use crate::tasks::perform;
+use crate::tests::task_of;
 use mq_rules::{Role, Rule};
 use std::alloc::Global;
 use std::test::Fail;
 
 // The status of these words, and what they write.
 fn told(alloc: Global, words: &[&str]) -> Result<(u8, Vec<u8>), Stop> {
-    let task = parse(alloc, words)?;
+    let task = task_of(alloc, words)?;
     let mut output = Vec::new(alloc);
     let mut error = Vec::new(alloc);
     let status = perform(alloc, &task, &mut &b""[..], &mut output, &mut error);

@@ -1,4 +1,4 @@
-use crate::command_line::{Stop, Task, parse};
+use crate::command_line::{Stop, Task, Work, parse};
 use crate::failure::{FAILED, FAULTY, MISUSED, PASSED, REFUSED};
 use crate::tasks::{perform, stop};
 use mq_judge::{Judge, Options, Refusal};
@@ -196,8 +196,16 @@ impl Told {
     }
 }
 
+// The task that these words ask for, on one reading of a log or on none.
+pub fn task_of(alloc: Global, words: &[&str]) -> Result<Task, Stop> {
+    match parse(alloc, words)? {
+        Work::Once(task) => Ok(task),
+        Work::Twice(_) => Err(Stop::Usage(String::new(alloc))),
+    }
+}
+
 pub fn told_of<R: Read>(alloc: Global, input: &mut R) -> Result<Told, Stop> {
-    let task = parse(alloc, &["mqjudge", "check"])?;
+    let task = task_of(alloc, &["mqjudge", "check"])?;
     let mut output = Vec::new(alloc);
     let mut error = Vec::new(alloc);
     let status = perform(alloc, &task, input, &mut output, &mut error);
@@ -280,7 +288,7 @@ pub fn is_failed_write(
     log: &[u8],
     mut output: Narrow,
 ) -> Result<bool, Stop> {
-    let task = parse(alloc, words)?;
+    let task = task_of(alloc, words)?;
     let mut error = Vec::new(alloc);
     let status = perform(alloc, &task, &mut &log[..], &mut output, &mut error);
     Ok(status == FAILED && error.as_slice() == &b"mqjudge: write failed\n"[..])
@@ -308,7 +316,7 @@ fn tells_of_a_failed_write(rt: HostRuntime) -> Result<(), Fail> {
 fn tells_of_want_of_memory(rt: HostRuntime) {
     let mut output = Cursor::new([0; 128]);
     let mut error = Cursor::new([0; 64]);
-    let status = match parse(rt.alloc(), &["mqjudge", "check"]) {
+    let status = match task_of(rt.alloc(), &["mqjudge", "check"]) {
         Ok(task) => perform(
             rt.alloc(),
             &task,
@@ -344,7 +352,7 @@ fn is_check_of(
         file,
         json,
         summary,
-    } = parse(alloc, words)?
+    } = task_of(alloc, words)?
     else {
         return Ok(false);
     };

@@ -1,27 +1,21 @@
-use Rattle.std.proofs.Common.{rules, ap, ap₂, codes, Some, false, ◌≡◌, ◌∙◌, ◌||◌}
+use Rattle.std.proofs.Common.{ap, ap₂, codes, ◌≡◌, ◌∙◌, ◌||◌}
 use Rattle.std.proofs.lemmas.Result.{IfOk-weaker}
-use Rattle.clap.specs.Words.{app_of, new_app, new_rule, rule_of, with_rule}
+use Rattle.clap.specs.Words.{app_of, new_app, with_rule}
 use Rattle.clap.specs.Simple.{app_of_fields}
 use Rattle.clap.specs.declared.builder.command.Command.{Command}
 use Rattle.clap.specs.declared.builder.command.Command.TheOpen.{Command-F}
-use Rattle.mq_cli.specs.CommandLine.{flag}
 use Rattle.mq_cli.proofs.command_line.check_command.Goals as goal
 
 pub returns-clause-app : goal.returns-clause-app
 returns-clause-app c =
-    let file_is : rule_of c.help-file.result ≡ new_rule (codes "FILE") = search rules in
-    let json_is : rule_of c.action-json.result ≡ flag (codes "json") = search rules in
-    let summary_is : rule_of c.action-summary.result ≡ flag (codes "summary") = search rules in
-    let about_is : app_of c.after_help.result ≡ new_app (codes "check") = ap app_of_fields c.after_help.ensures ∙ ap app_of_fields c.about.ensures ∙ c.new-4.ensures.app in
-    let with_file = c.in_ok-arg.ensures.shape (search rules) ∙ ap₂ with_rule about_is file_is in
-    let with_json = c.in_ok-arg-2.ensures.shape (search rules) ∙ ap₂ with_rule with_file json_is in
-    IfOk-weaker c.arg-3.result _ _ (λ r h. h.shape (search rules) ∙ ap₂ with_rule with_json summary_is) c.arg-3.ensures
+    let about_is : app_of c.after_help.result ≡ new_app (codes "check") = ap app_of_fields c.after_help.ensures ∙ ap app_of_fields c.about.ensures ∙ c.new.ensures.app in
+    let with_file = c.in_ok-arg.ensures.shape c.log_operand.ensures.local ∙ ap₂ with_rule about_is c.log_operand.ensures.rule in
+    let with_json = c.in_ok-arg-2.ensures.shape c.flag-json.ensures.local ∙ ap₂ with_rule with_file c.flag-json.ensures.rule in
+    IfOk-weaker c.arg-3.result _ _ (λ r h. h.shape c.flag-summary.ensures.local ∙ ap₂ with_rule with_json c.flag-summary.ensures.rule) c.arg-3.ensures
 
 pub returns-clause-local : goal.returns-clause-local
 returns-clause-local c =
-    let before = ap (λ (f : Command-F Command). f.has_globals) c.after_help.ensures ∙ ap (λ (f : Command-F Command). f.has_globals) c.about.ensures ∙ c.new-4.ensures.local in
-    let file_local : c.help-file.result.global ≡ false = search rules in
-    let json_local : c.action-json.result.global ≡ false = search rules in
-    let with_file = c.in_ok-arg.ensures.globals ∙ ap₂ (λ x y. x || y) before file_local in
-    let with_json = c.in_ok-arg-2.ensures.globals ∙ ap₂ (λ x y. x || y) with_file json_local in
-    IfOk-weaker c.arg-3.result _ _ (λ r h. h.globals ∙ ap₂ (λ x y. x || y) with_json (search rules)) c.arg-3.ensures
+    let before = ap (λ (f : Command-F Command). f.has_globals) c.after_help.ensures ∙ ap (λ (f : Command-F Command). f.has_globals) c.about.ensures ∙ c.new.ensures.local in
+    let with_file = c.in_ok-arg.ensures.globals ∙ ap₂ (λ x y. x || y) before c.log_operand.ensures.local in
+    let with_json = c.in_ok-arg-2.ensures.globals ∙ ap₂ (λ x y. x || y) with_file c.flag-json.ensures.local in
+    IfOk-weaker c.arg-3.result _ _ (λ r h. h.globals ∙ ap₂ (λ x y. x || y) with_json c.flag-summary.ensures.local) c.arg-3.ensures

@@ -16,43 +16,45 @@ unreachable-requires g c =
       | inr (inr (inr (inr h))) ↦ true≢false (sym (c.in-None-subcommand_matches-4.ensures.found.1 h))
     ]
 
-pub returns-in-Some-clause-task : goal.returns-in-Some-clause-task
-returns-in-Some-clause-task g c =
+pub returns-in-Some-clause-work : goal.returns-in-Some-clause-work
+returns-in-Some-clause-work g c =
     let words = map g.S.AsStr.text c.args.words.now in
     let asked = request_is_check words c.in-Ok.matches c.in-Some.check.now c.in-Ok.ensures.met (c.in-Some.ensures.found.0 refl) c.in-Some.ensures.rows in
     let json = c.is_true.ensures ∙ ap is_true c.get_str-in-Some.ensures in
     let summary = c.is_true-in-Some.ensures ∙ ap is_true c.get_str-in-Some-2.ensures in
-    IfOk-weaker c.check_task.result _ _ (λ task h. asked ∙ same_check (sym c.get_str.ensures) (sym json) (sym summary) ∙ ap Some (sym h)) c.check_task.ensures.task
+    IfOk-weaker c.check_task.result _ _ (λ work h. asked ∙ same_check (sym c.get_str.ensures) (sym json) (sym summary) ∙ ap Some (sym h)) c.check_task.ensures.work
 
-pub returns-in-Some-subcommand_matches-clause-task : goal.returns-in-Some-subcommand_matches-clause-task
-returns-in-Some-subcommand_matches-clause-task g c =
+pub returns-in-Some-subcommand_matches-clause-work : goal.returns-in-Some-subcommand_matches-clause-work
+returns-in-Some-subcommand_matches-clause-work g c =
     let words = map g.S.AsStr.text c.args.words.now in
     let met = c.in-Some-subcommand_matches in
     let given = c.get_str-in-Some-subcommand_matches.ensures in
     let long = c.is_true-in-Some-subcommand_matches.ensures ∙ ap is_true c.get_str-in-Some-subcommand_matches-2.ensures in
+    let faults = c.is_true-in-Some-subcommand_matches-2.ensures ∙ ap is_true c.get_str-in-Some-subcommand_matches-3.ensures in
+    let around = c.get_str-in-Some-subcommand_matches-4.ensures in
     let asked = request_is_show words c.in-Ok.matches met.show.now c.in-Ok.ensures.met (met.ensures.found.0 refl) met.ensures.rows in
-    IfOk-weaker c.show_task.result _ _ (λ task h. asked ∙ same_show (sym given) (sym long) ∙ ap Some (sym h)) c.show_task.ensures.task
+    IfOk-weaker c.show_task.result _ _ (λ work h. asked ∙ same_show (sym given) (sym long) (sym faults) (sym around) ∙ ap Some (sym h)) c.show_task.ensures.work
 
-pub returns-in-Some-subcommand_matches-2-clause-task : goal.returns-in-Some-subcommand_matches-2-clause-task
-returns-in-Some-subcommand_matches-2-clause-task g c =
+pub returns-in-Some-subcommand_matches-2-clause-work : goal.returns-in-Some-subcommand_matches-2-clause-work
+returns-in-Some-subcommand_matches-2-clause-work g c =
     let words = map g.S.AsStr.text c.args.words.now in
     let met = c.in-Some-subcommand_matches-2 in
     let given = c.get_str-in-Some-subcommand_matches-2-2.ensures in
     let asked = request_is_packet words c.in-Ok.matches met.packet.now c.in-Ok.ensures.met (met.ensures.found.0 refl) met.ensures.rows in
-    IfOk-weaker c.packet_task.result _ _ (λ task h. asked ∙ ap (λ (f : Option Text). Some (packet_request f)) (sym given) ∙ ap Some (sym h)) c.packet_task.ensures.task
+    IfOk-weaker c.packet_task.result _ _ (λ work h. asked ∙ ap (λ (f : Option Text). Some (packet_request f)) (sym given) ∙ ap Some (sym h)) c.packet_task.ensures.work
 
-pub returns-in-Some-subcommand_matches-3-clause-task : goal.returns-in-Some-subcommand_matches-3-clause-task
-returns-in-Some-subcommand_matches-3-clause-task g c =
+pub returns-in-Some-subcommand_matches-3-clause-work : goal.returns-in-Some-subcommand_matches-3-clause-work
+returns-in-Some-subcommand_matches-3-clause-work g c =
     let words = map g.S.AsStr.text c.args.words.now in
     let met = c.in-Some-subcommand_matches-3 in
-    let given = c.get_str-in-Some-subcommand_matches-3.ensures in
+    let given = c.get_str-in-Some-subcommand_matches-3-2.ensures in
     let asked = request_is_rules words c.in-Ok.matches met.rules.now c.in-Ok.ensures.met (met.ensures.found.0 refl) met.ensures.rows in
-    IfOk-weaker c.rules_task.result _ _ (λ task h. asked ∙ ap (λ (f : Option Text). Some (rules_request f)) (sym given) ∙ ap Some (sym h)) c.rules_task.ensures.task
+    IfOk-weaker c.rules_task.result _ _ (λ work h. asked ∙ ap (λ (f : Option Text). Some (rules_request f)) (sym given) ∙ ap Some (sym h)) c.rules_task.ensures.work
 
-pub returns-in-Some-subcommand_matches-4-clause-task : goal.returns-in-Some-subcommand_matches-4-clause-task
-returns-in-Some-subcommand_matches-4-clause-task g c =
+pub returns-in-Some-subcommand_matches-4-clause-work : goal.returns-in-Some-subcommand_matches-4-clause-work
+returns-in-Some-subcommand_matches-4-clause-work g c =
     let words = map g.S.AsStr.text c.args.words.now in
     let met = c.in-Some-subcommand_matches-4 in
-    let given = c.get_str-in-Some-subcommand_matches-4.ensures in
+    let given = c.get_str-in-Some-subcommand_matches-4-2.ensures in
     let asked = request_is_explain words c.in-Ok.matches met.explain.now c.in-Ok.ensures.met (met.ensures.found.0 refl) met.ensures.rows in
-    IfOk-weaker c.explain_task.result _ _ (λ task h. asked ∙ ap (λ (f : Option Text). Some (explain_request f)) (sym given) ∙ ap Some (sym h)) c.explain_task.ensures.task
+    IfOk-weaker c.explain_task.result _ _ (λ work h. asked ∙ ap (λ (f : Option Text). Some (explain_request f)) (sym given) ∙ ap Some (sym h)) c.explain_task.ensures.work

@@ -1,0 +1,106 @@
+-- Showing a log with the faults at its events, which reads it twice: what the words ask for, and what each status says.
+use Rattle.std.specs.Prelude.{◌⊎◌, ◌^◌, ◌&&◌, Bool, nat_lt, List, ℕ, Option, None, Some, Result, Ok, Err, [], ◌∷◌, ◌++◌, codes, if◌then◌else◌, length, option_map, string_bytes, IfSome}
+use Rattle.std.specs.Char.{digit_value}
+use Rattle.std.specs.Io.KnownBytes.{Appends, Keeps}
+use Rattle.std.specs.List.{list_all}
+use Rattle.std.specs.Str.Parse.{digits_value, without_leading_plus}
+use Rattle.clap.specs.Words.{Text}
+use Rattle.mq_judge.specs.declared.Form.TheVariants as forms
+use Rattle.mq_judge.specs.declared.Refusal.{Refusal}
+use Rattle.mq_judge.specs.declared.Refusal.TheVariants as refusals
+use Rattle.mq_judge.specs.Report.{refused_line}
+use Rattle.mq_judge.specs.Running.{IsJudged, default_limit, found_in}
+use Rattle.mq_judge.specs.Showing.{annotated}
+use Rattle.mq_judge.specs.Stopping.{IsRefusedAt}
+use Rattle.mq_rules.specs.Notes.{tested_by}
+use Rattle.mq_trace.specs.Events.{Placed, events}
+use Rattle.mq_cli.specs.declared.command_line.Review.{Review}
+use Rattle.mq_cli.specs.declared.reviewing.Misuse.{Misuse}
+use Rattle.mq_cli.specs.declared.reviewing.Misuse.TheVariants.{NoFaults, NoFile, NoNumber}
+use Rattle.mq_cli.specs.declared.reviewing.Plan.{Plan as SourcePlan}
+use Rattle.mq_cli.specs.declared.failure.Failure.{Failure}
+use Rattle.mq_cli.specs.declared.failure.Failure.TheVariants as failures
+use Rattle.mq_cli.specs.CommandLine.{path_named}
+use Rattle.mq_cli.specs.Told.{AppendsPart, IsRefusedBy, RefusesCheck, RefusesShow, StopsShow}
+
+-- ---- what the words ask for
+
+-- a word is a decimal number below 2^32: digits, and a plus sign may stand before them
+abbrev pub is_count : (digits : Text) → Bool
+is_count digits = nat_lt 0 (length digits) && (list_all (λ digit. nat_lt (digit_value digit) 10) digits && nat_lt (digits_value 10 digits) (2 ^ 32))
+
+-- the number that a word is, if it is one
+abbrev pub count_of : Text → Option ℕ
+count_of word = if is_count (without_leading_plus word) then Some (digits_value 10 (without_leading_plus word)) else None
+
+-- What to show: the log at this path; all events, or only those at most so many positions from a fault; in long lines or short ones.
+pub record Plan : Type 0 where
+  pub path : Text
+  pub around : Option ℕ
+  pub long : Bool
+
+-- a plan as the source has it
+abbrev pub plan_view : SourcePlan → Plan
+plan_view plan = record { path = plan.path.now; around = plan.around; long = plan.long }
+
+-- what is told where `--around` stands without `--faults`, where no file is named that could be read twice, and where a word is no number
+abbrev pub no_faults_line : Text
+no_faults_line = codes "mqjudge: --around needs --faults" ++ 10 ∷ []
+
+abbrev pub no_file_line : Text
+no_file_line = codes "mqjudge: --faults reads the log twice, so it needs a FILE, not standard input" ++ 10 ∷ []
+
+abbrev pub no_number_line : Text → Text
+no_number_line word = codes "mqjudge: no number " ++ word ++ 10 ∷ []
+
+-- what is told of a misuse
+abbrev pub misuse_line : Misuse → Text
+misuse_line NoFaults = no_faults_line
+misuse_line NoFile = no_file_line
+misuse_line (NoNumber word) = no_number_line word.now
+
+-- what to show of the log at this path, where the word after `--around` is a number, if there is one; else what is told
+abbrev pub plan_counted : (path : Text) → (long : Bool) → (word : Text) → Option ℕ → Result Plan Text
+plan_counted path long word None = Err (no_number_line word)
+plan_counted path long word (Some count) = Ok (record { path = path; around = Some count; long = long })
+
+-- what to show of the log in a file, where one is named that can be read twice; else what is told
+abbrev pub plan_on : (path around : Option Text) → (long : Bool) → Result Plan Text
+plan_on None around long = Err no_file_line
+plan_on (Some path) None long = Ok (record { path = path; around = None; long = long })
+plan_on (Some path) (Some word) long = plan_counted path long word (count_of word)
+
+-- what to show, or what is told where there is nothing to show
+abbrev pub plan_of : Review → Result Plan Text
+plan_of review = if review.faults then plan_on (path_named (option_map string_bytes review.file)) (option_map string_bytes review.around) review.long
+    else Err no_faults_line
+
+-- ---- what each status says, of the log that was judged and of the one that was shown: one log, unless its file changed between the two readings
+
+-- the text of events with the faults of the log that was judged
+abbrev pub reviewed : Plan → (judged : List ℕ) → List Placed → List ℕ
+reviewed plan judged = annotated (record { role = (tested_by judged).role; faults = found_in judged; around = plan.around; long = plan.long })
+
+-- 0: both can be judged, and the text of the events was written and nothing else
+abbrev pub IsReviewed : Plan → (judged shown : List ℕ) → (old new : Option (List ℕ)) → Type 0
+IsReviewed plan judged shown old new = IsJudged judged × IsJudged shown × Appends old new (reviewed plan judged (events shown))
+
+-- 2: the log is refused while it is judged, and the line that says so was written and nothing else; or it is only while it is shown, and that line was
+-- written after the text of the events before
+abbrev pub RefusesPlan : Plan → (judged shown : List ℕ) → (old new : Option (List ℕ)) → Type 0
+RefusesPlan plan judged shown old new = RefusesCheck forms.Text judged old new ⊎ (IsJudged judged × RefusesShow (reviewed plan judged) shown old new)
+
+-- 4, while the log was judged: reading it failed, or memory ran out, and nothing was written; or part of the line on its refusal was
+abbrev pub StopsJudging : Failure → List ℕ → (left old new : Option (List ℕ)) → Type 0
+StopsJudging failures.Read log left old new = (at : ℕ) × IsRefusedAt default_limit log left (refusals.Read at) × Keeps old new
+StopsJudging failures.Memory log left old new = (at : ℕ) × IsRefusedAt default_limit log left (refusals.Memory at) × Keeps old new
+StopsJudging failures.Write log left old new = (refusal : Refusal) × IsRefusedBy log refusal × AppendsPart old new (refused_line refusal)
+
+-- 4: what failed, while the log was judged or while it was shown, and what was written until then; the two readers have these bytes left
+abbrev pub StopsPlan : Plan → Failure → (judged shown : List ℕ) → (judged_left shown_left old new : Option (List ℕ)) → Type 0
+StopsPlan plan failure judged shown judged_left shown_left old new = StopsJudging failure judged judged_left old new
+    ⊎ (IsJudged judged × StopsShow (reviewed plan judged) failure shown shown_left old new)
+
+-- this holds of the bytes of the log that was judged and of the one that was shown, where they are known
+abbrev pub IfBoth : (judged shown : Option (List ℕ)) → (List ℕ → List ℕ → Type 0) → Type 0
+IfBoth judged shown P = IfSome judged (λ first. IfSome shown (λ second. P first second))

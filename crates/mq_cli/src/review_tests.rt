@@ -1,0 +1,253 @@
+use crate::command_line::{Work, parse};
+use crate::failure::{Failure, PASSED, REFUSED};
+use crate::reviewing::{Plan, show_twice};
+use crate::tests::{Narrow, Trickle};
+use std::alloc::Global;
+use std::fmt::Write as _;
+use std::io::Cursor;
+use std::test::Fail;
+
+// A client doesn't answer a PUBLISH before its end rests, and then sends a SUBACK, which it may not send, under identifier 0.
+const THREE_FAULTS: &[u8] = b"MQTR\x01\x00\x01\x00\
+    \x01\x00\x00\x00\x00\
+    \x02\x00\x00\x00\x0f\x10\x0d\x00\x04MQTT\x05\x02\x00\x3c\x00\x00\x00\
+    \x03\x00\x00\x00\x05\x20\x03\x00\x00\x00\
+    \x03\x00\x00\x00\x09\x32\x07\x00\x01a\x00\x01\x00x\
+    \x02\x00\x00\x00\x02\xc0\x00\
+    \x03\x00\x00\x00\x02\xd0\x00\
+    \x05\x00\x00\x00\x00\
+    \x02\x00\x00\x00\x05\x90\x03\x00\x00\x00\
+    \x04\x00\x00\x00\x00";
+
+const ALL: &str = "1 record 1 OPEN\n\
+    2 record 2 SENT CONNECT size 15\n\
+    3 record 3 RECV CONNACK size 5\n\
+    4 record 4 RECV PUBLISH size 9 qos 1 dup 0 id 1\n\
+    \x20 fault E1R MQTT-4.3.2-4 A PUBLISH of QoS 1 is answered by a PUBACK. (decided at event 7)\n\
+    5 record 5 SENT PINGREQ size 2\n\
+    6 record 6 RECV PINGRESP size 2\n\
+    7 record 7 REST\n\
+    8 record 8 SENT BAD W09 offset 2\n\
+    \x20 fault W09 sec-2.2.1 A Packet Identifier isn't 0. (offset 2)\n\
+    \x20 fault C01 sec-2.1.2 A packet has a type that this end may send.\n\
+    9 record 9 CLOSE\n";
+
+const AROUND_0: &str = "..\n\
+    4 record 4 RECV PUBLISH size 9 qos 1 dup 0 id 1\n\
+    \x20 fault E1R MQTT-4.3.2-4 A PUBLISH of QoS 1 is answered by a PUBACK. (decided at event 7)\n\
+    ..\n\
+    8 record 8 SENT BAD W09 offset 2\n\
+    \x20 fault W09 sec-2.2.1 A Packet Identifier isn't 0. (offset 2)\n\
+    \x20 fault C01 sec-2.1.2 A packet has a type that this end may send.\n\
+    ..\n";
+
+const AROUND_1: &str = "..\n\
+    3 record 3 RECV CONNACK size 5\n\
+    4 record 4 RECV PUBLISH size 9 qos 1 dup 0 id 1\n\
+    \x20 fault E1R MQTT-4.3.2-4 A PUBLISH of QoS 1 is answered by a PUBACK. (decided at event 7)\n\
+    5 record 5 SENT PINGREQ size 2\n\
+    ..\n\
+    7 record 7 REST\n\
+    8 record 8 SENT BAD W09 offset 2\n\
+    \x20 fault W09 sec-2.2.1 A Packet Identifier isn't 0. (offset 2)\n\
+    \x20 fault C01 sec-2.1.2 A packet has a type that this end may send.\n\
+    9 record 9 CLOSE\n";
+
+const LONG_AROUND_0: &str = "..\n\
+    4 record 4 RECV PUBLISH size 9 qos 1 dup 0 id 1 retain 0 topic \"a\" payload 1\n\
+    \x20 fault E1R MQTT-4.3.2-4 A PUBLISH of QoS 1 is answered by a PUBACK. (decided at event 7)\n\
+    ..\n\
+    8 record 8 SENT BAD W09 offset 2\n\
+    \x20 fault W09 sec-2.2.1 A Packet Identifier isn't 0. (offset 2)\n\
+    \x20 fault C01 sec-2.1.2 A packet has a type that this end may send.\n\
+    ..\n";
+
+// The first bytes of that log, up to its CONNACK.
+const FAULTLESS: &[u8] = b"MQTR\x01\x00\x01\x00\
+    \x01\x00\x00\x00\x00\
+    \x02\x00\x00\x00\x0f\x10\x0d\x00\x04MQTT\x05\x02\x00\x3c\x00\x00\x00\
+    \x03\x00\x00\x00\x05\x20\x03\x00\x00\x00";
+
+const FAULTLESS_LINES: &str = "1 record 1 OPEN\n\
+    2 record 2 SENT CONNECT size 15\n\
+    3 record 3 RECV CONNACK size 5\n";
+
+// A log, how near to a fault an event is that is shown, and whether in a long line; and what is shown.
+static ROWS: [(&[u8], Option<u32>, bool, &str); 9] = [
+    (THREE_FAULTS, None, false, ALL),
+    (THREE_FAULTS, Some(0), false, AROUND_0),
+    (THREE_FAULTS, Some(1), false, AROUND_1),
+    (THREE_FAULTS, Some(3), false, ALL),
+    (THREE_FAULTS, Some(u32::MAX), false, ALL),
+    (THREE_FAULTS, Some(0), true, LONG_AROUND_0),
+    (FAULTLESS, None, false, FAULTLESS_LINES),
+    (FAULTLESS, Some(1_000), false, "..\n"),
+    (b"MQTR\x01\x00\x01\x00", Some(0), false, ""),
+];
+
+fn plan(around: Option<u32>, long: bool) -> Plan<'static> {
+    Plan {
+        path: "a.log",
+        around,
+        long,
+    }
+}
+
+fn trickle(bytes: &[u8], fails_after: Option<usize>) -> Trickle<'_> {
+    Trickle { bytes, fails_after }
+}
+
+// Whether judging the one log and showing the other one, byte by byte, has this status and writes this.
+fn is_shown(alloc: Global, plan: Plan<'_>, logs: [&[u8]; 2], status: u8, text: &str) -> bool {
+    let [judged, shown] = logs;
+    let mut output = Vec::new(alloc);
+    let given = show_twice(
+        alloc,
+        plan,
+        &mut trickle(judged, None),
+        &mut trickle(shown, None),
+        &mut output,
+    );
+    given == Ok(status) && output.as_slice() == text.as_bytes()
+}
+
+#[test]
+fn shows_faults_under_their_events(rt: HostRuntime) {
+    for (log, around, long, text) in ROWS {
+        let plan = plan(around, long);
+        assert!(rt;
+            is_shown(rt.alloc(), plan, [log, log], PASSED, text),
+            "{text}"
+        );
+    }
+}
+
+// Nothing is known of the faults of a log that is refused.
+#[test]
+fn shows_nothing_of_a_refused_log(rt: HostRuntime) {
+    let nested = b"MQTR\x01\x00\x01\x00\x01\x00\x00\x00\x00\x01\x00\x00\x00\x00";
+    for (log, line) in [
+        (&nested[..7], "refused 10 Cut at 7\n"),
+        (&nested[..], "refused 7 Nested at 13\n"),
+    ] {
+        let logs = [log, log];
+        assert!(rt;
+            is_shown(rt.alloc(), plan(Some(1), true), logs, REFUSED, line),
+            "{line}"
+        );
+    }
+}
+
+// The file changed after it was judged: the faults are those of what was judged.
+#[test]
+fn shows_what_the_second_reading_gives(rt: HostRuntime) {
+    let from_the_second = "..\n2 record 2 SENT CONNECT size 15\n3 record 3 RECV CONNACK size 5\n";
+    let cut = "..\nrefused 10 Cut at 14\n";
+    for (judged, shown, status, text) in [
+        (FAULTLESS, THREE_FAULTS, PASSED, "..\n"),
+        (THREE_FAULTS, FAULTLESS, PASSED, from_the_second),
+        (THREE_FAULTS, &FAULTLESS[..14], REFUSED, cut),
+    ] {
+        let told = is_shown(
+            rt.alloc(),
+            plan(Some(2), false),
+            [judged, shown],
+            status,
+            text,
+        );
+        assert!(rt; told, "{text}");
+    }
+}
+
+#[test]
+fn tells_of_a_failed_reading(rt: HostRuntime) {
+    for (judging, showing, written) in [
+        (Some(20), None, ""),
+        (None, Some(13), "1 record 1 OPEN\n"),
+    ] {
+        let mut output = Vec::new(rt.alloc());
+        let given = show_twice(
+            rt.alloc(),
+            plan(None, false),
+            &mut trickle(THREE_FAULTS, judging),
+            &mut trickle(THREE_FAULTS, showing),
+            &mut output,
+        );
+        assert_eq!(rt; given, Err(Failure::Read));
+        assert!(rt; output.as_slice() == written.as_bytes());
+    }
+}
+
+#[test]
+fn tells_of_a_failed_write(rt: HostRuntime) {
+    for (log, room, stays) in [
+        (THREE_FAULTS, 0, false),
+        (THREE_FAULTS, 100, false),
+        (THREE_FAULTS, 10_000, true),
+        (&THREE_FAULTS[..7], 10, false),
+    ] {
+        let given = show_twice(
+            rt.alloc(),
+            plan(None, false),
+            &mut trickle(log, None),
+            &mut trickle(log, None),
+            &mut Narrow { room, stays },
+        );
+        assert_eq!(rt; given, Err(Failure::Write), "{room} bytes");
+    }
+}
+
+// With each allocation failing in turn, all is shown, or memory ran out, after what was shown until then.
+#[test]
+fn tells_of_a_review_without_memory(rt: HostRuntime) {
+    let mut output = Cursor::new([0; 1024]);
+    let given = show_twice(
+        rt.alloc(),
+        plan(None, false),
+        &mut &THREE_FAULTS[..],
+        &mut &THREE_FAULTS[..],
+        &mut output,
+    );
+    let written = output.position() as usize;
+    assert!(rt; written <= ALL.len());
+    assert!(rt; output.get_ref().starts_with(&ALL.as_bytes()[..written]));
+    if given == Ok(PASSED) {
+        assert_eq!(rt; written, ALL.len());
+    } else {
+        assert_eq!(rt; given, Err(Failure::Memory));
+    }
+}
+
+#[test]
+fn reads_the_words_of_a_review(rt: HostRuntime) -> Result<(), Fail> {
+    let words = ["mqjudge", "show", "--around", "3", "--faults", "a.log"];
+    let Work::Twice(asked) = parse(rt.alloc(), &words)? else {
+        return Err("read once".into());
+    };
+    let path = asked.file.ok_or("no file")?;
+    let around = asked.around.ok_or("no number")?;
+    assert!(rt; path.as_str() == "a.log" && around.as_str() == "3");
+    assert!(rt; asked.faults && !asked.long);
+    let Work::Twice(asked) = parse(rt.alloc(), &["mqjudge", "show", "--faults", "--long"])? else {
+        return Err("read once".into());
+    };
+    assert!(rt; asked.file.is_none() && asked.around.is_none() && asked.faults && asked.long);
+    Ok(())
+}
+
+#[test]
+fn shows_3000_faults(rt: HostRuntime) -> Result<(), Fail> {
+    let alloc = rt.alloc();
+    let mut log = Vec::new(alloc);
+    log.extend_from_slice(FAULTLESS)?;
+    let mut text = String::new(alloc);
+    text.push_str("..\n")?;
+    for position in 4..3004_u32 {
+        log.extend_from_slice(b"\x02\x00\x00\x00\x09\x32\x07\x00\x01a\x00\x00\x00x")?;
+        write!(text, "{position} record {position} SENT BAD W09 offset 5\n")?;
+        text.push_str("  fault W09 sec-2.2.1 A Packet Identifier isn't 0. (offset 5)\n")?;
+    }
+    let logs = [log.as_slice(), log.as_slice()];
+    assert!(rt; is_shown(alloc, plan(Some(0), false), logs, PASSED, text.as_str()));
+    Ok(())
+}
