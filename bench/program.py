@@ -37,9 +37,17 @@ REFUSED = "refused 7 Nested at 13\n"
 FIRST_LINES = "1 record 1 OPEN\n2 record 2 SENT CONNECT size 15\n3 record 3 RECV CONNACK size 5\n"
 LINES = FIRST_LINES + "4 record 4 SENT PUBLISH size 9 qos 1 dup 0 id 1\n"
 MANY_LINES = FIRST_LINES + "".join(f"{at} record 4 SENT PINGREQ size 2\n" for at in range(4, PINGS + 4))
+NEAR_LINES = """\
+..
+4 record 4 SENT PUBLISH size 9 qos 1 dup 0 id 1
+5 record 5 SENT PUBLISH size 9 qos 1 dup 0 id 1
+  fault S01 MQTT-2.2.1-3 A new PUBLISH, SUBSCRIBE or UNSUBSCRIBE takes no Packet Identifier that is in use.
+"""
 READ_FAILED = "mqjudge: read failed\n"
 WRITE_FAILED = "mqjudge: write failed\n"
 NOT_HEX = "mqjudge: not hex\n"
+NO_FILE = "mqjudge: --faults reads the log twice, so it needs a FILE, not standard input\n"
+NO_FAULTS = "mqjudge: --around needs --faults\n"
 
 HELP = """\
 Judges the log of one end of an MQTT 5.0 session
@@ -79,6 +87,25 @@ Options:
 Statuses: 0 for no fault, 1 for faults, 2 for a log that is refused, 3 for misuse,
 4 where reading or writing failed or memory ran out.
 Example: mqjudge check --json session.log
+The log's format: docs/LOG_FORMAT.md
+"""
+SHOW_HELP = """\
+Shows each event of a log
+
+Usage: mqjudge show [OPTIONS] [FILE]
+
+Arguments:
+  [FILE]  The log; standard input where it is left out or `-`
+
+Options:
+      --long        Show the other fields and the properties of each packet
+      --faults      Show the faults under their events; reads FILE twice
+      --around <N>  With --faults: only the events within N positions of a fault
+  -h, --help        Print help
+
+Statuses: 0 where the log was shown, 2 for a log that is refused, 3 for misuse,
+4 where reading or writing failed or memory ran out.
+Example: mqjudge show --faults --around 3 session.log
 The log's format: docs/LOG_FORMAT.md
 """
 VERSION = "mqjudge 0.1.0 (reads log version 1, judges 74 statements)\n"
@@ -151,9 +178,21 @@ RUNS = [
     Run(["show", "-"], 0, LINES, stdin=GOOD),
     Run(["check"], 0, PASS, stdin=Path("good.log")),
     Run(["show", "-"], 0, LINES, stdin=Path("good.log")),
+    # A log that is shown with its faults is read twice.
+    Run(["show", "--faults", "good.log"], 0, LINES, stdin=FAULTY),
+    Run(["show", "--faults", "--around", "1", "faulty.log"], 0, NEAR_LINES, stdin=GOOD),
+    Run(["show", "--around=0", "--faults", "--long", "many.log"], 0, "..\n"),
+    Run(["show", "--faults", "nested.log"], 2, REFUSED, stdin=GOOD),
+    Run(["show", "--faults", "./-", "--around", "1"], 0, NEAR_LINES, stdin=GOOD),
+    Run(["show", "--faults"], 3, errors=NO_FILE, stdin=GOOD),
+    Run(["show", "--faults", "-"], 3, errors=NO_FILE, stdin=Path("good.log")),
+    Run(["show", "--around", "1", "good.log"], 3, errors=NO_FAULTS),
+    Run(["show", "--faults", "--around", "x", "good.log"], 3, errors="mqjudge: no number x\n"),
     # What can't be opened or read.
     Run(["check", "missing.log"], 4, errors=READ_FAILED, stdin=GOOD),
     Run(["show", "missing.log"], 4, errors=READ_FAILED, stdin=GOOD),
+    Run(["show", "--faults", "missing.log"], 4, errors=READ_FAILED, stdin=GOOD),
+    Run(["show", "--faults", "."], 4, errors=READ_FAILED, stdin=GOOD),
     Run(["check", ""], 4, errors=READ_FAILED, stdin=GOOD),
     Run(["check", "."], 4, errors=READ_FAILED, stdin=GOOD),
     Run(["show", "."], 4, errors=READ_FAILED, stdin=GOOD),
@@ -171,6 +210,7 @@ RUNS = [
     Run(["--help"], 0, HELP),
     Run(["help"], 0, HELP),
     Run(["check", "--help"], 0, CHECK_HELP),
+    Run(["show", "--help"], 0, SHOW_HELP),
     Run(["--version"], 0, VERSION),
     Run(["-V"], 0, VERSION),
     Run(["check", "good.log", "b"], 3, errors=FURTHER_OPERAND),
@@ -188,6 +228,8 @@ UNWRITTEN = [
     ["show", "good.log"],
     ["show", "nested.log"],
     ["show", "many.log"],
+    ["show", "--faults", "faulty.log"],
+    ["show", "--faults", "nested.log"],
     ["packet", "40020001"],
     ["packet", "41020001"],
     ["--help"],
@@ -195,7 +237,14 @@ UNWRITTEN = [
 ]
 
 # Where standard error takes nothing: the words, and the status.
-UNTOLD = [(["judge"], 4), ([], 4), (["packet", "4"], 4), (["check", "missing.log"], 4), (["check", "good.log"], 0)]
+UNTOLD = [
+    (["judge"], 4),
+    ([], 4),
+    (["packet", "4"], 4),
+    (["show", "--faults"], 4),
+    (["check", "missing.log"], 4),
+    (["check", "good.log"], 0),
+]
 
 
 class Tally:
