@@ -25,11 +25,11 @@ use Rattle.mq_cli.specs.Told.{AppendsPart, IsRefusedBy, RefusesCheck, RefusesSho
 
 -- ---- what the words ask for
 
--- a word is a decimal number below 2^32: digits, and a plus sign may stand before them
+-- these are decimal digits, at least one, of a number below 2^32
 abbrev pub is_count : (digits : Text) → Bool
 is_count digits = nat_lt 0 (length digits) && (list_all (λ digit. nat_lt (digit_value digit) 10) digits && nat_lt (digits_value 10 digits) (2 ^ 32))
 
--- the number that a word is, if it is one
+-- the number that a word is, if it is such digits, or a plus sign and such digits
 abbrev pub count_of : Text → Option ℕ
 count_of word = if is_count (without_leading_plus word) then Some (digits_value 10 (without_leading_plus word)) else None
 

@@ -37,12 +37,12 @@ enum Misuse<'a> {
 
 /// Shows a log with the faults at its events, and gives the status to exit with.
 ///
-/// The file is read twice: to find the faults, and to show the events with them. Each event's line
-/// is written to `output`, and under it those of the faults at it: 0. Where the log is refused,
-/// that is 2, with the line on it alone, since nothing is known of its faults. Where the words name
-/// no file, or no number after `--around`, or don't ask for faults, the status is 3, which is told
-/// on `error`. Where reading or writing failed or memory ran out the status is 4, and what failed
-/// is told on `error`; what was written until then is part of what would have been.
+/// The file is read twice, to find the faults and to show the events. The line of each event is
+/// written to `output`, and those of the faults at it after it: 0. Of a refused log the line on the
+/// refusal is written alone, since nothing is known of its faults: 2. Words that name no file, or no
+/// number after `--around`, or don't ask for faults are a misuse, which is told on `error`: 3.
+/// Where reading or writing failed or memory ran out, what failed is told on `error`: 4; what was
+/// written until then is part of what would have been.
 pub fn review<H: Host, W: Write, E: Write>(
     alloc: Global,
     host: &H,

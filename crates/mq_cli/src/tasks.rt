@@ -29,6 +29,27 @@ use mq_rules::{Role, Rule};
 use std::alloc::{AllocError, Global};
 use std::io::{Read, Write};
 
+/// What is shown of the events of a log.
+#[derive(Clone, Copy)]
+pub enum View<'a> {
+    /// A line for each.
+    Lines {
+        /// Whether it is a long one.
+        long: bool,
+    },
+    /// The same, with the faults at them.
+    Faults {
+        /// The faults.
+        faults: &'a Faults,
+        /// The role of the end whose faults they are.
+        role: Role,
+        /// How many positions an event is from a fault at most that is shown; all are where there is none.
+        around: Option<u32>,
+        /// Whether lines are long.
+        long: bool,
+    },
+}
+
 /// Does the task, and gives the status to exit with.
 ///
 /// A check judges the log that `input` gives, and writes the report, or the line on a refused log,
@@ -127,27 +148,6 @@ fn check<R: Read, W: Write>(
         Err(RunFault::Write) => Err(Failure::Write),
         Err(RunFault::Memory) => Err(Failure::Memory),
     }
-}
-
-/// What is shown of the events of a log.
-#[derive(Clone, Copy)]
-pub enum View<'a> {
-    /// A line for each.
-    Lines {
-        /// Whether it is a long one.
-        long: bool,
-    },
-    /// The same, with the faults at them.
-    Faults {
-        /// The faults.
-        faults: &'a Faults,
-        /// The role of the end whose faults they are.
-        role: Role,
-        /// How many positions an event is from a fault at most that is shown; all are where there is none.
-        around: Option<u32>,
-        /// Whether lines are long.
-        long: bool,
-    },
 }
 
 /// Shows the events of a log, and gives the status.
