@@ -1,14 +1,16 @@
 #!/usr/bin/env python3
-"""Holds the built program's reports as JSON and in short against its text, with a JSON reader of its own.
+"""Holds the built program's reports as JSON, in short and under the events against its text, with a JSON reader of its own.
 
 usage: bench/check_forms.py PROGRAM [LOG ..]
 
-The text report of each log is made into the two other forms here, in Python: each of the worked logs of mq_cli's tests, a log
-of 3,000 faults, refused logs, and the logs that are named. JSON is also read back by Python's json module.
+The text report of each log is made into the other forms here, in Python: each of the worked logs of mq_cli's tests, a log of
+3,000 faults, refused logs, and the logs that are named. JSON is also read back by Python's json module. What `show --faults` is
+to print is made of the text report and of what `show` prints.
 """
 import json
 import subprocess
 import sys
+import tempfile
 from collections import OrderedDict
 from pathlib import Path
 
@@ -70,6 +72,27 @@ def in_short(text: str) -> str:
     return "".join(f"{line}\n" for line in [*lines, last])
 
 
+def under_events(events: str, text: str, sentences: dict[str, str], around: int | None) -> str:
+    """What `show` prints, with the faults of a text report under their events, and `..` for events that are farther from any."""
+    *faults, last = text.splitlines()
+    if last.startswith("refused"):
+        return f"{last}\n"
+    notes: dict[int, list[str]] = {}
+    for line in faults:
+        _, position, code, citation, _, decided, _, _, _, offset = line.split()
+        note = f"  fault {code} {citation} {sentences[code]}"
+        note += f" (decided at event {decided})" if decided != position else ""
+        note += f" (offset {offset})" if offset != "-" else ""
+        notes.setdefault(int(position), []).append(note)
+    lines: list[str] = []
+    for position, event in enumerate(events.splitlines(), 1):
+        if around is None or any(abs(position - other) <= around for other in notes):
+            lines += [event, *notes.get(position, [])]
+        elif not lines or lines[-1] != "..":
+            lines.append("..")
+    return "".join(f"{line}\n" for line in lines)
+
+
 def all_codes() -> list[str]:
     exchanges = [f"E{n}{letter}" for n in range(1, 8) for letter in "ARO"]
     left_out = {"E4O", "E5O", "E6O", "E7A", "E7O"}
@@ -82,26 +105,53 @@ def all_codes() -> list[str]:
     )
 
 
-def run(program: str, log: bytes, *flags: str) -> tuple[int, str, str]:
-    ran = subprocess.run([program, "check", *flags], input=log, capture_output=True, check=False)
+def run(program: str, log: bytes, *words: str) -> tuple[int, str, str]:
+    ran = subprocess.run([program, *words], input=log, capture_output=True, check=False)
     return ran.returncode, ran.stdout.decode(), ran.stderr.decode()
+
+
+def all_sentences(program: str) -> dict[str, str]:
+    """What each statement says, by its code."""
+    lines = (line.split(" ", 3) for line in run(program, b"", "rules")[1].splitlines())
+    return {code: sentence for code, _, _, sentence in lines}
+
+
+def wanted_of(program: str, log: bytes, path: str, sentences: dict[str, str]) -> dict[tuple[str, ...], tuple[int, str, str]]:
+    """For each command line what it is to answer for this log, which lies at the path too."""
+    status, text, told = run(program, log, "check")
+    wanted = {
+        ("check", "--json"): (status, as_json(text), told),
+        ("check", "--summary"): (status, in_short(text), told),
+        ("check", "--json", "--summary"): (status, as_json(text), told),
+    }
+    for long in ((), ("--long",)):
+        shown = run(program, log, "show", *long)
+        for around in (None, 0, 1, 3):
+            nearness = () if around is None else ("--around", str(around))
+            answer = (shown[0], under_events(shown[1], text, sentences, around), shown[2])
+            wanted["show", "--faults", *long, *nearness, path] = answer
+    return wanted
+
+
+def is_compact(text: str) -> bool:
+    return json.dumps(json.loads(text), sort_keys=True, separators=(",", ":")) + "\n" == text
 
 
 def main() -> int:
     program, *paths = sys.argv[1:]
+    sentences = all_sentences(program)
     count, wrong = 0, 0
-    for name, log in logs(paths):
-        status, text, told = run(program, log)
-        wanted = {("--json",): as_json(text), ("--summary",): in_short(text), ("--json", "--summary"): as_json(text)}
-        for flags, report in wanted.items():
-            count += 1
-            answer = run(program, log, *flags)
-            if answer != (status, report, told):
-                wrong += 1
-                print(f"{name} {' '.join(flags)}", f"wanted {(status, report, told)!r:.500}", f"got    {answer!r:.500}", sep="\n  ")
-            elif "--json" in flags:
-                value = json.loads(answer[1])
-                if json.dumps(value, sort_keys=True, separators=(",", ":")) + "\n" != answer[1]:
+    with tempfile.TemporaryDirectory() as folder:
+        path = Path(folder) / "a.log"
+        for name, log in logs(paths):
+            path.write_bytes(log)
+            for words, answer in wanted_of(program, log, str(path), sentences).items():
+                count += 1
+                given = run(program, log, *words)
+                if given != answer:
+                    wrong += 1
+                    print(f"{name} {' '.join(words)}", f"wanted {answer!r:.500}", f"got    {given!r:.500}", sep="\n  ")
+                elif "--json" in words and not is_compact(given[1]):
                     wrong += 1
                     print(f"{name}: JSON isn't compact with ascending keys")
     print(f"{count} reports, {wrong} wrong")
