@@ -1,6 +1,6 @@
 -- A packet that keeps no length of its body has only one: that of the body that is written of it.
 use Rattle.std.proofs.Common.{◌≡◌, ℕ, suc, ◌+◌, Bool, true, false, List, [], ◌∷◌, length, drop, Option, Some, None, Result, Ok, Err, refl, sym, ◌∙◌, ap, subst, arith, length-append, length-drop}
-use Rattle.std.specs.Prelude.{nat_lt, ◌==◌, if◌then◌else◌, sum, IfOk, unwrap_or, bit_and, bytes_eq, codes}
+use Rattle.std.specs.Prelude.{◌==◌, if◌then◌else◌, sum, IfOk, unwrap_or, bit_and, bytes_eq, codes}
 use Rattle.std.proofs.lemmas.Bool.{le-leb}
 use Rattle.std.proofs.lemmas.Slice.Eq.{bytes_eq-Decides}
 use Rattle.mq_wire.specs.declared.fault.Reason.{Reason}
@@ -14,6 +14,8 @@ use Rattle.mq_packet.specs.declared.packet.Packet.TheVariants as packets
 use Rattle.mq_packet.specs.declared.packet.Publish.{Publish}
 use Rattle.mq_packet.specs.declared.packet.Qos.{Qos}
 use Rattle.mq_packet.specs.declared.packet.Qos.TheVariants.{AtMostOnce, AtLeastOnce, ExactlyOnce}
+use Rattle.mq_packet.specs.declared.packet.PacketType.{PacketType}
+use Rattle.mq_packet.specs.declared.packet.PacketType.TheVariants as types
 use Rattle.mq_packet.specs.declared.packet.AcknowledgementKind.{AcknowledgementKind}
 use Rattle.mq_packet.specs.declared.packet.AcknowledgementKind.TheVariants as acknowledgements
 use Rattle.mq_packet.specs.declared.packet.EndingKind.{EndingKind}
@@ -25,8 +27,9 @@ use Rattle.mq_packet.specs.declared.fault.DecodeFault.{DecodeFault}
 use Rattle.mq_packet.specs.declared.header.FixedHeader.{FixedHeader}
 use Rattle.mq_packet.specs.declared.header.FixedHeader.TheVariants.{Whole}
 use Rattle.mq_packet.specs.Entries.{Entry, connect, connack, publish, acknowledgement, request, answer, pingreq, pingresp, disconnect, auth, WillFields, ConnectFields, PublishFields, AskedFilter, listed}
-use Rattle.mq_packet.specs.Formats.{Kind, text, binary, Value, Format, done, rest, all_codes, all_filters, refused, field, at_end, field_if, will_if, has_bits, qos_of, connect_format, connack_format, publish_from, publish_unacknowledged, publish_acknowledged, publish_format, acknowledgement_format, request_format, answer_format, ending_format, format_of}
+use Rattle.mq_packet.specs.Formats.{Kind, text, binary, Value, Format, done, rest, all_codes, all_filters, refused, field, at_end, field_if, will_if, has_bits, qos_of, connect_format, connack_format, publish_from, publish_unacknowledged, publish_acknowledged, publish_format, acknowledgement_format, request_format, answer_format, ending_format, format_of, format_by_type}
 use Rattle.mq_packet.specs.Asking.{filters_spelling}
+use Rattle.mq_packet.specs.FirstBytes.{flags_in}
 use Rattle.mq_packet.specs.Canonical.{list_spelling, spelling_if, will_spelling, connect_body, connack_body, publish_body, request_body, answer_body}
 use Rattle.mq_packet.specs.Spelled.{spelling, Spells, IsSpelled}
 use Rattle.mq_packet.specs.Stream.{header_with, fixed_header_of}
@@ -35,6 +38,7 @@ use Rattle.mq_packet.specs.Decoding.{decoded}
 use Rattle.mq_packet.specs.Sizes.{remaining_length, size_with}
 use Rattle.mq_packet.proofs.SizeLaws.{will_length, connect_length, connack_length, publish_length, request_length, answer_length}
 use Rattle.mq_packet.proofs.ValueLaws.{not_objected}
+use Rattle.mq_packet.proofs.FirstByteLaws.{each_first}
 use Rattle.mq_packet.proofs.Readings.{packet_given}
 
 -- A body of this packet that has n bytes has as many as the one that is written of it, where the packet doesn't keep how many
@@ -162,25 +166,25 @@ ending_measured endings.Auth = (tt, λ code _. (tt, λ list _. tt))
 
 -- ---- any first byte
 
+type_measured : (type : PacketType) (flags : ℕ) → Measures (format_by_type type flags) 0
+type_measured types.Connect flags = connect_measured
+type_measured types.Connack flags = connack_measured
+type_measured types.Publish flags = publish_measured flags
+type_measured types.Puback flags = acknowledgement_measured acknowledgements.Puback
+type_measured types.Pubrec flags = acknowledgement_measured acknowledgements.Pubrec
+type_measured types.Pubrel flags = acknowledgement_measured acknowledgements.Pubrel
+type_measured types.Pubcomp flags = acknowledgement_measured acknowledgements.Pubcomp
+type_measured types.Subscribe flags = request_measured requests.Subscribe
+type_measured types.Suback flags = answer_measured requests.Subscribe
+type_measured types.Unsubscribe flags = request_measured requests.Unsubscribe
+type_measured types.Unsuback flags = answer_measured requests.Unsubscribe
+type_measured types.Pingreq flags = refl
+type_measured types.Pingresp flags = refl
+type_measured types.Disconnect flags = ending_measured endings.Disconnect
+type_measured types.Auth flags = ending_measured endings.Auth
+
 format_measured : (first : ℕ) → Measures (format_of first) 0
-format_measured first =
-    or_next (nat_lt first 16) (refused rules.W02) _ tt (
-    or_next (first == 16) connect_format _ connect_measured (
-    or_next (first == 32) connack_format _ connack_measured (
-    or_next (nat_lt first 48) (refused rules.W01) _ tt (
-    or_next (nat_lt first 64) (publish_format first) _ (publish_measured first) (
-    or_next (first == 64) (acknowledgement_format acknowledgements.Puback) _ (acknowledgement_measured acknowledgements.Puback) (
-    or_next (first == 80) (acknowledgement_format acknowledgements.Pubrec) _ (acknowledgement_measured acknowledgements.Pubrec) (
-    or_next (first == 98) (acknowledgement_format acknowledgements.Pubrel) _ (acknowledgement_measured acknowledgements.Pubrel) (
-    or_next (first == 112) (acknowledgement_format acknowledgements.Pubcomp) _ (acknowledgement_measured acknowledgements.Pubcomp) (
-    or_next (first == 130) (request_format requests.Subscribe) _ (request_measured requests.Subscribe) (
-    or_next (first == 144) (answer_format requests.Subscribe) _ (answer_measured requests.Subscribe) (
-    or_next (first == 162) (request_format requests.Unsubscribe) _ (request_measured requests.Unsubscribe) (
-    or_next (first == 176) (answer_format requests.Unsubscribe) _ (answer_measured requests.Unsubscribe) (
-    or_next (first == 192) (done pingreq) _ refl (
-    or_next (first == 208) (done pingresp) _ refl (
-    or_next (first == 224) (ending_format endings.Disconnect) _ (ending_measured endings.Disconnect) (
-    or_next (first == 240) (ending_format endings.Auth) (refused rules.W01) (ending_measured endings.Auth) tt))))))))))))))))
+format_measured first = each_first (λ format. Measures format 0) first tt tt (λ type _ _. type_measured type (flags_in first))
 
 -- A body that spells a packet has the length that the packet tells.
 spelled_length : (first : ℕ) (body : List ℕ) (entry : Entry) → IsSpelled first body entry → HasLength (length body) entry

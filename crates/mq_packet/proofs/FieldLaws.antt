@@ -25,7 +25,7 @@ use Rattle.mq_props.proofs.Broken.{breaks_list}
 use Rattle.mq_packet.specs.declared.fault.DecodeFault.{DecodeFault}
 use Rattle.mq_packet.specs.Formats.{Kind, byte, two_bytes, text, binary, properties, Value, topic_objection}
 use Rattle.mq_packet.specs.Decoding.{broken, rule_of, list_rule, spelled, spelled_list, field_on, read_field}
-use Rattle.mq_packet.specs.Misspellings.{MisspelledField, BrokenList, Misspelled}
+use Rattle.mq_packet.specs.Misspellings.{MisspelledField, Misspelled}
 use Rattle.mq_packet.specs.Spelled.{spelling, Begin}
 
 -- What is left: these bytes, from this place on.

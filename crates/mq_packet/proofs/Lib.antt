@@ -23,3 +23,4 @@ pub mod StreamLaws
 pub mod AskedLaws
 pub mod FilterLaws
 pub mod CodeLaws
+pub mod FirstByteLaws

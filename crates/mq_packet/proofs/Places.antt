@@ -1,9 +1,8 @@
 -- The place of a broken rule lies in the packet, or after its last byte.
-use Rattle.std.proofs.Common.{◌≡◌, ℕ, zero, suc, ◌+◌, ◌≤◌, ◌<◌, Bool, eqb, ltb, true, false, cond, List, [], ◌∷◌, length, Option, Some, None, Result, Ok, Err, refl, ap, subst, arith}
+use Rattle.std.proofs.Common.{◌≡◌, ℕ, zero, suc, ◌+◌, ◌≤◌, Bool, true, false, cond, List, [], ◌∷◌, length, Option, Some, None, Result, Ok, Err, refl, ap, subst, arith}
 use Rattle.std.specs.Prelude.{◌==◌, if◌then◌else◌}
 use Rattle.std.specs.List.{list_all, prefix_len}
 use Rattle.std.proofs.Common.{length-drop}
-use Rattle.std.proofs.lemmas.Bool.{ne_eqb, lt-ltb, le-ltb}
 use Rattle.mq_wire.specs.declared.fault.Reason.{Reason}
 use Rattle.mq_wire.specs.Left.{Left, placed, past}
 use Rattle.mq_wire.specs.Fields.{byte_at, two_bytes_at, varint_at, text_at, binary_at}
@@ -21,7 +20,7 @@ use Rattle.mq_packet.specs.declared.rule.PacketRule.TheVariants as rules
 use Rattle.mq_packet.specs.declared.fault.DecodeFault.{DecodeFault}
 use Rattle.mq_packet.specs.declared.fault.DecodeFault.TheVariants.{Broken, OtherVersion}
 use Rattle.mq_packet.specs.Entries.{Entry, AskedFilter}
-use Rattle.mq_packet.specs.Formats.{Kind, byte, two_bytes, text, binary, properties, Value, Objection, breaks, other_version, is_code, filter_objection, options_objection, Format, done, rest, all_codes, all_filters, refused, field, at_end, format_of, publish_format}
+use Rattle.mq_packet.specs.Formats.{Kind, byte, two_bytes, text, binary, properties, Value, Objection, breaks, other_version, is_code, filter_objection, options_objection, Format, done, rest, all_codes, all_filters, refused, field, at_end, format_of}
 use Rattle.mq_packet.specs.Decoding.{◌>>=◌, broken, objected, spelled, spelled_list, field_on, unless, read_field, codes_on, some_options, options_on, with_options, options_behind, filter_on, filters_within, filters_on, read}
 use Rattle.mq_packet.proofs.Readings.{by_field, by_objection}
 
@@ -200,13 +199,3 @@ places_fit (at_end whole more) left = at_end_fits whole more (places_fit whole) 
 -- A place in a packet that may be, of at most 268,435,460 bytes.
 pub place_fits : (first at : ℕ) (left : Left) (rule : PacketRule) → read (format_of first) left ≡ Err (broken at rule) → left.at ≤ 5 → length left.rest ≤ 268435455 → at ≤ 268435460
 place_fits first at left rule e h fits = omega (arith, places_fit (format_of first) left, ap place_of e, h, fits)
-
--- From 48 to 63 a first byte is that of a PUBLISH.
-pub publish_format_of : (first : ℕ) → 48 ≤ first → first < 64 → format_of first ≡ publish_format first
-publish_format_of first from to =
-    let none : ltb first 16 ≡ false = le-ltb first 16 (omega (arith, from)) in
-    let connect : eqb first 16 ≡ false = ne_eqb first 16 (λ e. omega (arith, from, e)) in
-    let connack : eqb first 32 ≡ false = ne_eqb first 32 (λ e. omega (arith, from, e)) in
-    let below : ltb first 48 ≡ false = le-ltb first 48 from in
-    let within : ltb first 64 ≡ true = lt-ltb first 64 to in
-    rw (none, connect, connack, below, within) refl

@@ -1,5 +1,5 @@
 -- What spells a packet is what is written of it, or a short form of that.
-use Rattle.std.proofs.Common.{◌≡◌, ℕ, zero, suc, ◌+◌, ◌*◌, ◌<◌, ◌≤◌, inl, inr, Bool, true, false, ◌||◌, not, List, [], ◌∷◌, ◌++◌, length, Option, Some, None, refl, sym, ◌∙◌, ap, subst, arith, append_assoc}
+use Rattle.std.proofs.Common.{◌≡◌, ℕ, zero, suc, ◌+◌, ◌<◌, ◌≤◌, inl, inr, Bool, true, false, ◌||◌, not, List, [], ◌∷◌, ◌++◌, length, Option, Some, None, refl, sym, ◌∙◌, ap, subst, arith, append_assoc}
 use Rattle.std.specs.Prelude.{nat_lt, ◌==◌, if◌then◌else◌, is_some, IfSome, bit_and, bytes_eq, codes}
 use Rattle.std.specs.Str.{IsUtf8}
 use Rattle.std.proofs.lemmas.Bool.{eqb-true, ltb-true, agree_below_at}
@@ -11,20 +11,24 @@ use Rattle.mq_props.specs.declared.table.Place.TheVariants as places
 use Rattle.mq_props.specs.Values.{Property, body as properties_spelling}
 use Rattle.mq_packet.specs.declared.packet.Qos.{Qos}
 use Rattle.mq_packet.specs.declared.packet.Qos.TheVariants.{AtMostOnce, AtLeastOnce, ExactlyOnce}
+use Rattle.mq_packet.specs.declared.packet.PacketType.{PacketType}
+use Rattle.mq_packet.specs.declared.packet.PacketType.TheVariants as types
 use Rattle.mq_packet.specs.declared.packet.AcknowledgementKind.{AcknowledgementKind}
 use Rattle.mq_packet.specs.declared.packet.AcknowledgementKind.TheVariants as acknowledgements
 use Rattle.mq_packet.specs.declared.packet.EndingKind.TheVariants as endings
 use Rattle.mq_packet.specs.declared.packet.RequestKind.{RequestKind}
 use Rattle.mq_packet.specs.declared.packet.RequestKind.TheVariants as requests
 use Rattle.mq_packet.specs.declared.rule.PacketRule.TheVariants as rules
-use Rattle.mq_packet.specs.Entries.{Entry, pingreq, pingresp, WillFields, ConnectFields, AskedFilter, listed, none_listed, acknowledgement_place, has_options}
-use Rattle.mq_packet.specs.Formats.{Kind, text, binary, Value, other_version, version_objection, Format, done, rest, all_codes, all_filters, refused, field, at_end, field_if, will_if, are_connect_flags, has_bits, qos_of, connect_format, connack_format, publish_from, publish_unacknowledged, publish_acknowledged, publish_format, acknowledgement_format, request_format, answer_format, ending_format, format_of}
+use Rattle.mq_packet.specs.Entries.{Entry, WillFields, ConnectFields, AskedFilter, listed, none_listed, acknowledgement_place, has_options}
+use Rattle.mq_packet.specs.Formats.{Kind, text, binary, Value, other_version, version_objection, Format, done, rest, all_codes, all_filters, refused, field, at_end, field_if, will_if, are_connect_flags, has_bits, qos_of, connect_format, connack_format, publish_from, publish_unacknowledged, publish_acknowledged, publish_format, acknowledgement_format, request_format, answer_format, ending_format, format_of, format_by_type}
 use Rattle.mq_packet.specs.Asking.{filters_spelling, AreAsked}
 use Rattle.mq_packet.specs.Spelled.{IsValue, spelling, Spells, IsSpelled}
-use Rattle.mq_packet.specs.Canonical.{acknowledgement_type, acknowledgement_flags, request_type, answer_type, type_number, bit, qos_bits, will_flags, connect_flags, spelling_if, list_spelling, will_spelling, first_byte, connect_body, connack_body, publish_body, request_body, answer_body}
+use Rattle.mq_packet.specs.Canonical.{acknowledgement_type, request_type, answer_type, bit, qos_bits, will_flags, connect_flags, spelling_if, list_spelling, will_spelling, first_byte, connect_body, connack_body, publish_body, request_body, answer_body}
 use Rattle.mq_packet.specs.Valid.{IsListed, IsWill, IsTyped}
 use Rattle.mq_packet.specs.ShortForms.{SpellsEnd, IsBodyOf}
 use Rattle.mq_packet.proofs.RequestLaws.{all_typed}
+use Rattle.mq_packet.specs.FirstBytes.{reserved_flags, flags_in, are_flags, byte_of}
+use Rattle.mq_packet.proofs.FirstByteLaws.{reserved_byte, reserved_first, each_first}
 use Rattle.mq_packet.proofs.ValueLaws.{not_objected}
 
 -- ---- what the fields of a format write
@@ -115,30 +119,30 @@ flags_back flags small good =
     (let known : flags_test flags ≡ true = agree_below_at flags_test (λ _. true) 256 flags refl small in
     sym (eqb-true (flags_read flags) flags (not_then (are_connect_flags flags) (flags_read flags == flags) known good)))
 
--- The first byte of a PUBLISH by its bits.
-abbrev publish_byte : Bool → ℕ → Bool → ℕ
-publish_byte duplicate qos retain = 48 + (bit 8 duplicate + qos + bit 1 retain)
+-- The flags of a PUBLISH by their bits.
+abbrev publish_bits : Bool → ℕ → Bool → ℕ
+publish_bits duplicate qos retain = bit 8 duplicate + qos + bit 1 retain
 
 abbrev zero_test : ℕ → Bool
-zero_test first = nat_lt first 48 || (not (bit_and first 6 == 0) || (has_bits 8 first || (publish_byte false 0 (has_bits 1 first) == first)))
+zero_test flags = not (bit_and flags 6 == 0) || (has_bits 8 flags || (publish_bits false 0 (has_bits 1 flags) == flags))
 
 abbrev above_test : ℕ → ℕ → Bool
-above_test qos first = nat_lt first 48 || (not (bit_and first 6 == qos) || (publish_byte (has_bits 8 first) qos (has_bits 1 first) == first))
+above_test qos flags = not (bit_and flags 6 == qos) || (publish_bits (has_bits 8 flags) qos (has_bits 1 flags) == flags)
 
-zero_back : (first : ℕ) → nat_lt first 48 ≡ false → first < 64 → (bit_and first 6 == 0) ≡ true → has_bits 8 first ≡ false → first ≡ publish_byte false 0 (has_bits 1 first)
-zero_back first large small qos again =
-    (let known : zero_test first ≡ true = agree_below_at zero_test (λ _. true) 64 first refl small in
-    sym (eqb-true (publish_byte false 0 (has_bits 1 first)) first (or_then (has_bits 8 first) _ (not_then (bit_and first 6 == 0) _ (or_then (nat_lt first 48) _ known large) qos) again)))
+zero_back : (flags : ℕ) → flags < 16 → (bit_and flags 6 == 0) ≡ true → has_bits 8 flags ≡ false → flags ≡ publish_bits false 0 (has_bits 1 flags)
+zero_back flags small qos again =
+    (let known : zero_test flags ≡ true = agree_below_at zero_test (λ _. true) 16 flags refl small in
+    sym (eqb-true (publish_bits false 0 (has_bits 1 flags)) flags (or_then (has_bits 8 flags) _ (not_then (bit_and flags 6 == 0) _ known qos) again)))
 
-one_back : (first : ℕ) → nat_lt first 48 ≡ false → first < 64 → (bit_and first 6 == 2) ≡ true → first ≡ publish_byte (has_bits 8 first) 2 (has_bits 1 first)
-one_back first large small qos =
-    (let known : above_test 2 first ≡ true = agree_below_at (above_test 2) (λ _. true) 64 first refl small in
-    sym (eqb-true (publish_byte (has_bits 8 first) 2 (has_bits 1 first)) first (not_then (bit_and first 6 == 2) _ (or_then (nat_lt first 48) _ known large) qos)))
+one_back : (flags : ℕ) → flags < 16 → (bit_and flags 6 == 2) ≡ true → flags ≡ publish_bits (has_bits 8 flags) 2 (has_bits 1 flags)
+one_back flags small qos =
+    (let known : above_test 2 flags ≡ true = agree_below_at (above_test 2) (λ _. true) 16 flags refl small in
+    sym (eqb-true (publish_bits (has_bits 8 flags) 2 (has_bits 1 flags)) flags (not_then (bit_and flags 6 == 2) _ known qos)))
 
-two_back : (first : ℕ) → nat_lt first 48 ≡ false → first < 64 → (bit_and first 6 == 4) ≡ true → first ≡ publish_byte (has_bits 8 first) 4 (has_bits 1 first)
-two_back first large small qos =
-    (let known : above_test 4 first ≡ true = agree_below_at (above_test 4) (λ _. true) 64 first refl small in
-    sym (eqb-true (publish_byte (has_bits 8 first) 4 (has_bits 1 first)) first (not_then (bit_and first 6 == 4) _ (or_then (nat_lt first 48) _ known large) qos)))
+two_back : (flags : ℕ) → flags < 16 → (bit_and flags 6 == 4) ≡ true → flags ≡ publish_bits (has_bits 8 flags) 4 (has_bits 1 flags)
+two_back flags small qos =
+    (let known : above_test 4 flags ≡ true = agree_below_at (above_test 4) (λ _. true) 16 flags refl small in
+    sym (eqb-true (publish_bits (has_bits 8 flags) 4 (has_bits 1 flags)) flags (not_then (bit_and flags 6 == 4) _ known qos)))
 
 -- ---- CONNECT, CONNACK and PUBLISH
 
@@ -214,7 +218,7 @@ connack_writes first first_is = λ flags small good code is_code _ list is_list 
     }
 
 publish_from_writes : (first : ℕ) (duplicate : Bool) (qos : Qos) (retain : Bool) (topic : List ℕ) (identifier : Option ℕ)
-    → first ≡ publish_byte duplicate (qos_bits 2 qos) retain → IsUtf8 topic → IfSome identifier (λ i. i ≤ 65535)
+    → first ≡ byte_of types.Publish (publish_bits duplicate (qos_bits 2 qos) retain) → IsUtf8 topic → IfSome identifier (λ i. i ≤ 65535)
     → Writes (IsMade first) (publish_from duplicate qos retain topic identifier) (λ left. text_spelling topic ++ (spelling_if two_bytes_spelling identifier ++ left))
 unfolding publish_body
 publish_from_writes first duplicate qos retain topic identifier first_is is_topic is_identifier = λ list is_list _ payload.
@@ -224,10 +228,10 @@ publish_from_writes first duplicate qos retain topic identifier first_is is_topi
       typed = record { topic = is_topic; identifier = is_identifier; properties = record { allowed = is_list.0; bound = is_list.1 } };
     }
 
-unacknowledged_writes : (first : ℕ) (retain : Bool) → first ≡ publish_byte false 0 retain → Writes (IsMade first) (publish_unacknowledged retain) (λ left. left)
+unacknowledged_writes : (first : ℕ) (retain : Bool) → first ≡ byte_of types.Publish (publish_bits false 0 retain) → Writes (IsMade first) (publish_unacknowledged retain) (λ left. left)
 unacknowledged_writes first retain first_is = λ topic is_topic _. publish_from_writes first false AtMostOnce retain topic None first_is is_topic.utf8 tt
 
-acknowledged_writes : (first : ℕ) (duplicate : Bool) (qos : Qos) (retain : Bool) → first ≡ publish_byte duplicate (qos_bits 2 qos) retain → Writes (IsMade first) (publish_acknowledged duplicate qos retain) (λ left. left)
+acknowledged_writes : (first : ℕ) (duplicate : Bool) (qos : Qos) (retain : Bool) → first ≡ byte_of types.Publish (publish_bits duplicate (qos_bits 2 qos) retain) → Writes (IsMade first) (publish_acknowledged duplicate qos retain) (λ left. left)
 acknowledged_writes first duplicate qos retain first_is = λ topic is_topic _ identifier is_identifier _. publish_from_writes first duplicate qos retain topic (Some identifier) first_is is_topic.utf8 is_identifier
 
 -- One choice by the first byte.
@@ -235,15 +239,17 @@ or_known : (P : Entry → List ℕ → Type 0) (b : Bool) (one two : Format) →
 or_known P true one two h k = h refl
 or_known P false one two h k = k refl
 
-publish_writes : (first : ℕ) → nat_lt first 48 ≡ false → nat_lt first 64 ≡ true → Writes (IsMade first) (publish_format first) (λ left. left)
-publish_writes first large below =
-    (let small : first < 64 = ltb-true first 64 below in
-    or_known (IsMade first) (bit_and first 6 == 0) (if has_bits 8 first then refused rules.W08 else publish_unacknowledged (has_bits 1 first)) _
-    (λ zero. or_known (IsMade first) (has_bits 8 first) (refused rules.W08) (publish_unacknowledged (has_bits 1 first)) (λ _. tt) (λ once. unacknowledged_writes first (has_bits 1 first) (zero_back first large small zero once)))
-    (λ _. or_known (IsMade first) (bit_and first 6 == 2) (publish_acknowledged (has_bits 8 first) AtLeastOnce (has_bits 1 first)) _
-    (λ one. acknowledged_writes first (has_bits 8 first) AtLeastOnce (has_bits 1 first) (one_back first large small one))
-    (λ _. or_known (IsMade first) (bit_and first 6 == 4) (publish_acknowledged (has_bits 8 first) ExactlyOnce (has_bits 1 first)) (refused rules.W07)
-    (λ two. acknowledged_writes first (has_bits 8 first) ExactlyOnce (has_bits 1 first) (two_back first large small two)) (λ _. tt))))
+publish_writes : (first : ℕ) → first ≡ byte_of types.Publish (flags_in first) → Writes (IsMade first) (publish_format (flags_in first)) (λ left. left)
+publish_writes first is =
+    (let flags : ℕ = flags_in first in
+    let small : flags < 16 = omega arith in
+    let made : (bits : ℕ) → flags ≡ bits → first ≡ byte_of types.Publish bits = λ bits same. is ∙ ap (byte_of types.Publish) same in
+    or_known (IsMade first) (bit_and flags 6 == 0) (if has_bits 8 flags then refused rules.W08 else publish_unacknowledged (has_bits 1 flags)) _
+    (λ zero. or_known (IsMade first) (has_bits 8 flags) (refused rules.W08) (publish_unacknowledged (has_bits 1 flags)) (λ _. tt) (λ once. unacknowledged_writes first (has_bits 1 flags) (made _ (zero_back flags small zero once))))
+    (λ _. or_known (IsMade first) (bit_and flags 6 == 2) (publish_acknowledged (has_bits 8 flags) AtLeastOnce (has_bits 1 flags)) _
+    (λ one. acknowledged_writes first (has_bits 8 flags) AtLeastOnce (has_bits 1 flags) (made _ (one_back flags small one)))
+    (λ _. or_known (IsMade first) (bit_and flags 6 == 4) (publish_acknowledged (has_bits 8 flags) ExactlyOnce (has_bits 1 flags)) (refused rules.W07)
+    (λ two. acknowledged_writes first (has_bits 8 flags) ExactlyOnce (has_bits 1 flags) (made _ (two_back flags small two))) (λ _. tt))))
 
 -- ---- acknowledgements, DISCONNECT and AUTH
 
@@ -251,7 +257,7 @@ publish_writes first large below =
 nothing : (place : Place) → IsListed (none_listed place)
 nothing place = (let none : length (properties_spelling []) ≡ 0 = refl in record { allowed = tt; bound = omega (arith, none) })
 
-acknowledgement_writes : (first : ℕ) (kind : AcknowledgementKind) → first ≡ 16 * type_number (acknowledgement_type kind) + acknowledgement_flags kind → Writes (IsMade first) (acknowledgement_format kind) (λ left. left)
+acknowledgement_writes : (first : ℕ) (kind : AcknowledgementKind) → first ≡ reserved_byte (acknowledgement_type kind) → Writes (IsMade first) (acknowledgement_format kind) (λ left. left)
 acknowledgement_writes first kind first_is = λ identifier is_identifier _. (
   record { first_is = first_is; body_is = ([], refl, inr (inr (refl, refl, refl))); typed = record { bound = is_identifier; properties = nothing (acknowledgement_place kind) } },
   λ code is_code _. (
@@ -288,7 +294,7 @@ auth_writes first first_is = (
 
 -- ---- SUBSCRIBE, UNSUBSCRIBE and their answers
 
-request_writes : (first : ℕ) (kind : RequestKind) → first ≡ 16 * type_number (request_type kind) + 2 → Writes (IsMade first) (request_format kind) (λ left. left)
+request_writes : (first : ℕ) (kind : RequestKind) → first ≡ reserved_byte (request_type kind) → Writes (IsMade first) (request_format kind) (λ left. left)
 unfolding request_body
 request_writes first kind first_is = λ identifier is_identifier _ list is_list _ filters are.
     record {
@@ -297,7 +303,7 @@ request_writes first kind first_is = λ identifier is_identifier _ list is_list 
       typed = record { identified = record { bound = is_identifier; properties = record { allowed = is_list.0; bound = is_list.1 } }; each = all_typed (has_options kind) filters are.each };
     }
 
-answer_writes : (first : ℕ) (kind : RequestKind) → first ≡ 16 * type_number (answer_type kind) + 0 → Writes (IsMade first) (answer_format kind) (λ left. left)
+answer_writes : (first : ℕ) (kind : RequestKind) → first ≡ reserved_byte (answer_type kind) → Writes (IsMade first) (answer_format kind) (λ left. left)
 unfolding answer_body
 answer_writes first kind first_is = λ identifier is_identifier _ list is_list _ reasons.
     record {
@@ -308,25 +314,26 @@ answer_writes first kind first_is = λ identifier is_identifier _ list is_list _
 
 -- ---- any first byte
 
+type_writes : (first : ℕ) (type : PacketType) → first ≡ byte_of type (flags_in first) → are_flags (reserved_flags type) (flags_in first) ≡ true
+    → Writes (IsMade first) (format_by_type type (flags_in first)) (λ left. left)
+type_writes first types.Connect is e = connect_writes first (reserved_first first 0 types.Connect is e)
+type_writes first types.Connack is e = connack_writes first (reserved_first first 0 types.Connack is e)
+type_writes first types.Publish is e = publish_writes first is
+type_writes first types.Puback is e = acknowledgement_writes first acknowledgements.Puback (reserved_first first 0 types.Puback is e)
+type_writes first types.Pubrec is e = acknowledgement_writes first acknowledgements.Pubrec (reserved_first first 0 types.Pubrec is e)
+type_writes first types.Pubrel is e = acknowledgement_writes first acknowledgements.Pubrel (reserved_first first 2 types.Pubrel is e)
+type_writes first types.Pubcomp is e = acknowledgement_writes first acknowledgements.Pubcomp (reserved_first first 0 types.Pubcomp is e)
+type_writes first types.Subscribe is e = request_writes first requests.Subscribe (reserved_first first 2 types.Subscribe is e)
+type_writes first types.Suback is e = answer_writes first requests.Subscribe (reserved_first first 0 types.Suback is e)
+type_writes first types.Unsubscribe is e = request_writes first requests.Unsubscribe (reserved_first first 2 types.Unsubscribe is e)
+type_writes first types.Unsuback is e = answer_writes first requests.Unsubscribe (reserved_first first 0 types.Unsuback is e)
+type_writes first types.Pingreq is e = record { first_is = reserved_first first 0 types.Pingreq is e; body_is = refl; typed = tt }
+type_writes first types.Pingresp is e = record { first_is = reserved_first first 0 types.Pingresp is e; body_is = refl; typed = tt }
+type_writes first types.Disconnect is e = disconnect_writes first (reserved_first first 0 types.Disconnect is e)
+type_writes first types.Auth is e = auth_writes first (reserved_first first 0 types.Auth is e)
+
 format_writes : (first : ℕ) → Writes (IsMade first) (format_of first) (λ left. left)
-format_writes first =
-    or_known (IsMade first) (nat_lt first 16) (refused rules.W02) _ (λ _. tt) (λ _.
-    or_known (IsMade first) (first == 16) connect_format _ (λ is. connect_writes first (eqb-true first 16 is)) (λ _.
-    or_known (IsMade first) (first == 32) connack_format _ (λ is. connack_writes first (eqb-true first 32 is)) (λ _.
-    or_known (IsMade first) (nat_lt first 48) (refused rules.W01) _ (λ _. tt) (λ large.
-    or_known (IsMade first) (nat_lt first 64) (publish_format first) _ (λ below. publish_writes first large below) (λ _.
-    or_known (IsMade first) (first == 64) (acknowledgement_format acknowledgements.Puback) _ (λ is. acknowledgement_writes first acknowledgements.Puback (eqb-true first 64 is)) (λ _.
-    or_known (IsMade first) (first == 80) (acknowledgement_format acknowledgements.Pubrec) _ (λ is. acknowledgement_writes first acknowledgements.Pubrec (eqb-true first 80 is)) (λ _.
-    or_known (IsMade first) (first == 98) (acknowledgement_format acknowledgements.Pubrel) _ (λ is. acknowledgement_writes first acknowledgements.Pubrel (eqb-true first 98 is)) (λ _.
-    or_known (IsMade first) (first == 112) (acknowledgement_format acknowledgements.Pubcomp) _ (λ is. acknowledgement_writes first acknowledgements.Pubcomp (eqb-true first 112 is)) (λ _.
-    or_known (IsMade first) (first == 130) (request_format requests.Subscribe) _ (λ is. request_writes first requests.Subscribe (eqb-true first 130 is)) (λ _.
-    or_known (IsMade first) (first == 144) (answer_format requests.Subscribe) _ (λ is. answer_writes first requests.Subscribe (eqb-true first 144 is)) (λ _.
-    or_known (IsMade first) (first == 162) (request_format requests.Unsubscribe) _ (λ is. request_writes first requests.Unsubscribe (eqb-true first 162 is)) (λ _.
-    or_known (IsMade first) (first == 176) (answer_format requests.Unsubscribe) _ (λ is. answer_writes first requests.Unsubscribe (eqb-true first 176 is)) (λ _.
-    or_known (IsMade first) (first == 192) (done pingreq) _ (λ is. record { first_is = eqb-true first 192 is; body_is = refl; typed = tt }) (λ _.
-    or_known (IsMade first) (first == 208) (done pingresp) _ (λ is. record { first_is = eqb-true first 208 is; body_is = refl; typed = tt }) (λ _.
-    or_known (IsMade first) (first == 224) (ending_format endings.Disconnect) _ (λ is. disconnect_writes first (eqb-true first 224 is)) (λ _.
-    or_known (IsMade first) (first == 240) (ending_format endings.Auth) (refused rules.W01) (λ is. auth_writes first (eqb-true first 240 is)) (λ _. tt)))))))))))))))))
+format_writes first = each_first (λ format. Writes (IsMade first) format (λ left. left)) first tt tt (λ type is e. type_writes first type is e)
 
 -- A packet that is spelled has this first byte, and a body that is one of its own.
 pub spelled_made : (first : ℕ) (body : List ℕ) (entry : Entry) → IsSpelled first body entry → IsMade first entry body

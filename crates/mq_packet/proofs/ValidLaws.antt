@@ -1,6 +1,6 @@
 -- What some bytes spell is valid.
 use Rattle.std.proofs.Common.{◌≡◌, ℕ, ◌↔◌, Bool, true, false, List, [], ◌∷◌, Option, Some, None, refl, sym, ◌∙◌, ap}
-use Rattle.std.specs.Prelude.{nat_lt, ◌==◌, if◌then◌else◌, IfSome, bit_and}
+use Rattle.std.specs.Prelude.{◌==◌, if◌then◌else◌, IfSome, bit_and}
 use Rattle.std.specs.Bool.{beq}
 use Rattle.std.proofs.lemmas.Bool.{and_from}
 use Rattle.mq_wire.specs.Spellings.{IsText, IsBinary}
@@ -11,6 +11,8 @@ use Rattle.mq_props.specs.Values.{Property}
 use Rattle.mq_packet.specs.ReasonCodes.{connack_codes, disconnect_codes, auth_codes}
 use Rattle.mq_packet.specs.declared.packet.Qos.{Qos}
 use Rattle.mq_packet.specs.declared.packet.Qos.TheVariants.{AtMostOnce, AtLeastOnce, ExactlyOnce}
+use Rattle.mq_packet.specs.declared.packet.PacketType.{PacketType}
+use Rattle.mq_packet.specs.declared.packet.PacketType.TheVariants as types
 use Rattle.mq_packet.specs.declared.packet.AcknowledgementKind.{AcknowledgementKind}
 use Rattle.mq_packet.specs.declared.packet.AcknowledgementKind.TheVariants as acknowledgements
 use Rattle.mq_packet.specs.declared.packet.EndingKind.TheVariants as endings
@@ -19,12 +21,14 @@ use Rattle.mq_packet.specs.declared.packet.RequestKind.TheVariants as requests
 use Rattle.mq_packet.specs.declared.rule.PacketRule.{PacketRule}
 use Rattle.mq_packet.specs.declared.rule.PacketRule.TheVariants as rules
 use Rattle.mq_packet.specs.Entries.{Entry, connect, connack, publish, acknowledgement, request, answer, pingreq, pingresp, disconnect, auth, WillFields, listed, acknowledgement_place, acknowledgement_codes, request_place, answer_place, has_options}
-use Rattle.mq_packet.specs.Formats.{byte, text, binary, properties, Format, done, refused, field, at_end, field_if, will_if, is_code, names_topic, has_bits, qos_of, connect_from, connect_format, connack_format, publish_from, publish_unacknowledged, publish_acknowledged, publish_format, acknowledgement_format, request_format, answer_format, ending_format, any_value, code_objection, format_of}
+use Rattle.mq_packet.specs.Formats.{byte, text, binary, properties, Format, done, refused, field, at_end, field_if, will_if, is_code, names_topic, has_bits, qos_of, connect_from, connect_format, connack_format, publish_from, publish_unacknowledged, publish_acknowledged, publish_format, acknowledgement_format, request_format, answer_format, ending_format, any_value, code_objection, format_of, format_by_type}
+use Rattle.mq_packet.specs.FirstBytes.{flags_in}
 use Rattle.mq_packet.specs.Spelled.{Spells, IsSpelled}
 use Rattle.mq_packet.specs.Valid.{is_text, is_binary, is_identifier, if_there, fits_qos, valid_will, valid_connect, valid_connack, valid_publish, valid_acknowledgement, valid_filters, valid_request, valid_answer, valid_disconnect, valid_auth, valid, IsTyped}
 use Rattle.mq_packet.specs.Canonical.{first_byte, canonical_body}
 use Rattle.mq_packet.proofs.CanonicalLaws.{canonical_spelled}
 use Rattle.mq_packet.proofs.RequestLaws.{filters_fit}
+use Rattle.mq_packet.proofs.FirstByteLaws.{each_first}
 use Rattle.mq_packet.proofs.ValueLaws.{same_as_itself, text_passes, binary_passes, not_objected, field_if_says, if_there_from}
 
 -- What a format spells is valid.
@@ -171,26 +175,27 @@ connect_sound bytes entry h = connect_from_sound h.4.4.0 h.4.4.1 entry h.4.4.4
 
 -- ---- any first byte
 
+type_sound : (type : PacketType) (flags : ℕ) → IsSound (format_by_type type flags)
+type_sound types.Connect flags = connect_sound
+type_sound types.Connack flags = connack_sound
+type_sound types.Publish flags = publish_sound flags
+type_sound types.Puback flags = acknowledgement_sound acknowledgements.Puback
+type_sound types.Pubrec flags = acknowledgement_sound acknowledgements.Pubrec
+type_sound types.Pubrel flags = acknowledgement_sound acknowledgements.Pubrel
+type_sound types.Pubcomp flags = acknowledgement_sound acknowledgements.Pubcomp
+type_sound types.Subscribe flags = request_sound requests.Subscribe
+type_sound types.Suback flags = answer_sound requests.Subscribe
+type_sound types.Unsubscribe flags = request_sound requests.Unsubscribe
+type_sound types.Unsuback flags = answer_sound requests.Unsubscribe
+type_sound types.Pingreq flags = done_sound pingreq refl
+type_sound types.Pingresp flags = done_sound pingresp refl
+type_sound types.Disconnect flags = disconnect_sound
+type_sound types.Auth flags = auth_sound
+
 format_sound : (first : ℕ) → IsSound (format_of first)
 format_sound first =
-    if_sound (nat_lt first 16) _ _ (refused_sound rules.W02) (
-    if_sound (first == 16) _ _ connect_sound (
-    if_sound (first == 32) _ _ connack_sound (
-    if_sound (nat_lt first 48) _ _ (refused_sound rules.W01) (
-    if_sound (nat_lt first 64) _ _ (publish_sound first) (
-    if_sound (first == 64) _ _ (acknowledgement_sound acknowledgements.Puback) (
-    if_sound (first == 80) _ _ (acknowledgement_sound acknowledgements.Pubrec) (
-    if_sound (first == 98) _ _ (acknowledgement_sound acknowledgements.Pubrel) (
-    if_sound (first == 112) _ _ (acknowledgement_sound acknowledgements.Pubcomp) (
-    if_sound (first == 130) _ _ (request_sound requests.Subscribe) (
-    if_sound (first == 144) _ _ (answer_sound requests.Subscribe) (
-    if_sound (first == 162) _ _ (request_sound requests.Unsubscribe) (
-    if_sound (first == 176) _ _ (answer_sound requests.Unsubscribe) (
-    if_sound (first == 192) _ _ (done_sound pingreq refl) (
-    if_sound (first == 208) _ _ (done_sound pingresp refl) (
-    if_sound (first == 224) _ _ disconnect_sound (
-    if_sound (first == 240) _ _ auth_sound
-    (refused_sound rules.W01)))))))))))))))))
+    each_first IsSound first (refused_sound rules.W01) (refused_sound rules.W02)
+    (λ type _ _. type_sound type (flags_in first))
 
 pub spelled_valid : (first : ℕ) (body : List ℕ) (entry : Entry) → IsSpelled first body entry → valid entry ≡ true
 spelled_valid first body entry h = format_sound first body entry h

@@ -2,12 +2,14 @@
 use Rattle.std.proofs.Common.{◌≡◌, ◌≢◌, ℕ, zero, suc, ◌+◌, ◌↔◌, Bool, true, false, inl, inr, List, [], ◌∷◌, ◌++◌, length, Option, Some, None, Result, Err, refl, sym, ◌∙◌, ap, subst, arith}
 use Rattle.std.specs.Prelude.{nat_lt, ◌==◌, if◌then◌else◌, bit_and, bytes_eq, codes}
 use Rattle.std.specs.Str.{IsAscii}
-use Rattle.std.proofs.lemmas.Bool.{eqb-true, eqb-false, ne_eqb}
+use Rattle.std.proofs.lemmas.Bool.{eqb-false, ne_eqb}
 use Rattle.std.proofs.lemmas.Str.{IsUtf8-from_ascii}
 use Rattle.std.proofs.lemmas.Slice.Eq.{bytes_eq-Decides}
 use Rattle.mq_wire.specs.Spellings.{AreBytes, IsByte, IsText, text_spelling}
 use Rattle.mq_packet.specs.declared.packet.Qos.{Qos}
 use Rattle.mq_packet.specs.declared.packet.Qos.TheVariants.{AtMostOnce, AtLeastOnce, ExactlyOnce}
+use Rattle.mq_packet.specs.declared.packet.PacketType.{PacketType}
+use Rattle.mq_packet.specs.declared.packet.PacketType.TheVariants as types
 use Rattle.mq_packet.specs.declared.packet.AcknowledgementKind.{AcknowledgementKind}
 use Rattle.mq_packet.specs.declared.packet.AcknowledgementKind.TheVariants as acknowledgements
 use Rattle.mq_packet.specs.declared.packet.EndingKind.{EndingKind}
@@ -19,13 +21,15 @@ use Rattle.mq_packet.specs.declared.rule.PacketRule.TheVariants as rules
 use Rattle.mq_packet.specs.declared.fault.DecodeFault.{DecodeFault}
 use Rattle.mq_packet.specs.declared.fault.DecodeFault.TheVariants.{OtherVersion}
 use Rattle.mq_packet.specs.Entries.{Entry, WillFields, acknowledgement_codes, pingreq, pingresp, ending_codes}
-use Rattle.mq_packet.specs.Formats.{Kind, byte, two_bytes, text, binary, properties, Value, Objection, breaks, other_version, unless_broken, name_objection, version_objection, are_connect_flags, connect_flags_objection, is_code, names_topic, is_filter, are_options, filter_objection, options_objection, Format, done, rest, all_codes, all_filters, refused, field, at_end, field_if, will_if, has_bits, connect_from, connect_format, connack_format, publish_from, publish_unacknowledged, publish_acknowledged, publish_format, acknowledgement_format, request_format, answer_format, ending_format, format_of}
+use Rattle.mq_packet.specs.Formats.{Kind, byte, two_bytes, text, binary, properties, Value, Objection, breaks, other_version, unless_broken, name_objection, version_objection, are_connect_flags, connect_flags_objection, is_code, names_topic, is_filter, are_options, filter_objection, options_objection, Format, done, rest, all_codes, all_filters, refused, field, at_end, field_if, will_if, has_bits, connect_from, connect_format, connack_format, publish_from, publish_unacknowledged, publish_acknowledged, publish_format, acknowledgement_format, request_format, answer_format, ending_format, format_of, format_by_type}
+use Rattle.mq_packet.specs.FirstBytes.{reserved_flags, flags_in, are_flags, byte_of}
 use Rattle.mq_packet.specs.Decoding.{objected, body_start, decoded}
 use Rattle.mq_packet.specs.Misspellings.{Misspelled}
 use Rattle.mq_packet.specs.Spelled.{spelling, FailsField, FailsOptions, FailsFilter, Fails, IsOtherVersion, Comes}
 use Rattle.mq_packet.specs.Versions.{IsConnectOfVersion}
 use Rattle.mq_packet.specs.Valid.{is_identifier}
 use Rattle.mq_packet.proofs.ValueLaws.{text_value, not_objected}
+use Rattle.mq_packet.proofs.FirstByteLaws.{reserved_first, each_first}
 use Rattle.mq_packet.proofs.Readings.{comes_to_decoded, decoded_only}
 
 -- ---- formats that know no version
@@ -193,34 +197,26 @@ module _ (first at : ℕ) (body : List ℕ) (version : ℕ) where
   connect_tells : first ≡ 16 → Tells connect_format
   connect_tells is fails = subst (λ (f : ℕ). IsConnectOfVersion f body version) (sym is) (connect_version at body version fails)
 
-  -- one choice by the first byte
-  or_tells : (b : Bool) (one two : Format) → HasNoVersion one → Tells two → Tells (if b then one else two)
-  or_tells true one two h k = none_tells one h
-  or_tells false one two h k = k
-
-  or_connect : (b : Bool) (two : Format) → (b ≡ true → first ≡ 16) → Tells two → Tells (if b then connect_format else two)
-  or_connect true two h k = connect_tells (h refl)
-  or_connect false two h k = k
+  type_tells : (type : PacketType) (flags : ℕ) → first ≡ byte_of type (flags_in first) → are_flags (reserved_flags type) (flags_in first) ≡ true → Tells (format_by_type type flags)
+  type_tells types.Connect flags is e = connect_tells (reserved_first first 0 types.Connect is e)
+  type_tells types.Connack flags is e = none_tells connack_format connack_none
+  type_tells types.Publish flags is e = none_tells (publish_format flags) (publish_none flags)
+  type_tells types.Puback flags is e = none_tells (acknowledgement_format acknowledgements.Puback) (acknowledgement_none acknowledgements.Puback)
+  type_tells types.Pubrec flags is e = none_tells (acknowledgement_format acknowledgements.Pubrec) (acknowledgement_none acknowledgements.Pubrec)
+  type_tells types.Pubrel flags is e = none_tells (acknowledgement_format acknowledgements.Pubrel) (acknowledgement_none acknowledgements.Pubrel)
+  type_tells types.Pubcomp flags is e = none_tells (acknowledgement_format acknowledgements.Pubcomp) (acknowledgement_none acknowledgements.Pubcomp)
+  type_tells types.Subscribe flags is e = none_tells (request_format requests.Subscribe) (request_none requests.Subscribe)
+  type_tells types.Suback flags is e = none_tells (answer_format requests.Subscribe) (answer_none requests.Subscribe)
+  type_tells types.Unsubscribe flags is e = none_tells (request_format requests.Unsubscribe) (request_none requests.Unsubscribe)
+  type_tells types.Unsuback flags is e = none_tells (answer_format requests.Unsubscribe) (answer_none requests.Unsubscribe)
+  type_tells types.Pingreq flags is e = none_tells (done pingreq) tt
+  type_tells types.Pingresp flags is e = none_tells (done pingresp) tt
+  type_tells types.Disconnect flags is e = none_tells (ending_format endings.Disconnect) (ending_none endings.Disconnect)
+  type_tells types.Auth flags is e = none_tells (ending_format endings.Auth) (ending_none endings.Auth)
 
   format_tells : Tells (format_of first)
   format_tells =
-      or_tells (nat_lt first 16) (refused rules.W02) _ tt (
-      or_connect (first == 16) _ (eqb-true first 16) (
-      or_tells (first == 32) connack_format _ connack_none (
-      or_tells (nat_lt first 48) (refused rules.W01) _ tt (
-      or_tells (nat_lt first 64) (publish_format first) _ (publish_none first) (
-      or_tells (first == 64) (acknowledgement_format acknowledgements.Puback) _ (acknowledgement_none acknowledgements.Puback) (
-      or_tells (first == 80) (acknowledgement_format acknowledgements.Pubrec) _ (acknowledgement_none acknowledgements.Pubrec) (
-      or_tells (first == 98) (acknowledgement_format acknowledgements.Pubrel) _ (acknowledgement_none acknowledgements.Pubrel) (
-      or_tells (first == 112) (acknowledgement_format acknowledgements.Pubcomp) _ (acknowledgement_none acknowledgements.Pubcomp) (
-      or_tells (first == 130) (request_format requests.Subscribe) _ (request_none requests.Subscribe) (
-      or_tells (first == 144) (answer_format requests.Subscribe) _ (answer_none requests.Subscribe) (
-      or_tells (first == 162) (request_format requests.Unsubscribe) _ (request_none requests.Unsubscribe) (
-      or_tells (first == 176) (answer_format requests.Unsubscribe) _ (answer_none requests.Unsubscribe) (
-      or_tells (first == 192) (done pingreq) _ tt (
-      or_tells (first == 208) (done pingresp) _ tt (
-      or_tells (first == 224) (ending_format endings.Disconnect) _ (ending_none endings.Disconnect) (
-      or_tells (first == 240) (ending_format endings.Auth) (refused rules.W01) (ending_none endings.Auth) (none_tells (refused rules.W01) tt)))))))))))))))))
+      each_first Tells first (none_tells (refused rules.W01) tt) (none_tells (refused rules.W02) tt) (λ type is e. type_tells type (flags_in first) is e)
 
 version_connects : (first : ℕ) (body : List ℕ) (version : ℕ) → IsOtherVersion first body version → IsConnectOfVersion first body version
 version_connects first body version = format_tells first (body_start (length body)) body version

@@ -1,6 +1,6 @@
 -- How each packet is written (MQTT 5.0, 3.1 to 3.15): its fields in their order, each by its spelling. Where a packet may be
 -- spelled in several ways, it is the shortest of them; an AUTH has its properties' length unless it is empty.
-use Rattle.std.specs.Prelude.{ℕ, ◌+◌, ◌*◌, ◌==◌, if◌then◌else◌, Bool, true, false, List, [], ◌∷◌, ◌++◌, length, Option, Some, None, is_some, codes}
+use Rattle.std.specs.Prelude.{ℕ, ◌+◌, ◌*◌, ◌==◌, if◌then◌else◌, Bool, true, false, List, [], ◌∷◌, ◌++◌, length, Option, Some, None, is_some, unwrap_or, codes}
 use Rattle.mq_wire.specs.Spellings.{two_bytes_spelling, text_spelling, binary_spelling, varint_spelling}
 use Rattle.mq_props.specs.Values.{Property, body as properties_spelling}
 use Rattle.mq_packet.specs.declared.packet.Qos.{Qos}
@@ -13,6 +13,8 @@ use Rattle.mq_packet.specs.declared.packet.RequestKind.{RequestKind}
 use Rattle.mq_packet.specs.declared.packet.RequestKind.TheVariants as requests
 use Rattle.mq_packet.specs.Entries.{Entry, connect, connack, publish, acknowledgement, request, answer, pingreq, pingresp, disconnect, auth, WillFields, ConnectFields, PublishFields, AskedFilter}
 use Rattle.mq_packet.specs.Asking.{filters_spelling}
+use Rattle.mq_packet.specs.FirstBytes.{reserved_flags, byte_of}
+pub use Rattle.mq_packet.specs.FirstBytes.{type_number}
 
 -- The type of an acknowledgement, of a SUBSCRIBE or UNSUBSCRIBE, and of the answer to one.
 abbrev pub acknowledgement_type : AcknowledgementKind → PacketType
@@ -42,24 +44,6 @@ type_of pingresp = types.Pingresp
 type_of (disconnect code list) = types.Disconnect
 type_of (auth code list) = types.Auth
 
--- The number of a type (2.1.2).
-abbrev pub type_number : PacketType → ℕ
-type_number types.Connect = 1
-type_number types.Connack = 2
-type_number types.Publish = 3
-type_number types.Puback = 4
-type_number types.Pubrec = 5
-type_number types.Pubrel = 6
-type_number types.Pubcomp = 7
-type_number types.Subscribe = 8
-type_number types.Suback = 9
-type_number types.Unsubscribe = 10
-type_number types.Unsuback = 11
-type_number types.Pingreq = 12
-type_number types.Pingresp = 13
-type_number types.Disconnect = 14
-type_number types.Auth = 15
-
 -- A flag as the bit of this weight, and a QoS as two bits, of which this is the weight of the lower (3.1.2.3, 3.3.1).
 abbrev pub bit : ℕ → Bool → ℕ
 bit weight false = 0
@@ -74,28 +58,14 @@ qos_bits weight ExactlyOnce = 2 * weight
 abbrev pub publish_flags : PublishFields → ℕ
 publish_flags fields = bit 8 fields.duplicate + qos_bits 2 fields.qos + bit 1 fields.retain
 
--- The flags of the first byte (2.1.3): those of a PUBLISH, and bit 1 of a PUBREL, SUBSCRIBE or UNSUBSCRIBE.
-abbrev pub acknowledgement_flags : AcknowledgementKind → ℕ
-acknowledgement_flags acknowledgements.Puback = 0
-acknowledgement_flags acknowledgements.Pubrec = 0
-acknowledgement_flags acknowledgements.Pubrel = 2
-acknowledgement_flags acknowledgements.Pubcomp = 0
+-- The flags of its own that a packet has: a PUBLISH alone has some (2.1.3).
+abbrev pub own_flags : Entry → ℕ
+own_flags (publish fields) = publish_flags fields
+own_flags _ = 0
 
-abbrev pub flags_of : Entry → ℕ
-flags_of (connect fields) = 0
-flags_of (connack session_present code list) = 0
-flags_of (publish fields) = publish_flags fields
-flags_of (acknowledgement kind identifier code list) = acknowledgement_flags kind
-flags_of (request kind identifier list filters) = 2
-flags_of (answer kind identifier list reasons) = 0
-flags_of pingreq = 0
-flags_of pingresp = 0
-flags_of (disconnect code list) = 0
-flags_of (auth code list) = 0
-
--- The first byte: the type in bits 7 to 4, the flags in bits 3 to 0 (2.1.1).
+-- The first byte: that of the packet's type, with the flags that are reserved for it or else the packet's own (2.1.1 to 2.1.3).
 abbrev pub first_byte : Entry → ℕ
-first_byte entry = 16 * type_number (type_of entry) + flags_of entry
+first_byte entry = byte_of (type_of entry) (unwrap_or (reserved_flags (type_of entry)) (own_flags entry))
 
 -- A property list: the length of its properties, and they (2.2.2).
 abbrev pub list_spelling : List Property → List ℕ

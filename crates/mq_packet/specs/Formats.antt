@@ -18,8 +18,11 @@ use Rattle.mq_packet.specs.declared.packet.EndingKind.{EndingKind}
 use Rattle.mq_packet.specs.declared.packet.EndingKind.TheVariants as endings
 use Rattle.mq_packet.specs.declared.packet.RequestKind.{RequestKind}
 use Rattle.mq_packet.specs.declared.packet.RequestKind.TheVariants as requests
+use Rattle.mq_packet.specs.declared.packet.PacketType.{PacketType}
+use Rattle.mq_packet.specs.declared.packet.PacketType.TheVariants as types
 use Rattle.mq_packet.specs.declared.rule.PacketRule.{PacketRule}
 use Rattle.mq_packet.specs.declared.rule.PacketRule.TheVariants as rules
+use Rattle.mq_packet.specs.FirstBytes.{reserved_flags, type_in, flags_in, are_flags}
 use Rattle.mq_packet.specs.Entries.{Entry, connect, connack, publish, acknowledgement, request, answer, pingreq, pingresp, WillFields, AskedFilter, listed, none_listed, acknowledgement_place, acknowledgement_codes, request_place, answer_place, answer_codes, has_options, ending, ending_place, ending_codes}
 
 -- The kinds of field: a byte, a Two Byte Integer (1.5.2), a UTF-8 Encoded String (1.5.4), Binary Data (1.5.6), and the
@@ -205,10 +208,10 @@ publish_acknowledged duplicate qos retain =
 
 -- PUBLISH by its flags (3.3.1): bit 3 is DUP, bits 2 and 1 are the QoS, bit 0 is RETAIN.
 abbrev pub publish_format : ℕ → Format
-publish_format first =
-    if bit_and first 6 == 0 then (if has_bits 8 first then refused rules.W08 else publish_unacknowledged (has_bits 1 first)) else
-    if bit_and first 6 == 2 then publish_acknowledged (has_bits 8 first) AtLeastOnce (has_bits 1 first) else
-    if bit_and first 6 == 4 then publish_acknowledged (has_bits 8 first) ExactlyOnce (has_bits 1 first) else
+publish_format flags =
+    if bit_and flags 6 == 0 then (if has_bits 8 flags then refused rules.W08 else publish_unacknowledged (has_bits 1 flags)) else
+    if bit_and flags 6 == 2 then publish_acknowledged (has_bits 8 flags) AtLeastOnce (has_bits 1 flags) else
+    if bit_and flags 6 == 4 then publish_acknowledged (has_bits 8 flags) ExactlyOnce (has_bits 1 flags) else
     refused rules.W07
 
 -- The property list of a place at the end of a packet, which may be left out with all that it has.
@@ -249,24 +252,29 @@ ending_format kind =
     (field byte (code_objection (ending_codes kind)) (λ code.
     last_properties (ending_place kind) (ending kind code)))
 
--- The format of a body after a first byte: the packet's type, and the flags that it must have (2.1.2, 2.1.3).
+-- The format of a packet of this type with these flags (2.1.2, 2.1.3).
+abbrev pub format_by_type : PacketType → ℕ → Format
+format_by_type types.Connect flags = connect_format
+format_by_type types.Connack flags = connack_format
+format_by_type types.Publish flags = publish_format flags
+format_by_type types.Puback flags = acknowledgement_format acknowledgements.Puback
+format_by_type types.Pubrec flags = acknowledgement_format acknowledgements.Pubrec
+format_by_type types.Pubrel flags = acknowledgement_format acknowledgements.Pubrel
+format_by_type types.Pubcomp flags = acknowledgement_format acknowledgements.Pubcomp
+format_by_type types.Subscribe flags = request_format requests.Subscribe
+format_by_type types.Suback flags = answer_format requests.Subscribe
+format_by_type types.Unsubscribe flags = request_format requests.Unsubscribe
+format_by_type types.Unsuback flags = answer_format requests.Unsubscribe
+format_by_type types.Pingreq flags = done pingreq
+format_by_type types.Pingresp flags = done pingresp
+format_by_type types.Disconnect flags = ending_format endings.Disconnect
+format_by_type types.Auth flags = ending_format endings.Auth
+
+-- The same, if there is such a type, and it may have these flags.
+abbrev pub format_by : Option PacketType → ℕ → Format
+format_by None flags = refused rules.W02
+format_by (Some type) flags = if are_flags (reserved_flags type) flags then format_by_type type flags else refused rules.W01
+
+-- The format of a body after a first byte (2.1.1).
 abbrev pub format_of : ℕ → Format
-format_of first =
-    if nat_lt first 16 then refused rules.W02 else
-    if first == 16 then connect_format else
-    if first == 32 then connack_format else
-    if nat_lt first 48 then refused rules.W01 else
-    if nat_lt first 64 then publish_format first else
-    if first == 64 then acknowledgement_format acknowledgements.Puback else
-    if first == 80 then acknowledgement_format acknowledgements.Pubrec else
-    if first == 98 then acknowledgement_format acknowledgements.Pubrel else
-    if first == 112 then acknowledgement_format acknowledgements.Pubcomp else
-    if first == 130 then request_format requests.Subscribe else
-    if first == 144 then answer_format requests.Subscribe else
-    if first == 162 then request_format requests.Unsubscribe else
-    if first == 176 then answer_format requests.Unsubscribe else
-    if first == 192 then done pingreq else
-    if first == 208 then done pingresp else
-    if first == 224 then ending_format endings.Disconnect else
-    if first == 240 then ending_format endings.Auth else
-    refused rules.W01
+format_of first = format_by (type_in first) (flags_in first)

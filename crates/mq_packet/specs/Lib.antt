@@ -1,5 +1,6 @@
 pub mod ReasonCodes
 pub mod Entries
+pub mod FirstBytes
 pub mod Formats
 pub mod Decoding
 pub mod Misspellings

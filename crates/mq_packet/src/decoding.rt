@@ -15,6 +15,7 @@ ghost use Rattle.mq_packet.specs.Reading.{view, HasReadLen, Gives, fault_of};
 ghost use Rattle.mq_packet.specs.Sizes.{remaining_length};
 
 use crate::fault::{BodyFault, DecodeFault};
+use crate::first_bytes::flags;
 use crate::packet::{Packet, Publish};
 use crate::reading::{read_packet, read_publish};
 use crate::stop::Stop;
@@ -80,7 +81,7 @@ fn read_publish_body<'a>(first: u8, body: &'a [u8]) -> Result<Publish<'a>, Decod
     ensures exact { Gives (λ publish. view (packets.Publish publish)) result (decoded first body.now) }
 {
     let cursor = Cursor::starting_at(body, start_of_body(body.len()));
-    match read_publish(first, cursor) {
+    match read_publish(flags(first), cursor) {
         Ok(publish) => Ok(publish),
         Err(stop) => Err(fault_of(stop)),
     }

@@ -10,6 +10,7 @@ mod decoding;
 mod facts;
 mod fault;
 mod filters;
+mod first_bytes;
 mod frame;
 mod front_laws;
 mod header;

@@ -15,6 +15,10 @@ ghost use Rattle.mq_packet.specs.Formats.{format_of};
 ghost use Rattle.mq_packet.specs.Decoding.{read};
 ghost use Rattle.mq_packet.specs.Reading.{view, HasReadLen, Reads};
 
+use crate::first_bytes::{
+    AUTH, CONNACK, CONNECT, DISCONNECT, PINGREQ, PINGRESP, PUBACK, PUBCOMP, PUBLISH, PUBREC,
+    PUBREL, SUBACK, SUBSCRIBE, UNSUBACK, UNSUBSCRIBE, flags,
+};
 use crate::packet::{AcknowledgementKind, EndingKind, Packet, RequestKind};
 use crate::rule::PacketRule;
 use crate::stop::Stop;
@@ -39,11 +43,17 @@ pub fn read_packet<'a>(first: u8, cursor: Cursor<'a>, size: usize) -> Result<Pac
     ensures read_len { IfOk result (λ packet. HasReadLen size packet) }
 {
     match first {
-        0x30..0x40 => read_publish(first, cursor).map(Packet::Publish),
-        0x40 => read_acknowledgement(cursor, AcknowledgementKind::Puback, size).map(Packet::Puback),
-        0x50 => read_acknowledgement(cursor, AcknowledgementKind::Pubrec, size).map(Packet::Pubrec),
-        0x62 => read_acknowledgement(cursor, AcknowledgementKind::Pubrel, size).map(Packet::Pubrel),
-        0x70 => read_acknowledgement(cursor, AcknowledgementKind::Pubcomp, size).map(
+        PUBLISH..PUBACK => read_publish(flags(first), cursor).map(Packet::Publish),
+        PUBACK => read_acknowledgement(cursor, AcknowledgementKind::Puback, size).map(
+            Packet::Puback,
+        ),
+        PUBREC => read_acknowledgement(cursor, AcknowledgementKind::Pubrec, size).map(
+            Packet::Pubrec,
+        ),
+        PUBREL => read_acknowledgement(cursor, AcknowledgementKind::Pubrel, size).map(
+            Packet::Pubrel,
+        ),
+        PUBCOMP => read_acknowledgement(cursor, AcknowledgementKind::Pubcomp, size).map(
             Packet::Pubcomp,
         ),
         // Taken apart and put together, this packet has its own place, and the others need none in memory.
@@ -62,17 +72,17 @@ fn read_other<'a>(first: u8, cursor: Cursor<'a>, size: usize) -> Result<Packet<'
     ensures read_len { IfOk result (λ packet. HasReadLen size packet) }
 {
     match first {
-        0x10 => read_connect(cursor).map(Packet::Connect),
-        0x20 => read_connack(cursor).map(Packet::Connack),
-        0x82 => read_request(cursor, RequestKind::Subscribe).map(Packet::Subscribe),
-        0x90 => read_answer(cursor, RequestKind::Subscribe).map(Packet::Suback),
-        0xa2 => read_request(cursor, RequestKind::Unsubscribe).map(Packet::Unsubscribe),
-        0xb0 => read_answer(cursor, RequestKind::Unsubscribe).map(Packet::Unsuback),
-        0xc0 => whole(cursor, Packet::Pingreq),
-        0xd0 => whole(cursor, Packet::Pingresp),
-        0xe0 => read_ending(cursor, EndingKind::Disconnect, size).map(Packet::Disconnect),
-        0xf0 => read_ending(cursor, EndingKind::Auth, size).map(Packet::Auth),
-        0x00..0x10 => Err(refused(PacketRule::W02)),
+        CONNECT => read_connect(cursor).map(Packet::Connect),
+        CONNACK => read_connack(cursor).map(Packet::Connack),
+        SUBSCRIBE => read_request(cursor, RequestKind::Subscribe).map(Packet::Subscribe),
+        SUBACK => read_answer(cursor, RequestKind::Subscribe).map(Packet::Suback),
+        UNSUBSCRIBE => read_request(cursor, RequestKind::Unsubscribe).map(Packet::Unsubscribe),
+        UNSUBACK => read_answer(cursor, RequestKind::Unsubscribe).map(Packet::Unsuback),
+        PINGREQ => whole(cursor, Packet::Pingreq),
+        PINGRESP => whole(cursor, Packet::Pingresp),
+        DISCONNECT => read_ending(cursor, EndingKind::Disconnect, size).map(Packet::Disconnect),
+        AUTH => read_ending(cursor, EndingKind::Auth, size).map(Packet::Auth),
+        0x00..CONNECT => Err(refused(PacketRule::W02)),
         _ => Err(refused(PacketRule::W01)),
     }
 }

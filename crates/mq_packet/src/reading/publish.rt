@@ -24,19 +24,19 @@ const QOS: u8 = 0x06;
 /// The flag RETAIN (MQTT 5.0, section 3.3.1.3).
 const RETAIN: u8 = 0x01;
 
-/// Reads a PUBLISH with this first byte (MQTT 5.0, section 3.3) from all that is left.
+/// Reads a PUBLISH with these flags (MQTT 5.0, section 3.3) from all that is left.
 ///
 /// # Errors
 ///
-/// W07 or W08 where the first byte breaks it; else the first rule that a field breaks: a rule of texts, W06, W09, W14, W21, or one
+/// W07 or W08 where the flags break it; else the first rule that a field breaks: a rule of texts, W06, W09, W14, W21, or one
 /// of its property list.
 #[inline(always)]
-pub fn read_publish<'a>(first: u8, cursor: Cursor<'a>) -> Result<Publish<'a>, Stop>
-    ensures { Reads (λ p. publish (publish_view p)) result (read (publish_format first) cursor.entry) }
+pub fn read_publish<'a>(flags: u8, cursor: Cursor<'a>) -> Result<Publish<'a>, Stop>
+    ensures { Reads (λ p. publish (publish_view p)) result (read (publish_format flags) cursor.entry) }
 {
-    let duplicate = first & DUP != 0;
-    let retain = first & RETAIN != 0;
-    match first & QOS {
+    let duplicate = flags & DUP != 0;
+    let retain = flags & RETAIN != 0;
+    match flags & QOS {
         0 => read_unacknowledged(cursor, duplicate, retain),
         0x02 => read_acknowledged(cursor, duplicate, Qos::AtLeastOnce, retain),
         0x04 => read_acknowledged(cursor, duplicate, Qos::ExactlyOnce, retain),

@@ -5,6 +5,10 @@ ghost use Rattle.std.specs.Option.{option_map};
 ghost use Rattle.mq_packet.specs.Reading.{view, will_view};
 ghost use Rattle.mq_packet.specs.Canonical.{bit, qos_bits, will_flags, first_byte};
 
+use crate::first_bytes::{
+    AUTH, CONNACK, CONNECT, DISCONNECT, PINGREQ, PINGRESP, PUBACK, PUBCOMP, PUBLISH, PUBREC,
+    PUBREL, SUBACK, SUBSCRIBE, UNSUBACK, UNSUBSCRIBE,
+};
 use crate::packet::{Connect, Packet, Publish, Qos, Will};
 
 // The flag as the bit of this weight.
@@ -63,7 +67,7 @@ pub fn connect_flags(packet: &Connect<'_>) -> u8
 fn publish_first(packet: &Publish<'_>) -> u8
     ensures { result ≡ first_byte (view (Packet.Publish packet.now)) }
 {
-    48 + (bit(8, packet.duplicate) + qos_bits(2, packet.qos) + bit(1, packet.retain))
+    PUBLISH + (bit(8, packet.duplicate) + qos_bits(2, packet.qos) + bit(1, packet.retain))
 }
 
 /// The first byte: the packet's type and its flags (MQTT 5.0, section 2.1.1).
@@ -71,20 +75,20 @@ pub fn first_byte(packet: &Packet<'_>) -> u8
     ensures { result ≡ first_byte (view packet.now) }
 {
     match packet {
-        Packet::Connect(_) => 0x10,
-        Packet::Connack(_) => 0x20,
+        Packet::Connect(_) => CONNECT,
+        Packet::Connack(_) => CONNACK,
         Packet::Publish(packet) => publish_first(packet),
-        Packet::Puback(_) => 0x40,
-        Packet::Pubrec(_) => 0x50,
-        Packet::Pubrel(_) => 0x62,
-        Packet::Pubcomp(_) => 0x70,
-        Packet::Subscribe(_) => 0x82,
-        Packet::Suback(_) => 0x90,
-        Packet::Unsubscribe(_) => 0xA2,
-        Packet::Unsuback(_) => 0xB0,
-        Packet::Pingreq => 0xC0,
-        Packet::Pingresp => 0xD0,
-        Packet::Disconnect(_) => 0xE0,
-        Packet::Auth(_) => 0xF0,
+        Packet::Puback(_) => PUBACK,
+        Packet::Pubrec(_) => PUBREC,
+        Packet::Pubrel(_) => PUBREL,
+        Packet::Pubcomp(_) => PUBCOMP,
+        Packet::Subscribe(_) => SUBSCRIBE,
+        Packet::Suback(_) => SUBACK,
+        Packet::Unsubscribe(_) => UNSUBSCRIBE,
+        Packet::Unsuback(_) => UNSUBACK,
+        Packet::Pingreq => PINGREQ,
+        Packet::Pingresp => PINGRESP,
+        Packet::Disconnect(_) => DISCONNECT,
+        Packet::Auth(_) => AUTH,
     }
 }
