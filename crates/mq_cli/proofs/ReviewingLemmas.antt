@@ -8,7 +8,7 @@ use Rattle.std.specs.Result.{result_ok}
 use Rattle.std.specs.Str.Parse.{AllDigits, ParsesUnsigned, digits_value, without_leading_plus}
 use Rattle.mq_rules.specs.declared.role.Role.{Role}
 use Rattle.mq_rules.specs.Marks.{FaultMap}
-use Rattle.mq_rules.proofs.BoolLaws.{both_true}
+use Rattle.mq_rules.proofs.Exports.{both_true}
 use Rattle.mq_trace.specs.Events.{Placed, events}
 use Rattle.mq_judge.specs.declared.Form.TheVariants.{Text, Json}
 use Rattle.mq_judge.specs.declared.Refusal.{Refusal}

@@ -13,7 +13,7 @@ use Rattle.mq_judge.specs.Report.{AppendsBeginning, refused_line, refused_report
 use Rattle.mq_judge.specs.Running.{RunsOver, default_limit}
 use Rattle.mq_judge.specs.Showing.{Shows}
 use Rattle.mq_judge.specs.Stopping.{IsRefusedAt, IsRefusedNext, IsUnread}
-use Rattle.mq_judge.proofs.Writes.{appends-kept, appends-then}
+use Rattle.mq_judge.proofs.Exports.{appends-kept, appends-then}
 use Rattle.mq_cli.specs.Told.{AppendsAfter, AppendsPart, BeginsRefusal, IsOfLog, LacksMemory, IsRefusedBy, RefusesCheck, RefusesShow, StopsCheck, StopsShow, failure_of}
 use Rattle.mq_cli.specs.declared.failure.Failure.{Failure}
 use Rattle.mq_cli.specs.declared.failure.Failure.TheVariants as failures

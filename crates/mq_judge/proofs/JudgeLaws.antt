@@ -11,7 +11,7 @@ use Rattle.mq_trace.specs.Events.{Placed, events, events_back}
 use Rattle.mq_trace.specs.Refusals.{refused, is_cut_short}
 use Rattle.mq_trace.specs.Refusing.{moved}
 use Rattle.mq_trace.specs.Tracing.{Traced, Follows as IsTracedTo, Takes as TracerTakes, Why}
-use Rattle.mq_trace.proofs.ContextLaws.{header-behind}
+use Rattle.mq_trace.proofs.Exports.{header-behind}
 use Rattle.mq_rules.specs.declared.note.Seen.{Seen}
 use Rattle.mq_rules.specs.declared.role.Tested.{Tested}
 use Rattle.mq_rules.specs.declared.rule.Rule.{Rule}
@@ -24,7 +24,7 @@ use Rattle.mq_rules.specs.Marks.{FaultMap, fault_at}
 use Rattle.mq_rules.specs.Notes.{tested_as, tested_by, seen, seen_in}
 use Rattle.mq_judge.specs.Judging.{Judged, Follows, HasRefused, Refuses, Takes, TakesEvents, AreFaultsOf, judge_of, tested_in}
 use Rattle.mq_judge.specs.Stopping.{IsRefusedByte}
-use Rattle.mq_rules.proofs.OrderLaws.{orderly}
+use Rattle.mq_rules.proofs.Exports.{orderly}
 
 -- a log of no bytes has no events
 seen-nothing : seen_in [] ≡ []

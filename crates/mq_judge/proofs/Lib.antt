@@ -15,3 +15,4 @@ pub mod DetailLaws
 pub mod OneLineLaws
 pub mod NearLaws
 pub mod ViewLaws
+pub mod Exports

@@ -22,7 +22,7 @@ use Rattle.mq_judge.specs.Running.{default_limit, found_in, outcome_of, IsJudged
 use Rattle.mq_judge.proofs.JudgeLaws.{unrefused}
 use Rattle.mq_judge.proofs.FeedingLaws.{whole-taken, some-taken, pieces-are}
 use Rattle.mq_judge.specs.Chosen.{is_judged}
-use Rattle.mq_rules.proofs.ListingLaws.{entries-listed}
+use Rattle.mq_rules.proofs.Exports.{entries-listed}
 
 -- nothing is refused in what a judge with the default limit follows
 unrefused-yet : {judge : Judged} (log : List ℕ) → judge.limit ≡ default_limit → Follows judge log → refused default_limit log ≡ None

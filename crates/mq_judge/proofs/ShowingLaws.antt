@@ -15,7 +15,7 @@ use Rattle.mq_judge.specs.Outgoing.{Sends}
 use Rattle.mq_judge.specs.Showing.{Shows, WritesBeginning}
 use Rattle.mq_judge.specs.Stopping.{IsRefusedByte}
 use Rattle.mq_judge.specs.Tracing.{TraceStops, HasFailedIn, ShowStops}
-use Rattle.mq_trace.proofs.ContextLaws.{events-nothing}
+use Rattle.mq_trace.proofs.Exports.{events-nothing}
 use Rattle.mq_judge.proofs.FeedingLaws.{whole-taken, some-taken, pieces-are}
 use Rattle.mq_judge.proofs.Writes.{appends-nothing, last-written, stopped-in-last}
 

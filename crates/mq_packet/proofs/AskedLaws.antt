@@ -3,7 +3,7 @@ use Rattle.std.proofs.Common.{◌≡◌, ℕ, Bool, true, false, List, [], ◌++
 use Rattle.std.proofs.lemmas.List.{drop_at}
 use Rattle.mq_wire.specs.Fields.{binary_at, text_at}
 use Rattle.mq_wire.specs.Spellings.{text_spelling}
-use Rattle.mq_wire.proofs.Exact.{text_exact}
+use Rattle.mq_wire.proofs.Exports.{text_exact}
 use Rattle.mq_packet.specs.Entries.{AskedFilter}
 use Rattle.mq_packet.specs.Asking.{AreOptions, IsAsked, options_spelling, asked_spelling}
 use Rattle.mq_packet.specs.Elements.{asked_with, asked_behind, asked_at}

@@ -7,7 +7,7 @@ use Rattle.mq_wire.specs.declared.fault.Reason.{Reason}
 use Rattle.mq_wire.specs.declared.fault.Reason.TheVariants as reasons
 use Rattle.mq_wire.specs.Fields.{varint_at}
 use Rattle.mq_wire.specs.Spellings.{AreBytes, IsVarint, Stands, text_spelling, binary_spelling, two_bytes_spelling, varint_spelling}
-use Rattle.mq_wire.proofs.Varint.{varint_exact}
+use Rattle.mq_wire.proofs.Exports.{varint_exact}
 use Rattle.mq_props.specs.declared.table.Place.TheVariants as places
 use Rattle.mq_packet.specs.declared.packet.Packet.{Packet}
 use Rattle.mq_packet.specs.declared.packet.Packet.TheVariants as packets

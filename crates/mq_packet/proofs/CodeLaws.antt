@@ -7,8 +7,7 @@ use Rattle.std.proofs.lemmas.List.{append-nil}
 use Rattle.std.proofs.lemmas.List.Folds.{list_all-append}
 use Rattle.mq_wire.specs.Left.{Left, past, placed}
 use Rattle.mq_wire.specs.Fields.{byte_at}
-use Rattle.mq_wire.proofs.Exact.{done_is as read_as_is}
-use Rattle.mq_wire.proofs.Placed.{placed_ok}
+use Rattle.mq_wire.proofs.Exports.{done_is as read_as_is, placed_ok}
 use Rattle.mq_packet.specs.declared.fault.DecodeFault.{DecodeFault}
 use Rattle.mq_packet.specs.declared.rule.PacketRule.TheVariants as rules
 use Rattle.mq_packet.specs.Formats.{byte, unless_broken, is_code, code_objection}

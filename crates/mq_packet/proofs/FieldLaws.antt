@@ -10,18 +10,14 @@ use Rattle.mq_wire.specs.FieldTypes.{FieldType, byte as one_byte, two_byte_integ
 use Rattle.mq_wire.specs.Misspelled.{RefusesMisspelled}
 use Rattle.mq_wire.specs.Spellings.{AreBytes, Stands, IsExact}
 use Rattle.mq_wire.specs.Plain.{is_plain, is_plain_byte}
-use Rattle.mq_wire.proofs.Placed.{placed_ok, placed_err}
-use Rattle.mq_wire.proofs.PlainLaws.{both}
-use Rattle.mq_wire.proofs.Exact.{byte_exact, two_bytes_exact, text_exact, binary_exact}
-use Rattle.mq_wire.proofs.MisspelledLaws.{byte_misspelled, two_bytes_misspelled, text_misspelled, binary_misspelled}
+use Rattle.mq_wire.proofs.Exports.{placed_ok, placed_err, both, byte_exact, two_bytes_exact, text_exact, binary_exact, byte_misspelled, two_bytes_misspelled, text_misspelled, binary_misspelled}
 use Rattle.mq_topic.specs.Levels.{is_name}
 use Rattle.mq_props.specs.declared.fault.PropFault.{PropFault}
 use Rattle.mq_props.specs.declared.table.Place.{Place}
 use Rattle.mq_props.specs.Values.{Property}
 use Rattle.mq_props.specs.Allowed.{Lists}
 use Rattle.mq_props.specs.Reading.{list_on}
-use Rattle.mq_props.proofs.Lists.{Listing, list_found, list_only, list_breaks}
-use Rattle.mq_props.proofs.Broken.{breaks_list}
+use Rattle.mq_props.proofs.Exports.{Listing, list_found, list_only, list_breaks, breaks_list}
 use Rattle.mq_packet.specs.declared.fault.DecodeFault.{DecodeFault}
 use Rattle.mq_packet.specs.Formats.{Kind, byte, two_bytes, text, binary, properties, Value, topic_objection}
 use Rattle.mq_packet.specs.Decoding.{broken, rule_of, list_rule, spelled, spelled_list, field_on, read_field}

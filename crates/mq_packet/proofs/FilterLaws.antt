@@ -8,7 +8,7 @@ use Rattle.std.proofs.lemmas.List.Concat.{flat_map-append}
 use Rattle.mq_wire.specs.declared.fault.WireFault.{WireFault}
 use Rattle.mq_wire.specs.Left.{Left}
 use Rattle.mq_wire.specs.Spellings.{AreBytes, text_spelling}
-use Rattle.mq_wire.proofs.Bytes.{AreBytes-drop}
+use Rattle.mq_wire.proofs.Exports.{AreBytes-drop}
 use Rattle.mq_packet.specs.declared.fault.DecodeFault.{DecodeFault}
 use Rattle.mq_packet.specs.declared.rule.PacketRule.{PacketRule}
 use Rattle.mq_packet.specs.declared.rule.PacketRule.TheVariants as rules

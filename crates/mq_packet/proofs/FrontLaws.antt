@@ -8,8 +8,7 @@ use Rattle.mq_wire.specs.declared.fault.Reason.TheVariants as reasons
 use Rattle.mq_wire.specs.Fields.{varint_at}
 use Rattle.mq_wire.specs.Misspelled.{IsCutShort, NoneStands}
 use Rattle.mq_wire.specs.Spellings.{AreBytes, IsVarint, Stands, varint_spelling}
-use Rattle.mq_wire.proofs.Refusals.{varint_refused}
-use Rattle.mq_wire.proofs.Varint.{varint_exact}
+use Rattle.mq_wire.proofs.Exports.{varint_refused, varint_exact}
 use Rattle.mq_packet.specs.declared.frame.Cut.{Cut}
 use Rattle.mq_packet.specs.declared.frame.Cut.TheVariants.{Need, Frame, Lost}
 use Rattle.mq_packet.specs.Stream.{header_with, fixed_header_of, remaining_length, is_overlong, is_lost}

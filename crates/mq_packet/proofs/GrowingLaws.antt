@@ -5,7 +5,7 @@ use Rattle.std.proofs.lemmas.Bool.{and_parts, leb-true, not-true}
 use Rattle.mq_wire.specs.declared.fault.PutFault.{PutFault}
 use Rattle.mq_wire.specs.declared.fault.PutFault.TheVariants.{TooLong, Nul, Memory}
 use Rattle.mq_wire.specs.Spellings.{text_spelling, binary_spelling, varint_spelling, has_nul}
-use Rattle.mq_wire.proofs.RoomLaws.{counted_room, text_room}
+use Rattle.mq_wire.proofs.Exports.{counted_room, text_room}
 use Rattle.mq_topic.specs.Levels.{is_name}
 use Rattle.mq_props.specs.declared.table.Place.TheVariants as places
 use Rattle.mq_props.specs.Table.{same_place}

@@ -24,3 +24,4 @@ pub mod AskedLaws
 pub mod FilterLaws
 pub mod CodeLaws
 pub mod FirstByteLaws
+pub mod Exports

@@ -6,15 +6,12 @@ use Rattle.std.proofs.Common.{length-drop}
 use Rattle.mq_wire.specs.declared.fault.Reason.{Reason}
 use Rattle.mq_wire.specs.Left.{Left, placed, past}
 use Rattle.mq_wire.specs.Fields.{byte_at, two_bytes_at, varint_at, text_at, binary_at}
-use Rattle.mq_wire.proofs.Placed.{placed_ok}
+use Rattle.mq_wire.proofs.Exports.{placed_ok}
 use Rattle.mq_props.specs.declared.fault.PropFault.{PropFault}
 use Rattle.mq_props.specs.declared.table.Place.{Place}
 use Rattle.mq_props.specs.Values.{Property}
 use Rattle.mq_props.specs.Reading.{◌>>=◌ as ◌>=>◌, from_wire, counted, properties_on, list_on}
-use Rattle.mq_props.proofs.Steps.{bind_ok, done_is, from_wire_ok}
-use Rattle.mq_props.proofs.Lists.{counted_ok}
-use Rattle.mq_props.proofs.Sizes.{taken_by, byte_within, two_bytes_within, varint_within, text_within, binary_within}
-use Rattle.mq_props.proofs.Within.{list_err_within}
+use Rattle.mq_props.proofs.Exports.{bind_ok, done_is, from_wire_ok, counted_ok, taken_by, byte_within, two_bytes_within, varint_within, text_within, binary_within, list_err_within}
 use Rattle.mq_packet.specs.declared.rule.PacketRule.{PacketRule}
 use Rattle.mq_packet.specs.declared.rule.PacketRule.TheVariants as rules
 use Rattle.mq_packet.specs.declared.fault.DecodeFault.{DecodeFault}

@@ -12,7 +12,7 @@ use Rattle.mq_plain.specs.Received.{IsReceived, IsSent}
 use Rattle.mq_rules.specs.Moments.{Moment, newest, since}
 use Rattle.mq_rules.specs.Connections.{begun, latest_fate, session, has_session, with_first, begins, accepted, voided, any_accepted}
 use Rattle.mq_plain.specs.Lookback.{answer_by}
-use Rattle.mq_rules.proofs.BoolLaws.{differ, and_false}
+use Rattle.mq_rules.proofs.Exports.{differ, and_false}
 
 -- what an event tells by itself, and else whether the session begins there, and else what stands before it
 pub asked_back : (starts ends : Moment → Bool) (role : Role) (f : Option Fate) (e : Seen) (past : List Seen)

@@ -4,7 +4,7 @@ use Rattle.mq_rules.specs.declared.note.Seen.{Seen}
 use Rattle.mq_rules.specs.Notes.{is_open}
 use Rattle.mq_rules.specs.Moments.{Moment, newest, some, count}
 use Rattle.mq_rules.specs.Connections.{connection}
-use Rattle.mq_rules.proofs.ConnLaws.{connection-next, some-next}
+use Rattle.mq_rules.proofs.Exports.{connection-newest, some-next}
 
 -- an OPEN that fails the test is the last of its connection to look at
 pub none_at_open : (test : Moment → Bool) (e : Seen) (past : List Seen) → test (newest e past) ≡ false → is_open e.note ≡ true → some test (connection (e ∷ past)) ≡ false
@@ -12,7 +12,7 @@ none_at_open test e past fails opens = some-next test e past ∙ ap (λ b. b || 
 
 -- how many pass, one event further back
 count-next : (test : Moment → Bool) (e : Seen) (past : List Seen) → count test (connection (e ∷ past)) ≡ cond (test (newest e past)) 1 0 + cond (is_open e.note) 0 (count test (connection past))
-count-next test e past = ap (count test) (connection-next e past) ∙ ap (λ n. cond (test (newest e past)) 1 0 + n) (go (is_open e.note))
+count-next test e past = ap (count test) (connection-newest e past) ∙ ap (λ n. cond (test (newest e past)) 1 0 + n) (go (is_open e.note))
   where
     go : (b : Bool) → count test (cond b [] (connection past)) ≡ cond b 0 (count test (connection past))
     go true = refl

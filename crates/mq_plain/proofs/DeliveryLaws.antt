@@ -17,12 +17,11 @@ use Rattle.std.specs.List.{list_any}
 use Rattle.std.proofs.Math.Seq.{drop-append_seam}
 use Rattle.std.proofs.lemmas.List.{reverse-append, reverse-reverse, length-append}
 use Rattle.std.proofs.lemmas.List.Folds.{list_any-append}
-use Rattle.mq_rules.proofs.BoolLaws.{and_false}
+use Rattle.mq_rules.proofs.Exports.{and_false, connection-next}
 use Rattle.mq_rules.specs.declared.note.Note.{Note}
 use Rattle.mq_rules.specs.declared.note.Note.TheVariants as notes
 use Rattle.std.proofs.lemmas.Bool.{ne_eqb, eq-eqb}
 use Rattle.std.proofs.lemmas.Bool.Decides.{nat_tests}
-use Rattle.mq_rules.proofs.FateLaws.{connection-next}
 
 -- ---- topics
 

@@ -9,8 +9,7 @@ use Rattle.mq_rules.specs.Words.{or_else}
 use Rattle.mq_rules.specs.Notes.{is_open}
 use Rattle.mq_rules.specs.Moments.{Moment, newest, note, earliest_since}
 use Rattle.mq_rules.specs.Connections.{connection, latest_fate, session, has_session, with_first, begins}
-use Rattle.mq_rules.proofs.BoolLaws.{or_else-none}
-use Rattle.mq_rules.proofs.FateLaws.{connection-next}
+use Rattle.mq_rules.proofs.Exports.{or_else-none, connection-next}
 
 -- on a connection, one event further back
 pub earliest-connection : (starts ends : Note → Bool) (e : Seen) (past : List Seen)

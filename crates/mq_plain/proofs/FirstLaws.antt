@@ -10,9 +10,7 @@ use Rattle.mq_rules.specs.Notes.{is_open, sent_item, received_item}
 use Rattle.mq_rules.specs.Moments.{Moment, newest, note, moments, moment, position, is_same, since, earliest_since, Among, IsDescending}
 use Rattle.mq_rules.specs.Connections.{number, begun, connection}
 use Rattle.mq_rules.specs.Exchanges.{Exchange, causes, answers, shows_R}
-use Rattle.mq_rules.proofs.BoolLaws.{differ, and_false}
-use Rattle.mq_rules.proofs.ConnLaws.{connection-next}
-use Rattle.mq_rules.proofs.PositionLaws.{among-within, moment-among, moments-descend, those-among, those-descend, earliest_since-is}
+use Rattle.mq_rules.proofs.Exports.{differ, and_false, connection-newest, among-within, moment-among, moments-descend, those-among, those-descend, earliest_since-is}
 use Rattle.mq_plain.specs.declared.exchanges.slot.Slot.{Slot}
 use Rattle.mq_plain.specs.Received.{IsReceived, IsSent}
 use Rattle.mq_plain.specs.Tables.{at}
@@ -66,7 +64,7 @@ shown-newest x i e past asks plain closed =
     first = earliest_since (causes x i) (answers x i) (connection past)
 
     here : since (is_same (newest e past)) (answers x i) (connection (e ∷ past)) ≡ true
-    here = ap (since (is_same (newest e past)) (answers x i)) (connection-next e past)
+    here = ap (since (is_same (newest e past)) (answers x i)) (connection-newest e past)
         ∙ ap (λ b. b || (not (is_id i (x.answer e.note)) && since (is_same (newest e past)) (answers x i) (cond (is_open e.note) [] (connection past)))) (eq-eqb (length past + 1) (length past + 1) refl)
 
     go : (o : Option Moment) → first ≡ o → (not (is_some o) && true) ≡ is_id (length past) (option_map (λ m. length m.past) (or_else o (Some (newest e past))))
@@ -78,7 +76,7 @@ shown-older : (x : Exchange) (i : ℕ) (e : Seen) (past : List Seen) (m : Moment
     → (fresh && since (is_same m) (answers x i) (connection past)) ≡ is_id (length m.past) (first_index x i past)
     → (fresh && since (is_same m) (answers x i) (connection (e ∷ past))) ≡ is_id (length m.past) (first_index x i (e ∷ past))
 shown-older x i e past m fresh within before =
-    ap (λ b. fresh && b) (ap (since (is_same m) (answers x i)) (connection-next e past)
+    ap (λ b. fresh && b) (ap (since (is_same m) (answers x i)) (connection-newest e past)
     ∙ ap (λ b. b || (not (is_id i (x.answer e.note)) && since (is_same m) (answers x i) (cond (is_open e.note) [] (connection past)))) other)
     ∙ go (is_id i (x.answer e.note)) (is_open e.note) (is_id i (x.cause e.note)) (earliest_since (causes x i) (answers x i) (connection past)) before
     ∙ sym (ap (λ o. is_id (length m.past) (option_map (λ n. length n.past) o)) (unanswered-next (causes x i) (answers x i) e past))

@@ -12,8 +12,7 @@ use Rattle.mq_rules.specs.Pasts.{receive_maximum}
 use Rattle.mq_rules.specs.Identifiers.{counts, has_announced}
 use Rattle.mq_plain.specs.declared.handshake.Handshake.{Handshake}
 use Rattle.mq_plain.specs.Handshakes.{handshake, receive_maximum_in, counts_after, bounds_sending}
-use Rattle.mq_rules.proofs.BoolLaws.{or_false}
-use Rattle.mq_rules.proofs.FateLaws.{connection-next}
+use Rattle.mq_rules.proofs.Exports.{or_false, connection-next}
 
 -- what is found at the earliest event of a connection, with one event more
 pub earliest-next : {A : Type 0} (found : Note → Option A) (e : Seen) (past : List Seen)

@@ -22,10 +22,7 @@ use Rattle.mq_rules.specs.Steps.{turns, JudgedAtOnce}
 use Rattle.mq_rules.specs.Marks.{FaultMap, fault_at, judged}
 use Rattle.mq_rules.specs.Faults.{offset_of, reported}
 use Rattle.mq_rules.specs.Keeping.{news, GrowsBy, GrowsByWithin}
-use Rattle.mq_rules.proofs.BoolLaws.{and_false, or-turn, or_else-none}
-use Rattle.mq_rules.proofs.MarkLaws.{fault_at-judged}
-use Rattle.mq_rules.proofs.FateLaws.{latest_fate-next}
-use Rattle.mq_rules.proofs.SubjectLaws.{in_order-turns, in_order-releases}
+use Rattle.mq_rules.proofs.Exports.{and_false, or-turn, or_else-none, fault_at-judged, latest_fate-next, in_order-turns, in_order-releases}
 use Rattle.mq_plain.specs.declared.turn.Turn.{Turn}
 use Rattle.mq_plain.specs.Events.{Comes, asks, some_asks}
 

@@ -8,7 +8,7 @@ use Rattle.mq_rules.specs.declared.note.Seen.{Seen}
 use Rattle.mq_rules.specs.Notes.{is_open, is_release}
 use Rattle.mq_rules.specs.Moments.{Moment, newest, position, note, is_same, since}
 use Rattle.mq_rules.specs.Connections.{session, has_session, with_first, begins, accepted, latest_fate}
-use Rattle.mq_rules.proofs.BoolLaws.{and_false, differ}
+use Rattle.mq_rules.proofs.Exports.{and_false, differ}
 
 -- ---- one moment in a session
 

@@ -17,8 +17,7 @@ use Rattle.mq_rules.specs.Moments.{Moment, newest, position, note, moments, mome
 use Rattle.mq_rules.specs.Connections.{begun, number, connection, session, has_session, begins, accepted, resumed, voided, any_accepted, latest_fate}
 use Rattle.mq_rules.specs.declared.fate.Fate.TheVariants.{Void, New, Resumed}
 use Rattle.mq_rules.specs.Identifiers.{opens, closes, is_used_up, has_announced, shows_S06}
-use Rattle.mq_rules.proofs.BoolLaws.{and_false, or_false}
-use Rattle.mq_rules.proofs.PositionLaws.{moment-newest, moment-older, moment-beginning, moment-placed, among-moment, those-among, some-among, among-some}
+use Rattle.mq_rules.proofs.Exports.{and_false, or_false, moment-newest, moment-older, moment-beginning, moment-placed, among-moment, those-among, some-among, among-some}
 use Rattle.mq_plain.specs.Owing.{moves, confirms, sends, is_owed, owes}
 use Rattle.mq_plain.specs.Shown.{IsShown}
 use Rattle.mq_plain.proofs.MarkedLaws.{IsMarked, since-newest, since-begun, marked-start, marked-step}

@@ -7,8 +7,7 @@ use Rattle.mq_rules.specs.Words.{is_id, is_some_and}
 use Rattle.mq_rules.specs.Moments.{Moment, note, position, is_same, is_after, some, since, earliest_since, Among, IsDescending, IsEarliestSince}
 use Rattle.mq_rules.specs.Connections.{connection}
 use Rattle.mq_rules.specs.Exchanges.{Exchange, causes, answers}
-use Rattle.mq_rules.proofs.BoolLaws.{both_true, and_true, same_test, differ, there}
-use Rattle.mq_rules.proofs.PositionLaws.{some-among, among-some, since-stands, stands-since, earliest_since-there, earliest_since-is}
+use Rattle.mq_rules.proofs.Exports.{both_true, and_true, same_test, differ, there, some-among, among-some, since-stands, stands-since, earliest_since-there, earliest_since-is}
 use Rattle.mq_plain.specs.declared.exchanges.slot.Slot.{Slot}
 use Rattle.mq_plain.specs.Received.{IsReceived, IsSent}
 use Rattle.mq_plain.specs.Tables.{at}

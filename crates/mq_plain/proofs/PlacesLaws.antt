@@ -9,7 +9,7 @@ use Rattle.mq_trace.specs.declared.place.Place3.{Place3}
 use Rattle.mq_rules.specs.declared.note.Seen.{Seen}
 use Rattle.mq_rules.specs.Words.{is_some_and}
 use Rattle.mq_rules.specs.Moments.{Moment, newest, moment}
-use Rattle.mq_rules.proofs.BoolLaws.{and_false, or_false, same_test, differ}
+use Rattle.mq_rules.proofs.Exports.{and_false, or_false, same_test, differ}
 use Rattle.mq_plain.specs.Shown.{IsShown}
 
 -- The places are those of the moments after this position that fit.

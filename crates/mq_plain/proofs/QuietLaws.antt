@@ -33,8 +33,7 @@ use Rattle.mq_rules.specs.Subscriptions.{breaks_B01, breaks_B02, breaks_B03, bre
 use Rattle.mq_rules.specs.Marks.{FaultMap, fault_at}
 use Rattle.mq_rules.specs.Faults.{reported}
 use Rattle.mq_rules.specs.Keeping.{GrowsBy}
-use Rattle.mq_rules.proofs.BoolLaws.{and_false, both_true, or_else-none}
-use Rattle.mq_rules.proofs.SubjectLaws.{in_order-turns, in_order-releases}
+use Rattle.mq_rules.proofs.Exports.{and_false, both_true, or_else-none, in_order-turns, in_order-releases}
 use Rattle.mq_plain.specs.Chosen.{is_plain_se, is_plain_lb, is_plain}
 use Rattle.mq_plain.specs.Events.{is_client, is_spoken_of, is_quiet, is_asking, asks, some_asks, AreSilent}
 

@@ -13,8 +13,7 @@ use Rattle.mq_rules.specs.Moments.{Moment, newest, note, those, earliest, count,
 use Rattle.mq_rules.specs.Connections.{connection}
 use Rattle.mq_rules.specs.Pasts.{receive_maximum}
 use Rattle.mq_rules.specs.Identifiers.{is_delivery, is_closer, counts, passes, breaks_S07, is_used_up}
-use Rattle.mq_rules.proofs.BoolLaws.{same_test, both_true}
-use Rattle.mq_rules.proofs.FateLaws.{connection-next}
+use Rattle.mq_rules.proofs.Exports.{same_test, both_true, connection-next}
 use Rattle.mq_plain.specs.Quota.{counted, room_back}
 use Rattle.mq_plain.proofs.HandshakeLaws.{earliest-next}
 

@@ -8,8 +8,7 @@ use Rattle.mq_rules.specs.Notes.{is_open, delivery_of, opener_of, sent_publish, 
 use Rattle.mq_rules.specs.Moments.{Moment, note, moments, some, since, latest}
 use Rattle.mq_rules.specs.Connections.{begun, number, fate, latest_fate, session, voided}
 use Rattle.mq_rules.specs.Identifiers.{opens, delivers}
-use Rattle.mq_rules.proofs.BoolLaws.{or_false}
-use Rattle.mq_rules.proofs.FateLaws.{begun-least, begun-open, begun-same, fate-elsewhere}
+use Rattle.mq_rules.proofs.Exports.{or_false, begun-least, begun-open, begun-same, fate-elsewhere}
 use Rattle.mq_plain.specs.Resends.{is_void_delivery, is_last_exactly_once}
 
 -- ---- the latest one that passes a test passes another one too

@@ -11,8 +11,7 @@ use Rattle.mq_rules.specs.Notes.{is_open, is_release, opener_of, closer_of, rese
 use Rattle.mq_rules.specs.Moments.{Moment, newest, note, position, some, since, latest}
 use Rattle.mq_rules.specs.Connections.{connection, latest_fate, session, has_session, with_first, begins, accepted, voided, any_accepted}
 use Rattle.mq_rules.specs.Identifiers.{opens, closes, is_open_at, latest_opener, comes_after}
-use Rattle.mq_rules.proofs.BoolLaws.{and_false, both_true, or_parts, or_left, or_right, same_test}
-use Rattle.mq_rules.proofs.ConnLaws.{some-next}
+use Rattle.mq_rules.proofs.Exports.{and_false, both_true, or_parts, or_left, or_right, same_test, some-next}
 use Rattle.mq_plain.specs.Lookback.{is_open_after}
 use Rattle.mq_plain.specs.Resends.{is_overtaken}
 

@@ -6,7 +6,7 @@ use Rattle.mq_rules.specs.Words.{is_id}
 use Rattle.mq_rules.specs.Notes.{is_open, delivery_of, sent_as, pubrel_in}
 use Rattle.mq_rules.specs.Moments.{newest, note, some}
 use Rattle.mq_rules.specs.Connections.{connection}
-use Rattle.mq_rules.proofs.FateLaws.{connection-next}
+use Rattle.mq_rules.proofs.Exports.{connection-next}
 use Rattle.mq_plain.specs.Owing.{sends}
 
 some-connection : (test : Note → Bool) (e : Seen) (past : List Seen)

@@ -10,9 +10,7 @@ use Rattle.mq_trace.specs.declared.place.Place3.{Place3}
 use Rattle.mq_rules.specs.declared.note.Seen.{Seen}
 use Rattle.mq_rules.specs.Words.{is_some_and}
 use Rattle.mq_rules.specs.Moments.{Moment, newest, moment, IsPlaced}
-use Rattle.mq_rules.proofs.BoolLaws.{or_false, same_test}
-use Rattle.mq_rules.proofs.PositionLaws.{moment-newest, moment-among, among-within, moment-beginning}
-use Rattle.mq_rules.proofs.StepLaws.{moment-stays}
+use Rattle.mq_rules.proofs.Exports.{or_false, same_test, moment-newest, moment-among, among-within, moment-beginning, moment-stays}
 use Rattle.mq_plain.specs.Shown.{IsShown}
 use Rattle.mq_plain.proofs.LoopLaws.{newest-at, placed-beginning}
 

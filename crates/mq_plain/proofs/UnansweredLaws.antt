@@ -9,12 +9,12 @@ use Rattle.mq_rules.specs.Connections.{connection}
 use Rattle.mq_rules.specs.Exchanges.{Exchange, causes, answers}
 use Rattle.mq_plain.specs.declared.exchanges.slot.Slot.{Slot}
 use Rattle.mq_plain.specs.Unanswered.{first_index, asked_at, answered}
-use Rattle.mq_rules.proofs.ConnLaws.{connection-next}
+use Rattle.mq_rules.proofs.Exports.{connection-newest}
 
 -- the first unanswered moment, with one event more
 pub unanswered-next : (starts ends : Moment → Bool) (e : Seen) (past : List Seen) → earliest_since starts ends (connection (e ∷ past))
     ≡ or_else (cond (ends (newest e past)) None (cond (is_open e.note) None (earliest_since starts ends (connection past)))) (cond (starts (newest e past)) (Some (newest e past)) None)
-unanswered-next starts ends e past = ap (earliest_since starts ends) (connection-next e past) ∙ go (is_open e.note)
+unanswered-next starts ends e past = ap (earliest_since starts ends) (connection-newest e past) ∙ go (is_open e.note)
   where
     here : Option Moment
     here = cond (starts (newest e past)) (Some (newest e past)) None

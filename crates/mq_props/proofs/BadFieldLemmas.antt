@@ -7,10 +7,7 @@ use Rattle.mq_wire.specs.Left.{Left, placed}
 use Rattle.mq_wire.specs.Fields.{varint_at, byte_at, two_bytes_at, four_bytes_at, text_at, pair_at, binary_at}
 use Rattle.mq_wire.specs.Spellings.{AreBytes, IsVarint, varint_spelling, Stands}
 use Rattle.mq_wire.specs.Misspelled.{Misspelled}
-use Rattle.mq_wire.proofs.Bytes.{AreBytes-drop, AreBytes-after}
-use Rattle.mq_wire.proofs.MisspelledLaws.{byte_misspelled, two_bytes_misspelled, four_bytes_misspelled, varint_misspelled, text_misspelled, pair_misspelled, binary_misspelled}
-use Rattle.mq_wire.proofs.Placed.{placed_ok}
-use Rattle.mq_wire.proofs.Varint.{varint_exact}
+use Rattle.mq_wire.proofs.Exports.{AreBytes-drop, AreBytes-after, byte_misspelled, two_bytes_misspelled, four_bytes_misspelled, varint_misspelled, text_misspelled, pair_misspelled, binary_misspelled, placed_ok, varint_exact}
 use Rattle.mq_props.specs.declared.fault.PropFault.{PropFault}
 use Rattle.mq_props.specs.declared.fault.PropReason.TheVariants.{Wire, Unknown, NotAllowed, Repeated, Value as BadValue, Wildcard}
 use Rattle.mq_props.specs.declared.table.Place.{Place}

@@ -8,8 +8,7 @@ use Rattle.mq_wire.specs.declared.fault.WireFault.{WireFault}
 use Rattle.mq_wire.specs.Left.{Left, past, placed}
 use Rattle.mq_wire.specs.Fields.{varint_at}
 use Rattle.mq_wire.specs.Spellings.{AreBytes, varint_spelling}
-use Rattle.mq_wire.proofs.Bytes.{AreBytes-take, AreBytes-after}
-use Rattle.mq_wire.proofs.MisspelledLaws.{varint_misspelled}
+use Rattle.mq_wire.proofs.Exports.{AreBytes-take, AreBytes-after, varint_misspelled}
 use Rattle.mq_props.specs.declared.fault.PropFault.{PropFault}
 use Rattle.mq_props.specs.declared.table.Place.{Place}
 use Rattle.mq_props.specs.Values.{Property, value_spelling, property_spelling, body}

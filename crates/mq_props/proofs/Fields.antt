@@ -5,8 +5,7 @@ use Rattle.mq_wire.specs.declared.fault.Reason.TheVariants.{Short, Overlong}
 use Rattle.mq_wire.specs.Left.{Left, placed}
 use Rattle.mq_wire.specs.Fields.{byte_at, two_bytes_at, four_bytes_at, varint_at, text_at, binary_at, pair_at, ended_by, second_byte, third_byte, fourth_byte}
 use Rattle.mq_wire.specs.Spellings.{IsByte, IsTwoBytes, IsFourBytes, IsVarint, IsText, IsBinary, IsPair, byte_spelling, two_bytes_spelling, four_bytes_spelling, varint_spelling, text_spelling, binary_spelling, pair_spelling, Stands, IsExact}
-use Rattle.mq_wire.proofs.Exact.{byte_exact, two_bytes_exact, four_bytes_exact, binary_exact, text_exact, pair_exact}
-use Rattle.mq_wire.proofs.Varint.{varint_exact}
+use Rattle.mq_wire.proofs.Exports.{byte_exact, two_bytes_exact, four_bytes_exact, binary_exact, text_exact, pair_exact, varint_exact}
 use Rattle.mq_props.specs.declared.table.ValueType.{ValueType}
 use Rattle.mq_props.specs.declared.table.ValueType.TheVariants as types
 use Rattle.mq_props.specs.Values.{Value, byte, two_bytes, four_bytes, varint, text, pair, binary, type_of, IsValue, value_spelling}

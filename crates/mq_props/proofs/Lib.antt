@@ -13,3 +13,4 @@ pub mod Sizes
 pub mod Within
 pub mod BadFieldLemmas
 pub mod Broken
+pub mod Exports

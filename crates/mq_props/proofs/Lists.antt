@@ -10,10 +10,7 @@ use Rattle.mq_wire.specs.declared.fault.WireFault.{WireFault}
 use Rattle.mq_wire.specs.Left.{Left, past, placed}
 use Rattle.mq_wire.specs.Fields.{varint_at}
 use Rattle.mq_wire.specs.Spellings.{AreBytes, IsVarint, varint_spelling, Stands}
-use Rattle.mq_wire.proofs.Bytes.{AreBytes-drop, AreBytes-take, AreBytes-after}
-use Rattle.mq_wire.proofs.MisspelledLaws.{varint_misspelled}
-use Rattle.mq_wire.proofs.Placed.{placed_ok}
-use Rattle.mq_wire.proofs.Varint.{varint_exact}
+use Rattle.mq_wire.proofs.Exports.{AreBytes-drop, AreBytes-take, AreBytes-after, varint_misspelled, placed_ok, varint_exact}
 use Rattle.mq_props.specs.declared.fault.PropFault.{PropFault}
 use Rattle.mq_props.specs.declared.fault.PropReason.TheVariants.{Wire}
 use Rattle.mq_props.specs.declared.table.Place.{Place}

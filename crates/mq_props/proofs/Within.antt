@@ -6,7 +6,7 @@ use Rattle.mq_wire.specs.declared.fault.Reason.{Reason}
 use Rattle.mq_wire.specs.declared.fault.Reason.TheVariants.{Short}
 use Rattle.mq_wire.specs.Left.{Left, past, placed}
 use Rattle.mq_wire.specs.Fields.{varint_at}
-use Rattle.mq_wire.proofs.Placed.{placed_ok}
+use Rattle.mq_wire.proofs.Exports.{placed_ok}
 use Rattle.mq_props.specs.declared.fault.PropFault.{PropFault}
 use Rattle.mq_props.specs.declared.fault.PropReason.{PropReason}
 use Rattle.mq_props.specs.declared.fault.PropReason.TheVariants.{Wire}

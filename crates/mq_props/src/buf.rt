@@ -182,28 +182,28 @@ fn fault_in(place: Place, seen: &Seen, bytes: &[u8], item: &Item) -> Option<Push
     }
 }
 
-#[tactic(auto, using(mq_wire::proofs::RoomLaws::number_room))]
+#[tactic(auto, using(mq_wire::proofs::Exports::number_room))]
 fn put_byte(out: &mut Vec<u8>, number: u8) -> Result<(), PushFault>
     ensures { Puts (byte number) result out.old out.new }
 {
     put_u8(out, number).map_err(|_| PushFault::Memory)
 }
 
-#[tactic(auto, using(mq_wire::proofs::RoomLaws::number_room))]
+#[tactic(auto, using(mq_wire::proofs::Exports::number_room))]
 fn put_two_bytes(out: &mut Vec<u8>, number: u16) -> Result<(), PushFault>
     ensures { Puts (two_bytes number) result out.old out.new }
 {
     put_u16(out, number).map_err(|_| PushFault::Memory)
 }
 
-#[tactic(auto, using(mq_wire::proofs::RoomLaws::number_room))]
+#[tactic(auto, using(mq_wire::proofs::Exports::number_room))]
 fn put_four_bytes(out: &mut Vec<u8>, number: u32) -> Result<(), PushFault>
     ensures { Puts (four_bytes number) result out.old out.new }
 {
     put_u32(out, number).map_err(|_| PushFault::Memory)
 }
 
-#[tactic(auto, using(mq_wire::proofs::RoomLaws::counted_room))]
+#[tactic(auto, using(mq_wire::proofs::Exports::counted_room))]
 fn put_number(out: &mut Vec<u8>, number: u32) -> Result<(), PushFault>
     requires { number ≤ max_varint }
     ensures { Puts (varint number) result out.old out.new }
@@ -211,7 +211,7 @@ fn put_number(out: &mut Vec<u8>, number: u32) -> Result<(), PushFault>
     put_varint(out, number).map_err(|_| PushFault::Memory)
 }
 
-#[tactic(auto, using(mq_wire::proofs::RoomLaws::text_room))]
+#[tactic(auto, using(mq_wire::proofs::Exports::text_room))]
 fn put_string(out: &mut Vec<u8>, string: &str) -> Result<(), PushFault>
     requires short { length string.now ≤ max_two_bytes }
     requires no_nul { has_nul string.now ≡ false }
@@ -220,7 +220,7 @@ fn put_string(out: &mut Vec<u8>, string: &str) -> Result<(), PushFault>
     put_text(out, string).map_err(|_| PushFault::Memory)
 }
 
-#[tactic(auto, using(mq_wire::proofs::RoomLaws::pair_room))]
+#[tactic(auto, using(mq_wire::proofs::Exports::pair_room))]
 fn put_strings(out: &mut Vec<u8>, name: &str, value: &str) -> Result<(), PushFault>
     requires name_short { length name.now ≤ max_two_bytes }
     requires value_short { length value.now ≤ max_two_bytes }
@@ -231,7 +231,7 @@ fn put_strings(out: &mut Vec<u8>, name: &str, value: &str) -> Result<(), PushFau
     put_pair(out, name, value).map_err(|_| PushFault::Memory)
 }
 
-#[tactic(auto, using(mq_wire::proofs::RoomLaws::counted_room))]
+#[tactic(auto, using(mq_wire::proofs::Exports::counted_room))]
 fn put_bytes(out: &mut Vec<u8>, bytes: &[u8]) -> Result<(), PushFault>
     requires { length bytes.now ≤ max_two_bytes }
     ensures { Puts (binary bytes.now) result out.old out.new }

@@ -26,3 +26,4 @@ pub mod FirstRestLaws
 pub mod PropertyLaws
 pub mod NamingLaws
 pub mod IdleLaws
+pub mod Exports

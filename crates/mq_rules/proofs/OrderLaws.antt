@@ -16,7 +16,7 @@ use Rattle.mq_trace.specs.Events.{Event, Placed, event_in, events, packet, bad, 
 use Rattle.mq_trace.specs.Connections.{begins, ends, is_connack_type, is_session_type, is_answer, needs_answer, is_connected as trace_connected, is_answered as trace_answered}
 use Rattle.mq_trace.specs.Refusals.{Situation, first_standing, conditions, header_refusal, record_refusal, refusal_at, refused, is_early, or_else as first_of}
 use Rattle.mq_trace.specs.Context.{Context, context, situated, so_far_for, refusal_for, event_for, placed_with, placed_for, put}
-use Rattle.mq_trace.proofs.ContextLaws.{refused-grow, refusal-kept, events-kept, events-header, header-behind, at_context}
+use Rattle.mq_trace.proofs.Exports.{refused-grow, refusal-kept, events-kept, events-header, header-behind, at_context}
 use Rattle.mq_rules.specs.declared.role.Role.{Role}
 use Rattle.mq_rules.specs.declared.fate.Fate.TheVariants.{Void}
 use Rattle.mq_rules.specs.declared.note.Note.{Note}

@@ -4,7 +4,7 @@ use Rattle.mq_props.specs.declared.table.Place.{Place}
 use Rattle.mq_props.specs.Values.{Property, body}
 use Rattle.mq_props.specs.Allowed.{AreAllowed}
 use Rattle.mq_props.specs.Reading.{items_on, items_of}
-use Rattle.mq_props.proofs.Exact.{items_of-body}
+use Rattle.mq_props.proofs.Exports.{items_of-body}
 
 none_of_none : items_of [] ≡ []
 unfolding items_of items_on

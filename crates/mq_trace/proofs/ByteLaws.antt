@@ -5,8 +5,7 @@ use Rattle.std.proofs.lemmas.Bool.{eqb-true}
 use Rattle.mq_packet.specs.declared.header.FixedHeader.{FixedHeader}
 use Rattle.mq_packet.specs.declared.header.FixedHeader.TheVariants as headers
 use Rattle.mq_packet.specs.Stream.{fixed_header_of, frame_size, is_lost}
-use Rattle.mq_packet.proofs.StreamLaws.{whole_stays, header_lost, frame_from_header, size_above}
-use Rattle.mq_packet.proofs.HeaderLaws.{ends_header, short_few}
+use Rattle.mq_packet.proofs.Exports.{whole_stays, header_lost, frame_from_header, size_above, ends_header, short_few}
 use Rattle.mq_trace.specs.declared.kind.Way.{Way}
 use Rattle.mq_trace.specs.declared.kind.Way.TheVariants as ways
 use Rattle.mq_trace.specs.declared.refusal.Refusal.{Refusal}

@@ -7,7 +7,7 @@ use Rattle.std.proofs.lemmas.List.{take-append-drop}
 use Rattle.mq_packet.specs.declared.header.FixedHeader.{FixedHeader}
 use Rattle.mq_packet.specs.declared.header.FixedHeader.TheVariants as headers
 use Rattle.mq_packet.specs.Stream.{fixed_header_of, frame_size}
-use Rattle.mq_packet.proofs.StreamLaws.{header_from_frame, frame_from_header, whole_stays, frame_bounds, frame_stood}
+use Rattle.mq_packet.proofs.Exports.{header_from_frame, frame_from_header, whole_stays, frame_bounds, frame_stood}
 use Rattle.mq_trace.specs.declared.kind.Way.{Way}
 use Rattle.mq_trace.specs.declared.kind.Way.TheVariants as ways
 use Rattle.mq_trace.specs.declared.refusal.Refusal.{Refusal}

@@ -6,7 +6,7 @@ use Rattle.std.proofs.lemmas.Bool.{le-ltb, lt-ltb, ne_eqb, eq-eqb}
 use Rattle.mq_packet.specs.declared.header.FixedHeader.{FixedHeader}
 use Rattle.mq_packet.specs.declared.header.FixedHeader.TheVariants as headers
 use Rattle.mq_packet.specs.Stream.{fixed_header_of, frame_size, is_lost}
-use Rattle.mq_packet.proofs.StreamLaws.{whole_stays, lost_stays, short_before, lost_header, lost_no_frame, short_no_frame, no_frame_yet, frame_from_header, header_from_frame, frame_stood}
+use Rattle.mq_packet.proofs.Exports.{whole_stays, lost_stays, short_before, lost_header, lost_no_frame, short_no_frame, no_frame_yet, frame_from_header, header_from_frame, frame_stood}
 use Rattle.mq_trace.specs.declared.kind.Way.{Way}
 use Rattle.mq_trace.specs.declared.kind.Way.TheVariants as ways
 use Rattle.mq_trace.specs.declared.refusal.Refusal.{Refusal}

@@ -9,7 +9,7 @@ use Rattle.mq_trace.specs.Framing.{kind_of, way_of, opens, if_way, stream, begun
 use Rattle.mq_trace.specs.Events.{packet_with}
 use Rattle.mq_trace.specs.Context.{half_with, half_of, half_after, half_by, half_then, so_far_in}
 use Rattle.mq_trace.proofs.PiecesLaws.{Settles, grown, pieces-grow, nothing_cut}
-use Rattle.mq_packet.proofs.StreamLaws.{frame_bounds, frame_stays, frame_stood, is_lost_stays, lost_no_frame}
+use Rattle.mq_packet.proofs.Exports.{frame_bounds, frame_stays, frame_stood, is_lost_stays, lost_no_frame}
 use Rattle.mq_trace.proofs.FramingLaws.{carried-grow}
 
 pub frame_settles : Settles frame_size

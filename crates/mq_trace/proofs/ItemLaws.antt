@@ -12,8 +12,7 @@ use Rattle.mq_packet.specs.Reading.{view}
 use Rattle.mq_packet.specs.Sizes.{size_with, remaining_length}
 use Rattle.mq_packet.specs.Stream.{fixed_header_of, frame_size}
 use Rattle.mq_packet.specs.Decoding.{decoded}
-use Rattle.mq_packet.proofs.StreamLaws.{header_from_frame, frame_from_header, size_above}
-use Rattle.mq_packet.proofs.BodyLaws.{size_of_frame}
+use Rattle.mq_packet.proofs.Exports.{header_from_frame, frame_from_header, size_above, size_of_frame}
 use Rattle.mq_trace.specs.declared.refusal.Refusal.{Refusal}
 use Rattle.mq_trace.specs.declared.refusal.Refusal.TheVariants as refusals
 use Rattle.mq_trace.specs.declared.kind.Way.{Way}

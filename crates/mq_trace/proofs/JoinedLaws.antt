@@ -5,7 +5,7 @@ use Rattle.std.specs.Int.{w16, from_be_bytes}
 use Rattle.std.proofs.lemmas.List.{append-nil, reverse-append, reverse-reverse, drop-append-le, drop_all}
 use Rattle.std.proofs.lemmas.Bool.{eq-eqb, ne_eqb, eqb-true, eqb-false, le-ltb, lt-ltb, ltb-true, ltb-false}
 use Rattle.mq_packet.specs.Stream.{frame_size, is_lost}
-use Rattle.mq_packet.proofs.StreamLaws.{is_lost_stays, lost_no_frame}
+use Rattle.mq_packet.proofs.Exports.{is_lost_stays, lost_no_frame}
 use Rattle.mq_trace.specs.declared.kind.RecordKind.{RecordKind}
 use Rattle.mq_trace.specs.declared.kind.RecordKind.TheVariants as kinds
 use Rattle.mq_trace.specs.declared.kind.Way.{Way}

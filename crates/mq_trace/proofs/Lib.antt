@@ -19,3 +19,4 @@ pub mod StepLaws
 pub mod TellingLaws
 pub mod TracingLaws
 pub mod WritingLaws
+pub mod Exports

@@ -8,3 +8,4 @@ pub mod Refusals
 pub mod RoomLaws
 pub mod Texts
 pub mod Varint
+pub mod Exports

@@ -2,7 +2,7 @@ use Rattle.std.proofs.Common.{◌≡◌, ◌∙◌, [], List, sym, ap, subst}
 use Rattle.std.proofs.lemmas.Result.{err_from_is_err_and}
 use Rattle.mq_trace.specs.Events.{Placed, events}
 use Rattle.mq_trace.specs.declared.refusal.Refusal.{Refusal}
-use Rattle.mq_trace.proofs.ContextLaws.{events-nothing}
+use Rattle.mq_trace.proofs.Exports.{events-nothing}
 use Rattle.mq_judge.specs.Outgoing.{Carries}
 use Rattle.mq_judge.specs.declared.showing.Showing.{Showing}
 use Rattle.mq_judge.specs.Views.{StandsAfter, text_by}

@@ -3,7 +3,7 @@ use Rattle.std.specs.Prelude.{reverse}
 use Rattle.std.proofs.lemmas.List.{reverse-append}
 use Rattle.mq_rules.specs.Words.{or_else}
 use Rattle.mq_rules.specs.Notes.{is_open, decides}
-use Rattle.mq_rules.proofs.BoolLaws.{or_else-none}
+use Rattle.mq_rules.proofs.Exports.{or_else-none}
 use Rattle.mq_rules.specs.Connections.{latest_fate}
 use Rattle.mq_plain.proofs.LookbackLaws.{no_events, fate_back, fate_back-next}
 use Rattle.mq_plain.proofs.connection.latest_fate_of.Goals as goal

@@ -1,9 +1,7 @@
 use Rattle.std.proofs.Common.{refl}
 use Rattle.std.specs.Prelude.{reverse}
 use Rattle.mq_rules.specs.Faults.{GrowsWithin}
-use Rattle.mq_rules.proofs.MarkLaws.{on_err}
-use Rattle.mq_rules.proofs.GrowLaws.{grows-start}
-use Rattle.mq_rules.proofs.PlainLaws.{grows-next, within-next}
+use Rattle.mq_rules.proofs.Exports.{on_err, grows-start, grows-next, within-next}
 use Rattle.mq_plain.proofs.LoopLaws.{placed-here, in_order-here, fate-step, asked-step}
 use Rattle.mq_plain.proofs.pass.judge_each.Goals as goal
 

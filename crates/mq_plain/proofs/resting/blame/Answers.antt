@@ -1,5 +1,5 @@
 use Rattle.std.proofs.Common.{sym, subst}
-use Rattle.mq_rules.proofs.MarkLaws.{on_err}
+use Rattle.mq_rules.proofs.Exports.{on_err}
 use Rattle.mq_plain.specs.Blames.{BlamesWithin}
 use Rattle.mq_plain.proofs.RestLaws.{blames-start, blames-more, blames-part}
 use Rattle.mq_plain.proofs.resting.blame.Goals as goal

@@ -1,6 +1,6 @@
 -- A whole packet with a fault is told as what it is.
 use Rattle.std.proofs.Common.{◌<◌, [], false, Err, length, sym, ap, ◌∙◌, arith, rules}
-use Rattle.mq_packet.proofs.StreamLaws.{size_above}
+use Rattle.mq_packet.proofs.Exports.{size_above}
 use Rattle.mq_packet.specs.declared.fault.DecodeFault.TheVariants as faults
 use Rattle.mq_trace.specs.Directing.{bed_of}
 use Rattle.mq_trace.specs.Hearing.{Declines}

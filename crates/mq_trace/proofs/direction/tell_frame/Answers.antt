@@ -1,6 +1,6 @@
 -- A whole packet has a first byte.
 use Rattle.std.proofs.Common.{◌<◌, length, rules, arith}
-use Rattle.mq_packet.proofs.StreamLaws.{size_above}
+use Rattle.mq_packet.proofs.Exports.{size_above}
 use Rattle.mq_trace.proofs.direction.tell_frame.Goals as goal
 
 pub bounds-frame-0 : goal.bounds-frame-0

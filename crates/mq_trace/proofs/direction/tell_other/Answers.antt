@@ -1,6 +1,6 @@
 -- The first byte of a whole packet, and its body.
 use Rattle.std.proofs.Common.{◌<◌, ◌≤◌, length, rules, arith, length-take, length-drop}
-use Rattle.mq_packet.proofs.StreamLaws.{size_above}
+use Rattle.mq_packet.proofs.Exports.{size_above}
 use Rattle.mq_trace.proofs.direction.tell_other.Goals as goal
 
 pub bounds-frame-0 : goal.bounds-frame-0

@@ -1,7 +1,7 @@
 -- A PUBLISH is told as what it is.
 use Rattle.std.proofs.Common.{ℕ, Option, ◌<◌, ◌≤◌, [], false, length, sym, ap, rules, arith, length-take, length-drop}
 use Rattle.std.specs.Prelude.{unwrap_or}
-use Rattle.mq_packet.proofs.StreamLaws.{size_above, header_few}
+use Rattle.mq_packet.proofs.Exports.{size_above, header_few}
 use Rattle.mq_packet.specs.declared.packet.Packet.TheVariants as packets
 use Rattle.mq_trace.specs.declared.event.Item.TheVariants as items
 use Rattle.mq_trace.specs.Directing.{bed_of}

@@ -2,8 +2,7 @@
 use Rattle.std.proofs.Common.{◌≡◌, List, [], ◌∷◌, length, arith, subst, sym, ◌∙◌, ℕ, true, refl, Bool}
 use Rattle.std.specs.Prelude.{◌==◌}
 use Rattle.std.proofs.lemmas.Bool.{eqb-true}
-use Rattle.mq_packet.proofs.StreamLaws.{frame_from_header}
-use Rattle.mq_packet.proofs.HeaderLaws.{short_few}
+use Rattle.mq_packet.proofs.Exports.{frame_from_header, short_few}
 use Rattle.mq_trace.specs.Keeping.{IsShort}
 use Rattle.mq_trace.proofs.direction.Direction.step.Goals as goal
 

@@ -1,0 +1,2 @@
+-- The laws on logs that the crates above cite. They cite no other file of these proofs.
+pub use Rattle.mq_trace.proofs.ContextLaws.{at_context, events-header, events-kept, events-nothing, header-behind, refusal-kept, refused-grow}
