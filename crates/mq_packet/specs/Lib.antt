@@ -17,3 +17,4 @@ pub mod Valid
 pub mod ShortForms
 pub mod Growing
 pub mod Sizes
+pub mod Encoding

@@ -4,6 +4,7 @@
 mod changed;
 mod cuts;
 mod encoding;
+mod faults;
 mod lists;
 mod packets;
 mod props;
