@@ -11,13 +11,14 @@ ghost use Rattle.mq_packet.specs.Entries.{publish as publish_entry};
 ghost use Rattle.mq_trace.specs.Events.{packet};
 ghost use Rattle.mq_trace.specs.Flows.{going};
 ghost use Rattle.mq_trace.specs.Hearing.{item_of, event_of};
+ghost use Rattle.mq_rules.specs.declared.packet_note.PacketFields.TheVariants as fields;
 ghost use Rattle.mq_rules.specs.Notes.{kept, is_sent_way, connect_note, connack_note, publish_note, packet_fields, properties_of, packet_note, item_note, note_of, request_fields, answer_fields, keeps_text, item_keeps_text, note_keeps_text};
 
 use crate::faults::Memory;
 use crate::note::{ItemNote, Note};
 use crate::packet_note::{ConnackNote, ConnectNote, PacketFields, PacketNote, PublishNote};
 use crate::text::{CodeList, FilterList, Text};
-use mq_packet::{Codes, Connack, Connect, Filters, Packet, Publish};
+use mq_packet::{Answer, Codes, Connack, Connect, Filters, Packet, Publish, Request};
 use mq_props::Props;
 use mq_trace::{Event, Item, Way};
 use std::alloc::Global;
@@ -226,11 +227,24 @@ fn suback_fields(
     Ok(PacketFields::Suback { identifier, codes })
 }
 
-/// How many filters an UNSUBSCRIBE has.
-fn filter_count(filters: &Filters<'_>) -> usize
-    ensures { result ≡ length filters.now }
+/// What the statements look at of this UNSUBSCRIBE, whichever way it went: its Packet Identifier, and how many filters it has.
+fn unsubscribe_fields(request: &Request<'_>) -> PacketFields
+    ensures { result ≡ fields.Unsubscribe request.now.identifier (length request.now.filters) }
 {
-    filters.iter().count()
+    PacketFields::Unsubscribe {
+        identifier: request.identifier,
+        filters: request.filters.iter().count(),
+    }
+}
+
+/// What the statements look at of this UNSUBACK, whichever way it went: its Packet Identifier, and how many Reason Codes it has.
+fn unsuback_fields(answer: &Answer<'_>) -> PacketFields
+    ensures { result ≡ fields.Unsuback answer.now.identifier (length answer.now.codes) }
+{
+    PacketFields::Unsuback {
+        identifier: answer.identifier,
+        codes: answer.codes.as_bytes().len(),
+    }
 }
 
 impl PacketFields {
@@ -276,14 +290,8 @@ impl PacketFields {
                 &request.filters,
             ),
             Packet::Suback(answer) => suback_fields(alloc, way, answer.identifier, &answer.codes),
-            Packet::Unsubscribe(request) => Ok(PacketFields::Unsubscribe {
-                identifier: request.identifier,
-                filters: filter_count(&request.filters),
-            }),
-            Packet::Unsuback(answer) => Ok(PacketFields::Unsuback {
-                identifier: answer.identifier,
-                codes: answer.codes.as_bytes().len(),
-            }),
+            Packet::Unsubscribe(request) => Ok(unsubscribe_fields(request)),
+            Packet::Unsuback(answer) => Ok(unsuback_fields(answer)),
             Packet::Disconnect(disconnect) => Ok(PacketFields::Disconnect {
                 session_expiry: disconnect.properties.get_session_expiry_interval(),
             }),
