@@ -27,7 +27,7 @@ use Rattle.mq_packet.specs.Formats.{byte, text, binary, properties, Format, done
 use Rattle.mq_packet.specs.Asking.{AreOptions, IsAsked, filters_spelling, AreAsked}
 use Rattle.mq_packet.specs.Spelled.{IsValue, Spells, IsSpelled}
 use Rattle.mq_packet.specs.Canonical.{bit, connect_flags, spelling_if, list_spelling, will_spelling, reason_spelling, first_byte, connect_body, connack_body, publish_body, acknowledgement_body, request_body, answer_body, disconnect_body, auth_body, canonical_body}
-use Rattle.mq_packet.specs.Valid.{is_text, is_binary, is_identifier, if_there, fits_qos, fits_request, valid_will, valid_connect, valid_connack, valid_publish, valid_acknowledgement, valid_filter, valid_filters, valid_request, valid_answer, valid_disconnect, valid_auth, valid, IsListed, IsWill, IsConnect, IsPublish, IsIdentified, IsAskedFilter, IsRequest, IsTyped}
+use Rattle.mq_packet.specs.Valid.{is_text, is_binary, is_identifier, if_there, fits_qos, fits_request, valid_will, valid_connect, valid_connack, valid_publish, valid_acknowledgement, valid_filter, valid_filters, valid_request, valid_answer, valid_ending, valid, IsListed, IsWill, IsConnect, IsPublish, IsIdentified, IsAskedFilter, IsRequest, IsTyped}
 use Rattle.mq_packet.proofs.ValueLaws.{listed_is, list_value, text_value, binary_value, code_value, unobjected, field_if_spelled, if_there_gives, ends_there}
 use Rattle.mq_packet.proofs.ConnectFlagLaws.{FlagsSay, flags_say}
 
@@ -163,8 +163,8 @@ acknowledgement_spelled acknowledgements.Pubrec identifier code list ok e = ackn
 acknowledgement_spelled acknowledgements.Pubrel identifier code list ok e = acknowledgement_spells acknowledgements.Pubrel identifier code list ok e
 acknowledgement_spelled acknowledgements.Pubcomp identifier code list ok e = acknowledgement_spells acknowledgements.Pubcomp identifier code list ok e
 
-disconnect_spelled : (code : ℕ) (list : Listed) → IsListed list → valid_disconnect code list ≡ true → IsSpelled 224 (disconnect_body code list.items) (disconnect code list)
-unfolding valid_disconnect disconnect_body
+disconnect_spelled : (code : ℕ) (list : Listed) → IsListed list → valid_ending endings.Disconnect code list ≡ true → IsSpelled 224 (disconnect_body code list.items) (disconnect code list)
+unfolding valid_ending disconnect_body
 disconnect_spelled code list ok e =
     (let parts : (same_place list.place places.Disconnect ≡ true) × (is_code disconnect_codes code ≡ true) = and_parts _ _ e in
     subst (λ (l : Listed). Spells (ending_format endings.Disconnect) (reason_spelling code list.items) (disconnect code l)) (listed_is places.Disconnect list parts.0)
@@ -175,8 +175,8 @@ unfolding auth_body
 auth_spells code [] ok known = none_spelled auth_codes refl places.Auth auth code (code ∷ list_spelling []) known (whole_spelled auth_codes refl places.Auth auth code [] ok known)
 auth_spells code (p ∷ items) ok known = whole_spelled auth_codes refl places.Auth auth code (p ∷ items) ok known
 
-auth_spelled : (code : ℕ) (list : Listed) → IsListed list → valid_auth code list ≡ true → IsSpelled 240 (auth_body code list.items) (auth code list)
-unfolding valid_auth
+auth_spelled : (code : ℕ) (list : Listed) → IsListed list → valid_ending endings.Auth code list ≡ true → IsSpelled 240 (auth_body code list.items) (auth code list)
+unfolding valid_ending
 auth_spelled code list ok e =
     (let parts : (same_place list.place places.Auth ≡ true) × (is_code auth_codes code ≡ true) = and_parts _ _ e in
     subst (λ (l : Listed). Spells (ending_format endings.Auth) (auth_body code list.items) (auth code l)) (listed_is places.Auth list parts.0)

@@ -1,14 +1,14 @@
 -- Reading the filters of a body one after another, as a loop does, and what bytes come to as filters.
-use Rattle.std.proofs.Common.{◌≡◌, ℕ, zero, suc, ◌+◌, ◌<◌, ◌≤◌, inl, inr, Bool, true, false, eqb, List, [], ◌∷◌, ◌++◌, length, drop, Option, None, Some, Result, Ok, Err, refl, sym, ap, subst, ◌∙◌, append_assoc, length-append, arith}
+use Rattle.std.proofs.Common.{◌≡◌, ℕ, zero, suc, ◌+◌, ◌<◌, ◌≤◌, inl, inr, Bool, true, false, eqb, List, [], ◌∷◌, ◌++◌, length, Option, None, Some, Result, Ok, Err, refl, sym, ap, subst, ◌∙◌, append_assoc, length-append, arith}
 use Rattle.std.specs.Prelude.{◌≢◌, ◌⊎◌, if◌then◌else◌}
 use Rattle.std.specs.List.{AllByRecursion}
 use Rattle.std.proofs.lemmas.Bool.{ne_eqb}
-use Rattle.std.proofs.lemmas.List.{drop_at, append-nil}
+use Rattle.std.proofs.lemmas.List.{append-nil}
 use Rattle.std.proofs.lemmas.List.Concat.{flat_map-append}
 use Rattle.mq_wire.specs.declared.fault.WireFault.{WireFault}
 use Rattle.mq_wire.specs.Left.{Left}
 use Rattle.mq_wire.specs.Spellings.{AreBytes, text_spelling}
-use Rattle.mq_wire.proofs.Exports.{AreBytes-drop}
+use Rattle.mq_wire.proofs.Exports.{AreBytes-after}
 use Rattle.mq_packet.specs.declared.fault.DecodeFault.{DecodeFault}
 use Rattle.mq_packet.specs.declared.rule.PacketRule.{PacketRule}
 use Rattle.mq_packet.specs.declared.rule.PacketRule.TheVariants as rules
@@ -59,12 +59,6 @@ unless_ok at (Some objection) x y e = absurd cc
 pub unbroken : (good : Bool) (rule : PacketRule) → unless_broken good rule ≡ None → good ≡ true
 unbroken true rule e = refl
 unbroken false rule e = absurd cc
-
--- What is left after bytes are bytes.
-pub behind_bytes : (bytes front left : List ℕ) → bytes ≡ front ++ left → AreBytes bytes → AreBytes left
-behind_bytes bytes front left is known =
-    (let behind : drop (length front) bytes ≡ left = ap (drop (length front)) is ∙ drop_at front left (length front) refl in
-    subst (λ (l : List ℕ). AreBytes l) behind (AreBytes-drop (length front) bytes known))
 
 -- ---- one field
 
@@ -160,7 +154,7 @@ filter_taken asks at bytes known x e =
     let y = bind_ok (read_field text filter_objection (left_from at bytes)) (options_behind asks) x e in
     let z = bind_ok (options_on asks y.0.1) (with_options y.0.0) x y.2 in
     let front = field_taken text filter_objection at bytes known y.0.0 y.0.1 y.1 in
-    let more = options_taken asks y.0.1.at y.0.1.rest (behind_bytes bytes (text_spelling y.0.0) y.0.1.rest front.0.begin.spelled known) z.0 z.1 in
+    let more = options_taken asks y.0.1.at y.0.1.rest (AreBytes-after (text_spelling y.0.0) y.0.1.rest bytes known front.0.begin.spelled) z.0 z.1 in
     let filter : AskedFilter = record { filter = y.0.0; options = z.0.0 } in
     let made : AskedFilter × Left = (filter, z.0.1) in
     let size : length (asked_spelling filter) ≡ length (text_spelling y.0.0) + length (options_spelling z.0.0) = length-append (text_spelling y.0.0) (options_spelling z.0.0) in
@@ -184,7 +178,7 @@ filter_fails asks at bytes known fault e = by_text (bind_err (read_field text fi
   where
     by_options : (y : List ℕ × Left) → Front text at bytes y.0 y.1 → filter_objection y.0 ≡ None → FailedSo (options_on asks y.1) (with_options y.0) fault → FailsFilter asks at bytes fault
     by_options y front none (inl h) =
-        (let wrong : FailsOptions asks y.1.at y.1.rest fault = options_fail asks y.1.at y.1.rest (behind_bytes bytes (text_spelling y.0) y.1.rest front.begin.spelled known) fault h in
+        (let wrong : FailsOptions asks y.1.at y.1.rest fault = options_fail asks y.1.at y.1.rest (AreBytes-after (text_spelling y.0) y.1.rest bytes known front.begin.spelled) fault h in
         inr (y.0, y.1.rest, front.begin, none, subst (λ (n : ℕ). FailsOptions asks n y.1.rest fault) (ap (λ (l : Left). l.at) front.behind) wrong))
     by_options y front none (inr h) = absurd (let never = h.2 in cc)
 
@@ -198,7 +192,7 @@ fail_filter : (asks : Bool) (at : ℕ) (bytes : List ℕ) → AreBytes bytes →
 fail_filter asks at bytes known fault (inl h) = ap (λ (r : Result (List ℕ × Left) DecodeFault). r >>= options_behind asks) (fails_field text filter_objection at bytes known fault h)
 fail_filter asks at bytes known fault (inr h) =
     ap (λ (r : Result (List ℕ × Left) DecodeFault). r >>= options_behind asks) (good_field text filter_objection at bytes h.0 h.1 h.2 h.3)
-    ∙ ap (λ (r : Result (Option ℕ × Left) DecodeFault). r >>= with_options h.0) (fail_options asks (at + length (text_spelling h.0)) h.1 (behind_bytes bytes (text_spelling h.0) h.1 h.2.spelled known) fault h.4)
+    ∙ ap (λ (r : Result (Option ℕ × Left) DecodeFault). r >>= with_options h.0) (fail_options asks (at + length (text_spelling h.0)) h.1 (AreBytes-after (text_spelling h.0) h.1 bytes known h.2.spelled) fault h.4)
 
 -- A filter is read at the front of its spelling.
 filter_spelled : (asks : Bool) (at : ℕ) (f : AskedFilter) (rest : List ℕ) → IsAsked asks f → filter_on asks (left_from at (asked_spelling f ++ rest)) ≡ done (f, left_from (at + length (asked_spelling f)) rest)
@@ -311,7 +305,7 @@ pub filters_bad : (asks : Bool) (left : Left) (fault : DecodeFault) → AreBytes
 filters_bad asks left fault known h =
     let there : ℕ = left.at + length (filters_spelling h.good) in
     let read = within_behind (length left.rest) asks left.at h.good h.others h.each (omega (arith, ap (λ (l : List ℕ). length l) h.parts)) in
-    let refused : filter_on asks (left_from there h.others) ≡ failed fault = fail_filter asks there h.others (behind_bytes left.rest (filters_spelling h.good) h.others h.parts known) fault h.refused in
+    let refused : filter_on asks (left_from there h.others) ≡ failed fault = fail_filter asks there h.others (AreBytes-after (filters_spelling h.good) h.others left.rest known h.parts) fault h.refused in
     on_some asks left (λ e. h.some (nothing_behind (filters_spelling h.good) h.others (sym h.parts ∙ e)))
     ∙ ap (λ (bytes : List ℕ). filters_within (length left.rest) asks (left_from left.at bytes)) h.parts
     ∙ read.2
@@ -351,7 +345,7 @@ module _ (asks : Bool) (at : ℕ) (bytes : List ℕ) where
       → (r : Result (AskedFilter × Left) DecodeFault) → filter_on asks (left_from at bytes) ≡ r → ComeTo asks at bytes (r >>= onwards n asks)
   by_filter known some n later (Ok x) e =
       let first = filter_taken asks at bytes known x e in
-      one_more x first (filters_within n asks x.1) (later x.1.at x.1.rest (behind_bytes bytes (asked_spelling x.0) x.1.rest first.parts known) (filter_shorter_by asks at bytes x first))
+      one_more x first (filters_within n asks x.1) (later x.1.at x.1.rest (AreBytes-after (asked_spelling x.0) x.1.rest bytes known first.parts) (filter_shorter_by asks at bytes x first))
   by_filter known some n later (Err fault) e =
       let place : at ≡ at + 0 = omega arith in
       record {
@@ -464,7 +458,7 @@ more_spelled fs f = flat_map-append asked_spelling fs (f ∷ []) ∙ ap (λ (l :
 
 module _ (asks : Bool) (start left : Left) (known : AreBytes start.rest) (at : Goes asks start left) where
   left_known : AreBytes left.rest
-  left_known = behind_bytes start.rest (filters_spelling at.before) left.rest at.parts known
+  left_known = AreBytes-after (filters_spelling at.before) left.rest start.rest known at.parts
 
   pub filter_shorter : (f : AskedFilter) (new : Left) → filter_on asks left ≡ Ok (f, new) → length new.rest < length left.rest
   filter_shorter f new found = filter_shorter_by asks left.at left.rest (f, new) (filter_taken asks left.at left.rest left_known (f, new) found)

@@ -1,5 +1,5 @@
 -- A cut is a frame exactly where the bytes begin with one, and lost exactly where they are.
-use Rattle.std.proofs.Common.{◌≡◌, ℕ, suc, ◌+◌, ◌≤◌, ◌↔◌, Bool, true, false, List, [], ◌∷◌, ◌++◌, length, take, drop, Result, Ok, Err, refl, sym, ◌∙◌, ap, subst, arith, length-append, length-drop}
+use Rattle.std.proofs.Common.{◌≡◌, ℕ, ◌+◌, ◌≤◌, ◌↔◌, Bool, true, false, List, [], ◌∷◌, ◌++◌, length, take, drop, Result, Ok, Err, refl, sym, ◌∙◌, ap, subst, arith, length-append, length-drop}
 use Rattle.std.specs.Prelude.{nat_le, if◌then◌else◌, slice_index}
 use Rattle.std.proofs.lemmas.Bool.{leb-true, le-leb}
 use Rattle.std.proofs.lemmas.List.{length-take-le, take-append-drop}
@@ -7,7 +7,7 @@ use Rattle.mq_wire.specs.declared.fault.Reason.{Reason}
 use Rattle.mq_wire.specs.declared.fault.Reason.TheVariants as reasons
 use Rattle.mq_wire.specs.Fields.{varint_at}
 use Rattle.mq_wire.specs.Spellings.{AreBytes, IsVarint, Stands, varint_spelling}
-use Rattle.mq_wire.proofs.Exports.{varint_exact}
+use Rattle.mq_wire.proofs.Exports.{AreBytes-drop, varint_exact}
 use Rattle.mq_packet.specs.declared.header.FixedHeader.{FixedHeader}
 use Rattle.mq_packet.specs.declared.header.FixedHeader.TheVariants as headers
 use Rattle.mq_packet.specs.declared.frame.Cut.{Cut}
@@ -29,9 +29,6 @@ start_in _ = 0
 abbrev end_in : Cut → ℕ
 end_in (Frame first start end) = end
 end_in _ = 0
-
-tail_bytes : (b : ℕ) (bytes : List ℕ) → AreBytes (b ∷ bytes) → AreBytes bytes
-tail_bytes b bytes h i = h (suc i)
 
 -- A number after the first byte, and as many bytes after it, are a frame.
 module _ (b : ℕ) (behind : List ℕ) (n taken : ℕ) (known : AreBytes behind) (read : varint_at behind ≡ Ok (n, taken)) (fits : 1 + taken + n ≤ length (b ∷ behind)) where
@@ -79,7 +76,7 @@ cut_at b behind (Err reasons.Nul) e known first start end h = (cc)
 pub frame_begins : (bytes : List ℕ) → AreBytes bytes → (first start end : ℕ) → cut_of bytes ≡ Frame first start end → BeginsWithFrame bytes first start end
 unfolding cut_of fixed_header_of
 frame_begins [] known first start end h = (cc)
-frame_begins (b ∷ behind) known first start end h = cut_at b behind (varint_at behind) refl (tail_bytes b behind known) first start end h
+frame_begins (b ∷ behind) known first start end h = cut_at b behind (varint_at behind) refl (AreBytes-drop 1 (b ∷ behind) known) first start end h
 
 -- What begins with a frame is cut so.
 cut_frame : (first : ℕ) (body behind : List ℕ) → length body ≤ 268435455 → cut_of (first ∷ (varint_spelling (length body) ++ (body ++ behind))) ≡ Frame first (1 + length (varint_spelling (length body))) (1 + length (varint_spelling (length body)) + length body)

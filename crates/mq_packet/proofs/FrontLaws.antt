@@ -1,5 +1,5 @@
 -- Exactly one of three things stands at the front of a stream: a packet, the beginning of one, or the loss of the stream.
-use Rattle.std.proofs.Common.{◌≡◌, ℕ, suc, ◌+◌, ◌-◌, ◌<◌, ◌≤◌, ◌↔◌, true, false, inl, inr, List, [], ◌∷◌, ◌++◌, length, drop, Result, Ok, Err, refl, sym, ◌∙◌, ap, subst, arith, append_assoc, length-append}
+use Rattle.std.proofs.Common.{◌≡◌, ℕ, ◌+◌, ◌-◌, ◌<◌, ◌≤◌, ◌↔◌, true, false, inl, inr, List, [], ◌∷◌, ◌++◌, length, drop, Result, Ok, Err, refl, sym, ◌∙◌, ap, subst, arith, append_assoc, length-append}
 use Rattle.std.specs.Prelude.{nat_le, if◌then◌else◌, replicate}
 use Rattle.std.proofs.lemmas.Bool.{leb-false}
 use Rattle.std.proofs.lemmas.List.{append-nil, drop_at, length-replicate}
@@ -8,7 +8,7 @@ use Rattle.mq_wire.specs.declared.fault.Reason.TheVariants as reasons
 use Rattle.mq_wire.specs.Fields.{varint_at}
 use Rattle.mq_wire.specs.Misspelled.{IsCutShort, NoneStands}
 use Rattle.mq_wire.specs.Spellings.{AreBytes, IsVarint, Stands, varint_spelling}
-use Rattle.mq_wire.proofs.Exports.{varint_refused, varint_exact}
+use Rattle.mq_wire.proofs.Exports.{AreBytes-drop, varint_refused, varint_exact}
 use Rattle.mq_packet.specs.declared.frame.Cut.{Cut}
 use Rattle.mq_packet.specs.declared.frame.Cut.TheVariants.{Need, Frame, Lost}
 use Rattle.mq_packet.specs.Stream.{header_with, fixed_header_of, remaining_length, is_overlong, is_lost}
@@ -17,10 +17,6 @@ use Rattle.mq_packet.specs.Frames.{BeginsWithFrame, cut_by, cut_of}
 use Rattle.mq_packet.specs.Fronts.{IsBeginning, BeginsWithNumber, IsPrefixOfNumber, IsLost, StandsAtFront}
 use Rattle.mq_packet.proofs.StreamLaws.{is_lost_stays}
 use Rattle.mq_packet.proofs.FrameLaws.{frame_begins, begins_cut, lost_exactly}
-
--- The bytes after the first one are bytes.
-tail_bytes : (b : ℕ) (bytes : List ℕ) → AreBytes (b ∷ bytes) → AreBytes bytes
-tail_bytes b bytes h i = h (suc i)
 
 -- Where a frame ends.
 abbrev end_in : Cut → ℕ
@@ -70,7 +66,7 @@ lost_front : (bytes : List ℕ) → AreBytes bytes → is_lost bytes ≡ true �
 unfolding is_lost
 lost_front [] known e = absurd (cc)
 lost_front (b ∷ behind) known e =
-    (let none = (varint_refused.overlong behind (tail_bytes b behind known)).0 (overlong_is (varint_at behind) e) in
+    (let none = (varint_refused.overlong behind (AreBytes-drop 1 (b ∷ behind) known)).0 (overlong_is (varint_at behind) e) in
     record { first = b; following = behind; is = refl; no_number = no_number_from behind none.1; no_prefix = no_prefix_from behind none.0 none.1 })
 
 front_lost : (bytes : List ℕ) → AreBytes bytes → IsLost bytes → is_lost bytes ≡ true
@@ -78,7 +74,7 @@ unfolding is_lost
 front_lost bytes known h =
     (let fits : AreBytes (h.first ∷ h.following) = subst AreBytes h.is known in
     ap (λ (l : List ℕ). is_overlong (remaining_length l)) h.is
-    ∙ ap is_overlong ((varint_refused.overlong h.following (tail_bytes h.first h.following fits)).1 (not_cut_from h.following h.no_prefix, none_from h.following h.no_number)))
+    ∙ ap is_overlong ((varint_refused.overlong h.following (AreBytes-drop 1 (h.first ∷ h.following) fits)).1 (not_cut_from h.following h.no_prefix, none_from h.following h.no_number)))
 
 -- ---- the beginning of a packet
 
@@ -129,7 +125,7 @@ need_begins : (bytes : List ℕ) → AreBytes bytes → cut_of bytes ≡ Need �
 unfolding cut_of fixed_header_of
 need_begins [] known h =
     record { first = 0; body = []; missing = 0 ∷ (varint_spelling 0 ++ []); small = omega arith; some_missing = omega arith; whole = refl }
-need_begins (b ∷ behind) known h = need_at b behind (varint_at behind) refl (tail_bytes b behind known) h
+need_begins (b ∷ behind) known h = need_at b behind (varint_at behind) refl (AreBytes-drop 1 (b ∷ behind) known) h
 
 -- The packet of which the bytes are the beginning.
 module _ (bytes : List ℕ) (h : IsBeginning bytes) where

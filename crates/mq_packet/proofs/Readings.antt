@@ -5,6 +5,7 @@ use Rattle.std.specs.Prelude.{if◌then◌else◌, IfOk, IfErr}
 use Rattle.std.specs.List.{list_all, prefix_len}
 use Rattle.mq_wire.specs.Spellings.{AreBytes}
 use Rattle.mq_wire.specs.Left.{Left}
+use Rattle.mq_wire.proofs.Exports.{AreBytes-after}
 use Rattle.mq_packet.specs.declared.rule.PacketRule.{PacketRule}
 use Rattle.mq_packet.specs.declared.rule.PacketRule.TheVariants as rules
 use Rattle.mq_packet.specs.declared.fault.DecodeFault.{DecodeFault}
@@ -17,7 +18,7 @@ use Rattle.mq_packet.specs.Formats.{Kind, Value, Objection, is_code, Format, don
 use Rattle.mq_packet.specs.Decoding.{◌>>=◌, broken, body_start, field_on, unless, codes_on, filters_on, read, decoded}
 use Rattle.mq_packet.specs.Spelled.{spelling, Begin, Is, IsSpelled, HasFault, Comes}
 use Rattle.mq_packet.proofs.CodeLaws.{codes_known, codes_bad, first_bad}
-use Rattle.mq_packet.proofs.FilterLaws.{behind_bytes, ComeTo, filters_known, filters_none, filters_bad, filters_come}
+use Rattle.mq_packet.proofs.FilterLaws.{ComeTo, filters_known, filters_none, filters_bad, filters_come}
 use Rattle.mq_packet.proofs.FieldLaws.{left_from, Front, field_found, field_read, field_misspelled, misspelled_field}
 
 -- The reading of a field and of what follows it, by what the field was read as.
@@ -45,7 +46,7 @@ module _ (kind : Kind) (objection : Value kind → Option Objection) (next : Val
   spelled_is later x front None none =
       (let there : ℕ = at + length (spelling kind x.0) in
       let P : Left → Type 0 = λ l. Is (next x.0) there x.1.rest (read (next x.0) l) in
-      let found : P (left_from there x.1.rest) = later x.0 there x.1.rest (behind_bytes bytes (spelling kind x.0) x.1.rest front.begin.spelled known) in
+      let found : P (left_from there x.1.rest) = later x.0 there x.1.rest (AreBytes-after (spelling kind x.0) x.1.rest bytes known front.begin.spelled) in
       good_next x.0 x.1.rest front.begin none (read (next x.0) x.1) (subst P (sym front.behind) found))
   spelled_is later x front (Some why) some = inr (inl (why, (x.0, x.1.rest, front.begin, some), refl))
 
@@ -120,7 +121,7 @@ module _ (kind : Kind) (objection : Value kind → Option Objection) (next : Val
   only_good : ((value : Value kind) → OnlyRead (next value)) → (value : Value kind) (left : List ℕ) → Begin kind bytes value left → objection value ≡ None → (r : Result Entry DecodeFault) → Is (next value) (at + length (spelling kind value)) left r → by_field kind objection next at (field_on kind (left_from at bytes)) ≡ r
   only_good later value left begin none r h =
       only_spelled value left begin None none
-      ∙ later value (at + length (spelling kind value)) left r (behind_bytes bytes (spelling kind value) left begin.spelled known) h
+      ∙ later value (at + length (spelling kind value)) left r (AreBytes-after (spelling kind value) left bytes known begin.spelled) h
 
   only_field : ((value : Value kind) → OnlyRead (next value)) → (r : Result Entry DecodeFault) → Is (field kind objection next) at bytes r → by_field kind objection next at (field_on kind (left_from at bytes)) ≡ r
   only_field later (Ok entry) h = only_good later h.0 h.1 h.2 h.3 (Ok entry) h.4

@@ -22,7 +22,7 @@ use Rattle.mq_packet.specs.Formats.{byte, properties, Format, done, field, at_en
 use Rattle.mq_packet.specs.Decoding.{body_start, decoded}
 use Rattle.mq_packet.specs.Spelled.{IsValue, Spells, IsSpelled, Comes}
 use Rattle.mq_packet.specs.Canonical.{type_of, list_spelling, reason_spelling, first_byte, acknowledgement_body, disconnect_body, auth_body, canonical_body, canonical}
-use Rattle.mq_packet.specs.Valid.{is_identifier, valid_acknowledgement, valid_disconnect, valid_auth, valid, IsListed, IsIdentified, IsTyped}
+use Rattle.mq_packet.specs.Valid.{is_identifier, valid_acknowledgement, valid_ending, valid, IsListed, IsIdentified, IsTyped}
 use Rattle.mq_packet.specs.ShortForms.{SpellsEnd, IsBodyOf, IsSpelling, has_short_form, IsShortFor, BeginsWithPacket}
 use Rattle.mq_packet.proofs.ValueLaws.{listed_is, list_value, code_value, unobjected}
 use Rattle.mq_packet.proofs.CanonicalLaws.{varint_some, canonical_spelled}
@@ -90,15 +90,15 @@ acknowledgement_spells kind identifier code list body ok e h =
       end_spells (acknowledgement_codes kind) (acknowledgement_bytes kind) (acknowledgement_place kind) (acknowledgement kind identifier) code list.items h.0 value known.1 h.2,
     ))
 
-disconnect_spells : (code : ℕ) (list : Listed) (body : List ℕ) → IsListed list → valid_disconnect code list ≡ true → SpellsEnd code list.items body → IsSpelled 224 body (disconnect code list)
-unfolding valid_disconnect
+disconnect_spells : (code : ℕ) (list : Listed) (body : List ℕ) → IsListed list → valid_ending endings.Disconnect code list ≡ true → SpellsEnd code list.items body → IsSpelled 224 body (disconnect code list)
+unfolding valid_ending
 disconnect_spells code list body ok e h =
     (let parts : (same_place list.place places.Disconnect ≡ true) × (is_code DISCONNECT_CODES code ≡ true) = and_parts _ _ e in
     subst (λ (l : Listed). Spells (ending_format endings.Disconnect) body (disconnect code l)) (listed_is places.Disconnect list parts.0)
     (end_spells DISCONNECT_CODES refl places.Disconnect disconnect code list.items body (list_value places.Disconnect list ok parts.0) parts.1 h))
 
-auth_spells : (code : ℕ) (list : Listed) (body : List ℕ) → IsListed list → valid_auth code list ≡ true → SpellsEnd code list.items body → IsSpelled 240 body (auth code list)
-unfolding valid_auth
+auth_spells : (code : ℕ) (list : Listed) (body : List ℕ) → IsListed list → valid_ending endings.Auth code list ≡ true → SpellsEnd code list.items body → IsSpelled 240 body (auth code list)
+unfolding valid_ending
 auth_spells code list body ok e h =
     (let parts : (same_place list.place places.Auth ≡ true) × (is_code AUTH_CODES code ≡ true) = and_parts _ _ e in
     subst (λ (l : Listed). Spells (ending_format endings.Auth) body (auth code l)) (listed_is places.Auth list parts.0)

@@ -24,7 +24,7 @@ use Rattle.mq_packet.specs.Entries.{Entry, connect, connack, publish, acknowledg
 use Rattle.mq_packet.specs.Formats.{byte, text, binary, properties, Format, done, refused, field, at_end, field_if, will_if, is_code, names_topic, has_bits, qos_of, connect_from, connect_format, connack_format, publish_from, publish_unacknowledged, publish_acknowledged, publish_format, acknowledgement_format, request_format, answer_format, ending_format, any_value, code_objection, format_of, format_by_type}
 use Rattle.mq_packet.specs.FirstBytes.{flags_in}
 use Rattle.mq_packet.specs.Spelled.{Spells, IsSpelled}
-use Rattle.mq_packet.specs.Valid.{is_text, is_binary, is_identifier, if_there, fits_qos, valid_will, valid_connect, valid_connack, valid_publish, valid_acknowledgement, valid_filters, valid_request, valid_answer, valid_disconnect, valid_auth, valid, IsTyped}
+use Rattle.mq_packet.specs.Valid.{is_text, is_binary, is_identifier, if_there, fits_qos, valid_will, valid_connect, valid_connack, valid_publish, valid_acknowledgement, valid_filters, valid_request, valid_answer, valid_ending, valid, IsTyped}
 use Rattle.mq_packet.specs.Canonical.{first_byte, canonical_body}
 use Rattle.mq_packet.proofs.CanonicalLaws.{canonical_spelled}
 use Rattle.mq_packet.proofs.RequestLaws.{filters_fit}
@@ -84,11 +84,11 @@ acknowledgement_sound kind bytes entry h =
     (success_known kind) h.1 entry h.4)
 
 disconnect_sound : IsSound (ending_format endings.Disconnect)
-unfolding valid_disconnect
+unfolding valid_ending
 disconnect_sound = coded_sound disconnect_codes places.Disconnect (λ code items. disconnect code (listed places.Disconnect items)) (λ code items e. e) refl
 
 auth_sound : IsSound (ending_format endings.Auth)
-unfolding valid_auth
+unfolding valid_ending
 auth_sound = coded_sound auth_codes places.Auth (λ code items. auth code (listed places.Auth items)) (λ code items e. e) refl
 
 -- ---- PUBLISH

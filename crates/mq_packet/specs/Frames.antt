@@ -1,6 +1,6 @@
 -- The packet at the front of a stream (MQTT 5.0, section 2.1).
-use Rattle.std.specs.Prelude.{◌≡◌, ℕ, ◌+◌, ◌≤◌, nat_le, if◌then◌else◌, List, ◌∷◌, ◌++◌, length, slice_index}
-use Rattle.mq_wire.specs.Spellings.{varint_spelling}
+use Rattle.std.specs.Prelude.{◌≡◌, ℕ, ◌+◌, nat_le, if◌then◌else◌, List, ◌∷◌, ◌++◌, length, slice_index}
+use Rattle.mq_wire.specs.Spellings.{IsVarint, varint_spelling}
 use Rattle.mq_packet.specs.declared.header.FixedHeader.{FixedHeader}
 use Rattle.mq_packet.specs.declared.header.FixedHeader.TheVariants as headers
 use Rattle.mq_packet.specs.declared.frame.Cut.{Cut}
@@ -13,7 +13,7 @@ use Rattle.mq_packet.specs.Decoding.{body_start}
 pub record BeginsWithFrame (bytes : List ℕ) (first start end : ℕ) : Type 0 where
   pub body : List ℕ
   pub behind : List ℕ
-  pub small : length body ≤ 268435455
+  pub small : IsVarint (length body)
   pub is : bytes ≡ first ∷ (varint_spelling (length body) ++ (body ++ behind))
   pub start_is : start ≡ body_start (length body)
   pub end_is : end ≡ start + length body

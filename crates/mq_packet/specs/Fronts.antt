@@ -1,5 +1,5 @@
 -- What the bytes at the front of a stream are (MQTT 5.0, 2.1.4 and 1.5.5): a packet, the beginning of one, or neither.
-use Rattle.std.specs.Prelude.{◌≡◌, ℕ, ◌<◌, ◌≤◌, List, ◌∷◌, ◌++◌, length}
+use Rattle.std.specs.Prelude.{◌≡◌, ℕ, ◌<◌, List, ◌∷◌, ◌++◌, length}
 use Rattle.mq_wire.specs.Spellings.{IsVarint, varint_spelling}
 use Rattle.mq_packet.specs.declared.frame.Cut.{Cut}
 use Rattle.mq_packet.specs.declared.frame.Cut.TheVariants.{Need, Frame, Lost}
@@ -11,7 +11,7 @@ pub record IsBeginning (bytes : List ℕ) : Type 0 where
   pub first : ℕ
   pub body : List ℕ
   pub missing : List ℕ
-  pub small : length body ≤ 268435455
+  pub small : IsVarint (length body)
   pub some_missing : 0 < length missing
   pub whole : first ∷ (varint_spelling (length body) ++ body) ≡ bytes ++ missing
 

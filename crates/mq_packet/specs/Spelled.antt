@@ -1,7 +1,7 @@
 -- Which packet a first byte and a body spell, and which fault they have: relations, apart from any reading.
-use Rattle.std.specs.Prelude.{◌≡◌, ◌≢◌, ℕ, ◌+◌, ◌≤◌, ◌⊎◌, Bool, true, false, List, [], ◌∷◌, ◌++◌, length, Option, Some, None, Result, Ok, Err}
+use Rattle.std.specs.Prelude.{◌≡◌, ◌≢◌, ℕ, ◌+◌, ◌⊎◌, Bool, true, false, List, [], ◌∷◌, ◌++◌, length, Option, Some, None, Result, Ok, Err}
 use Rattle.std.specs.List.{list_all, AllByRecursion}
-use Rattle.mq_wire.specs.Spellings.{IsByte, byte_spelling, IsTwoBytes, two_bytes_spelling, IsText, text_spelling, IsBinary, binary_spelling, varint_spelling}
+use Rattle.mq_wire.specs.Spellings.{IsByte, byte_spelling, IsTwoBytes, two_bytes_spelling, IsText, text_spelling, IsBinary, binary_spelling, IsVarint, varint_spelling}
 use Rattle.mq_props.specs.Values.{body as properties_spelling}
 use Rattle.mq_props.specs.Allowed.{AreAllowed}
 use Rattle.mq_packet.specs.declared.rule.PacketRule.{PacketRule}
@@ -20,7 +20,7 @@ IsValue byte value = IsByte value
 IsValue two_bytes value = IsTwoBytes value
 IsValue text value = IsText value
 IsValue binary value = IsBinary value
-IsValue (properties place) value = AreAllowed place value × (length (properties_spelling value) ≤ 268435455)
+IsValue (properties place) value = AreAllowed place value × IsVarint (length (properties_spelling value))
 
 -- The spelling of a value.
 abbrev pub spelling : (kind : Kind) → Value kind → List ℕ

@@ -3,6 +3,7 @@ use Rattle.std.specs.Prelude.{ℕ, ◌+◌, ◌≤◌, nat_le, Bool, true, false
 use Rattle.mq_wire.specs.declared.fault.Reason.{Reason}
 use Rattle.mq_wire.specs.declared.fault.Reason.TheVariants as reasons
 use Rattle.mq_wire.specs.Fields.{varint_at}
+use Rattle.mq_wire.specs.Spellings.{max_varint}
 use Rattle.mq_packet.specs.declared.header.FixedHeader.{FixedHeader}
 use Rattle.mq_packet.specs.declared.header.FixedHeader.TheVariants.{Short, Lost, Whole}
 
@@ -19,7 +20,7 @@ header_with (Err _) = Short
 
 -- A whole fixed header has 2 to 5 bytes, and its packet at most 268,435,455 more (2.1.4).
 abbrev pub HasBounds : FixedHeader → Type 0
-HasBounds (Whole header size) = (2 ≤ header) × (header ≤ 5) × (header ≤ size) × (size ≤ header + 268435455)
+HasBounds (Whole header size) = (2 ≤ header) × (header ≤ 5) × (header ≤ size) × (size ≤ header + max_varint)
 HasBounds _ = Unit {0}
 
 -- The fixed header at the front.

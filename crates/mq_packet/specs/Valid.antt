@@ -1,29 +1,31 @@
 -- Which packets some bytes spell, as a test of their fields (MQTT 5.0, 3.1 to 3.15).
-use Rattle.std.specs.Prelude.{ℕ, ◌<◌, ◌≤◌, nat_le, ◌==◌, Bool, true, false, ◌&&◌, not, List, length, Option, Some, None, is_some, IfSome}
+use Rattle.std.specs.Prelude.{ℕ, nat_le, ◌==◌, Bool, true, false, ◌&&◌, not, List, length, Option, Some, None, is_some, IfSome}
 use Rattle.std.specs.List.{list_all, AllByRecursion}
 use Rattle.std.specs.Str.{IsUtf8}
-use Rattle.mq_wire.specs.Spellings.{has_nul}
+use Rattle.mq_wire.specs.Spellings.{IsByte, max_two_bytes, IsTwoBytes, IsVarint, has_nul}
 use Rattle.mq_topic.specs.Levels.{is_name}
 use Rattle.mq_props.specs.declared.table.Place.TheVariants as places
 use Rattle.mq_props.specs.Table.{same_place}
 use Rattle.mq_props.specs.Values.{body as properties_spelling}
 use Rattle.mq_props.specs.Allowed.{AreAllowed}
 use Rattle.mq_props.specs.Listed.{Listed}
-use Rattle.mq_packet.specs.ReasonCodes.{connack_codes, disconnect_codes, auth_codes}
+use Rattle.mq_packet.specs.ReasonCodes.{connack_codes}
 use Rattle.mq_packet.specs.declared.packet.Qos.{Qos}
 use Rattle.mq_packet.specs.declared.packet.Qos.TheVariants.{AtMostOnce, AtLeastOnce, ExactlyOnce}
 use Rattle.mq_packet.specs.declared.packet.AcknowledgementKind.{AcknowledgementKind}
+use Rattle.mq_packet.specs.declared.packet.EndingKind.{EndingKind}
+use Rattle.mq_packet.specs.declared.packet.EndingKind.TheVariants as endings
 use Rattle.mq_packet.specs.declared.packet.RequestKind.{RequestKind}
-use Rattle.mq_packet.specs.Entries.{Entry, connect, connack, publish, acknowledgement, request, answer, pingreq, pingresp, disconnect, auth, WillFields, ConnectFields, PublishFields, AskedFilter, acknowledgement_place, acknowledgement_codes, request_place, answer_place, answer_codes, has_options}
+use Rattle.mq_packet.specs.Entries.{Entry, connect, connack, publish, acknowledgement, request, answer, pingreq, pingresp, disconnect, auth, WillFields, ConnectFields, PublishFields, AskedFilter, acknowledgement_place, acknowledgement_codes, request_place, answer_place, answer_codes, has_options, ending_place, ending_codes}
 use Rattle.mq_packet.specs.Formats.{is_code, names_topic, is_filter, are_options}
 
 -- A text has at most 65,535 bytes, and no U+0000 (1.5.4).
 abbrev pub is_text : List ℕ → Bool
-is_text text = nat_le (length text) 65535 && not (has_nul text)
+is_text text = nat_le (length text) max_two_bytes && not (has_nul text)
 
 -- Binary data has at most 65,535 bytes (1.5.6).
 abbrev pub is_binary : List ℕ → Bool
-is_binary bytes = nat_le (length bytes) 65535
+is_binary bytes = nat_le (length bytes) max_two_bytes
 
 -- A Packet Identifier isn't 0 (2.2.1).
 abbrev pub is_identifier : ℕ → Bool
@@ -92,11 +94,8 @@ valid_answer kind identifier list reasons =
     same_place list.place (answer_place kind) && (is_identifier identifier && list_all (is_code (answer_codes kind)) reasons)
 
 -- DISCONNECT (3.14) and AUTH (3.15).
-unfoldable pub valid_disconnect : ℕ → Listed → Bool
-valid_disconnect code list = same_place list.place places.Disconnect && is_code disconnect_codes code
-
-unfoldable pub valid_auth : ℕ → Listed → Bool
-valid_auth code list = same_place list.place places.Auth && is_code auth_codes code
+unfoldable pub valid_ending : EndingKind → ℕ → Listed → Bool
+valid_ending kind code list = same_place list.place (ending_place kind) && is_code (ending_codes kind) code
 
 -- The packet is spelled by some bytes.
 abbrev pub valid : Entry → Bool
@@ -108,21 +107,21 @@ valid (request kind identifier list filters) = valid_request kind identifier lis
 valid (answer kind identifier list reasons) = valid_answer kind identifier list reasons
 valid pingreq = true
 valid pingresp = true
-valid (disconnect code list) = valid_disconnect code list
-valid (auth code list) = valid_auth code list
+valid (disconnect code list) = valid_ending endings.Disconnect code list
+valid (auth code list) = valid_ending endings.Auth code list
 
 -- What the types of the fields say of any packet, valid or not: a property list may stand in its own place and isn't longer
 -- than a length can say, a text is UTF-8, and a number has its width.
 pub record IsListed (list : Listed) : Type 0 where
   pub allowed : AreAllowed list.place list.items
-  pub bound : length (properties_spelling list.items) ≤ 268435455
+  pub bound : IsVarint (length (properties_spelling list.items))
 
 pub record IsWill (will : WillFields) : Type 0 where
   pub properties : IsListed will.properties
   pub topic : IsUtf8 will.topic
 
 pub record IsConnect (fields : ConnectFields) : Type 0 where
-  pub keep_alive : fields.keep_alive ≤ 65535
+  pub keep_alive : IsTwoBytes fields.keep_alive
   pub properties : IsListed fields.properties
   pub client_identifier : IsUtf8 fields.client_identifier
   pub will : IfSome fields.will IsWill
@@ -130,16 +129,16 @@ pub record IsConnect (fields : ConnectFields) : Type 0 where
 
 pub record IsPublish (fields : PublishFields) : Type 0 where
   pub topic : IsUtf8 fields.topic
-  pub identifier : IfSome fields.identifier (λ identifier. identifier ≤ 65535)
+  pub identifier : IfSome fields.identifier IsTwoBytes
   pub properties : IsListed fields.properties
 
 pub record IsIdentified (identifier : ℕ) (list : Listed) : Type 0 where
-  pub bound : identifier ≤ 65535
+  pub bound : IsTwoBytes identifier
   pub properties : IsListed list
 
 pub record IsAskedFilter (asked : AskedFilter) : Type 0 where
   pub filter : IsUtf8 asked.filter
-  pub options : IfSome asked.options (λ options. options < 256)
+  pub options : IfSome asked.options IsByte
 
 pub record IsRequest (identifier : ℕ) (list : Listed) (filters : List AskedFilter) : Type 0 where
   pub identified : IsIdentified identifier list

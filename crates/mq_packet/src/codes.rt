@@ -1,5 +1,8 @@
 //! The Reason Codes of each packet (MQTT 5.0, section 2.4). They are proved equal to those that the contracts cite.
 
+ghost use Rattle.std.specs.Prelude.{◌≡◌};
+ghost use Rattle.mq_packet.specs.Formats.{is_code};
+
 /// CONNACK (MQTT 5.0, section 3.2.2.2).
 pub const CONNACK_CODES: [u8; 22] = [
     0x00, 0x80, 0x81, 0x82, 0x83, 0x84, 0x85, 0x86, 0x87, 0x88, 0x89, 0x8A, 0x8C, 0x90, 0x95, 0x97,
@@ -28,3 +31,10 @@ pub const DISCONNECT_CODES: [u8; 30] = [
 
 /// AUTH (MQTT 5.0, section 3.15.2.1).
 pub const AUTH_CODES: [u8; 3] = [0x00, 0x18, 0x19];
+
+/// Whether a Reason Code is in a packet's table.
+pub fn is_code(table: &[u8], code: u8) -> bool
+    ensures { result ≡ is_code table.now code }
+{
+    table.contains(&code)
+}

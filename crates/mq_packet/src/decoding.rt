@@ -9,13 +9,14 @@ ghost use Rattle.mq_packet.specs.declared.packet.Packet.TheVariants as packets;
 ghost use Rattle.mq_packet.specs.declared.rule.PacketRule.{PacketRule};
 ghost use Rattle.mq_packet.specs.declared.stop.Stop.TheVariants as stops;
 ghost use Rattle.mq_packet.specs.Entries.{Entry};
-ghost use Rattle.mq_packet.specs.Decoding.{body_start, decoded};
+ghost use Rattle.mq_packet.specs.Decoding.{decoded};
 ghost use Rattle.mq_packet.specs.Spelled.{IsSpelled, HasFault, Comes};
 ghost use Rattle.mq_packet.specs.Reading.{view, HasReadLen, Gives, fault_of};
 ghost use Rattle.mq_packet.specs.Sizes.{remaining_length};
 
 use crate::fault::{BodyFault, DecodeFault};
 use crate::first_bytes::flags;
+use crate::header::header_len;
 use crate::packet::{Packet, Publish};
 use crate::reading::{read_packet, read_publish};
 use crate::stop::Stop;
@@ -46,13 +47,13 @@ pub fn decode<'a>(first: u8, body: &'a [u8]) -> Result<Packet<'a>, DecodeFault>
 }
 
 #[inline(always)]
-#[tactic(auto, unfolding(crate::specs::Decoding::decoded))]
+#[tactic(auto, unfolding(crate::specs::Decoding::decoded, crate::specs::Decoding::body_start))]
 fn read_body<'a>(first: u8, body: &'a [u8]) -> Result<Packet<'a>, DecodeFault>
     requires { length body.now ≤ 268435455 }
     ensures read_len { IfOk result (λ packet. HasReadLen (length body.now) packet) }
     ensures exact { Gives view result (decoded first body.now) }
 {
-    let cursor = Cursor::starting_at(body, start_of_body(body.len()));
+    let cursor = Cursor::starting_at(body, header_len(body.len() as u32));
     match read_packet(first, cursor, body.len()) {
         Ok(packet) => Ok(packet),
         Err(stop) => Err(fault_of(stop)),
@@ -73,14 +74,14 @@ pub fn decode_publish<'a>(first: u8, body: &'a [u8]) -> Result<Publish<'a>, Deco
 }
 
 #[inline(always)]
-#[tactic(auto, unfolding(crate::specs::Decoding::decoded))]
+#[tactic(auto, unfolding(crate::specs::Decoding::decoded, crate::specs::Decoding::body_start))]
 fn read_publish_body<'a>(first: u8, body: &'a [u8]) -> Result<Publish<'a>, DecodeFault>
     requires from { 48 ≤ first }
     requires to { first < 64 }
     requires bound { length body.now ≤ 268435455 }
     ensures exact { Gives (λ publish. view (packets.Publish publish)) result (decoded first body.now) }
 {
-    let cursor = Cursor::starting_at(body, start_of_body(body.len()));
+    let cursor = Cursor::starting_at(body, header_len(body.len() as u32));
     match read_publish(flags(first), cursor) {
         Ok(publish) => Ok(publish),
         Err(stop) => Err(fault_of(stop)),
@@ -99,22 +100,5 @@ fn fault_of(stop: Stop) -> DecodeFault
             rule,
         }),
         Stop::OtherVersion(version) => DecodeFault::OtherVersion(version),
-    }
-}
-
-// The place of the first byte of a body of this size: after the first byte and the shortest spelling of the size
-// (MQTT 5.0, sections 1.5.5 and 2.1.4).
-#[inline(always)]
-#[tactic(auto, unfolding(crate::specs::Decoding::body_start, mq_wire::specs::Spellings::varint_spelling))]
-fn start_of_body(size: usize) -> usize
-    requires { size ≤ 268435455 }
-    ensures start { result ≡ body_start size }
-    ensures bound { result ≤ 5 }
-{
-    match size {
-        0..128 => 2,
-        128..16_384 => 3,
-        16_384..2_097_152 => 4,
-        _ => 5,
     }
 }

@@ -1,9 +1,10 @@
 //! The fixed header of a packet (MQTT 5.0, section 2.1).
 
-ghost use Rattle.std.specs.Prelude.{◌≡◌};
+ghost use Rattle.std.specs.Prelude.{◌≡◌, ◌+◌, ◌≤◌, length};
+ghost use Rattle.mq_wire.specs.Spellings.{varint_spelling};
 ghost use Rattle.mq_packet.specs.Stream.{fixed_header_of, HasBounds};
 
-use mq_wire::{Cursor, Reason};
+use mq_wire::{Cursor, Reason, varint_len};
 
 /// What the bytes at the front of a stream of packets say of the first packet's fixed header (MQTT 5.0, section 2.1).
 #[derive(Clone, Copy, Debug, PartialEq, Eq)]
@@ -45,4 +46,14 @@ pub fn fixed_header(bytes: &[u8]) -> FixedHeader
             _ => FixedHeader::Short,
         },
     }
+}
+
+/// How many bytes the fixed header of a packet with this Remaining Length has: its first byte, and the shortest spelling of the
+/// number (MQTT 5.0, sections 1.5.5 and 2.1.4).
+#[inline(always)]
+pub fn header_len(remaining: u32) -> usize
+    ensures len { result ≡ 1 + length (varint_spelling remaining) }
+    ensures bound { result ≤ 5 }
+{
+    1 + varint_len(remaining)
 }

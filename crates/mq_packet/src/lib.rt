@@ -14,6 +14,7 @@ mod first_bytes;
 mod frame;
 mod front_laws;
 mod header;
+mod kinds;
 mod laws;
 mod outcome_laws;
 mod packet;

@@ -30,7 +30,7 @@ use ending::read_ending;
 use fields::whole;
 pub use lists::check_filters;
 use mq_wire::Cursor;
-pub use publish::read_publish;
+pub use publish::{names_topic, read_publish};
 pub use request::read_request;
 
 /// The packet with this first byte whose body, of this size, is left in the cursor; or where the reading of it stops. But for

@@ -3,35 +3,23 @@
 ghost use Rattle.std.specs.Prelude.{◌≡◌, ◌↔◌, ℕ, true, List};
 ghost use Rattle.std.specs.List.{list_all};
 ghost use Rattle.std.specs.Option.{option_map};
-ghost use Rattle.mq_wire.specs.Spellings.{has_nul};
 ghost use Rattle.mq_props.specs.Table.{place_number, same_place};
 ghost use Rattle.mq_packet.specs.Spelled.{IsSpelled};
-ghost use Rattle.mq_packet.specs.Formats.{is_code, names_topic};
+ghost use Rattle.mq_packet.specs.Formats.{is_code};
 ghost use Rattle.mq_packet.specs.Reading.{view, will_view};
-ghost use Rattle.mq_packet.specs.Entries.{acknowledgement_place, acknowledgement_codes};
-ghost use Rattle.mq_packet.specs.Valid.{is_text, is_binary, if_there, fits_qos, valid_will, valid_acknowledgement, valid_filters, valid_request, valid_answer, valid_disconnect, valid_auth, valid};
+ghost use Rattle.mq_packet.specs.Valid.{is_text, is_binary, if_there, fits_qos, valid_will, valid_acknowledgement, valid_filters, valid_request, valid_answer, valid_ending, valid};
 
-use crate::codes::{
-    AUTH_CODES, CONNACK_CODES, DISCONNECT_CODES, PUBACK_CODES, PUBREL_CODES, SUBACK_CODES,
-    UNSUBACK_CODES,
-};
+use crate::codes::{CONNACK_CODES, is_code};
 use crate::facts::packet_facts;
 use crate::filters::Filters;
 use crate::packet::{
-    Acknowledgement, AcknowledgementKind, Answer, Connack, Connect, Ending, Packet, Publish, Qos,
-    Request, RequestKind, Will,
+    Acknowledgement, AcknowledgementKind, Answer, Connack, Connect, Ending, EndingKind, Packet,
+    Publish, Qos, Request, RequestKind, Will,
 };
+use crate::reading::names_topic;
 use mq_props::{Place, Props};
 use mq_topic::check_name;
-
-// The most bytes that a text or binary data can have.
-const MAX_LEN: usize = 65_535;
-
-fn contains_nul(text: &str) -> bool
-    ensures { result ≡ has_nul text.now }
-{
-    text.as_bytes().contains(&0)
-}
+use mq_wire::{MAX_LEN, contains_nul};
 
 fn is_text(text: &str) -> bool
     ensures { result ≡ is_text text.now }
@@ -55,12 +43,6 @@ fn stands_in(list: &Props<'_>, place: Place) -> bool
     ensures { result ≡ same_place list.now.place place }
 {
     number(list.place()) == number(place)
-}
-
-fn is_code(table: &[u8], code: u8) -> bool
-    ensures { result ≡ is_code table.now code }
-{
-    table.contains(&code)
 }
 
 fn are_codes(table: &[u8], codes: &[u8]) -> bool
@@ -133,12 +115,6 @@ fn fits_qos(duplicate: bool, qos: Qos, identifier: Option<u16>) -> bool
     }
 }
 
-fn names_topic(topic: &str, list: &Props<'_>) -> bool
-    ensures { result ≡ names_topic topic.now list.now.items }
-{
-    !topic.is_empty() || list.get_topic_alias().is_some()
-}
-
 #[tactic(auto, unfolding(crate::specs::Valid::valid_publish))]
 fn is_publish(packet: &Publish<'_>) -> bool
     ensures { result ≡ valid (view (Packet.Publish packet.now)) }
@@ -150,48 +126,20 @@ fn is_publish(packet: &Publish<'_>) -> bool
         && names_topic(packet.topic, &packet.properties)
 }
 
-#[tactic(auto, unfolding(crate::specs::Valid::valid_disconnect))]
-fn is_disconnect(packet: &Ending<'_>) -> bool
-    ensures { result ≡ valid (view (Packet.Disconnect packet.now)) }
+#[tactic(auto, unfolding(crate::specs::Valid::valid_ending))]
+fn is_ending(kind: EndingKind, packet: &Ending<'_>) -> bool
+    ensures { result ≡ valid_ending kind packet.now.code packet.now.properties }
 {
-    stands_in(&packet.properties, Place::Disconnect) && is_code(&DISCONNECT_CODES, packet.code)
-}
-
-#[tactic(auto, unfolding(crate::specs::Valid::valid_auth))]
-fn is_auth(packet: &Ending<'_>) -> bool
-    ensures { result ≡ valid (view (Packet.Auth packet.now)) }
-{
-    stands_in(&packet.properties, Place::Auth) && is_code(&AUTH_CODES, packet.code)
-}
-
-// Where the property list of an acknowledgement stands.
-fn acknowledgement_place(kind: AcknowledgementKind) -> Place
-    ensures { result ≡ acknowledgement_place kind }
-{
-    match kind {
-        AcknowledgementKind::Puback => Place::Puback,
-        AcknowledgementKind::Pubrec => Place::Pubrec,
-        AcknowledgementKind::Pubrel => Place::Pubrel,
-        AcknowledgementKind::Pubcomp => Place::Pubcomp,
-    }
-}
-
-fn is_acknowledgement_code(kind: AcknowledgementKind, code: u8) -> bool
-    ensures { result ≡ is_code (acknowledgement_codes kind) code }
-{
-    match kind {
-        AcknowledgementKind::Puback | AcknowledgementKind::Pubrec => is_code(&PUBACK_CODES, code),
-        AcknowledgementKind::Pubrel | AcknowledgementKind::Pubcomp => is_code(&PUBREL_CODES, code),
-    }
+    stands_in(&packet.properties, kind.place()) && is_code(kind.codes(), packet.code)
 }
 
 #[tactic(auto, unfolding(crate::specs::Valid::valid_acknowledgement))]
 fn is_acknowledgement(kind: AcknowledgementKind, packet: &Acknowledgement<'_>) -> bool
     ensures { result ≡ valid_acknowledgement kind packet.now.identifier packet.now.code packet.now.properties }
 {
-    stands_in(&packet.properties, acknowledgement_place(kind))
+    stands_in(&packet.properties, kind.place())
         && packet.identifier != 0
-        && is_acknowledgement_code(kind, packet.code)
+        && is_code(kind.codes(), packet.code)
 }
 
 // The filters have options exactly where they are asked for.
@@ -206,36 +154,18 @@ fn are_filters(asks: bool, filters: &Filters<'_>) -> bool
 fn is_request(kind: RequestKind, packet: &Request<'_>) -> bool
     ensures { result ≡ valid_request kind packet.now.identifier packet.now.properties packet.now.filters }
 {
-    match kind {
-        RequestKind::Subscribe => {
-            stands_in(&packet.properties, Place::Subscribe)
-                && packet.identifier != 0
-                && are_filters(true, &packet.filters)
-        }
-        RequestKind::Unsubscribe => {
-            stands_in(&packet.properties, Place::Unsubscribe)
-                && packet.identifier != 0
-                && are_filters(false, &packet.filters)
-        }
-    }
+    stands_in(&packet.properties, kind.place())
+        && packet.identifier != 0
+        && are_filters(kind.has_options(), &packet.filters)
 }
 
 #[tactic(auto, unfolding(crate::specs::Valid::valid_answer))]
 fn is_answer(kind: RequestKind, packet: &Answer<'_>) -> bool
     ensures { result ≡ valid_answer kind packet.now.identifier packet.now.properties packet.now.codes }
 {
-    match kind {
-        RequestKind::Subscribe => {
-            stands_in(&packet.properties, Place::Suback)
-                && packet.identifier != 0
-                && are_codes(&SUBACK_CODES, packet.codes.as_bytes())
-        }
-        RequestKind::Unsubscribe => {
-            stands_in(&packet.properties, Place::Unsuback)
-                && packet.identifier != 0
-                && are_codes(&UNSUBACK_CODES, packet.codes.as_bytes())
-        }
-    }
+    stands_in(&packet.properties, kind.answer_place())
+        && packet.identifier != 0
+        && are_codes(kind.answer_codes(), packet.codes.as_bytes())
 }
 
 fn passes(packet: &Packet<'_>) -> bool
@@ -254,8 +184,8 @@ fn passes(packet: &Packet<'_>) -> bool
         Packet::Unsubscribe(packet) => is_request(RequestKind::Unsubscribe, packet),
         Packet::Unsuback(packet) => is_answer(RequestKind::Unsubscribe, packet),
         Packet::Pingreq | Packet::Pingresp => true,
-        Packet::Disconnect(packet) => is_disconnect(packet),
-        Packet::Auth(packet) => is_auth(packet),
+        Packet::Disconnect(packet) => is_ending(EndingKind::Disconnect, packet),
+        Packet::Auth(packet) => is_ending(EndingKind::Auth, packet),
     }
 }
 

@@ -17,12 +17,13 @@ ghost use Rattle.mq_packet.specs.Canonical.{first_byte, canonical_body, canonica
 ghost use Rattle.mq_packet.specs.Valid.{valid};
 
 use crate::facts::packet_facts;
+use crate::header::header_len;
 use crate::packet::Packet;
 use bodies::put_body;
 pub use fault::EncodeFault;
 use first::first_byte;
 pub use laws::{what_is_valid_is_spelled, what_is_written_is_cut, what_is_written_is_decoded};
-use lengths::{body_len, varint_len};
+use lengths::body_len;
 use mq_wire::PutFault;
 use puts::{put_byte, put_length};
 
@@ -48,7 +49,7 @@ fn written_len(packet: &Packet<'_>, len: u32) -> usize
     requires bound { len ≤ 268435455 }
     ensures { result ≡ length (canonical (view packet.now)) }
 {
-    1 + varint_len(len) + len as usize
+    header_len(len) + len as usize
 }
 
 // Appends the packet, for which there is room, and whose body has this length.

@@ -1,39 +1,16 @@
 //! The reader of PUBACK, PUBREC, PUBREL and PUBCOMP (MQTT 5.0, sections 3.4 to 3.7).
 
 ghost use Rattle.std.specs.Prelude.{◌≡◌, ◌≤◌, Some, IfOk};
-ghost use Rattle.mq_packet.specs.Entries.{acknowledgement, acknowledgement_place, acknowledgement_codes};
+ghost use Rattle.mq_packet.specs.Entries.{acknowledgement, acknowledgement_place};
 ghost use Rattle.mq_packet.specs.Formats.{acknowledgement_format, last_properties};
 ghost use Rattle.mq_packet.specs.Decoding.{read};
 ghost use Rattle.mq_packet.specs.Reading.{Reads};
 
 use super::fields::{SUCCESS, last_properties, packet_identifier, reason_code};
-use crate::codes::{PUBACK_CODES, PUBREL_CODES};
 use crate::packet::{Acknowledgement, AcknowledgementKind};
 use crate::stop::Stop;
-use mq_props::{Place, Props};
+use mq_props::Props;
 use mq_wire::Cursor;
-
-#[inline(always)]
-fn place_of(kind: AcknowledgementKind) -> Place
-    ensures { result ≡ acknowledgement_place kind }
-{
-    match kind {
-        AcknowledgementKind::Puback => Place::Puback,
-        AcknowledgementKind::Pubrec => Place::Pubrec,
-        AcknowledgementKind::Pubrel => Place::Pubrel,
-        AcknowledgementKind::Pubcomp => Place::Pubcomp,
-    }
-}
-
-#[inline(always)]
-fn codes_of(kind: AcknowledgementKind) -> &'static [u8]
-    ensures { result.now ≡ acknowledgement_codes kind }
-{
-    match kind {
-        AcknowledgementKind::Puback | AcknowledgementKind::Pubrec => &PUBACK_CODES,
-        AcknowledgementKind::Pubrel | AcknowledgementKind::Pubcomp => &PUBREL_CODES,
-    }
-}
 
 /// Reads a PUBACK, PUBREC, PUBREL or PUBCOMP (MQTT 5.0, sections 3.4 to 3.7) from all that is left of a body of this size, which it
 /// keeps. Where it ends after its identifier its Reason Code is 0x00, and where it ends after its code it has no properties.
@@ -56,11 +33,11 @@ pub fn read_acknowledgement<'a>(
         return Ok(Acknowledgement {
             identifier,
             code: SUCCESS,
-            properties: Props::empty(place_of(kind)),
+            properties: Props::empty(kind.place()),
             read_len: Some(size as u32),
         });
     }
-    let code = reason_code(&mut cursor, codes_of(kind))?;
+    let code = reason_code(&mut cursor, kind.codes())?;
     read_behind_code(cursor, kind, identifier, code, size)
 }
 
@@ -77,7 +54,7 @@ fn read_behind_code<'a>(
     ensures read { Reads (λ p. acknowledgement kind p.identifier p.code p.properties) result (read (last_properties (acknowledgement_place kind) (acknowledgement kind identifier code)) cursor.entry) }
     ensures read_len { IfOk result (λ p. p.read_len ≡ Some size) }
 {
-    let properties = last_properties(cursor, place_of(kind))?;
+    let properties = last_properties(cursor, kind.place())?;
     Ok(Acknowledgement {
         identifier,
         code,

@@ -1,35 +1,16 @@
 //! The reader of DISCONNECT and AUTH (MQTT 5.0, sections 3.14 and 3.15).
 
 ghost use Rattle.std.specs.Prelude.{◌≡◌, ◌≤◌, Some, IfOk};
-ghost use Rattle.mq_packet.specs.Entries.{ending, ending_place, ending_codes};
+ghost use Rattle.mq_packet.specs.Entries.{ending};
 ghost use Rattle.mq_packet.specs.Formats.{ending_format};
 ghost use Rattle.mq_packet.specs.Decoding.{read};
 ghost use Rattle.mq_packet.specs.Reading.{Reads};
 
 use super::fields::{SUCCESS, last_properties, reason_code};
-use crate::codes::{AUTH_CODES, DISCONNECT_CODES};
 use crate::packet::{Ending, EndingKind};
 use crate::stop::Stop;
-use mq_props::{Place, Props};
+use mq_props::Props;
 use mq_wire::Cursor;
-
-fn place_of(kind: EndingKind) -> Place
-    ensures { result ≡ ending_place kind }
-{
-    match kind {
-        EndingKind::Disconnect => Place::Disconnect,
-        EndingKind::Auth => Place::Auth,
-    }
-}
-
-fn codes_of(kind: EndingKind) -> &'static [u8]
-    ensures { result.now ≡ ending_codes kind }
-{
-    match kind {
-        EndingKind::Disconnect => &DISCONNECT_CODES,
-        EndingKind::Auth => &AUTH_CODES,
-    }
-}
 
 /// Reads a DISCONNECT or AUTH (MQTT 5.0, sections 3.14 and 3.15) from all that is left of a body of this size, which it keeps. An
 /// empty one has the Reason Code 0x00, and where one ends after its code it has no properties.
@@ -47,7 +28,7 @@ pub fn read_ending<'a>(
     ensures read { Reads (λ p. ending kind p.code p.properties) result (read (ending_format kind) cursor.entry) }
     ensures read_len { IfOk result (λ p. p.read_len ≡ Some size) }
 {
-    let place = place_of(kind);
+    let place = kind.place();
     if cursor.is_empty() {
         return Ok(Ending {
             code: SUCCESS,
@@ -55,7 +36,7 @@ pub fn read_ending<'a>(
             read_len: Some(size as u32),
         });
     }
-    let code = reason_code(&mut cursor, codes_of(kind))?;
+    let code = reason_code(&mut cursor, kind.codes())?;
     let properties = last_properties(cursor, place)?;
     Ok(Ending {
         code,

@@ -3,10 +3,11 @@
 ghost use Rattle.std.specs.Prelude.{◌≡◌, IfOk};
 ghost use Rattle.mq_packet.specs.Entries.{Entry, listed};
 ghost use Rattle.mq_props.specs.Listed.{Listed};
-ghost use Rattle.mq_packet.specs.Formats.{last_properties, byte, two_bytes, text, binary, properties, any_value, name_objection, version_objection, code_objection, is_code, identifier_objection, topic_objection, filter_objection, is_filter};
+ghost use Rattle.mq_packet.specs.Formats.{last_properties, byte, two_bytes, text, binary, properties, any_value, name_objection, version_objection, code_objection, identifier_objection, topic_objection, filter_objection, is_filter};
 ghost use Rattle.mq_packet.specs.Decoding.{read, read_field, ended};
 ghost use Rattle.mq_packet.specs.Reading.{Takes, Reads};
 
+use crate::codes::is_code;
 use crate::rule::PacketRule;
 use crate::stop::Stop;
 use mq_props::{Place, Props};
@@ -94,13 +95,6 @@ pub fn packet_identifier(cursor: &mut Cursor<'_>) -> Result<u16, Stop>
     Ok(identifier)
 }
 
-/// Whether a Reason Code is in a packet's table.
-pub fn is_listed(table: &[u8], code: u8) -> bool
-    ensures { result ≡ is_code table.now code }
-{
-    table.contains(&code)
-}
-
 /// Reads a Reason Code of a packet's table (MQTT 5.0, section 2.4).
 ///
 /// # Errors
@@ -111,7 +105,7 @@ pub fn reason_code(cursor: &mut Cursor<'_>, table: &[u8]) -> Result<u8, Stop>
 {
     let at = cursor.at();
     let code = cursor.u8()?;
-    if !is_listed(table, code) {
+    if !is_code(table, code) {
         return Err(Stop::Broken {
             at,
             rule: PacketRule::W13,

@@ -104,9 +104,9 @@ fn read_acknowledged<'a>(
     })
 }
 
-// Whether the packet has a Topic Name, or a Topic Alias that stands for it (MQTT 5.0, section 3.3.2.3.4).
+/// Whether a PUBLISH has a Topic Name, or a Topic Alias that stands for it (MQTT 5.0, section 3.3.2.3.4).
 #[inline(always)]
-fn has_topic(topic: &str, properties: &Props<'_>) -> bool
+pub fn names_topic(topic: &str, properties: &Props<'_>) -> bool
     ensures { result ≡ names_topic topic.now properties.now.items }
 {
     !topic.is_empty() || properties.get_topic_alias().is_some()
@@ -120,7 +120,7 @@ fn properties_for<'a>(cursor: &mut Cursor<'a>, topic: &str) -> Result<Props<'a>,
 {
     let at = cursor.at();
     let properties = property_list(cursor, Place::Publish)?;
-    if !has_topic(topic, &properties) {
+    if !names_topic(topic, &properties) {
         return Err(Stop::Broken {
             at,
             rule: PacketRule::W21,

@@ -1,7 +1,7 @@
 //! Reading SUBSCRIBE and UNSUBSCRIBE (MQTT 5.0, sections 3.8 and 3.10).
 
 ghost use Rattle.std.specs.Prelude.{◌≡◌};
-ghost use Rattle.mq_packet.specs.Entries.{request, request_place, has_options};
+ghost use Rattle.mq_packet.specs.Entries.{request};
 ghost use Rattle.mq_packet.specs.Formats.{request_format};
 ghost use Rattle.mq_packet.specs.Decoding.{read};
 ghost use Rattle.mq_packet.specs.Reading.{Reads};
@@ -10,28 +10,7 @@ use crate::packet::{Request, RequestKind};
 use crate::reading::fields::{packet_identifier, property_list};
 use crate::reading::lists::filter_list;
 use crate::stop::Stop;
-use mq_props::Place;
 use mq_wire::Cursor;
-
-// Where the property list stands.
-fn list_place(kind: RequestKind) -> Place
-    ensures { result ≡ request_place kind }
-{
-    match kind {
-        RequestKind::Subscribe => Place::Subscribe,
-        RequestKind::Unsubscribe => Place::Unsubscribe,
-    }
-}
-
-// Whether each filter has Subscription Options, or none.
-fn asks_options(kind: RequestKind) -> bool
-    ensures { result ≡ has_options kind }
-{
-    match kind {
-        RequestKind::Subscribe => true,
-        RequestKind::Unsubscribe => false,
-    }
-}
 
 /// Reads a SUBSCRIBE or UNSUBSCRIBE (MQTT 5.0, sections 3.8 and 3.10) from all that is left.
 ///
@@ -44,8 +23,8 @@ pub fn read_request<'a>(mut cursor: Cursor<'a>, kind: RequestKind) -> Result<Req
     ensures { Reads (λ p. request kind p.identifier p.properties p.filters) result (read (request_format kind) cursor.entry) }
 {
     let identifier = packet_identifier(&mut cursor)?;
-    let properties = property_list(&mut cursor, list_place(kind))?;
-    let filters = filter_list(cursor, asks_options(kind))?;
+    let properties = property_list(&mut cursor, kind.place())?;
+    let filters = filter_list(cursor, kind.has_options())?;
     Ok(Request {
         identifier,
         properties,

@@ -2,7 +2,7 @@
 
 ghost use Rattle.std.specs.Prelude.{◌≡◌, ◌+◌, ◌≤◌, sum, length};
 ghost use Rattle.std.specs.Option.{option_map};
-ghost use Rattle.mq_wire.specs.Spellings.{two_bytes_spelling, text_spelling, binary_spelling, varint_spelling};
+ghost use Rattle.mq_wire.specs.Spellings.{two_bytes_spelling, text_spelling, binary_spelling};
 ghost use Rattle.mq_packet.specs.Reading.{view, will_view};
 ghost use Rattle.mq_packet.specs.Sizes.{within};
 ghost use Rattle.mq_packet.specs.Canonical.{list_spelling, spelling_if, will_spelling, reason_spelling, acknowledgement_body, request_body, answer_body, canonical_body};
@@ -12,9 +12,7 @@ use crate::packet::{
     Acknowledgement, Answer, Connack, Connect, Ending, Packet, Publish, Request, Will,
 };
 use mq_props::Props;
-
-// The largest Remaining Length.
-const MAX_REMAINING: usize = 268_435_455;
+use mq_wire::{MAX_VARINT, varint_len};
 
 // The sum of the parts, if a Remaining Length can say it.
 #[inline(always)]
@@ -23,27 +21,12 @@ fn sum_within(parts: &[usize]) -> Option<u32>
 {
     let mut total = 0;
     for part in parts {
-        if *part > MAX_REMAINING - total {
+        if *part > MAX_VARINT as usize - total {
             return None;
         }
         total += *part;
     }
     Some(total as u32)
-}
-
-/// How many bytes spell a variable byte integer (MQTT 5.0, section 1.5.5).
-#[inline(always)]
-#[tactic(auto, unfolding(mq_wire::specs::Spellings::varint_spelling))]
-pub fn varint_len(number: u32) -> usize
-    ensures len { result ≡ length (varint_spelling number) }
-    ensures bound { result ≤ 4 }
-{
-    match number {
-        0..128 => 1,
-        128..16_384 => 2,
-        16_384..2_097_152 => 3,
-        _ => 4,
-    }
 }
 
 #[inline(always)]

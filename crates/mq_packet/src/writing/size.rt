@@ -1,20 +1,19 @@
 //! The type and the size of a packet.
 
 ghost use Rattle.std.specs.Prelude.{◌≡◌};
-ghost use Rattle.mq_packet.specs.Reading.{view};
+ghost use Rattle.mq_packet.specs.Reading.{view, read_len_of};
 ghost use Rattle.mq_packet.specs.Canonical.{type_of};
-ghost use Rattle.mq_packet.specs.Sizes.{read_length, within, remaining_length, size_with};
+ghost use Rattle.mq_packet.specs.Sizes.{within, remaining_length, size_with};
 
-use super::lengths::{body_len, varint_len};
+use super::lengths::body_len;
+use crate::header::header_len;
 use crate::packet::{Packet, PacketType};
-
-// The largest Remaining Length.
-const MAX_REMAINING: u32 = 268_435_455;
+use mq_wire::MAX_VARINT;
 
 // The length of the body as it was read, where the packet keeps it.
 #[inline(always)]
 fn read_len(packet: &Packet<'_>) -> Option<u32>
-    ensures { result ≡ read_length packet.now }
+    ensures { result ≡ read_len_of packet.now }
 {
     match packet {
         Packet::Puback(packet)
@@ -35,7 +34,7 @@ fn remaining_len(packet: &Packet<'_>) -> Option<u32>
     ensures { result ≡ within (remaining_length packet.now) }
 {
     match read_len(packet) {
-        Some(len) if len <= MAX_REMAINING => Some(len),
+        Some(len) if len <= MAX_VARINT => Some(len),
         Some(_) => None,
         None => body_len(packet),
     }
@@ -72,6 +71,6 @@ impl<'a> Packet<'a> {
         ensures { result ≡ size_with (remaining_length self.now) }
     {
         let len = remaining_len(self)?;
-        Some(1 + varint_len(len) as u32 + len)
+        Some(header_len(len) as u32 + len)
     }
 }

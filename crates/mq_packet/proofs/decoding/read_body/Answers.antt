@@ -15,6 +15,6 @@ fault_of-requires c = λ at rule is.
     let cursor : Left = c.starting_at-cursor.result in
     let failed : Stop → Result Entry DecodeFault = λ stop. Err (fault_of stop) in
     let stops : read (format_of c.args.first) cursor ≡ Err (broken at rule) = c.in-Err.ensures.read ∙ ap failed is in
-    let first : cursor.at ≡ c.start_of_body.result = ap (λ (left : Left). left.at) c.starting_at-cursor.ensures in
+    let first : cursor.at ≡ c.header_len.result = ap (λ (left : Left). left.at) c.starting_at-cursor.ensures in
     let rest : cursor.rest ≡ c.args.body.now = ap (λ (left : Left). left.rest) c.starting_at-cursor.ensures in
-    place_fits c.args.first at cursor rule stops (omega (arith, first, c.start_of_body.ensures.bound)) (omega (arith, ap (λ (l : List ℕ). length l) rest, c.requires))
+    place_fits c.args.first at cursor rule stops (omega (arith, first, c.header_len.ensures.bound)) (omega (arith, ap (λ (l : List ℕ). length l) rest, c.requires))

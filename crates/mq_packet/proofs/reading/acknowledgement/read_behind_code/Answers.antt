@@ -6,7 +6,7 @@ use Rattle.mq_packet.proofs.reading.acknowledgement.read_behind_code.Goals as go
 pub returns-in_err-properties-clause-read : goal.returns-in_err-properties-clause-read
 returns-in_err-properties-clause-read c =
     let p = err_from_is_err_and c.from_residual.result c.from_residual.ensures.1 in
-    rw (p.1, p.2) (rw c.place_of.ensures at (c.in_err-properties.ensures (acknowledgement c.args.kind c.args.identifier c.args.code)))
+    rw (p.1, p.2) (rw c.place.ensures at (c.in_err-properties.ensures (acknowledgement c.args.kind c.args.identifier c.args.code)))
 
 pub returns-clause-read : goal.returns-clause-read
-returns-clause-read c = rw c.place_of.ensures at (c.in_ok-properties.ensures (acknowledgement c.args.kind c.args.identifier c.args.code))
+returns-clause-read c = rw c.place.ensures at (c.in_ok-properties.ensures (acknowledgement c.args.kind c.args.identifier c.args.code))

@@ -1,0 +1,101 @@
+//! What tells packets apart that have the same fields: where their property lists stand, the Reason Codes that they may have, and
+//! whether their filters have options.
+
+ghost use Rattle.std.specs.Prelude.{◌≡◌};
+ghost use Rattle.mq_packet.specs.Entries.{acknowledgement_place, acknowledgement_codes, request_place, has_options, answer_place, answer_codes, ending_place, ending_codes};
+
+use crate::codes::{
+    AUTH_CODES, DISCONNECT_CODES, PUBACK_CODES, PUBREL_CODES, SUBACK_CODES, UNSUBACK_CODES,
+};
+use crate::packet::{AcknowledgementKind, EndingKind, RequestKind};
+use mq_props::Place;
+
+impl AcknowledgementKind {
+    /// Where the property list stands.
+    #[inline(always)]
+    pub fn place(self) -> Place
+        ensures { result ≡ acknowledgement_place self }
+    {
+        match self {
+            AcknowledgementKind::Puback => Place::Puback,
+            AcknowledgementKind::Pubrec => Place::Pubrec,
+            AcknowledgementKind::Pubrel => Place::Pubrel,
+            AcknowledgementKind::Pubcomp => Place::Pubcomp,
+        }
+    }
+
+    /// The Reason Codes (MQTT 5.0, sections 3.4.2.1, 3.5.2.1, 3.6.2.1 and 3.7.2.1).
+    #[inline(always)]
+    pub fn codes(self) -> &'static [u8]
+        ensures { result.now ≡ acknowledgement_codes self }
+    {
+        match self {
+            AcknowledgementKind::Puback | AcknowledgementKind::Pubrec => &PUBACK_CODES,
+            AcknowledgementKind::Pubrel | AcknowledgementKind::Pubcomp => &PUBREL_CODES,
+        }
+    }
+}
+
+impl RequestKind {
+    /// Where the property list stands.
+    pub fn place(self) -> Place
+        ensures { result ≡ request_place self }
+    {
+        match self {
+            RequestKind::Subscribe => Place::Subscribe,
+            RequestKind::Unsubscribe => Place::Unsubscribe,
+        }
+    }
+
+    /// Whether each filter has Subscription Options, or none (MQTT 5.0, sections 3.8.3 and 3.10.3).
+    pub fn has_options(self) -> bool
+        ensures { result ≡ has_options self }
+    {
+        match self {
+            RequestKind::Subscribe => true,
+            RequestKind::Unsubscribe => false,
+        }
+    }
+
+    /// Where the property list of its answer stands.
+    pub fn answer_place(self) -> Place
+        ensures { result ≡ answer_place self }
+    {
+        match self {
+            RequestKind::Subscribe => Place::Suback,
+            RequestKind::Unsubscribe => Place::Unsuback,
+        }
+    }
+
+    /// The Reason Codes of its answer (MQTT 5.0, sections 3.9.3 and 3.11.3).
+    pub fn answer_codes(self) -> &'static [u8]
+        ensures { result.now ≡ answer_codes self }
+    {
+        match self {
+            RequestKind::Subscribe => &SUBACK_CODES,
+            RequestKind::Unsubscribe => &UNSUBACK_CODES,
+        }
+    }
+}
+
+impl EndingKind {
+    /// Where the property list stands.
+    pub fn place(self) -> Place
+        ensures { result ≡ ending_place self }
+    {
+        match self {
+            EndingKind::Disconnect => Place::Disconnect,
+            EndingKind::Auth => Place::Auth,
+        }
+    }
+
+    /// The Reason Codes (MQTT 5.0, sections 3.14.2.1 and 3.15.2.1).
+    pub fn codes(self) -> &'static [u8]
+        ensures { result.now ≡ ending_codes self }
+    {
+        match self {
+            EndingKind::Disconnect => &DISCONNECT_CODES,
+            EndingKind::Auth => &AUTH_CODES,
+        }
+    }
+}
