@@ -150,26 +150,17 @@ will_if true flags next =
     field binary any_value (λ payload.
     next (Some (record { qos = qos_of 8 (bit_and flags 24); retain = has_bits 32 flags; properties = listed places.Will list; topic = topic; payload = payload })))))
 
--- The Password, where its flag is set, and the packet with it (3.1.2.9, 3.1.3.6).
-abbrev pub password_from : ℕ → (Option (List ℕ) → Entry) → Format
-password_from flags packet = field_if (has_bits 64 flags) binary (λ password. done (packet password))
-
--- The User Name, where its flag is set, and the Password (3.1.2.8, 3.1.3.5).
-abbrev pub user_name_from : ℕ → (Option (List ℕ) → Option (List ℕ) → Entry) → Format
-user_name_from flags packet = field_if (has_bits 128 flags) text (λ user_name. password_from flags (packet user_name))
-
--- The Will, where its flag is set, and what stands after it.
-abbrev pub will_from : ℕ → (Option WillFields → Option (List ℕ) → Option (List ℕ) → Entry) → Format
-will_from flags packet = will_if (has_bits 4 flags) flags (λ will. user_name_from flags (packet will))
-
--- What stands after the Connect Flags (3.1.2.10 to 3.1.3.6).
+-- What stands after the Connect Flags (3.1.2.10 to 3.1.3.6): they say whether there is a Will, a User Name (3.1.2.8) and a
+-- Password (3.1.2.9).
 abbrev pub connect_from : ℕ → Format
 connect_from flags =
     field two_bytes any_value (λ keep_alive.
     field (properties places.Connect) any_value (λ list.
     field text any_value (λ client_identifier.
-    will_from flags (λ will user_name password.
-    connect (record { clean_start = has_bits 2 flags; keep_alive = keep_alive; properties = listed places.Connect list; client_identifier = client_identifier; will = will; user_name = user_name; password = password })))))
+    will_if (has_bits 4 flags) flags (λ will.
+    field_if (has_bits 128 flags) text (λ user_name.
+    field_if (has_bits 64 flags) binary (λ password.
+    done (connect (record { clean_start = has_bits 2 flags; keep_alive = keep_alive; properties = listed places.Connect list; client_identifier = client_identifier; will = will; user_name = user_name; password = password }))))))))
 
 -- CONNECT (3.1).
 abbrev pub connect_format : Format

@@ -1,5 +1,5 @@
 -- What the readers of fields and packets answer.
-use Rattle.std.specs.Prelude.{◌≡◌, ℕ, List, Option, Some, None, Result, Ok, Err}
+use Rattle.std.specs.Prelude.{◌≡◌, ℕ, Option, Some, None, Result, Ok, Err}
 use Rattle.std.specs.Option.{option_map}
 use Rattle.mq_wire.specs.declared.fault.WireFault.{WireFault}
 use Rattle.mq_wire.specs.Left.{Left}
@@ -16,7 +16,8 @@ use Rattle.mq_packet.specs.declared.packet.RequestKind.TheVariants as requests
 use Rattle.mq_packet.specs.declared.stop.Stop.{Stop}
 use Rattle.mq_packet.specs.declared.stop.Stop.TheVariants as stops
 use Rattle.mq_packet.specs.Entries.{Entry, WillFields, ConnectFields, PublishFields, connect, connack, publish, acknowledgement, request, answer, pingreq, pingresp, disconnect, auth}
-use Rattle.mq_packet.specs.Decoding.{broken, rule_of, list_rule}
+use Rattle.mq_packet.specs.Formats.{Format}
+use Rattle.mq_packet.specs.Decoding.{broken, rule_of, list_rule, read}
 
 -- The Will of a CONNECT in memory.
 abbrev pub will_view : Will → WillFields
@@ -47,16 +48,6 @@ view packets.Pingreq = pingreq
 view packets.Pingresp = pingresp
 view (packets.Disconnect p) = disconnect p.code p.properties
 view (packets.Auth p) = auth p.code p.properties
-
--- The CONNECT with this Password, with this User Name too, and with this Will too.
-abbrev pub with_password : Connect → Option (List ℕ) → Entry
-with_password p password = connect (record { clean_start = p.clean_start; keep_alive = p.keep_alive; properties = p.properties; client_identifier = p.client_identifier.now; will = option_map will_view p.will; user_name = option_map (λ t. t.now) p.user_name; password = password })
-
-abbrev pub with_names : Connect → Option (List ℕ) → Option (List ℕ) → Entry
-with_names p user_name password = connect (record { clean_start = p.clean_start; keep_alive = p.keep_alive; properties = p.properties; client_identifier = p.client_identifier.now; will = option_map will_view p.will; user_name = user_name; password = password })
-
-abbrev pub with_will : Connect → Option WillFields → Option (List ℕ) → Option (List ℕ) → Entry
-with_will p will user_name password = connect (record { clean_start = p.clean_start; keep_alive = p.keep_alive; properties = p.properties; client_identifier = p.client_identifier.now; will = will; user_name = user_name; password = password })
 
 -- The length of the body that a packet was read from, where it keeps one.
 abbrev pub read_len_of : Packet → Option ℕ
@@ -97,6 +88,12 @@ fault_of (stops.OtherVersion version) = OtherVersion version
 abbrev pub Takes : {X Y : Type 0} → (X → Y) → Result X Stop → Result (Y × Left) DecodeFault → Left → Type 0
 Takes see (Ok x) read new = read ≡ Ok (see x, new)
 Takes see (Err stop) read new = read ≡ Err (fault_of stop)
+
+-- A reader of a part of a format answers what the part is, with the cursor after it: what follows is read there, given what the
+-- part is. Or it answers where the reading stops, whatever follows.
+abbrev pub TakesPart : {X Y : Type 0} → (X → Y) → Result X Stop → ((Y → Format) → Format) → Left → Left → Type 0
+TakesPart {X} {Y} see (Ok x) part old new = (next : Y → Format) → read (part next) old ≡ read (next (see x)) new
+TakesPart {X} {Y} see (Err stop) part old new = (next : Y → Format) → read (part next) old ≡ Err (fault_of stop)
 
 -- A reader of all that is left answers what it is, as a packet or a list, or where the reading stops.
 abbrev pub Reads : {X Y : Type 0} → (X → Y) → Result X Stop → Result Y DecodeFault → Type 0

@@ -1,10 +1,11 @@
 //! The reader of CONNECT (MQTT 5.0, section 3.1).
 
-ghost use Rattle.std.specs.Prelude.{◌≡◌, true, bit_and};
+ghost use Rattle.std.specs.Prelude.{◌≡◌, bit_and};
+ghost use Rattle.std.specs.Option.{option_map};
 ghost use Rattle.mq_packet.specs.Entries.{connect};
-ghost use Rattle.mq_packet.specs.Formats.{byte, connect_flags_objection, are_connect_flags, qos_of, connect_format, connect_from, will_if, user_name_from, password_from};
+ghost use Rattle.mq_packet.specs.Formats.{byte, text, binary, connect_flags_objection, are_connect_flags, has_bits, qos_of, field_if, will_if, connect_format};
 ghost use Rattle.mq_packet.specs.Decoding.{read, read_field};
-ghost use Rattle.mq_packet.specs.Reading.{Takes, Reads, connect_view, with_password, with_names, with_will};
+ghost use Rattle.mq_packet.specs.Reading.{Takes, TakesPart, Reads, will_view, connect_view};
 
 use super::fields::{property_list, protocol_name, protocol_version, whole};
 use crate::packet::{Connect, Qos, Will};
@@ -68,6 +69,47 @@ fn will_qos(flags: u8) -> Qos
     }
 }
 
+// The Will (MQTT 5.0, sections 3.1.3.2 to 3.1.3.4), if its flag is set.
+fn read_will<'a>(cursor: &mut Cursor<'a>, flags: u8) -> Result<Option<Will<'a>>, Stop>
+    ensures { TakesPart (option_map will_view) result (will_if (has_bits 4 flags) flags) cursor.old cursor.new }
+{
+    if flags & WILL == 0 {
+        return Ok(None);
+    }
+    let properties = property_list(cursor, Place::Will)?;
+    let topic = cursor.text()?;
+    let payload = cursor.binary()?;
+    Ok(Some(Will {
+        qos: will_qos(flags),
+        retain: flags & WILL_RETAIN != 0,
+        properties,
+        topic,
+        payload,
+    }))
+}
+
+// The User Name (MQTT 5.0, section 3.1.3.5), if its flag is set.
+fn read_user_name<'a>(cursor: &mut Cursor<'a>, flags: u8) -> Result<Option<&'a str>, Stop>
+    ensures { TakesPart (option_map (λ name. name.now)) result (field_if (has_bits 128 flags) text) cursor.old cursor.new }
+{
+    if flags & USER_NAME == 0 {
+        return Ok(None);
+    }
+    let user_name = cursor.text()?;
+    Ok(Some(user_name))
+}
+
+// The Password (MQTT 5.0, section 3.1.3.6), if its flag is set.
+fn read_password<'a>(cursor: &mut Cursor<'a>, flags: u8) -> Result<Option<&'a [u8]>, Stop>
+    ensures { TakesPart (option_map (λ bytes. bytes.now)) result (field_if (has_bits 64 flags) binary) cursor.old cursor.new }
+{
+    if flags & PASSWORD == 0 {
+        return Ok(None);
+    }
+    let password = cursor.binary()?;
+    Ok(Some(password))
+}
+
 /// Reads a CONNECT (MQTT 5.0, section 3.1) from all that is left.
 ///
 /// # Errors
@@ -80,99 +122,22 @@ pub fn read_connect<'a>(mut cursor: Cursor<'a>) -> Result<Connect<'a>, Stop>
     protocol_name(&mut cursor)?;
     protocol_version(&mut cursor)?;
     let flags = connect_flags(&mut cursor)?;
-    read_behind_flags(cursor, flags)
-}
-
-fn read_behind_flags<'a>(mut cursor: Cursor<'a>, flags: u8) -> Result<Connect<'a>, Stop>
-    ensures { Reads (λ p. connect (connect_view p)) result (read (connect_from flags) cursor.entry) }
-{
     let keep_alive = cursor.u16()?;
     let properties = property_list(&mut cursor, Place::Connect)?;
     let client_identifier = cursor.text()?;
-    let packet = Connect {
-        clean_start: flags & CLEAN_START != 0,
-        keep_alive,
-        properties,
-        client_identifier,
-        will: None,
-        user_name: None,
-        password: None,
-    };
-    if flags & WILL != 0 {
-        read_will(cursor, flags, packet)
-    } else {
-        read_user_name(cursor, flags, packet)
-    }
-}
-
-// The Will (MQTT 5.0, sections 3.1.3.2 to 3.1.3.4), and what stands after it.
-fn read_will<'a>(
-    mut cursor: Cursor<'a>,
-    flags: u8,
-    packet: Connect<'a>,
-) -> Result<Connect<'a>, Stop>
-    ensures { Reads (λ p. connect (connect_view p)) result (read (will_if true flags (λ will. user_name_from flags (with_will packet.entry will))) cursor.entry) }
-{
-    let properties = property_list(&mut cursor, Place::Will)?;
-    let topic = cursor.text()?;
-    let payload = cursor.binary()?;
-    let will = Will {
-        qos: will_qos(flags),
-        retain: flags & WILL_RETAIN != 0,
-        properties,
-        topic,
-        payload,
-    };
-    let will = Some(will);
-    read_user_name(cursor, flags, Connect { will, ..packet })
-}
-
-// The User Name (MQTT 5.0, section 3.1.3.5), if its flag is set, and what stands after it.
-fn read_user_name<'a>(
-    mut cursor: Cursor<'a>,
-    flags: u8,
-    packet: Connect<'a>,
-) -> Result<Connect<'a>, Stop>
-    ensures { Reads (λ p. connect (connect_view p)) result (read (user_name_from flags (with_names packet.entry)) cursor.entry) }
-{
-    if flags & USER_NAME == 0 {
-        return read_password(
-            cursor,
-            flags,
-            Connect {
-                user_name: None,
-                ..packet
-            },
-        );
-    }
-    let user_name = Some(cursor.text()?);
-    read_password(
+    let will = read_will(&mut cursor, flags)?;
+    let user_name = read_user_name(&mut cursor, flags)?;
+    let password = read_password(&mut cursor, flags)?;
+    whole(
         cursor,
-        flags,
         Connect {
+            clean_start: flags & CLEAN_START != 0,
+            keep_alive,
+            properties,
+            client_identifier,
+            will,
             user_name,
-            ..packet
+            password,
         },
     )
-}
-
-// The Password (MQTT 5.0, section 3.1.3.6), if its flag is set. It is the last field.
-fn read_password<'a>(
-    mut cursor: Cursor<'a>,
-    flags: u8,
-    packet: Connect<'a>,
-) -> Result<Connect<'a>, Stop>
-    ensures { Reads (λ p. connect (connect_view p)) result (read (password_from flags (with_password packet.entry)) cursor.entry) }
-{
-    if flags & PASSWORD == 0 {
-        return whole(
-            cursor,
-            Connect {
-                password: None,
-                ..packet
-            },
-        );
-    }
-    let password = Some(cursor.binary()?);
-    whole(cursor, Connect { password, ..packet })
 }
