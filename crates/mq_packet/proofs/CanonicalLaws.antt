@@ -1,19 +1,19 @@
 -- What is valid is spelled by the bytes that are written of it.
-use Rattle.std.proofs.Common.{◌≡◌, ◌≢◌, ℕ, zero, suc, ◌<◌, ◌≤◌, Bool, true, false, ◌&&◌, not, List, [], ◌∷◌, ◌++◌, length, Option, Some, None, refl, sym, ◌∙◌, ap, subst, arith, append_assoc, length-append}
-use Rattle.std.specs.Prelude.{nat_lt, ◌==◌, if◌then◌else◌, is_some, IfSome, bit_and, codes}
+use Rattle.std.proofs.Common.{◌≡◌, ◌≢◌, ℕ, inl, inr, zero, suc, ◌<◌, ◌≤◌, Bool, true, false, ◌&&◌, not, List, [], ◌∷◌, ◌++◌, length, Option, Some, None, refl, sym, ◌∙◌, ap, subst, arith, append_assoc}
+use Rattle.std.specs.Prelude.{◌==◌, if◌then◌else◌, is_some, IfSome, bit_and, codes}
 use Rattle.std.specs.List.{list_all, AllByRecursion}
 use Rattle.std.specs.Str.{IsUtf8, IsAscii}
-use Rattle.std.proofs.lemmas.Bool.{and_parts, eqb-true, cond_both}
+use Rattle.std.proofs.lemmas.Bool.{and_parts, eqb-true}
 use Rattle.std.proofs.lemmas.List.{append-nil}
 use Rattle.std.proofs.lemmas.Str.{IsUtf8-from_ascii}
-use Rattle.mq_wire.specs.Spellings.{IsText, IsBinary, text_spelling, binary_spelling, two_bytes_spelling, varint_spelling}
+use Rattle.mq_wire.specs.Spellings.{IsText, IsBinary, text_spelling, binary_spelling, two_bytes_spelling}
 use Rattle.mq_topic.specs.Levels.{is_name}
 use Rattle.mq_props.specs.declared.table.Place.{Place}
 use Rattle.mq_props.specs.declared.table.Place.TheVariants as places
 use Rattle.mq_props.specs.Table.{same_place}
-use Rattle.mq_props.specs.Values.{Property, body as properties_spelling}
+use Rattle.mq_props.specs.Values.{Property}
 use Rattle.mq_props.specs.Listed.{Listed}
-use Rattle.mq_packet.specs.ReasonCodes.{connack_codes, disconnect_codes, auth_codes}
+use Rattle.mq_packet.specs.ReasonCodes.{connack_codes}
 use Rattle.mq_packet.specs.declared.packet.Qos.{Qos}
 use Rattle.mq_packet.specs.declared.packet.Qos.TheVariants.{AtMostOnce, AtLeastOnce, ExactlyOnce}
 use Rattle.mq_packet.specs.declared.packet.AcknowledgementKind.{AcknowledgementKind}
@@ -22,32 +22,16 @@ use Rattle.mq_packet.specs.declared.packet.EndingKind.TheVariants as endings
 use Rattle.mq_packet.specs.declared.packet.RequestKind.{RequestKind}
 use Rattle.mq_packet.specs.declared.packet.RequestKind.TheVariants as requests
 use Rattle.mq_packet.specs.declared.rule.PacketRule.TheVariants as rules
-use Rattle.mq_packet.specs.Entries.{Entry, connect, connack, publish, acknowledgement, request, answer, pingreq, pingresp, disconnect, auth, WillFields, ConnectFields, PublishFields, AskedFilter, listed, none_listed, acknowledgement_place, acknowledgement_codes, request_place, answer_place, answer_codes, has_options}
-use Rattle.mq_packet.specs.Formats.{byte, text, binary, properties, Format, done, field, at_end, field_if, will_if, is_code, names_topic, is_filter, are_connect_flags, has_bits, qos_of, connect_from, connack_format, publish_from, publish_unacknowledged, publish_acknowledged, acknowledgement_format, request_format, answer_format, ending_format, any_value, code_objection}
+use Rattle.mq_packet.specs.Entries.{Entry, connect, connack, publish, acknowledgement, request, answer, pingreq, pingresp, disconnect, auth, WillFields, ConnectFields, PublishFields, AskedFilter, listed, request_place, answer_place, answer_codes, has_options}
+use Rattle.mq_packet.specs.Formats.{text, binary, properties, Format, done, field, field_if, will_if, is_code, names_topic, is_filter, are_connect_flags, has_bits, qos_of, connect_from, connack_format, publish_from, publish_unacknowledged, publish_acknowledged, acknowledgement_format, request_format, answer_format, any_value}
 use Rattle.mq_packet.specs.Asking.{AreOptions, IsAsked, filters_spelling, AreAsked}
 use Rattle.mq_packet.specs.Spelled.{IsValue, Spells, IsSpelled}
 use Rattle.mq_packet.specs.Canonical.{bit, connect_flags, spelling_if, list_spelling, will_spelling, reason_spelling, first_byte, connect_body, connack_body, publish_body, acknowledgement_body, request_body, answer_body, disconnect_body, auth_body, canonical_body}
 use Rattle.mq_packet.specs.Valid.{is_text, is_binary, is_identifier, if_there, fits_qos, fits_request, valid_will, valid_connect, valid_connack, valid_publish, valid_acknowledgement, valid_filter, valid_filters, valid_request, valid_answer, valid_ending, valid, IsListed, IsWill, IsConnect, IsPublish, IsIdentified, IsAskedFilter, IsRequest, IsTyped}
+use Rattle.mq_packet.specs.ShortForms.{SpellsEnd}
+use Rattle.mq_packet.proofs.EndLaws.{acknowledgement_spells, ending_spells}
 use Rattle.mq_packet.proofs.ValueLaws.{listed_is, list_value, text_value, binary_value, code_value, unobjected, field_if_spelled, if_there_gives, ends_there}
 use Rattle.mq_packet.proofs.ConnectFlagLaws.{FlagsSay, flags_say}
-
--- ---- what isn't empty
-
-pub varint_some : (n : ℕ) → 1 ≤ length (varint_spelling n)
-unfolding varint_spelling
-varint_some n =
-    cond_both (nat_lt n 128) _ _ (λ (l : List ℕ). 1 ≤ length l) (λ _. omega arith) (λ _.
-    cond_both (nat_lt n 16384) _ _ (λ (l : List ℕ). 1 ≤ length l) (λ _. omega arith) (λ _.
-    cond_both (nat_lt n 2097152) _ _ (λ (l : List ℕ). 1 ≤ length l) (λ _. omega arith) (λ _. omega arith)))
-
-list_some : (items : List Property) → list_spelling items ≢ []
-list_some items e =
-    omega (arith, varint_some (length (properties_spelling items)), length-append (varint_spelling (length (properties_spelling items))) (properties_spelling items), ap (length {A = ℕ}) e)
-
--- Where something is left, the second format counts.
-more_spelled : (whole more : Format) (bytes : List ℕ) (entry : Entry) → bytes ≢ [] → Spells more bytes entry → Spells (at_end whole more) bytes entry
-more_spelled whole more [] entry some h = absurd (some refl)
-more_spelled whole more (b ∷ bytes) entry some h = h
 
 -- ---- lists and codes at a packet's end
 
@@ -55,47 +39,6 @@ more_spelled whole more (b ∷ bytes) entry some h = h
 list_ends : (place : Place) (items : List Property) (make : Listed → Entry) → IsValue (properties place) items
     → Spells (field (properties place) any_value (λ list. done (make (listed place list)))) (list_spelling items) (make (listed place items))
 list_ends place items make ok = (items, [], record { is_value = ok; spelled = sym (append-nil (list_spelling items)) }, refl, (refl, refl))
-
--- The codes of a table are bytes.
-abbrev AreCodes : List ℕ → Type 0
-AreCodes table = list_all (λ c. nat_lt c 256) table ≡ true
-
--- A Reason Code and a property list, each left out where it may be.
-abbrev behind_code : Place → (ℕ → Listed → Entry) → ℕ → Format
-behind_code place make code =
-    at_end (done (make code (none_listed place)))
-    (field (properties place) any_value (λ list. done (make code (listed place list))))
-
-abbrev coded : List ℕ → Place → (ℕ → Listed → Entry) → Format
-coded table place make =
-    at_end (done (make 0 (none_listed place))) (field byte (code_objection table) (λ code. behind_code place make code))
-
-module _ (table : List ℕ) (bytes : AreCodes table) (place : Place) (make : ℕ → Listed → Entry) where
-  -- with the properties' length
-  whole_spelled : (code : ℕ) (items : List Property) → IsValue (properties place) items → is_code table code ≡ true
-      → Spells (coded table place make) (code ∷ list_spelling items) (make code (listed place items))
-  whole_spelled code items ok known = (
-    code,
-    list_spelling items,
-    record { is_value = code_value table code bytes known; spelled = refl },
-    unobjected (is_code table code) rules.W13 known,
-    more_spelled (done (make code (none_listed place))) (field (properties place) any_value (λ list. done (make code (listed place list)))) (list_spelling items) (make code (listed place items)) (list_some items) (list_ends place items (make code) ok),
-  )
-
-  -- without properties, as short as it may be, or at their length where the code isn't 0x00
-  none_spelled : (code : ℕ) (short : List ℕ) → is_code table code ≡ true → Spells (coded table place make) short (make code (none_listed place)) → Spells (coded table place make) (if code == 0 then [] else short) (make code (none_listed place))
-  none_spelled code short known h =
-      elim (code == 0) as (λ t. (code == 0) ≡ t → Spells (coded table place make) (if t then [] else short) (make code (none_listed place))) [
-        | true ↦ λ is. (refl, ap (λ (c : ℕ). make c (none_listed place)) (sym (eqb-true code 0 is)))
-        | false ↦ λ _. h
-      ] refl
-
-  code_alone : (code : ℕ) → is_code table code ≡ true → Spells (coded table place make) (code ∷ []) (make code (none_listed place))
-  code_alone code known = (code, [], record { is_value = code_value table code bytes known; spelled = refl }, unobjected (is_code table code) rules.W13 known, (refl, refl))
-
-  reason_spelled : (code : ℕ) (items : List Property) → IsValue (properties place) items → is_code table code ≡ true → Spells (coded table place make) (reason_spelling code items) (make code (listed place items))
-  reason_spelled code [] ok known = none_spelled code (code ∷ []) known (code_alone code known)
-  reason_spelled code (p ∷ items) ok known = whole_spelled code (p ∷ items) ok known
 
 -- ---- CONNACK, acknowledgements, DISCONNECT and AUTH
 
@@ -134,53 +77,43 @@ connack_spelled session_present code list ok e =
       ),
     )
 
--- The tables hold bytes.
-acknowledgement_bytes : (kind : AcknowledgementKind) → AreCodes (acknowledgement_codes kind)
-acknowledgement_bytes acknowledgements.Puback = refl
-acknowledgement_bytes acknowledgements.Pubrec = refl
-acknowledgement_bytes acknowledgements.Pubrel = refl
-acknowledgement_bytes acknowledgements.Pubcomp = refl
+-- What is written of a Reason Code and properties is one of their spellings.
+reason_ends : (code : ℕ) (items : List Property) → SpellsEnd code items (reason_spelling code items)
+reason_ends code [] =
+    elim (code == 0) as (λ t. (code == 0) ≡ t → SpellsEnd code [] (if t then [] else code ∷ [])) [
+      | true ↦ λ is. inr (inr (refl, eqb-true code 0 is, refl))
+      | false ↦ λ _. inr (inl (refl, refl))
+    ] refl
+reason_ends code (p ∷ items) = inl refl
 
-acknowledgement_spells : (kind : AcknowledgementKind) (identifier code : ℕ) (list : Listed) → IsIdentified identifier list → valid_acknowledgement kind identifier code list ≡ true
+auth_ends : (code : ℕ) (items : List Property) → SpellsEnd code items (auth_body code items)
+unfolding auth_body
+auth_ends code [] =
+    elim (code == 0) as (λ t. (code == 0) ≡ t → SpellsEnd code [] (if t then [] else code ∷ list_spelling [])) [
+      | true ↦ λ is. inr (inr (refl, eqb-true code 0 is, refl))
+      | false ↦ λ _. inl refl
+    ] refl
+auth_ends code (p ∷ items) = inl refl
+
+written_spells : (kind : AcknowledgementKind) (identifier code : ℕ) (list : Listed) → IsIdentified identifier list → valid_acknowledgement kind identifier code list ≡ true
     → Spells (acknowledgement_format kind) (acknowledgement_body identifier code list.items) (acknowledgement kind identifier code list)
-unfolding valid_acknowledgement acknowledgement_body
-acknowledgement_spells kind identifier code list ok e =
-    (let parts : (same_place list.place (acknowledgement_place kind) ≡ true) × ((is_identifier identifier && is_code (acknowledgement_codes kind) code) ≡ true) = and_parts _ _ e in
-    let known : (is_identifier identifier ≡ true) × (is_code (acknowledgement_codes kind) code ≡ true) = and_parts _ _ parts.1 in
-    let value : IsValue (properties (acknowledgement_place kind)) list.items = list_value (acknowledgement_place kind) list ok.properties parts.0 in
-    subst (λ (l : Listed). Spells (acknowledgement_format kind) (two_bytes_spelling identifier ++ reason_spelling code list.items) (acknowledgement kind identifier code l)) (listed_is (acknowledgement_place kind) list parts.0) (
-      identifier,
-      reason_spelling code list.items,
-      record { is_value = ok.bound; spelled = refl },
-      unobjected (is_identifier identifier) rules.W09 known.0,
-      reason_spelled (acknowledgement_codes kind) (acknowledgement_bytes kind) (acknowledgement_place kind) (acknowledgement kind identifier) code list.items value known.1,
-    ))
+unfolding acknowledgement_body
+written_spells kind identifier code list ok e =
+    acknowledgement_spells kind identifier code list (two_bytes_spelling identifier ++ reason_spelling code list.items) ok e (reason_spelling code list.items, refl, reason_ends code list.items)
 
 acknowledgement_spelled : (kind : AcknowledgementKind) (identifier code : ℕ) (list : Listed) → IsIdentified identifier list → valid_acknowledgement kind identifier code list ≡ true
     → IsSpelled (first_byte (acknowledgement kind identifier code list)) (acknowledgement_body identifier code list.items) (acknowledgement kind identifier code list)
-acknowledgement_spelled acknowledgements.Puback identifier code list ok e = acknowledgement_spells acknowledgements.Puback identifier code list ok e
-acknowledgement_spelled acknowledgements.Pubrec identifier code list ok e = acknowledgement_spells acknowledgements.Pubrec identifier code list ok e
-acknowledgement_spelled acknowledgements.Pubrel identifier code list ok e = acknowledgement_spells acknowledgements.Pubrel identifier code list ok e
-acknowledgement_spelled acknowledgements.Pubcomp identifier code list ok e = acknowledgement_spells acknowledgements.Pubcomp identifier code list ok e
+acknowledgement_spelled acknowledgements.Puback identifier code list ok e = written_spells acknowledgements.Puback identifier code list ok e
+acknowledgement_spelled acknowledgements.Pubrec identifier code list ok e = written_spells acknowledgements.Pubrec identifier code list ok e
+acknowledgement_spelled acknowledgements.Pubrel identifier code list ok e = written_spells acknowledgements.Pubrel identifier code list ok e
+acknowledgement_spelled acknowledgements.Pubcomp identifier code list ok e = written_spells acknowledgements.Pubcomp identifier code list ok e
 
 disconnect_spelled : (code : ℕ) (list : Listed) → IsListed list → valid_ending endings.Disconnect code list ≡ true → IsSpelled 224 (disconnect_body code list.items) (disconnect code list)
-unfolding valid_ending disconnect_body
-disconnect_spelled code list ok e =
-    (let parts : (same_place list.place places.Disconnect ≡ true) × (is_code disconnect_codes code ≡ true) = and_parts _ _ e in
-    subst (λ (l : Listed). Spells (ending_format endings.Disconnect) (reason_spelling code list.items) (disconnect code l)) (listed_is places.Disconnect list parts.0)
-    (reason_spelled disconnect_codes refl places.Disconnect disconnect code list.items (list_value places.Disconnect list ok parts.0) parts.1))
-
-auth_spells : (code : ℕ) (items : List Property) → IsValue (properties places.Auth) items → is_code auth_codes code ≡ true → Spells (ending_format endings.Auth) (auth_body code items) (auth code (listed places.Auth items))
-unfolding auth_body
-auth_spells code [] ok known = none_spelled auth_codes refl places.Auth auth code (code ∷ list_spelling []) known (whole_spelled auth_codes refl places.Auth auth code [] ok known)
-auth_spells code (p ∷ items) ok known = whole_spelled auth_codes refl places.Auth auth code (p ∷ items) ok known
+unfolding disconnect_body
+disconnect_spelled code list ok e = ending_spells endings.Disconnect code list (reason_spelling code list.items) ok e (reason_ends code list.items)
 
 auth_spelled : (code : ℕ) (list : Listed) → IsListed list → valid_ending endings.Auth code list ≡ true → IsSpelled 240 (auth_body code list.items) (auth code list)
-unfolding valid_ending
-auth_spelled code list ok e =
-    (let parts : (same_place list.place places.Auth ≡ true) × (is_code auth_codes code ≡ true) = and_parts _ _ e in
-    subst (λ (l : Listed). Spells (ending_format endings.Auth) (auth_body code list.items) (auth code l)) (listed_is places.Auth list parts.0)
-    (auth_spells code list.items (list_value places.Auth list ok parts.0) parts.1))
+auth_spelled code list ok e = ending_spells endings.Auth code list (auth_body code list.items) ok e (auth_ends code list.items)
 
 -- ---- PUBLISH
 
@@ -405,7 +338,7 @@ module _ (fields : ConnectFields) (ok : IsConnect fields) (flags : ℕ) (says : 
     ),
   )
 
-name_ascii : IsAscii (codes "MQTT")
+pub name_ascii : IsAscii (codes "MQTT")
 name_ascii zero = omega arith
 name_ascii (suc zero) = omega arith
 name_ascii (suc (suc zero)) = omega arith

@@ -13,7 +13,8 @@ use Rattle.mq_packet.specs.declared.rule.PacketRule.TheVariants as rules
 use Rattle.mq_packet.specs.Formats.{byte, unless_broken, is_code, code_objection}
 use Rattle.mq_packet.specs.Decoding.{broken, field_on, unless, read_field, codes_on}
 use Rattle.mq_packet.specs.Spelled.{BadCode}
-use Rattle.mq_packet.proofs.FilterLaws.{bind_ok, spelled_ok, unless_ok, unbroken}
+use Rattle.mq_packet.proofs.FieldLaws.{spelled_ok}
+use Rattle.mq_packet.proofs.FilterLaws.{bind_ok, unless_ok, unbroken}
 
 -- ---- codes of the table, and the first that isn't one
 

@@ -34,20 +34,20 @@ pub record Front (kind : Kind) (at : ℕ) (bytes : List ℕ) (value : Value kind
   pub behind : new ≡ left_from (at + length (spelling kind value)) new.rest
 
 -- a field that was read
-abbrev given : {A : Type 0} → A → Result A DecodeFault
+abbrev pub given : {A : Type 0} → A → Result A DecodeFault
 given x = Ok x
 
 -- one that was refused
-abbrev failed : {A : Type 0} → DecodeFault → Result A DecodeFault
+abbrev pub failed : {A : Type 0} → DecodeFault → Result A DecodeFault
 failed fault = Err fault
 
-given_is : {A : Type 0} (x y : A) → given x ≡ given y → x ≡ y
+pub given_is : {A : Type 0} (x y : A) → given x ≡ given y → x ≡ y
 given_is x y e = cc
 
-failed_is : {A : Type 0} (x y : DecodeFault) → failed {A = A} x ≡ failed y → x ≡ y
+pub failed_is : {A : Type 0} (x y : DecodeFault) → failed {A = A} x ≡ failed y → x ≡ y
 failed_is x y e = cc
 
-spelled_ok : {X : Type 0} (r : Result X WireFault) (y : X) → spelled r ≡ Ok y → r ≡ Ok y
+pub spelled_ok : {X : Type 0} (r : Result X WireFault) (y : X) → spelled r ≡ Ok y → r ≡ Ok y
 spelled_ok (Ok x) y e = cc
 spelled_ok (Err fault) y e = absurd cc
 

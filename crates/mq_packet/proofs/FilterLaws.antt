@@ -5,7 +5,6 @@ use Rattle.std.specs.List.{AllByRecursion}
 use Rattle.std.proofs.lemmas.Bool.{ne_eqb}
 use Rattle.std.proofs.lemmas.List.{append-nil}
 use Rattle.std.proofs.lemmas.List.Concat.{flat_map-append}
-use Rattle.mq_wire.specs.declared.fault.WireFault.{WireFault}
 use Rattle.mq_wire.specs.Left.{Left}
 use Rattle.mq_wire.specs.Spellings.{AreBytes, text_spelling}
 use Rattle.mq_wire.proofs.Exports.{AreBytes-after}
@@ -14,12 +13,12 @@ use Rattle.mq_packet.specs.declared.rule.PacketRule.{PacketRule}
 use Rattle.mq_packet.specs.declared.rule.PacketRule.TheVariants as rules
 use Rattle.mq_packet.specs.Entries.{AskedFilter}
 use Rattle.mq_packet.specs.Formats.{Kind, byte, text, Value, Objection, unless_broken, is_filter, filter_objection, are_options, options_objection}
-use Rattle.mq_packet.specs.Decoding.{◌>>=◌, broken, spelled, field_on, unless, read_field, some_options, options_on, with_options, options_behind, filter_on, filters_within, filters_on}
+use Rattle.mq_packet.specs.Decoding.{◌>>=◌, broken, field_on, unless, read_field, some_options, options_on, with_options, options_behind, filter_on, filters_within, filters_on}
 use Rattle.mq_packet.specs.Asking.{AreOptions, IsAsked, options_spelling, asked_spelling, filters_spelling, AreAsked, AreListed, AreFilters}
 use Rattle.mq_packet.specs.Spelled.{spelling, Begin, FailsField, FailsOptions, FailsFilter, BadFilter}
 use Rattle.mq_packet.specs.Elements.{asked_at, read_or_none, filters_in, AreRead}
 use Rattle.mq_packet.proofs.AskedLaws.{some_is, asked_at_nil, asked_at_spelled}
-use Rattle.mq_packet.proofs.FieldLaws.{left_from, Front, field_found, field_read, field_misspelled, misspelled_field}
+use Rattle.mq_packet.proofs.FieldLaws.{left_from, Front, given, failed, given_is, failed_is, field_found, field_read, field_misspelled, misspelled_field}
 use Rattle.mq_packet.proofs.ValueLaws.{unobjected}
 
 -- ---- steps that succeeded, and steps that failed
@@ -27,12 +26,6 @@ use Rattle.mq_packet.proofs.ValueLaws.{unobjected}
 pub bind_ok : {A B : Type 0} (r : Result A DecodeFault) (f : A → Result B DecodeFault) (y : B) → (r >>= f) ≡ Ok y → (x : A) × (r ≡ Ok x) × (f x ≡ Ok y)
 bind_ok (Ok x) f y e = (x, refl, e)
 bind_ok (Err d) f y e = absurd cc
-
-abbrev failed : {A : Type 0} → DecodeFault → Result A DecodeFault
-failed fault = Err fault
-
-failed_is : {A : Type 0} (f g : DecodeFault) → failed {A = A} f ≡ failed g → f ≡ g
-failed_is f g e = cc
 
 -- The first failed, or the one after it.
 abbrev FailedSo : {A B : Type 0} → Result A DecodeFault → (A → Result B DecodeFault) → DecodeFault → Type 0
@@ -42,18 +35,8 @@ bind_err : {A B : Type 0} (r : Result A DecodeFault) (f : A → Result B DecodeF
 bind_err (Ok x) f fault e = inr (x, refl, e)
 bind_err {A} {B} (Err d) f fault e = inl (ap (λ (g : DecodeFault). failed {A = A} g) (failed_is {A = B} d fault e))
 
-abbrev pub done : {A : Type 0} → A → Result A DecodeFault
-done x = Ok x
-
-pub done_is : {A : Type 0} (x y : A) → done x ≡ done y → x ≡ y
-done_is x y e = cc
-
-pub spelled_ok : {X : Type 0} (r : Result X WireFault) (x : X) → spelled r ≡ Ok x → r ≡ Ok x
-spelled_ok {X} (Ok y) x e = ap (λ (z : X). Ok z) (done_is y x e)
-spelled_ok (Err fault) x e = absurd cc
-
 pub unless_ok : {X : Type 0} (at : ℕ) (o : Option Objection) (x y : X) → unless at o x ≡ Ok y → (o ≡ None) × (x ≡ y)
-unless_ok at None x y e = (refl, done_is x y e)
+unless_ok at None x y e = (refl, given_is x y e)
 unless_ok at (Some objection) x y e = absurd cc
 
 pub unbroken : (good : Bool) (rule : PacketRule) → unless_broken good rule ≡ None → good ≡ true
@@ -76,7 +59,7 @@ module _ (kind : Kind) (objection : Value kind → Option Objection) (at : ℕ) 
       subst (λ (y : Value kind × Left). Front kind at bytes y.0 y.1 × (objection y.0 ≡ None)) passed.1 here
 
   -- One that stands there is taken.
-  good_field : (value : Value kind) (left : List ℕ) → Begin kind bytes value left → objection value ≡ None → read_field kind objection (left_from at bytes) ≡ done (value, left_from (at + length (spelling kind value)) left)
+  good_field : (value : Value kind) (left : List ℕ) → Begin kind bytes value left → objection value ≡ None → read_field kind objection (left_from at bytes) ≡ given (value, left_from (at + length (spelling kind value)) left)
   good_field value left begin none =
       let read : Value kind × Left = (value, left_from (at + length (spelling kind value)) left) in
       ap judged (field_read kind at bytes value left begin) ∙ ap (λ (o : Option Objection). unless at o read) none
@@ -112,12 +95,12 @@ options_taken : (asks : Bool) (at : ℕ) (bytes : List ℕ) → AreBytes bytes �
 options_taken false at bytes known x e =
     let made : Option ℕ × Left = (None, left_from at bytes) in
     let place : at ≡ at + 0 = omega arith in
-    subst (TakesOptions false at bytes) (done_is made x e) (refl, refl, ap (λ (n : ℕ). left_from n bytes) place)
+    subst (TakesOptions false at bytes) (given_is made x e) (refl, refl, ap (λ (n : ℕ). left_from n bytes) place)
 options_taken true at bytes known x e =
     let y = bind_ok (read_field byte options_objection (left_from at bytes)) some_options x e in
     let made : Option ℕ × Left = (Some y.0.0, y.0.1) in
     let front = field_taken byte options_objection at bytes known y.0.0 y.0.1 y.1 in
-    subst (TakesOptions true at bytes) (done_is made x y.2)
+    subst (TakesOptions true at bytes) (given_is made x y.2)
     ((y.0.0, refl, front.0.begin.is_value, unbroken (are_options y.0.0) rules.W17 front.1), front.0.begin.spelled, front.0.behind)
 
 options_fail : (asks : Bool) (at : ℕ) (bytes : List ℕ) → AreBytes bytes → (fault : DecodeFault) → options_on asks (left_from at bytes) ≡ Err fault → FailsOptions asks at bytes fault
@@ -132,8 +115,8 @@ fail_options : (asks : Bool) (at : ℕ) (bytes : List ℕ) → AreBytes bytes �
 fail_options false at bytes known fault h = absurd h
 fail_options true at bytes known fault h = ap (λ (r : Result (ℕ × Left) DecodeFault). r >>= some_options) (fails_field byte options_objection at bytes known fault h)
 
-options_spelled : (asks : Bool) (at : ℕ) (options : Option ℕ) (rest : List ℕ) → AreOptions asks options → options_on asks (left_from at (options_spelling options ++ rest)) ≡ done (options, left_from (at + length (options_spelling options)) rest)
-options_spelled false at None rest is = (let place : at ≡ at + 0 = omega arith in ap (λ (k : ℕ). done (None, left_from k rest)) place)
+options_spelled : (asks : Bool) (at : ℕ) (options : Option ℕ) (rest : List ℕ) → AreOptions asks options → options_on asks (left_from at (options_spelling options ++ rest)) ≡ given (options, left_from (at + length (options_spelling options)) rest)
+options_spelled false at None rest is = (let place : at ≡ at + 0 = omega arith in ap (λ (k : ℕ). given (None, left_from k rest)) place)
 options_spelled false at (Some options) rest is = absurd cc
 options_spelled true at None rest is = absurd (let never = is.1 in cc)
 options_spelled true at (Some options) rest is =
@@ -164,7 +147,7 @@ filter_taken asks at bytes known x e =
       parts = front.0.begin.spelled ∙ ap (λ (l : List ℕ). text_spelling y.0.0 ++ l) more.1 ∙ sym (append_assoc (text_spelling y.0.0) (options_spelling z.0.0) z.0.1.rest);
       behind = more.2 ∙ ap (λ (n : ℕ). left_from n z.0.1.rest) place;
     } in
-    subst (TakesFilter asks at bytes) (done_is made x z.2) here
+    subst (TakesFilter asks at bytes) (given_is made x z.2) here
 
 -- A filter has some bytes.
 filter_some : (f : AskedFilter) → 0 < length (asked_spelling f)
@@ -195,7 +178,7 @@ fail_filter asks at bytes known fault (inr h) =
     ∙ ap (λ (r : Result (Option ℕ × Left) DecodeFault). r >>= with_options h.0) (fail_options asks (at + length (text_spelling h.0)) h.1 (AreBytes-after (text_spelling h.0) h.1 bytes known h.2.spelled) fault h.4)
 
 -- A filter is read at the front of its spelling.
-filter_spelled : (asks : Bool) (at : ℕ) (f : AskedFilter) (rest : List ℕ) → IsAsked asks f → filter_on asks (left_from at (asked_spelling f ++ rest)) ≡ done (f, left_from (at + length (asked_spelling f)) rest)
+filter_spelled : (asks : Bool) (at : ℕ) (f : AskedFilter) (rest : List ℕ) → IsAsked asks f → filter_on asks (left_from at (asked_spelling f ++ rest)) ≡ given (f, left_from (at + length (asked_spelling f)) rest)
 filter_spelled asks at f rest is =
     let more : List ℕ = options_spelling f.options ++ rest in
     let inside : ℕ = at + length (text_spelling f.filter) in
@@ -204,7 +187,7 @@ filter_spelled asks at f rest is =
     let place : inside + length (options_spelling f.options) ≡ at + length (asked_spelling f) = omega (arith, size) in
     ap (λ (r : Result (List ℕ × Left) DecodeFault). r >>= options_behind asks) (good_field text filter_objection at (asked_spelling f ++ rest) f.filter more begin (unobjected (is_filter f.filter) rules.W15 is.filter))
     ∙ ap (λ (r : Result (Option ℕ × Left) DecodeFault). r >>= with_options f.filter) (options_spelled asks inside f.options rest is.options)
-    ∙ ap (λ (n : ℕ). done (f, left_from n rest)) place
+    ∙ ap (λ (n : ℕ). given (f, left_from n rest)) place
 
 -- ---- all that is left
 
@@ -280,14 +263,14 @@ unfolding filters_on
 on_some asks left some = ap (λ (t : Bool). if t then Err (broken left.at rules.W16) else filters_within (length left.rest) asks left) (some_left left.rest some)
 
 -- Filters that may be are read from their spellings.
-within_all : (n : ℕ) (asks : Bool) (at : ℕ) (fs : List AskedFilter) → AllByRecursion (IsAsked asks) fs → length (filters_spelling fs) ≤ n → filters_within n asks (left_from at (filters_spelling fs)) ≡ done fs
+within_all : (n : ℕ) (asks : Bool) (at : ℕ) (fs : List AskedFilter) → AllByRecursion (IsAsked asks) fs → length (filters_spelling fs) ≤ n → filters_within n asks (left_from at (filters_spelling fs)) ≡ given fs
 within_all n asks at fs each enough =
     let whole : filters_spelling fs ≡ filters_spelling fs ++ [] = sym (append-nil (filters_spelling fs)) in
     let read = within_behind n asks at fs [] each (omega (arith, enough, ap (λ (l : List ℕ). length l) whole)) in
     ap (λ (bytes : List ℕ). filters_within n asks (left_from at bytes)) whole
     ∙ read.2
     ∙ ap (λ (r : Result (List AskedFilter) DecodeFault). r >>= after fs) (finish read.0 asks (at + length (filters_spelling fs)))
-    ∙ ap (λ (l : List AskedFilter). done l) (append-nil fs)
+    ∙ ap (λ (l : List AskedFilter). given l) (append-nil fs)
 
 pub filters_known : (asks : Bool) (left : Left) (fs : List AskedFilter) → AreAsked asks fs → left.rest ≡ filters_spelling fs → filters_on asks left ≡ Ok fs
 filters_known asks left fs are parts =
@@ -499,7 +482,7 @@ module _ (asks : Bool) (start left : Left) (known : AreBytes start.rest) (at : G
       let same : filters_in asks start.rest ≡ at.before = in_memory asks start.rest at.before at.each spelled in
       record {
         filters = record { filters = at.before; asked = are; spelled = spelled };
-        reads = filters_known asks start at.before are spelled ∙ ap (λ (fs : List AskedFilter). done fs) (sym same);
+        reads = filters_known asks start at.before are spelled ∙ ap (λ (fs : List AskedFilter). given fs) (sym same);
       }
 
 -- Filters that may be aren't refused.

@@ -26,7 +26,7 @@ abbrev start_in : Cut → ℕ
 start_in (Frame first start end) = start
 start_in _ = 0
 
-abbrev end_in : Cut → ℕ
+abbrev pub end_in : Cut → ℕ
 end_in (Frame first start end) = end
 end_in _ = 0
 

@@ -16,12 +16,7 @@ use Rattle.mq_packet.specs.Decoding.{body_start}
 use Rattle.mq_packet.specs.Frames.{BeginsWithFrame, cut_by, cut_of}
 use Rattle.mq_packet.specs.Fronts.{IsBeginning, BeginsWithNumber, IsPrefixOfNumber, IsLost, StandsAtFront}
 use Rattle.mq_packet.proofs.StreamLaws.{is_lost_stays}
-use Rattle.mq_packet.proofs.FrameLaws.{frame_begins, begins_cut, lost_exactly}
-
--- Where a frame ends.
-abbrev end_in : Cut → ℕ
-end_in (Frame first start end) = end
-end_in _ = 0
+use Rattle.mq_packet.proofs.FrameLaws.{end_in, frame_begins, begins_cut, lost_exactly}
 
 -- So many bytes 0.
 abbrev zeros : ℕ → List ℕ

@@ -7,6 +7,7 @@ pub mod RequestLaws
 pub mod ConnectFlagLaws
 pub mod GrowingLaws
 pub mod HeaderLaws
+pub mod EndLaws
 pub mod CanonicalLaws
 pub mod ReasonLaws
 pub mod SizeLaws

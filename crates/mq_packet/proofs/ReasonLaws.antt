@@ -6,7 +6,7 @@ use Rattle.std.specs.Bool.{MatchBool}
 use Rattle.mq_wire.specs.Spellings.{varint_spelling}
 use Rattle.mq_props.specs.Values.{Property, value_spelling, property_spelling, body as properties_spelling}
 use Rattle.mq_packet.specs.Canonical.{list_spelling, reason_spelling, auth_body}
-use Rattle.mq_packet.proofs.CanonicalLaws.{varint_some}
+use Rattle.mq_packet.proofs.ValueLaws.{varint_some}
 
 -- Properties have bytes.
 some_bytes : (p : Property) (items : List Property) → (length (properties_spelling (p ∷ items)) == 0) ≡ false

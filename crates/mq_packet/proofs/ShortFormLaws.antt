@@ -1,31 +1,22 @@
 -- A packet is spelled by the bytes that are written of it, by their short forms, and by no others.
-use Rattle.std.proofs.Common.{◌≡◌, ◌≢◌, ℕ, ◌+◌, ◌-◌, ◌≤◌, ◌⊎◌, ◌↔◌, inl, inr, true, false, ◌&&◌, List, [], ◌∷◌, ◌++◌, length, take, drop, Result, Ok, refl, sym, ◌∙◌, ap, subst, arith, append_assoc, length-append}
-use Rattle.std.specs.Prelude.{nat_lt, ◌==◌, if◌then◌else◌}
-use Rattle.std.specs.List.{list_all}
-use Rattle.std.proofs.lemmas.Bool.{and_parts, eqb-false}
-use Rattle.std.proofs.lemmas.List.{append-nil, take_at, drop_at}
+use Rattle.std.proofs.Common.{◌≡◌, ◌≢◌, ℕ, ◌+◌, ◌-◌, ◌≤◌, ◌⊎◌, ◌↔◌, inl, inr, true, false, List, [], ◌∷◌, ◌++◌, length, take, drop, Result, Ok, refl, sym, ◌∙◌, ap, subst, arith, append_assoc, length-append}
+use Rattle.std.specs.Prelude.{◌==◌, if◌then◌else◌}
+use Rattle.std.proofs.lemmas.Bool.{eqb-false}
+use Rattle.std.proofs.lemmas.List.{take_at, drop_at}
 use Rattle.mq_wire.specs.Spellings.{AreBytes, two_bytes_spelling, varint_spelling}
-use Rattle.mq_props.specs.declared.table.Place.{Place}
-use Rattle.mq_props.specs.declared.table.Place.TheVariants as places
-use Rattle.mq_props.specs.Table.{same_place}
-use Rattle.mq_props.specs.Values.{Property, body as properties_spelling}
-use Rattle.mq_props.specs.Listed.{Listed}
-use Rattle.mq_packet.specs.declared.codes.TheConstants.{DISCONNECT_CODES, AUTH_CODES}
+use Rattle.mq_props.specs.Values.{Property}
 use Rattle.mq_packet.specs.declared.fault.DecodeFault.{DecodeFault}
 use Rattle.mq_packet.specs.declared.packet.PacketType.TheVariants as types
-use Rattle.mq_packet.specs.declared.packet.AcknowledgementKind.{AcknowledgementKind}
 use Rattle.mq_packet.specs.declared.packet.AcknowledgementKind.TheVariants as acknowledgements
 use Rattle.mq_packet.specs.declared.packet.EndingKind.TheVariants as endings
-use Rattle.mq_packet.specs.declared.rule.PacketRule.TheVariants as rules
-use Rattle.mq_packet.specs.Entries.{Entry, connect, connack, publish, acknowledgement, request, answer, pingreq, pingresp, disconnect, auth, listed, none_listed, acknowledgement_place, acknowledgement_codes}
-use Rattle.mq_packet.specs.Formats.{byte, properties, Format, done, field, at_end, any_value, code_objection, is_code, acknowledgement_format, ending_format}
+use Rattle.mq_packet.specs.Entries.{Entry, connect, connack, publish, acknowledgement, request, answer, pingreq, pingresp, disconnect, auth}
 use Rattle.mq_packet.specs.Decoding.{body_start, decoded}
-use Rattle.mq_packet.specs.Spelled.{IsValue, Spells, IsSpelled, Comes}
+use Rattle.mq_packet.specs.Spelled.{IsSpelled, Comes}
 use Rattle.mq_packet.specs.Canonical.{type_of, list_spelling, reason_spelling, first_byte, acknowledgement_body, disconnect_body, auth_body, canonical_body, canonical}
-use Rattle.mq_packet.specs.Valid.{is_identifier, valid_acknowledgement, valid_ending, valid, IsListed, IsIdentified, IsTyped}
+use Rattle.mq_packet.specs.Valid.{valid, IsTyped}
 use Rattle.mq_packet.specs.ShortForms.{SpellsEnd, IsBodyOf, IsSpelling, has_short_form, IsShortFor, BeginsWithPacket}
-use Rattle.mq_packet.proofs.ValueLaws.{listed_is, list_value, code_value, unobjected}
-use Rattle.mq_packet.proofs.CanonicalLaws.{varint_some, canonical_spelled}
+use Rattle.mq_packet.proofs.EndLaws.{acknowledgement_spells, ending_spells}
+use Rattle.mq_packet.proofs.CanonicalLaws.{canonical_spelled}
 use Rattle.mq_packet.proofs.ValidLaws.{spelled_valid}
 use Rattle.mq_packet.proofs.WrittenLaws.{written_cut, written_decoded}
 use Rattle.mq_packet.proofs.Readings.{comes_to_decoded}
@@ -39,70 +30,6 @@ spelled_spelling first body entry h =
     record { typed = made.typed; is_valid = spelled_valid first body entry h; first_is = made.first_is; body_is = made.body_is })
 
 -- ---- and each of them is spelled
-
--- A Reason Code and properties, each left out where it may be.
-abbrev behind_code : Place → (ℕ → Listed → Entry) → ℕ → Format
-behind_code place make code = at_end (done (make code (none_listed place))) (field (properties place) any_value (λ list. done (make code (listed place list))))
-
-abbrev coded : List ℕ → Place → (ℕ → Listed → Entry) → Format
-coded table place make = at_end (done (make 0 (none_listed place))) (field byte (code_objection table) (λ code. behind_code place make code))
-
-list_spells : (place : Place) (make : ℕ → Listed → Entry) (code : ℕ) (items : List Property) (l : List ℕ) → IsValue (properties place) items → l ≡ list_spelling items → Spells (behind_code place make code) l (make code (listed place items))
-list_spells place make code items [] ok e =
-    absurd (omega (arith, varint_some (length (properties_spelling items)), length-append (varint_spelling (length (properties_spelling items))) (properties_spelling items), ap (length {A = ℕ}) e))
-list_spells place make code items (b ∷ l) ok e = (items, [], record { is_value = ok; spelled = e ∙ sym (append-nil (list_spelling items)) }, refl, (refl, refl))
-
-module _ (table : List ℕ) (bytes : list_all (λ c. nat_lt c 256) table ≡ true) (place : Place) (make : ℕ → Listed → Entry) where
-  code_spells : (code : ℕ) (items : List Property) (l : List ℕ) → is_code table code ≡ true → Spells (behind_code place make code) l (make code (listed place items)) → Spells (coded table place make) (code ∷ l) (make code (listed place items))
-  code_spells code items l known h = (code, l, record { is_value = code_value table code bytes known; spelled = refl }, unobjected (is_code table code) rules.W13 known, h)
-
-  end_spells : (code : ℕ) (items : List Property) (end : List ℕ) → IsValue (properties place) items → is_code table code ≡ true → SpellsEnd code items end → Spells (coded table place make) end (make code (listed place items))
-  end_spells code items end ok known (inl e) =
-      subst (λ (b : List ℕ). Spells (coded table place make) b (make code (listed place items))) (sym e) (code_spells code items (list_spelling items) known (list_spells place make code items (list_spelling items) ok refl))
-  end_spells code items end ok known (inr (inl h)) =
-      (let found : Spells (coded table place make) (code ∷ []) (make code (listed place [])) = code_spells code [] [] known (refl, refl) in
-      let there : Spells (coded table place make) (code ∷ []) (make code (listed place items)) = subst (λ (l : List Property). Spells (coded table place make) (code ∷ []) (make code (listed place l))) (sym h.0) found in
-      subst (λ (b : List ℕ). Spells (coded table place make) b (make code (listed place items))) (sym h.1) there)
-  end_spells code items end ok known (inr (inr h)) =
-      (let found : Spells (coded table place make) [] (make 0 (listed place [])) = (refl, refl) in
-      let coded_so : Spells (coded table place make) [] (make code (listed place [])) = subst (λ (c : ℕ). Spells (coded table place make) [] (make c (listed place []))) (sym h.1) found in
-      let there : Spells (coded table place make) [] (make code (listed place items)) = subst (λ (l : List Property). Spells (coded table place make) [] (make code (listed place l))) (sym h.0) coded_so in
-      subst (λ (b : List ℕ). Spells (coded table place make) b (make code (listed place items))) (sym h.2) there)
-
-acknowledgement_bytes : (kind : AcknowledgementKind) → list_all (λ c. nat_lt c 256) (acknowledgement_codes kind) ≡ true
-acknowledgement_bytes acknowledgements.Puback = refl
-acknowledgement_bytes acknowledgements.Pubrec = refl
-acknowledgement_bytes acknowledgements.Pubrel = refl
-acknowledgement_bytes acknowledgements.Pubcomp = refl
-
-acknowledgement_spells : (kind : AcknowledgementKind) (identifier code : ℕ) (list : Listed) (body : List ℕ) → IsIdentified identifier list → valid_acknowledgement kind identifier code list ≡ true
-    → IsBodyOf (acknowledgement kind identifier code list) body → Spells (acknowledgement_format kind) body (acknowledgement kind identifier code list)
-unfolding valid_acknowledgement
-acknowledgement_spells kind identifier code list body ok e h =
-    (let parts : (same_place list.place (acknowledgement_place kind) ≡ true) × ((is_identifier identifier && is_code (acknowledgement_codes kind) code) ≡ true) = and_parts _ _ e in
-    let known : (is_identifier identifier ≡ true) × (is_code (acknowledgement_codes kind) code ≡ true) = and_parts _ _ parts.1 in
-    let value : IsValue (properties (acknowledgement_place kind)) list.items = list_value (acknowledgement_place kind) list ok.properties parts.0 in
-    subst (λ (l : Listed). Spells (acknowledgement_format kind) body (acknowledgement kind identifier code l)) (listed_is (acknowledgement_place kind) list parts.0) (
-      identifier,
-      h.0,
-      record { is_value = ok.bound; spelled = h.1 },
-      unobjected (is_identifier identifier) rules.W09 known.0,
-      end_spells (acknowledgement_codes kind) (acknowledgement_bytes kind) (acknowledgement_place kind) (acknowledgement kind identifier) code list.items h.0 value known.1 h.2,
-    ))
-
-disconnect_spells : (code : ℕ) (list : Listed) (body : List ℕ) → IsListed list → valid_ending endings.Disconnect code list ≡ true → SpellsEnd code list.items body → IsSpelled 224 body (disconnect code list)
-unfolding valid_ending
-disconnect_spells code list body ok e h =
-    (let parts : (same_place list.place places.Disconnect ≡ true) × (is_code DISCONNECT_CODES code ≡ true) = and_parts _ _ e in
-    subst (λ (l : Listed). Spells (ending_format endings.Disconnect) body (disconnect code l)) (listed_is places.Disconnect list parts.0)
-    (end_spells DISCONNECT_CODES refl places.Disconnect disconnect code list.items body (list_value places.Disconnect list ok parts.0) parts.1 h))
-
-auth_spells : (code : ℕ) (list : Listed) (body : List ℕ) → IsListed list → valid_ending endings.Auth code list ≡ true → SpellsEnd code list.items body → IsSpelled 240 body (auth code list)
-unfolding valid_ending
-auth_spells code list body ok e h =
-    (let parts : (same_place list.place places.Auth ≡ true) × (is_code AUTH_CODES code ≡ true) = and_parts _ _ e in
-    subst (λ (l : Listed). Spells (ending_format endings.Auth) body (auth code l)) (listed_is places.Auth list parts.0)
-    (end_spells AUTH_CODES refl places.Auth auth code list.items body (list_value places.Auth list ok parts.0) parts.1 h))
 
 -- The body that is written, for a packet that has no short form.
 as_written : (entry : Entry) (body : List ℕ) → IsTyped entry → valid entry ≡ true → body ≡ canonical_body entry → IsSpelled (first_byte entry) body entry
@@ -120,8 +47,8 @@ body_spelled (request kind identifier list filters) body typed e h = as_written 
 body_spelled (answer kind identifier list reasons) body typed e h = as_written (answer kind identifier list reasons) body typed e h
 body_spelled pingreq body typed e h = as_written pingreq body typed e h
 body_spelled pingresp body typed e h = as_written pingresp body typed e h
-body_spelled (disconnect code list) body typed e h = disconnect_spells code list body typed e h
-body_spelled (auth code list) body typed e h = auth_spells code list body typed e h
+body_spelled (disconnect code list) body typed e h = ending_spells endings.Disconnect code list body typed e h
+body_spelled (auth code list) body typed e h = ending_spells endings.Auth code list body typed e h
 
 pub spelling_spelled : (first : ℕ) (body : List ℕ) (entry : Entry) → IsSpelling first body entry → IsSpelled first body entry
 spelling_spelled first body entry h =

@@ -1,11 +1,11 @@
 -- What the tests of a packet's fields say of their spellings, and the other way round.
-use Rattle.std.proofs.Common.{◌≡◌, ℕ, ◌<◌, Bool, true, false, ◌||◌, not, List, [], ◌∷◌, ◌++◌, length, Option, Some, None, refl, sym, ◌∙◌, ap, subst, arith}
+use Rattle.std.proofs.Common.{◌≡◌, ℕ, ◌<◌, ◌≤◌, Bool, true, false, ◌||◌, not, List, [], ◌∷◌, ◌++◌, length, Option, Some, None, refl, sym, ◌∙◌, ap, subst, arith}
 use Rattle.std.specs.Prelude.{nat_lt, nat_le, ◌==◌, if◌then◌else◌, is_some, IfSome}
 use Rattle.std.specs.List.{list_all}
 use Rattle.std.specs.Str.{IsUtf8}
-use Rattle.std.proofs.lemmas.Bool.{eqb-true, eq-eqb, leb-true, le-leb, ltb-true, and_from, and_parts, not-true, not_from_false}
+use Rattle.std.proofs.lemmas.Bool.{cond_both, eqb-true, eq-eqb, leb-true, le-leb, ltb-true, and_from, and_parts, not-true, not_from_false}
 use Rattle.std.proofs.lemmas.List.{append-nil}
-use Rattle.mq_wire.specs.Spellings.{has_nul, IsText, IsBinary}
+use Rattle.mq_wire.specs.Spellings.{has_nul, IsText, IsBinary, varint_spelling}
 use Rattle.mq_props.specs.declared.table.Place.{Place}
 use Rattle.mq_props.specs.declared.table.Place.TheVariants as places
 use Rattle.mq_props.specs.Table.{place_number, same_place}
@@ -65,6 +65,15 @@ listed_is place list e = ap (λ (p : Place). listed p list.items) (sym (place_is
 
 pub list_value : (place : Place) (list : Listed) → IsListed list → same_place list.place place ≡ true → IsValue (properties place) list.items
 list_value place list ok e = subst (λ (p : Place). IsValue (properties p) list.items) (place_is list.place place e) (ok.allowed, ok.bound)
+
+-- ---- lengths
+
+pub varint_some : (n : ℕ) → 1 ≤ length (varint_spelling n)
+unfolding varint_spelling
+varint_some n =
+    cond_both (nat_lt n 128) _ _ (λ (l : List ℕ). 1 ≤ length l) (λ _. omega arith) (λ _.
+    cond_both (nat_lt n 16384) _ _ (λ (l : List ℕ). 1 ≤ length l) (λ _. omega arith) (λ _.
+    cond_both (nat_lt n 2097152) _ _ (λ (l : List ℕ). 1 ≤ length l) (λ _. omega arith) (λ _. omega arith)))
 
 -- ---- texts, binary data and codes
 

@@ -1,7 +1,6 @@
 -- Bytes are a CONNECT of another version exactly where they begin as one.
-use Rattle.std.proofs.Common.{◌≡◌, ◌≢◌, ℕ, zero, suc, ◌+◌, ◌↔◌, Bool, true, false, inl, inr, List, [], ◌∷◌, ◌++◌, length, Option, Some, None, Result, Err, refl, sym, ◌∙◌, ap, subst, arith}
+use Rattle.std.proofs.Common.{◌≡◌, ◌≢◌, ℕ, ◌+◌, ◌↔◌, Bool, true, false, inl, inr, List, [], ◌∷◌, ◌++◌, length, Option, Some, None, Result, Err, refl, sym, ◌∙◌, ap, subst}
 use Rattle.std.specs.Prelude.{nat_lt, ◌==◌, if◌then◌else◌, bit_and, bytes_eq, codes}
-use Rattle.std.specs.Str.{IsAscii}
 use Rattle.std.proofs.lemmas.Bool.{eqb-false, ne_eqb}
 use Rattle.std.proofs.lemmas.Str.{IsUtf8-from_ascii}
 use Rattle.std.proofs.lemmas.Slice.Eq.{bytes_eq-Decides}
@@ -29,6 +28,7 @@ use Rattle.mq_packet.specs.Spelled.{spelling, FailsField, FailsOptions, FailsFil
 use Rattle.mq_packet.specs.Versions.{IsConnectOfVersion}
 use Rattle.mq_packet.specs.Valid.{is_identifier}
 use Rattle.mq_packet.proofs.ValueLaws.{text_value, not_objected}
+use Rattle.mq_packet.proofs.CanonicalLaws.{name_ascii}
 use Rattle.mq_packet.proofs.FirstByteLaws.{reserved_first, each_first}
 use Rattle.mq_packet.proofs.Readings.{comes_to_decoded, decoded_only}
 
@@ -222,13 +222,6 @@ version_connects : (first : ℕ) (body : List ℕ) (version : ℕ) → IsOtherVe
 version_connects first body version = format_tells first (body_start (length body)) body version
 
 -- ---- such bytes have another version
-
-name_ascii : IsAscii (codes "MQTT")
-name_ascii zero = omega arith
-name_ascii (suc zero) = omega arith
-name_ascii (suc (suc zero)) = omega arith
-name_ascii (suc (suc (suc zero))) = omega arith
-name_ascii (suc (suc (suc (suc i)))) = omega arith
 
 connect_versions : (at version : ℕ) (behind : List ℕ) → IsByte version → version ≢ 5 → Fails connect_format at (text_spelling (codes "MQTT") ++ (version ∷ behind)) (OtherVersion version)
 connect_versions at version behind small other =
