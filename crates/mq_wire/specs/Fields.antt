@@ -1,5 +1,5 @@
 -- The kinds of field (MQTT 5.0, 1.5), each read from the front of a list of bytes: its value and how many
--- bytes it takes, or why no field of the kind stands there.
+-- bytes it takes, or why the bytes don't begin with such a field.
 use Rattle.std.specs.Prelude.{ℕ, ◌+◌, ◌*◌, ◌-◌, List, [], ◌∷◌, length, take, drop, Result, Ok, Err, nat_lt, ◌==◌, if◌then◌else◌}
 use Rattle.std.specs.Int.{w16, w32, from_be_bytes}
 use Rattle.std.specs.Str.{is_utf8}
@@ -7,7 +7,7 @@ use Rattle.mq_wire.specs.declared.fault.Reason.{Reason}
 use Rattle.mq_wire.specs.declared.fault.Reason.TheVariants.{Short, Overlong, NotUtf8, Nul}
 use Rattle.mq_wire.specs.Spellings.{has_nul}
 
--- A step that is taken only where the one before it succeeded.
+-- A step that is taken only if the one before it succeeded.
 infixl 10 ◌>>=◌
 abbrev pub ◌>>=◌ : {A B : Type 0} → Result A Reason → (A → Result B Reason) → Result B Reason
 (Ok x) >>= f = f x
@@ -36,17 +36,17 @@ four_bytes_at (a ∷ b ∷ c ∷ d ∷ bytes) = Ok (from_be_bytes w32 (a ∷ b �
 abbrev pub ended_by : ℕ → ℕ → ℕ → Result (ℕ × ℕ) Reason
 ended_by last number taken = if last == 0 then Err Overlong else Ok (number, taken)
 
--- The fourth byte of a Variable Byte Integer, after bytes that stand for n.
+-- The fourth byte of a Variable Byte Integer, after three bytes whose value is n.
 abbrev pub fourth_byte : ℕ → List ℕ → Result (ℕ × ℕ) Reason
 fourth_byte n [] = Err Short
 fourth_byte n (d ∷ bytes) = if nat_lt d 128 then ended_by d (n + 2097152 * d) 4 else Err Overlong
 
--- The third byte, after bytes that stand for n.
+-- The third byte, after two bytes whose value is n.
 abbrev pub third_byte : ℕ → List ℕ → Result (ℕ × ℕ) Reason
 third_byte n [] = Err Short
 third_byte n (c ∷ bytes) = if nat_lt c 128 then ended_by c (n + 16384 * c) 3 else fourth_byte (n + 16384 * (c - 128)) bytes
 
--- The second byte, after a byte that stands for n.
+-- The second byte, after one byte whose value is n.
 abbrev pub second_byte : ℕ → List ℕ → Result (ℕ × ℕ) Reason
 second_byte n [] = Err Short
 second_byte n (b ∷ bytes) = if nat_lt b 128 then ended_by b (n + 128 * b) 2 else third_byte (n + 128 * (b - 128)) bytes
@@ -71,7 +71,7 @@ binary_at bytes = do
 unfoldable pub text_of : List ℕ → Result (List ℕ) Reason
 text_of bytes = if is_utf8 bytes then (if has_nul bytes then Err Nul else Ok bytes) else Err NotUtf8
 
--- A UTF-8 Encoded String (1.5.4): binary data whose bytes are a text.
+-- A UTF-8 Encoded String (1.5.4): binary data whose bytes are a valid text.
 unfoldable pub text_at : List ℕ → Result (List ℕ × ℕ) Reason
 text_at bytes = do
   found ← binary_at bytes

@@ -1,9 +1,9 @@
--- What a cursor has left, and what a call of it leaves.
+-- What a cursor has left to read, before and after a call.
 use Rattle.std.specs.Prelude.{◌≡◌, ℕ, ◌+◌, List, drop, Result, Ok, Err}
 use Rattle.mq_wire.specs.declared.fault.Reason.{Reason}
 use Rattle.mq_wire.specs.declared.fault.WireFault.{WireFault}
 
--- The bytes that are left, and the place of the first of them.
+-- The bytes that are left, and the offset of the first of them.
 pub record Left : Type 0 where
   pub at : ℕ
   pub rest : List ℕ
@@ -12,18 +12,18 @@ pub record Left : Type 0 where
 abbrev pub past : Left → ℕ → Left
 past left n = record { at = left.at + n; rest = drop n left.rest }
 
--- What was read at the front of what is left, with what is left after it, or the fault at its place.
+-- The value that was read at the front of what is left, with what is left after it; or the fault, with its offset.
 abbrev pub placed : {X : Type 0} → Left → Result (X × ℕ) Reason → Result (X × Left) WireFault
 placed left (Ok x) = Ok (x.0, past left x.1)
 placed left (Err reason) = Err (record { at = left.at; reason = reason })
 
--- The call answers what was read: its value, and the cursor has gone past it; or its fault, and the cursor
--- is where it was.
+-- The call returns what was read: its value, and the cursor is past it; or its fault, and the cursor has
+-- not moved.
 abbrev pub Took : {X Y : Type 0} → (X → Y) → Result X WireFault → Left → Result (Y × Left) WireFault → Left → Type 0
 Took view (Ok x) old read new = read ≡ Ok (view x, new)
 Took view (Err fault) old read new = (read ≡ Err fault) × (new ≡ old)
 
--- The call answers this value, as view sees it, or this reason.
+-- The call returns this value, as `view` sees it, or this reason.
 abbrev pub Gives : {X Y : Type 0} → (X → Y) → Result X Reason → Result Y Reason → Type 0
 Gives view (Ok x) read = read ≡ Ok (view x)
 Gives view (Err reason) read = read ≡ Err reason

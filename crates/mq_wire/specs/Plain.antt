@@ -1,4 +1,4 @@
--- Texts that need no further test, since each byte passes them all (MQTT 5.0, 1.5.4 and 4.7.1). 35 is `#`, 43 is `+`.
+-- Texts whose bytes alone show that they are valid and have no wildcard (MQTT 5.0, 1.5.4 and 4.7.1). 35 is `#`, 43 is `+`.
 use Rattle.std.specs.Prelude.{ℕ, Bool, ◌&&◌, not, nat_lt, ◌==◌, List, Option, Some, None, Result, Ok, Err, if◌then◌else◌}
 use Rattle.std.specs.List.{list_all}
 use Rattle.mq_wire.specs.declared.fault.Reason.{Reason}

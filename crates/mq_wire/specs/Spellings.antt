@@ -1,5 +1,5 @@
--- The spellings of the kinds of field (MQTT 5.0, 1.5), apart from any reading, and what it is for a reading to
--- be exact.
+-- The spellings of the kinds of field (MQTT 5.0, 1.5), independent of any way of reading, and what it means for a
+-- reading to be exact.
 use Rattle.std.specs.Prelude.{◌≡◌, ℕ, ◌+◌, ◌-◌, ◌/◌, ◌%◌, ◌<◌, ◌≤◌, Bool, false, List, [], ◌∷◌, ◌++◌, length, drop, slice_index, Result, Ok, nat_lt, ◌==◌, if◌then◌else◌}
 use Rattle.std.specs.Int.{w16, w32, to_be_bytes}
 use Rattle.std.specs.List.{list_any}
@@ -59,7 +59,7 @@ varint_spelling n =
 abbrev pub IsBinary : List ℕ → Type 0
 IsBinary bytes = IsTwoBytes (length bytes)
 
--- Two bytes of length, and the bytes.
+-- A length of two bytes, and the bytes.
 abbrev pub binary_spelling : List ℕ → List ℕ
 binary_spelling bytes = two_bytes_spelling (length bytes) ++ bytes
 
@@ -67,14 +67,14 @@ binary_spelling bytes = two_bytes_spelling (length bytes) ++ bytes
 abbrev pub has_nul : List ℕ → Bool
 has_nul bytes = list_any (λ b. b == 0) bytes
 
--- The values of a UTF-8 Encoded String (1.5.4): as many bytes as a Two Byte Integer can count, in well-formed UTF-8, so without
--- surrogates, and without U+0000.
+-- The values of a UTF-8 Encoded String (1.5.4): as many bytes as a Two Byte Integer can count, in well-formed UTF-8 (thus without
+-- surrogates), and without U+0000.
 pub record IsText (bytes : List ℕ) : Type 0 where
   pub bound : IsTwoBytes (length bytes)
   pub utf8 : IsUtf8 bytes
   pub no_nul : has_nul bytes ≡ false
 
--- Two bytes of length, and the text's UTF-8.
+-- A length of two bytes, and the text's UTF-8.
 abbrev pub text_spelling : List ℕ → List ℕ
 text_spelling text = binary_spelling text
 
@@ -86,7 +86,7 @@ IsPair pair = IsText pair.0 × IsText pair.1
 abbrev pub pair_spelling : List ℕ × List ℕ → List ℕ
 pair_spelling pair = text_spelling pair.0 ++ text_spelling pair.1
 
--- A value stands spelled in the first n of the bytes.
+-- The first n of the bytes are the spelling of a value.
 pub record Stands {X : Type 0} (IsValue : X → Type 0) (spelling : X → List ℕ) (bytes : List ℕ) (x : X) (n : ℕ) : Type 0 where
   pub value : IsValue x
   pub taken : n ≡ length (spelling x)
@@ -94,9 +94,9 @@ pub record Stands {X : Type 0} (IsValue : X → Type 0) (spelling : X → List �
 
 -- A reading accepts exactly the spellings of a kind of field, and takes exactly them.
 pub record IsExact {X : Type 0} (read : List ℕ → Result (X × ℕ) Reason) (IsValue : X → Type 0) (spelling : X → List ℕ) : Type 0 where
-  -- what is read stands there spelled
+  -- what is read is what the bytes spell
   pub only : (bytes : List ℕ) (x : X) (n : ℕ) → AreBytes bytes → read bytes ≡ Ok (x, n) → Stands IsValue spelling bytes x n
-  -- what stands there spelled is read, whatever follows it
+  -- a spelling is read, whatever follows it
   pub all : (x : X) (rest : List ℕ) → IsValue x → read (spelling x ++ rest) ≡ Ok (x, length (spelling x))
 
 -- What was appended to the old bytes is read back as this value, whatever follows it.

@@ -10,9 +10,9 @@ use crate::limits::contains_nul;
 use crate::plain::plain_str;
 use std::marker::Model;
 
-/// Reads fields from the front of a slice of bytes, and counts how far it has come.
+/// Reads fields from the front of a slice of bytes, and counts how many bytes it has read.
 ///
-/// A read that is refused leaves the cursor where it was, so each field is read whole or not at all.
+/// A read that fails doesn't move the cursor, so each field is read whole or not at all.
 /// No read copies or allocates.
 #[derive(Debug, Drop)]
 pub struct Cursor<'a> {
@@ -32,14 +32,14 @@ impl<'a> Model for Cursor<'a> {
 }
 
 impl<'a> Cursor<'a> {
-    /// A cursor at the front of the bytes, which counts them from 0.
+    /// A cursor at the front of the bytes, with offsets that count from 0.
     pub fn new(bytes: &'a [u8]) -> Cursor<'a>
         ensures { result ≡ record { at = 0; rest = bytes.now } }
     {
         Cursor { rest: bytes, at: 0 }
     }
 
-    /// A cursor at the front of the bytes, which counts the first of them as `at`.
+    /// A cursor at the front of the bytes, the first of which has the offset `at`.
     pub fn starting_at(bytes: &'a [u8], at: usize) -> Cursor<'a>
         requires { at + length bytes.now < 2 ^ 63 }
         ensures { result ≡ record { at = at; rest = bytes.now } }
@@ -47,7 +47,7 @@ impl<'a> Cursor<'a> {
         Cursor { rest: bytes, at }
     }
 
-    /// The place of the next byte.
+    /// The offset of the next byte.
     pub fn at(&self) -> usize
         ensures place { result ≡ self.now.at }
         ensures bound { result + length self.now.rest < 2 ^ 63 }
@@ -69,7 +69,7 @@ impl<'a> Cursor<'a> {
         self.rest.is_empty()
     }
 
-    // Goes past the next `len` bytes.
+    // Moves past the next `len` bytes.
     fn skip(&mut self, len: usize)
         requires { len ≤ length self.old.rest }
         ensures { self.new ≡ past self.old len }
@@ -89,7 +89,7 @@ impl<'a> Cursor<'a> {
 
     /// A byte.
     ///
-    /// Refused as `Short` where no byte is left.
+    /// Fails with `Short` if no byte is left.
     pub fn u8(&mut self) -> Result<u8, WireFault>
         ensures { Took (λ n. n) result self.old (placed self.old (byte_at self.old.rest)) self.new }
     {
@@ -104,7 +104,7 @@ impl<'a> Cursor<'a> {
 
     /// A Two Byte Integer (MQTT 5.0, 1.5.2).
     ///
-    /// Refused as `Short` where fewer than two bytes are left.
+    /// Fails with `Short` if fewer than two bytes are left.
     pub fn u16(&mut self) -> Result<u16, WireFault>
         ensures exact { Took (λ n. n) result self.old (placed self.old (two_bytes_at self.old.rest)) self.new }
         ensures bound { IfOk result (λ n. n < 2 ^ 16) }
@@ -120,7 +120,7 @@ impl<'a> Cursor<'a> {
 
     /// A Four Byte Integer (MQTT 5.0, 1.5.3).
     ///
-    /// Refused as `Short` where fewer than four bytes are left.
+    /// Fails with `Short` if fewer than four bytes are left.
     pub fn u32(&mut self) -> Result<u32, WireFault>
         ensures exact { Took (λ n. n) result self.old (placed self.old (four_bytes_at self.old.rest)) self.new }
         ensures bound { IfOk result (λ n. n < 2 ^ 32) }
@@ -136,7 +136,7 @@ impl<'a> Cursor<'a> {
 
     /// A Variable Byte Integer, from 0 to 268,435,455 (MQTT 5.0, 1.5.5).
     ///
-    /// Refused as `Short` where the bytes end before the number does, and as `Overlong` where it has
+    /// Fails with `Short` if the bytes end before the number does, and with `Overlong` if it has
     /// more bytes than it needs, or a fourth byte with bit 7.
     #[inline(always)]
     #[tactic(auto, unfolding(crate::specs::Fields::varint_at))]
@@ -153,7 +153,7 @@ impl<'a> Cursor<'a> {
         }
     }
 
-    // The same. It stays apart, so that a number of one byte, as most are, is read where it is wanted.
+    // The same for any length. It is a function of its own, so that the call for one byte, the usual case, is inlined.
     #[inline(never)]
     #[tactic(auto, unfolding(crate::specs::Fields::varint_at))]
     fn any_varint(&mut self) -> Result<u32, WireFault>
@@ -191,7 +191,7 @@ impl<'a> Cursor<'a> {
 
     /// Binary Data: at most 65,535 bytes after their length (MQTT 5.0, 1.5.6).
     ///
-    /// Refused as `Short` where the bytes end before the field does.
+    /// Fails with `Short` if the bytes end before the field does.
     #[tactic(auto, unfolding(crate::specs::Fields::binary_at))]
     pub fn binary(&mut self) -> Result<&'a [u8], WireFault>
         ensures exact { Took (λ bytes. bytes.now) result self.old (placed self.old (binary_at self.old.rest)) self.new }
@@ -210,8 +210,8 @@ impl<'a> Cursor<'a> {
 
     /// A UTF-8 Encoded String: at most 65,535 bytes after their length (MQTT 5.0, 1.5.4).
     ///
-    /// Refused as `Short` where the bytes end before the field does, else as `NotUtf8` where they
-    /// aren't well-formed UTF-8, else as `Nul` where the character U+0000 is among them.
+    /// Fails with `Short` if the bytes end before the field does, else with `NotUtf8` if they
+    /// aren't well-formed UTF-8, else with `Nul` if the character U+0000 is among them.
     #[tactic(auto, unfolding(crate::specs::Fields::text_at, crate::specs::Fields::binary_at))]
     pub fn text(&mut self) -> Result<&'a str, WireFault>
         ensures exact { Took (λ text. text.now) result self.old (placed self.old (text_at self.old.rest)) self.new }
@@ -236,8 +236,8 @@ impl<'a> Cursor<'a> {
     /// A UTF-8 Encoded String of plain bytes: ASCII characters other than U+0000, `#` and `+` (MQTT 5.0,
     /// 1.5.4 and 4.7.1). It is the text that [`Cursor::text`] reads there, and it has no wildcard.
     ///
-    /// None where the bytes end before the field does, or where another byte is among them. The cursor
-    /// is where it was then.
+    /// `None` if the bytes end before the field does, or if another byte is among them. The cursor has
+    /// then not moved.
     #[inline(always)]
     pub fn plain_text(&mut self) -> Option<&'a str>
         ensures exact { MatchOption result
@@ -271,8 +271,8 @@ impl<'a> Cursor<'a> {
 
     /// A UTF-8 String Pair: a name and a value (MQTT 5.0, 1.5.7).
     ///
-    /// Refused as its first text would be, else as its second; the fault is placed where the pair
-    /// begins.
+    /// Fails as [`Cursor::text`] does for the name, else as it does for the value; the fault's offset is
+    /// that of the pair.
     #[tactic(auto, unfolding(crate::specs::Fields::pair_at))]
     pub fn pair(&mut self) -> Result<(&'a str, &'a str), WireFault>
         ensures exact { Took (λ pair. (pair.0.now, pair.1.now)) result self.old (placed self.old (pair_at self.old.rest)) self.new }
@@ -293,7 +293,7 @@ impl<'a> Cursor<'a> {
     }
 }
 
-// The text that the bytes are.
+// The bytes as a text, if they are valid.
 #[tactic(auto, using(crate::proofs::Texts::not_utf8, crate::proofs::Texts::with_nul, crate::proofs::Texts::is_text))]
 fn checked_text(bytes: &[u8]) -> Result<&str, Reason>
     ensures exact { Gives (λ text. text.now) result (text_of bytes.now) }

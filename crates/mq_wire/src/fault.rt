@@ -37,18 +37,18 @@ impl Reason {
     }
 }
 
-/// A field that isn't spelled as its kind asks.
+/// A field that is misspelled.
 #[derive(Debug, Clone, Copy, PartialEq, Eq, Error)]
 #[error("{reason}, at byte {at}")]
 pub struct WireFault {
-    /// Where the field begins, in bytes from the place that the cursor counts from. For a pair of
-    /// texts, where the pair begins.
+    /// The offset of the field's first byte, as the cursor counts. For a pair of texts, that of the
+    /// pair.
     pub at: usize,
     /// What is wrong with it.
     pub reason: Reason,
 }
 
-/// Why a field could not be written: the lowest number that stands.
+/// Why a field could not be written. If several reasons apply, it is the one with the lowest number.
 #[derive(Debug, Clone, Copy, PartialEq, Eq, Error)]
 pub enum PutFault {
     /// A text or binary data has more than 65,535 bytes, or a number is over 268,435,455.

@@ -7,64 +7,62 @@ ghost use Rattle.mq_wire.specs.FieldTypes.{FieldType, byte, two_byte_integer, fo
 ghost use Rattle.mq_wire.specs.Misspelled.{NoneStands, Misspelled, RefusesMisspelled};
 ghost use Rattle.mq_wire.specs.Spellings.{AreBytes, IsExact, IsByte, byte_spelling, IsTwoBytes, two_bytes_spelling, IsFourBytes, four_bytes_spelling, IsVarint, varint_spelling, IsBinary, binary_spelling, IsText, text_spelling, IsPair, pair_spelling};
 
-/// A byte: what is read is spelled so, and what is spelled so is read.
+/// A byte: exactly its spellings are read.
 #[tactic(auto, using(crate::proofs::Exact::byte_exact))]
 pub fn byte_is_exact()
     ensures { IsExact byte_at IsByte byte_spelling }
 {}
 
-/// A Two Byte Integer: what is read is spelled so, and what is spelled so is read (MQTT 5.0, 1.5.2).
+/// A Two Byte Integer: exactly its spellings are read (MQTT 5.0, 1.5.2).
 #[tactic(auto, using(crate::proofs::Exact::two_bytes_exact))]
 pub fn two_bytes_is_exact()
     ensures { IsExact two_bytes_at IsTwoBytes two_bytes_spelling }
 {}
 
-/// A Four Byte Integer: what is read is spelled so, and what is spelled so is read (MQTT 5.0, 1.5.3).
+/// A Four Byte Integer: exactly its spellings are read (MQTT 5.0, 1.5.3).
 #[tactic(auto, using(crate::proofs::Exact::four_bytes_exact))]
 pub fn four_bytes_is_exact()
     ensures { IsExact four_bytes_at IsFourBytes four_bytes_spelling }
 {}
 
-/// A Variable Byte Integer: what is read is spelled so, and what is spelled so is read (MQTT 5.0,
-/// 1.5.5).
+/// A Variable Byte Integer: exactly its spellings are read (MQTT 5.0, 1.5.5).
 #[tactic(auto, using(crate::proofs::Varint::varint_exact))]
 pub fn varint_is_exact()
     ensures { IsExact varint_at IsVarint varint_spelling }
 {}
 
-/// Binary Data: what is read is spelled so, and what is spelled so is read (MQTT 5.0, 1.5.6).
+/// Binary Data: exactly its spellings are read (MQTT 5.0, 1.5.6).
 #[tactic(auto, using(crate::proofs::Exact::binary_exact))]
 pub fn binary_is_exact()
     ensures { IsExact binary_at IsBinary binary_spelling }
 {}
 
-/// A UTF-8 Encoded String: what is read is spelled so, and what is spelled so is read (MQTT 5.0,
-/// 1.5.4).
+/// A UTF-8 Encoded String: exactly its spellings are read (MQTT 5.0, 1.5.4).
 #[tactic(auto, using(crate::proofs::Exact::text_exact))]
 pub fn text_is_exact()
     ensures { IsExact text_at IsText text_spelling }
 {}
 
-/// A UTF-8 String Pair: what is read is spelled so, and what is spelled so is read (MQTT 5.0, 1.5.7).
+/// A UTF-8 String Pair: exactly its spellings are read (MQTT 5.0, 1.5.7).
 #[tactic(auto, using(crate::proofs::Exact::pair_exact))]
 pub fn pair_is_exact()
     ensures { IsExact pair_at IsPair pair_spelling }
 {}
 
-/// A byte: refused are exactly the bytes that end before it, as `Short`.
+/// A byte: it is refused exactly if the bytes end before it, as `Short`.
 #[tactic(auto, using(crate::proofs::MisspelledLaws::byte_misspelled))]
 pub fn byte_is_refused()
     ensures { RefusesMisspelled byte_at byte }
 {}
 
-/// A Two Byte Integer: refused are exactly the bytes that end before it does, as `Short` (MQTT 5.0,
+/// A Two Byte Integer: it is refused exactly if the bytes end before it does, as `Short` (MQTT 5.0,
 /// 1.5.2).
 #[tactic(auto, using(crate::proofs::MisspelledLaws::two_bytes_misspelled))]
 pub fn two_bytes_is_refused()
     ensures { RefusesMisspelled two_bytes_at two_byte_integer }
 {}
 
-/// A Four Byte Integer: refused are exactly the bytes that end before it does, as `Short` (MQTT 5.0,
+/// A Four Byte Integer: it is refused exactly if the bytes end before it does, as `Short` (MQTT 5.0,
 /// 1.5.3).
 #[tactic(auto, using(crate::proofs::MisspelledLaws::four_bytes_misspelled))]
 pub fn four_bytes_is_refused()
@@ -72,13 +70,13 @@ pub fn four_bytes_is_refused()
 {}
 
 /// A Variable Byte Integer: bytes that end before it does are `Short`, and those in which it has a
-/// shorter form or runs past four bytes are `Overlong` (MQTT 5.0, 1.5.5).
+/// shorter form or is longer than four bytes are `Overlong` (MQTT 5.0, 1.5.5).
 #[tactic(auto, using(crate::proofs::MisspelledLaws::varint_misspelled))]
 pub fn varint_is_refused()
     ensures { RefusesMisspelled varint_at variable_byte_integer }
 {}
 
-/// Binary Data: refused are exactly the bytes that end before it does, as `Short` (MQTT 5.0, 1.5.6).
+/// Binary Data: it is refused exactly if the bytes end before it does, as `Short` (MQTT 5.0, 1.5.6).
 #[tactic(auto, using(crate::proofs::MisspelledLaws::binary_misspelled))]
 pub fn binary_is_refused()
     ensures { RefusesMisspelled binary_at binary_data }
@@ -97,8 +95,8 @@ pub fn pair_is_refused()
     ensures { RefusesMisspelled pair_at string_pair }
 {}
 
-/// What is misspelled for some reason is exactly what begins with no value of the type, and the reason
-/// is one (MQTT 5.0, 1.5).
+/// Bytes are misspelled for some reason exactly if they don't begin with a value of the type
+/// (MQTT 5.0, 1.5).
 pub fn misspelled_is_unspelled()
     ensures none { (type : FieldType) (bytes : List ℕ) → AreBytes bytes
         → ((reason : Reason) × Misspelled type bytes reason) ↔ NoneStands (IsFieldValue type) (field_spelling type) bytes }

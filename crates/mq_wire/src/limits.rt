@@ -1,4 +1,4 @@
-//! What can be spelled, and how long it gets.
+//! What can be spelled, and how many bytes it takes.
 
 ghost use Rattle.std.specs.Prelude.{◌≡◌, ◌≤◌, length};
 ghost use Rattle.mq_wire.specs.Spellings.{varint_spelling, has_nul};

@@ -1,11 +1,11 @@
-//! Texts of plain bytes, which one sweep over the bytes settles.
+//! Texts of plain bytes, which are validated in one pass.
 
 ghost use Rattle.std.specs.Prelude.{◌≡◌, ◌≤◌, ◌*◌, true, false, length, MatchOption};
 ghost use Rattle.mq_wire.specs.Plain.{is_plain, is_plain_byte};
 
 use std::str;
 
-/// The bytes as a text, where each of them is plain: an ASCII character other than U+0000, `#` and `+`
+/// The bytes as a text, if each of them is plain: an ASCII character other than U+0000, `#` and `+`
 /// (MQTT 5.0, 1.5.4 and 4.7.1).
 #[inline(always)]
 #[tactic(auto, using(crate::proofs::PlainLaws::plain_utf8))]
@@ -19,7 +19,7 @@ pub fn plain_str(bytes: &[u8]) -> Option<&str>
     Some(unsafe { str::from_utf8_unchecked(bytes) })
 }
 
-// Whether each byte is plain. Most Topic Names have at most 32 bytes, and are swept in two runs of a fixed length, which may
+// Whether each byte is plain. Most Topic Names have at most 32 bytes, and are checked in two runs of a fixed length, which may
 // overlap: such a loop compares many bytes at once.
 #[inline(never)]
 fn is_plain(bytes: &[u8]) -> bool
@@ -32,7 +32,7 @@ fn is_plain(bytes: &[u8]) -> bool
     }
 }
 
-// Whether the first `count` bytes and the last `count` are plain, which are all bytes.
+// Whether the first `count` bytes and the last `count` are plain. Together they are all bytes.
 #[inline(always)]
 #[tactic(auto, using(crate::proofs::PlainLaws::ends_cover))]
 fn are_ends_plain(bytes: &[u8], count: usize) -> bool
@@ -45,7 +45,7 @@ fn are_ends_plain(bytes: &[u8], count: usize) -> bool
     front & back
 }
 
-// Whether each byte is plain, byte by byte, with no way out of the loop.
+// Whether each byte is plain, byte by byte, without an early exit from the loop.
 #[inline(always)]
 #[tactic(auto, using(crate::proofs::PlainLaws::plain_more))]
 fn is_run_plain(bytes: &[u8]) -> bool

@@ -11,7 +11,7 @@ use crate::limits::{MAX_LEN, MAX_VARINT, contains_nul};
 
 /// Appends a byte.
 ///
-/// Refused as `Memory` where the vector couldn't grow, and the vector is unchanged then.
+/// Fails with `Memory` if the vector couldn't grow; the vector is then unchanged.
 #[tactic(auto, using(crate::proofs::Back::byte_back))]
 pub fn put_u8(out: &mut Vec<u8>, byte: u8) -> Result<(), PutFault>
     ensures ok { OnOk result (out.new.items ≡ out.old.items ++ byte_spelling byte) }
@@ -25,7 +25,7 @@ pub fn put_u8(out: &mut Vec<u8>, byte: u8) -> Result<(), PutFault>
 
 /// Appends a Two Byte Integer (MQTT 5.0, 1.5.2).
 ///
-/// Refused as `Memory` where the vector couldn't grow, and the vector is unchanged then.
+/// Fails with `Memory` if the vector couldn't grow; the vector is then unchanged.
 #[tactic(auto, using(crate::proofs::Back::two_bytes_back))]
 pub fn put_u16(out: &mut Vec<u8>, number: u16) -> Result<(), PutFault>
     ensures ok { OnOk result (out.new.items ≡ out.old.items ++ two_bytes_spelling number) }
@@ -39,7 +39,7 @@ pub fn put_u16(out: &mut Vec<u8>, number: u16) -> Result<(), PutFault>
 
 /// Appends a Four Byte Integer (MQTT 5.0, 1.5.3).
 ///
-/// Refused as `Memory` where the vector couldn't grow, and the vector is unchanged then.
+/// Fails with `Memory` if the vector couldn't grow; the vector is then unchanged.
 #[tactic(auto, using(crate::proofs::Back::four_bytes_back))]
 pub fn put_u32(out: &mut Vec<u8>, number: u32) -> Result<(), PutFault>
     ensures ok { OnOk result (out.new.items ≡ out.old.items ++ four_bytes_spelling number) }
@@ -54,8 +54,8 @@ pub fn put_u32(out: &mut Vec<u8>, number: u32) -> Result<(), PutFault>
 
 /// Appends a Variable Byte Integer, from 0 to 268,435,455 (MQTT 5.0, 1.5.5).
 ///
-/// Refused as `TooLong` where the number is larger, else as `Memory` where the vector couldn't grow,
-/// and the vector is unchanged then.
+/// Fails with `TooLong` if the number is larger, else with `Memory` if the vector couldn't grow;
+/// the vector is then unchanged.
 #[tactic(auto, using(crate::proofs::Back::varint_back), unfolding(crate::specs::Spellings::varint_spelling))]
 pub fn put_varint(out: &mut Vec<u8>, number: u32) -> Result<(), PutFault>
     ensures ok { OnOk result (out.new.items ≡ out.old.items ++ varint_spelling number) }
@@ -98,8 +98,8 @@ fn continued(number: u32) -> u8
 
 /// Appends Binary Data, at most 65,535 bytes (MQTT 5.0, 1.5.6).
 ///
-/// Refused as `TooLong` where there are more, else as `Memory` where the vector couldn't grow, and
-/// the vector is unchanged then.
+/// Fails with `TooLong` if there are more, else with `Memory` if the vector couldn't grow; the
+/// vector is then unchanged.
 #[tactic(auto, using(crate::proofs::Back::binary_back))]
 pub fn put_binary(out: &mut Vec<u8>, bytes: &[u8]) -> Result<(), PutFault>
     ensures ok { OnOk result (out.new.items ≡ out.old.items ++ binary_spelling bytes.now) }
@@ -119,8 +119,8 @@ pub fn put_binary(out: &mut Vec<u8>, bytes: &[u8]) -> Result<(), PutFault>
 
 /// Appends a UTF-8 Encoded String, at most 65,535 bytes without U+0000 (MQTT 5.0, 1.5.4).
 ///
-/// Refused as `TooLong` where there are more bytes, else as `Nul` where U+0000 is among the
-/// characters, else as `Memory` where the vector couldn't grow, and the vector is unchanged then.
+/// Fails with `TooLong` if there are more bytes, else with `Nul` if U+0000 is among the
+/// characters, else with `Memory` if the vector couldn't grow; the vector is then unchanged.
 #[tactic(auto, using(crate::proofs::Back::text_back))]
 pub fn put_text(out: &mut Vec<u8>, text: &str) -> Result<(), PutFault>
     ensures ok { OnOk result (out.new.items ≡ out.old.items ++ text_spelling text.now) }
@@ -144,9 +144,9 @@ pub fn put_text(out: &mut Vec<u8>, text: &str) -> Result<(), PutFault>
 
 /// Appends a UTF-8 String Pair, each text at most 65,535 bytes without U+0000 (MQTT 5.0, 1.5.7).
 ///
-/// Refused as `TooLong` where either text has more bytes, else as `Nul` where U+0000 is among the
-/// characters of either, else as `Memory` where the vector couldn't grow, and the vector is
-/// unchanged then.
+/// Fails with `TooLong` if either text has more bytes, else with `Nul` if U+0000 is among the
+/// characters of either, else with `Memory` if the vector couldn't grow; the vector is then
+/// unchanged.
 #[tactic(auto, using(crate::proofs::Back::pair_back))]
 pub fn put_pair(out: &mut Vec<u8>, name: &str, value: &str) -> Result<(), PutFault>
     ensures ok { OnOk result (out.new.items ≡ out.old.items ++ pair_spelling (name.now, value.now)) }
