@@ -12,11 +12,11 @@ is_name bytes = list_all (λ b. not (b == 35) && not (b == 43)) bytes
 abbrev pub levels_of : List ℕ → List (List ℕ)
 levels_of bytes = slice_split (λ b. b == 47) bytes
 
--- a wildcard stands in a level together with another character
+-- a level has a wildcard and also another character
 abbrev pub is_crowded : ℕ → List ℕ → Bool
 is_crowded wildcard level = list_any (λ b. b == wildcard) level && not (length level == 1)
 
--- what is wrong with a level, which may be the last one
+-- what is wrong with a level, if anything; the flag says whether it is the last one
 abbrev pub level_fault : List ℕ → Bool → Option FilterFault
 level_fault level is_last =
     if is_crowded 35 level then Some HashNotAlone
@@ -29,7 +29,7 @@ abbrev pub or_else : Option FilterFault → Option FilterFault → Option Filter
 or_else None other = other
 or_else (Some fault) other = Some fault
 
--- the fault of the first bad level from the left
+-- the fault of the first invalid level from the left
 abbrev pub first_fault : List (List ℕ) → Option FilterFault
 first_fault [] = None
 first_fault (level ∷ []) = level_fault level true

@@ -3,14 +3,15 @@ use Rattle.std.specs.Prelude.{ℕ, ◌==◌, Bool, true, false, ◌&&◌, ◌||�
 use Rattle.std.specs.Str.{bytes_eq}
 use Rattle.mq_topic.specs.Levels.{is_name, levels_of, filter_fault}
 
--- the level `#`, which stands last, and the level `+`
+-- the level `#`, which is the last one of a valid filter, and the level `+`
 abbrev pub is_hash : List ℕ → Bool
 is_hash level = bytes_eq level (35 ∷ [])
 
 abbrev pub is_plus : List ℕ → Bool
 is_plus level = bytes_eq level (43 ∷ [])
 
--- The levels of a filter match those of a name: `#` alone matches any levels, also none; `+` matches one level; another level matches itself.
+-- The levels of a filter match those of a name: `#` matches any number of levels, also none; `+` matches one level; any other
+-- level matches itself.
 abbrev pub levels_match : List (List ℕ) → List (List ℕ) → Bool
 levels_match [] [] = true
 levels_match [] (name ∷ names) = false
@@ -32,7 +33,8 @@ abbrev pub is_empty : List ℕ → Bool
 is_empty [] = true
 is_empty (b ∷ bytes) = false
 
--- A valid filter matches a valid name, which isn't empty: by levels, but that one which begins with a wildcard matches no name that begins with `$`.
+-- A valid filter matches a valid name, which isn't empty: by levels, except that a filter that begins with a wildcard matches no
+-- name that begins with `$`.
 unfoldable pub matches : List ℕ → List ℕ → Bool
 matches filter name = is_none (filter_fault filter) && (is_name name && (not (is_empty name)
     && (levels_match (levels_of filter) (levels_of name) && not (begins_wild filter && begins_dollar name))))

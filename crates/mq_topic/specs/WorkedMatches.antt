@@ -3,7 +3,7 @@ use Rattle.std.specs.Prelude.{ℕ, Bool, not, List}
 use Rattle.std.specs.List.{list_all}
 use Rattle.mq_topic.specs.Matching.{matches}
 
--- each filter matches its name, and none does
+-- each filter matches its name; no filter matches its name
 abbrev pub all_match : List (List ℕ × List ℕ) → Bool
 all_match pairs = list_all (λ p. matches p.0 p.1) pairs
 

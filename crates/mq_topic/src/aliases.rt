@@ -6,7 +6,7 @@ use std::alloc::{AllocError, AllocFailed, Global};
 use std::collections::BTreeMap;
 use std::marker::Model;
 
-/// A growth was refused: there is no memory left.
+/// An allocation failed: there is no memory left.
 #[derive(Clone, Copy, Debug, PartialEq, Eq)]
 pub struct Memory;
 
@@ -87,11 +87,11 @@ impl AliasTable {
         }
     }
 
-    /// Sets the Topic Name of an alias. A name that it had is forgotten.
+    /// Sets the Topic Name of an alias, in place of any earlier one.
     ///
     /// # Errors
     ///
-    /// `Memory` where room for the name was refused. The table is then unchanged.
+    /// `Memory` if the memory for the name couldn't be allocated. The table is then unchanged.
     pub fn set(&mut self, alias: u16, topic: &str) -> Result<(), Memory>
         ensures ok { OnOk result (self.new ≡ map.insert self.old alias topic.now) }
         ensures unchanged { OnErr result (self.new ≡ self.old) }

@@ -5,7 +5,7 @@ ghost use Rattle.mq_topic.specs.Levels.{filter_fault, level_fault};
 /// What is wrong with a Topic Filter (MQTT 5.0, 4.7.1).
 #[derive(Clone, Copy, Debug, PartialEq, Eq)]
 pub enum FilterFault {
-    /// The filter has no character (MQTT 5.0, 4.7.3).
+    /// The filter is empty (MQTT 5.0, 4.7.3).
     Empty = 1,
     /// A level `#` isn't the last one (MQTT 5.0, 4.7.1.2).
     HashNotLast = 2,
@@ -21,7 +21,7 @@ fn has_byte(level: &str, wildcard: u8) -> bool
     level.bytes().any(|byte| byte == wildcard)
 }
 
-/// Judges one level of a filter.
+/// Checks one level of a filter.
 fn check_level(level: &str, is_last: bool) -> Result<(), FilterFault>
     ensures { MatchResult result (λ _. level_fault level.now is_last ≡ None) (λ fault. level_fault level.now is_last ≡ Some fault) }
 {
@@ -40,14 +40,15 @@ fn check_level(level: &str, is_last: bool) -> Result<(), FilterFault>
     Ok(())
 }
 
-/// Judges a Topic Filter (MQTT 5.0, 4.7.1 and 4.7.3).
+/// Checks a Topic Filter (MQTT 5.0, 4.7.1 and 4.7.3).
 ///
-/// Levels are cut by `/`, and empty levels count. The first bad level from the left decides; within a
-/// level a `#` that isn't alone comes first, then one that isn't last, then a `+` that isn't alone.
+/// Levels are separated by `/`, and empty levels count. The first invalid level from the left decides;
+/// within a level a `#` that isn't alone comes first, then one that isn't last, then a `+` that isn't
+/// alone.
 ///
 /// # Errors
 ///
-/// The one [`FilterFault`] of the filter, exactly where it has one.
+/// The [`FilterFault`] of an invalid filter.
 pub fn check_filter(filter: &str) -> Result<(), FilterFault>
     ensures { MatchResult result (λ _. filter_fault filter.now ≡ None) (λ fault. filter_fault filter.now ≡ Some fault) }
 {

@@ -9,8 +9,8 @@ use crate::name::check_name;
 
 /// Whether a Topic Filter matches a Topic Name (MQTT 5.0, 4.7).
 ///
-/// `+` stands for one level, and `#` for all levels that are left, also for none. A filter that begins with one of them matches no
-/// name that begins with `$`. A filter or a name that isn't valid has no match, nor has an empty name.
+/// `+` matches one level, and `#` matches all remaining levels, also none. A filter that begins with one of them matches no name
+/// that begins with `$`. An invalid filter or name, or an empty name, has no match.
 #[tactic(auto, unfolding(crate::specs::Matching::matches))]
 pub fn matches(filter: &str, name: &str) -> bool
     ensures { result ≡ is_match filter.now name.now }

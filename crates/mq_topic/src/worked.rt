@@ -1,4 +1,4 @@
-//! What the definition of a match makes of pairs of a filter and a name, computed from the definition alone.
+//! Examples of filters and names that match or don't, computed from the definition of a match alone.
 ghost use Rattle.std.specs.Prelude.{◌≡◌, ◌∷◌, [], true, codes};
 ghost use Rattle.mq_topic.specs.WorkedMatches.{all_match, none_matches};
 
@@ -9,14 +9,14 @@ pub fn levels_of_filters()
     ensures other_levels { none_matches ((codes "a/b", codes "a") ∷ (codes "a", codes "a/b") ∷ (codes "/a", codes "a") ∷ (codes "a", codes "/a") ∷ (codes "a/", codes "a") ∷ (codes "a", codes "a/") ∷ (codes "/", codes "//") ∷ (codes "a//b", codes "a/b") ∷ []) ≡ true }
 {}
 
-/// `+` stands for one level, which may be empty (MQTT 5.0, 4.7.1.3).
+/// `+` matches one level, which may be empty (MQTT 5.0, 4.7.1.3).
 pub fn single_levels()
     ensures alone { all_match ((codes "+", codes "a") ∷ (codes "+/+", codes "/a") ∷ (codes "/+", codes "/a") ∷ (codes "/+", codes "/") ∷ (codes "+/", codes "/") ∷ (codes "a/+", codes "a/") ∷ []) ≡ true }
     ensures within { all_match ((codes "a/+/c", codes "a/b/c") ∷ (codes "a/+/c", codes "a//c") ∷ (codes "+/b", codes "a/b") ∷ []) ≡ true }
     ensures not_one { none_matches ((codes "+", codes "/a") ∷ (codes "+", codes "a/b") ∷ (codes "a/+", codes "a") ∷ (codes "a/+", codes "a/b/c") ∷ (codes "+/b", codes "a/c") ∷ []) ≡ true }
 {}
 
-/// `#` stands for all levels that are left, also for none (MQTT 5.0, 4.7.1.2).
+/// `#` matches all remaining levels, also none (MQTT 5.0, 4.7.1.2).
 pub fn all_levels()
     ensures alone { all_match ((codes "#", codes "a") ∷ (codes "#", codes "/") ∷ (codes "#", codes "a/b/c") ∷ []) ≡ true }
     ensures parent { all_match ((codes "a/#", codes "a") ∷ (codes "+/#", codes "a") ∷ (codes "+/b/#", codes "a/b") ∷ (codes "$SYS/#", codes "$SYS") ∷ []) ≡ true }
@@ -31,13 +31,13 @@ pub fn dollar_names()
     ensures later { all_match ((codes "/+", codes "/$SYS") ∷ (codes "a/#", codes "a/$SYS") ∷ (codes "#", codes "/$SYS") ∷ []) ≡ true }
 {}
 
-/// A filter of a shared subscription isn't taken apart here (MQTT 5.0, 4.8.2).
+/// The filter of a shared subscription is matched as it is, `$share` and all (MQTT 5.0, 4.8.2).
 pub fn shared_filters()
     ensures plain { all_match ((codes "$share/g/t", codes "$share/g/t") ∷ []) ≡ true }
     ensures not_taken_apart { none_matches ((codes "$share/g/t", codes "t") ∷ (codes "$share/g/+", codes "t") ∷ []) ≡ true }
 {}
 
-/// A filter or a name that isn't valid has no match, nor has an empty name (MQTT 5.0, 4.7.1 and 4.7.3).
+/// An invalid filter or name, or an empty name, has no match (MQTT 5.0, 4.7.1 and 4.7.3).
 pub fn faulty_texts()
     ensures empty { none_matches ((codes "", codes "") ∷ (codes "", codes "a") ∷ (codes "#", codes "") ∷ (codes "+", codes "") ∷ []) ≡ true }
     ensures filter { none_matches ((codes "a#", codes "a#") ∷ (codes "#/a", codes "b/a") ∷ (codes "a+", codes "a+") ∷ []) ≡ true }
