@@ -1,4 +1,4 @@
--- Which properties may stand in a list (MQTT 5.0, 2.2.2.2).
+-- Which properties a list may have (MQTT 5.0, 2.2.2.2).
 use Rattle.std.specs.Prelude.{◌≡◌, ℕ, Bool, true, false, ◌&&◌, not, List, [], ◌∷◌, ◌++◌, length, Option, Some, nat_lt, ◌==◌}
 use Rattle.std.specs.List.{list_any, find}
 use Rattle.std.specs.Option.{option_map}
@@ -16,7 +16,7 @@ use Rattle.mq_props.specs.Values.{Value, byte, two_bytes, four_bytes, varint, te
 abbrev pub stands_in : ℕ → List Property → Bool
 stands_in id ps = list_any (λ p. p.id == id) ps
 
--- A property with the identifier may not stand after these, for it may stand in the list only once.
+-- A property with the identifier may not follow these, since it is among them and may be in the list only once.
 abbrev pub is_repeated : Place → List Property → ℕ → Bool
 is_repeated place before id = stands_in id before && not (may_repeat place id)
 
@@ -26,7 +26,7 @@ number_in_range Any n = true
 number_in_range NotZero n = not (n == 0)
 number_in_range ZeroOrOne n = nat_lt n 2
 
--- The value is in the range, which is one of numbers.
+-- The value is in the range. A range restricts numbers alone.
 abbrev pub in_range : Range → Value → Bool
 in_range range (byte n) = number_in_range range n
 in_range range (two_bytes n) = number_in_range range n
@@ -50,7 +50,7 @@ has_wildcard (binary bytes) = false
 abbrev pub is_wild : Place → ℕ → Value → Bool
 is_wild place id value = same_place place Publish && id == response_topic && has_wildcard value
 
--- The property may stand in the place's list after these.
+-- The property is allowed in the place's list after these.
 pub record IsAllowed (place : Place) (before : List Property) (p : Property) : Type 0 where
   pub line : Line
   pub known : row_of p.id ≡ Some line
@@ -61,12 +61,12 @@ pub record IsAllowed (place : Place) (before : List Property) (p : Property) : T
   pub ranged : in_range line.range p.value ≡ true
   pub plain : is_wild place p.id p.value ≡ false
 
--- Each of the properties may stand in the list, after these and those before it.
+-- Each of the properties is allowed in the list after these and those before it.
 abbrev pub AllowedBehind : Place → List Property → List Property → Type 0
 AllowedBehind place before [] = Unit {0}
 AllowedBehind place before (p ∷ ps) = IsAllowed place before p × AllowedBehind place (before ++ p ∷ []) ps
 
--- The properties may make a list in the place.
+-- The properties are a valid list for the place.
 abbrev pub AreAllowed : Place → List Property → Type 0
 AreAllowed place ps = AllowedBehind place [] ps
 

@@ -1,4 +1,4 @@
--- The first bad field of a property (MQTT 5.0, 2.2.2.2), apart from any reading.
+-- The first invalid field of a property (MQTT 5.0, 2.2.2.2), independent of any way of reading.
 use Rattle.std.specs.Prelude.{◌≡◌, ℕ, ◌+◌, ◌⊎◌, true, false, List, ◌++◌, length, None, Some}
 use Rattle.mq_wire.specs.declared.fault.Reason.{Reason}
 use Rattle.mq_wire.specs.Left.{Left}
@@ -14,31 +14,31 @@ use Rattle.mq_props.specs.Table.{Line, row_of, is_listed}
 use Rattle.mq_props.specs.Values.{Value, Property, type_of, IsValue, value_spelling}
 use Rattle.mq_props.specs.Allowed.{is_repeated, in_range, is_wild}
 
--- A Variable Byte Integer stands spelled at the front of what is left, and this is left after it.
+-- What is left begins with a Variable Byte Integer, after which this is left.
 pub record Numbered (left : Left) (number : ℕ) (behind : Left) : Type 0 where
   pub is_number : IsVarint number
   pub spelled : left.rest ≡ varint_spelling number ++ behind.rest
   pub place : behind.at ≡ left.at + length (varint_spelling number)
 
--- The identifier of a line of the table stands there.
+-- The integer is the identifier of a line of the table.
 pub record NamedBy (left : Left) (line : Line) (behind : Left) : Type 0 where
   pub named : Numbered left line.id behind
   pub known : row_of line.id ≡ Some line
 
--- It does, and a property of the line may stand in the place's list after these.
+-- It is, and a property of the line is allowed in the place's list after these.
 pub record Begins (place : Place) (before : List Property) (left : Left) (line : Line) (behind : Left) : Type 0 where
   pub named : NamedBy left line behind
   pub listed : is_listed place line ≡ true
   pub once : is_repeated place before line.id ≡ false
 
--- A value of the type stands spelled at the front of what is left.
+-- What is left begins with a value of the type.
 pub record IsValued (kind : ValueType) (left : Left) (value : Value) : Type 0 where
   pub typed : type_of value ≡ kind
   pub valid : IsValue value
   pub rest : List ℕ
   pub spelled : left.rest ≡ value_spelling value ++ rest
 
--- The type of field that the values of a type are (1.5).
+-- The type of field (1.5) of a type of value.
 abbrev pub field_type : ValueType → FieldType
 field_type types.Byte = byte
 field_type types.TwoBytes = two_byte_integer
@@ -62,7 +62,7 @@ pub record UnknownProperty (left : Left) (fault : PropFault) : Type 0 where
   pub unknown : row_of id ≡ None
   pub is : fault ≡ record { at = left.at; reason = Unknown }
 
--- The property isn't one of the place's list.
+-- The property isn't allowed in the place's list.
 pub record UnlistedProperty (place : Place) (left : Left) (fault : PropFault) : Type 0 where
   pub line : Line
   pub behind : Left
@@ -70,7 +70,7 @@ pub record UnlistedProperty (place : Place) (left : Left) (fault : PropFault) : 
   pub unlisted : is_listed place line ≡ false
   pub is : fault ≡ record { at = left.at; reason = NotAllowed }
 
--- It is one, and stands among these already, though it may stand there only once.
+-- It is allowed there, but is among these already, and may be there only once.
 pub record RepeatedProperty (place : Place) (before : List Property) (left : Left) (fault : PropFault) : Type 0 where
   pub line : Line
   pub behind : Left
@@ -79,7 +79,7 @@ pub record RepeatedProperty (place : Place) (before : List Property) (left : Lef
   pub again : is_repeated place before line.id ≡ true
   pub is : fault ≡ record { at = left.at; reason = Repeated }
 
--- The property may stand there, and its value is misspelled.
+-- The property is allowed there, and its value is misspelled.
 pub record MisspelledValue (place : Place) (before : List Property) (left : Left) (fault : PropFault) : Type 0 where
   pub line : Line
   pub behind : Left
@@ -88,7 +88,7 @@ pub record MisspelledValue (place : Place) (before : List Property) (left : Left
   pub misspelled : Misspelled (field_type line.kind) behind.rest reason
   pub is : fault ≡ record { at = behind.at; reason = Wire reason }
 
--- The value is spelled, and out of its range.
+-- The value is well spelled, and out of its range.
 pub record ValueOutOfRange (place : Place) (before : List Property) (left : Left) (fault : PropFault) : Type 0 where
   pub line : Line
   pub behind : Left
@@ -98,7 +98,7 @@ pub record ValueOutOfRange (place : Place) (before : List Property) (left : Left
   pub out : in_range line.range value ≡ false
   pub is : fault ≡ record { at = behind.at; reason = BadValue }
 
--- The value is in its range, and a Response Topic of a PUBLISH with a wildcard.
+-- The value is in its range, and is a Response Topic of a PUBLISH with a wildcard.
 pub record WildValue (place : Place) (before : List Property) (left : Left) (fault : PropFault) : Type 0 where
   pub line : Line
   pub behind : Left
@@ -113,10 +113,10 @@ pub record WildValue (place : Place) (before : List Property) (left : Left) (fau
 abbrev pub BreaksIdentifier : Place → List Property → Left → PropFault → Type 0
 BreaksIdentifier place before left fault = BadIdentifier left fault ⊎ (UnknownProperty left fault ⊎ (UnlistedProperty place left fault ⊎ RepeatedProperty place before left fault))
 
--- It is that of the value after an identifier that may stand there.
+-- The fault is that of the value after an identifier that is allowed there.
 abbrev pub BreaksValue : Place → List Property → Left → PropFault → Type 0
 BreaksValue place before left fault = MisspelledValue place before left fault ⊎ (ValueOutOfRange place before left fault ⊎ WildValue place before left fault)
 
--- It is that of the property's first bad field.
+-- The fault is that of the property's first invalid field.
 abbrev pub BreaksProperty : Place → List Property → Left → PropFault → Type 0
 BreaksProperty place before left fault = BreaksIdentifier place before left fault ⊎ BreaksValue place before left fault

@@ -1,4 +1,4 @@
--- The first bad field of a property list (MQTT 5.0, 2.2.2), apart from any reading.
+-- The first invalid field of a property list (MQTT 5.0, 2.2.2), independent of any way of reading.
 use Rattle.std.specs.Prelude.{◌≡◌, ℕ, ◌+◌, ◌<◌, ◌⊎◌, List, ◌++◌, length}
 use Rattle.mq_wire.specs.declared.fault.Reason.{Reason}
 use Rattle.mq_wire.specs.declared.fault.Reason.TheVariants.{Short}
@@ -18,7 +18,7 @@ pub record BadLength (left : Left) (fault : PropFault) : Type 0 where
   pub misspelled : Misspelled variable_byte_integer left.rest reason
   pub is : fault ≡ record { at = left.at; reason = Wire reason }
 
--- The length is spelled, and fewer bytes are left after it.
+-- The length is well spelled, and fewer bytes than it says are left after it.
 pub record LongLength (left : Left) (fault : PropFault) : Type 0 where
   pub len : ℕ
   pub inside : Left
@@ -26,8 +26,8 @@ pub record LongLength (left : Left) (fault : PropFault) : Type 0 where
   pub passes : length inside.rest < len
   pub is : fault ≡ record { at = left.at; reason = Wire Short }
 
--- The length is spelled, and counts the spelling of properties that may begin a list of the place, and others, at least
--- one; and the property at the front of the others has a bad field.
+-- The length is well spelled. The bytes that it counts begin with valid properties of the place's list, maybe none; other
+-- bytes follow, at least one, and the property at their front has an invalid field.
 pub record BadProperty (place : Place) (left : Left) (fault : PropFault) : Type 0 where
   pub good : List Property
   pub others : List ℕ

@@ -20,7 +20,7 @@ prop_reason_number reasons.Repeated = 4
 prop_reason_number reasons.Value = 5
 prop_reason_number reasons.Wildcard = 6
 
--- The number of why a property isn't taken. The lowest one that stands is answered.
+-- The number of why a property isn't appended. If several apply, the lowest one is returned.
 abbrev pub push_fault_number : PushFault → ℕ
 push_fault_number pushes.NotAllowed = 1
 push_fault_number pushes.Repeated = 2

@@ -1,16 +1,16 @@
--- A property list that is made property by property.
+-- A property list that is built property by property.
 use Rattle.std.specs.Prelude.{ℕ, List}
 use Rattle.mq_props.specs.declared.table.Place.{Place}
 use Rattle.mq_props.specs.declared.seen.Seen.{Seen}
 use Rattle.mq_props.specs.Listed.{Listed, IsList}
 use Rattle.mq_props.specs.Views.{Sees}
 
--- The list, and how many bytes more it takes without more memory.
+-- The list, and how many more bytes fit without another allocation.
 pub record Made : Type 0 where
   pub list : Listed
   pub spare : ℕ
 
--- The bytes are those of a list in the place, and the identifiers that were seen are those of its properties.
+-- The bytes spell a list for the place, and the identifiers that were seen are those of its properties.
 pub record Keeps (place : Place) (seen : Seen) (bytes : List ℕ) : Type 0 where
   pub is_list : IsList place bytes
   pub sees : Sees seen is_list.properties

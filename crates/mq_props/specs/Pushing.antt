@@ -1,4 +1,4 @@
--- Which properties a list that is made takes at its end.
+-- Which properties may be appended to a list that is being built.
 use Rattle.std.specs.Prelude.{◌≡◌, ℕ, ◌+◌, ◌<◌, ◌≤◌, Bool, false, not, ◌||◌, List, ◌++◌, length, Option, Some, None, Result, OnOk, OnErr, IsOkUnless, nat_lt, if◌then◌else◌, Vec, vec_len, vec_capacity}
 use Rattle.std.specs.declared.alloc.Global.{Global}
 use Rattle.mq_wire.specs.Spellings.{max_two_bytes, max_varint, has_nul}
@@ -40,7 +40,7 @@ is_large (text t) = false
 is_large (pair name value) = false
 is_large (binary bytes) = false
 
--- A property of the line may not have the value in the place.
+-- In the place's list, a property of the line may not have the value.
 abbrev pub is_bad : Place → Line → Value → Bool
 is_bad place line value = not (in_range line.range value) || (is_wild place line.id value || (nul_in value || is_large value))
 
@@ -48,7 +48,7 @@ is_bad place line value = not (in_range line.range value) || (is_wild place line
 abbrev pub overflows : List Property → Property → Bool
 overflows ps p = nat_lt max_varint (length (body ps) + length (property_spelling p))
 
--- Why the list doesn't take a property of this line with this value, if so: the lowest reason of the first four that stands.
+-- Why a property of this line with this value can't be appended, if so: the lowest of the first four reasons that applies.
 abbrev pub fault_of : Listed → Value → Option Line → Option PushFault
 fault_of list value None = Some NotAllowed
 fault_of list value (Some line) =
@@ -58,11 +58,11 @@ fault_of list value (Some line) =
     else if is_long value || overflows list.items (record { id = line.id; value = value }) then Some TooLong
     else None
 
--- Why the list doesn't take the property.
+-- Why the property can't be appended, if so.
 abbrev pub push_fault : Listed → Property → Option PushFault
 push_fault list p = fault_of list p.value (row_of p.id)
 
--- The call appends the spelling of a value of its type, or nothing for want of memory, where the vector has no room for it.
+-- The call appends the spelling of a value of its type; or it appends nothing, because the vector has no room and couldn't grow.
 pub record Puts (v : Value) (result : Result (Unit {0}) PushFault) (old new : Vec ℕ Global) : Type 0 where
   pub ok : OnOk result (new.items ≡ old.items ++ value_spelling v)
   pub valid : OnOk result (IsValue v)

@@ -1,4 +1,4 @@
--- A property list read from left to right, with its first bad field (MQTT 5.0, 2.2.2).
+-- A property list read from left to right, with its first invalid field (MQTT 5.0, 2.2.2).
 use Rattle.std.specs.Prelude.{◌≡◌, ℕ, zero, suc, List, [], ◌∷◌, ◌++◌, length, take, Option, Some, None, Result, Ok, Err, nat_lt, ◌==◌, if◌then◌else◌}
 use Rattle.std.specs.Option.{option_map_or}
 use Rattle.mq_wire.specs.declared.fault.Reason.TheVariants.{Short}
@@ -16,7 +16,7 @@ use Rattle.mq_props.specs.Table.{Line, row_of, is_listed}
 use Rattle.mq_props.specs.Values.{Value, byte, two_bytes, four_bytes, varint, text, pair, binary, Property}
 use Rattle.mq_props.specs.Allowed.{is_repeated, in_range, is_wild}
 
--- A step that is taken only where the one before it succeeded.
+-- A step that is taken only if the one before it succeeded.
 infixl 10 ◌>>=◌
 abbrev pub ◌>>=◌ : {A B : Type 0} → Result A PropFault → (A → Result B PropFault) → Result B PropFault
 (Ok x) >>= f = f x
@@ -27,12 +27,12 @@ abbrev pub from_wire : {A : Type 0} → Result A WireFault → Result A PropFaul
 from_wire (Ok x) = Ok x
 from_wire (Err fault) = Err (wire_fault fault)
 
--- A judgement of the field at a place.
+-- A result about the field at an offset.
 abbrev pub judged_at : {A : Type 0} → ℕ → Result A PropReason → Result A PropFault
 judged_at at (Ok x) = Ok x
 judged_at at (Err reason) = Err (record { at = at; reason = reason })
 
--- The value that is read, made one of its type.
+-- The value that was read, wrapped by its type.
 abbrev pub as_value : {X : Type 0} → (X → Value) → Result (X × Left) WireFault → Result (Value × Left) WireFault
 as_value make (Ok x) = Ok (make x.0, x.1)
 as_value make (Err fault) = Err fault
@@ -47,19 +47,19 @@ value_on types.Text left = as_value text (placed left (text_at left.rest))
 value_on types.Pair left = as_value (λ texts. pair texts.0 texts.1) (placed left (pair_at left.rest))
 value_on types.Binary left = as_value binary (placed left (binary_at left.rest))
 
--- The line, if a property with it may stand in the place's list after these.
+-- The line, if a property of it is allowed in the place's list after these.
 abbrev pub admitted : Place → List Property → Option Line → Result Line PropReason
 admitted place before None = Err Unknown
 admitted place before (Some line) =
     if is_listed place line then (if is_repeated place before line.id then Err Repeated else Ok line) else Err NotAllowed
 
--- The property of a line with this value, if it may have it there.
+-- The property of a line with this value, if it may have the value there.
 abbrev pub valued : Place → Line → Value → Result Property PropReason
 valued place line value =
     if in_range line.range value then (if is_wild place line.id value then Err Wildcard else Ok (record { id = line.id; value = value })) else Err BadValue
 
--- A property at the front of what is left, after these: its identifier is spelled, known, allowed here and not
--- repeated; then its value is spelled, in range and without a wildcard that isn't allowed.
+-- A property at the front of what is left, after these: its identifier is well spelled, known, allowed here and not
+-- repeated; then its value is well spelled, in range and without a wildcard that isn't allowed.
 unfoldable pub property_on : Place → List Property → Left → Result (Property × Left) PropFault
 property_on place before left = do
   id ← from_wire (placed left (varint_at left.rest))
@@ -68,7 +68,7 @@ property_on place before left = do
   property ← judged_at id.1.at (valued place line value.0)
   Ok (property, value.1)
 
--- All that is left, as properties after these. Each takes some bytes, so there are at most n where n bytes are left.
+-- All that is left, as properties after these. Each takes at least one byte, so n bytes have at most n.
 abbrev pub properties_within : ℕ → Place → List Property → Left → Result (List Property) PropFault
 properties_within zero place before left = Ok before
 properties_within (suc n) place before left =
@@ -78,13 +78,13 @@ properties_within (suc n) place before left =
 unfoldable pub properties_on : Place → List Property → Left → Result (List Property) PropFault
 properties_on place before left = properties_within (length left.rest) place before left
 
--- The bytes that a length counts, or that they aren't all there.
+-- The bytes that a length counts, or a fault if they aren't all there.
 abbrev pub counted : Left → ℕ → Left → Result Left PropFault
 counted start len left =
     if nat_lt (length left.rest) len then Err (record { at = start.at; reason = Wire Short })
     else Ok (record { at = left.at; rest = take len left.rest })
 
--- A property list at the front of what is left: its length, and the properties that are all of so many bytes.
+-- A property list at the front of what is left: its length, and the properties that make up that many bytes.
 unfoldable pub list_on : Place → Left → Result (List Property × Left) PropFault
 list_on place left = do
   len ← from_wire (placed left (varint_at left.rest))
@@ -107,12 +107,12 @@ abbrev pub item_named : Result (ℕ × Left) WireFault → Option (Property × L
 item_named (Ok id) = item_known (row_of id.0) id.1
 item_named (Err fault) = None
 
--- A property of any list at the front of what is left, if one stands there.
+-- A property of any list at the front of what is left, if there is one.
 unfoldable pub item_on : Left → Option (Property × Left)
 item_on left = item_named (placed left (varint_at left.rest))
 
--- The properties that stand one after another at the front of what is left, as far as they go. Each takes some bytes,
--- so there are at most n where n bytes are left.
+-- The properties one after another at the front of what is left, as far as they go. Each takes at least one byte,
+-- so n bytes have at most n.
 abbrev pub items_within : ℕ → Left → List Property
 items_within zero left = []
 items_within (suc n) left = option_map_or (λ x. x.0 ∷ items_within n x.1) (item_on left) []
@@ -125,12 +125,12 @@ items_on left = items_within (length left.rest) left
 unfoldable pub items_of : List ℕ → List Property
 items_of bytes = items_on (record { at = 0; rest = bytes })
 
--- The call answers what was read: its value, and the cursor has gone past it; or its fault.
+-- The call returns what was read: its value, and the cursor is past it; or its fault.
 abbrev pub Reads : {X Y : Type 0} → (X → Y) → Result X PropFault → Result (Y × Left) PropFault → Left → Type 0
 Reads view (Ok x) read new = read ≡ Ok (view x, new)
 Reads view (Err fault) read new = read ≡ Err fault
 
--- The call answers this value, as view sees it, or this fault.
+-- The call returns this value, as `view` sees it, or this fault.
 abbrev pub Gives : {X Y : Type 0} → (X → Y) → Result X PropFault → Result Y PropFault → Type 0
 Gives view (Ok x) read = read ≡ Ok (view x)
 Gives view (Err fault) read = read ≡ Err fault

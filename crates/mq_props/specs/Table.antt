@@ -27,7 +27,7 @@ place_number Unsuback = 11
 place_number Disconnect = 12
 place_number Auth = 13
 
--- Two names of one place.
+-- The two places are the same.
 abbrev pub same_place : Place → Place → Bool
 same_place p q = place_number p == place_number q
 
@@ -39,7 +39,7 @@ pub record Line : Type 0 where
   pub kind : ValueType
   -- the values of that type that the property may have
   pub range : Range
-  -- the lists that it may stand in
+  -- the lists that it is allowed in
   pub lists : List Place
 
 -- A line as the source has it.
@@ -91,11 +91,11 @@ rows =
 unfoldable pub row_of : ℕ → Option Line
 row_of id = find (λ row. row.id == id) rows
 
--- The property may stand in the place's list.
+-- The property is allowed in the place's list.
 abbrev pub is_listed : Place → Line → Bool
 is_listed place row = list_any (λ p. same_place p place) row.lists
 
--- It may stand there more than once: a User Property anywhere, and a Subscription Identifier in PUBLISH.
+-- It may be there more than once: a User Property anywhere, and a Subscription Identifier in PUBLISH.
 abbrev pub may_repeat : Place → ℕ → Bool
 may_repeat place id = (id == user_property) || (id == subscription_identifier) && same_place place Publish
 

@@ -7,7 +7,7 @@ use Rattle.mq_props.specs.declared.seen.Seen.{Seen}
 use Rattle.mq_props.specs.Values.{Value, byte, two_bytes, four_bytes, varint, text, pair, binary, Property}
 use Rattle.mq_props.specs.Allowed.{stands_in}
 
--- A value without where its bytes lie in memory.
+-- A value, apart from where its bytes are in memory.
 abbrev pub value_view : Held → Value
 value_view (held.Byte n) = byte n
 value_view (held.TwoBytes n) = two_bytes n

@@ -1,4 +1,4 @@
-//! A property list that is made property by property.
+//! A property list that is built property by property.
 
 ghost use Rattle.std.specs.Prelude.{◌≡◌, ◌+◌, ◌<◌, ◌≤◌, ◌||◌, false, [], ◌∷◌, ◌++◌, length, take, OnOk, OnErr, IsOkUnless, MatchOption, Some, Err, nat_lt, vec_len, vec_capacity};
 ghost use Rattle.mq_wire.specs.Spellings.{max_two_bytes, max_varint, has_nul};
@@ -22,9 +22,9 @@ use mq_wire::{
 use std::alloc::Global;
 use std::marker::Model;
 
-/// A property list that is made for its place, and may stand there at any moment (MQTT 5.0, 2.2.2).
+/// A property list that is built for its place, and is valid there at any moment (MQTT 5.0, 2.2.2).
 ///
-/// A contract sees its place and its properties, in order, and how many bytes more it takes without more memory.
+/// A contract sees its place and its properties, in order, and how many more bytes fit without another allocation.
 #[derive(Debug, Drop)]
 pub struct PropsBuf {
     place: Place,
@@ -118,7 +118,7 @@ fn value_len(value: &Value) -> usize
     }
 }
 
-// Whether the property makes the list, which has so many bytes, longer than its length can count.
+// Whether the property makes a list of `len` bytes longer than a length can count.
 fn is_over_all(len: usize, value: &Value) -> bool
     requires long { is_long (value_view value.now) ≡ false }
     requires len { len ≤ max_varint }
@@ -127,7 +127,7 @@ fn is_over_all(len: usize, value: &Value) -> bool
     len + (1 + value_len(value)) > MAX_VARINT as usize
 }
 
-// Whether the list of these bytes would have more than its length can count with the property.
+// Whether the list of these bytes would, with the property, have more than a length can count.
 fn is_over_list(bytes: &[u8], id: u8, value: &Value) -> bool
     requires spelled { bytes.now ≡ body (items_of bytes.now) }
     requires bound { length bytes.now ≤ max_varint }
@@ -147,7 +147,7 @@ fn is_too_long(bytes: &[u8], id: u8, value: &Value) -> bool
     is_long_value(value) || is_over_list(bytes, id, value)
 }
 
-// Why the list of these bytes, of which this was seen, doesn't take a property with the value, if so.
+// Why a property with the value can't be appended to the list of these bytes, if so. `seen` has the list's identifiers.
 fn fault_with(place: Place, seen: &Seen, bytes: &[u8], row: Row, value: &Value) -> Option<PushFault>
     requires sees { Sees seen.now (items_of bytes.now) }
     requires spelled { bytes.now ≡ body (items_of bytes.now) }
@@ -256,7 +256,7 @@ fn put_value(out: &mut Vec<u8>, value: &Value) -> Result<(), PushFault>
     }
 }
 
-// Appends the property, or a front of it for want of memory.
+// Appends the property, or only a part of it if there is no memory.
 #[tactic(auto, using(crate::proofs::Pushes::id_spelled, crate::proofs::Pushes::no_room, crate::proofs::Pushes::no_room_behind, std::proofs::lemmas::List::append_assoc, std::proofs::lemmas::List::take_at))]
 fn put_item(out: &mut Vec<u8>, item: &Item) -> Result<(), PushFault>
     requires id { item.now.id < 128 }
@@ -273,7 +273,7 @@ fn put_item(out: &mut Vec<u8>, item: &Item) -> Result<(), PushFault>
     put_value(out, &item.value)
 }
 
-// Appends the property, or nothing for want of memory.
+// Appends the property, or nothing if there is no memory.
 fn append(out: &mut Vec<u8>, item: &Item) -> Result<(), PushFault>
     requires id { item.now.id < 128 }
     requires long { is_long (value_view item.now.value) ≡ false }
@@ -294,7 +294,7 @@ fn append(out: &mut Vec<u8>, item: &Item) -> Result<(), PushFault>
 }
 
 impl PropsBuf {
-    /// A list of no properties, for the place. It takes no memory.
+    /// The empty list for the place. It takes no memory.
     pub fn new(alloc: Global, place: Place) -> PropsBuf
         ensures list { result.list ≡ record { place = place; items = [] } }
         ensures spare { result.spare ≡ 0 }
@@ -306,16 +306,16 @@ impl PropsBuf {
         }
     }
 
-    /// Takes the property at the list's end.
+    /// Appends the property.
     ///
     /// # Errors
     ///
-    /// The [`PushFault`] with the lowest number that stands: `Memory` only where the property has more bytes than the list takes
-    /// without more memory. The list is unchanged then.
+    /// The [`PushFault`] with the lowest number of those that apply: `Memory` only if the property has more bytes than fit
+    /// without another allocation. The list is then unchanged.
     pub fn push(&mut self, prop: &Prop) -> Result<(), PushFault>
         ensures ok { OnOk result (self.new.list ≡ record { place = self.old.list.place; items = self.old.list.items ++ prop_view prop.now ∷ [] }) }
         ensures err { OnErr result (self.new.list ≡ self.old.list) }
-        // It is refused for the lowest reason that stands, and else only for want of memory.
+        // It fails for the lowest reason that applies, and else only for want of memory.
         ensures refused { MatchOption (push_fault self.old.list (prop_view prop.now)) (IsOkUnless result PushFault.Memory) (λ fault. result ≡ Err fault) }
         ensures memory { result ≡ Err PushFault.Memory → self.old.spare < length (property_spelling (prop_view prop.now)) }
     {

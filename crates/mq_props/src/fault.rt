@@ -1,4 +1,4 @@
-//! Why a property list is refused.
+//! Why a property list is invalid, and why a property can't be appended to one.
 
 ghost use Rattle.std.specs.Prelude.{◌≡◌};
 ghost use Rattle.mq_props.specs.Faults.{prop_reason_number, push_fault_number};
@@ -6,26 +6,25 @@ ghost use Rattle.mq_props.specs.Faults.{prop_reason_number, push_fault_number};
 use mq_wire::{Reason, WireFault};
 use thiserror::Error;
 
-/// What is wrong with a property list, in the order in which a property is judged.
+/// What is wrong with a property list, in the order in which a property is checked.
 #[derive(Debug, Clone, Copy, PartialEq, Eq, Error)]
 pub enum PropReason {
-    /// A length, an identifier or a value isn't spelled as its type asks, or passes the list's end
-    /// (MQTT 5.0, 1.5).
+    /// A length, an identifier or a value is misspelled, or goes past the list's end (MQTT 5.0, 1.5).
     #[error(transparent)]
     Wire(Reason),
     /// No property has the identifier (MQTT 5.0, 2.2.2.2).
     #[error("no property has the identifier")]
     Unknown,
-    /// The property isn't one of this list (MQTT 5.0, 2.2.2.2).
+    /// The property isn't allowed in this list (MQTT 5.0, 2.2.2.2).
     #[error("the property isn't one of this list")]
     NotAllowed,
-    /// The property stands in the list already, and may stand there only once.
+    /// The property is in the list already, and may be there only once.
     #[error("the property may stand in the list only once")]
     Repeated,
     /// The property may not have this value.
     #[error("the property may not have this value")]
     Value,
-    /// A wildcard stands in the Response Topic of a PUBLISH (MQTT 5.0, 3.3.2.3.5).
+    /// The Response Topic of a PUBLISH has a wildcard (MQTT 5.0, 3.3.2.3.5).
     #[error("a Response Topic has a wildcard")]
     Wildcard,
 }
@@ -46,7 +45,7 @@ impl PropReason {
     }
 }
 
-/// The first bad field of a property list.
+/// The first invalid field of a property list.
 #[derive(Debug, Clone, Copy, PartialEq, Eq, Error)]
 #[error("{reason}, at byte {at}")]
 pub struct PropFault {
@@ -70,13 +69,14 @@ impl From<WireFault> for PropFault {
     }
 }
 
-/// Why a property isn't taken into a list that is made: the lowest number that stands.
+/// Why a property can't be appended to a list. If several reasons apply, it is the one with the lowest
+/// number.
 #[derive(Debug, Clone, Copy, PartialEq, Eq, Error)]
 pub enum PushFault {
-    /// The property isn't one of this list (MQTT 5.0, 2.2.2.2).
+    /// The property isn't allowed in this list (MQTT 5.0, 2.2.2.2).
     #[error("the property isn't one of this list")]
     NotAllowed,
-    /// The property stands in the list already, and may stand there only once.
+    /// The property is in the list already, and may be there only once.
     #[error("the property may stand in the list only once")]
     Repeated,
     /// The property may not have this value: it is out of range, a Response Topic of a PUBLISH with a
@@ -86,7 +86,7 @@ pub enum PushFault {
     /// A text or binary data has more than 65,535 bytes, or the list would have more than 268,435,455.
     #[error("the value or the list is too long")]
     TooLong,
-    /// No memory was left.
+    /// The memory for it couldn't be allocated.
     #[error("no memory was left")]
     Memory,
 }

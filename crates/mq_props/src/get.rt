@@ -1,7 +1,7 @@
 //! The first property of each kind in a list.
 //!
-//! What a PUBLISH is asked for is inlined down to a function that takes the list's bytes: a list that is lent to no call needs no place
-//! in memory.
+//! The getters that are called for each PUBLISH are inlined down to a function of the list's bytes: a list that no call borrows
+//! is kept in registers.
 
 ghost use Rattle.std.specs.Prelude.{◌≡◌};
 ghost use Rattle.std.specs.Option.{option_map};

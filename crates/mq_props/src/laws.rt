@@ -1,4 +1,4 @@
-//! What it is for the reading of property lists to be exact.
+//! What it means for the reading of property lists to be exact.
 
 ghost use Rattle.std.specs.Prelude.{◌≡◌, ◌↔◌, ℕ, List, [], Ok, Err};
 ghost use Rattle.mq_wire.specs.Left.{Left};
@@ -10,17 +10,17 @@ ghost use Rattle.mq_props.specs.Allowed.{AreAllowed};
 ghost use Rattle.mq_props.specs.Breaks.{Breaks};
 ghost use Rattle.mq_props.specs.Reading.{properties_on, list_on};
 
-/// The bytes that are read as the properties of a place are those that spell them.
+/// Bytes are read as the properties of a place exactly if they spell them.
 pub fn properties_are_exact()
-    // What is read is spelled by the bytes, and may make a list in the place.
+    // What is read is spelled by the bytes, and is a valid list for the place.
     ensures only { (place : Place) (at : ℕ) (bytes : List ℕ) (ps : List Property) → AreBytes bytes
         → properties_on place [] (record { at = at; rest = bytes }) ≡ Ok ps → (bytes ≡ body ps) × AreAllowed place ps }
-    // What may make a list there is read from its spelling.
+    // What is a valid list there is read from its spelling.
     ensures all { (place : Place) (at : ℕ) (ps : List Property) → AreAllowed place ps
         → properties_on place [] (record { at = at; rest = body ps }) ≡ Ok ps }
 {}
 
-/// A property list is refused for a fault exactly where that is its first one.
+/// Reading a property list fails with a fault exactly if that is its first one.
 pub fn property_faults_are_exact()
     ensures breaks { (place : Place) (left : Left) (fault : PropFault) → AreBytes left.rest
         → (list_on place left ≡ Err fault) ↔ Breaks place left fault }

@@ -12,7 +12,7 @@ use crate::table::{Place, Row, find_row, lists_place, may_repeat_in};
 use crate::value::{Item, Value, is_in_range, is_wild_in, read_value};
 use mq_wire::Cursor;
 
-// The line of the identifier at a place, if a property with it may stand in the list after those seen.
+// The line of the identifier at an offset, if a property with it is allowed in the list after those seen.
 fn admit(place: Place, seen: &Seen, at: usize, id: u32) -> Result<Row, PropFault>
     ensures { (before : List Property) → Sees seen.now before → Gives row_view result (judged_at at (admitted place before (row_of id))) }
 {
@@ -37,7 +37,7 @@ fn admit(place: Place, seen: &Seen, at: usize, id: u32) -> Result<Row, PropFault
     Ok(row)
 }
 
-// The property of a line with the value at a place, if it may have it there.
+// The property of a line with the value at an offset, if it may have the value in this list.
 fn judge<'a>(place: Place, row: Row, at: usize, value: Value<'a>) -> Result<Item<'a>, PropFault>
     ensures { Gives item_view result (judged_at at (valued place (row_view row.entry) (value_view value.entry))) }
 {
@@ -70,11 +70,11 @@ fn read_item<'a>(place: Place, seen: &Seen, cursor: &mut Cursor<'a>) -> Result<I
     Ok(item)
 }
 
-/// Checks that all that the cursor has left are properties that may make a list in the place (MQTT 5.0, 2.2.2).
+/// Checks that all that the cursor has left is a valid list of properties for the place (MQTT 5.0, 2.2.2).
 ///
 /// # Errors
 ///
-/// The first bad field from the left, with its place, as `Props::read` gives it within the list's bytes.
+/// The first invalid field from the left, with its offset, as in `Props::read`.
 pub(crate) fn check_items(place: Place, mut cursor: Cursor) -> Result<(), PropFault>
     ensures { MatchResult result (λ _. (ps : List Property) × (properties_on place [] cursor.entry ≡ Ok ps)) (λ fault. properties_on place [] cursor.entry ≡ Err fault) }
 {

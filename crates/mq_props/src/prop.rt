@@ -17,15 +17,15 @@ pub enum Prop<'a> {
     PayloadFormatIndicator(u8),
     /// 0x02: the lifetime of a message, in seconds.
     MessageExpiryInterval(u32),
-    /// 0x03: what the payload holds.
+    /// 0x03: what kind of content the payload is.
     ContentType(&'a str),
     /// 0x08: the Topic Name for a response. In a PUBLISH it has no wildcard.
     ResponseTopic(&'a str),
-    /// 0x09: what tells which request a response answers.
+    /// 0x09: data that says which request a response answers.
     CorrelationData(&'a [u8]),
     /// 0x0B: the identifier of a subscription, from 1 to 268,435,455.
     SubscriptionIdentifier(u32),
-    /// 0x11: how long a session is kept after its connection, in seconds.
+    /// 0x11: how long a session is kept after its connection closed, in seconds.
     SessionExpiryInterval(u32),
     /// 0x12: the Client Identifier that the server assigned.
     AssignedClientIdentifier(&'a str),
@@ -35,13 +35,13 @@ pub enum Prop<'a> {
     AuthenticationMethod(&'a str),
     /// 0x16: the data of that method.
     AuthenticationData(&'a [u8]),
-    /// 0x17: 1 if the client takes Reason Strings and User Properties with failures, else 0.
+    /// 0x17: 1 if the client accepts Reason Strings and User Properties on any packet, else 0.
     RequestProblemInformation(u8),
     /// 0x18: how long the server waits before it publishes the Will, in seconds.
     WillDelayInterval(u32),
     /// 0x19: 1 if the client asks for Response Information, else 0.
     RequestResponseInformation(u8),
-    /// 0x1A: what a client may base a Response Topic on.
+    /// 0x1A: the basis for a Response Topic that the client makes.
     ResponseInformation(&'a str),
     /// 0x1C: another server that the client may use.
     ServerReference(&'a str),
@@ -49,27 +49,27 @@ pub enum Prop<'a> {
     ReasonString(&'a str),
     /// 0x21: how many QoS 1 and QoS 2 publications may be in flight, from 1 to 65,535.
     ReceiveMaximum(u16),
-    /// 0x22: the largest Topic Alias that may be sent.
+    /// 0x22: the largest Topic Alias that the sender accepts, or 0 if it accepts none.
     TopicAliasMaximum(u16),
     /// 0x23: the number that stands for a topic, from 1 to 65,535.
     TopicAlias(u16),
-    /// 0x24: the largest QoS that the server takes, 0 or 1.
+    /// 0x24: the largest QoS that the server supports, 0 or 1.
     MaximumQos(u8),
-    /// 0x25: 1 if the server takes retained messages, else 0.
+    /// 0x25: 1 if the server supports retained messages, else 0.
     RetainAvailable(u8),
     /// 0x26: a name and a value, for the application.
     UserProperty(&'a str, &'a str),
-    /// 0x27: the most bytes that a packet may have, from 1 on.
+    /// 0x27: the largest packet that the sender accepts, in bytes, from 1 on.
     MaximumPacketSize(u32),
-    /// 0x28: 1 if the server takes wildcards in subscriptions, else 0.
+    /// 0x28: 1 if the server supports wildcards in subscriptions, else 0.
     WildcardSubscriptionAvailable(u8),
-    /// 0x29: 1 if the server takes Subscription Identifiers, else 0.
+    /// 0x29: 1 if the server supports Subscription Identifiers, else 0.
     SubscriptionIdentifierAvailable(u8),
-    /// 0x2A: 1 if the server takes shared subscriptions, else 0.
+    /// 0x2A: 1 if the server supports shared subscriptions, else 0.
     SharedSubscriptionAvailable(u8),
 }
 
-/// The property as it stands in a list.
+/// The property as a list has it: an identifier and a value.
 #[rattlefmt::skip]
 pub fn item_of<'a>(prop: Prop<'a>) -> Item<'a>
     ensures { item_view result ≡ prop_view prop.entry }
@@ -204,7 +204,7 @@ fn pair_prop<'a>(id: u8, name: &'a str, value: &'a str) -> Option<Prop<'a>>
     }
 }
 
-/// The property that stands so in a list, if its value is of its identifier's type.
+/// The property with this identifier and value, if the value is of the identifier's type.
 pub fn prop_of<'a>(item: Item<'a>) -> Option<Prop<'a>>
     ensures view { IfSome result (λ prop. prop_view prop ≡ item_view item.entry) }
     ensures each { has_kind (type_of (item_view item.entry).value) (item_view item.entry).id ≡ true → IsSome result }

@@ -21,8 +21,8 @@ use mq_wire::{Cursor, Reason};
 use std::marker::Model;
 use std::mem;
 
-/// A property list that may stand in its place (MQTT 5.0, 2.2.2): each property is known, allowed there,
-/// in range, and not repeated where it may stand once.
+/// A property list that is valid in its place (MQTT 5.0, 2.2.2): each property is known, allowed there
+/// and in range, and none is repeated that may be there only once.
 ///
 /// It borrows the bytes that spell it. A contract sees its place and its properties, in order.
 #[derive(Debug, Drop)]
@@ -42,7 +42,7 @@ impl<'a> Model for Props<'a> {
     ghost invariant = { λ p. IsList p.place p.bytes.now };
 }
 
-// The bytes that the cursor has left, which it keeps.
+// The bytes that the cursor has left. It doesn't move.
 #[inline(always)]
 fn rest_of<'a>(cursor: &mut Cursor<'a>) -> &'a [u8]
     ensures rest { result.now ≡ cursor.old.rest }
@@ -55,7 +55,7 @@ fn rest_of<'a>(cursor: &mut Cursor<'a>) -> &'a [u8]
     rest
 }
 
-// The properties that all of the bytes spell, which begin at a place.
+// The properties that all of the bytes spell; the first byte has the offset `at`.
 fn all_of<'a>(place: Place, at: usize, bytes: &'a [u8]) -> Result<Props<'a>, PropFault>
     requires place { at + length bytes.now < 2 ^ 63 }
     requires bound { length bytes.now ≤ max_varint }
@@ -68,7 +68,7 @@ fn all_of<'a>(place: Place, at: usize, bytes: &'a [u8]) -> Result<Props<'a>, Pro
     Ok(Props { place, bytes })
 }
 
-// What stands after the first byte, where that is 0.
+// The bytes after the first one, if that is 0.
 #[inline(always)]
 fn behind_zero(bytes: &[u8]) -> Option<&[u8]>
     ensures { IfSome result (λ behind. bytes.now ≡ 0 ∷ behind.now) }
@@ -97,7 +97,7 @@ fn list_at<'a>(cursor: &mut Cursor<'a>, place: Place) -> Result<Props<'a>, PropF
     }
 }
 
-// The same. It stays apart, so that a list of no properties is read where it is wanted.
+// The same for any list. It is a function of its own, so that the call for an empty list, the usual case, is inlined.
 #[inline(never)]
 #[tactic(auto, unfolding(crate::specs::Reading::list_on))]
 fn any_list_at<'a>(cursor: &mut Cursor<'a>, place: Place) -> Result<Props<'a>, PropFault>
@@ -122,7 +122,7 @@ fn any_list_at<'a>(cursor: &mut Cursor<'a>, place: Place) -> Result<Props<'a>, P
     Ok(props)
 }
 
-// The next property of any list, if one stands at the front of what is left.
+// The next property of any list, if there is one at the front of what is left.
 #[tactic(auto, unfolding(crate::specs::Reading::item_on))]
 fn next_item<'a>(cursor: &mut Cursor<'a>) -> Option<Item<'a>>
     ensures { MatchOption result (item_on cursor.old ≡ None) (λ item. item_on cursor.old ≡ Some (item_view item, cursor.new)) }
@@ -157,25 +157,25 @@ impl<'a> Props<'a> {
     ghost use Rattle.mq_props.specs.Listed.{IsList};
 
     /// Reads the property list of a place at the front of what the cursor has left (MQTT 5.0, 2.2.2): its
-    /// length, and then properties that are all of so many bytes. It allocates nothing, and copies nothing.
+    /// length, and the properties that make up that many bytes. It allocates and copies nothing.
     ///
     /// # Errors
     ///
-    /// The first bad field from the left, with its place. For the list's length: `Wire` where it isn't
-    /// spelled, or where it passes the end. For each property, within the list's bytes: `Wire` where
-    /// the identifier isn't spelled, `Unknown`, `NotAllowed`, `Repeated`, these at the identifier; then
-    /// `Wire` where the value isn't spelled, `Value`, `Wildcard`, these at the value. The cursor is
-    /// where it was then.
+    /// The first invalid field from the left, with its offset. For the list's length: `Wire` if it is
+    /// misspelled, or if fewer bytes are left. For each property, within the list's bytes: `Wire` if the
+    /// identifier is misspelled, `Unknown`, `NotAllowed`, `Repeated`, these at the identifier; then
+    /// `Wire` if the value is misspelled, `Value`, `Wildcard`, these at the value. The cursor has then
+    /// not moved.
     #[inline(always)]
     pub fn read(cursor: &mut Cursor<'a>, place: Place) -> Result<Props<'a>, PropFault>
-        // What is read is spelled by the bytes that the cursor goes past, and may stand in the place.
+        // What is read is spelled by the bytes that the cursor moved past, and is valid in the place.
         ensures found { IfOk result (λ props. (bytes : List ℕ) × Lists place props.items bytes × (cursor.old.rest ≡ bytes ++ cursor.new.rest) × (cursor.new ≡ past cursor.old (length bytes))) }
-        // What may stand there is read, whatever follows it.
+        // What is valid there is read, whatever follows it.
         ensures only { (ps : List Property) (bytes rest : List ℕ) → Lists place ps bytes → cursor.old.rest ≡ bytes ++ rest
             → IsOkAnd result (λ props. props.items ≡ ps) × (cursor.new ≡ past cursor.old (length bytes)) }
-        // Else the first bad field is named.
+        // Else the first invalid field is named.
         ensures broken { IfErr result (λ fault. Breaks place cursor.old fault) }
-        // It begins in what was left, or right after it.
+        // That field begins in what was left, or right after it.
         ensures within { IfErr result (λ fault. (cursor.old.at ≤ fault.at) × (fault.at ≤ cursor.old.at + length cursor.old.rest)) }
         ensures exact { Reads (λ props. props.items) result (list_on place cursor.old) cursor.new }
         ensures place { IfOk result (λ props. props.place ≡ place) }
@@ -184,7 +184,7 @@ impl<'a> Props<'a> {
         list_at(cursor, place)
     }
 
-    /// The list of no properties, for the place.
+    /// The empty list for the place.
     #[inline(always)]
     pub fn empty(place: Place) -> Props<'a>
         ensures { result ≡ record { place = place; items = [] } }
@@ -200,15 +200,15 @@ impl<'a> Props<'a> {
         Props { place, bytes }
     }
 
-    /// The place that the list may stand in.
+    /// The place that the list is for.
     pub fn place(&self) -> Place
         ensures { result ≡ self.now.place }
     {
         self.place
     }
 
-    /// The bytes that spell the properties, without the list's length before them. A list has one
-    /// spelling. There are at most 268,435,455.
+    /// The bytes that spell the properties, at most 268,435,455, without the list's length before them.
+    /// A list has exactly one spelling.
     pub fn as_bytes(&self) -> &'a [u8]
         ensures spelled { result.now ≡ body self.now.items }
         ensures allowed { AreAllowed self.now.place self.now.items }
@@ -251,7 +251,7 @@ impl<'a> Model for PropsIter<'a> {
     ghost view = { λ s. items_on s.cursor };
 }
 
-// The next property, if one stands at the front of what is left. With none, nothing is left.
+// The next property at the front of what is left; none only if nothing is left.
 fn next_prop<'a>(cursor: &mut Cursor<'a>) -> Option<Prop<'a>>
     ensures { MatchOption result ((items_on cursor.old ≡ []) × (items_on cursor.new ≡ [])) (λ prop. items_on cursor.old ≡ prop_view prop ∷ items_on cursor.new) }
 {

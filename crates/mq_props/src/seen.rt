@@ -12,7 +12,7 @@ pub struct Seen {
 }
 
 impl Seen {
-    /// None of them.
+    /// No identifier has been seen.
     pub fn new() -> Seen
         ensures { Sees result [] }
     {
@@ -27,7 +27,7 @@ impl Seen {
         self.by_id[id as usize]
     }
 
-    /// Sees the identifier.
+    /// Marks the identifier as seen.
     pub fn add(&mut self, id: u8)
         requires { id < 43 }
         ensures { (ps : List Property) (p : Property) → Sees self.old ps → p.id ≡ id → Sees self.new (ps ++ p ∷ []) }

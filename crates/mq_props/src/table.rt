@@ -1,12 +1,12 @@
-//! The properties, the type of their values, and the lists that they may stand in (MQTT 5.0, 2.2.2.2).
+//! The properties, the type of their values, and the lists that they are allowed in (MQTT 5.0, 2.2.2.2).
 
 ghost use Rattle.std.specs.Prelude.{◌≡◌, ◌==◌, ◌<◌, IfSome};
 ghost use Rattle.std.specs.Option.{option_map};
 ghost use Rattle.std.specs.List.{list_any, find};
 ghost use Rattle.mq_props.specs.Table.{place_number, same_place, row_view, rows_of, row_of, may_repeat};
 
-/// Where a property list stands: in one of the thirteen packets that have one, or before a Will
-/// (MQTT 5.0, 2.2.2.2 and 3.1.3.2).
+/// Where a property list is: in one of the thirteen packets that have one, or before the Will of a
+/// CONNECT (MQTT 5.0, 2.2.2.2 and 3.1.3.2).
 #[derive(Debug, Clone, Copy, PartialEq, Eq)]
 pub enum Place {
     /// A CONNECT packet's own list.
@@ -51,14 +51,14 @@ pub enum ValueType {
     Binary,
 }
 
-/// The values that a property may have, of those of its type.
+/// Which values of its type a property may have.
 #[derive(Debug, Clone, Copy, PartialEq, Eq)]
 pub enum Range {
-    /// Each of them.
+    /// Any value.
     Any,
-    /// Each but 0.
+    /// Any value except 0.
     NotZero,
-    /// 0 and 1 alone.
+    /// Only 0 and 1.
     ZeroOrOne,
 }
 
@@ -120,7 +120,7 @@ pub mod id {
 }
 
 /// A line of the table: the identifier, the type and the range of the value, and the lists that the
-/// property may stand in.
+/// property is allowed in.
 pub type Row = (u8, ValueType, Range, &'static [Place]);
 
 use self::Place::*;
@@ -171,7 +171,7 @@ fn found_in(table: &[Row], id: u32) -> Option<Row>
     found(table, id)
 }
 
-/// The line of a property.
+/// The line of a property, if the identifier is known.
 #[tactic(auto, unfolding(crate::specs::Table::row_of, crate::specs::Table::rows))]
 pub fn find_row(id: u32) -> Option<Row>
     ensures line { option_map row_view result ≡ row_of id }
@@ -200,7 +200,7 @@ pub fn lists_place(lists: &[Place], place: Place) -> bool
     lists.iter().any(|p| number(*p) == number(place))
 }
 
-/// Whether a property may stand in the place's list more than once.
+/// Whether a property may be in the place's list more than once.
 pub fn may_repeat_in(place: Place, id: u8) -> bool
     ensures { result ≡ may_repeat place id }
 {

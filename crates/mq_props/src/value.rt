@@ -1,4 +1,4 @@
-//! Properties as they stand in a list: an identifier, and a value of one of seven types.
+//! Properties as a list has them: an identifier, and a value of one of seven types.
 
 ghost use Rattle.std.specs.Prelude.{◌≡◌};
 ghost use Rattle.mq_wire.specs.Left.{placed, Took};
@@ -75,7 +75,7 @@ fn is_number_in_range(range: Range, number: u32) -> bool
     }
 }
 
-/// Whether the value is in the range, which is one of numbers.
+/// Whether the value is in the range. A range restricts numbers alone.
 pub fn is_in_range(range: Range, value: &Value) -> bool
     ensures { result ≡ in_range range (value_view value.now) }
 {
