@@ -72,8 +72,8 @@ abbrev pub any_accepted : Role → Option Fate → List Seen → Bool
 any_accepted role f [] = false
 any_accepted role f (e ∷ past) = cond (is_open e.note) (accepted f || any_accepted role (latest_fate role past) past) (any_accepted role f past)
 
--- Whether this event, on or after the latest connection, whose fate this is, is in a session: that connection is accepted; or it is a RELEASE, and that
--- connection is void and one before it accepted.
+-- Whether this event, on or after the latest connection, which has this fate, is in a session: that connection is accepted; or the event is a RELEASE,
+-- that connection is void, and an earlier one is accepted.
 abbrev pub has_session : Role → Option Fate → Seen → List Seen → Bool
 has_session role f e past = accepted f || (is_release e.note && (voided f && any_accepted role f past))
 
@@ -81,8 +81,8 @@ abbrev pub with_first : Bool → Moment → List Moment → List Moment
 with_first true m ms = m ∷ ms
 with_first false m ms = ms
 
--- The session that is on after these events, if the latest connection has this fate: what has come since the latest connection that is accepted and not
--- resumed, or since the first one, and is in a session.
+-- The current session after these events, if the latest connection has this fate: the moments that are in a session, since the OPEN of the latest connection
+-- that is accepted and not resumed, or since the first one.
 abbrev pub session : Role → Option Fate → List Seen → List Moment
 session role f [] = []
 session role f (e ∷ past) =
@@ -101,8 +101,8 @@ pub record IsLoose (fates : ℕ → Option Fate) (m : Moment) : Type 0 where
   pub begun_before : earlier < number m
   pub is_accepted : accepted (fates earlier) ≡ true
 
--- The moment is in the session of connection c, where connections have these fates: its own connection is accepted, or it is a RELEASE that
--- belongs to an accepted one before; and each accepted connection after its own, up to c, is resumed.
+-- The moment is in the session of connection c, if connections have these fates: its own connection is accepted, or it is a RELEASE that
+-- belongs to an earlier accepted one; and each accepted connection after its own, up to c, is resumed.
 pub record IsInSession (fates : ℕ → Option Fate) (c : ℕ) (m : Moment) : Type 0 where
   pub belongs : (accepted (fates (number m)) ≡ true) ⊎ IsLoose fates m
   pub all_resumed : (d : ℕ) → number m < d → d ≤ c → accepted (fates d) ≡ true → resumed (fates d) ≡ true
@@ -114,7 +114,7 @@ abbrev pub ends_binding : Moment → Bool
 ends_binding m = is_some_and (λ p. is_some (disconnect_in p)) (sent_fields (note m)) || (is_some_and (λ p. is_some (disconnect_in p)) (received_fields (note m))
     || (is_some_and is_broken (sent_item (note m)) || is_some_and is_broken (received_item (note m))))
 
--- A REST binds if the accepting CONNACK stands before it on its connection, and nothing there ends binding.
+-- A REST binds if the accepting CONNACK came before it on its connection, and nothing before it there ends binding.
 unfoldable pub is_binding : Role → Moment → Bool
 is_binding role m = is_rest (note m) && (accepted (latest_fate role m.past) && not (some ends_binding (connection m.past)))
 
@@ -155,7 +155,7 @@ pub record IsAlive (role : Role) (c : ℕ) (log : List Seen) : Type 0 where
 
 -- ---- order
 
--- Each session packet and each RELEASE stands where the latest connection is decided: so it is in every log that isn't refused.
+-- The latest connection is decided before each session packet and each RELEASE. Every log that isn't refused is like this.
 abbrev pub IsInOrder : Role → List Seen → Type 0
 IsInOrder role [] = Unit {0}
 IsInOrder role (e ∷ past) = (needs_session e.note ≡ true → is_some (latest_fate role past) ≡ true) × IsInOrder role past

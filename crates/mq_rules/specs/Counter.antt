@@ -5,8 +5,8 @@ use Rattle.mq_rules.specs.Moments.{Moment, those}
 use Rattle.mq_rules.specs.Connections.{connection}
 use Rattle.mq_rules.specs.Identifiers.{is_delivery, is_closer, counts}
 
--- How many PUBLISHes of QoS above 0 are in flight after these moments: each one that is sent adds one, and each closer that is received takes one off, but there
--- are never fewer than 0.
+-- How many PUBLISHes of QoS above 0 are in flight after these moments: each one that is sent adds one, and each closer that is received subtracts one, but the
+-- number never falls below 0.
 abbrev pub in_flight : List Moment → ℕ
 in_flight [] = 0
 in_flight (m ∷ ms) = cond (is_delivery m) (in_flight ms + 1) (cond (is_closer m) (in_flight ms - 1) (in_flight ms))
@@ -15,13 +15,13 @@ in_flight (m ∷ ms) = cond (is_delivery m) (in_flight ms + 1) (cond (is_closer 
 abbrev pub in_flight_before : Role → Moment → ℕ
 in_flight_before role k = in_flight (those (counts role) (connection k.past))
 
--- The send quota after these moments: it starts at the Receive Maximum, each PUBLISH of QoS above 0 that is sent takes one of it, and each closer that is received
--- gives one back, but never past the Receive Maximum.
+-- The send quota after these moments: it starts at the Receive Maximum, each PUBLISH of QoS above 0 that is sent subtracts one, and each closer that is received
+-- adds one, but never past the Receive Maximum.
 abbrev pub quota : ℕ → List Moment → ℕ
 quota most [] = most
 quota most (m ∷ ms) = cond (is_delivery m) (quota most ms - 1) (cond (is_closer m) (cond (nat_lt (quota most ms) most) (quota most ms + 1) most) (quota most ms))
 
--- none of these moments sends a PUBLISH of QoS above 0 where the quota is 0
+-- none of these moments sends a PUBLISH of QoS above 0 while the quota is 0
 abbrev pub keeps_quota : ℕ → List Moment → Bool
 keeps_quota most [] = true
 keeps_quota most (m ∷ ms) = not (is_delivery m && (quota most ms == 0)) && keeps_quota most ms

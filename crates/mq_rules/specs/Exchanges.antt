@@ -51,7 +51,7 @@ causes x i m = is_id i (x.cause (note m))
 abbrev pub answers : Exchange → ℕ → Moment → Bool
 answers x i m = is_id i (x.answer (note m))
 
--- A: an answer for which no cause stands before in the session, without an answer between on the answer's connection.
+-- A: an answer, and its session has no earlier cause under its identifier that is unanswered on the answer's connection.
 unfoldable pub breaks_A : Exchange → Role → Fate → Moment → Bool
 breaks_A x role f k = is_some_and (λ i. not (since (causes x i) (λ j. answers x i j && (number j == number k)) (session_before role f k))) (x.answer (note k))
 
@@ -67,7 +67,7 @@ is_other_unanswered x i k j = is_some_and (λ other. not (other == i) && since (
 unfoldable pub breaks_O : Exchange → Moment → Bool
 breaks_O x k = is_some_and (λ i. is_some_and (λ first. some (λ j. is_other_unanswered x i k j && is_after first j) (connection k.past)) (first_unanswered x i k)) (x.answer (note k))
 
--- R, at a cause k with none under its identifier unanswered before it, as a binding REST t shows: k is before t on its connection, without an answer between.
+-- R, at a cause k before which no cause under its identifier is unanswered, as a binding REST t shows: k is before t on its connection, without an answer between.
 unfoldable pub shows_R : Exchange → Moment → Moment → Bool
 shows_R x t k = is_some_and (λ i. not (is_some (first_unanswered x i k)) && since (is_same k) (answers x i) (connection t.past)) (x.cause (note k))
 

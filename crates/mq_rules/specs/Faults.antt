@@ -41,7 +41,7 @@ reported role m rule at = record { decided = at; record_no = record_of m; offset
 unfoldable pub fault_in : Tested → List Seen → ℕ → Rule → Option Fault
 fault_in tested log k rule = cond (fails tested log k rule) (option_map (reported tested.role (moment log k) rule) (decided tested log k rule)) None
 
--- the same, where only these statements are judged
+-- the same, if only these statements are judged
 abbrev pub chosen_fault : (Rule → Bool) → Tested → List Seen → ℕ → Rule → Option Fault
 chosen_fault chosen tested log k rule = cond (chosen rule) (fault_in tested log k rule) None
 
@@ -53,11 +53,11 @@ listed_at chosen tested log k = filter_map (λ rule. option_map (λ fault. (reco
 unfoldable pub listed : (Rule → Bool) → Tested → List Seen → List (Mark × Fault)
 listed chosen tested log = flat_map (listed_at chosen tested log) (range_with_len 1 (length log))
 
--- Each pair of the chosen statements has the fault that it had, or else the one that it has in this log; the others are unchanged.
+-- Each pair of the chosen statements keeps the fault that it had, or else gets the one that it has in this log; the others are unchanged.
 pub record Grows (chosen : Rule → Bool) (tested : Tested) (log : List Seen) (old new : FaultMap) : Type 0 where
   pub each : (k : ℕ) (rule : Rule) → fault_at new k rule ≡ or_else (fault_at old k rule) (chosen_fault chosen tested log k rule)
 
--- Each pair has the fault that it had, and those of the chosen statements may have got the one that they have in this log.
+-- Each pair keeps the fault that it had, and those of the chosen statements may have got the one that they have in this log.
 pub record GrowsWithin (chosen : Rule → Bool) (tested : Tested) (log : List Seen) (old new : FaultMap) : Type 0 where
   pub each : (k : ℕ) (rule : Rule) → (fault_at new k rule ≡ fault_at old k rule)
       ⊎ (fault_at new k rule ≡ or_else (fault_at old k rule) (chosen_fault chosen tested log k rule))

@@ -13,7 +13,7 @@ binds_after role k t = is_after t k && (is_binding role t && (number t == number
 abbrev pub first_rest : Role → Moment → List Seen → Option Moment
 first_rest role k log = earliest_since (binds_after role k) (λ t. false) (moments log)
 
--- It is a binding REST after k on k's connection, and none of them stands at an earlier position.
+-- It is a binding REST after k on k's connection, and no other one has an earlier position.
 pub record IsFirstRest (role : Role) (k : Moment) (log : List Seen) (t : Moment) : Type 0 where
   pub there : Among t (moments log)
   pub binds : binds_after role k t ≡ true

@@ -1,4 +1,4 @@
--- What a reader that goes once over a session keeps of it, from one moment to the next.
+-- What a reader that goes over a session once keeps of it, from one moment to the next.
 use Rattle.std.specs.Prelude.{◌≡◌, Bool, true, false, ◌&&◌, ◌||◌, not, cond, List, [], ◌∷◌, Option, Some, None}
 use Rattle.mq_rules.specs.declared.role.Role.{Role}
 use Rattle.mq_rules.specs.declared.fate.Fate.{Fate}
@@ -8,7 +8,7 @@ use Rattle.mq_rules.specs.Notes.{is_open, is_release, decides, needs_session}
 use Rattle.mq_rules.specs.Moments.{Moment, note, since}
 use Rattle.mq_rules.specs.Connections.{accepts, begins, session}
 
--- What is kept after these moments: z before the first one, and g says what one moment more makes of it.
+-- What is kept after these moments: z before the first one, and g updates it with one more moment.
 abbrev pub folded : {A : Type 0} → (Moment → A → A) → A → List Moment → A
 folded g z [] = z
 folded g z (m ∷ ms) = g m (folded g z ms)
@@ -18,25 +18,25 @@ pub record ByPackets {A : Type 0} (g : Moment → A → A) : Type 0 where
   pub idle : (m : Moment) (a : A) → needs_session (note m) ≡ false → g m a ≡ a
   pub no_release : (m : Moment) (a : A) → is_release (note m) ≡ true → g m a ≡ a
 
--- What a moment makes of it, where the moment is in the session.
+-- What a moment makes of it, if the moment is in the session; else it is unchanged.
 abbrev pub where_in : {A : Type 0} → Bool → (A → A) → A → A
 where_in true g old = g old
 where_in false g old = old
 
--- What one event more makes of it, which acts by g, if the latest connection had this fate before the event. An OPEN changes nothing. While the connection is
--- undecided a CONNACK that accepts without resuming begins anew; where it is accepted the event acts; where it is void nothing changes.
+-- What is kept after one more event, which updates it by g, if the latest connection had this fate before the event. An OPEN changes nothing. While the connection
+-- is undecided, a CONNACK that accepts without resuming starts over with z; if it is accepted, the event updates by g; if it is void, nothing changes.
 abbrev pub kept_by : {A : Type 0} → Role → Option Fate → Note → (A → A) → A → A → A
 kept_by role None n g z old = cond (is_open n) old (cond (begins (decides role n)) z old)
 kept_by role (Some f) n g z old = cond (is_open n) old (cond (accepts f) (g old) old)
 
 -- ---- `since` in a session
 
--- The session that is on after these events, if the latest connection has this fate, has some moment that passes the first test, and no later one that passes
+-- The current session after these events, if the latest connection has this fate, has some moment that passes the first test, and no later one that passes
 -- the second.
 abbrev pub stands_under : Role → (Moment → Bool) → (Moment → Bool) → Option Fate → List Seen → Bool
 stands_under role starts ends f log = since starts ends (session role f log)
 
--- what a moment that passes these tests makes of it, where the moment is in the session
+-- what a moment that passes these tests makes of it, if the moment is in the session
 abbrev pub gained : Bool → Bool → Bool → Bool → Bool
 gained inside starts ends old = cond inside (starts || (not ends && old)) old
 

@@ -24,11 +24,11 @@ closes i m = is_id i (closer_of (note m))
 abbrev pub delivers : ℕ → Moment → Bool
 delivers i m = is_id i (delivery_of (note m))
 
--- what stands before k in its session, where its connection has the fate f
+-- what comes before k in its session, if its connection has the fate f
 abbrev pub session_before : Role → Fate → Moment → List Moment
 session_before role f k = session role (Some f) k.past
 
--- The identifier is open at k: some opener of it stands before k in its session, with no closer of it between.
+-- The identifier is open at k: some opener of it comes before k in its session, with no closer of it between.
 abbrev pub is_open_at : Role → Fate → ℕ → Moment → Bool
 is_open_at role f i k = since (opens i) (closes i) (session_before role f k)
 
@@ -66,7 +66,7 @@ was_sent_on_void role i k = some (λ j. delivers i j && voided (fate role (numbe
 unfoldable pub breaks_S02 : Role → Fate → Moment → Bool
 breaks_S02 role f k = is_some_and (λ i. not (is_open_at role f i k || was_sent_on_void role i k)) (resend_of (note k))
 
--- S03: a resend, and a PUBLISH under its identifier stands before on the connection, with no closer between.
+-- S03: a resend, and a PUBLISH under its identifier was sent before on the connection, with no closer between.
 unfoldable pub breaks_S03 : Moment → Bool
 breaks_S03 k = is_some_and (λ i. since (delivers i) (closes i) (connection k.past)) (resend_of (note k))
 
@@ -82,7 +82,7 @@ unfoldable pub breaks_S04 : Role → Fate → Moment → Bool
 breaks_S04 role f k = is_some_and (λ i. is_open_at role f i k && (is_some_and (opens_exactly_once i) (latest_opener role f i k)
     && since (sends_pubrel i) (opens i) (session_before role f k))) (resend_of (note k))
 
--- the first moment stands after the second, if both are there
+-- both moments are there, and the first comes after the second
 abbrev pub comes_after : Option Moment → Option Moment → Bool
 comes_after a b = is_some_and (λ m. is_some_and (λ n. nat_lt (position n) (position m)) b) a
 
@@ -100,20 +100,20 @@ is_delivery m = is_some (delivery_of (note m))
 abbrev pub is_closer : Moment → Bool
 is_closer m = is_some (closer_of (note m))
 
--- Whether a moment of the connection may be counted: on a client those after its CONNACK, on a server all.
+-- Whether a moment of the connection counts: for a client those after the CONNACK, for a server all.
 abbrev pub counts : Role → Moment → Bool
 counts Client m = is_some (connack_before Client m)
 counts Server m = true
 
--- in some stretch that ends with the newest of these moments there are more PUBLISHes than closers, by more than so many
+-- in some stretch that ends with the newest of these moments there are more PUBLISHes than closers, by more than `most`
 abbrev pub passes : ℕ → List Moment → Bool
 passes most ms = some_stretch (λ stretch. nat_lt (most + count is_closer stretch) (count is_delivery stretch)) ms
 
--- S07: a PUBLISH of QoS above 0, and in some stretch of the connection that ends with it more are unacknowledged than the Receive Maximum.
+-- S07: a PUBLISH of QoS above 0, and in some stretch of the connection that ends with it more PUBLISHes are unacknowledged than the Receive Maximum.
 unfoldable pub breaks_S07 : Role → Moment → Bool
 breaks_S07 role k = is_delivery k && (counts role k && passes (receive_maximum role k) (k ∷ those (counts role) (connection k.past)))
 
--- The send quota is used up before t: in some stretch that ends just before it no fewer PUBLISHes are unacknowledged than the Receive Maximum.
+-- The send quota is used up before t: in some stretch that ends just before it at least as many PUBLISHes are unacknowledged as the Receive Maximum.
 abbrev pub is_used_up : Role → Moment → Bool
 is_used_up role t = some_stretch (λ stretch. nat_le (receive_maximum role t + count is_closer stretch) (count is_delivery stretch)) (those (counts role) (connection t.past))
 
@@ -128,7 +128,7 @@ announced_qos Server t = None
 abbrev pub has_announced : Role → Moment → Bool
 has_announced role t = is_some (maximum_packet_size role t) || is_some (announced_qos role t)
 
--- what excuses an opener k that wasn't sent again by t: no PUBREC below 0x80 came after it, and the quota is used up or the peer announced a bound
+-- an opener k that wasn't sent again by t is excused: no PUBREC below 0x80 came after it, and the quota is used up or the peer announced a bound
 abbrev pub is_excused : Role → ℕ → Moment → Moment → Bool
 is_excused role i t k = since (is_same k) (λ m. is_id i (received_as accepting_pubrec_in (note m))) (session role (latest_fate role t.past) t.past)
     && (is_used_up role t || has_announced role t)
@@ -137,8 +137,8 @@ is_excused role i t k = since (is_same k) (λ m. is_id i (received_as accepting_
 abbrev pub was_sent_again : ℕ → Moment → Bool
 was_sent_again i t = some (λ m. delivers i m || sends_pubrel i m) (connection t.past)
 
--- S06, at an opener k, as a binding REST t shows: t's connection is resumed and a later one; k is the latest opener of its identifier before t, and open there;
--- and it wasn't sent again, and isn't excused.
+-- S06, at an opener k, as a binding REST t shows: t is on a later connection, which is resumed; k is the latest opener of its identifier before t, with no closer
+-- between; it wasn't sent again, and isn't excused.
 unfoldable pub shows_S06 : Role → Moment → Moment → Bool
 shows_S06 role t k = resumed (latest_fate role t.past) && is_some_and (λ i.
     since (is_same k) (λ m. opens i m || closes i m) (session role (latest_fate role t.past) t.past)

@@ -1,5 +1,5 @@
--- What is kept of the latest connection, so that C01 to C23 are judged in one pass: what it is after these events, what one event more makes of it,
--- and what it tells of that event.
+-- What is kept of the latest connection, so that C01 to C23 are judged in one pass: what it is after these events, how one more event updates it,
+-- and which statements it shows to be false at that event.
 use Rattle.std.specs.Prelude.{ℕ, ◌≡◌, ◌+◌, ◌-◌, ◌==◌, ◌⊎◌, nat_lt, Bool, true, false, ◌&&◌, ◌||◌, not, cond, List, [], ◌∷◌, length, Option, Some, None, is_some, is_none, unwrap_or, option_map}
 use Rattle.std.specs.Option.{option_and_then}
 use Rattle.std.specs.List.{list_any}
@@ -57,7 +57,7 @@ kept role past = record {
 unfoldable pub is_alias_set : List Seen → ℕ → Bool
 is_alias_set past alias = some (λ m. is_id alias (set_alias (note m))) (connection past)
 
--- ---- one event more
+-- ---- one more event
 
 -- the Session Expiry Interval of the connection, in seconds (MQTT 5.0, sections 3.1.2.11.2, 3.2.2.3.2 and 3.14.2.2.2)
 abbrev pub expiry : ConnectionState → ℕ
@@ -106,8 +106,8 @@ followed role s n = record {
 abbrev pub after : Role → ConnectionState → Note → ConnectionState
 after role s n = followed role (begun_if (is_open n) s) n
 
--- a packet other than CONNECT, CONNACK and DISCONNECT, and an event at which such a packet was sent or received: it changes nothing of
--- what is kept, but that the tested end has sent
+-- a packet other than CONNECT, CONNACK and DISCONNECT, and an event at which such a packet was sent or received: of what is kept it
+-- changes only that the tested end has sent something
 abbrev pub is_ordinary_in : PacketFields → Bool
 is_ordinary_in (Connect c) = false
 is_ordinary_in (Connack c) = false
@@ -117,7 +117,7 @@ is_ordinary_in _ = true
 abbrev pub is_ordinary : Note → Bool
 is_ordinary n = is_some_and is_ordinary_in (sent_fields n) || is_some_and is_ordinary_in (received_fields n)
 
--- ---- what it tells of the next event: whether a statement is false there. What the event is not is None.
+-- ---- whether a statement is false at the next event. Each function takes the packet or item that the event is, or None.
 
 -- Maximum Packet Size, Topic Alias Maximum and Maximum QoS, as the peer announced them (MQTT 5.0, sections 3.1.2.11 and 3.2.2.3)
 abbrev pub size_limit : Role → ConnectionState → Option ℕ
@@ -138,7 +138,7 @@ may_look Server s = true
 abbrev pub is_type : PacketType → Option ItemNote → Bool
 is_type type item = is_some_and (is_of_type type) item
 
--- of a packet that is sent, or bytes that break a rule
+-- of what is sent: a packet, or bytes that break a rule
 abbrev pub tells_C01 : Role → Option ItemNote → Bool
 tells_C01 role item = list_any (λ type. is_type type item) (foreign_types role)
 
@@ -268,27 +268,27 @@ is_told role s aliases n rule =
 
 -- ---- faults
 
--- the fault of a statement that is false at this place, and judged there
+-- the fault of a statement that is judged at this place, if it is false there
 abbrev pub at_place : Place3 → ℕ → Bool → Option Fault
 at_place place k broken = cond ((k == place.position) && broken) (Some (record { decided = place.position; record_no = place.record_no; offset = None })) None
 
--- Each pair has the fault that it had, or else that of a statement that is false at this place.
+-- Each pair keeps the fault that it had, or else gets that of a statement that is false at this place.
 pub record Judges (is_false : Rule → Bool) (place : Place3) (old new : FaultMap) : Type 0 where
   pub each : (k : ℕ) (rule : Rule) → fault_at new k rule ≡ or_else (fault_at old k rule) (at_place place k (is_false rule))
 
--- Each pair has the fault that it had, and may have got that of a statement that is false at this place.
+-- Each pair keeps the fault that it had, and may have got that of a statement that is false at this place.
 pub record JudgesWithin (is_false : Rule → Bool) (place : Place3) (old new : FaultMap) : Type 0 where
   pub each : (k : ℕ) (rule : Rule) → (fault_at new k rule ≡ fault_at old k rule) ⊎ (fault_at new k rule ≡ or_else (fault_at old k rule) (at_place place k (is_false rule)))
 
--- the fault that a pair gets with this event, where it is of a chosen statement and turns out to fail
+-- the fault that a pair gets with this event, if its statement is chosen and turns out to fail
 abbrev pub news : (Rule → Bool) → Tested → Seen → List Seen → ℕ → Rule → Option Fault
 news chosen tested e past k rule = cond (chosen rule && turns tested e past k rule) (Some (reported tested.role (moment (e ∷ past) k) rule (length past + 1))) None
 
--- Each pair has the fault that it had, or else, if it is of a chosen statement and turns out to fail with this event, that one; the others are unchanged.
+-- Each pair keeps the fault that it had, or else gets the new one, if its statement is chosen and turns out to fail with this event; the others are unchanged.
 pub record GrowsBy (chosen : Rule → Bool) (tested : Tested) (e : Seen) (past : List Seen) (old new : FaultMap) : Type 0 where
   pub each : (k : ℕ) (rule : Rule) → fault_at new k rule ≡ or_else (fault_at old k rule) (news chosen tested e past k rule)
 
--- Each pair has the fault that it had, and those of the chosen statements that turn out to fail with this event may have got that one.
+-- Each pair keeps the fault that it had, and those of the chosen statements that turn out to fail with this event may have got the new one.
 pub record GrowsByWithin (chosen : Rule → Bool) (tested : Tested) (e : Seen) (past : List Seen) (old new : FaultMap) : Type 0 where
   pub each : (k : ℕ) (rule : Rule) → (fault_at new k rule ≡ fault_at old k rule) ⊎ (fault_at new k rule ≡ or_else (fault_at old k rule) (news chosen tested e past k rule))
 

@@ -21,11 +21,11 @@ FaultMap = map.FinMap mark_cmp Fault
 abbrev pub fault_at : FaultMap → ℕ → Rule → Option Fault
 fault_at faults k rule = map.get faults (record { position = k; rule = rule })
 
--- the faults with one more, which counts only where its mark has none
+-- the faults with one more, which is ignored if its mark has a fault already
 abbrev pub with_fault : Mark → Fault → FaultMap → FaultMap
 with_fault mark fault faults = cond (map.contains_key faults mark) faults (map.insert faults mark fault)
 
--- the faults with that of a statement that is judged at its own position, where it is broken
+-- the faults with that of a statement that is judged at its own position, if it is broken
 abbrev pub judged : Bool → Rule → Place3 → FaultMap → FaultMap
 judged broken rule place faults =
     cond broken (with_fault (record { position = place.position; rule = rule }) (record { decided = place.position; record_no = place.record_no; offset = None }) faults) faults

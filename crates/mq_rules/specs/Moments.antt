@@ -1,11 +1,11 @@
--- Moments: an event of a log with all that stands before it. A list of events, and a list of moments, has the newest one first; so a beginning of
+-- Moments: an event of a log with all that comes before it. A list of events, and a list of moments, has the newest one first; so a beginning of
 -- the log is a tail of its list. Each word on moments looks at such a list, and is a quantifier over positions.
 use Rattle.std.specs.Prelude.{ℕ, ◌≡◌, ◌<◌, ◌+◌, ◌==◌, nat_lt, ◌⊎◌, Bool, true, false, ◌||◌, ◌&&◌, not, cond, List, [], ◌∷◌, ◌++◌, length, Option, Some, None}
 use Rattle.mq_rules.specs.declared.note.Note.{Note}
 use Rattle.mq_rules.specs.declared.note.Seen.{Seen}
 use Rattle.mq_rules.specs.Words.{or_else}
 
--- An event, and the events that stand before it in the log.
+-- An event, and the events before it in the log.
 pub record Moment : Type 0 where
   pub event : Seen
   pub past : List Seen
@@ -35,7 +35,7 @@ moment (e ∷ past) k = cond (k == length past + 1) (Some (newest e past)) (mome
 abbrev pub is_next : List Seen → ℕ → Bool
 is_next past k = k == length past + 1
 
--- two moments are one, and the first stands after the second
+-- the two moments are the same; the first comes after the second
 abbrev pub is_same : Moment → Moment → Bool
 is_same a b = position a == position b
 
@@ -79,14 +79,14 @@ abbrev pub count : (Moment → Bool) → List Moment → ℕ
 count test [] = 0
 count test (m ∷ ms) = cond (test m) 1 0 + count test ms
 
--- some of these moments, as many as one likes of the newest, pass the test together: a stretch that ends at the newest
+-- some number of the newest of these moments passes the test together: a stretch that ends with the newest
 abbrev pub some_stretch : (List Moment → Bool) → List Moment → Bool
 some_stretch test [] = test []
 some_stretch test (m ∷ ms) = test [] || some_stretch (λ stretch. test (m ∷ stretch)) ms
 
 -- ---- what the words are by positions
 
--- The moment stands at this position of the log, and up to there the log is its event and what stands before.
+-- The moment is at this position of the log, and up to there the log is its event and what comes before.
 pub record IsBeginning (log : List Seen) (k : ℕ) (m : Moment) : Type 0 where
   pub at : k ≡ position m
   pub later : List Seen
@@ -97,7 +97,7 @@ abbrev pub Among : Moment → List Moment → Type 0
 Among m [] = ⊥
 Among m (n ∷ ms) = (m ≡ n) ⊎ Among m ms
 
--- each moment stands after all that come after it in the list
+-- each moment has a later position than all that follow it in the list
 abbrev pub IsDescending : List Moment → Type 0
 IsDescending [] = Unit {0}
 IsDescending (m ∷ ms) = ((n : Moment) → Among n ms → position n < position m) × IsDescending ms
@@ -132,7 +132,7 @@ pub record IsEarliestSince (starts ends : Moment → Bool) (ms : List Moment) (a
 
 -- ---- places
 
--- each event has its place in the list as its position, counted from 1
+-- the position of each event is its index in the list, counted from 1
 abbrev pub IsPlaced : List Seen → Type 0
 IsPlaced [] = Unit {0}
 IsPlaced (e ∷ past) = (e.place.position ≡ length past + 1) × IsPlaced past

@@ -30,7 +30,7 @@ found_sentence rule = find (λ said. same_rule said.rule rule) sentences
 unfoldable pub sentence_of : Rule → List ℕ
 sentence_of rule = unwrap_or (option_map (λ said. said.sentence) (found_sentence rule)) []
 
--- the line of the table whose code is the text, where small letters count as capitals
+-- the line of the table whose code is the text, in capital or small letters
 unfoldable pub coded_line : List ℕ → Option Line
 coded_line text = find (λ line. str_eq_ignore_ascii_case line.code text) lines
 

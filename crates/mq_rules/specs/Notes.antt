@@ -1,4 +1,4 @@
--- What the statements look at of one event, and what one event is to them.
+-- What the statements look at in one event, and what one event is to them.
 use Rattle.std.specs.Prelude.{ℕ, ◌/◌, ◌==◌, nat_le, nat_lt, Bool, true, false, ◌&&◌, ◌||◌, not, cond, if◌then◌else◌, List, [], ◌∷◌, length, map, Option, Some, None, is_some, unwrap_or, option_map}
 use Rattle.std.specs.Option.{option_and_then}
 use Rattle.mq_props.specs.Listed.{Listed}
@@ -51,7 +51,7 @@ tested_by log = tested_as (header_by log)
 
 -- ---- the note of an event
 
--- a list where its packet went this way; nothing is kept of one that went the other way, since no statement looks at it
+-- a list, if its packet went this way; of one that went the other way nothing is kept, since no statement looks at it
 abbrev pub kept : {A : Type 0} → Bool → List A → List A
 kept true texts = texts
 kept false texts = []
@@ -133,7 +133,7 @@ packet_fields way pingresp = Pingresp
 packet_fields way (disconnect code properties) = Disconnect (first_four_bytes 17 properties.items)
 packet_fields way (auth code properties) = Auth
 
--- a packet's own property list, where it has one (MQTT 5.0, section 2.2.2)
+-- a packet's own property list, if it has one (MQTT 5.0, section 2.2.2)
 abbrev pub properties_of : Entry → List Property
 properties_of (connect fields) = fields.properties.items
 properties_of (connack session_present code properties) = properties.items
@@ -225,7 +225,7 @@ sent_fields note = option_map (λ p. p.fields) (sent_packet note)
 abbrev pub received_fields : Note → Option PacketFields
 received_fields note = option_map (λ p. p.fields) (received_packet note)
 
--- what a packet from the client, and one from the server, says: each is sent or received by the tested end's role
+-- what a packet from the client, and one from the server, says: the tested end's role decides whether it is sent or received
 abbrev pub from_client : Role → Note → Option PacketFields
 from_client Client note = sent_fields note
 from_client Server note = received_fields note
@@ -263,7 +263,7 @@ type_of Pingresp = types.Pingresp
 type_of (Disconnect session_expiry) = types.Disconnect
 type_of Auth = types.Auth
 
--- The number of an item's type, which stands in the high four bits of its first byte: bytes that break a rule have one too.
+-- The number of an item's type, which is the high four bits of its first byte: bytes that break a rule have one too.
 abbrev pub type_in : ItemNote → Option ℕ
 type_in (items.Packet p) = Some (type_number (type_of p.fields))
 type_in (items.Bad first rule at) = Some (first / 16)
@@ -315,7 +315,7 @@ sent_disconnect note = option_and_then disconnect_in (sent_fields note)
 abbrev pub sent_connack : Note → Option ConnackNote
 sent_connack note = option_and_then connack_in (sent_fields note)
 
--- the client's CONNECT and DISCONNECT, and the server's CONNACK: of another end none counts
+-- the client's CONNECT and DISCONNECT, and the server's CONNACK: one from the wrong end doesn't count
 abbrev pub connect_of : Role → Note → Option ConnectNote
 connect_of role note = option_and_then connect_in (from_client role note)
 
@@ -343,7 +343,7 @@ fate_by c = cond (c.code == 0) (cond c.session_present Resumed New) Void
 abbrev pub resumed_by : ConnackNote → Bool
 resumed_by c = (c.code == 0) && c.session_present
 
--- The server's CONNACK decides, and where it has not come a CLOSE does.
+-- The server's CONNACK decides, or a CLOSE if none came.
 abbrev pub decides : Role → Note → Option Fate
 decides role note = cond (is_close note) (Some Void) (option_map fate_by (connack_of role note))
 
@@ -447,7 +447,7 @@ abbrev pub unsuback_in : PacketFields → Option ℕ
 unsuback_in (Unsuback identifier codes) = Some identifier
 unsuback_in _ = None
 
--- what the tested end sent, or received, so
+-- the identifier that is found in what the tested end sent, or received
 abbrev pub sent_as : (PacketFields → Option ℕ) → Note → Option ℕ
 sent_as found note = option_and_then found (sent_fields note)
 
@@ -565,8 +565,8 @@ note_keeps_text note = is_some_and item_keeps_text (sent_item note) || is_some_a
 
 -- ---- bytes that break a rule
 
--- The rule that the bytes of what the tested end sent break, and where: a stream that is lost has a Remaining Length that breaks W03,
--- and that stands at the packet's second byte.
+-- The rule that the bytes which the tested end sent break, and where: in a direction that is lost the Remaining Length breaks W03, at the
+-- packet's second byte.
 abbrev pub broken_in : ItemNote → Option BodyFault
 broken_in (items.Packet p) = None
 broken_in (items.Bad first rule at) = Some (record { at = at; rule = rule })

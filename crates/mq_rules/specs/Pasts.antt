@@ -1,5 +1,5 @@
--- Statements on the past of a connection (C01 to C23). They are judged on every connection; each says when it is false at a moment, by what stands before
--- it on its connection. In C01 to C06 bytes that break a rule count by their type; elsewhere packets alone count.
+-- Statements on the past of a connection (C01 to C23). They are judged on every connection; each says when it is false at a moment, by what comes before
+-- it on its connection. In C01 to C06 bytes that break a rule count by their type; elsewhere only packets count.
 use Rattle.std.specs.Prelude.{ℕ, ◌-◌, ◌==◌, nat_le, nat_lt, Bool, true, false, ◌&&◌, ◌||◌, not, List, [], ◌∷◌, length, Option, Some, None, is_some, is_none, unwrap_or}
 use Rattle.std.specs.Option.{option_and_then}
 use Rattle.std.specs.List.{list_any}
@@ -39,7 +39,7 @@ says_session_present n = is_some_and (λ c. c.session_present) (sent_connack n)
 abbrev pub accepts_so : Note → Bool
 accepts_so n = is_some_and (λ c. c.code == 0) (sent_connack n)
 
--- the connection's CONNECT, and its CONNACK, if they stand before the moment
+-- the connection's CONNECT, and its CONNACK, if they came before the moment
 abbrev pub connect_before : Role → Moment → Option ConnectNote
 connect_before role k = first_connect role (connection k.past)
 
@@ -52,7 +52,7 @@ is_alive role k = is_alive_after role (begun k.past - 1) k.past
 
 -- ---- what the peer announced, on the same connection and before the moment: the server in its CONNACK, the client in its CONNECT
 
--- Maximum Packet Size, in bytes; none is no bound (MQTT 5.0, sections 3.1.2.11.4 and 3.2.2.3.6)
+-- Maximum Packet Size, in bytes; None means no bound (MQTT 5.0, sections 3.1.2.11.4 and 3.2.2.3.6)
 abbrev pub maximum_packet_size : Role → Moment → Option ℕ
 maximum_packet_size Client k = option_and_then (λ a. a.maximum_packet_size) (connack_before Client k)
 maximum_packet_size Server k = option_and_then (λ c. c.maximum_packet_size) (connect_before Server k)
@@ -83,7 +83,7 @@ knows_peer Server k = true
 unfoldable pub breaks_C01 : Role → Moment → Bool
 breaks_C01 role k = list_any (λ type. sends_type type (note k)) (foreign_types role)
 
--- C02: the first that a client sends on the connection isn't a CONNECT.
+-- C02: the first packet that a client sends on the connection isn't a CONNECT.
 unfoldable pub breaks_C02 : Moment → Bool
 breaks_C02 k = sends_typed k && (not (sends_type types.Connect (note k)) && not (some sends_typed (connection k.past)))
 
@@ -178,7 +178,7 @@ unfoldable pub breaks_C22 : Moment → Bool
 breaks_C22 k = is_some_and (λ c. c.has_response_information) (sent_connack (note k))
     && is_some_and (λ c. not (is_id 1 c.request_response_information)) (connect_before Server k)
 
--- what an end sends that closes the connection then: a DISCONNECT, and for a server a CONNACK of 0x80 or more
+-- what an end sends before it closes the connection: a DISCONNECT, and for a server a CONNACK of 0x80 or more
 abbrev pub is_last_sent : Role → Note → Bool
 is_last_sent Client n = is_sent_disconnect n
 is_last_sent Server n = is_sent_disconnect n || is_sent_refusal n

@@ -1,4 +1,4 @@
--- Releases of QoS 2 messages for onward delivery (L1 to L3; MQTT 5.0, section 4.3.3), where the log records them.
+-- Releases of QoS 2 messages for onward delivery (L1 to L3; MQTT 5.0, section 4.3.3), if the log records them.
 use Rattle.std.specs.Prelude.{ℕ, ◌==◌, Bool, true, false, ◌&&◌, ◌||◌, not, List, Option, Some, None}
 use Rattle.mq_rules.specs.declared.role.Role.{Role}
 use Rattle.mq_rules.specs.declared.fate.Fate.{Fate}
@@ -17,24 +17,24 @@ releases i m = is_id i (released_id (note m))
 abbrev pub ends : ℕ → Moment → Bool
 ends i m = is_id i (sent_as ended_in (note m))
 
--- L1: a RELEASE, and no QoS 2 PUBLISH was received in the session without an ender after it.
+-- L1: a RELEASE, and no QoS 2 PUBLISH under its identifier was received in the session whose exchange hasn't ended since.
 unfoldable pub breaks_L1 : Role → Fate → Moment → Bool
 breaks_L1 role f k = is_some_and (λ i. not (since (brings i) (ends i) (session_before role f k))) (released_id (note k))
 
--- L2: a RELEASE, and another one stands before in the session without an ender between.
+-- L2: a RELEASE, and another one under its identifier came before in the session, and the exchange hasn't ended between.
 unfoldable pub breaks_L2 : Role → Fate → Moment → Bool
 breaks_L2 role f k = is_some_and (λ i. since (releases i) (ends i) (session_before role f k)) (released_id (note k))
 
--- the first QoS 2 PUBLISH under the identifier in the session without an ender after it
+-- the first QoS 2 PUBLISH under the identifier in the session whose exchange hasn't ended since
 abbrev pub first_brought : Role → Fate → ℕ → Moment → Option Moment
 first_brought role f i k = earliest_since (brings i) (ends i) (session_before role f k)
 
--- It may end without a RELEASE: it may expire, or a PUBREC of 0x10 (No matching subscribers) was sent since.
+-- It needs no RELEASE: it may expire, or a PUBREC of 0x10 (No matching subscribers) was sent since.
 abbrev pub may_lapse : Role → Fate → ℕ → Moment → Moment → Bool
 may_lapse role f i k first = is_some_and (λ p. p.has_message_expiry) (received_publish (note first))
     || not (since (is_same first) (λ m. is_id i (sent_as unmatched_pubrec_in (note m))) (session_before role f k))
 
--- L3: a PUBCOMP of code 0x00 for such a PUBLISH, which may not lapse and wasn't released.
+-- L3: a PUBCOMP of code 0x00 for such a PUBLISH, which needs a RELEASE and had none.
 unfoldable pub breaks_L3 : Role → Fate → Moment → Bool
 breaks_L3 role f k = is_some_and (λ i. is_some_and (λ first. not (since (releases i) (ends i) (session_before role f k)) && not (may_lapse role f i k first))
     (first_brought role f i k)) (sent_as success_pubcomp_in (note k))

@@ -1,4 +1,4 @@
--- The table of the statements: how reports name each, where it stands in MQTT 5.0, and whom it binds.
+-- The table of the statements: how reports name each, where MQTT 5.0 has it, and whom it binds.
 use Rattle.std.specs.Prelude.{ℕ, ◌==◌, Bool, false, ◌&&◌, ◌||◌, not, List, [], length, map, Option, Some, None, unwrap_or}
 use Rattle.std.specs.Borrow.{Bor}
 use Rattle.std.specs.declared.cmp.Ordering.{Ordering}
@@ -12,8 +12,8 @@ use Rattle.mq_rules.specs.contracts.rule.Rule.{the_type}
 use Rattle.mq_rules.specs.contracts.rule.RuleOrd.TheImpl as rule_ord
 use Rattle.mq_rules.specs.declared.table.TheConstants.{TABLE}
 
--- A line of the table: a statement, its code, its citation for a client and for a server, and whether it is judged only where the log records releases. An empty
--- citation says that the statement doesn't bind that end.
+-- A line of the table: a statement, its code, its citation for a client and for a server, and whether it is judged only if the log records releases. An empty
+-- citation means that the statement doesn't bind that end.
 pub record Line : Type 0 where
   pub rule : Rule
   pub code : List ℕ
@@ -21,7 +21,7 @@ pub record Line : Type 0 where
   pub server : List ℕ
   pub needs_releases : Bool
 
--- whether two statements are one
+-- whether two statements are the same
 abbrev pub same_rule : Rule → Rule → Bool
 same_rule a b = sameb the_type a b
 
@@ -55,7 +55,7 @@ line_of rule = unwrap_or (found_line rule) (record { rule = rule; code = []; cli
 abbrev pub code_of : Rule → List ℕ
 code_of rule = (line_of rule).code
 
--- where a line's statement stands in MQTT 5.0 for this end
+-- the citation of a line's statement for this end
 abbrev pub cites : Role → Line → List ℕ
 cites Client line = line.client
 cites Server line = line.server
@@ -63,6 +63,6 @@ cites Server line = line.server
 abbrev pub citation_of : Rule → Role → List ℕ
 citation_of rule role = cites role (line_of rule)
 
--- Whether a statement binds the tested end: it is cited for that end, and where it needs releases the log records them.
+-- Whether a statement binds the tested end: it has a citation for that end, and if it needs releases the log records them.
 abbrev pub binds : Rule → Tested → Bool
 binds rule tested = not (length (citation_of rule tested.role) == 0) && (not (line_of rule).needs_releases || tested.releases)

@@ -21,7 +21,7 @@ use Rattle.mq_rules.specs.Releases.{breaks_L1, breaks_L2, breaks_L3}
 use Rattle.mq_rules.specs.Subscriptions.{breaks_B01, breaks_B02, breaks_B03, breaks_B04}
 use Rattle.mq_rules.specs.Rules.{binds}
 
--- the packet rule is the one that the bytes break which the tested end sent
+-- the bytes that the tested end sent break this packet rule
 unfoldable pub breaks_bytes : PacketRule → Moment → Bool
 breaks_bytes rule m = is_some_and (λ fault. sameb the_type rule fault.rule) (broken (note m))
 
@@ -143,7 +143,7 @@ is_false_under breaks m f = is_some_and (λ d. breaks d m) f
 abbrev pub where_accepted : (Fate → Moment → Bool) → Fate → Moment → Bool
 where_accepted breaks f m = accepts f && breaks f m
 
--- Whether a statement is false at position k of the log, where connections have these fates.
+-- Whether a statement is false at position k of the log, if connections have these fates.
 abbrev pub is_false : Role → (ℕ → Option Fate) → Statement → List Seen → ℕ → Bool
 is_false role fates (on_bytes rule) log k = is_some_and (breaks_bytes rule) (moment log k)
 is_false role fates (on_past breaks) log k = is_some_and breaks (moment log k)
@@ -155,6 +155,6 @@ is_false role fates (at_rest shows) log k = is_some_and (λ m. some (λ t. is_af
 unfoldable pub fails : Tested → List Seen → ℕ → Rule → Bool
 fails tested log k rule = binds rule tested && is_false tested.role (λ c. fate tested.role c log) (statement tested.role rule) log k
 
--- The same where the latest connection is taken to have this fate.
+-- The same, if the latest connection is taken to have this fate.
 unfoldable pub fails_under : Tested → Fate → List Seen → ℕ → Rule → Bool
 fails_under tested f log k rule = binds rule tested && is_false tested.role (fate_under tested.role (Some f) log) (statement tested.role rule) log k

@@ -1,4 +1,4 @@
--- Which pairs turn out false with one event more.
+-- Which pairs turn out to fail with one more event.
 use Rattle.std.specs.Prelude.{ℕ, ◌≡◌, ◌==◌, Bool, true, false, ◌&&◌, ◌||◌, cond, List, [], ◌∷◌, Option, Some, None, is_some}
 use Rattle.mq_rules.specs.declared.role.Role.{Role}
 use Rattle.mq_rules.specs.declared.role.Tested.{Tested}
@@ -16,7 +16,7 @@ use Rattle.mq_rules.specs.Statements.{Statement, on_bytes, on_past, in_session, 
 abbrev pub given : Role → Seen → List Seen → ℕ → Option Fate
 given role e past c = cond (is_some (fate role c past)) None (fate role c (e ∷ past))
 
--- With this event it turns out false at position k, where it depends on the connection's fate: at the event itself, or at a moment of the connection that it decides.
+-- With this event a predicate that depends on the connection's fate turns out true at position k: at the event itself, or at a moment of the connection that it decides.
 abbrev pub shows_under : Role → (Fate → Moment → Bool) → Seen → List Seen → ℕ → Bool
 shows_under role breaks e past k =
     (is_next past k && is_false_under breaks (newest e past) (fate role (number (newest e past)) (e ∷ past)))
@@ -34,7 +34,7 @@ shows role (at_rest test) e past k = is_binding role (newest e past) && is_some_
 unfoldable pub turns : Tested → Seen → List Seen → ℕ → Rule → Bool
 turns tested e past k rule = binds rule tested && shows tested.role (statement tested.role rule) e past k
 
--- With this event a statement turns out false at the event itself alone, and there exactly where `broken` says so.
+-- With this event a statement turns out false at most at the event itself, and there exactly if `broken` says so.
 abbrev pub JudgedAtOnce : Tested → Rule → Seen → List Seen → Bool → Type 0
 JudgedAtOnce tested rule e past broken = (k : ℕ) → turns tested e past k rule ≡ (is_next past k && broken)
 

@@ -20,7 +20,7 @@ use Rattle.mq_rules.specs.Exchanges.{subscribe_suback, unsubscribe_unsuback, fir
 
 -- ---- standing filters
 
--- A filter with the greatest QoS that a server may send at for it.
+-- A filter, with the greatest QoS at which a server may send for it.
 pub record Standing : Type 0 where
   pub filter : List ℕ
   pub ceiling : ℕ
@@ -29,7 +29,7 @@ pub record Standing : Type 0 where
 abbrev pub requested : NotedFilter → ℕ
 requested f = f.options % 4
 
--- What stands of a SUBSCRIBE's filters, given the Reason Codes of its SUBACK: a code of 0x80 or more refuses its filter, another one is its ceiling, and a filter
+-- The standing filters of a SUBSCRIBE, given the Reason Codes of its SUBACK: a code of 0x80 or more refuses its filter, another one is its ceiling, and a filter
 -- without a code has the QoS that it asked for.
 abbrev pub granted : List NotedFilter → List ℕ → List Standing
 granted [] codes = []
@@ -40,11 +40,11 @@ granted (f ∷ filters) (code ∷ codes) = cond (refuses code) (granted filters 
 abbrev pub codes_under : ℕ → Note → Option (List ℕ)
 codes_under i n = option_map (λ a. a.codes) (option_and_then (λ a. only (a.identifier == i) (Some a)) (sent_grant n))
 
--- The Reason Codes of the SUBACK of a SUBSCRIBE j, where it was sent before k: the first SUBACK under the identifier after j on j's connection.
+-- The Reason Codes of the SUBACK of a SUBSCRIBE j, if it was sent before k: the first SUBACK under the identifier after j on j's connection.
 abbrev pub codes_for : ℕ → Moment → Moment → List ℕ
 codes_for i j k = unwrap_or (earliest (codes_under i) (those (λ m. is_after m j) (of_connection (number j) k.past))) []
 
--- what stands at k of the filters of the moment j, if that is a SUBSCRIBE which was received
+-- the standing filters at k of the moment j, if that is a SUBSCRIBE that was received
 abbrev pub standing_from : Moment → Moment → List Standing
 standing_from k j = unwrap_or (option_map (λ s. granted s.filters (codes_for s.identifier j k)) (received_subscription (note j))) []
 
@@ -67,7 +67,7 @@ abbrev pub last_set : ℕ → List Moment → Option (List ℕ)
 last_set alias [] = None
 last_set alias (m ∷ ms) = or_else (topic_set alias (note m)) (last_set alias ms)
 
--- The topic of a PUBLISH at k: its Topic Name, or where that is empty the last one set for its alias on the connection (MQTT 5.0, section 3.3.2.3.4).
+-- The topic of a PUBLISH at k: its Topic Name, or if that is empty the one last set for its alias on the connection (MQTT 5.0, section 3.3.2.3.4).
 abbrev pub topic_of : Moment → PublishNote → Option (List ℕ)
 topic_of k p = cond (length p.topic == 0) (option_and_then (λ alias. last_set alias (connection k.past)) p.topic_alias) (Some p.topic)
 
@@ -95,12 +95,12 @@ unfoldable pub breaks_B02 : Role → Fate → Moment → Bool
 breaks_B02 role f k = is_delivered_so role f k (λ p topic. list_any (λ s. matches s.filter topic) (standing_at role f k)
     && not (list_any (λ s. matches s.filter topic && nat_le (qos_number p.qos) s.ceiling) (standing_at role f k)))
 
--- B03: a SUBACK whose first unanswered SUBSCRIBE has not as many filters as it has Reason Codes.
+-- B03: a SUBACK that hasn't as many Reason Codes as its first unanswered SUBSCRIBE has filters.
 unfoldable pub breaks_B03 : Moment → Bool
 breaks_B03 k = is_some_and (λ a. is_some_and (λ j. is_some_and (λ s. not (length s.filters == length a.codes)) (received_subscription (note j)))
     (first_unanswered subscribe_suback a.identifier k)) (sent_grant (note k))
 
--- B04: an UNSUBACK whose first unanswered UNSUBSCRIBE has not as many filters as it has Reason Codes.
+-- B04: an UNSUBACK that hasn't as many Reason Codes as its first unanswered UNSUBSCRIBE has filters.
 unfoldable pub breaks_B04 : Moment → Bool
 breaks_B04 k = is_some_and (λ a. is_some_and (λ j. is_some_and (λ u. not (u.count == a.count)) (received_unsubscription (note j)))
     (first_unanswered unsubscribe_unsuback a.identifier k)) (sent_unsuback (note k))

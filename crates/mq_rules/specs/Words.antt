@@ -16,7 +16,7 @@ abbrev pub is_id : ℕ → Option ℕ → Bool
 is_id i None = false
 is_id i (Some j) = i == j
 
--- it, where it passes the test
+-- the value, if the test is passed
 abbrev pub only : {A : Type 0} → Bool → Option A → Option A
 only true o = o
 only false o = None

@@ -29,7 +29,7 @@ abbrev pub followed : List Seen → List Note → List Seen
 followed past [] = past
 followed past (n ∷ ns) = followed (record { place = record { position = length past + 1; record_no = length past + 1 }; note = n } ∷ past) ns
 
--- the log of these events, of which the first comes first
+-- the log of these events, which are given in their order
 abbrev pub log_of : List Note → List Seen
 log_of ns = followed [] ns
 
@@ -77,7 +77,7 @@ gets_lost = notes.Recv items.Lost
 
 -- ---- packets
 
--- of Clean Start or not, with this Session Expiry Interval, and a Client Identifier
+-- with this Clean Start and Session Expiry Interval, and a Client Identifier
 abbrev pub connect : Bool → Option ℕ → ConnectNote
 connect clean expiry = record { clean_start = clean; is_unnamed = false; session_expiry = expiry; request_problem_information = None; request_response_information = None; receive_maximum = None; topic_alias_maximum = None; maximum_packet_size = None }
 
@@ -109,7 +109,7 @@ accepted = connack false 0
 abbrev pub resumed : PacketFields
 resumed = connack true 0
 
--- of a server that is not authorized to let the client in
+-- with the Reason Code Not authorized
 abbrev pub refused : PacketFields
 refused = connack false 135
 

@@ -1,4 +1,4 @@
-//! The statements C01 to C23, in one pass: what is kept of the latest connection tells each of its next event.
+//! The statements C01 to C23, in one pass: what is kept of the latest connection decides each of them at the next event.
 ghost use Rattle.std.specs.Prelude.{◌≡◌, ◌==◌, ◌∷◌, [], ◌+◌, ◌&&◌, ◌||◌, ℕ, not, length, List, Some, OnOk, OnErr};
 ghost use Rattle.std.specs.BTreeSet.{contains};
 ghost use Rattle.std.specs.Ordering.{nat_cmp};
@@ -48,12 +48,12 @@ impl Conn {
         }
     }
 
-    /// Judges an event by what is kept, and then takes it.
+    /// Judges an event by what is kept, and then takes it in.
     ///
     /// # Errors
     ///
-    /// `Memory` where room for a fault or a Topic Alias was refused. The faults may then have got some of the event's, and no
-    /// others, and what is kept is not to be used any more.
+    /// `Memory` if there is no memory for a fault or a Topic Alias. Some of the event's faults may then have been added, but no
+    /// others, and what is kept must not be used any more.
     pub fn step(&mut self, place: Place3, note: &Note, faults: &mut Faults) -> Result<(), Memory>
         ensures agrees { OnOk result ((tested : TheTested) (past : List TheSeen) → Agrees self.old tested past → Agrees self.new tested (record { place = place; note = note.now } ∷ past)) }
         ensures grows { OnOk result ((tested : TheTested) (past : List TheSeen) → Agrees self.old tested past → place.position ≡ length past + 1 → GrowsBy (is_on_past tested) tested (record { place = place; note = note.now }) past faults.old faults.new) }
@@ -64,7 +64,7 @@ impl Conn {
         Ok(())
     }
 
-    /// Takes an event.
+    /// Takes in an event.
     fn take(&mut self, note: &Note) -> Result<(), Memory>
         ensures role { OnOk result (self.new.role ≡ self.old.role) }
         ensures state { OnOk result (self.new.state ≡ told.after self.old.role self.old.state note.now) }
@@ -76,7 +76,7 @@ impl Conn {
         Ok(())
     }
 
-    /// At an OPEN no Topic Alias is set.
+    /// Forgets all Topic Aliases at an OPEN.
     fn clear_aliases_if(&mut self, begins: bool)
         ensures role { self.new.role ≡ self.old.role }
         ensures state { self.new.state ≡ self.old.state }
@@ -272,7 +272,7 @@ impl Conn {
         }
     }
 
-    /// Judges an event that is a REST, or isn't.
+    /// Judges C23; the flag says whether the event is a REST.
     #[inline]
     fn judge_rest(&self, place: Place3, is_rest: bool, faults: &mut Faults) -> Result<(), Memory>
         ensures ok { OnOk result (Judges (is_among (told.rest_verdicts self.now.role self.now.state is_rest)) place faults.old faults.new) }
@@ -298,7 +298,7 @@ fn used_alias(publish: &PublishNote) -> Option<u16>
     }
 }
 
-/// Puts a fault for each of these statements that is false. At most events none is.
+/// Adds a fault for each of these statements that is false. At most events none is.
 #[inline(always)]
 fn judge_each(place: Place3, verdicts: &[Verdict], faults: &mut Faults) -> Result<(), Memory>
     ensures ok { OnOk result (Judges (is_among verdicts.now) place faults.old faults.new) }
@@ -319,7 +319,7 @@ fn is_any_broken(verdicts: &[Verdict]) -> bool
     verdicts.iter().any(|(_, broken)| *broken)
 }
 
-/// Judges one of these statements after another.
+/// Judges these statements one after another.
 #[inline(always)]
 fn judge_broken(place: Place3, verdicts: &[Verdict], faults: &mut Faults) -> Result<(), Memory>
     ensures ok { OnOk result (Judges (is_among verdicts.now) place faults.old faults.new) }

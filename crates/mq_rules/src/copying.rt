@@ -1,4 +1,4 @@
-//! Copies of what lies in a packet's body, for notes to own.
+//! Copies of parts of a packet's body, for notes to own.
 ghost use Rattle.std.specs.Prelude.{◌≡◌, ◌<◌, length, map, string_bytes, IfOk, OnErr};
 ghost use Rattle.mq_packet.specs.Elements.{filter_view};
 ghost use Rattle.mq_rules.specs.Notes.{filter_note};

@@ -3,7 +3,7 @@ ghost use Rattle.std.specs.Prelude.{◌≡◌};
 
 use mq_trace::Place3;
 
-/// What is told of a pair of a position and a statement that is false there.
+/// What is reported of a position and a statement that is false there.
 #[derive(Clone, Copy, Debug, PartialEq, Eq)]
 pub struct Fault {
     /// The last position of the shortest beginning of the log in which the statement is false there.

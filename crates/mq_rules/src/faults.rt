@@ -12,7 +12,7 @@ use std::collections::BTreeMap;
 use std::collections::btree_map::{Iter, Range};
 use std::marker::Model;
 
-/// A growth was refused: there is no memory left.
+/// An allocation failed: there is no memory left.
 #[derive(Clone, Copy, Debug, PartialEq, Eq)]
 pub struct Memory;
 
@@ -67,11 +67,11 @@ impl Faults {
         }
     }
 
-    /// Puts a fault under its mark, unless one stands there already: the first one stays.
+    /// Adds a fault under its mark, unless the mark has one already: the first one stays.
     ///
     /// # Errors
     ///
-    /// `Memory` where room for a new mark was refused. The faults are then unchanged.
+    /// `Memory` if there is no memory for a new mark. The faults are then unchanged.
     pub fn add(&mut self, mark: Mark, fault: Fault) -> Result<(), Memory>
         ensures ok { OnOk result (self.new ≡ with_fault mark fault self.old) }
         ensures absent { OnErr result (map.get self.old mark ≡ None) }
@@ -84,11 +84,11 @@ impl Faults {
         Ok(())
     }
 
-    /// Puts the fault of a statement that is judged at its own position, where it is broken and none stands there already.
+    /// Adds the fault of a statement that is judged at its own position, if it is broken and the mark has no fault yet.
     ///
     /// # Errors
     ///
-    /// `Memory` where room for a new mark was refused. The faults are then unchanged.
+    /// `Memory` if there is no memory for a new mark. The faults are then unchanged.
     pub fn judge(&mut self, rule: Rule, place: Place3, broken: bool) -> Result<(), Memory>
         ensures ok { OnOk result (self.new ≡ judged broken rule place self.old) }
         ensures needed { OnErr result (broken ≡ true) }

@@ -13,7 +13,7 @@ use crate::table::{Row, TABLE};
 /// A statement, and what it says.
 pub type Saying = (Rule, &'static str);
 
-/// What each statement says, in the order of reports: each of these is to hold of the tested end.
+/// What each statement says of the tested end, in the order of reports.
 pub const SENTENCES: [Saying; 74] = [
     (
         Rule::W01,
@@ -262,8 +262,7 @@ impl Rule {
         }
     }
 
-    /// The statement that has this code, whose letters may be small ones. There is none where no statement's code is the
-    /// text in capitals.
+    /// The statement that has this code, in capital or small letters. `None` if no statement has it.
     #[tactic(auto, unfolding(crate::specs::Naming::coded_rule))]
     pub fn of_code(code: &str) -> Option<Rule>
         ensures { result ≡ coded_rule code.now }

@@ -1,4 +1,4 @@
-//! What the statements look at of an event.
+//! What the statements look at in an event.
 ghost use Rattle.std.specs.Prelude.{◌≡◌, option_map};
 ghost use Rattle.mq_packet.specs.Canonical.{type_number};
 ghost use Rattle.mq_rules.specs.Words.{is_some_and};
@@ -12,7 +12,7 @@ use crate::role::Role;
 use mq_packet::{BodyFault, PacketRule, PacketType};
 use mq_trace::Place3;
 
-/// What the statements look at of an item that was sent or received.
+/// What the statements look at in an item that was sent or received.
 #[derive(Debug, Drop)]
 pub enum ItemNote {
     /// A packet.
@@ -23,14 +23,14 @@ pub enum ItemNote {
         first: u8,
         /// The first rule that it breaks.
         rule: PacketRule,
-        /// Where the field begins that breaks it, from the packet's first byte.
+        /// The offset in the packet of the field that breaks it.
         at: u32,
     },
     /// The direction can't be cut into packets from here on.
     Lost,
 }
 
-/// What the statements look at of an event.
+/// What the statements look at in an event.
 #[derive(Debug, Drop)]
 pub enum Note {
     /// A connection begins.
@@ -50,9 +50,9 @@ pub enum Note {
 /// An event's note with its place.
 #[derive(Debug, Drop)]
 pub struct Seen {
-    /// Where the event stands.
+    /// The event's position and record.
     pub place: Place3,
-    /// What the statements look at of it.
+    /// What the statements look at in it.
     pub note: Note,
 }
 
@@ -113,8 +113,8 @@ impl ItemNote {
         }
     }
 
-    /// The rule that these bytes break, and where in the packet. Where a direction is lost, a Remaining Length breaks W03, and that
-    /// stands at the packet's second byte.
+    /// The rule that these bytes break, and where in the packet. If the direction is lost, its Remaining Length breaks W03, at the
+    /// packet's second byte.
     #[inline]
     pub fn broken(&self) -> Option<BodyFault>
         ensures { result ≡ notes.broken_in self.now }
@@ -199,7 +199,7 @@ impl Note {
         }
     }
 
-    /// What the packet says that the tested end sent.
+    /// The fields of the packet that the tested end sent.
     #[inline]
     pub fn sent_fields(&self) -> Option<&PacketFields>
         ensures { option_map (λ fields. fields.now) result ≡ notes.sent_fields self.now }
@@ -232,7 +232,7 @@ impl Note {
         }
     }
 
-    /// What the packet says that the tested end received.
+    /// The fields of the packet that the tested end received.
     #[inline]
     pub fn received_fields(&self) -> Option<&PacketFields>
         ensures { option_map (λ fields. fields.now) result ≡ notes.received_fields self.now }
@@ -243,7 +243,7 @@ impl Note {
         }
     }
 
-    /// What a packet from the client says, where the tested end has this role.
+    /// The fields of the packet, if it is from the client; the tested end has this role.
     #[inline]
     pub fn from_client(&self, role: Role) -> Option<&PacketFields>
         ensures { option_map (λ fields. fields.now) result ≡ notes.from_client role self.now }
@@ -254,7 +254,7 @@ impl Note {
         }
     }
 
-    /// What a packet from the server says, where the tested end has this role.
+    /// The fields of the packet, if it is from the server; the tested end has this role.
     #[inline]
     pub fn from_server(&self, role: Role) -> Option<&PacketFields>
         ensures { option_map (λ fields. fields.now) result ≡ notes.from_server role self.now }
@@ -342,7 +342,7 @@ impl Note {
         }
     }
 
-    /// The CONNECT, if it is from the client: the tested end has this role.
+    /// The CONNECT, if it is from the client; the tested end has this role.
     #[inline]
     pub fn connect(&self, role: Role) -> Option<&ConnectNote>
         ensures { option_map (λ connect. connect.now) result ≡ notes.connect_of role self.now }
@@ -353,7 +353,7 @@ impl Note {
         }
     }
 
-    /// The CONNACK, if it is from the server: the tested end has this role.
+    /// The CONNACK, if it is from the server; the tested end has this role.
     #[inline]
     pub fn connack(&self, role: Role) -> Option<&ConnackNote>
         ensures { option_map (λ connack. connack.now) result ≡ notes.connack_of role self.now }
@@ -364,7 +364,7 @@ impl Note {
         }
     }
 
-    /// The Session Expiry Interval, if there is one, of a DISCONNECT from the client: the tested end has this role.
+    /// The Session Expiry Interval, if there is one, of a DISCONNECT from the client; the tested end has this role.
     #[inline]
     pub fn client_disconnect(&self, role: Role) -> Option<Option<u32>>
         ensures { result ≡ notes.client_disconnect role self.now }
@@ -375,8 +375,8 @@ impl Note {
         }
     }
 
-    /// What the event makes of its connection, if nothing has decided that before: a CONNACK from the server decides it, and so does
-    /// the connection's end (MQTT 5.0, section 3.2.2).
+    /// What becomes of the connection by this event, if that wasn't decided before: a CONNACK from the server decides it, and so
+    /// does the connection's end (MQTT 5.0, section 3.2.2).
     #[inline]
     pub fn decides(&self, role: Role) -> Option<Fate>
         ensures { result ≡ notes.decides role self.now }
@@ -446,7 +446,7 @@ impl Note {
         }
     }
 
-    // The Packet Identifier that a client takes by the packet.
+    // The Packet Identifier that a client takes with the packet.
     #[inline]
     fn client_takes(&self) -> Option<u16>
         ensures { result ≡ taken_by roles.Client self.now }
@@ -703,7 +703,7 @@ impl Note {
         }
     }
 
-    /// The rule that the bytes of what the tested end sent break, and where in the packet.
+    /// The rule that the bytes break which the tested end sent, and where in the packet.
     #[inline]
     pub fn broken(&self) -> Option<BodyFault>
         ensures { result ≡ notes.broken self.now }

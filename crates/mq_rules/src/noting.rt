@@ -1,4 +1,4 @@
-//! What the statements look at of the packets and events of a log, copied out of the bytes that they were read from.
+//! What the statements look at in the packets and events of a log, copied out of the bytes that they were read from.
 //!
 //! Memory is taken only for a text that some statement looks at: the Topic Name of a PUBLISH that was sent, the Topic Filters of a
 //! SUBSCRIBE that was received, and the Reason Codes of a SUBACK that was sent.
@@ -39,7 +39,7 @@ fn is_pair(pair: Option<(&str, &str)>) -> bool
     pair.is_some()
 }
 
-/// The list, where it has properties. In most packets it has none, and then nothing needs to be looked for in it.
+/// The list, if it has properties. In most packets it is empty, and then nothing needs to be looked for in it.
 #[inline(always)]
 fn filled<'p, 'a>(list: &'p Props<'a>) -> Option<&'p Props<'a>>
     ensures { unwrap_or (option_map (λ list. list.now.items) result) [] ≡ list.now.items }
@@ -73,7 +73,7 @@ fn has_user_property(list: Option<&Props<'_>>) -> bool
     }
 }
 
-/// The Topic Alias, where there is a list, and it has one (MQTT 5.0, section 3.3.2.3.4).
+/// The Topic Alias, if there is a list, and it has one (MQTT 5.0, section 3.3.2.3.4).
 #[inline(always)]
 fn topic_alias(list: Option<&Props<'_>>) -> Option<u16>
     ensures { result ≡ first_two_bytes 35 (unwrap_or (option_map (λ list. list.now.items) list.entry) []) }
@@ -107,7 +107,7 @@ fn has_subscription_identifier(list: Option<&Props<'_>>) -> bool
 }
 
 impl ConnectNote {
-    /// What the statements look at of this CONNECT.
+    /// What the statements look at in this CONNECT.
     pub fn of(connect: &Connect<'_>) -> ConnectNote
         ensures { result ≡ connect_note (connect_view connect.now) }
     {
@@ -126,7 +126,7 @@ impl ConnectNote {
 }
 
 impl ConnackNote {
-    /// What the statements look at of this CONNACK.
+    /// What the statements look at in this CONNACK.
     pub fn of(connack: &Connack<'_>) -> ConnackNote
         ensures { result ≡ connack_note connack.now.session_present connack.now.code connack.now.properties.items }
     {
@@ -145,7 +145,7 @@ impl ConnackNote {
     }
 }
 
-/// The Topic Name, where its PUBLISH was sent.
+/// The Topic Name, if its PUBLISH was sent; else it is empty.
 #[inline(always)]
 fn kept_topic(alloc: Global, way: Way, topic: &str) -> Result<Text, Memory>
     ensures exact { IfOk result (λ text. text ≡ kept (is_sent_way way) topic.now) }
@@ -158,11 +158,11 @@ fn kept_topic(alloc: Global, way: Way, topic: &str) -> Result<Text, Memory>
 }
 
 impl PublishNote {
-    /// What the statements look at of this PUBLISH, which went this way.
+    /// What the statements look at in this PUBLISH, which went this way.
     ///
     /// # Errors
     ///
-    /// `Memory` where room for its Topic Name was refused, which is kept of a PUBLISH that was sent.
+    /// `Memory` if there is no memory for its Topic Name, which is kept of a PUBLISH that was sent.
     #[inline(always)]
     pub fn of(alloc: Global, way: Way, publish: &Publish<'_>) -> Result<PublishNote, Memory>
         ensures exact { IfOk result (λ note. note ≡ publish_note way (publish_view publish.now)) }
@@ -172,7 +172,7 @@ impl PublishNote {
         Ok(PublishNote::with_topic(topic, publish))
     }
 
-    /// What the statements look at of this PUBLISH, where this is kept of its Topic Name.
+    /// What the statements look at in this PUBLISH, with this copy of its Topic Name.
     #[inline(always)]
     fn with_topic(topic: Text, publish: &Publish<'_>) -> PublishNote
         ensures { (way : Way) → topic ≡ kept (is_sent_way way) publish.now.topic.now → result ≡ publish_note way (publish_view publish.now) }
@@ -190,7 +190,7 @@ impl PublishNote {
     }
 }
 
-/// What the statements look at of a SUBSCRIBE with these filters, which went this way.
+/// What the statements look at in a SUBSCRIBE with these filters, which went this way.
 fn subscribe_fields(
     alloc: Global,
     way: Way,
@@ -210,7 +210,7 @@ fn subscribe_fields(
     })
 }
 
-/// What the statements look at of a SUBACK with these Reason Codes, which went this way.
+/// What the statements look at in a SUBACK with these Reason Codes, which went this way.
 fn suback_fields(
     alloc: Global,
     way: Way,
@@ -248,11 +248,11 @@ fn unsuback_fields(answer: &Answer<'_>) -> PacketFields
 }
 
 impl PacketFields {
-    /// What the statements look at of what this packet says, which went this way.
+    /// What the statements look at in the fields of this packet, which went this way.
     ///
     /// # Errors
     ///
-    /// `Memory` where room was refused for a text that is kept.
+    /// `Memory` if there is no memory for a text that is kept.
     #[inline(always)]
     pub fn of(alloc: Global, way: Way, packet: &Packet<'_>) -> Result<PacketFields, Memory>
         ensures exact { IfOk result (λ fields. fields ≡ packet_fields way (view packet.now)) }
@@ -300,7 +300,7 @@ impl PacketFields {
     }
 }
 
-/// The packet's own property list, where it has one and there are properties in it (MQTT 5.0, section 2.2.2).
+/// The packet's own property list, if it has one with properties in it (MQTT 5.0, section 2.2.2).
 #[inline(always)]
 fn properties_in<'p, 'a>(packet: &'p Packet<'a>) -> Option<&'p Props<'a>>
     ensures { unwrap_or (option_map (λ list. list.now.items) result) [] ≡ properties_of (view packet.now) }
@@ -321,12 +321,12 @@ fn properties_in<'p, 'a>(packet: &'p Packet<'a>) -> Option<&'p Props<'a>>
 }
 
 impl PacketNote {
-    /// What the statements look at of this packet, which went this way. Its size is 0 where no Remaining Length can say it, as of no
-    /// packet that was read.
+    /// What the statements look at in this packet, which went this way. The size is 0 if no Remaining Length can say it, which can't
+    /// be for a packet that was read.
     ///
     /// # Errors
     ///
-    /// `Memory` where room was refused for a text that is kept.
+    /// `Memory` if there is no memory for a text that is kept.
     #[inline(always)]
     pub fn of(alloc: Global, way: Way, packet: &Packet<'_>) -> Result<PacketNote, Memory>
         ensures exact { IfOk result (λ note. note ≡ packet_note way (unwrap_or (size_with (remaining_length packet.now)) 0) (view packet.now)) }
@@ -344,11 +344,11 @@ impl PacketNote {
 }
 
 impl ItemNote {
-    /// What the statements look at of this item, which went this way.
+    /// What the statements look at in this item, which went this way.
     ///
     /// # Errors
     ///
-    /// `Memory` where room was refused for a text that is kept.
+    /// `Memory` if there is no memory for a text that is kept.
     #[inline(always)]
     pub fn of(alloc: Global, way: Way, item: &Item<'_>) -> Result<ItemNote, Memory>
         ensures exact { IfOk result (λ note. note ≡ item_note way (item_of item.now)) }
@@ -370,11 +370,11 @@ impl ItemNote {
 }
 
 impl Note {
-    /// What the statements look at of a PUBLISH of so many bytes, which went this way.
+    /// What the statements look at in a PUBLISH of `size` bytes, which went this way.
     ///
     /// # Errors
     ///
-    /// `Memory` where room for its Topic Name was refused, which is kept of a PUBLISH that was sent.
+    /// `Memory` if there is no memory for its Topic Name, which is kept of a PUBLISH that was sent.
     #[inline(always)]
     pub fn of_publish(
         alloc: Global,
@@ -391,8 +391,8 @@ impl Note {
         }
     }
 
-    /// The same, where this is kept of the Topic Name. It is made in one piece, since each move of a note costs more than what is
-    /// noted.
+    /// The same, with this copy of the Topic Name. The note is made in one piece, since moving a note costs more than making
+    /// it.
     #[inline(always)]
     fn with_topic(way: Way, size: u32, topic: Text, publish: &Publish<'_>) -> Note
         ensures { topic ≡ kept (is_sent_way way) publish.now.topic.now → result ≡ note_of (going way (packet size (publish_entry (publish_view publish.now)))) }
@@ -410,11 +410,11 @@ impl Note {
         }
     }
 
-    /// What the statements look at of this event.
+    /// What the statements look at in this event.
     ///
     /// # Errors
     ///
-    /// `Memory` where room was refused for a text that is kept: the Topic Name of a PUBLISH that was sent, the Topic Filters of a
+    /// `Memory` if there is no memory for a text that is kept: the Topic Name of a PUBLISH that was sent, the Topic Filters of a
     /// SUBSCRIBE that was received, or the Reason Codes of a SUBACK that was sent. Any other event takes no memory.
     #[inline(always)]
     pub fn of(alloc: Global, event: &Event<'_>) -> Result<Note, Memory>

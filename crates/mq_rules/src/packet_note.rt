@@ -1,4 +1,4 @@
-//! What the statements look at of a packet.
+//! What the statements look at in a packet.
 ghost use Rattle.std.specs.Prelude.{◌≡◌, option_map};
 ghost use Rattle.std.specs.Option.{option_and_then};
 ghost use Rattle.mq_rules.specs.Words.{only, or_else};
@@ -8,19 +8,19 @@ use crate::fate::Fate;
 use crate::text::{CodeList, FilterList, Text};
 use mq_packet::{PacketType, Qos};
 
-/// The least Reason Code that refuses (MQTT 5.0, section 2.4).
+/// The lowest Reason Code that refuses (MQTT 5.0, section 2.4).
 const REFUSING: u8 = 0x80;
 
-/// No matching subscribers, of a PUBREC (MQTT 5.0, section 3.5.2.1).
+/// The Reason Code No matching subscribers of a PUBREC (MQTT 5.0, section 3.5.2.1).
 const NO_MATCH: u8 = 0x10;
 
-/// Success (MQTT 5.0, section 2.4).
+/// The Reason Code Success (MQTT 5.0, section 2.4).
 const SUCCESS: u8 = 0x00;
 
-/// What the statements look at of a CONNECT (MQTT 5.0, section 3.1).
+/// What the statements look at in a CONNECT (MQTT 5.0, section 3.1).
 #[derive(Clone, Copy, Debug, PartialEq, Eq)]
 pub struct ConnectNote {
-    /// Whether the client asks for a new session.
+    /// Clean Start: whether the client asks for a new session.
     pub clean_start: bool,
     /// Whether the Client Identifier is empty, so that the server is to assign one.
     pub is_unnamed: bool,
@@ -38,10 +38,10 @@ pub struct ConnectNote {
     pub maximum_packet_size: Option<u32>,
 }
 
-/// What the statements look at of a CONNACK (MQTT 5.0, section 3.2).
+/// What the statements look at in a CONNACK (MQTT 5.0, section 3.2).
 #[derive(Clone, Copy, Debug, PartialEq, Eq)]
 pub struct ConnackNote {
-    /// Whether the server resumed a session that it had.
+    /// Session Present: whether the server resumed a session that it had.
     pub session_present: bool,
     /// The Reason Code: 0x00 accepts the connection, 0x80 or more refuses it.
     pub code: u8,
@@ -61,17 +61,17 @@ pub struct ConnackNote {
     pub has_response_information: bool,
 }
 
-/// What the statements look at of a PUBLISH (MQTT 5.0, section 3.3).
+/// What the statements look at in a PUBLISH (MQTT 5.0, section 3.3).
 #[derive(Debug, Drop)]
 pub struct PublishNote {
-    /// The Packet Identifier, where the QoS is above 0.
+    /// The Packet Identifier, if the QoS is above 0.
     pub identifier: Option<u16>,
     /// The Quality of Service.
     pub qos: Qos,
     /// The DUP flag.
     pub duplicate: bool,
-    /// The Topic Name of a PUBLISH that the tested end sent, empty where a Topic Alias stands for it. Of a PUBLISH that it
-    /// received no statement looks at it, and it isn't kept: it is empty.
+    /// The Topic Name of a PUBLISH that the tested end sent, empty if a Topic Alias stands for it. It is also empty for a PUBLISH
+    /// that the tested end received, since no statement looks at it.
     pub topic: Text,
     /// The Topic Alias, 1 to 65,535.
     pub topic_alias: Option<u16>,
@@ -81,7 +81,7 @@ pub struct PublishNote {
     pub has_subscription_identifier: bool,
 }
 
-/// What the statements look at of a packet, by its type (MQTT 5.0, section 2.1.2).
+/// What the statements look at in a packet, by its type (MQTT 5.0, section 2.1.2).
 #[derive(Debug, Drop)]
 pub enum PacketFields {
     /// CONNECT.
@@ -122,16 +122,16 @@ pub enum PacketFields {
     Subscribe {
         /// The Packet Identifier.
         identifier: u16,
-        /// The Topic Filters of a SUBSCRIBE that the tested end received. Of one that it sent no statement looks at them, and
-        /// they aren't kept: there is none.
+        /// The Topic Filters of a SUBSCRIBE that the tested end received. It is empty for one that the tested end sent, since no
+        /// statement looks at them.
         filters: FilterList,
     },
     /// SUBACK.
     Suback {
         /// The Packet Identifier of the SUBSCRIBE that it answers.
         identifier: u16,
-        /// The Reason Codes of a SUBACK that the tested end sent. Of one that it received no statement looks at them, and they
-        /// aren't kept: there is none.
+        /// The Reason Codes of a SUBACK that the tested end sent. It is empty for one that the tested end received, since no
+        /// statement looks at them.
         codes: CodeList,
     },
     /// UNSUBSCRIBE.
@@ -161,7 +161,7 @@ pub enum PacketFields {
     Auth,
 }
 
-/// What the statements look at of a packet.
+/// What the statements look at in a packet.
 #[derive(Debug, Drop)]
 pub struct PacketNote {
     /// How many bytes the whole packet has.
@@ -170,12 +170,12 @@ pub struct PacketNote {
     pub has_reason_string: bool,
     /// Whether it has a User Property, in its own property list.
     pub has_user_property: bool,
-    /// What it says, by its type.
+    /// The fields of its type.
     pub fields: PacketFields,
 }
 
 impl ConnackNote {
-    /// What this CONNACK of the server makes of the connection (MQTT 5.0, section 3.2.2): a code other than 0x00 refuses it.
+    /// What becomes of the connection by this CONNACK of the server (MQTT 5.0, section 3.2.2): a code other than 0x00 refuses it.
     #[inline]
     pub fn fate(&self) -> Fate
         ensures { result ≡ fate_by self.now }
@@ -208,7 +208,7 @@ impl ConnackNote {
 }
 
 impl PublishNote {
-    /// The Packet Identifier, where the QoS is above 0 (MQTT 5.0, section 2.2.1).
+    /// The Packet Identifier, if the QoS is above 0 (MQTT 5.0, section 2.2.1).
     #[inline]
     pub fn delivery(&self) -> Option<u16>
         ensures { result ≡ delivery_in self.now }
@@ -219,7 +219,7 @@ impl PublishNote {
         }
     }
 
-    /// The Packet Identifier that it opens: its QoS is above 0, and it isn't sent again (MQTT 5.0, section 2.2.1).
+    /// The Packet Identifier that it opens: its QoS is above 0, and DUP is 0 (MQTT 5.0, section 2.2.1).
     #[inline]
     pub fn opener(&self) -> Option<u16>
         ensures { result ≡ opener_in self.now }
@@ -324,7 +324,7 @@ impl PacketFields {
         }
     }
 
-    /// The Session Expiry Interval of a DISCONNECT, in seconds, which may have none (MQTT 5.0, section 3.14.2.2.2).
+    /// If it is a DISCONNECT, its Session Expiry Interval, in seconds, if it has one (MQTT 5.0, section 3.14.2.2.2).
     #[inline]
     pub fn disconnect(&self) -> Option<Option<u32>>
         ensures { result ≡ disconnect_in self.now }
@@ -481,7 +481,7 @@ impl PacketFields {
         }
     }
 
-    /// The Packet Identifier that a client takes by the packet: that of a new PUBLISH of QoS above 0, of a SUBSCRIBE or of an UNSUBSCRIBE
+    /// The Packet Identifier that a client takes with the packet: that of a new PUBLISH of QoS above 0, of a SUBSCRIBE or of an UNSUBSCRIBE
     /// (MQTT 5.0, section 2.2.1).
     #[inline]
     pub(crate) fn client_takes(&self) -> Option<u16>

@@ -15,12 +15,12 @@ use crate::role::Tested;
 use crate::rule::Rule;
 use std::alloc::Global;
 
-/// Judges W01 to W21, the statements on the bytes of one packet, at each event of the list. A mark that the faults have already
-/// keeps its fault. The faults are the right ones where each event has its place in the list as its position, counted from 1.
+/// Judges W01 to W21, the statements on the bytes of one packet, at each event of the list. A mark that has a fault already keeps
+/// it. The faults are right if the position of each event is its index in the list, counted from 1.
 ///
 /// # Errors
 ///
-/// `Memory` where room for a fault was refused. The faults may then have got some of the list's, and no others.
+/// `Memory` if there is no memory for a fault. Some of the list's faults may then have been added, but no others.
 pub fn plain_w(
     _alloc: Global,
     tested: Tested,
@@ -36,13 +36,13 @@ pub fn plain_w(
     Ok(())
 }
 
-/// Judges C01 to C23, the statements on the past of a connection, at each event of the list, in one pass. A mark that the faults
-/// have already keeps its fault. The faults are the right ones where each event has its place in the list as its position, counted
-/// from 1.
+/// Judges C01 to C23, the statements on the past of a connection, at each event of the list, in one pass. A mark that has a fault
+/// already keeps it. The faults are right if the position of each event is its index in the list, counted from 1.
 ///
 /// # Errors
 ///
-/// `Memory` where room for a fault or a Topic Alias was refused. The faults may then have got some of the list's, and no others.
+/// `Memory` if there is no memory for a fault or a Topic Alias. Some of the list's faults may then have been added, but no
+/// others.
 pub fn plain_c(
     alloc: Global,
     tested: Tested,
@@ -59,11 +59,11 @@ pub fn plain_c(
     Ok(())
 }
 
-/// Judges the bytes of one event: they break one rule at most.
+/// Judges the bytes of one event, which break at most one rule.
 ///
 /// # Errors
 ///
-/// `Memory` where room for a fault was refused. The faults are then unchanged.
+/// `Memory` if there is no memory for a fault. The faults are then unchanged.
 fn judge_bytes(event: &Seen, faults: &mut Faults) -> Result<(), Memory>
     ensures ok { OnOk result ((tested : TheTested) (past : List TheSeen) → event.now.place.position ≡ length past + 1 → GrowsBy (is_on_bytes tested) tested event.now past faults.old faults.new) }
     ensures unchanged { OnErr result (faults.new ≡ faults.old) }

@@ -1,4 +1,4 @@
-//! Laws of the words on moments, which say by positions what each is. Each is proved as the contract of a function that does nothing.
+//! Laws of the words on moments, which define each by positions. Each is proved as the contract of a function that does nothing.
 ghost use Rattle.std.specs.Prelude.{◌≡◌, ◌≤◌, ◌∷◌, ◌↔◌, ℕ, Bool, List, Option, Some, None, length, take, is_some, true, false};
 ghost use Rattle.mq_rules.specs.declared.role.Role.{Role};
 ghost use Rattle.mq_rules.specs.declared.fate.Fate.{Fate};
@@ -7,8 +7,8 @@ ghost use Rattle.mq_rules.specs.declared.note.Seen.{Seen};
 ghost use Rattle.mq_rules.specs.Moments.{Moment, position, note, moments, moment, some, since, those, latest, earliest, earliest_since, count, some_stretch, Among, IsBeginning, IsDescending, Stands, IsLatest, IsEarliest, IsEarliestSince, IsPlaced};
 ghost use Rattle.mq_rules.specs.Connections.{connection, of_connection, session};
 
-/// The moment at a position is the event that stands there with all that stands before it, and no other position has a moment. The moments of a log are
-/// those of its positions. Where events have their positions as their places, a moment's event has its position.
+/// The moment at a position of the log is the event there with all that comes before it; no other position has a moment. The moments of a log are those of
+/// its positions. If the places of the events have their positions, so has the place of a moment's event.
 pub fn moments_by_positions()
     ensures beginning { (log : List Seen) (k : ℕ) (m : Moment) → (moment log k ≡ Some m) ↔ IsBeginning log k m }
     ensures among { (log : List Seen) (m : Moment) → Among m (moments log) ↔ (moment log (position m) ≡ Some m) }
@@ -48,7 +48,7 @@ pub fn earliest_by_positions<A>()
     ensures none { (found : Note → Option A) (ms : List Moment) → (earliest found ms ≡ None) ↔ ((m : Moment) → Among m ms → found (note m) ≡ None) }
 {}
 
-/// `earliest_since`: the earliest moment that passes the first test with no later one that passes the second; there is one exactly where `since` says so.
+/// `earliest_since`: the earliest moment that passes the first test with no later one that passes the second; there is one exactly if `since` says so.
 pub fn earliest_since_by_positions()
     ensures at { (starts ends : Moment → Bool) (ms : List Moment) (at : Moment) → IsDescending ms → (earliest_since starts ends ms ≡ Some at) ↔ IsEarliestSince starts ends ms at }
     ensures there { (starts ends : Moment → Bool) (ms : List Moment) → is_some (earliest_since starts ends ms) ≡ since starts ends ms }

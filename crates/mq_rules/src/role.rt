@@ -23,7 +23,7 @@ pub struct Tested {
 }
 
 impl Tested {
-    /// The end that this header names.
+    /// The end that a log's header names.
     pub fn of(header: Header) -> Tested
         ensures { result ≡ tested_as header }
     {

@@ -10,18 +10,18 @@ ghost use Rattle.mq_rules.specs.Moments.{Moment, newest, moments, some, since, l
 ghost use Rattle.mq_rules.specs.Connections.{begun, connection, fate, latest_fate, begins, has_session, session, fate_under, IsInSession, is_alive_after, IsAlive, IsInOrder};
 ghost use Rattle.mq_rules.specs.Folds.{folded, ByPackets, where_in, kept_by, stands_under, gained, since_by, some_by, latest_by};
 
-/// An OPEN begins a connection, and any other event goes on with the latest one.
+/// An OPEN begins a connection, and any other event belongs to the latest one.
 pub fn connection_goes_on()
     ensures { (e : Seen) (past : List Seen) → connection (e ∷ past) ≡ cond (is_open e.note) (newest e past ∷ []) (newest e past ∷ connection past) }
 {}
 
-/// A connection's fate, once decided, is the same in every longer log. So is that of a connection which another has followed.
+/// A connection's fate, once decided, is the same in every longer log. So is the fate of a connection that isn't the latest one.
 pub fn fate_stays()
     ensures decided { (role : Role) (c : ℕ) (f : Fate) (later past : List Seen) → fate role c past ≡ Some f → fate role c (later ++ past) ≡ Some f }
     ensures followed { (role : Role) (c : ℕ) (later past : List Seen) → c < begun past → fate role c (later ++ past) ≡ fate role c past }
 {}
 
-/// One event more decides its own connection alone, where that is undecided. An OPEN begins an undecided one.
+/// One more event can decide only its own connection, if that is undecided. An OPEN begins an undecided one.
 pub fn event_decides_its_connection()
     ensures any { (role : Role) (c : ℕ) (e : Seen) (past : List Seen) → fate role c (e ∷ past) ≡ or_else (fate role c past) (cond (begun (e ∷ past) == c) (decides role e.note) None) }
     ensures latest { (role : Role) (e : Seen) (past : List Seen) → latest_fate role (e ∷ past) ≡ cond (is_open e.note) None (or_else (latest_fate role past) (decides role e.note)) }
@@ -34,7 +34,7 @@ pub fn words_are_folds()
     ensures latest { (test : Moment → Bool) (ms : List Moment) → latest test ms ≡ folded (latest_by test) None ms }
 {}
 
-/// What a reader keeps of the session, with one event more. In a log in order, where session packets alone change it, it follows from the fate of the latest
+/// What a reader keeps of the session after one more event. In a log in order, if only session packets change it, it follows from the fate of the latest
 /// connection before the event.
 pub fn fold_goes_on<A>()
     ensures under { (g : Moment → A → A) (z : A) (role : Role) (f : Option Fate) (e : Seen) (past : List Seen) → folded g z (session role f (e ∷ past))
@@ -43,27 +43,27 @@ pub fn fold_goes_on<A>()
         → folded g z (session role (latest_fate role (e ∷ past)) (e ∷ past)) ≡ kept_by role (latest_fate role past) e.note (g (newest e past)) z (folded g z (session role (latest_fate role past) past)) }
 {}
 
-/// `since` in a session, with one event more, if the latest connection has this fate.
+/// `since` in a session, with one more event, if the latest connection has this fate.
 pub fn since_goes_on()
     ensures { (role : Role) (starts ends : Moment → Bool) (f : Option Fate) (e : Seen) (past : List Seen) → stands_under role starts ends f (e ∷ past)
         ≡ gained (has_session role f e past) (starts (newest e past)) (ends (newest e past)) (cond (is_open e.note) (not (begins f) && stands_under role starts ends (latest_fate role past) past) (stands_under role starts ends f past)) }
 {}
 
-/// The session is alive after connection c exactly where some connection up to c is accepted with a Session Expiry Interval other than 0, or isn't accepted and
+/// The session is alive after connection c exactly if some connection up to c is accepted with a Session Expiry Interval other than 0, or isn't accepted and
 /// may have been, and none after it up to c is accepted (MQTT 5.0, section 4.1).
 pub fn alive_by_connections()
     ensures { (role : Role) (c : ℕ) (log : List Seen) → (is_alive_after role c log ≡ true) ↔ IsAlive role c log }
 {}
 
-/// In a log that isn't refused each event has its position as its place, and each session packet and each RELEASE comes where the latest connection is
-/// decided.
+/// In a log that isn't refused the place of each event has its position, and the latest connection is decided before each session packet and each
+/// RELEASE.
 pub fn unrefused_logs_are_in_order()
     ensures placed { (limit : ℕ) (bytes : List ℕ) → refused limit bytes ≡ None → IsPlaced (seen_in bytes) }
     ensures in_order { (limit : ℕ) (bytes : List ℕ) → refused limit bytes ≡ None → IsInOrder (tested_by bytes).role (seen_in bytes) }
 {}
 
-/// Which moments a session has: those that are on an accepted connection, or are a RELEASE that belongs to an earlier accepted one, such that each accepted
-/// connection after theirs is resumed.
+/// Which moments are in a session: those that are on an accepted connection, or are a RELEASE that belongs to an earlier accepted one, and after whose
+/// connection each accepted one is resumed.
 pub fn session_by_positions()
     ensures { (role : Role) (f : Option Fate) (log : List Seen) (m : Moment) → Among m (session role f log) ↔ (Among m (moments log) × IsInSession (fate_under role f log) (begun log) m) }
 {}

@@ -1,10 +1,10 @@
-//! Short texts, which lie in the value itself.
+//! Short texts, which are stored in the value itself.
 ghost use Rattle.std.specs.Prelude.{◌≡◌, IsUtf8};
 
 use std::marker::Model;
 use std::{fmt, str};
 
-/// How many bytes a short text has at most. More of them would make each note larger.
+/// The most bytes that a short text may have. A larger bound would make each note larger.
 pub const ROOM: usize = 30;
 
 /// A text of at most 30 bytes. A contract sees the bytes of its UTF-8 encoding.
@@ -38,7 +38,7 @@ fn text_in(bytes: &[u8]) -> &str
 impl ShortText {
     ghost use Rattle.std.specs.Prelude.{◌≡◌, ◌≤◌, [], length};
 
-    /// No text.
+    /// The empty text.
     #[inline(always)]
     pub fn empty() -> ShortText
         ensures { result ≡ [] }

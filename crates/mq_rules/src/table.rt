@@ -6,8 +6,8 @@ ghost use Rattle.mq_rules.specs.Rules.{all_rules, found_line, line_view, lines_o
 use crate::role::{Role, Tested};
 use crate::rule::Rule;
 
-/// A statement, its code, where it stands in MQTT 5.0 for a client and for a server (nothing where it doesn't bind that end), and
-/// whether it is judged only where the log records releases.
+/// A statement, its code, its citation of MQTT 5.0 for a client and for a server (empty if it doesn't bind that end), and whether it
+/// is judged only if the log records releases.
 pub type Row = (Rule, &'static str, &'static str, &'static str, bool);
 
 /// Each statement's row, in the order of reports.
@@ -226,8 +226,8 @@ impl Rule {
         }
     }
 
-    /// Where the statement stands in MQTT 5.0 for this end: the numbers of conformance statements, with a comma between two of them, or the
-    /// section, as `sec-2.4`. It is empty where the statement doesn't bind this end.
+    /// The statement's citation of MQTT 5.0 for this end: the numbers of conformance statements, separated by commas, or the section, for
+    /// example `sec-2.4`. It is empty if the statement doesn't bind this end.
     #[tactic(auto, unfolding(crate::specs::Rules::line_of))]
     pub fn citation(self, role: Role) -> &'static str
         ensures { result.now ≡ citation_of self role }
@@ -241,14 +241,14 @@ impl Rule {
         }
     }
 
-    /// Whether the statement binds this end. Some statements are judged only where the log records releases: see `is_judged`.
+    /// Whether the statement binds this end. Some statements are judged only if the log records releases: see `is_judged`.
     pub fn binds(self, role: Role) -> bool
         ensures { result ≡ not (length (citation_of self role) == 0) }
     {
         !self.citation(role).is_empty()
     }
 
-    /// Whether the statement is judged only where the log records the releases of QoS 2 messages.
+    /// Whether the statement is judged only if the log records the releases of QoS 2 messages.
     #[tactic(auto, unfolding(crate::specs::Rules::line_of))]
     pub fn needs_releases(self) -> bool
         ensures { result ≡ (line_of self).needs_releases }
@@ -259,7 +259,7 @@ impl Rule {
         }
     }
 
-    /// Whether the statement is judged of this end: it binds the end, and where it needs releases the log records them.
+    /// Whether the statement is judged for this end: it binds the end, and if it needs releases the log records them.
     pub fn is_judged(self, tested: Tested) -> bool
         ensures { result ≡ binds self tested }
     {

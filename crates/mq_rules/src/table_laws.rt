@@ -4,7 +4,7 @@ ghost use Rattle.std.specs.List.Sorted.{IsStrictlySortedBy};
 ghost use Rattle.mq_rules.specs.declared.rule.Rule.{Rule};
 ghost use Rattle.mq_rules.specs.Rules.{all_rules, found_line, rule_cmp};
 
-/// Each statement has its row: one that names it.
+/// Each statement has a row, which names it.
 pub fn each_statement_has_its_row()
     ensures found { (rule : Rule) → IsSomeAnd (found_line rule) (λ line. line.rule ≡ rule) }
     ensures listed { (rule : Rule) → Contains all_rules rule }

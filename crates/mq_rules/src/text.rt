@@ -1,6 +1,6 @@
 //! Texts and lists that notes own. A contract sees each as a plain list.
 //!
-//! A short text lies in the value itself, and an empty list takes no memory, so neither can be refused any.
+//! A short text is stored in the value itself, and an empty list takes no memory, so making either can't fail.
 
 use crate::copying::{copied, copied_text, noted};
 use crate::faults::Memory;
@@ -9,7 +9,7 @@ use mq_packet::{Codes, Filters};
 use std::alloc::Global;
 use std::marker::Model;
 
-/// Where the bytes of a text lie.
+/// Where the bytes of a text are.
 #[derive(Debug, Drop)]
 enum Form {
     Short(ShortText),
@@ -18,7 +18,7 @@ enum Form {
 
 /// A text, of at most 65,535 bytes. A contract sees the bytes of its UTF-8 encoding.
 ///
-/// Most Topic Names are short: they lie in the value itself, so that a note of one takes no memory of its own.
+/// Most Topic Names are short: they are stored in the value itself, so that a note of one takes no memory of its own.
 #[derive(Debug, Drop)]
 pub struct Text {
     form: Form,
@@ -36,7 +36,7 @@ impl Model for Text {
 impl Text {
     ghost use Rattle.std.specs.Prelude.{◌≡◌, ◌<◌, ◌==◌, [], length, IfOk, OnErr};
 
-    /// No text.
+    /// The empty text.
     #[inline(always)]
     pub fn empty() -> Text
         ensures { result ≡ [] }
@@ -50,7 +50,7 @@ impl Text {
     ///
     /// # Errors
     ///
-    /// `Memory` where room for it was refused. A text of at most 30 bytes needs none.
+    /// `Memory` if there is no memory for it. A text of at most 30 bytes needs none.
     #[inline(always)]
     pub fn of(alloc: Global, text: &str) -> Result<Text, Memory>
         ensures exact { IfOk result (λ copy. copy ≡ text.now) }
@@ -144,11 +144,11 @@ impl FilterList {
         }
     }
 
-    /// Copies of the filters, with their Subscription Options. Where a filter has none, as in an UNSUBSCRIBE, they are 0.
+    /// Copies of the filters, with their Subscription Options, or 0 if a filter has none, as in an UNSUBSCRIBE.
     ///
     /// # Errors
     ///
-    /// `Memory` where room for them was refused. No filters need none.
+    /// `Memory` if there is no memory for them. An empty list needs none.
     pub fn of(alloc: Global, filters: &Filters<'_>) -> Result<FilterList, Memory>
         ensures exact { IfOk result (λ copies. copies ≡ map filter_note filters.now) }
         ensures needed { OnErr result (0 < length filters.now) }
@@ -213,7 +213,7 @@ impl CodeList {
     ///
     /// # Errors
     ///
-    /// `Memory` where room for them was refused. No Reason Codes need none.
+    /// `Memory` if there is no memory for them. An empty list needs none.
     pub fn of(alloc: Global, codes: &Codes<'_>) -> Result<CodeList, Memory>
         ensures exact { IfOk result (λ copies. copies ≡ codes.now) }
         ensures needed { OnErr result (0 < length codes.now) }

@@ -12,7 +12,7 @@ use crate::packet_note::{ConnackNote, ConnectNote, PacketFields};
 use crate::role::Role;
 use mq_packet::PacketType;
 
-/// What is kept of the latest connection to judge its next event, beside the Topic Aliases.
+/// What is kept of the latest connection to judge its next event, except the Topic Aliases.
 #[derive(Clone, Copy, Debug, PartialEq, Eq)]
 pub struct ConnectionState {
     /// Whether a connection has begun.
@@ -50,7 +50,7 @@ impl ConnectionState {
         Self::at_open(false, false)
     }
 
-    /// What is kept where nothing has come on the connection yet.
+    /// What is kept when nothing has come on the connection yet.
     fn at_open(has_begun: bool, was_alive: bool) -> Self
         ensures { result ≡ record { has_begun = has_begun; was_alive = was_alive; fate = None; connect = None; connack = None; disconnect = None; has_sent = false; has_sent_connect = false; has_sent_connack = false; has_received_connect = false; has_sent_disconnect = false; has_sent_refusal = false } }
     {
@@ -70,7 +70,7 @@ impl ConnectionState {
         }
     }
 
-    /// Takes one event more.
+    /// Takes in one more event.
     #[inline]
     pub fn take(&mut self, role: Role, note: &Note)
         ensures { self.new ≡ after role self.old note.now }
@@ -82,7 +82,7 @@ impl ConnectionState {
         self.follow(role, note);
     }
 
-    /// Whether the event is seen at once to change nothing: most are ordinary packets, after the first one that is sent.
+    /// A quick test that the event changes nothing: most are ordinary packets, after the first one that is sent.
     #[inline]
     fn is_unchanged_by(&self, note: &Note) -> bool
         ensures { result ≡ (self.now.has_sent && ordinary note.now) }
@@ -100,7 +100,7 @@ impl ConnectionState {
         }
     }
 
-    /// Adds what an event says: of a CONNECT, CONNACK and DISCONNECT the first one counts.
+    /// Adds what an event says. Only the first CONNECT, CONNACK and DISCONNECT count.
     #[inline]
     fn follow(&mut self, role: Role, note: &Note)
         ensures { self.new ≡ followed role self.old note.now }
@@ -128,8 +128,9 @@ impl ConnectionState {
         of_disconnect.or(of_connack).or(of_connect).unwrap_or(0)
     }
 
-    /// Whether the session is alive after the connection: it was accepted with a Session Expiry Interval other than 0, or it was not
-    /// and the session was alive before, or it may have been and closed without a CONNACK (MQTT 5.0, section 4.1).
+    /// Whether the session is alive after the connection (MQTT 5.0, section 4.1): the connection was accepted with a Session
+    /// Expiry Interval other than 0; or it wasn't accepted, and the session was alive before; or it had a CONNECT and no
+    /// CONNACK, so that the server may have accepted it.
     fn stays_alive(&self) -> bool
         ensures { result ≡ lives_on self.now }
     {
@@ -172,7 +173,7 @@ fn receives_ordinary(note: &Note) -> bool
     }
 }
 
-/// Whether a packet is none of CONNECT, CONNACK and DISCONNECT.
+/// Whether a packet is neither a CONNECT nor a CONNACK nor a DISCONNECT.
 #[inline]
 fn is_ordinary(fields: &PacketFields) -> bool
     ensures { result ≡ is_ordinary_in fields.now }

@@ -1,4 +1,4 @@
-//! What is kept of a connection tells of its next event: whether a statement is false there.
+//! Whether a statement is false at the next event of a connection, by what is kept of the connection.
 ghost use Rattle.std.specs.Prelude.{◌≡◌, ◌==◌, ◌&&◌, ◌||◌, Some, not, unwrap_or};
 ghost use Rattle.mq_packet.specs.declared.packet.PacketType.TheVariants as types;
 ghost use Rattle.mq_rules.specs.Words.{is_id, is_some_and};
@@ -156,7 +156,7 @@ impl ConnectionState {
         }
     }
 
-    /// Whether there was no session to be resumed: the CONNECT had Clean Start 1, or the session wasn't alive.
+    /// Whether there was no session to resume: the CONNECT had Clean Start 1, or the session wasn't alive.
     fn is_not_to_be_resumed(&self) -> bool
         ensures { result ≡ (is_some_and (λ c. c.clean_start) self.now.connect || not self.now.was_alive) }
     {
@@ -209,7 +209,7 @@ impl ConnectionState {
     }
 }
 
-/// Whether a packet has a Reason String or a User Property that the client may have asked not to get.
+/// Whether a packet has a Reason String or a User Property that a client can ask not to get.
 fn explains(packet: &PacketNote) -> bool
     ensures { result ≡ ((packet.now.has_reason_string || packet.now.has_user_property) && not (may_explain packet.now.fields)) }
 {
@@ -367,14 +367,14 @@ impl ConnectionState {
         }
     }
 
-    /// C23, where the event is a REST or isn't.
+    /// C23; the flag says whether the event is a REST.
     pub fn breaks_c23(&self, role: Role, is_rest: bool) -> bool
         ensures { result ≡ told.tells_C23 role self.now is_rest }
     {
         is_rest && self.has_left(role)
     }
 
-    /// Whether the end sent what closes the connection: a DISCONNECT, or as a server a CONNACK that refuses.
+    /// Whether the end sent something after which it must close the connection: a DISCONNECT, or as a server a CONNACK that refuses.
     fn has_left(&self, role: Role) -> bool
         ensures { result ≡ told.has_left role self.now }
     {
