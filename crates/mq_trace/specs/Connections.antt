@@ -56,7 +56,7 @@ is_answer true (sent item) = is_packet is_connack item
 is_answer false (received item) = is_packet is_connack item
 is_answer _ _ = false
 
--- A session packet, of either direction, or a RELEASE: on a connection they stand after its CONNACK.
+-- A session packet, of either direction, or a RELEASE: on a connection it must come after the CONNACK.
 abbrev pub needs_answer : Event → Bool
 needs_answer (released identifier) = true
 needs_answer (sent item) = is_packet needs_session item
@@ -72,6 +72,6 @@ since starts stops (e ∷ past) = starts e.event || (not (stops e.event) && sinc
 abbrev pub is_connected : List Placed → Bool
 is_connected log = since begins ends log
 
--- The CONNACK of the latest connection has come; the tested end is a server, or not.
+-- The CONNACK of the latest connection has come; the flag says whether the tested end is a server.
 abbrev pub is_answered : Bool → List Placed → Bool
 is_answered server log = since (is_answer server) begins log

@@ -1,4 +1,4 @@
--- What a reader of the log keeps from one byte to the next, as a function of all bytes before: no more is looked at of them.
+-- What a reader of the log keeps from one byte to the next, as a function of all bytes so far. It looks at nothing else of them.
 use Rattle.std.specs.Prelude.{ℕ, ◌+◌, ◌==◌, nat_lt, Bool, true, false, ◌&&◌, ◌||◌, not, cond, if◌then◌else◌, List, [], ◌∷◌, ◌++◌, length, Option, Some, None, is_some}
 use Rattle.mq_trace.specs.declared.kind.Way.{Way}
 use Rattle.mq_trace.specs.declared.kind.Way.TheVariants as ways
@@ -10,7 +10,7 @@ use Rattle.mq_trace.specs.Framing.{header_by, kind_of, way_of, opens, record_siz
 use Rattle.mq_trace.specs.Events.{Event, Placed, event_in, events}
 use Rattle.mq_trace.specs.Refusals.{Situation, header_refusal, record_refusal}
 
--- one direction: the bytes of its unfinished packet, none where it is lost
+-- one direction: the bytes of its unfinished packet, none if it is lost
 pub record Half : Type 0 where
   pub unfinished : List ℕ
   pub lost : Bool
@@ -19,7 +19,7 @@ pub record Context : Type 0 where
   -- how many bytes came
   pub at : ℕ
   pub header : Header
-  -- the bytes of the unfinished record, and how many whole ones stand before it
+  -- the bytes of the unfinished record, and how many whole ones come before it
   pub part : List ℕ
   pub records : ℕ
   pub sent : Half
@@ -68,7 +68,7 @@ context log = record {
   answered = is_answered (header_by log).server (events log);
 }
 
--- The next byte's packet so far, from what is kept.
+-- one direction, of what is kept
 abbrev pub half_for : Context → Way → Half
 half_for c ways.Sent = c.sent
 half_for c ways.Recv = c.recv
@@ -83,7 +83,7 @@ so_far_by (Some way) c byte = so_far_in (half_for c way) byte
 unfoldable pub so_far_for : Context → ℕ → List ℕ
 so_far_for c byte = cond (nat_lt 5 (length (c.part ++ byte ∷ []))) (so_far_by (way_of (kind_of (c.part ++ byte ∷ []))) c byte) []
 
--- the next byte's situation, from what is kept
+-- the situation of the next byte, from what is kept
 unfoldable pub situated : Context → ℕ → Situation
 situated c byte = record {
   at = c.at;
@@ -96,7 +96,7 @@ situated c byte = record {
   answered = c.answered;
 }
 
--- the refusal that first stands with the next byte
+-- the refusal that applies first at the next byte
 unfoldable pub refusal_for : ℕ → Context → ℕ → Option Refusal
 refusal_for limit c byte = if nat_lt c.at 8 then header_refusal c.at byte else record_refusal limit (situated c byte)
 
@@ -117,7 +117,7 @@ abbrev pub put : Option Placed → List Placed → List Placed
 put None log = log
 put (Some e) log = e ∷ log
 
--- a direction after one byte of its own more
+-- a direction after one more byte of its own
 unfoldable pub half_after : Half → ℕ → Half
 half_after half byte = cond half.lost half (cond (is_lost (half.unfinished ++ byte ∷ [])) (record { unfinished = []; lost = true })
     (cond (is_some (frame_size (half.unfinished ++ byte ∷ []))) (record { unfinished = []; lost = false }) (record { unfinished = half.unfinished ++ byte ∷ []; lost = false })))
@@ -128,12 +128,12 @@ half_by ways.Sent (Some ways.Sent) half byte = half_after half byte
 half_by ways.Recv (Some ways.Recv) half byte = half_after half byte
 half_by _ _ half byte = half
 
--- A direction after one byte of a record: the first byte of an OPEN empties it, and a body byte that goes its way is added.
+-- A direction after one more byte of a record: the first byte of an OPEN empties it, and a body byte of this direction is added.
 unfoldable pub half_then : Way → Half → List ℕ → ℕ → Half
 half_then way half part byte = cond (opens (kind_of part)) (record { unfinished = []; lost = false })
     (cond (nat_lt 5 (length part)) (half_by way (way_of (kind_of part)) half byte) half)
 
--- the events after one more, if there is one
+-- what is kept after one more event, if there is one
 abbrev pub with_heard : Context → Option Event → Context
 with_heard c None = c
 with_heard c (Some event) = record c {

@@ -23,7 +23,7 @@ flow_of at half c = record { at = at; half = half; events = c.events; connected 
 abbrev pub frame_event : Way → List ℕ → Option Event
 frame_event way frame = option_map (going way) (item_read (length frame) (slice_index frame 0) (read_frame frame))
 
--- the refusal that stands with the last byte of a whole packet
+-- the refusal that applies at the last byte of a whole packet
 abbrev pub frame_met : ℕ → Flow → Way → List ℕ → Option Refusal
 frame_met at f way frame = first_standing (
     (is_other_version (read_frame frame), refusals.OtherVersion at)
@@ -31,25 +31,25 @@ frame_met at f way frame = first_standing (
     ∷ (is_some (frame_event way frame) && nat_le 4294967295 f.events, refusals.TooLong at)
     ∷ [])
 
--- what is kept of the events, after one more if there is one
+-- what is kept of the events after one more, if there is one
 abbrev pub connections_then : Bool → Connections → Option Event → Connections
 connections_then server c None = c
 connections_then server c (Some event) = connections_with server c event
 
--- A byte may need memory, given the bytes so far of its packet, the byte included: it belongs to one, and doesn't end a fixed header that tells a size over the limit.
+-- A byte may need memory, given the bytes so far of its packet, the byte included: it belongs to one, and doesn't end a fixed header whose size is over the limit.
 pub record NeedsMemory (limit : ℕ) (so_far : List ℕ) : Type 0 where
   pub packet : 0 < length so_far
   pub within : is_too_large limit so_far (fixed_header_of so_far) ≡ false
 
--- Why a byte isn't taken in, given the bytes so far of its packet, the refusal that it meets and what it completes: it is refused, or memory was, and the
--- sink received nothing; or the sink refused what it completes.
+-- Why a byte isn't taken in, given the bytes so far of its packet, the refusal that applies at it and what it completes: it is refused, or there was no memory,
+-- and the sink received nothing; or the sink refused what it completes.
 abbrev pub FlowWhy : {S : Type 0} → (S → S → List Placed → Refusal → Type 0) → ℕ → ℕ → List ℕ → Option Refusal → List Placed → S → S → Refusal → Type 0
 FlowWhy declines limit at so_far met completed old new refusal =
     ((met ≡ Some refusal) × (new ≡ old))
     ⊎ ((refusal ≡ refusals.Memory at) × (new ≡ old) × NeedsMemory limit so_far)
     ⊎ ((met ≡ None) × (length completed ≡ 1) × RefusedBySink declines at completed old new refusal)
 
--- Bytes of a direction aren't taken in: none before one of them is refused or completes anything, and that one isn't taken in.
+-- Bytes of a direction aren't all taken in: one of them isn't, and none before it is refused or completes anything.
 pub record FlowStops {S : Type 0} (declines : S → S → List Placed → Refusal → Type 0) (limit : ℕ) (bed : Bed) (f : Flow) (bytes : List ℕ) (old new : S) (refusal : Refusal) : Type 0 where
   pub taken : List ℕ
   pub byte : ℕ

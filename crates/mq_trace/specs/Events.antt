@@ -1,4 +1,4 @@
--- The events that a log gives: each is completed by one byte of the log, and stands in the record of that byte.
+-- The events of a log: each is completed by one byte of the log, and belongs to the record of that byte.
 use Rattle.std.specs.Prelude.{ℕ, ◌+◌, ◌==◌, nat_lt, cond, if◌then◌else◌, List, [], ◌∷◌, ◌++◌, length, drop, map, reverse, slice_index, Option, Some, None, option_map, is_some, Result, Ok, Err}
 use Rattle.std.specs.Int.{w16, from_be_bytes}
 use Rattle.mq_packet.specs.declared.rule.PacketRule.{PacketRule}
@@ -15,8 +15,8 @@ use Rattle.mq_trace.specs.Framing.{kind_of, way_of, begun, carried, stream}
 use Rattle.mq_packet.specs.Entries.{Entry}
 use Rattle.mq_packet.specs.Decoding.{decoded}
 
--- What stands in one direction's stream of packets: a packet, with its size in bytes; bytes that break a rule, with the first of them, the rule
--- and where it is broken; or the end of what can be cut into packets.
+-- An item of one direction's stream of packets: a packet, with its size in bytes; bytes that break a rule, with the first of them, the rule
+-- and where it is broken; or the point from which the stream can't be parsed.
 pub data Item : Type 0 where
   packet : ℕ → Entry → Item
   bad : ℕ → PacketRule → ℕ → Item
@@ -32,13 +32,13 @@ pub record Placed : Type 0 where
   pub place : Place3
   pub event : Event
 
--- What a whole frame of this size and this first byte is: a packet, or one whose bytes break a rule. Of another protocol version it is neither.
+-- What a whole frame of this size and this first byte is: a packet, or bytes that break a rule. A CONNECT of another protocol version is neither.
 abbrev pub item_read : ℕ → ℕ → Result Entry DecodeFault → Option Item
 item_read size first (Ok entry) = Some (packet size entry)
 item_read size first (Err (Broken fault)) = Some (bad first fault.rule fault.at)
 item_read size first (Err (OtherVersion version)) = None
 
--- what stands after a packet's fixed header
+-- what follows a packet's fixed header
 abbrev pub behind_header : FixedHeader → List ℕ → List ℕ
 behind_header (headers.Whole header size) frame = drop header frame
 behind_header headers.Short frame = []
@@ -48,12 +48,12 @@ behind_header headers.Lost frame = []
 unfoldable pub read_frame : List ℕ → Result Entry DecodeFault
 read_frame frame = decoded (slice_index frame 0) (behind_header (fixed_header_of frame) frame)
 
--- The item that the last of these bytes completes, where they are those so far of one packet: the packet is whole, or its
--- Remaining Length turns out to be none.
+-- The item that the last of these bytes completes, if they are the bytes so far of one packet: the packet is whole, or its
+-- Remaining Length is invalid.
 unfoldable pub item_at : List ℕ → Option Item
 item_at so_far = cond (is_lost so_far) (Some lost) (cond (is_some (frame_size so_far)) (item_read (length so_far) (slice_index so_far 0) (read_frame so_far)) None)
 
--- The bytes so far of the packet that a direction's next byte belongs to, that byte included; none where the direction is lost before it.
+-- The bytes so far of the packet that a direction's next byte belongs to, that byte included; none if the direction was lost before it.
 abbrev pub packet_with : List ℕ → ℕ → List ℕ
 packet_with before byte = cond (is_lost (stream before).rest) [] ((stream before).rest ++ byte ∷ [])
 
@@ -62,7 +62,7 @@ abbrev pub packet_by : Option Way → List (List ℕ) → ℕ → List ℕ
 packet_by None parts byte = []
 packet_by (Some way) parts byte = packet_with (carried way parts) byte
 
--- the newest record, as far as it is there
+-- the newest record, as far as it has come
 abbrev pub newest : List (List ℕ) → List ℕ
 newest [] = []
 newest (part ∷ before) = part
@@ -71,7 +71,7 @@ newest (part ∷ before) = part
 unfoldable pub part_at : List ℕ → ℕ → List ℕ
 part_at before byte = newest (begun (before ++ byte ∷ []))
 
--- the bytes so far of the packet that the next byte of a log belongs to, that byte included; none where it belongs to no packet, or the direction is lost
+-- the bytes so far of the packet that the next byte of a log belongs to, that byte included; none if it belongs to no packet, or the direction was lost before it
 unfoldable pub packet_at : List ℕ → ℕ → List ℕ
 packet_at before byte = cond (nat_lt 5 (length (part_at before byte))) (packet_by (way_of (kind_of (part_at before byte))) (begun before) byte) []
 
@@ -102,7 +102,7 @@ event_in part so_far = event_by (kind_of part) part so_far
 unfoldable pub event_at : List ℕ → ℕ → Option Event
 event_at before byte = if nat_lt (length before) 8 then None else event_in (part_at before byte) (packet_at before byte)
 
--- an event at its place, in front of those before it
+-- an event at its place, in front of the earlier ones
 abbrev pub with_event : ℕ → Option Event → List Placed → List Placed
 with_event record_no None earlier = earlier
 with_event record_no (Some event) earlier = record { place = record { position = length earlier + 1; record_no = record_no }; event = event } ∷ earlier

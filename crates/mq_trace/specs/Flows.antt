@@ -1,4 +1,4 @@
--- One direction within the body of a record that carries its bytes: what each byte of the body does there.
+-- One direction while the body of a SENT or RECV record is read: what each byte of the body does.
 use Rattle.std.specs.Prelude.{ℕ, ◌+◌, nat_le, Bool, false, ◌&&◌, ◌||◌, not, cond, List, [], ◌∷◌, ◌++◌, Option, Some, None, option_map, is_some}
 use Rattle.mq_trace.specs.declared.kind.Way.{Way}
 use Rattle.mq_trace.specs.declared.kind.Way.TheVariants as ways
@@ -10,13 +10,13 @@ use Rattle.mq_trace.specs.Connections.{needs_answer, is_answer}
 use Rattle.mq_trace.specs.Refusals.{or_else, first_standing, is_too_large, is_other_version}
 use Rattle.mq_trace.specs.Context.{Half, Context, half_for, so_far_in, half_after, put}
 
--- what doesn't change within a body: the direction, whether the tested end is a server, and the number of the record
+-- what stays the same within a body: the direction, whether the tested end is a server, and the number of the record
 pub record Bed : Type 0 where
   pub way : Way
   pub server : Bool
   pub record_no : ℕ
 
--- what does: how many bytes of the log came, the direction, how many events there are, whether a connection is open, and whether its CONNACK came
+-- what changes: how many bytes of the log came, the direction's state, how many events there are, whether a connection is open, and whether its CONNACK came
 pub record Flow : Type 0 where
   pub at : ℕ
   pub half : Half
@@ -24,7 +24,7 @@ pub record Flow : Type 0 where
   pub connected : Bool
   pub answered : Bool
 
--- an item that goes this way
+-- the event of an item in this direction
 abbrev pub going : Way → Item → Event
 going ways.Sent item = sent item
 going ways.Recv item = received item
@@ -33,12 +33,12 @@ going ways.Recv item = received item
 unfoldable pub flow_event : Bed → Flow → ℕ → Option Event
 flow_event bed f byte = option_map (going bed.way) (item_at (so_far_in f.half byte))
 
--- the event comes on an open connection whose CONNACK hasn't come, and needs it
+-- the event needs the CONNACK of its open connection, and that hasn't come
 abbrev pub comes_early : Flow → Option Event → Bool
 comes_early f None = false
 comes_early f (Some event) = needs_answer event && (f.connected && not f.answered)
 
--- the refusal that first stands with the next byte
+-- the refusal that applies first at the next byte
 unfoldable pub flow_refusal : ℕ → Bed → Flow → ℕ → Option Refusal
 flow_refusal limit bed f byte = first_standing (
     (is_too_large limit (so_far_in f.half byte) (fixed_header_of (so_far_in f.half byte)), refusals.TooLarge f.at)
@@ -64,7 +64,7 @@ flow_with bed f (Some event) = record f { events = f.events + 1; answered = is_a
 unfoldable pub flow_after : Bed → Flow → ℕ → Flow
 flow_after bed f byte = flow_with bed (record f { at = f.at + 1; half = half_after f.half byte }) (flow_event bed f byte)
 
--- what is kept after these bytes, the refusal that first stands at one of them, and the events that they complete, the newest first
+-- what is kept after these bytes, the refusal that applies first at one of them, and the events that they complete, the newest first
 abbrev pub flow_behind : Bed → Flow → List ℕ → Flow
 flow_behind bed f [] = f
 flow_behind bed f (byte ∷ bytes) = flow_behind bed (flow_after bed f byte) bytes
@@ -84,13 +84,13 @@ bed_in c way = record { way = way; server = c.header.server; record_no = c.recor
 abbrev pub flow_in : Context → Way → Flow
 flow_in c way = record { at = c.at; half = half_for c way; events = c.events; connected = c.connected; answered = c.answered }
 
--- a direction after bytes that went this way: what the flow keeps of it, or what was there of the other one
+-- a direction after bytes of this one: what the flow keeps of it, or what was kept before if it is the other one
 abbrev pub half_behind : Way → Way → Half → Half → Half
 half_behind ways.Sent ways.Sent new old = new
 half_behind ways.Recv ways.Recv new old = new
 half_behind _ _ new old = old
 
--- what is kept of the log after bytes of a body, from what the flow keeps after them; the record is whole with them, or not
+-- what is kept of the log after bytes of a body, from what the flow keeps after them; the flag says whether the record is then whole
 abbrev pub flowed : Context → Way → Bool → Flow → List ℕ → Context
 flowed c way whole f bytes = record c {
   at = f.at;

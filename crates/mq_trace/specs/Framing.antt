@@ -1,5 +1,5 @@
--- How a log is laid out, in version 1: a header of eight bytes, and records. A record is a byte that names its kind, four bytes
--- that tell the length of its body, the most significant first, and the body.
+-- How a log is laid out, in version 1: a header of eight bytes, and records. A record is a byte that names its kind, the length
+-- of its body in four bytes, the most significant first, and the body.
 use Rattle.std.specs.Prelude.{ℕ, ◌+◌, ◌==◌, nat_lt, nat_le, Bool, true, false, cond, if◌then◌else◌, List, [], ◌∷◌, ◌++◌, length, take, drop, reverse, slice_index, Option, Some, None}
 use Rattle.std.specs.Int.{w32, from_be_bytes}
 use Rattle.mq_trace.specs.declared.kind.RecordKind.{RecordKind}
@@ -10,7 +10,7 @@ use Rattle.mq_trace.specs.declared.header.Header.{Header}
 use Rattle.mq_trace.specs.Pieces.{Pieces, pieces}
 use Rattle.mq_packet.specs.Stream.{frame_size}
 
--- what the header says: byte 5 is 1 where the tested end is a server, and bit 0 of byte 6 says that releases are recorded
+-- what the header says: byte 5 is 1 if the tested end is a server, and bit 0 of byte 6 says whether releases are recorded
 abbrev pub header_by : List ℕ → Header
 header_by bytes = record { server = slice_index bytes 5 == 1; releases = slice_index bytes 6 == 1 }
 
@@ -23,7 +23,7 @@ kind_named byte = if byte == 1 then Some kinds.Open else (if byte == 2 then Some
 unfoldable pub kind_of : List ℕ → Option RecordKind
 kind_of part = kind_named (slice_index part 0)
 
--- the length that the four bytes after a record's first one tell
+-- the length that the four bytes after a record's first one spell
 unfoldable pub body_length : List ℕ → ℕ
 body_length part = from_be_bytes w32 (take 4 (drop 1 part))
 
@@ -31,7 +31,7 @@ body_length part = from_be_bytes w32 (take 4 (drop 1 part))
 unfoldable pub record_size : List ℕ → Option ℕ
 record_size bytes = if nat_lt (length bytes) 5 then None else (if nat_le (5 + body_length bytes) (length bytes) then Some (5 + body_length bytes) else None)
 
--- the records of a log, and what is there of one that isn't whole
+-- the whole records of a log, and the bytes so far of one that isn't whole
 unfoldable pub records : List ℕ → Pieces
 records bytes = pieces record_size (drop 8 bytes)
 
@@ -66,6 +66,6 @@ unfoldable pub carried : Way → List (List ℕ) → List ℕ
 carried way [] = []
 carried way (part ∷ before) = cond (opens (kind_of part)) [] (carried way before ++ if_way way (way_of (kind_of part)) (drop 5 part))
 
--- one direction's stream of packets: whole frames, and what is there of one that isn't whole
+-- one direction's stream of packets: whole frames, and the bytes so far of one that isn't whole
 unfoldable pub stream : List ℕ → Pieces
 stream bytes = pieces frame_size bytes

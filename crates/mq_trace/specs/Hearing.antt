@@ -15,7 +15,7 @@ use Rattle.mq_trace.specs.Flows.{going}
 use Rattle.mq_trace.specs.Events.{Item, Event, Placed, packet, bad, lost, opened, closed, rested, released, sent, received, events}
 use Rattle.mq_trace.specs.Refusals.{refused}
 
--- an item and an event apart from where their bytes lie in memory
+-- an item and an event, apart from where their bytes are in memory
 abbrev pub item_of : HeardItem → Item
 item_of (items.Packet p) = packet (unwrap_or (size_with (remaining_length p)) 0) (view p)
 item_of (items.Bad first rule at) = bad first rule at
@@ -33,7 +33,7 @@ event_of (heard.Recv item) = received (item_of item)
 abbrev pub placed_at : Place3 → HeardEvent → Placed
 placed_at place event = record { place = place; event = event_of event }
 
--- the event of a PUBLISH that goes this way, at its place
+-- the event of a PUBLISH in this direction, at its place
 abbrev pub published_at : Place3 → Way → Publish → Placed
 published_at place way p = record { place = place; event = going way (item_of (items.Packet (packets.Publish p))) }
 
@@ -44,6 +44,6 @@ pub record AreEvents (heard : List Placed) : Type 0 where
   pub unrefused : refused limit log ≡ None
   pub are : heard ≡ events log
 
--- A sink refused what came next: where it had received other events, and these follow them in a log, it has come to what refusing after the others is.
+-- A sink refused these events: if it had received some earlier events, which these follow in a log, it is in the state of having refused after the earlier ones.
 abbrev pub Declines : {S : Type 0} → (S → List Placed → Type 0) → (S → List Placed → Refusal → Type 0) → S → S → List Placed → Refusal → Type 0
 Declines agrees refuses old new completed own = (earlier : List Placed) → agrees old earlier → AreEvents (completed ++ earlier) → refuses new earlier own

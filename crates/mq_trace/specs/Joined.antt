@@ -1,4 +1,4 @@
--- The events of a log, one connection and one direction at a time: they are what that direction's stream of packets holds.
+-- The events of a log, one connection and one direction at a time: they are the items of that direction's stream of packets.
 use Rattle.std.specs.Prelude.{ℕ, ◌+◌, ◌==◌, cond, List, [], ◌∷◌, ◌++◌, length, drop, slice_index, Option, Some, None}
 use Rattle.mq_trace.specs.declared.kind.Way.{Way}
 use Rattle.mq_trace.specs.declared.kind.Way.TheVariants as ways
@@ -29,12 +29,12 @@ if_some (Some item) = item ∷ []
 abbrev pub frame_item : List ℕ → Option Item
 frame_item frame = item_read (length frame) (slice_index frame 0) (read_frame frame)
 
--- what frames are, in order; one of another protocol version is nothing
+-- the items of frames, in order; a CONNECT of another protocol version is none
 abbrev pub frame_items : List (List ℕ) → List Item
 frame_items [] = []
 frame_items (frame ∷ frames) = if_some (frame_item frame) ++ frame_items frames
 
--- What a stream holds: what its frames are, in order, and that it is lost, if it is, at the end (MQTT 5.0, sections 2.1 and 1.5.5).
+-- The items of a stream: those of its frames, in order, and at the end `lost`, if the rest can't be parsed (MQTT 5.0, sections 2.1 and 1.5.5).
 abbrev pub stream_items : Pieces → List Item
 stream_items cut = frame_items cut.whole ++ cond (is_lost cut.rest) (lost ∷ []) []
 
@@ -43,7 +43,7 @@ abbrev pub opened_events : List Placed → ℕ
 opened_events [] = 0
 opened_events (e ∷ past) = cond (begins e.event) (opened_events past + 1) (opened_events past)
 
--- the item of an event, if it goes this way
+-- the item of an event, if it is in this direction
 abbrev pub item_going : Way → Event → Option Item
 item_going ways.Sent (sent item) = Some item
 item_going ways.Recv (received item) = Some item

@@ -1,4 +1,4 @@
--- What a reader of a log keeps in memory, and what it stands for.
+-- What a reader of a log keeps in memory, and what that means for the log.
 use Rattle.std.specs.Prelude.{◌≡◌, ℕ, ◌+◌, ◌-◌, ◌*◌, ◌<◌, ◌≤◌, ◌⊎◌, Bool, true, false, List, [], ◌∷◌, ◌++◌, length, slice_index, Option, Some, None}
 use Rattle.mq_trace.specs.declared.kind.RecordKind.{RecordKind}
 use Rattle.mq_trace.specs.declared.kind.RecordKind.TheVariants as kinds
@@ -18,7 +18,7 @@ use Rattle.mq_trace.specs.Hearing.{AreEvents}
 use Rattle.mq_trace.specs.Directing.{FlowWhy}
 use Rattle.mq_trace.specs.declared.refusal.Refusal.{Refusal}
 
--- a direction, apart from where its bytes lie
+-- a direction, apart from where its bytes are in memory
 abbrev pub half_in : Direction → Half
 half_in d = record { unfinished = d.unfinished.items; lost = d.lost }
 
@@ -27,7 +27,7 @@ abbrev pub spelled_from : ℕ → List ℕ → ℕ
 spelled_from number [] = number
 spelled_from number (byte ∷ bytes) = spelled_from (number * 256 + byte) bytes
 
--- This part of a record is where the stage says.
+-- The unfinished record is this part, and the stage says so.
 abbrev pub IsAt : Stage → List ℕ → Type 0
 IsAt stages.Between part = part ≡ []
 IsAt (stages.Head kind count length_so_far) part = (first : ℕ) × (bytes : List ℕ) × (part ≡ first ∷ bytes)
@@ -36,7 +36,7 @@ IsAt (stages.Body way left) part = (kind : RecordKind) × (kind_of part ≡ Some
 IsAt (stages.Release None) part = (kind_of part ≡ Some kinds.Release) × (length part ≡ 5) × (body_length part ≡ 2)
 IsAt (stages.Release (Some high)) part = (kind_of part ≡ Some kinds.Release) × (length part ≡ 6) × (body_length part ≡ 2) × (slice_index part 5 ≡ high)
 
--- what a reader keeps of a log whose unfinished record has this part
+-- what a reader keeps of a log, if this part is its unfinished record
 abbrev pub context_of : Reading → List ℕ → Context
 context_of r part = record {
   at = r.at;
@@ -50,7 +50,7 @@ context_of r part = record {
   answered = r.connections.answered;
 }
 
--- How many bytes of the unfinished record came, at most.
+-- A bound on how many bytes of the unfinished record came.
 abbrev pub begun_in : Stage → ℕ
 begun_in stages.Between = 0
 begun_in (stages.Head kind count length_so_far) = 1 + count
@@ -65,7 +65,7 @@ IsWithin (stages.Head kind count length_so_far) = (count ≤ 3) × ((count ≡ 0
 IsWithin (stages.Body way left) = (1 ≤ left) × (left ≤ 1048576)
 IsWithin (stages.Release first) = Unit {0}
 
--- A packet whose fixed header is whole is no larger than the limit, and isn't whole.
+-- A packet whose fixed header is whole isn't larger than the limit, and isn't whole.
 abbrev pub IsShort : ℕ → List ℕ → FixedHeader → Type 0
 IsShort limit bytes headers.Short = length bytes ≤ 4
 IsShort limit bytes headers.Lost = ⊥
@@ -75,7 +75,7 @@ IsShort limit bytes (headers.Whole header size) = (length bytes < size) × (size
 abbrev pub IsUnfinished : ℕ → Half → Type 0
 IsUnfinished limit half = IsShort limit half.unfinished (fixed_header_of half.unfinished) × (half.lost ≡ true → half.unfinished ≡ [])
 
--- What holds of all that is kept of a log that wasn't refused.
+-- What holds of the state that is kept of a log that wasn't refused.
 pub record IsSound (r : Reading) : Type 0 where
   pub counted : r.at ≤ 8 + 1048581 * r.records + begun_in r.stage
   pub begun : 0 < begun_in r.stage → r.records < 4294967295
@@ -87,19 +87,19 @@ pub record IsSound (r : Reading) : Type 0 where
   pub sent : IsUnfinished r.limit (half_in r.sent)
   pub recv : IsUnfinished r.limit (half_in r.recv)
 
--- With these bytes a reader comes from one state to another: none of them is refused, and they complete these events, the newest first.
+-- These bytes bring a reader from one state to another: none of them is refused, and they complete these events, the newest first.
 pub record Advances (r r' : Reading) (bytes : List ℕ) (heard : List Placed) : Type 0 where
   pub limit : r'.limit ≡ r.limit
   pub each : (part : List ℕ) → IsAt r.stage part → (part' : List ℕ) × IsAt r'.stage part' × (refused_in r.limit (context_of r part) bytes ≡ None)
       × (behind (context_of r part) bytes ≡ context_of r' part') × (heard_in (context_of r part) bytes ≡ heard)
 
--- With these bytes a reader comes from one state to another, and a sink that had received what came before has received the events too that they complete.
+-- These bytes bring a reader from one state to another, and a sink that had received the earlier events has also received those that the bytes complete.
 pub record Comes {S : Type 0} (agrees : S → List Placed → Type 0) (r r' : Reading) (bytes : List ℕ) (old new : S) : Type 0 where
   pub heard : List Placed
   pub advances : Advances r r' bytes heard
   pub told : (earlier : List Placed) → agrees old earlier → AreEvents (heard ++ earlier) → agrees new (heard ++ earlier)
 
--- These bytes aren't taken in: none before one of them is refused or completes anything, and that one isn't taken in.
+-- These bytes aren't all taken in: one of them isn't, and none before it is refused or completes anything.
 pub record StepStops {S : Type 0} (declines : S → S → List Placed → Refusal → Type 0) (r : Reading) (bytes : List ℕ) (old new : S) (refusal : Refusal) : Type 0 where
   pub taken : List ℕ
   pub byte : ℕ

@@ -1,4 +1,4 @@
--- Which logs are refused: the earliest byte with which a condition stands decides, and at one byte the lowest number.
+-- Which logs are refused: the earliest byte at which a condition applies decides, and at one byte the lowest number.
 use Rattle.std.specs.Prelude.{ℕ, ◌==◌, nat_lt, nat_le, Bool, true, false, ◌&&◌, ◌||◌, not, cond, if◌then◌else◌, List, [], ◌∷◌, ◌++◌, length, reverse, slice_index, Option, Some, None, is_some, is_none, Result, Ok, Err}
 use Rattle.mq_packet.specs.declared.header.FixedHeader.{FixedHeader}
 use Rattle.mq_packet.specs.declared.header.FixedHeader.TheVariants as headers
@@ -18,7 +18,7 @@ use Rattle.mq_trace.specs.Events.{Event, event_in, read_frame, part_at, packet_a
 abbrev pub magic : List ℕ
 magic = 77 ∷ 81 ∷ 84 ∷ 82 ∷ []
 
--- a byte of the header, at this offset, that can't stand there: bytes 0 to 3 are `MQTR`, byte 4 is the version, 1, byte 5 the role, 0 or 1,
+-- the refusal of a byte of the header at this offset, if it is invalid: bytes 0 to 3 are `MQTR`, byte 4 is the version, 1, byte 5 the role, 0 or 1,
 -- byte 6 flags, of which only bit 0 is used, and byte 7 is 0
 unfoldable pub header_refusal : ℕ → ℕ → Option Refusal
 header_refusal at byte =
@@ -33,7 +33,7 @@ abbrev pub or_else : {A : Type 0} → Option A → Option A → Option A
 or_else (Some a) other = Some a
 or_else None other = other
 
--- Where a byte after the header stands in its log, and what came before it.
+-- A byte after the header: where it is in its log, and what came before it.
 pub record Situation : Type 0 where
   -- the byte's offset in the log
   pub at : ℕ
@@ -43,7 +43,7 @@ pub record Situation : Type 0 where
   pub part : List ℕ
   -- the number of that record
   pub record_no : ℕ
-  -- the bytes so far of the byte's packet, the byte included; none where it belongs to no packet, or its direction is lost
+  -- the bytes so far of the byte's packet, the byte included; none if it belongs to no packet, or its direction is lost
   pub so_far : List ℕ
   -- the events before it: how many, whether a connection is open, and whether the latest one's CONNACK came
   pub events : ℕ
@@ -80,7 +80,7 @@ allows (Some kinds.Open) n = n == 0
 allows (Some kinds.Close) n = n == 0
 allows (Some kinds.Rest) n = n == 0
 
--- a record of this kind stands on a connection
+-- a record of this kind is allowed only on an open connection
 abbrev pub needs_connection : Option RecordKind → Bool
 needs_connection (Some kinds.Sent) = true
 needs_connection (Some kinds.Recv) = true
@@ -112,17 +112,17 @@ is_other_version (Ok entry) = false
 abbrev pub ends_packet : Situation → Bool
 ends_packet s = is_some (frame_size s.so_far)
 
--- A session packet or a RELEASE comes on an open connection whose CONNACK hasn't come. A RELEASE between connections is on none.
+-- A session packet or a RELEASE comes on an open connection whose CONNACK hasn't come. A RELEASE between connections isn't early.
 abbrev pub is_early : Situation → Option Event → Bool
 is_early s None = false
 is_early s (Some event) = needs_answer event && (s.connected && not s.answered)
 
--- the refusal of the first line whose condition stands
+-- the refusal of the first line whose condition applies
 abbrev pub first_standing : List (Bool × Refusal) → Option Refusal
 first_standing [] = None
 first_standing (line ∷ lines) = cond line.0 (Some line.1) (first_standing lines)
 
--- The conditions that stand with a byte after the header, in the order of their numbers.
+-- The conditions of the refusals of a byte after the header, in the order of their numbers.
 abbrev pub conditions : ℕ → Situation → List (Bool × Refusal)
 conditions limit s =
     (is_first s && is_none (kind_of s.part), refusals.Kind s.at)
@@ -139,7 +139,7 @@ conditions limit s =
 unfoldable pub record_refusal : ℕ → Situation → Option Refusal
 record_refusal limit s = first_standing (conditions limit s)
 
--- the refusal that first stands with the next byte of a log
+-- the refusal that applies first at the next byte of a log
 unfoldable pub refusal_at : ℕ → List ℕ → ℕ → Option Refusal
 refusal_at limit before byte = if nat_lt (length before) 8 then header_refusal (length before) byte else record_refusal limit (situation before byte)
 
@@ -148,7 +148,7 @@ unfoldable pub refused_back : ℕ → List ℕ → Option Refusal
 refused_back limit [] = None
 refused_back limit (byte ∷ earlier) = or_else (refused_back limit earlier) (refusal_at limit (reverse earlier) byte)
 
--- The refusal of a log, if a condition stands at one of its bytes.
+-- The refusal of a log, if a condition applies at one of its bytes.
 unfoldable pub refused : ℕ → List ℕ → Option Refusal
 refused limit bytes = refused_back limit (reverse bytes)
 

@@ -1,4 +1,4 @@
--- How a refusal is told: its number, its name and its byte.
+-- How a refusal is reported: its number, its name and its byte.
 use Rattle.std.specs.Prelude.{ℕ, List, [], ◌∷◌, codes, decimal}
 use Rattle.std.specs.List.{join_with_byte}
 use Rattle.mq_trace.specs.declared.refusal.Refusal.{Refusal}
@@ -46,7 +46,7 @@ name_of (TooLong at) = codes "TooLong"
 name_of (Read at) = codes "Read"
 name_of (Memory at) = codes "Memory"
 
--- the offset in the log of the byte at which its condition first stands
+-- the offset in the log of the byte at which its condition first applies
 abbrev pub byte_of : Refusal → ℕ
 byte_of (Header at) = at
 byte_of (Version at) = at
@@ -65,7 +65,7 @@ byte_of (TooLong at) = at
 byte_of (Read at) = at
 byte_of (Memory at) = at
 
--- a refusal: its number, its name, and where it stands
+-- the line on a refusal: its number, its name and its byte
 abbrev pub refused_text : Refusal → List ℕ
 refused_text refusal = spaced (codes "refused" ∷ decimal (number_of refusal) ∷ name_of refusal ∷ codes "at" ∷ decimal (byte_of refusal) ∷ [])
 

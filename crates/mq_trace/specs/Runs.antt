@@ -1,4 +1,4 @@
--- What bytes do that stand after a log, as functions of what is kept of the log.
+-- What the next bytes of a log do, as functions of what is kept of the log.
 use Rattle.std.specs.Prelude.{ℕ, List, [], ◌∷◌, ◌++◌, Option, Some, None}
 use Rattle.mq_trace.specs.declared.refusal.Refusal.{Refusal}
 use Rattle.mq_trace.specs.Events.{Placed}
@@ -10,7 +10,7 @@ abbrev pub behind : Context → List ℕ → Context
 behind c [] = c
 behind c (byte ∷ bytes) = behind (after c byte) bytes
 
--- the refusal that first stands at one of these bytes
+-- the refusal that applies first at one of these bytes
 abbrev pub refused_in : ℕ → Context → List ℕ → Option Refusal
 refused_in limit c [] = None
 refused_in limit c (byte ∷ bytes) = or_else (refusal_for limit c byte) (refused_in limit (after c byte) bytes)

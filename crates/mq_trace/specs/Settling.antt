@@ -14,7 +14,7 @@ IsStep half limit bytes (steps.More size) = (header : ℕ) × (fixed_header_of h
 IsStep half limit bytes steps.Beginning = (half.unfinished ≡ []) × IsShort limit bytes (fixed_header_of bytes)
 IsStep half limit bytes steps.Byte = length half.unfinished ≤ 4
 
--- These bytes of a packet are those of an unfinished one, and one byte more.
+-- These bytes of a packet are those of an unfinished one, and one more byte.
 pub record IsByteMore (limit : ℕ) (before : List ℕ) (byte : ℕ) (bytes : List ℕ) : Type 0 where
   pub unfinished : IsUnfinished limit (record { unfinished = before; lost = false })
   pub is : bytes ≡ before ++ byte ∷ []

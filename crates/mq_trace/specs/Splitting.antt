@@ -1,4 +1,4 @@
--- What stays of a log's events where its records are cut in another way.
+-- What stays the same of a log's events if its records are cut differently.
 use Rattle.std.specs.Prelude.{ℕ}
 use Rattle.mq_trace.specs.Events.{Event, Placed}
 

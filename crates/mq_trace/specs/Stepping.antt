@@ -1,4 +1,4 @@
--- The steps of a log's reader: its state after the bytes of one.
+-- The steps of a log's reader: its state after the bytes of each.
 use Rattle.std.specs.Prelude.{◌≡◌, ℕ, ◌+◌, ◌==◌, nat_lt, ◌&&◌, not, cond, if◌then◌else◌, [], ◌∷◌, Option, Some, None, Result, Ok, Err}
 use Rattle.mq_trace.specs.declared.kind.RecordKind.{RecordKind}
 use Rattle.mq_trace.specs.declared.kind.Way.{Way}
@@ -33,7 +33,7 @@ behind_header r byte = record r {
   };
 }
 
--- what a record of this kind meets with its first byte
+-- the refusal that applies at the first byte of a record of this kind
 abbrev pub met_by_kind : Reading → RecordKind → Option Refusal
 met_by_kind r kind = first_standing (
     (is_open_kind (Some kind) && r.connections.connected, refusals.Nested r.at)
@@ -66,14 +66,14 @@ marked r event = record r {
   connections = connections_with r.header.server r.connections event;
 }
 
--- where so many bytes of a record's body are still to come
+-- with this many bytes of a record's body still to come
 abbrev pub leaving : Reading → Way → ℕ → Reading
 leaving r way left = record r {
   records = if left == 0 then r.records + 1 else r.records;
   stage = if left == 0 then stages.Between else stages.Body way left;
 }
 
--- the direction that a body carries, and what is kept of it
+-- the direction that a body carries, from the reader's state
 abbrev pub bed_for : Reading → Way → Bed
 bed_for r way = record { way = way; server = r.header.server; record_no = r.records + 1 }
 
@@ -84,11 +84,11 @@ direction_for r ways.Recv = r.recv
 abbrev pub flow_for : Reading → Way → Flow
 flow_for r way = flow_of r.at (half_in (direction_for r way)) r.connections
 
--- the reader, with another direction this way
+-- the reader, with this direction replaced
 abbrev pub redirected : Reading → Way → Direction → Reading
 redirected r ways.Sent d = record r { sent = d }
 redirected r ways.Recv d = record r { recv = d }
 
--- after bytes of a body, of which so many are still to come
+-- after bytes of a body, of which this many are still to come
 abbrev pub carried_on : Reading → Way → ℕ → Direction → Connections → ℕ → Reading
 carried_on r way at d connections left = leaving (record (redirected r way d) { at = at; connections = connections }) way left

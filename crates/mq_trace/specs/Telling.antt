@@ -1,4 +1,4 @@
--- Telling a sink of an event: what can stand against it, and what is kept after it.
+-- Emitting an event to a sink: which refusals can apply, and what is kept after it.
 use Rattle.std.specs.Prelude.{◌≡◌, ℕ, ◌+◌, ◌⊎◌, nat_le, Bool, ◌&&◌, ◌||◌, not, List, [], ◌∷◌, Option, Some, None}
 use Rattle.mq_trace.specs.declared.refusal.Refusal.{Refusal}
 use Rattle.mq_trace.specs.declared.refusal.Refusal.TheVariants as refusals
@@ -8,14 +8,14 @@ use Rattle.mq_trace.specs.Connections.{begins, ends, is_answer, needs_answer}
 use Rattle.mq_trace.specs.Refusals.{first_standing}
 use Rattle.mq_trace.specs.Refusing.{moved}
 
--- the refusal that an event meets which this byte completes
+-- the refusal that applies to an event that this byte completes
 abbrev pub met_by : ℕ → Connections → Event → Option Refusal
 met_by at connections event = first_standing (
     (needs_answer event && (connections.connected && not connections.answered), refusals.Early at)
     ∷ (nat_le 4294967295 connections.events, refusals.TooLong at)
     ∷ [])
 
--- what is kept of the events, after one more
+-- what is kept of the events after one more
 abbrev pub connections_with : Bool → Connections → Event → Connections
 connections_with server connections event = record {
   events = connections.events + 1;
@@ -27,7 +27,7 @@ connections_with server connections event = record {
 abbrev pub next_placed : Connections → ℕ → Event → Placed
 next_placed connections record_no event = record { place = record { position = connections.events + 1; record_no = record_no }; event = event }
 
--- The sink refused what this byte completed: these events, the newest first, of which there is one.
+-- The sink refused what this byte completed: these events, the newest first, at least one.
 pub record RefusedBySink {S : Type 0} (declines : S → S → List Placed → Refusal → Type 0) (at : ℕ) (completed : List Placed) (old new : S) (refusal : Refusal) : Type 0 where
   pub own : Refusal
   pub refused : declines old new completed own

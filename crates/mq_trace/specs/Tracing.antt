@@ -1,4 +1,4 @@
--- What a tracer has come to, and what its calls answer.
+-- The state of a tracer, and what its calls return.
 use Rattle.std.specs.Prelude.{◌≡◌, ℕ, ◌⊎◌, Bool, true, false, List, [], ◌∷◌, ◌++◌, length, Option, Some, None, is_some, Result, Ok, Err}
 use Rattle.mq_trace.specs.declared.refusal.Refusal.{Refusal}
 use Rattle.mq_trace.specs.declared.refusal.Refusal.TheVariants as refusals
@@ -12,7 +12,7 @@ use Rattle.mq_trace.specs.Context.{context}
 use Rattle.mq_trace.specs.Directing.{NeedsMemory}
 use Rattle.mq_trace.specs.Keeping.{IsAt, context_of}
 
--- a tracer: the refusal that it came to, and what it keeps of the log
+-- a tracer: the refusal that it reported, if any, and what it keeps of the log
 pub record Traced : Type 0 where
   pub refusal : Option Refusal
   pub reading : Reading
@@ -38,14 +38,14 @@ pub record IsRefused {S : Type 0} (agrees : S → List Placed → Type 0) (limit
   pub met : refusal_at limit (log ++ bytes) byte ≡ Some refusal
   pub heard : HasHeard agrees log bytes old new
 
--- Memory was refused for the byte after these, which belongs to a packet, and doesn't show it to be too large. The sink has received all events before the byte, and none of it.
+-- There was no memory for the byte after these, which belongs to a packet and doesn't show it to be too large. The sink has received all events before the byte, and none of it.
 pub record LacksMemory {S : Type 0} (agrees : S → List Placed → Type 0) (limit : ℕ) (log bytes : List ℕ) (byte : ℕ) (old new : S) (refusal : Refusal) : Type 0 where
   pub is : refusal ≡ refusals.Memory (length (log ++ bytes))
   pub needs : NeedsMemory limit (packet_at (log ++ bytes) byte)
   pub heard : HasHeard agrees log bytes old new
 
--- The sink refused the event that the byte after these completes, at which no refusal's condition applies. If it had received the events of the log, it has come to what
--- refusing after all events before the byte is.
+-- The sink refused the event that the byte after these completes, at which no refusal's condition applies. If it had received the events of the log, it is in
+-- the state of having refused after all events before the byte.
 pub record SinkRefuses {S : Type 0} (agrees : S → List Placed → Type 0) (refuses : S → List Placed → Refusal → Type 0) (limit : ℕ) (log bytes : List ℕ) (byte : ℕ) (old new : S)
     (refusal : Refusal) : Type 0 where
   pub unmet : refusal_at limit (log ++ bytes) byte ≡ None
@@ -61,7 +61,7 @@ Why {S} agrees refuses limit log bytes byte old new refusal =
     ⊎ LacksMemory agrees limit log bytes byte old new refusal
     ⊎ SinkRefuses agrees refuses limit log bytes byte old new refusal
 
--- A piece after a log isn't taken in: some byte of it isn't, and all before it are.
+-- A piece after a log isn't all taken in: one byte of it isn't, and all before it are.
 pub record Stops {S : Type 0} (agrees : S → List Placed → Type 0) (refuses : S → List Placed → Refusal → Type 0) (limit : ℕ) (log piece : List ℕ) (old new : S) (refusal : Refusal) : Type 0 where
   pub taken : List ℕ
   pub byte : ℕ
@@ -70,12 +70,12 @@ pub record Stops {S : Type 0} (agrees : S → List Placed → Type 0) (refuses :
   pub unrefused : refused limit (log ++ taken) ≡ None
   pub why : Why agrees refuses limit log taken byte old new refusal
 
--- What feeding a piece after a log answers.
+-- What feeding a piece after a log returns.
 abbrev pub Takes : {S : Type 0} → (S → List Placed → Type 0) → (S → List Placed → Refusal → Type 0) → ℕ → List ℕ → List ℕ → S → S → Result (Unit {0}) Refusal → Type 0
 Takes agrees refuses limit log piece old new (Ok _) = (refused limit (log ++ piece) ≡ None) × HasHeard agrees log piece old new
 Takes agrees refuses limit log piece old new (Err refusal) = Stops agrees refuses limit log piece old new refusal
 
--- What ending a log that wasn't refused answers.
+-- What ending a log that wasn't refused returns.
 abbrev pub Ends : List ℕ → Result (Unit {0}) Refusal → Type 0
 Ends log (Ok _) = is_cut_short log ≡ false
 Ends log (Err refusal) = (refusal ≡ refusals.Cut (length log)) × (is_cut_short log ≡ true)

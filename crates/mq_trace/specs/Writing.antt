@@ -46,7 +46,7 @@ record_body (received body) = body
 record_body (released identifier) = to_be_bytes w16 identifier
 record_body _ = []
 
--- the record whose kind has this byte: the byte, the length of the body in four bytes, the most significant first, and the body
+-- the bytes of a record: the byte of its kind, the length of the body in four bytes, the most significant first, and the body
 abbrev pub framed : ℕ → List ℕ → List ℕ
 framed kind body = kind ∷ to_be_bytes w32 (length body) ++ body
 
@@ -54,7 +54,7 @@ framed kind body = kind ∷ to_be_bytes w32 (length body) ++ body
 abbrev pub record_bytes : Record → List ℕ
 record_bytes entry = framed (kind_byte (record_kind entry)) (record_body entry)
 
--- The known bytes grew by a beginning of the text, and by nothing else. It isn't all of the text.
+-- The known bytes grew by a beginning of the text, but not all of it, and by nothing else.
 pub record AppendsBeginning (old new : Option (List ℕ)) (text : List ℕ) : Type 0 where
   pub written : List ℕ
   pub unwritten : List ℕ
@@ -73,7 +73,7 @@ pub record WritesAll {W : Type 0} (contents : W → Option (List ℕ)) (old new 
   pub goes_on : new.has_failed ≡ false
   pub appended : Appends (contents old.writer) (contents new.writer) bytes
 
--- A call has failed to write these bytes: where an earlier call had failed it wrote nothing, and else a beginning of them.
+-- A call has failed to write these bytes: if an earlier call had failed it wrote nothing, else a beginning of them.
 pub record FailsToWrite {W : Type 0} (contents : W → Option (List ℕ)) (old new : Tracing W) (bytes : List ℕ) : Type 0 where
   pub failed : new.has_failed ≡ true
   pub unchanged : old.has_failed ≡ true → new.writer ≡ old.writer

@@ -1,4 +1,4 @@
-//! What is kept of the events of a log, and telling a sink of the next one.
+//! What is kept of the events of a log, and emitting the next one to a sink.
 
 ghost use Rattle.std.specs.Prelude.{◌≡◌, ◌+◌, ℕ, Bool, [], ◌∷◌, ◌<◌, ◌&&◌, not, List, Some, None, OnOk, IfErr, unwrap_or};
 ghost use Rattle.mq_packet.specs.Entries.{PublishFields, publish};
@@ -29,11 +29,11 @@ pub struct Connections {
     pub answered: bool,
 }
 
-/// Tells a sink of the next event, which the byte at this offset of the log completes, in the record of this number.
+/// Emits the next event to a sink. The byte at this offset of the log completes it, in the record of this number.
 ///
 /// # Errors
 ///
-/// `Early` where the event needs its connection's CONNACK, which hasn't come; `TooLong` where there are 4,294,967,295 events
+/// `Early` if the event needs its connection's CONNACK, which hasn't come; `TooLong` if there are 4,294,967,295 events
 /// already; the sink's own refusal. Each names this byte.
 #[inline(always)]
 pub fn tell<S: Sink>(
@@ -55,12 +55,12 @@ pub fn tell<S: Sink>(
     }
 }
 
-/// Tells a sink of the next event, which is a PUBLISH that goes this way and has so many bytes, as `tell` tells it of any event.
-/// It needs its connection's CONNACK, and no connection begins, is answered or ends with it.
+/// Emits the next event, a PUBLISH of `size` bytes in this direction, as any event is emitted. A PUBLISH needs its connection's
+/// CONNACK, and doesn't begin, answer or end a connection.
 ///
 /// # Errors
 ///
-/// As in `tell`.
+/// As for any event.
 #[inline(always)]
 pub fn tell_published<S: Sink>(
     connections: &mut Connections,
@@ -84,7 +84,7 @@ pub fn tell_published<S: Sink>(
     }
 }
 
-/// The refusal that a PUBLISH meets which the byte at this offset completes.
+/// The refusal that applies to a PUBLISH that the byte at this offset completes.
 #[inline(always)]
 fn met_by_publish(connections: Connections, at: u64) -> Option<Refusal>
     ensures met { (way : Way) (size : ℕ) (fields : PublishFields) → result ≡ met_by at connections (going way (packet size (publish fields))) }
@@ -99,7 +99,7 @@ fn met_by_publish(connections: Connections, at: u64) -> Option<Refusal>
     }
 }
 
-/// Tells a sink of the next event, a PUBLISH that meets no refusal.
+/// Emits the next event, a PUBLISH to which no refusal applies.
 ///
 /// # Errors
 ///
@@ -134,7 +134,7 @@ fn tell_next_publish<S: Sink>(
     }
 }
 
-/// The refusal that an event meets which the byte at this offset completes.
+/// The refusal that applies to an event that the byte at this offset completes.
 #[inline(always)]
 fn met_by(connections: Connections, at: u64, event: &Event<'_>) -> Option<Refusal>
     ensures met { result ≡ met_by at connections (event_of event.now) }
@@ -157,7 +157,7 @@ fn is_early(connections: Connections, event: &Event<'_>) -> bool
     needs_answer(event) && connections.connected && !connections.answered
 }
 
-/// Tells a sink of the next event, which meets no refusal.
+/// Emits the next event, to which no refusal applies.
 ///
 /// # Errors
 ///
@@ -191,7 +191,7 @@ fn tell_next<S: Sink>(
     }
 }
 
-/// What is kept after one event more.
+/// What is kept after one more event.
 #[inline(always)]
 fn connections_with(connections: Connections, server: bool, event: &Event<'_>) -> Connections
     requires { connections.events < 4294967295 }
@@ -237,7 +237,7 @@ fn is_answer(server: bool, event: &Event<'_>) -> bool
     }
 }
 
-/// Whether the event is a session packet or a RELEASE, which on a connection stand after its CONNACK (MQTT 5.0, section 4.1).
+/// Whether the event is a session packet or a RELEASE: on a connection it must come after the CONNACK (MQTT 5.0, section 4.1).
 #[inline(always)]
 fn needs_answer(event: &Event<'_>) -> bool
     ensures { result ≡ needs_answer (event_of event.now) }

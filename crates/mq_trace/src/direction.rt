@@ -1,6 +1,6 @@
 //! One direction of a connection: its stream of packets, which the bodies of records carry in any cutting.
 //!
-//! What a whole packet takes on its way to the sink is inlined, so that it isn't moved; what is rare stays apart.
+//! The path of a whole packet to the sink is inlined, so that the packet isn't moved; rare cases are functions of their own.
 
 ghost use Rattle.std.specs.Prelude.{◌≡◌, ◌+◌, ◌-◌, ◌<◌, ◌≤◌, ◌^◌, ◌++◌, ◌⊎◌, ℕ, ◌∷◌, [], List, Some, None, OnOk, OnErr, IfOk, IfErr, Err, length, take, drop, slice_index, option_map, true, false};
 ghost use Rattle.mq_packet.specs.Stream.{frame_size, fixed_header_of};
@@ -37,20 +37,20 @@ pub struct Direction {
     pub lost: bool,
 }
 
-/// Where the bytes of a body stand in their log.
+/// What stays the same while the body of a record is read.
 #[derive(Clone, Copy, Debug, PartialEq, Eq)]
 pub struct Bed {
-    /// The direction that they go.
+    /// The direction of the body's bytes.
     pub way: Way,
     /// Whether the tested end is a server.
     pub server: bool,
-    /// The number of their record.
+    /// The number of the record.
     pub record_no: u32,
     /// The largest packet that is read, in bytes.
     pub limit: u32,
 }
 
-/// What the next bytes of a direction are to it.
+/// What the next bytes of a direction are.
 #[derive(Clone, Copy, Debug, PartialEq, Eq)]
 pub enum Step {
     /// A whole packet, within the limit.
@@ -69,7 +69,7 @@ pub enum Step {
 }
 
 impl Direction {
-    /// A direction in which nothing came.
+    /// A direction in which nothing has come.
     pub fn new(alloc: Global) -> Self
         ensures { half_in result ≡ record { unfinished = []; lost = false } }
     {
@@ -79,7 +79,7 @@ impl Direction {
         }
     }
 
-    /// Begins anew, as each connection does.
+    /// Starts over, as at the beginning of each connection.
     pub fn clear(&mut self)
         ensures { half_in self.new ≡ record { unfinished = []; lost = false } }
     {
@@ -87,12 +87,12 @@ impl Direction {
         self.lost = false;
     }
 
-    /// Takes in the next bytes of the direction, of which the first stands at this offset of the log: those of the packet that
-    /// the first one belongs to. Answers how many.
+    /// Takes in the next bytes of the direction, up to the end of the packet that the first one belongs to, and returns how many.
+    /// The first one has this offset in the log.
     ///
     /// # Errors
     ///
-    /// The refusal that first stands with one of them; the sink's own refusal; `Memory`.
+    /// The refusal that applies first at one of them; the sink's own refusal; `Memory`.
     #[inline(always)]
     pub fn take<S: Sink>(
         &mut self,
@@ -165,11 +165,11 @@ impl Direction {
         }
     }
 
-    /// Goes on with an unfinished packet of this size, whose fixed header is whole. Answers how many bytes it takes.
+    /// Takes in more of an unfinished packet of this size, whose fixed header is whole. Returns how many bytes it took.
     ///
     /// # Errors
     ///
-    /// The refusal that stands with the packet's last byte; the sink's own refusal; `Memory`.
+    /// The refusal that applies at the packet's last byte; the sink's own refusal; `Memory`.
     #[inline(never)]
     fn go_on<S: Sink>(
         &mut self,
@@ -209,7 +209,7 @@ impl Direction {
     ///
     /// # Errors
     ///
-    /// `Memory`, at the first of them, where there was no room for all and more wasn't to be had. Nothing is kept then.
+    /// `Memory`, at the first of them, if there is no memory for all of them. Nothing is kept then.
     #[inline(never)]
     fn keep(&mut self, at: u64, bytes: &[u8]) -> Result<(), Refusal>
         ensures ok { OnOk result (half_in self.new ≡ record { unfinished = self.old.unfinished.items ++ bytes.now; lost = self.old.lost }) }
@@ -227,7 +227,7 @@ impl Direction {
     ///
     /// # Errors
     ///
-    /// The refusal that stands with the last of them; the sink's own refusal; `Memory`.
+    /// The refusal that applies at the last of them; the sink's own refusal; `Memory`.
     #[inline(never)]
     fn end<S: Sink>(
         &mut self,
@@ -253,12 +253,11 @@ impl Direction {
         }
     }
 
-    /// Tells a sink of the packet that was unfinished and now is whole, whose last byte stands at this offset of the log, and lets
-    /// it go.
+    /// Emits the packet that was unfinished and is now whole, and drops its bytes. Its last byte has this offset in the log.
     ///
     /// # Errors
     ///
-    /// The refusal that stands with its last byte; the sink's own refusal.
+    /// The refusal that applies at its last byte; the sink's own refusal.
     fn tell_kept<S: Sink>(
         &mut self,
         bed: Bed,
@@ -314,7 +313,7 @@ impl Direction {
         }
     }
 
-    /// Whether the fixed header of the unfinished packet, of which at most four bytes came, ends with this byte and tells a size
+    /// Whether the fixed header of the unfinished packet, of which at most four bytes came, ends with this byte and gives a size
     /// over the limit.
     fn is_too_large(&self, limit: u32, byte: u8) -> bool
         requires { length self.now.unfinished.items ≤ 4 }
@@ -328,7 +327,7 @@ impl Direction {
         }
     }
 
-    /// The fixed header of the unfinished packet, of which at most four bytes came, with one byte more.
+    /// The fixed header of the unfinished packet, of which at most four bytes came, with one more byte.
     fn header_with(&self, byte: u8) -> FixedHeader
         requires { length self.now.unfinished.items ≤ 4 }
         ensures { result ≡ fixed_header_of (self.now.unfinished.items ++ byte ∷ []) }
@@ -343,11 +342,11 @@ impl Direction {
         }
     }
 
-    /// Settles the newest byte of the unfinished packet, which stands at this offset of the log.
+    /// Settles the newest byte of the unfinished packet, which has this offset in the log.
     ///
     /// # Errors
     ///
-    /// The refusal that stands with it; the sink's own refusal.
+    /// The refusal that applies at it; the sink's own refusal.
     #[inline(never)]
     fn settle<S: Sink>(
         &mut self,
@@ -379,12 +378,12 @@ impl Direction {
         }
     }
 
-    /// Loses the direction, whose Remaining Length is no variable byte integer with the byte at this offset of the log
-    /// (MQTT 5.0, section 1.5.5).
+    /// Marks the direction as lost: the byte at this offset of the log makes the Remaining Length invalid (MQTT 5.0, section
+    /// 1.5.5).
     ///
     /// # Errors
     ///
-    /// `TooLong` where there are 4,294,967,295 events already; the sink's own refusal.
+    /// `TooLong` if there are 4,294,967,295 events already; the sink's own refusal.
     #[inline(never)]
     fn lose<S: Sink>(
         &mut self,
@@ -424,11 +423,11 @@ fn header_of(frame: &[u8]) -> usize
     length
 }
 
-/// Takes in a whole packet, whose fixed header has so many bytes, where none is unfinished.
+/// Takes in a whole packet, with a fixed header of `header` bytes, while none is unfinished.
 ///
 /// # Errors
 ///
-/// The refusal that stands with its last byte; the sink's own refusal.
+/// The refusal that applies at its last byte; the sink's own refusal.
 #[inline(always)]
 fn take_whole<S: Sink>(
     bed: Bed,
@@ -451,9 +450,9 @@ fn take_whole<S: Sink>(
     tell_frame(bed, connections, last, header, frame, sink)
 }
 
-/// Tells a sink of a whole packet, whose fixed header has so many bytes and whose last byte stands at this offset of the log.
+/// Emits a whole packet, with a fixed header of `header` bytes, whose last byte has this offset in the log.
 ///
-/// The first byte chooses before any byte of the body is read. So where a PUBLISH is read, no other packet takes room.
+/// The first byte chooses the function before any byte of the body is read. So reading a PUBLISH takes no stack for others.
 #[inline(always)]
 fn tell_frame<S: Sink>(
     bed: Bed,
@@ -538,7 +537,7 @@ fn tell_other<S: Sink>(
     tell_decoded(bed, connections, at, header, frame, read, sink)
 }
 
-/// Tells a sink of what was read of a whole packet.
+/// Emits what was decoded from a whole packet.
 #[inline(always)]
 fn tell_decoded<S: Sink>(
     bed: Bed,
@@ -566,7 +565,7 @@ fn tell_decoded<S: Sink>(
     }
 }
 
-/// Tells a sink of a whole packet that has this fault.
+/// Emits a whole packet that has this fault.
 #[inline(always)]
 fn tell_fault<S: Sink>(
     bed: Bed,
@@ -601,7 +600,7 @@ fn tell_fault<S: Sink>(
     }
 }
 
-/// Tells a sink of a packet.
+/// Emits a packet.
 #[inline(always)]
 fn tell_packet<S: Sink>(
     bed: Bed,
@@ -626,7 +625,7 @@ fn tell_packet<S: Sink>(
     )
 }
 
-/// Tells a sink of a packet with this first byte, which breaks a rule at this place of it.
+/// Emits a packet with this first byte, which breaks a rule at this offset.
 #[inline(never)]
 fn tell_bad<S: Sink>(
     bed: Bed,

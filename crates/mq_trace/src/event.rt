@@ -7,10 +7,10 @@ ghost use Rattle.mq_trace.specs.Hearing.{event_of, item_of};
 use super::kind::Way;
 use mq_packet::{Packet, PacketRule};
 
-/// What stands in one direction's stream of packets.
+/// An item of one direction's stream of packets.
 #[derive(Drop)]
 pub enum Item<'a> {
-    /// A packet, whose texts and payloads lie in the bytes that are being read.
+    /// A packet, which borrows the bytes that are being read.
     Packet(Packet<'a>),
     /// A packet whose bytes break a rule.
     Bad {
@@ -18,11 +18,11 @@ pub enum Item<'a> {
         first: u8,
         /// The first rule that it breaks.
         rule: PacketRule,
-        /// Where the field begins that breaks it, from the packet's first byte.
+        /// The offset in the packet of the field that breaks it.
         at: u32,
     },
-    /// The Remaining Length is no variable byte integer (MQTT 5.0, section 1.5.5): the direction can't be cut into packets
-    /// from here on.
+    /// The Remaining Length is invalid (MQTT 5.0, section 1.5.5): the rest of this direction can't be
+    /// parsed.
     Lost,
 }
 
@@ -44,7 +44,7 @@ pub enum Event<'a> {
     Recv(Item<'a>),
 }
 
-/// An item that goes this way.
+/// The event of an item in this direction.
 #[inline(always)]
 pub fn going(way: Way, item: Item<'_>) -> Event<'_>
     ensures { event_of result ≡ going way (item_of item.entry) }

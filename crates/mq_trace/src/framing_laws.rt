@@ -1,4 +1,4 @@
-//! Laws of the definitions on whole logs, each the contract of a function that does nothing.
+//! Laws of the definitions on whole logs, each proved as the contract of a function that does nothing.
 ghost use Rattle.std.specs.Prelude.{◌≡◌, ℕ, true, false, take, drop, List, [], ◌∷◌, ◌++◌, None, Some};
 ghost use Rattle.mq_packet.specs.Stream.{frame_size};
 ghost use Rattle.mq_trace.specs.declared.refusal.Refusal.{Refusal};
@@ -11,20 +11,20 @@ ghost use Rattle.mq_trace.specs.Refusals.{refused, is_cut_short};
 ghost use Rattle.mq_trace.specs.Rows.{client_header, silent_header, opened, closed, released};
 ghost use Rattle.mq_trace.specs.Context.{context, after, put, placed_for};
 
-/// After its header a log is its records, each a whole one, and a rest that no record is a prefix of; and only one list of records is so.
+/// After its header a log is its records, each a whole one, and a rest that doesn't begin with a record; there is only one such list of records.
 pub fn log_is_its_records()
     ensures cut { (log : List ℕ) → AreCut record_size (drop 8 log) (records log) }
     ensures only { (log : List ℕ) (cut : Pieces) → AreCut record_size (drop 8 log) cut → cut ≡ records log }
 {}
 
-/// What a direction carried is its frames, and a rest that no frame is a prefix of; and only one list of frames is so (MQTT 5.0, section 2.1).
+/// What a direction carried is its frames, and a rest that doesn't begin with a frame; there is only one such list of frames (MQTT 5.0, section 2.1).
 pub fn stream_is_its_frames()
     ensures cut { (bytes : List ℕ) → AreCut frame_size bytes (stream bytes) }
     ensures only { (bytes : List ℕ) (cut : Pieces) → AreCut frame_size bytes cut → cut ≡ stream bytes }
 {}
 
-/// What a direction carried on a connection doesn't depend on what stands before its OPEN: a packet that was unfinished there is dropped, and a
-/// direction that was lost there is read again. Records are given the newest first.
+/// What a direction carried on a connection doesn't depend on what came before its OPEN: a packet that was unfinished is dropped, and a
+/// direction that was lost is read again. Records are given the newest first.
 pub fn connections_carry_their_own()
     ensures { (way : Way) (later before : List (List ℕ)) (first : List ℕ) → opens (kind_of first) ≡ true → carried way (later ++ first ∷ before) ≡ carried way (later ++ first ∷ []) }
 {}
@@ -34,7 +34,7 @@ pub fn refusals_stay()
     ensures { (limit : ℕ) (log more : List ℕ) (refusal : Refusal) → refused limit log ≡ Some refusal → refused limit (log ++ more) ≡ Some refusal }
 {}
 
-/// One byte more changes what is kept of a log, and adds an event or none, by what is kept alone.
+/// How one more byte changes what is kept of a log, and whether it adds an event, depends only on what is kept.
 pub fn one_byte_more()
     ensures kept { (log : List ℕ) (byte : ℕ) → context (log ++ byte ∷ []) ≡ after (context log) byte }
     ensures events { (log : List ℕ) (byte : ℕ) → events (log ++ byte ∷ []) ≡ put (placed_for (context log) byte) (events log) }

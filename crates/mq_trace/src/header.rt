@@ -23,7 +23,7 @@ const ROLE_AT: u64 = 5;
 /// The offset of the header's flags.
 const FLAGS_AT: u64 = 6;
 
-/// The refusal that a byte of the header at this offset gives, if it can't stand there.
+/// The refusal of a byte of the header at this offset, if the byte is invalid there.
 #[tactic(auto, unfolding(crate::specs::Refusals::header_refusal))]
 pub fn header_refusal(at: u64, byte: u8) -> Option<Refusal>
     requires { at < 8 }

@@ -1,12 +1,12 @@
-//! The events of a log and the streams of its connections: a law of the definitions, the contract of a function that does nothing.
+//! The events of a log and the streams of its connections: a law of the definitions, proved as the contract of a function that does nothing.
 ghost use Rattle.std.specs.Prelude.{◌≡◌, ℕ, List};
 ghost use Rattle.mq_trace.specs.declared.kind.Way.{Way};
 ghost use Rattle.mq_trace.specs.Framing.{begun, stream};
 ghost use Rattle.mq_trace.specs.Events.{events};
 ghost use Rattle.mq_trace.specs.Joined.{joined, items_on, stream_items};
 
-/// On each connection of a log and in each direction the items of the events are, in order, those of the frames of the stream that the bodies of the direction's records make
-/// when they are joined; `Lost` is the last one exactly where that stream is lost (MQTT 5.0, sections 2.1 and 1.5.5). It doesn't matter whether the log is refused. A frame of
+/// On each connection of a log and in each direction, the items of the events are, in order, those of the frames of one stream: the joined bodies of the direction's records.
+/// `Lost` is the last one exactly if the rest of that stream can't be parsed (MQTT 5.0, sections 2.1 and 1.5.5). It doesn't matter whether the log is refused. A CONNECT of
 /// another protocol version is no item; a log with one is refused.
 pub fn events_are_what_streams_hold()
     ensures { (number : ℕ) (way : Way) (log : List ℕ) → items_on number way (events log) ≡ stream_items (stream (joined number way (begun log))) }

@@ -74,7 +74,7 @@ impl RecordKind {
         }
     }
 
-    /// Whether a record of this kind stands only on an open connection.
+    /// Whether a record of this kind is allowed only on an open connection.
     pub fn needs_connection(self) -> bool
         ensures { result ≡ needs_connection (Some self) }
     {

@@ -1,6 +1,6 @@
-//! Where an event stands in its log.
+//! Where an event is in its log.
 
-/// Where an event stands in its log. Both numbers count from 1.
+/// Where an event is in its log. Both numbers count from 1.
 #[derive(Clone, Copy, Debug, PartialEq, Eq)]
 pub struct Place3 {
     /// The event's number among the events.

@@ -42,7 +42,7 @@ pub struct Reading {
 }
 
 impl Reading {
-    /// What is kept of nothing.
+    /// What is kept before the first byte.
     pub fn new(alloc: Global, limit: u32) -> Self
         ensures limit { result.limit ≡ limit }
         ensures fresh { context_of result [] ≡ fresh }
@@ -68,11 +68,11 @@ impl Reading {
         }
     }
 
-    /// Takes in the next bytes of the log, of which there is at least one: as many as belong together. Answers how many.
+    /// Takes in as many of the next bytes of the log as belong together, and returns how many. There must be at least one byte.
     ///
     /// # Errors
     ///
-    /// The refusal that first stands with one of them; the sink's own refusal; `Memory`.
+    /// The refusal that applies first at one of them; the sink's own refusal; `Memory`.
     pub fn take<S: Sink>(&mut self, bytes: &[u8], sink: &mut S) -> Result<usize, Refusal>
         requires some { 1 ≤ length bytes.now }
         requires sound { IsSound self.old }
@@ -128,7 +128,7 @@ impl Reading {
         Ok(())
     }
 
-    /// Takes in a record's head at once, where all of it is there, else its first byte.
+    /// Takes in a record's head at once, if all of it is there, else its first byte.
     #[inline(always)]
     fn take_head<S: Sink>(&mut self, bytes: &[u8], sink: &mut S) -> Result<usize, Refusal>
         requires some { 1 ≤ length bytes.now }
@@ -200,7 +200,7 @@ impl Reading {
         Ok(kind)
     }
 
-    /// The refusal that a record of this kind meets with its first byte.
+    /// The refusal that applies at the first byte of a record of this kind.
     #[inline(always)]
     fn met_by(&self, kind: RecordKind) -> Option<Refusal>
         ensures met { result ≡ met_by_kind self.now kind }
@@ -219,7 +219,7 @@ impl Reading {
         }
     }
 
-    /// Goes on after the first byte of a record of this kind.
+    /// Sets the state after the first byte of a record of this kind.
     #[inline(always)]
     fn begin(&mut self, kind: RecordKind)
         requires { self.old.at + 1 < 2 ^ 64 }
@@ -239,7 +239,7 @@ impl Reading {
         };
     }
 
-    /// Takes in the first three bytes of a record's length, and answers the number that they spell.
+    /// Takes in the first three bytes of a record's length, and returns the number that they spell.
     #[inline(always)]
     fn skip_length(&mut self, kind: RecordKind, a: u8, b: u8, c: u8) -> u32
         requires { self.old.at + 3 < 2 ^ 64 }
@@ -256,7 +256,7 @@ impl Reading {
         length
     }
 
-    /// Takes in the next byte of a record's head, of whose length so many bytes came.
+    /// Takes in the next byte of a record's head, after `count` bytes of its length.
     fn go_on_head<S: Sink>(
         &mut self,
         kind: RecordKind,
@@ -315,8 +315,8 @@ impl Reading {
         }
     }
 
-    /// The same for a record that carries no packets, whose length its kind allows. It stays apart, so that its events take no
-    /// room where packets are read.
+    /// The same for a record that carries no packets, and has a length that its kind allows. It is a function of its own, so that
+    /// its events take no stack while packets are read.
     #[inline(never)]
     fn end_other<S: Sink>(
         &mut self,
@@ -350,7 +350,7 @@ impl Reading {
     ///
     /// # Errors
     ///
-    /// What the event meets, and the sink's own refusal, at the byte that is being taken in.
+    /// The refusal that applies to the event, or the sink's own refusal, at the byte that is being taken in.
     fn end_mark<S: Sink>(&mut self, event: Event<'_>, sink: &mut S) -> Result<(), Refusal>
         requires room { self.old.at + 1 < 2 ^ 64 }
         requires numbered { self.old.records < 4294967295 }
@@ -398,7 +398,7 @@ impl Reading {
         self.stage = Stage::Between;
     }
 
-    /// Takes in the last byte of the head of a record that carries so many bytes this way.
+    /// Takes in the last byte of the head of a record that carries `length` bytes in this direction.
     #[inline(always)]
     fn begin_body(&mut self, way: Way, length: u32)
         requires room { self.old.at + 1 < 2 ^ 64 }
@@ -409,7 +409,7 @@ impl Reading {
         self.leave(way, length);
     }
 
-    /// Goes on where so many bytes of a record's body are still to come.
+    /// Sets the state with `left` bytes of a record's body still to come.
     #[inline(always)]
     fn leave(&mut self, way: Way, left: u32)
         requires numbered { self.old.records < 4294967295 }
@@ -423,7 +423,7 @@ impl Reading {
         }
     }
 
-    /// Takes in bytes of a body of which so many are still to come: those of one packet.
+    /// Takes in bytes of a body, of which `left` are still to come: those of one packet.
     #[inline(always)]
     fn take_body<S: Sink>(
         &mut self,
@@ -451,7 +451,7 @@ impl Reading {
         }
     }
 
-    /// Passes bytes of a body on to the direction that they go: those of one packet. Answers how many.
+    /// Passes bytes of a body on to their direction: those of one packet. Returns how many.
     #[inline(always)]
     fn pass_on<S: Sink>(&mut self, way: Way, body: &[u8], sink: &mut S) -> Result<usize, Refusal>
         requires some { 1 ≤ length body.now }

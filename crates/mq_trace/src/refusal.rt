@@ -4,7 +4,7 @@ ghost use Rattle.mq_trace.specs.Refusing.{number_of, name_of, byte_of, refused_t
 
 use std::fmt;
 
-/// Why a log is refused, each with the offset in the log of the byte at which its condition first stands.
+/// Why a log is refused, each with the offset in the log of the byte at which its condition first applies.
 /// The earliest byte decides, and at one byte the lowest number. The numbers are 1 to 16, in this order.
 #[derive(Clone, Copy, Debug, PartialEq, Eq)]
 pub enum Refusal {
@@ -36,9 +36,9 @@ pub enum Refusal {
     Early(u64),
     /// 14: more than 4,294,967,295 records or events.
     TooLong(u64),
-    /// 15: the reader failed, or its turns ran out.
+    /// 15: the reader failed, or the bound on the number of reads was reached.
     Read(u64),
-    /// 16: memory was refused.
+    /// 16: there was no memory.
     Memory(u64),
 }
 
@@ -67,7 +67,7 @@ impl Refusal {
         }
     }
 
-    /// Its name, as it is written.
+    /// Its name, as reports write it.
     pub fn name(self) -> &'static str
         ensures { result.now ≡ name_of self }
     {
@@ -91,7 +91,7 @@ impl Refusal {
         }
     }
 
-    /// The offset in the log of the byte at which its condition first stands, counted from 0.
+    /// The offset in the log of the byte at which its condition first applies, counted from 0.
     pub fn byte(self) -> u64
         ensures { result ≡ byte_of self }
     {

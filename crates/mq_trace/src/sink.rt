@@ -1,4 +1,4 @@
-//! Who receives the events of a log.
+//! The sink, which receives the events of a log.
 
 ghost use Rattle.std.specs.Prelude.{List, ◌∷◌, ◌≡◌, OnOk, IfErr, unwrap_or};
 ghost use Rattle.mq_packet.specs.Sizes.{size_with, remaining_length};
@@ -12,29 +12,29 @@ use super::place::Place3;
 use super::refusal::Refusal;
 use mq_packet::{Packet, Publish};
 
-/// Who receives the events of a log, one after another.
+/// Receives the events of a log, one after another.
 pub trait Sink {
     ghost use Rattle.mq_trace.specs.declared.refusal.Refusal.{Refusal};
 
     // The sink has received these events, the newest first.
     ghost agrees: { Self → List Placed → Type 0 };
-    // The sink, which had received these events, the newest first, has refused the next one so.
+    // The sink had received these events, the newest first, and has refused the next one with this refusal.
     ghost refuses: { Self → List Placed → Refusal → Type 0 };
 
-    /// Receives the next event, which stands at this place.
+    /// Receives the next event, which has this place in the log.
     ///
     /// # Errors
     ///
-    /// The sink's own refusal. Its byte doesn't matter: whoever reads the log puts the one there that completed the event. No
-    /// further event comes then.
+    /// The sink's own refusal. Its byte doesn't matter: the tracer replaces it by that of the byte that completed the event. The
+    /// sink receives no further events.
     fn event(&mut self, place: Place3, event: Event<'_>) -> Result<(), Refusal>
         ensures heard { (earlier : List Placed) → agrees self.old earlier → AreEvents (placed_at place event.entry ∷ earlier)
             → OnOk result (agrees self.new (placed_at place event.entry ∷ earlier)) }
         ensures refused { (earlier : List Placed) → agrees self.old earlier → AreEvents (placed_at place event.entry ∷ earlier)
             → IfErr result (λ refusal. refuses self.new earlier refusal) };
 
-    /// Receives a PUBLISH that goes this way and has so many bytes, as the next event: as `event` does, which it calls if the sink
-    /// has no quicker way. Most packets of a log are PUBLISHes, and an event is several times as large as one.
+    /// Receives the next event, a PUBLISH of `size` bytes in this direction. By default it calls `event`; a sink may have a
+    /// quicker way, since most packets of a log are PUBLISHes, and an event is several times as large as a PUBLISH.
     ///
     /// # Errors
     ///

@@ -1,16 +1,16 @@
-//! Where a reader of a log stands among the log's records.
+//! Where a reader of a log is among the log's records.
 
 ghost use Rattle.std.specs.Prelude.{◌≡◌};
 ghost use Rattle.mq_trace.specs.Tracing.{is_between};
 
 use super::kind::{RecordKind, Way};
 
-/// Where a reader stands among the records of a log.
+/// Where a reader is among the records of a log.
 #[derive(Clone, Copy, Debug, PartialEq, Eq)]
 pub enum Stage {
     /// Between two records.
     Between,
-    /// Inside a record's head: its kind came, and of the four bytes of its body's length so many, which spell this number.
+    /// Inside a record's head: its kind came, and 0 to 3 of the four bytes of its body's length.
     Head {
         /// The kind that the record's first byte names.
         kind: RecordKind,
@@ -31,7 +31,7 @@ pub enum Stage {
 }
 
 impl Stage {
-    /// Whether the reader stands between two records.
+    /// Whether the reader is between two records.
     pub fn is_between(self) -> bool
         ensures { result ≡ is_between self }
     {

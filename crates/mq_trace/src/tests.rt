@@ -1,4 +1,4 @@
-//! Logs, and what a tracer tells of them: lines and refusals that were worked out by hand from the log's format.
+//! Logs, and what a tracer emits for them: lines and refusals that were worked out by hand from the log's format.
 
 mod keeping;
 mod logs;

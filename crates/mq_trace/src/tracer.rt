@@ -1,4 +1,4 @@
-//! Reads a log that is fed in pieces, and tells a sink of its events.
+//! Reads a log that is fed in pieces, and emits its events to a sink.
 
 ghost use Rattle.std.specs.Prelude.{◌≡◌, ℕ, ◌+◌, ◌*◌, ◌≤◌, List, [], ◌++◌, ◌||◌, not, nat_lt, length, Some, None, Err, IfErr, IfSome, OnOk, if◌then◌else◌};
 ghost use Rattle.mq_trace.specs.Framing.{header_by};
@@ -12,7 +12,7 @@ use super::sink::Sink;
 use std::alloc::Global;
 use std::marker::Model;
 
-/// Reads a log that is fed in pieces, however it is cut, and tells a sink of its events as their last bytes come.
+/// Reads a log that is fed in pieces, however it is cut, and emits each event to a sink when its last byte comes.
 #[derive(Drop)]
 pub struct Tracer {
     refusal: Option<Refusal>,
@@ -32,7 +32,7 @@ impl Model for Tracer {
 }
 
 impl Tracer {
-    /// A tracer that has been fed nothing, and reads packets of at most so many bytes: 5 to 268,435,460.
+    /// A tracer that has been fed nothing, and reads packets of at most `limit` bytes: 5 to 268,435,460.
     pub fn new(alloc: Global, limit: u32) -> Self
         ensures follows { Follows result [] }
         ensures limit { result.reading.limit ≡ limit }
@@ -60,16 +60,16 @@ impl Tracer {
         self.reading.at
     }
 
-    /// Takes in the next piece of the log, and tells the sink of the events whose last bytes are in it. It doesn't matter how the
-    /// log is cut into pieces.
+    /// Takes in the next piece of the log, and emits the events whose last bytes are in it. It doesn't matter how the log is cut
+    /// into pieces.
     ///
     /// # Errors
     ///
     /// The refusal whose condition applies at the earliest byte, and at one byte the one with the lowest number; the sink's own
-    /// refusal, at the byte that completed the event, where no condition applies at it; or `Memory`, at a byte of a packet that
+    /// refusal, at the byte that completed the event, if no condition applies at it; or `Memory`, at a byte of a packet that
     /// couldn't be kept. No condition applies before the byte that is named, and the sink has received all events that are complete
     /// before it. `Memory` comes before the conditions for which the packet must be read: `OtherVersion`, `Early` and `TooLong`.
-    /// From then on each call answers the same refusal.
+    /// From then on each call fails with the same refusal.
     pub fn feed<S: Sink>(&mut self, piece: &[u8], sink: &mut S) -> Result<(), Refusal>
         ensures answers { (log : List ℕ) → Follows self.old log → Takes S.agrees S.refuses self.old.reading.limit log piece.now sink.old sink.new result }
         ensures follows { (log : List ℕ) → Follows self.old log → OnOk result (Follows self.new (log ++ piece.now)) }
@@ -91,7 +91,7 @@ impl Tracer {
     ///
     /// # Errors
     ///
-    /// The refusal that an earlier call answered; `Cut`, at the log's length, where it ends inside its header or a record.
+    /// The refusal that an earlier call returned; `Cut`, at the log's length, if the log ends inside its header or a record.
     pub fn finish(&mut self) -> Result<(), Refusal>
         ensures ends { (log : List ℕ) → Follows self.old log → Ends log result }
         ensures same { OnOk result (self.new ≡ self.old) }

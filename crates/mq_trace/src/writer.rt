@@ -16,10 +16,10 @@ use std::marker::Model;
 /// The version of the log that is written.
 const VERSION: u8 = 1;
 
-/// Why a log isn't written any further.
+/// Why writing a log failed.
 #[derive(Clone, Copy, Debug, PartialEq, Eq)]
 pub enum WriteFault {
-    /// A write failed: the writer answered an error, an interruption too, or it took no byte.
+    /// A write failed: the writer returned an error, also one for an interruption, or took no byte.
     Write,
 }
 
@@ -35,9 +35,9 @@ impl Error for WriteFault {}
 
 /// Writes a log, its header and its records, in the order of the calls. It takes no memory.
 ///
-/// That the header comes first and once, and that each record stands where it may, is the caller's to keep.
+/// The caller must write the header first and once, and each record only where the format allows it.
 ///
-/// A call in which a write fails has written a beginning of its header or record, and not all of it. Each later call answers
+/// A call in which a write fails has written a beginning of its header or record, but not all of it. Each later call fails with
 /// `Write` too, and writes nothing.
 #[derive(Drop)]
 pub struct TraceWriter<W: Write> {
@@ -54,7 +54,7 @@ impl<W: Write> Model for TraceWriter<W> {
 }
 
 impl<W: Write> TraceWriter<W> {
-    /// Takes a writer to write a log to. Nothing is written yet.
+    /// Makes a `TraceWriter` over a writer. Nothing is written yet.
     pub fn new(writer: W) -> Self
         ensures writer { result.writer ≡ writer }
         ensures unfailed { result.has_failed ≡ false }
@@ -69,7 +69,7 @@ impl<W: Write> TraceWriter<W> {
     ///
     /// # Errors
     ///
-    /// `Write` where a write failed, in this call or in an earlier one.
+    /// `Write` if a write failed, in this call or in an earlier one.
     pub fn header(&mut self, header: &Header) -> Result<(), WriteFault>
         ensures ok { OnOk result (WritesAll W.contents self.old self.new (header_bytes header.now)) }
         ensures write { OnErr result (FailsToWrite W.contents self.old self.new (header_bytes header.now)) }
@@ -81,7 +81,7 @@ impl<W: Write> TraceWriter<W> {
     ///
     /// # Errors
     ///
-    /// `Write` where a write failed, in this call or in an earlier one.
+    /// `Write` if a write failed, in this call or in an earlier one.
     pub fn open(&mut self) -> Result<(), WriteFault>
         ensures ok { OnOk result (WritesAll W.contents self.old self.new (record_bytes opened)) }
         ensures write { OnErr result (FailsToWrite W.contents self.old self.new (record_bytes opened)) }
@@ -93,7 +93,7 @@ impl<W: Write> TraceWriter<W> {
     ///
     /// # Errors
     ///
-    /// `Write` where a write failed, in this call or in an earlier one.
+    /// `Write` if a write failed, in this call or in an earlier one.
     pub fn sent(&mut self, body: &[u8]) -> Result<(), WriteFault>
         requires { length body.now ≤ 1048576 }
         ensures ok { OnOk result (WritesAll W.contents self.old self.new (record_bytes (sent body.now))) }
@@ -106,7 +106,7 @@ impl<W: Write> TraceWriter<W> {
     ///
     /// # Errors
     ///
-    /// `Write` where a write failed, in this call or in an earlier one.
+    /// `Write` if a write failed, in this call or in an earlier one.
     pub fn recv(&mut self, body: &[u8]) -> Result<(), WriteFault>
         requires { length body.now ≤ 1048576 }
         ensures ok { OnOk result (WritesAll W.contents self.old self.new (record_bytes (received body.now))) }
@@ -119,7 +119,7 @@ impl<W: Write> TraceWriter<W> {
     ///
     /// # Errors
     ///
-    /// `Write` where a write failed, in this call or in an earlier one.
+    /// `Write` if a write failed, in this call or in an earlier one.
     pub fn close(&mut self) -> Result<(), WriteFault>
         ensures ok { OnOk result (WritesAll W.contents self.old self.new (record_bytes closed)) }
         ensures write { OnErr result (FailsToWrite W.contents self.old self.new (record_bytes closed)) }
@@ -131,7 +131,7 @@ impl<W: Write> TraceWriter<W> {
     ///
     /// # Errors
     ///
-    /// `Write` where a write failed, in this call or in an earlier one.
+    /// `Write` if a write failed, in this call or in an earlier one.
     pub fn rest(&mut self) -> Result<(), WriteFault>
         ensures ok { OnOk result (WritesAll W.contents self.old self.new (record_bytes rested)) }
         ensures write { OnErr result (FailsToWrite W.contents self.old self.new (record_bytes rested)) }
@@ -143,7 +143,7 @@ impl<W: Write> TraceWriter<W> {
     ///
     /// # Errors
     ///
-    /// `Write` where a write failed, in this call or in an earlier one.
+    /// `Write` if a write failed, in this call or in an earlier one.
     pub fn release(&mut self, identifier: u16) -> Result<(), WriteFault>
         ensures ok { OnOk result (WritesAll W.contents self.old self.new (record_bytes (released identifier))) }
         ensures write { OnErr result (FailsToWrite W.contents self.old self.new (record_bytes (released identifier))) }
@@ -151,7 +151,7 @@ impl<W: Write> TraceWriter<W> {
         self.record(RecordKind::Release, &identifier.to_be_bytes())
     }
 
-    /// The writer that was written to.
+    /// The underlying writer.
     pub fn into_inner(self) -> W
         ensures { result ≡ self.writer }
     {
@@ -204,7 +204,7 @@ fn byte_of(kind: RecordKind) -> u8
     }
 }
 
-/// What stands before a record's body: the byte of its kind, and how many bytes the body has.
+/// A record's head: the byte of its kind, and the length of its body in bytes.
 fn record_head(kind: RecordKind, length: u32) -> [u8; 5]
     ensures { result ≡ kind_byte kind ∷ to_be_bytes w32 length }
 {
@@ -216,7 +216,7 @@ fn record_head(kind: RecordKind, length: u32) -> [u8; 5]
 ///
 /// # Errors
 ///
-/// `Write` where a write failed.
+/// `Write` if a write failed.
 fn write_both<W: Write>(front: &[u8], back: &[u8], writer: &mut W) -> Result<(), WriteFault>
     ensures ok { OnOk result (Appends (W.contents writer.old) (W.contents writer.new) (front.now ++ back.now)) }
     ensures write { OnErr result (AppendsBeginning (W.contents writer.old) (W.contents writer.new) (front.now ++ back.now)) }
@@ -229,7 +229,7 @@ fn write_both<W: Write>(front: &[u8], back: &[u8], writer: &mut W) -> Result<(),
 ///
 /// # Errors
 ///
-/// `Write` where a write failed: the writer answered an error, an interruption too, or took no byte.
+/// `Write` if a write failed: the writer returned an error, also one for an interruption, or took no byte.
 fn write_bytes<W: Write>(bytes: &[u8], writer: &mut W) -> Result<(), WriteFault>
     ensures ok { OnOk result (Appends (W.contents writer.old) (W.contents writer.new) bytes.now) }
     ensures write { OnErr result (AppendsBeginning (W.contents writer.old) (W.contents writer.new) bytes.now) }

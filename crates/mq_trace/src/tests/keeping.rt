@@ -1,4 +1,4 @@
-//! What a tracer keeps: no packet past its limit, no more than unfinished packets, and a sink's refusal for ever.
+//! What a tracer keeps: only unfinished packets, none over its limit, and a sink's refusal for ever.
 
 use super::logs::Part::{Open, Raw, Recv, Sent};
 use super::logs::{ANSWERED_LINES, CLIENT, CONNACK, LARGEST, PUBLISH, large_log, log_of};
@@ -99,7 +99,7 @@ fn keeps_unfinished_packets_alone(rt: HostRuntime) -> Result<(), Fail> {
     Ok(())
 }
 
-/// A packet that lies in several records is kept, and emitted with its last byte, up to one of the limit's size.
+/// A packet that is cut over several records is kept until its last byte, and then emitted, up to the limit's size.
 #[test]
 fn keeps_large_packets(rt: HostRuntime) -> Result<(), Fail> {
     let rows: [(&[u8], usize, &str); 2] = [
@@ -127,7 +127,7 @@ fn keeps_large_packets(rt: HostRuntime) -> Result<(), Fail> {
     Ok(())
 }
 
-/// More events than 65,536 are no reason to refuse a log.
+/// A log with more than 65,536 events isn't refused.
 #[test]
 fn counts_many_events(rt: HostRuntime) -> Result<(), Fail> {
     let mut log = log_of(rt.alloc(), true, &[], false)?;

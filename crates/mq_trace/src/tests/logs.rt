@@ -1,4 +1,4 @@
-//! Logs, as their parts, their packets' bytes, and what is to be told of them.
+//! Logs, as their parts, their packets' bytes, and the lines that are expected of them.
 
 use crate::Refusal;
 use std::alloc::{AllocError, Global};
@@ -40,7 +40,7 @@ pub const END: &[u8] = b"\x00\x01\x00x";
 
 pub const PUBACK: &[u8] = b"\x40\x02\x00\x01";
 
-/// Nothing can be cut after these.
+/// After these bytes the direction can't be parsed.
 pub const LOST: &[u8] = b"\x30\xff\xff\xff\xff";
 
 /// The fixed header of a PUBLISH of the largest size, 268,435,460 bytes.
@@ -52,7 +52,7 @@ pub const ANSWERED: [Part; 4] = [CLIENT, Open, Sent(CONNECT), Recv(CONNACK)];
 pub const ANSWERED_LINES: &str =
     "1 record 1 OPEN\n2 record 2 SENT Connect 15\n3 record 3 RECV Connack 5\n";
 
-/// The parts of a log, after those of `ANSWERED` or alone; the lines on the events of these parts; and what comes of it.
+/// The parts of a log, after those of `ANSWERED` or alone; the lines on the events of these parts; and its result.
 pub struct Row {
     pub answered: bool,
     pub parts: &'static [Part],
@@ -60,14 +60,14 @@ pub struct Row {
     pub answer: Result<(), Refusal>,
 }
 
-/// Puts a record with this body after a log.
+/// Appends a record with this body to a log.
 fn put_record(log: &mut Vec<u8>, kind: u8, body: &[u8]) -> Result<(), AllocError> {
     let [_, _, _, _, a, b, c, d] = body.len().to_be_bytes();
     log.extend_from_slice(&[kind, a, b, c, d])?;
     log.extend_from_slice(body)
 }
 
-/// Puts a part after a log: in one record, or with each byte of SENT and RECV in a record of its own.
+/// Appends a part to a log: in one record, or with each byte of SENT and RECV in a record of its own.
 fn put(log: &mut Vec<u8>, part: Part, split: bool) -> Result<(), AllocError> {
     let (kind, body) = match part {
         Raw(bytes) => return log.extend_from_slice(bytes),

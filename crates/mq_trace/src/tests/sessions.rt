@@ -69,7 +69,7 @@ pub static SESSIONS: [Row; 15] = [
             8 record 4 SENT Pingreq 2\n9 record 5 SENT Puback 4\n10 record 5 SENT Pingreq 2\n",
         answer: Ok(()),
     },
-    // Records without bytes count as records and say nothing, also within a packet.
+    // Records without bytes count as records, and have no other effect, also within a packet.
     Row {
         answered: true,
         parts: &[
@@ -114,7 +114,7 @@ pub static SESSIONS: [Row; 15] = [
         lines: "4 record 6 SENT LOST\n5 record 7 RECV LOST\n",
         answer: Ok(()),
     },
-    // What is unfinished or lost at the CLOSE is dropped: the next connection's streams begin anew.
+    // What is unfinished or lost at the CLOSE is dropped: the next connection's streams start over.
     Row {
         answered: true,
         parts: &[
@@ -161,7 +161,7 @@ pub static SESSIONS: [Row; 15] = [
         lines: "1 record 1 RELEASE 1\n2 record 2 OPEN\n3 record 3 SENT Connect 15\n4 record 4 CLOSE\n5 record 5 RELEASE 2\n",
         answer: Ok(()),
     },
-    // Packets that need no session may stand before the CONNACK, and so may bytes that break a rule.
+    // Packets that need no session may come before the CONNACK, and so may bytes that break a rule.
     Row {
         answered: false,
         parts: &[
@@ -179,7 +179,7 @@ pub static SESSIONS: [Row; 15] = [
             5 record 4 RECV Auth 2\n6 record 5 SENT W09 5\n7 record 6 SENT Disconnect 2\n8 record 7 RECV LOST\n9 record 8 REST\n",
         answer: Ok(()),
     },
-    // The last CONNACK of a connection answers as the first does.
+    // A second CONNACK of a connection changes nothing here.
     Row {
         answered: true,
         parts: &[Recv(CONNACK), Sent(PUBLISH)],
@@ -200,7 +200,7 @@ fn tells_of_sessions(rt: HostRuntime) -> Result<(), Fail> {
     assert_rows(&rt, &SESSIONS)
 }
 
-/// How bytes are cut into records shows in nothing but the records' numbers.
+/// How bytes are cut into records changes only the records' numbers.
 #[test]
 fn tells_the_same_of_any_records(rt: HostRuntime) -> Result<(), Fail> {
     for row in &SESSIONS {
@@ -224,7 +224,7 @@ fn tells_the_same_of_any_records(rt: HostRuntime) -> Result<(), Fail> {
     Ok(())
 }
 
-/// How many events a log has, its header, and its answer.
+/// How many events a log has, its header, and its result.
 fn told_of(
     rt: &(impl Abort + AllocGlobal),
     log: &[u8],
@@ -235,7 +235,7 @@ fn told_of(
     (told.heard as usize, tracer.header(), ended)
 }
 
-/// Each beginning of a log of 76 bytes is cut short, but where a record ends.
+/// Each beginning of a log of 76 bytes is cut short, unless it ends after a record.
 #[test]
 fn tells_of_beginnings(rt: HostRuntime) -> Result<(), Fail> {
     let log = log_of(rt.alloc(), true, SESSIONS[1].parts, false)?;

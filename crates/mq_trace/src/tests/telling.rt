@@ -1,4 +1,4 @@
-//! What a tracer tells of a log, as lines.
+//! What a tracer emits for a log, as lines.
 
 ghost use Rattle.std.specs.Prelude.{◌≡◌};
 
@@ -11,7 +11,7 @@ use std::test::Fail;
 /// The limit of `mqjudge`.
 pub const LIMIT: u32 = 16_777_216;
 
-/// Writes a line for each event, with the number of its record or without, and refuses an event after so many.
+/// A sink that writes a line for each event, with or without the number of its record, and refuses an event after a given number.
 #[derive(Drop)]
 pub struct Lines {
     pub text: String,
@@ -94,7 +94,7 @@ pub fn trace(
     tracer.finish()
 }
 
-/// Tells of a log, in each cutting, these lines and this answer.
+/// Asserts that a log, in each cutting, gives these lines and this result.
 pub fn assert_tells(
     rt: &(impl Abort + AllocGlobal),
     limit: u32,
@@ -117,7 +117,7 @@ pub fn assert_tells(
     }
 }
 
-/// Tells of each row's log, in each cutting, its lines and its answer.
+/// Asserts that each row's log, in each cutting, gives the row's lines and result.
 pub fn assert_rows(rt: &(impl Abort + AllocGlobal), rows: &[Row]) -> Result<(), Fail> {
     for row in rows {
         let log = log_of(rt.alloc(), row.answered, row.parts, false)?;

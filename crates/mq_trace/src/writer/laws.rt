@@ -1,11 +1,11 @@
-//! What is written is read back: laws of the definitions, each the contract of a function that does nothing.
+//! What is written is read back: laws of the definitions, each proved as the contract of a function that does nothing.
 ghost use Rattle.std.specs.Prelude.{◌≡◌, ◌==◌, ℕ, ◌<◌, ◌≤◌, ◌^◌, List, ◌++◌, length, drop, slice_index, Some};
 ghost use Rattle.std.specs.Int.{w16, from_be_bytes};
 ghost use Rattle.mq_trace.specs.declared.header.Header.{Header as AnyHeader};
 ghost use Rattle.mq_trace.specs.Framing.{record_size, kind_of};
 ghost use Rattle.mq_trace.specs.Writing.{Record, released, record_kind, record_body, record_bytes, header_bytes};
 
-/// A record is read back as it was written, whatever stands after it.
+/// A record is read back as it was written, whatever follows it.
 pub fn records_are_read_back()
     ensures size { (entry : Record) (rest : List ℕ) → length (record_body entry) ≤ 1048576
         → record_size (record_bytes entry ++ rest) ≡ Some (length (record_bytes entry)) }
@@ -14,7 +14,7 @@ pub fn records_are_read_back()
     ensures identifier { (identifier : ℕ) → identifier < 2 ^ 16 → from_be_bytes w16 (record_body (released identifier)) ≡ identifier }
 {}
 
-/// A header is read back as it was written, whatever stands after it: it has eight bytes, of which byte 5 names the end and byte 6 says whether releases are recorded.
+/// A header is read back as it was written, whatever follows it: it has eight bytes, of which byte 5 names the end and byte 6 says whether releases are recorded.
 pub fn headers_are_read_back()
     ensures server { (header : AnyHeader) (rest : List ℕ) → (slice_index (header_bytes header ++ rest) 5 == 1) ≡ header.server }
     ensures releases { (header : AnyHeader) (rest : List ℕ) → (slice_index (header_bytes header ++ rest) 6 == 1) ≡ header.releases }

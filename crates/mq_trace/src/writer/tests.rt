@@ -44,7 +44,7 @@ fn call<W: Write>(trace: &mut TraceWriter<W>, number: usize) -> Result<(), Write
     }
 }
 
-/// Makes all the worked log's calls, of which those succeed that there is room for.
+/// Makes all the worked log's calls, and asserts that exactly those succeed for which there is room.
 fn assert_calls<W: Write>(rt: &impl Abort, trace: &mut TraceWriter<W>, room: usize) {
     for (number, end) in ENDS.into_iter().enumerate() {
         assert_eq!(rt;
@@ -55,7 +55,7 @@ fn assert_calls<W: Write>(rt: &impl Abort, trace: &mut TraceWriter<W>, room: usi
     }
 }
 
-/// Takes this many bytes, at most three at a time, and then fails once: with an error of this kind, or by taking none. After that it takes all.
+/// A writer that takes this many bytes, at most three at a time, and then fails once: with an error of this kind, or by taking none. After that it takes all.
 #[derive(Drop)]
 struct Failing {
     taken: Vec<u8>,
