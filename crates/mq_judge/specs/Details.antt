@@ -1,5 +1,5 @@
--- What `show --long` says of an event after its line's usual words: the fields and the properties of its packet, each by its name. A text stands in double
--- quotes; of binary data the length in bytes is said and nothing else, for it may be secret.
+-- What `show --long` prints of an event after its line's usual words: the fields and the properties of its packet, each by its name. Texts are in double
+-- quotes; of binary data only the length in bytes is printed, since it may be secret.
 use Rattle.std.specs.Prelude.{ℕ, ◌/◌, ◌%◌, ◌==◌, ◌||◌, nat_lt, Bool, true, List, [], ◌∷◌, ◌++◌, length, codes, decimal, Option, Some, None, if◌then◌else◌}
 use Rattle.std.specs.Fmt.{digit_glyph}
 use Rattle.std.specs.List.{flat_map, starts_with}
@@ -22,7 +22,7 @@ is_quoting byte = byte == 34 || byte == 92
 abbrev pub is_control : ℕ → Bool
 is_control byte = nat_lt byte 32 || byte == 127
 
--- a byte of a text between quotes: the quoting ones after a backslash, a control character as `\x` and its hexadecimal digits
+-- a byte of a text between quotes: a quote or a backslash after a backslash, a control character as `\x` and its hexadecimal digits
 abbrev pub escaped : ℕ → List ℕ
 escaped byte = if is_quoting byte then 92 ∷ byte ∷ [] else (if is_control byte then codes "\\x" ++ hex_digits byte else byte ∷ [])
 
@@ -73,7 +73,7 @@ property_names =
     ∷ (SHARED_SUBSCRIPTION_AVAILABLE, codes "shared-subscription-available")
     ∷ []
 
--- the name that stands beside an identifier
+-- the name in the row of an identifier
 abbrev pub name_beside : ℕ → List (ℕ × List ℕ) → List ℕ
 name_beside id [] = []
 name_beside id (row ∷ rows) = if row.0 == id then row.1 else name_beside id rows
@@ -91,11 +91,11 @@ value_words (text_value words) = quoted words ∷ []
 value_words (pair_value name value) = quoted name ∷ quoted value ∷ []
 value_words (binary_value bytes) = size_text bytes ∷ []
 
--- a name with this before it, unless it begins so
+-- a name with this prefix, unless it begins with it already
 abbrev pub begun_with : List ℕ → List ℕ → List ℕ
 begun_with prefix name = if starts_with (λ a b. a == b) name prefix then name else prefix ++ name
 
--- a property, with this before its name
+-- a property, with this prefix before its name
 abbrev pub property_after : List ℕ → Property → List (List ℕ)
 property_after prefix property = begun_with prefix (property_name property.id) ∷ value_words property.value
 
@@ -128,7 +128,7 @@ connect_words fields = codes "client" ∷ quoted fields.client_identifier ∷ co
     ∷ codes "keep-alive" ∷ decimal fields.keep_alive
     ∷ (property_words fields.properties ++ (will_words fields.will ++ (user_words fields.user_name ++ password_words fields.password)))
 
--- PUBLISH (MQTT 5.0, section 3.3), but for what stands in the line's usual words
+-- PUBLISH (MQTT 5.0, section 3.3), except what is among the line's usual words
 abbrev pub publish_words : PublishFields → List (List ℕ)
 publish_words fields = codes "retain" ∷ flag_text fields.retain ∷ codes "topic" ∷ quoted fields.topic ∷ codes "payload" ∷ size_text fields.payload
     ∷ property_words fields.properties
@@ -160,7 +160,7 @@ packet_words pingresp = []
 packet_words (disconnect code properties) = code_words code ++ property_words properties
 packet_words (auth code properties) = code_words code ++ property_words properties
 
--- what was sent or received, where it is a packet
+-- what was sent or received, if it is a packet
 abbrev pub item_details : Item → List (List ℕ)
 item_details (whole_item size entry) = packet_words entry
 item_details _ = []
@@ -171,6 +171,6 @@ details (sent item) = item_details item
 details (received item) = item_details item
 details _ = []
 
--- and as they stand in its line, each word with a space before it
+-- and as its line has them, each word with a space before it
 abbrev pub detail_text : Event → List ℕ
 detail_text event = behind_spaces (details event)

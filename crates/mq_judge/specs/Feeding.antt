@@ -1,4 +1,4 @@
--- What feeding comes to that goes on until a reader's end.
+-- The result of feeding everything that a reader gives, until its end.
 use Rattle.std.specs.Prelude.{◌≡◌, ℕ, List, [], ◌++◌, length, ◌⊎◌, Option}
 use Rattle.std.specs.Io.KnownBytes.{Consumes, IsAtEnd}
 use Rattle.mq_trace.specs.declared.refusal.Refusal.{Refusal}
@@ -6,7 +6,7 @@ use Rattle.mq_trace.specs.declared.refusal.Refusal.TheVariants as refusals
 use Rattle.mq_judge.specs.declared.feeding.Halt.{Halt}
 use Rattle.mq_judge.specs.declared.feeding.Halt.TheVariants as halts
 
--- What feeds follows all that a reader had left, with this limit on packets, and the sink has received what is in it.
+-- The feeder follows all that the reader had left, with this limit on packets, and the sink has received what is in it.
 pub record FedAll {F S : Type 0} (limit : F → ℕ) (follows : F → S → List ℕ → Type 0) (first : ℕ) (old new : Option (List ℕ)) (fed : F) (sink : S) : Type 0 where
   pub log : List ℕ
   pub consumed : Consumes old new log
@@ -14,7 +14,7 @@ pub record FedAll {F S : Type 0} (limit : F → ℕ) (follows : F → S → List
   pub followed : follows fed sink log
   pub within : limit fed ≡ first
 
--- It followed some of what a reader had left; and then it refused a byte of the next piece, or nothing more could be read.
+-- The feeder followed some of what the reader had left; and then it refused a byte of the next piece, or nothing more could be read.
 pub record FedSome {F S : Type 0} (limit : F → ℕ) (follows : F → S → List ℕ → Type 0) (stops : ℕ → F → S → List ℕ → List ℕ → Refusal → Type 0) (first : ℕ)
     (old new : Option (List ℕ)) (fed : F) (sink : S) (refusal : Refusal) : Type 0 where
   pub log : List ℕ
@@ -22,7 +22,7 @@ pub record FedSome {F S : Type 0} (limit : F → ℕ) (follows : F → S → Lis
   pub consumed : Consumes old new (log ++ piece)
   pub why : stops first fed sink log piece refusal ⊎ ((piece ≡ []) × follows fed sink log × (limit fed ≡ first) × (refusal ≡ refusals.Read (length log)))
 
--- Why feeding halted, after which so many turns are left: a refusal; reading failed; or no turn is left.
+-- Why feeding halted, with this many turns left: a refusal; reading failed; or no turn is left.
 abbrev pub HaltsAt : (Refusal → Type 0) → ℕ → Halt → Type 0
 HaltsAt Stopped left (halts.Refused refusal) = Stopped refusal
 HaltsAt Stopped left (halts.Failed count) = Stopped (refusals.Read count)

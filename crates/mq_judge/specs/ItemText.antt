@@ -28,7 +28,7 @@ type_name Pingresp = codes "PINGRESP"
 type_name (Disconnect code) = codes "DISCONNECT"
 type_name (Auth code) = codes "AUTH"
 
--- the Packet Identifier, where the packet has one (MQTT 5.0, section 2.2.1)
+-- the Packet Identifier, if the packet has one (MQTT 5.0, section 2.2.1)
 abbrev pub identifier_of : PacketSummary → Option ℕ
 identifier_of (Publish identifier qos duplicate) = identifier
 identifier_of (Puback identifier code) = Some identifier
@@ -51,7 +51,7 @@ abbrev pub flag_number : Bool → ℕ
 flag_number false = 0
 flag_number true = 1
 
--- both, where the packet is a PUBLISH
+-- both, if the packet is a PUBLISH
 abbrev pub delivery_of : PacketSummary → Option (ℕ × ℕ)
 delivery_of (Publish identifier qos duplicate) = Some (qos_number qos, flag_number duplicate)
 delivery_of _ = None
@@ -99,15 +99,15 @@ packet_rule_code packet_rules.W19 = codes "W19"
 packet_rule_code packet_rules.W20 = codes "W20"
 packet_rule_code packet_rules.W21 = codes "W21"
 
--- bytes that break a rule: the rule, and where the field begins that breaks it
+-- bytes that break a rule: the rule, and the offset of the field that breaks it
 abbrev pub broken_text : PacketRule → ℕ → List ℕ
 broken_text rule at = spaced (codes "BAD" ∷ packet_rule_code rule ∷ codes "offset" ∷ decimal at ∷ [])
 
--- a direction that can't be cut into packets
+-- a direction that is lost
 abbrev pub lost_text : List ℕ
 lost_text = codes "LOST"
 
--- an item: a packet with its size, bytes that break a rule, or the end of what can be cut into packets
+-- an item: a packet with its size, bytes that break a rule, or a direction that is lost
 abbrev pub item_text : Item → List ℕ
 item_text (whole_item size entry) = packet_text (packet_summary entry) size
 item_text (broken_item first rule at) = broken_text rule at

@@ -1,4 +1,4 @@
--- What a judge has come to, and what its calls answer.
+-- The state of a judge, and what its calls return.
 use Rattle.std.specs.Prelude.{◌≡◌, ℕ, nat_lt, false, List, ◌++◌, length, Option, Some, None, if◌then◌else◌, Result, Ok, Err}
 use Rattle.mq_trace.specs.declared.refusal.Refusal.{Refusal}
 use Rattle.mq_trace.specs.Tracing.{Traced, Follows as IsTracedTo}
@@ -13,7 +13,7 @@ use Rattle.mq_judge.specs.Chosen.{is_judged}
 use Rattle.mq_rules.specs.Marks.{FaultMap, fault_at}
 use Rattle.mq_judge.specs.Stopping.{StopsIn, IsRefusedEnd}
 
--- a judge: its limit, the end that is tested, once that is known, what has become of the log, and the events that were seen, the newest first
+-- a judge: its limit, the tested end, once that is known, the state of its tracer, and the events that were noted, the newest first
 pub record Judged : Type 0 where
   pub limit : ℕ
   pub tested : Option Tested
@@ -38,7 +38,7 @@ pub record Follows (judge : Judged) (log : List ℕ) : Type 0 where
   pub within : judge.tracer.reading.limit ≡ judge.limit
   pub knows : Knows judge log
 
--- The judge has refused the byte after these bytes of its log, and knows nothing of that byte. It answers this refusal for ever.
+-- The judge has refused the byte after these bytes of its log, and knows nothing of that byte. From then on it returns this refusal.
 pub record HasRefused (judge : Judged) (taken : List ℕ) (refusal : Refusal) : Type 0 where
   pub answers : judge.tracer.refusal ≡ Some refusal
   pub knows : Knows judge taken
@@ -47,12 +47,12 @@ pub record HasRefused (judge : Judged) (taken : List ℕ) (refusal : Refusal) : 
 abbrev pub Refuses : ℕ → Judged → List ℕ → List ℕ → Refusal → Type 0
 Refuses limit judge log piece refusal = (stops : StopsIn limit log piece refusal) × HasRefused judge (log ++ stops.taken) refusal
 
--- What feeding a piece after a log answers, and what the judge has come to: Ok where nothing is refused, else the refusal.
+-- What feeding a piece after a log returns, and the judge's state then: Ok if nothing is refused, else the refusal.
 abbrev pub Takes : List ℕ → List ℕ → Judged → Result (Unit {0}) Refusal → Type 0
 Takes log piece judge (Ok _) = (refused judge.limit (log ++ piece) ≡ None) × Follows judge (log ++ piece)
 Takes log piece judge (Err refusal) = Refuses judge.limit judge log piece refusal
 
--- The same of a tracer with this limit and of the events that were noted.
+-- The same for a tracer with this limit and the events that were noted.
 abbrev pub TakesEvents : ℕ → List ℕ → List ℕ → Traced → List Seen → Result (Unit {0}) Refusal → Type 0
 TakesEvents limit log piece tracer seen (Ok _) = IsTracedTo tracer (log ++ piece) × (tracer.reading.limit ≡ limit) × (seen ≡ seen_in (log ++ piece))
 TakesEvents limit log piece tracer seen (Err refusal) = (stops : StopsIn limit log piece refusal) × (seen ≡ seen_in (log ++ stops.taken))
@@ -61,7 +61,7 @@ TakesEvents limit log piece tracer seen (Err refusal) = (stops : StopsIn limit l
 abbrev pub AreFaultsOf : List ℕ → FaultMap → Type 0
 AreFaultsOf log faults = (k : ℕ) (rule : Rule) → fault_at faults k rule ≡ chosen_fault (is_judged (tested_by log)) (tested_by log) (seen_in log) k rule
 
--- What finishing a log that wasn't refused so far answers: its verdict where the log is whole, else why its end is refused.
+-- What finishing a log that wasn't refused so far returns: the verdict if the log is whole, else why its end is refused.
 abbrev pub Finishes : {A : Type 0} → (A → ℕ) → (A → FaultMap) → List ℕ → Result A Refusal → Type 0
 Finishes events_in faults_in log (Ok verdict) = (is_cut_short log ≡ false) × (events_in verdict ≡ length (events log)) × AreFaultsOf log (faults_in verdict)
 Finishes events_in faults_in log (Err refusal) = IsRefusedEnd log refusal

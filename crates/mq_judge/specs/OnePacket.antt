@@ -1,4 +1,4 @@
--- Bytes that are to be one packet, and the line that says what they are.
+-- Bytes that should be one packet, and the line that says what they are.
 use Rattle.std.specs.Prelude.{ℕ, ◌-◌, nat_lt, Bool, true, false, if◌then◌else◌, List, [], ◌∷◌, length, drop, codes, decimal, Result, Ok, Err}
 use Rattle.mq_packet.specs.declared.frame.Cut.{Cut}
 use Rattle.mq_packet.specs.declared.frame.Cut.TheVariants as cuts
@@ -15,13 +15,13 @@ use Rattle.mq_judge.specs.ItemText.{packet_text, broken_text, lost_text}
 use Rattle.mq_trace.specs.Refusing.{spaced}
 use Rattle.mq_judge.specs.Report.{line}
 
--- what one frame is that has this first byte and this size, by what its body comes to
+-- what one frame is that has this first byte and this size, by the result of reading its body
 abbrev pub frame_finding : ℕ → ℕ → Result Entry DecodeFault → Finding
 frame_finding first size (Ok entry) = Packet (packet_summary entry) size
 frame_finding first size (Err (faults.Broken fault)) = Broken fault.rule fault.at
 frame_finding first size (Err (faults.OtherVersion version)) = OtherVersion version
 
--- what the bytes are, by the cut at their front: what follows a whole frame counts first, whatever the frame holds
+-- what the bytes are, by the cut at their front: bytes after a whole frame are reported first, whatever the frame holds
 abbrev pub finding_by : List ℕ → Cut → Finding
 finding_by bytes cuts.Need = NeedMore
 finding_by bytes cuts.Lost = Lost
@@ -54,7 +54,7 @@ packet_report bytes = line (finding_text (finding bytes))
 unfoldable pub is_packet : List ℕ → Bool
 is_packet bytes = finds_packet (finding bytes)
 
--- The same apart from cutting and reading: all the bytes are one frame, which spells a packet (MQTT 5.0, section 2.1).
+-- The same, independent of cutting and reading: all the bytes are one frame, which spells a packet (MQTT 5.0, section 2.1).
 pub record IsOnePacket (bytes : List ℕ) : Type 0 where
   pub first : ℕ
   pub start : ℕ

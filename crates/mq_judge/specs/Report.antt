@@ -1,4 +1,4 @@
--- The text of a report in each form, and the line that stands in its place for a log that is refused.
+-- The text of a report in each form, and the line that is written instead for a log that is refused.
 use Rattle.std.specs.Prelude.{◌≡◌, ℕ, Bool, true, false, ◌<◌, ◌==◌, List, [], ◌∷◌, ◌++◌, length, map, codes, decimal, Option, Some, None, if◌then◌else◌}
 use Rattle.std.specs.List.{filter, flat_map}
 use Rattle.std.specs.Io.KnownBytes.{Appends}
@@ -94,7 +94,7 @@ abbrev pub rule_text : roles.Role → Rule → ℕ → Mark → Fault → List �
 rule_text role rule count mark fault = spaced (code_of rule ∷ citation_of rule role ∷ codes "faults" ∷ decimal count
     ∷ codes "first" ∷ decimal mark.position ∷ codes "record" ∷ decimal fault.record_no ∷ [])
 
--- the line of a statement that has these faults; no line where it has none
+-- the line of a statement that has these faults; no line if it has none
 abbrev pub rule_line : roles.Role → Rule → List (Mark × Fault) → List ℕ
 rule_line role rule [] = []
 rule_line role rule (first ∷ later) = line (rule_text role rule (length (first ∷ later)) first.0 first.1)
@@ -133,7 +133,7 @@ refused_report forms.Text refusal = refused_line refusal
 refused_report forms.Json refusal = line (compact_text (refused_data refusal))
 refused_report forms.Summary refusal = refused_line refusal
 
--- The known bytes grew by a beginning of the text, and by nothing else. It isn't all of the text.
+-- The known bytes grew by a beginning of the text, but not all of it, and by nothing else.
 pub record AppendsBeginning (old new : Option (List ℕ)) (text : List ℕ) : Type 0 where
   pub written : List ℕ
   pub unwritten : List ℕ
@@ -141,19 +141,19 @@ pub record AppendsBeginning (old new : Option (List ℕ)) (text : List ℕ) : Ty
   pub some : 0 < length unwritten
   pub appended : Appends old new written
 
--- Why this text wasn't written in this form, and what was: a write failed, after a beginning of it; or memory was refused for a JSON value, and nothing was written.
+-- Why this text wasn't written in this form, and what was: a write failed, after a beginning of it; or there was no memory for a JSON value, and nothing was written.
 abbrev pub FailsToWrite : Form → Option (List ℕ) → Option (List ℕ) → List ℕ → RunFault → Type 0
 FailsToWrite form old new text (run_faults.Refused refusal) = ⊥
 FailsToWrite form old new text run_faults.Write = AppendsBeginning old new text
 FailsToWrite form old new text run_faults.Memory = (form ≡ forms.Json) × (new ≡ old)
 
--- Of the whole text, the known bytes have grown by all but the rest.
+-- The known bytes have grown by all of the whole text except the rest.
 pub record LeavesToWrite (old new : Option (List ℕ)) (whole rest : List ℕ) : Type 0 where
   pub written : List ℕ
   pub parts : whole ≡ written ++ rest
   pub appended : Appends old new written
 
--- A write failed before, and nothing was written now; or it failed now, and a beginning of the text was written, and not all of it.
+-- A write failed before, and nothing was written now; or it failed now, and a beginning of the text, but not all of it, was written.
 abbrev pub StopsWriting : Bool → Option (List ℕ) → Option (List ℕ) → List ℕ → Type 0
 StopsWriting true old new text = new ≡ old
 StopsWriting false old new text = AppendsBeginning old new text

@@ -1,4 +1,4 @@
--- What judging a whole log, from a reader to a writer, comes to.
+-- The result of judging a whole log, from a reader to a writer.
 use Rattle.std.specs.Prelude.{◌≡◌, ℕ, ◌==◌, false, List, [], length, Option, None, Result, Ok, Err, if◌then◌else◌}
 use Rattle.std.specs.Io.KnownBytes.{Appends}
 use Rattle.mq_judge.specs.declared.report.Form.{Form}
@@ -21,7 +21,7 @@ use Rattle.mq_trace.specs.Refusals.{refused, is_cut_short}
 use Rattle.mq_judge.specs.Report.{report, AppendsBeginning}
 use Rattle.mq_judge.specs.Stopping.{IsRefusedAt}
 
--- the largest packet that is read where nothing else is asked for, in bytes
+-- the largest packet that is read by default, in bytes
 abbrev pub default_limit : ℕ
 default_limit = 16777216
 
@@ -29,7 +29,7 @@ default_limit = 16777216
 abbrev pub IsFaultless : List ℕ → Type 0
 IsFaultless log = listed (is_judged (tested_by log)) (tested_by log) (seen_in log) ≡ []
 
--- Pass exactly where the log has no faults
+-- Pass exactly if the log has no faults
 abbrev pub outcome_of : List ℕ → Outcome
 outcome_of log = if length (listed (is_judged (tested_by log)) (tested_by log) (seen_in log)) == 0 then Pass else Fail
 
@@ -49,13 +49,13 @@ pub record IsVerdictOn (log : List ℕ) (role : Role) (count : ℕ) (faults : Fa
   pub count_is : count ≡ length (events log)
   pub faults_are : map.entries faults ≡ found_in log
 
--- What judging this log came to, by what it answered and what the reader has left: the verdict and the end that was judged, or why the log is refused.
+-- The result of judging this log, and what the reader has left: the verdict and the end that was judged, or why the log is refused.
 abbrev pub JudgesOver : {V : Type 0} → (V → ℕ) → (V → FaultMap) → List ℕ → Option (List ℕ) → Result (V × Role) Refusal → Type 0
 JudgesOver count_in faults_in log left (Ok answer) = IsVerdictOn log answer.1 (count_in answer.0) (faults_in answer.0)
 JudgesOver count_in faults_in log left (Err refusal) = IsRefusedAt default_limit log left refusal
 
--- What a run over this log did, by the form of its report, what it answered and what the reader has left: it wrote the report and nothing else; or, where
--- writing failed, a beginning of it; or nothing, where the log is refused or memory was refused for a JSON value.
+-- What a run over this log did, by the form of its report, its result and what the reader has left: it wrote the report and nothing else; or, if
+-- writing failed, a beginning of it; or nothing, if the log is refused or there was no memory for a JSON value.
 abbrev pub RunsOver : Form → List ℕ → Option (List ℕ) → Result Outcome RunFault → Option (List ℕ) → Option (List ℕ) → Type 0
 RunsOver form log left (Ok outcome) old new = IsJudged log × (outcome ≡ outcome_of log) × Appends old new (report form log)
 RunsOver form log left (Err (run_faults.Refused refusal)) old new = IsRefusedAt default_limit log left refusal

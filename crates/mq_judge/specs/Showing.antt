@@ -1,4 +1,4 @@
--- The lines that show a log's events, with the faults at them where that is asked for, and what showing a whole log, from a reader to a writer, comes to.
+-- The lines that show a log's events, with the faults at them if that is asked for, and the result of showing a whole log, from a reader to a writer.
 use Rattle.std.specs.Prelude.{◌≡◌, ℕ, ◌+◌, Bool, true, false, nat_le, nat_lt, ◌&&◌, List, [], ◌∷◌, ◌++◌, codes, decimal, Option, Some, None, Result, Ok, Err, if◌then◌else◌}
 use Rattle.std.specs.List.{flat_map, list_any}
 use Rattle.std.specs.Io.KnownBytes.{Appends}
@@ -48,7 +48,7 @@ abbrev pub shown_line : (long : Bool) → Placed → List ℕ
 shown_line false placed = event_line placed
 shown_line true placed = long_line placed
 
--- the lines of events, each made so: these are given the newest first, and their lines stand the oldest first
+-- the lines of events, each made by this function: the events are given the newest first, and their lines are the oldest first
 abbrev pub lines_by : (Placed → List ℕ) → List Placed → List ℕ
 lines_by line_of [] = []
 lines_by line_of (newest ∷ earlier) = lines_by line_of earlier ++ line_of newest
@@ -63,19 +63,19 @@ long_lines_of shown = lines_by long_line shown
 
 -- ---- the lines of events and of the faults at them
 
--- What is shown of events: the faults at them, in ascending order, of an end in this role; only the events so near to a fault, or all of them where no
--- number is given; and whether their lines are long.
+-- What is shown of events: the faults at them, in ascending order, of an end in this role; only the events within `around` positions of a fault, or all of
+-- them if that is None; and whether their lines are long.
 pub record Annotation : Type 0 where
   pub role : roles.Role
   pub faults : List (Mark × Fault)
   pub around : Option ℕ
   pub long : Bool
 
--- two positions are at most so many apart
+-- two positions are at most `count` apart
 abbrev pub is_within : ℕ → ℕ → ℕ → Bool
 is_within count a b = nat_le a (b + count) && nat_le b (a + count)
 
--- a position is at most so many from one of these faults; any is, where no number is given
+-- a position is at most `count` from one of these faults; with None any position is near
 abbrev pub is_near : Option ℕ → List (Mark × Fault) → ℕ → Bool
 is_near None faults position = true
 is_near (Some count) faults position = list_any (λ found. is_within count found.0.position position) faults
@@ -106,7 +106,7 @@ abbrev pub begins_gap : Option ℕ → List (Mark × Fault) → List Placed → 
 begins_gap around faults [] = true
 begins_gap around faults (newest ∷ earlier) = is_near around faults newest.place.position
 
--- the line of an event, and those of the faults at it
+-- the line of an event, and the lines of the faults at it
 abbrev pub noted_line : Annotation → Placed → List ℕ
 noted_line a placed = shown_line a.long placed ++ fault_notes a.role (faults_at placed.place.position a.faults)
 
@@ -114,7 +114,7 @@ noted_line a placed = shown_line a.long placed ++ fault_notes a.role (faults_at 
 abbrev pub text_if : (shown : Bool) → Annotation → (begins : Bool) → Placed → List ℕ
 text_if shown a begins placed = if shown then noted_line a placed else (if begins then line (codes "..") else [])
 
--- an event is shown where it is near to a fault
+-- an event is shown if it is near to a fault
 abbrev pub event_text_after : Annotation → (begins : Bool) → Placed → List ℕ
 event_text_after a begins placed = text_if (is_near a.around a.faults placed.place.position) a begins placed
 
@@ -125,7 +125,7 @@ annotated a (newest ∷ earlier) = annotated a earlier ++ event_text_after a (be
 
 -- ---- showing a log
 
--- A beginning of the text of the events of these first bytes of a log was written, and not all of it. Nothing is refused in them.
+-- A beginning of the text of the events of these first bytes of a log was written, but not all of it. Nothing is refused in these bytes.
 pub record WritesBeginning (text_of : List Placed → List ℕ) (log : List ℕ) (old new : Option (List ℕ)) : Type 0 where
   pub taken : List ℕ
   pub later : List ℕ
@@ -133,8 +133,8 @@ pub record WritesBeginning (text_of : List Placed → List ℕ) (log : List ℕ)
   pub unrefused : refused default_limit taken ≡ None
   pub written : AppendsBeginning old new (text_of (events taken))
 
--- What showing this log by this text of events did, by what it answered and what the reader has left. It wrote the text of the log's events and nothing else;
--- where the log is refused, that of the events that are complete before the refused byte; where writing failed, a beginning of it.
+-- What showing this log by this text of events did, by its result and what the reader has left. It wrote the text of the log's events and nothing else;
+-- if the log is refused, that of the events that are complete before the refused byte; if writing failed, a beginning of it.
 abbrev pub Shows : (List Placed → List ℕ) → List ℕ → Option (List ℕ) → Result (Unit {0}) RunFault → Option (List ℕ) → Option (List ℕ) → Type 0
 Shows text_of log left (Ok _) old new = IsJudged log × Appends old new (text_of (events log))
 Shows text_of log left (Err (run_faults.Refused refusal)) old new =

@@ -6,16 +6,16 @@ use Rattle.mq_trace.specs.Directing.{NeedsMemory}
 use Rattle.mq_trace.specs.Events.{event_at, packet_at}
 use Rattle.mq_trace.specs.Refusals.{refused, refusal_at, is_cut_short}
 
--- A byte may need memory after these bytes: it belongs to a packet that is not too large; or no condition applies to it, and it completes an event.
+-- A byte after these bytes may need memory: it belongs to a packet that isn't too large; or no condition applies at it, and it completes an event.
 abbrev pub MayLackMemory : ℕ → List ℕ → ℕ → Type 0
 MayLackMemory limit taken byte = NeedsMemory limit (packet_at taken byte) ⊎ ((refusal_at limit taken byte ≡ None) × (is_some (event_at taken byte) ≡ true))
 
--- Why a byte is refused after these bytes: a condition applies to it, the one of the lowest number; or memory was refused while it was taken in.
+-- Why a byte is refused after these bytes: a condition applies at it, and the lowest number decides; or there was no memory to take it in.
 abbrev pub IsRefusedByte : ℕ → List ℕ → ℕ → Refusal → Type 0
 IsRefusedByte limit taken byte refusal = (refusal_at limit taken byte ≡ Some refusal)
     ⊎ ((refusal ≡ refusals.Memory (length taken)) × MayLackMemory limit taken byte)
 
--- Why the end is refused of a log of these bytes: it is cut short; or it isn't, and memory was refused.
+-- Why the end of a log of these bytes is refused: it is cut short; or it isn't, and there was no memory.
 abbrev pub IsRefusedEnd : List ℕ → Refusal → Type 0
 IsRefusedEnd log refusal = ((is_cut_short log ≡ true) × (refusal ≡ refusals.Cut (length log)))
     ⊎ ((is_cut_short log ≡ false) × (refusal ≡ refusals.Memory (length log)))
@@ -29,16 +29,16 @@ pub record StopsIn (limit : ℕ) (log piece : List ℕ) (refusal : Refusal) : Ty
   pub unrefused : refused limit (log ++ taken) ≡ None
   pub why : IsRefusedByte limit (log ++ taken) byte refusal
 
--- Why no more is taken in after these bytes of a log, of which these are still to come: the next one is refused, or the end is where none is to come.
+-- Why no more is taken in after these bytes of a log, with these still to come: the next byte is refused, or, if none is to come, the end.
 abbrev pub IsRefusedNext : ℕ → List ℕ → List ℕ → Refusal → Type 0
 IsRefusedNext limit taken [] refusal = IsRefusedEnd taken refusal
 IsRefusedNext limit taken (byte ∷ later) refusal = IsRefusedByte limit taken byte refusal
 
--- These bytes were read, and then reading failed or the turns ran out: the refusal names their number, and the reader has left what is still to come.
+-- These bytes were read, and then reading failed or no turn was left: the refusal has their number, and the reader has left what is still to come.
 abbrev pub IsUnread : List ℕ → List ℕ → Option (List ℕ) → Refusal → Type 0
 IsUnread taken later left refusal = (refusal ≡ refusals.Read (length taken)) × (left ≡ Some later)
 
--- A log from a reader is refused, and nothing is refused before that byte. The reader has these bytes left, where that is known.
+-- A log from a reader is refused at a byte, and nothing is refused before it. The reader has these bytes left, if that is known.
 pub record IsRefusedAt (limit : ℕ) (log : List ℕ) (left : Option (List ℕ)) (refusal : Refusal) : Type 0 where
   -- the bytes before the refused one
   pub taken : List ℕ

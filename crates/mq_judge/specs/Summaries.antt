@@ -1,4 +1,4 @@
--- What a line says of a packet, beside its size.
+-- What a line says of a packet, besides its size.
 use Rattle.std.specs.Prelude.{ℕ}
 use Rattle.mq_packet.specs.declared.packet.AcknowledgementKind.{AcknowledgementKind}
 use Rattle.mq_packet.specs.declared.packet.AcknowledgementKind.TheVariants as acknowledgements

@@ -17,7 +17,7 @@ text_by Brief = lines_of
 text_by Long = long_lines_of
 text_by (Annotated a) = annotated (annotation_of a)
 
--- These events were shown: a view of faults knows whether an event that is left out next begins a gap.
+-- The view's state after these events: a view with faults knows whether the next event that is left out would begin a gap.
 abbrev pub StandsAfter : List Placed → View → Type 0
 StandsAfter earlier Brief = ⊤
 StandsAfter earlier Long = ⊤

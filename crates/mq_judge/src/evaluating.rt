@@ -14,7 +14,7 @@ use std::alloc::Global;
 ///
 /// # Errors
 ///
-/// `Memory` where room for a fault was refused.
+/// `Memory` if there is no memory for a fault.
 pub fn judge_all(
     alloc: Global,
     tested: Tested,

@@ -1,4 +1,4 @@
-//! Feeding a log from a reader to what takes it in piece by piece.
+//! Feeding a log from a reader, piece by piece, to whatever takes it in.
 ghost use Rattle.std.specs.Prelude.{◌≡◌, [], ◌++◌, ℕ, List, OnOk, IfErr};
 ghost use Rattle.mq_judge.specs.Feeding.{FedAll, FedSome, HaltsAt};
 
@@ -6,7 +6,7 @@ use super::turns::Turns;
 use mq_trace::Refusal;
 use std::io::{ErrorKind, Read};
 
-/// What takes in a log, piece by piece, and hands what it finds to a sink.
+/// Takes in a log, piece by piece, and passes what it finds to a sink.
 pub trait Feed<S> {
     ghost use Rattle.mq_trace.specs.declared.refusal.Refusal.{Refusal};
 
@@ -14,7 +14,7 @@ pub trait Feed<S> {
     ghost limit: { Self → ℕ };
     // It has taken in this log, and refused none of it; and the sink has received all that is in it.
     ghost follows: { Self → S → List ℕ → Type 0 };
-    // Where it reads packets of at most so many bytes: after this log it has refused a byte of this piece so, and this is what the sink has come to.
+    // With this limit on packets, it has refused a byte of this piece after this log, for this reason; and this is the sink's state.
     ghost stops: { ℕ → Self → S → List ℕ → List ℕ → Refusal → Type 0 };
 
     /// Takes in the next piece of the log.
@@ -38,11 +38,11 @@ enum Halt {
     RanOut(u64),
 }
 
-/// Feeds all that a reader gives, at most 8,192 bytes a turn, for at most so many turns. An interrupted read is tried again, in a turn of its own.
+/// Feeds all that a reader gives, at most 8,192 bytes a turn, for at most `turns` turns. An interrupted read is retried, in a turn of its own.
 ///
 /// # Errors
 ///
-/// The feeder's refusal; `Read`, at how many bytes were fed, where the reader fails or its turns ran out before it ended.
+/// The feeder's refusal; `Read`, at the number of bytes that were fed, if the reader fails or hasn't ended after `turns` turns.
 pub fn feed_all<R: Read, S, F: Feed<S>>(
     feeder: &mut F,
     sink: &mut S,
@@ -61,7 +61,7 @@ pub fn feed_all<R: Read, S, F: Feed<S>>(
     }
 }
 
-/// Feeds until the reader ends, a turn after another.
+/// Feeds until the reader ends, turn by turn.
 fn take_turns<R: Read, S, F: Feed<S>>(
     feeder: &mut F,
     sink: &mut S,

@@ -1,4 +1,4 @@
-//! The judge: it is fed a log, in any pieces, and answers the verdict on it.
+//! The judge: it is fed a log, in any pieces, and returns the verdict on it.
 ghost use Rattle.std.specs.Prelude.{◌≡◌, ℕ, ◌-◌, ◌≤◌, min, List, [], nat_lt, length, Some, None, Err, IfErr, IfSome, reverse, if◌then◌else◌};
 ghost use Rattle.mq_judge.specs.Judging.{Knows, Follows, Takes, TakesEvents, Finishes, judge_of, tested_in};
 ghost use Rattle.mq_rules.specs.Notes.{tested_by, seen_in};
@@ -12,7 +12,7 @@ use mq_trace::{Refusal, Tracer};
 use std::alloc::Global;
 use std::marker::Model;
 
-/// How a judge reads a log.
+/// Options of a judge.
 #[derive(Clone, Copy, Debug, PartialEq, Eq)]
 pub struct Options {
     /// The largest packet that is read, in bytes: 5 to 268,435,460.
@@ -29,12 +29,12 @@ impl Default for Options {
     }
 }
 
-/// What is said of a log that isn't refused.
+/// The verdict on a log that isn't refused.
 #[derive(Drop)]
 pub struct Verdict {
     /// How many events the log has.
     pub events: u32,
-    /// Each pair of a position and a statement that is false there.
+    /// A fault for each pair of a position and a statement that is false there.
     pub faults: Faults,
 }
 
@@ -76,7 +76,7 @@ impl Judge {
         }
     }
 
-    /// Which end is judged, once the log's header is whole. After a refusal it is the answer on the bytes before the refused one.
+    /// Which end is judged, once the log's header is whole. After a refusal it is what the bytes before the refused one say.
     pub fn role(&self) -> Option<Role>
         ensures { (taken : List ℕ) → Knows self.now taken → result ≡ (if nat_lt (length taken) 8 then None else Some (tested_by taken).role) }
     {
@@ -88,8 +88,8 @@ impl Judge {
     ///
     /// # Errors
     ///
-    /// The refusal whose condition applies at the earliest byte; or `Memory`, at the byte that was being taken in, where nothing is refused before it.
-    /// From then on each call answers the same refusal.
+    /// The refusal whose condition applies at the earliest byte; or `Memory`, at the byte that was being taken in, if nothing is refused before it.
+    /// From then on each call fails with the same refusal.
     pub fn feed(&mut self, piece: &[u8]) -> Result<(), Refusal>
         ensures answers { (log : List ℕ) → Follows self.old log → Takes log piece.now self.new result }
         ensures limit { self.new.limit ≡ self.old.limit }
@@ -99,12 +99,12 @@ impl Judge {
         take_in(&mut self.tested, &mut self.tracer, &mut self.notes, piece)
     }
 
-    /// Ends the log, and answers the verdict on it.
+    /// Ends the log, and returns the verdict on it.
     ///
     /// # Errors
     ///
-    /// The refusal that an earlier call answered; `Cut`, at the log's length, where it ends inside its header or a record; `Memory`, at the log's length,
-    /// where it doesn't.
+    /// The refusal that an earlier call returned; `Cut`, at the log's length, if the log ends inside its header or a record; else `Memory`, at the log's
+    /// length, if there is no memory to judge it.
     pub fn finish(self) -> Result<Verdict, Refusal>
         ensures verdict { (log : List ℕ) → Follows self log → Finishes (λ v. v.events) (λ v. v.faults) log result }
         ensures for_ever { IfSome self.tracer.refusal (λ refusal. result ≡ Err refusal) }
@@ -161,7 +161,7 @@ fn take_in(
     }
 }
 
-/// How many of so many further bytes of a log belong to its header.
+/// How many of the next `count` bytes of a log belong to its header.
 fn header_count(tracer: &Tracer, count: usize) -> usize
     ensures within { result ≤ count }
     ensures count { (log : List ℕ) → IsTracedTo tracer.now log → result ≡ min (8 - length log) count }
@@ -170,7 +170,7 @@ fn header_count(tracer: &Tracer, count: usize) -> usize
     (left as usize).min(count)
 }
 
-/// The end that the header names of what was traced, once it is whole.
+/// The end that the log's header names, once the header is whole.
 fn tested_end(tracer: &Tracer) -> Option<Tested>
     ensures { (log : List ℕ) → IsTracedTo tracer.now log → result ≡ tested_in log }
 {

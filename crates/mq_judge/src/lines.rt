@@ -1,13 +1,13 @@
-//! Lines of text that wait to be written together.
+//! A buffer of lines that are written together.
 ghost use Rattle.std.specs.Prelude.{◌≡◌, ◌+◌, ◌<◌, ◌≤◌, nat_le, [], ◌++◌, IfErr, OnOk, length, decimal};
 
 use std::fmt;
 use std::marker::Model;
 
-/// How many bytes wait at most.
+/// How many bytes can wait.
 const ROOM: usize = 8192;
 
-/// Lines that wait to be written.
+/// A buffer of lines that wait to be written.
 #[derive(Drop)]
 pub struct Lines {
     bytes: [u8; 8192],
@@ -25,7 +25,7 @@ impl Model for Lines {
 }
 
 impl Lines {
-    /// No line.
+    /// An empty buffer.
     pub fn new() -> Self
         ensures { result ≡ [] }
     {
@@ -35,7 +35,7 @@ impl Lines {
         }
     }
 
-    /// Whether there is room for so many bytes more.
+    /// Whether there is room for `count` more bytes.
     #[inline(always)]
     pub fn has_room(&self, count: usize) -> bool
         ensures { result ≡ nat_le (length self.now + count) 8192 }
@@ -43,7 +43,7 @@ impl Lines {
         count <= ROOM - self.len
     }
 
-    /// What waits.
+    /// The bytes that wait.
     #[inline(always)]
     pub fn as_bytes(&self) -> &[u8]
         ensures { result.now ≡ self.now }
@@ -58,11 +58,11 @@ impl Lines {
         self.len = 0;
     }
 
-    /// Puts a text after what waits.
+    /// Appends a text to what waits.
     ///
     /// # Errors
     ///
-    /// Where it has no room. Nothing changes then.
+    /// If there is no room for it. Nothing is then changed.
     #[inline(always)]
     pub fn put(&mut self, text: &str) -> fmt::Result
         ensures puts { OnOk result (self.new ≡ self.old ++ text.now) }
@@ -71,11 +71,11 @@ impl Lines {
         self.put_bytes(text.as_bytes())
     }
 
-    /// Puts bytes after what waits.
+    /// Appends bytes to what waits.
     ///
     /// # Errors
     ///
-    /// Where they have no room. Nothing changes then.
+    /// If there is no room for them. Nothing is then changed.
     #[inline(always)]
     pub fn put_bytes(&mut self, bytes: &[u8]) -> fmt::Result
         ensures puts { OnOk result (self.new ≡ self.old ++ bytes.now) }
@@ -90,11 +90,11 @@ impl Lines {
         Ok(())
     }
 
-    /// Puts a number in decimal digits after what waits.
+    /// Appends a number in decimal digits to what waits.
     ///
     /// # Errors
     ///
-    /// Where it has no room. Nothing changes then.
+    /// If there is no room for it. Nothing is then changed.
     #[inline(never)]
     pub fn put_number(&mut self, number: u32) -> fmt::Result
         ensures puts { OnOk result (self.new ≡ self.old ++ decimal number) }
@@ -139,7 +139,7 @@ fn digit_count(number: u32) -> usize
     }
 }
 
-// Writes a number's decimal digits, from the last ones, into bytes that it fills. Two at a time take half the divisions.
+// Fills the bytes with a number's decimal digits, from the last ones on. Two digits at a time take half the divisions.
 fn write_digits(digits: &mut [u8], number: u32)
     requires { length digits.old ≡ length (decimal number) }
     ensures { digits.new ≡ decimal number }

@@ -1,4 +1,4 @@
-//! What is noted of the events of a log.
+//! The notes of the events of a log.
 ghost use Rattle.std.specs.Prelude.{◌≡◌, ◌≤◌, ◌⊎◌, [], ◌∷◌, length, reverse, true, vec_len, vec_capacity, OnOk, OnErr};
 ghost use Rattle.mq_packet.specs.Entries.{publish as publish_entry};
 ghost use Rattle.mq_packet.specs.Reading.{publish_view};
@@ -13,11 +13,11 @@ use mq_rules::{Memory, Note, Seen};
 use mq_trace::{Event, Place3, Refusal, Sink, Way};
 use std::alloc::Global;
 
-/// The events that were received, the oldest first.
+/// A sink that notes the events it receives, the oldest first.
 #[derive(Drop)]
 pub struct Notes {
     alloc: Global,
-    /// What the statements look at of each.
+    /// What the statements look at in each event.
     pub seen: Vec<Seen>,
 }
 
@@ -32,11 +32,11 @@ impl Notes {
         }
     }
 
-    /// Notes the next event, which stands at this place.
+    /// Notes the next event, which has this place.
     ///
     /// # Errors
     ///
-    /// `Memory` where there is no room for one more note, or none for a text that the note keeps. The notes are then unchanged.
+    /// `Memory` if there is no room for one more note, or none for a text that the note keeps. The notes are then unchanged.
     #[inline(always)]
     fn note(&mut self, place: Place3, event: &Event<'_>) -> Result<(), Memory>
         ensures noted { OnOk result (reverse self.new.seen.items ≡ seen (placed_at place event.now) ∷ reverse self.old.seen.items) }
@@ -49,11 +49,11 @@ impl Notes {
         Ok(())
     }
 
-    /// Notes the next event, which is a PUBLISH of so many bytes, goes this way, and stands at this place.
+    /// Notes the next event, a PUBLISH of `size` bytes in this direction, which has this place.
     ///
     /// # Errors
     ///
-    /// `Memory` where there is no room for one more note, or none for a text that the note keeps. The notes are then unchanged.
+    /// `Memory` if there is no room for one more note, or none for a text that the note keeps. The notes are then unchanged.
     #[inline(always)]
     fn note_publish(
         &mut self,
@@ -90,7 +90,7 @@ impl Sink for Notes {
 
     ghost agrees = { λ notes received. reverse notes.seen.items ≡ map seen received };
 
-    // Memory was refused, and the notes are those of the events before.
+    // There was no memory, and the notes are those of the earlier events.
     ghost refuses = { λ notes received refusal. (refusal ≡ Memory 0) × (reverse notes.seen.items ≡ map seen received) };
 
     #[inline(always)]

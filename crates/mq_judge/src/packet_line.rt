@@ -1,4 +1,4 @@
-//! The line that says what bytes are that are to be one packet.
+//! The line that says what bytes are that should be one packet.
 ghost use Rattle.std.specs.Prelude.{◌≡◌, ◌≤◌, ◌↔◌, true, ◌++◌, IfOk, IfErr, OnOk, length};
 ghost use Rattle.std.specs.Io.KnownBytes.{Appends};
 ghost use Rattle.mq_judge.specs.OnePacket.{IsOnePacket, finding, finding_text, finds_packet, frame_finding, is_packet, packet_report};
@@ -17,18 +17,18 @@ use std::fmt;
 use std::fmt::Write as _;
 use std::io::Write;
 
-/// What bytes are that are to be one packet.
+/// What bytes are that should be one packet.
 #[derive(Clone, Copy, Debug, PartialEq, Eq)]
 enum Finding {
-    /// They begin with no whole frame yet.
+    /// They are the beginning of a frame.
     NeedMore,
     /// This many bytes follow a whole frame.
     LeftOver(usize),
     /// One frame that is a packet of this size.
     Packet(PacketSummary, u32),
-    /// One frame that breaks this rule, in the field that begins there.
+    /// One frame that breaks this rule, in the field at this offset.
     Broken(PacketRule, u32),
-    /// The beginning of no frame.
+    /// The Remaining Length is invalid, so no frame can begin with them.
     Lost,
     /// The frame of a CONNECT of another protocol version (MQTT 5.0, section 3.1.2.2).
     OtherVersion(u8),
@@ -77,7 +77,7 @@ impl Finding {
     }
 }
 
-// Puts a finding's text after the lines that wait.
+// Appends a finding's text to the waiting lines.
 fn put_finding(lines: &mut Lines, found: Finding) -> fmt::Result
     ensures { OnOk result (lines.new ≡ lines.old ++ finding_text found) }
 {
@@ -91,7 +91,7 @@ fn put_finding(lines: &mut Lines, found: Finding) -> fmt::Result
     }
 }
 
-// Puts a finding's line after them.
+// Appends a finding's line to them.
 fn put_line(lines: &mut Lines, found: Finding) -> fmt::Result
     ensures { OnOk result (lines.new ≡ lines.old ++ line (finding_text found)) }
 {
@@ -112,17 +112,17 @@ fn write_finding<W: Write>(found: Finding, writer: &mut W) -> Result<(), RunFaul
     }
 }
 
-/// Writes the line that says what these bytes are, which are to be one Control Packet (MQTT 5.0, section 2.1), and answers
+/// Writes the line that says what these bytes are, which should be one Control Packet (MQTT 5.0, section 2.1), and returns
 /// whether they are: one frame, with nothing before or after it, that spells a packet. It takes no memory.
 ///
-/// The line is `<TYPE> size <n>` for a packet, with ` qos <q> dup <d>` for a PUBLISH and ` id <i>` where there is a Packet
-/// Identifier; `BAD <code> offset <n>` for a frame that breaks a rule, with the field's place; `other version <n>` for a
-/// CONNECT of another protocol version; `left over <n> bytes` where bytes follow a whole frame, whatever it holds; `LOST`
-/// where the Remaining Length is no variable byte integer; and `need more bytes` where it or the frame isn't whole.
+/// The line is `<TYPE> size <n>` for a packet, with ` qos <q> dup <d>` for a PUBLISH and ` id <i>` if there is a Packet
+/// Identifier; `BAD <code> offset <n>` for a frame that breaks a rule, with the field's offset; `other version <n>` for a
+/// CONNECT of another protocol version; `left over <n> bytes` if bytes follow a whole frame, whatever it holds; `LOST`
+/// if the Remaining Length is invalid; and `need more bytes` if it or the frame isn't whole.
 ///
 /// # Errors
 ///
-/// `Write` where a write failed: the writer answered an error, an interruption too, or took no byte. A beginning of the line was written then.
+/// `Write` if a write failed: the writer returned an error, also one for an interruption, or took no byte. A beginning of the line was then written.
 #[tactic(auto, unfolding(crate::specs::OnePacket::packet_report, crate::specs::OnePacket::is_packet))]
 pub fn write_packet<W: Write>(bytes: &[u8], writer: &mut W) -> Result<bool, RunFault>
     ensures ok { OnOk result (Appends (W.contents writer.old) (W.contents writer.new) (packet_report bytes.now)) }

@@ -1,4 +1,4 @@
-//! Reports: what is written of a verdict, or of a log that is refused.
+//! Reports: what is written for a verdict, or for a log that is refused.
 ghost use Rattle.std.specs.Prelude.{◌≡◌, Some, IfErr, OnOk};
 ghost use Rattle.std.specs.FinMap as map;
 ghost use Rattle.std.specs.Io.KnownBytes.{Appends};
@@ -30,12 +30,12 @@ pub enum Form {
     Summary,
 }
 
-/// What a report says in short.
+/// The outcome of a report.
 #[derive(Clone, Copy, Debug, PartialEq, Eq)]
 pub enum Outcome {
     /// There are no faults.
     Pass,
-    /// There is a fault, or more.
+    /// There is at least one fault.
     Fail,
 }
 
@@ -44,9 +44,9 @@ pub enum Outcome {
 pub enum RunFault {
     /// The log can't be judged.
     Refused(Refusal),
-    /// A write failed: the writer answered an error, an interruption too, or it took no byte.
+    /// A write failed: the writer returned an error, also one for an interruption, or took no byte.
     Write,
-    /// Memory was refused for a report as JSON.
+    /// There was no memory for a report as JSON.
     Memory,
 }
 
@@ -128,7 +128,8 @@ impl fmt::Display for Counts {
 ///
 /// # Errors
 ///
-/// `Write` where a write failed: the writer answered an error, an interruption too, or took no byte. A beginning of the report was written then, and not all of it.
+/// `Write` if a write failed: the writer returned an error, also one for an interruption, or took no byte. A beginning of the report, but not all
+/// of it, was then written.
 pub fn write_text<W: Write>(verdict: &Verdict, role: Role, writer: &mut W) -> Result<(), RunFault>
     ensures ok { OnOk result (Appends (W.contents writer.old) (W.contents writer.new)
         (report_on Form.Text role (map.entries verdict.now.faults) verdict.now.events)) }
@@ -150,12 +151,13 @@ pub fn write_text<W: Write>(verdict: &Verdict, role: Role, writer: &mut W) -> Re
     write_line(counts, writer)
 }
 
-/// Writes the line that stands in a report's place for a log that is refused. It takes memory in the form `Json` alone.
+/// Writes the line that replaces the report for a log that is refused. It takes memory only in the form `Json`.
 ///
 /// # Errors
 ///
-/// `Write` where a write failed: the writer answered an error, an interruption too, or took no byte. A beginning of the line was written then, and not all of it.
-/// `Memory` where memory was refused for the JSON. Nothing was written then.
+/// `Write` if a write failed: the writer returned an error, also one for an interruption, or took no byte. A beginning of the line, but not all
+/// of it, was then written.
+/// `Memory` if there is no memory for the JSON. Nothing was then written.
 pub fn write_refused<W: Write>(
     alloc: Global,
     refusal: &Refusal,
@@ -258,7 +260,7 @@ mod tests {
         Verdict { events, faults }
     }
 
-    /// Takes this many bytes, at most three at a time, and then fails: with an error of this kind, or by taking none.
+    /// A writer that takes this many bytes, at most three at a time, and then fails: with an error of this kind, or by taking none.
     #[derive(Drop)]
     struct Failing {
         taken: Vec<u8>,

@@ -17,7 +17,7 @@ use mq_trace::Refusal;
 use std::alloc::Global;
 use std::io::{Read, Write};
 
-/// Judges the log that a reader gives, and writes the report on it in this form: `run_bounded` with 4,294,967,295 turns.
+/// Judges the log that a reader gives, and writes the report on it in this form. It is `run_bounded` with 4,294,967,295 turns.
 ///
 /// # Errors
 ///
@@ -34,14 +34,14 @@ pub fn run<R: Read, W: Write>(
     run_bounded(alloc, reader, writer, form, u32::MAX)
 }
 
-/// Judges the log that a reader gives, and writes the report on it in this form. It reads at most so many times, an interrupted read too, and at most 8,192
+/// Judges the log that a reader gives, and writes the report on it in this form. It reads at most `turns` times, counting interrupted reads, and at most 8,192
 /// bytes each time.
 ///
 /// # Errors
 ///
-/// `Refused` where the log is refused, where the reader fails, where so many reads were made and none told the end (refusal 15), or where the judge is
-/// refused memory. Nothing was written then. `Write` where a write failed. A beginning of the report was written then, and not all of it. `Memory` where
-/// memory was refused for a report as JSON. Nothing was written then.
+/// `Refused` if the log is refused, if the reader fails or hasn't ended after `turns` reads (refusal 15), or if the judge has no memory (refusal 16). Nothing
+/// was then written. `Write` if a write failed. A beginning of the report, but not all of it, was then written. `Memory` if there is no memory for a report as
+/// JSON. Nothing was then written.
 pub fn run_bounded<R: Read, W: Write>(
     alloc: Global,
     reader: &mut R,
@@ -57,19 +57,19 @@ pub fn run_bounded<R: Read, W: Write>(
     Ok(outcome(&verdict))
 }
 
-/// Judges the log that a reader gives, and answers the verdict on it and the role of the end that was judged. It reads at most 8,192 bytes a turn, and for
-/// 4,294,967,295 turns at most.
+/// Judges the log that a reader gives, and returns the verdict on it and the role of the end that was judged. It reads at most 4,294,967,295 times, and at most
+/// 8,192 bytes each time.
 ///
 /// # Errors
 ///
-/// Why the log is refused; `Read` where the reader fails, or where it hasn't ended when its turns run out; `Memory` where the judge is refused memory.
+/// Why the log is refused; `Read` if the reader fails, or hasn't ended after the last turn; `Memory` if the judge has no memory.
 pub fn judge_reader<R: Read>(alloc: Global, reader: &mut R) -> Result<(Verdict, Role), Refusal>
     ensures { IfSome (R.remaining reader.old) (λ log. JudgesOver (λ v. v.events) (λ v. v.faults) log (R.remaining reader.new) result) }
 {
     judge_bounded(alloc, reader, u32::MAX)
 }
 
-/// The same in at most so many turns.
+/// The same in at most `turns` turns.
 fn judge_bounded<R: Read>(
     alloc: Global,
     reader: &mut R,
@@ -88,7 +88,7 @@ fn judge_bounded<R: Read>(
 ///
 /// # Errors
 ///
-/// `Write` where a write failed. A beginning of the report was written then, and not all of it. `Memory` where memory was refused for a report as JSON.
+/// `Write` if a write failed. A beginning of the report, but not all of it, was then written. `Memory` if there is no memory for a report as JSON.
 fn write_report<W: Write>(
     alloc: Global,
     verdict: &Verdict,
@@ -108,7 +108,7 @@ fn write_report<W: Write>(
     }
 }
 
-/// What a report on a verdict says in short.
+/// The outcome of a report on a verdict.
 fn outcome(verdict: &Verdict) -> Outcome
     ensures { result ≡ (if map.len verdict.now.faults == 0 then Outcome.Pass else Outcome.Fail) }
 {
@@ -128,7 +128,7 @@ mod tests {
 
     const HEADER: &[u8] = b"MQTR\x01\x00\x01\x00";
 
-    /// Gives these bytes, this many a turn, and then fails or ends. Each read is interrupted once before it gives anything.
+    /// A reader that gives these bytes, this many a turn, and then fails or ends. Each read is interrupted once before it gives anything.
     #[derive(Drop)]
     struct Halting<'a> {
         left: &'a [u8],
@@ -162,7 +162,7 @@ mod tests {
         }
     }
 
-    /// The answer to a log and what is written, the same for each size of a turn.
+    /// Asserts the result for a log and what is written, for each size of a turn.
     fn assert_runs(
         rt: &(impl Abort + AllocGlobal),
         log: &[u8],
@@ -178,7 +178,7 @@ mod tests {
         }
     }
 
-    /// A log of a connection that is opened, a CONNECT, a CONNACK of code 0 and what follows.
+    /// A log of an OPEN, a CONNECT, a CONNACK of code 0 and what follows.
     fn session(rt: &(impl Abort + AllocGlobal), rest: &[u8]) -> Vec<u8> {
         let mut log = Vec::new(rt.alloc());
         for part in [

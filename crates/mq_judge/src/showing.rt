@@ -1,4 +1,4 @@
-//! Shows the events of a log from a reader: a line for each, or a long one, or these with the faults at them.
+//! Shows the events of a log from a reader: a line for each, short or long, with or without the faults at them.
 ghost use Rattle.std.specs.Prelude.{◌≡◌, Bool, true, false, IfSome, OnOk, IfErr, [], List, Option, length, ℕ};
 ghost use Rattle.std.specs.FinMap as map;
 ghost use Rattle.mq_judge.specs.Running.{default_limit};
@@ -25,7 +25,7 @@ use std::alloc::Global;
 use std::io::{Read, Write};
 use std::marker::{Brand, PhantomData};
 
-/// Which way to which writer is taken, what the writer held at first, and by what text events are shown. Each call of `show_all` picks them.
+/// Which `Outgoing` to which writer is used, what the writer held at first, and by what text events are shown. Each call of `show_all` picks them.
 trait Given {
     ghost use Rattle.std.specs.Prelude.{ℕ, List, Option};
     ghost use Rattle.mq_trace.specs.Events.{Placed};
@@ -51,7 +51,7 @@ impl Given for Brand {
     ghost text = { λ _. [] };
 }
 
-/// What may fail between two pieces of a log.
+/// A sink that may fail between two pieces of a log.
 trait Failing {
     ghost use Rattle.std.specs.Prelude.{◌≡◌, Bool, true, false, OnOk, IfErr};
 
@@ -61,13 +61,13 @@ trait Failing {
     ///
     /// # Errors
     ///
-    /// `Memory(0)` where it has.
+    /// `Memory(0)` if it has.
     fn result(&self) -> Result<(), Refusal>
         ensures ok { OnOk result (has_failed self.now ≡ false) }
         ensures err { IfErr result (λ _. has_failed self.now ≡ true) };
 }
 
-/// Puts what is shown of each event of a log. It refuses none: after a failed write it puts nothing more.
+/// A sink that writes what is shown of each event. It refuses none: after a failed write it writes nothing more.
 struct Showing<'a, 'b, 'f, W, K> {
     out: &'b mut Outgoing<'a, W>,
     view: View<'f>,
@@ -91,7 +91,7 @@ impl<W: Write, K: Given> Sink for Showing<'_, '_, '_, W, K> {
     ghost use Rattle.mq_judge.specs.Outgoing.{Carries};
     ghost use Rattle.mq_judge.specs.Views.{StandsAfter, text_by};
 
-    // What was written and what waits are the text of the events, or a write failed, and what was written is a beginning of it.
+    // What was written and what waits are the text of the events; or a write failed, and what was written is a beginning of it.
     ghost agrees = { λ showing received. (showing.out.now.writer.ghost_name ≡ K.name) × (text_by showing.view ≡ K.text)
         × StandsAfter received showing.view × Carries W.contents K.held (K.text received) showing.out.now
         × (showing.out.ghost_name ≡ K.way) };
@@ -131,16 +131,16 @@ impl<S: Sink + Failing> Feed<S> for Tracer {
 }
 
 /// Writes a line for each event of the log that a reader gives: `<position> record <n> `, and then `OPEN`,
-/// `CLOSE`, `REST`, `RELEASE <id>`, or `SENT ` or `RECV ` with what `write_packet` says of the item: `<TYPE> size <n>`, with
-/// ` qos <q> dup <d>` for a PUBLISH and ` id <i>` where there is a Packet Identifier; `BAD <code> offset <n>` where it breaks a
-/// rule; `LOST` where the direction can't be cut into packets. Lines are written together, where 8,192 bytes have no room for
-/// another one, and all that wait before the answer. It reads at most 8,192 bytes a turn, and for 4,294,967,295 turns at most.
+/// `CLOSE`, `REST`, `RELEASE <id>`, or `SENT ` or `RECV ` with what `write_packet` writes of the item: `<TYPE> size <n>`, with
+/// ` qos <q> dup <d>` for a PUBLISH and ` id <i>` if there is a Packet Identifier; `BAD <code> offset <n>` if it breaks a rule;
+/// `LOST` if the rest of the direction can't be parsed. Lines are buffered in 8,192 bytes, and all are written before it
+/// returns. It reads at most 4,294,967,295 times, and at most 8,192 bytes each time.
 ///
 /// # Errors
 ///
-/// `Refused` where the log is refused, where the reader fails, where it hasn't ended when its turns run out, or where memory
-/// is refused. Exactly the lines of the events before the refused byte were written then. `Write` where a write failed: the writer
-/// answered an error, an interruption too, or took no byte. A beginning of the lines was written then, and not all of them.
+/// `Refused` if the log is refused, if the reader fails or hasn't ended after the last read, or if there is no memory. Exactly
+/// the lines of the events before the refused byte were then written. `Write` if a write failed: the writer returned an error,
+/// also one for an interruption, or took no byte. A beginning of the lines, but not all of them, was then written.
 pub fn show<R: Read, W: Write>(
     alloc: Global,
     reader: &mut R,
@@ -152,7 +152,7 @@ pub fn show<R: Read, W: Write>(
     show_by(alloc, View::Brief, reader, &mut out)
 }
 
-/// The same with long lines: after the words of each line come the other fields of its packet and its properties, each by its name.
+/// The same with long lines: the words of each line are followed by the other fields of its packet and its properties, each by its name.
 ///
 /// # Errors
 ///
@@ -168,10 +168,10 @@ pub fn show_long<R: Read, W: Write>(
     show_by(alloc, View::Long, reader, &mut out)
 }
 
-/// Writes the events of the log that a reader gives, as `show` does, or as `show_long` where `long` says so, and under each the faults at its position, a
-/// line for each: `  fault <code> <citation> <sentence>`, with ` (decided at event <n>)` where that is a later one, and ` (offset <n>)` where the fault is
-/// on a packet's bytes. The faults are those of an end in this role. With `around`, only those events are shown that are at most so many positions from a
-/// fault, and each run of others is a line `..`.
+/// Writes the events of the log that a reader gives, as `show` does, or as `show_long` if `long` is true, and under each the faults at its position, a
+/// line for each: `  fault <code> <citation> <sentence>`, with ` (decided at event <n>)` if that is a later one, and ` (offset <n>)` if the fault is on
+/// a packet's bytes. The faults are those of an end in this role. With `around`, only events at most that many positions from a fault are shown, and
+/// each run of others is a line `..`.
 ///
 /// # Errors
 ///
@@ -200,7 +200,7 @@ pub fn show_faults<R: Read, W: Write>(
     show_by(alloc, view, reader, &mut out)
 }
 
-/// Shows all that a reader gives, from a view that has shown nothing yet, on a way on which nothing is.
+/// Shows all that a reader gives, from a view that has shown nothing yet, by an `Outgoing` without text.
 fn show_by<R: Read, W: Write>(
     alloc: Global,
     view: View<'_>,
@@ -221,7 +221,7 @@ fn show_by<R: Read, W: Write>(
     show_all::<R, W, Brand>(&mut tracer, &mut showing, reader, u32::MAX)
 }
 
-/// Shows all that a reader gives in at most so many turns, from a sink that has received nothing yet, to the writer that was picked.
+/// Shows all that a reader gives in at most `turns` turns, from a sink that has received nothing yet, to the writer that was picked.
 fn show_all<R: Read, W: Write, K: Given>(
     tracer: &mut Tracer,
     showing: &mut Showing<'_, '_, '_, W, K>,

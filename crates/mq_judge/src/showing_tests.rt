@@ -53,7 +53,7 @@ const TWO_FAULTS_AROUND_0: &str = "..\n\
     8 record 8 SENT BAD W09 offset 5\n\
     \x20 fault W09 sec-2.2.1 A Packet Identifier isn't 0. (offset 5)\n";
 
-// A log, how near to a fault an event is that is shown, and what is shown.
+// A log, the `around` of its view, and what is shown.
 static ROWS: [(&[u8], Option<u32>, &str); 6] = [
     (IN_USE, None, IN_USE_ALL),
     (IN_USE, Some(4), IN_USE_ALL),
@@ -63,7 +63,7 @@ static ROWS: [(&[u8], Option<u32>, &str); 6] = [
     (TWO_FAULTS, Some(0), TWO_FAULTS_AROUND_0),
 ];
 
-// Whether the log is shown so, with the faults that the judge finds in it.
+// Whether the log is shown as this text, with the faults that the judge finds in it.
 fn is_shown(alloc: Global, log: &[u8], around: Option<u32>, text: &[u8]) -> Result<bool, Fail> {
     let Ok((verdict, role)) = judge_reader(alloc, &mut &log[..]) else {
         return Ok(false);
@@ -114,7 +114,7 @@ fn refuses_a_log_that_is_cut_short(rt: HostRuntime) {
     assert!(rt; matches!(judged, Err(Refusal::Cut(7))));
 }
 
-// What is known until then is shown.
+// The events up to there are shown.
 #[test]
 fn stops_at_the_end_of_a_log_that_is_cut_short(rt: HostRuntime) {
     let mut written = Vec::new(rt.alloc());

@@ -1,4 +1,4 @@
-//! Logs that are longer than a buffer, a count or a number of turns that something might stop at.
+//! Logs that are longer than a buffer, a count or a number of turns at which something might stop.
 use super::report::{Form, Outcome, RunFault};
 use super::running::{run, run_bounded};
 use super::showing::show;
@@ -10,7 +10,7 @@ use std::io::{ErrorKind, Read, Write};
 use std::process::Abort;
 use std::test::Fail;
 
-/// A log of a connection on which a server receives so many PINGREQs, in one record with a body of this length.
+/// A log of a connection on which a server receives `count` PINGREQs, in one record with a body of this length.
 fn pings(alloc: Global, count: u32, length: &[u8]) -> Result<Vec<u8>, Fail> {
     let mut log = Vec::new(alloc);
     log.extend_from_slice(b"MQTR\x01\x01\x01\x00\x01\x00\x00\x00\x00\x03")?;
@@ -21,7 +21,7 @@ fn pings(alloc: Global, count: u32, length: &[u8]) -> Result<Vec<u8>, Fail> {
     Ok(log)
 }
 
-/// Gives a byte at every other read, and is interrupted at the others.
+/// A reader that gives a byte at every other read, and is interrupted at the others.
 #[derive(Drop)]
 struct Slow<'a> {
     left: &'a [u8],
@@ -41,7 +41,7 @@ impl Read for Slow<'_> {
     }
 }
 
-/// Fails at its first write, and takes all that comes after.
+/// A writer that fails at its first write, and takes all that comes after.
 #[derive(Drop)]
 struct Failing {
     failed: bool,
@@ -115,7 +115,7 @@ fn reads_for_more_than_65536_turns(rt: HostRuntime) -> Result<(), Fail> {
     Ok(())
 }
 
-/// What a run of so many turns answers on a log of a header alone, of which a byte comes every other turn.
+/// What a run of `turns` turns returns on a log of a header alone, of which a byte comes every other turn.
 fn run_for(alloc: Global, turns: u32) -> Result<Outcome, RunFault> {
     let mut reader = Slow {
         left: b"MQTR\x01\x00\x01\x00",
@@ -134,7 +134,7 @@ fn stops_when_its_turns_run_out(rt: HostRuntime) {
     assert_eq!(rt; run_for(rt.alloc(), 18), Ok(Outcome::Pass));
 }
 
-/// Is interrupted at each read.
+/// A reader that is interrupted at each read.
 #[derive(Drop)]
 struct Interrupted;
 

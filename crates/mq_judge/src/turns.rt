@@ -1,18 +1,18 @@
-//! How many reads are made of a reader, at most.
+//! A bound on the number of reads from a reader.
 ghost use Rattle.std.specs.Prelude.{◌≡◌, ◌+◌, ◌<◌, nat_lt};
 ghost use Rattle.std.specs.Io.{ReadsAtMost};
 ghost use Rattle.std.specs.Io.KnownBytes.{ReadConsumes};
 
 use std::io::{Read, Result};
 
-/// The turns that are left: a read takes one, also where it is interrupted.
+/// The turns that are left: each read takes one, also an interrupted one.
 #[derive(Drop)]
 pub struct Turns {
     left: u32,
 }
 
 impl Turns {
-    /// So many turns.
+    /// This many turns.
     pub fn new(count: u32) -> Self
         ensures { result.left ≡ count }
     {
@@ -26,11 +26,11 @@ impl Turns {
         0 < self.left
     }
 
-    /// Reads once, as the reader does, and takes a turn for it.
+    /// Reads once from the reader, which takes a turn.
     ///
     /// # Errors
     ///
-    /// The reader's.
+    /// The reader's error.
     pub fn read<R: Read>(&mut self, reader: &mut R, buffer: &mut [u8]) -> Result<usize>
         requires { 0 < self.old.left }
         ensures takes { self.old.left ≡ self.new.left + 1 }

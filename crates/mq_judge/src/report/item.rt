@@ -10,14 +10,14 @@ use mq_rules::Rule;
 use mq_trace::Item;
 use std::fmt;
 
-/// The text of a direction that can't be cut into packets.
+/// The text of a direction that is lost.
 pub const LOST: &str = "LOST";
 
-/// Puts the text of an item that was sent or received after the lines that wait. A packet that was read has a size.
+/// Appends the text of an item that was sent or received to the waiting lines. A packet that was read has a size.
 ///
 /// # Errors
 ///
-/// Where they have no room for it. A beginning of it stands there then.
+/// If there is no room for it. A beginning of it may then have been appended.
 #[inline(always)]
 pub fn put_item(lines: &mut Lines, item: &Item<'_>) -> fmt::Result
     ensures puts { OnOk result (lines.new ≡ lines.old ++ item_text (item_of item.now)) }
@@ -33,11 +33,11 @@ pub fn put_item(lines: &mut Lines, item: &Item<'_>) -> fmt::Result
     }
 }
 
-/// Puts the text of a packet that has this size after the lines that wait.
+/// Appends the text of a packet that has this size to the waiting lines.
 ///
 /// # Errors
 ///
-/// Where they have no room for it. A beginning of it stands there then.
+/// If there is no room for it. A beginning of it may then have been appended.
 #[inline(always)]
 pub fn put_packet(lines: &mut Lines, packet: PacketSummary, size: u32) -> fmt::Result
     ensures puts { OnOk result (lines.new ≡ lines.old ++ packet_text packet size) }
@@ -51,11 +51,11 @@ pub fn put_packet(lines: &mut Lines, packet: PacketSummary, size: u32) -> fmt::R
     put_identifier(lines, identifier_of(packet))
 }
 
-/// Puts the text of bytes that break a rule after the lines that wait: the rule, and where the field begins that breaks it.
+/// Appends the text of bytes that break a rule to the waiting lines: the rule, and the offset of the field that breaks it.
 ///
 /// # Errors
 ///
-/// Where they have no room for it. A beginning of it stands there then.
+/// If there is no room for it. A beginning of it may then have been appended.
 pub fn put_broken(lines: &mut Lines, rule: PacketRule, at: u32) -> fmt::Result
     ensures puts { OnOk result (lines.new ≡ lines.old ++ broken_text rule at) }
     ensures short { OnOk result (length (broken_text rule at) ≤ 71) }
@@ -74,7 +74,7 @@ fn rule_code(rule: PacketRule) -> &'static str
     Rule::of(rule).code()
 }
 
-// Puts the words on a PUBLISH's delivery, if it is one, each after a space.
+// Appends the words on a PUBLISH's delivery, if it is one, each after a space.
 fn put_delivery(lines: &mut Lines, delivery: Option<(u8, u8)>) -> fmt::Result
     ensures puts { OnOk result (lines.new ≡ lines.old ++ behind_spaces (delivery_words delivery)) }
     ensures short { OnOk result (length (behind_spaces (delivery_words delivery)) ≤ 30) }
@@ -91,7 +91,7 @@ fn put_delivery(lines: &mut Lines, delivery: Option<(u8, u8)>) -> fmt::Result
     }
 }
 
-// Puts the words on a Packet Identifier, if there is one, each after a space.
+// Appends the words on a Packet Identifier, if there is one, each after a space.
 fn put_identifier(lines: &mut Lines, identifier: Option<u16>) -> fmt::Result
     ensures puts { OnOk result (lines.new ≡ lines.old ++ behind_spaces (identifier_words identifier)) }
     ensures short { OnOk result (length (behind_spaces (identifier_words identifier)) ≤ 14) }
@@ -130,7 +130,7 @@ fn type_name(packet: PacketSummary) -> &'static str
     }
 }
 
-// The Packet Identifier, where the packet has one (MQTT 5.0, section 2.2.1).
+// The Packet Identifier, if the packet has one (MQTT 5.0, section 2.2.1).
 fn identifier_of(packet: PacketSummary) -> Option<u16>
     ensures { result ≡ identifier_of packet }
 {

@@ -17,12 +17,13 @@ use std::alloc::{AllocError, Global};
 use std::io::Write;
 
 /// Writes the report on a verdict for an end in this role as one line of JSON: how many events there are, the faults, ascending by position and then by
-/// statement, and whether there are any. The value stands in memory whole before anything is written.
+/// statement, and whether there are any. The whole value is built in memory before anything is written.
 ///
 /// # Errors
 ///
-/// `Write` where a write failed: the writer answered an error, an interruption too, or took no byte. A beginning of the report was written then, and not all of it.
-/// `Memory` where memory was refused for the value or its text. Nothing was written then.
+/// `Write` if a write failed: the writer returned an error, also one for an interruption, or took no byte. A beginning of the report, but not all
+/// of it, was then written.
+/// `Memory` if there is no memory for the value or its text. Nothing was then written.
 #[tactic(auto, unfolding(crate::specs::Report::json_report))]
 pub fn write_json<W: Write>(
     alloc: Global,
@@ -83,7 +84,7 @@ fn report_value(alloc: Global, verdict: &Verdict, role: Role) -> Result<Value, A
     })
 }
 
-/// The verdict in a word.
+/// The verdict as a word.
 fn verdict_word(faults: &Faults) -> &'static str
     ensures { result.now ≡ verdict_word (length (map.entries faults.now)) }
 {

@@ -1,4 +1,4 @@
-//! Lines, each made whole before it is written.
+//! Lines, each complete before it is written.
 ghost use Rattle.std.specs.Prelude.{◌≡◌, [], ◌∷◌, ◌++◌, IfSome, IfOk, IfErr, OnOk};
 ghost use Rattle.std.specs.Io.KnownBytes.{Appends};
 ghost use Rattle.mq_judge.specs.Report.{line, AppendsBeginning};
@@ -9,10 +9,10 @@ use std::fmt::{Display, Write as _};
 use std::io::Write;
 use std::marker::Model;
 
-/// How many bytes a line has room for. The longest line of a report has 89.
+/// The most bytes that a line can have. The longest line of a report has 89.
 const ROOM: usize = 128;
 
-/// A line that is being made.
+/// A line that is being built.
 #[derive(Drop)]
 struct Line {
     bytes: [u8; 128],
@@ -30,7 +30,7 @@ impl Model for Line {
 }
 
 impl Line {
-    /// A line with nothing on it.
+    /// An empty line.
     fn new() -> Self
         ensures { result ≡ [] }
     {
@@ -40,7 +40,7 @@ impl Line {
         }
     }
 
-    /// A value's line, or an error where it has no room.
+    /// A value's line, or an error if it has no room.
     fn of<D: Display + Drop>(value: D) -> Result<Self, fmt::Error>
         ensures { IfOk result (λ made. IfSome (D.output value) (λ text. made ≡ line text)) }
     {
@@ -49,7 +49,7 @@ impl Line {
         Ok(made)
     }
 
-    /// What is on the line so far.
+    /// The line so far.
     fn as_bytes(&self) -> &[u8]
         ensures { result.now ≡ self.now }
     {
@@ -75,7 +75,7 @@ impl fmt::Write for Line {
 ///
 /// # Errors
 ///
-/// `Write` where a write failed: the writer answered an error, an interruption too, or took no byte.
+/// `Write` if a write failed: the writer returned an error, also one for an interruption, or took no byte.
 pub fn write_bytes<W: Write>(bytes: &[u8], writer: &mut W) -> Result<(), RunFault>
     ensures ok { OnOk result (Appends (W.contents writer.old) (W.contents writer.new) bytes.now) }
     ensures write { IfErr result (λ fault. (fault ≡ RunFault.Write)
@@ -95,7 +95,7 @@ pub fn write_bytes<W: Write>(bytes: &[u8], writer: &mut W) -> Result<(), RunFaul
 ///
 /// # Errors
 ///
-/// `Write` where a write failed, or the line has no room for the value.
+/// `Write` if a write failed, or the line has no room for the value.
 pub fn write_line<D: Display + Drop, W: Write>(value: D, writer: &mut W) -> Result<(), RunFault>
     ensures ok { OnOk result (IfSome (D.output value) (λ text. Appends (W.contents writer.old) (W.contents writer.new) (line text))) }
     ensures write { IfErr result (λ fault. (fault ≡ RunFault.Write)

@@ -5,21 +5,21 @@ ghost use Rattle.mq_judge.specs.Summaries.{packet_summary};
 
 use mq_packet::{Packet, Qos};
 
-/// What a line says of a packet, beside its size.
+/// What a line says of a packet, besides its size.
 #[derive(Clone, Copy, Debug, PartialEq, Eq)]
 pub enum PacketSummary {
     /// CONNECT.
     Connect,
     /// CONNACK.
     Connack {
-        /// Whether the server resumed a session that it had.
+        /// Session Present: whether the server resumed a session that it had.
         session_present: bool,
         /// The Reason Code: 0x00 accepts the connection.
         code: u8,
     },
     /// PUBLISH.
     Publish {
-        /// The Packet Identifier, where the QoS is above 0.
+        /// The Packet Identifier, if the QoS is above 0.
         identifier: Option<u16>,
         /// The Quality of Service.
         qos: Qos,
@@ -121,7 +121,7 @@ mod tests {
     use super::*;
     use mq_packet::decode;
 
-    /// What is said of the packet that has this first byte and this short body.
+    /// The summary of the packet that has this first byte and this short body.
     fn summary_of(first: u8, body: &[u8]) -> Option<PacketSummary> {
         if body.len() > 20 {
             return None;

@@ -50,7 +50,8 @@ impl fmt::Display for Broken {
 ///
 /// # Errors
 ///
-/// `Write` where a write failed: the writer answered an error, an interruption too, or took no byte. A beginning of the report was written then, and not all of it.
+/// `Write` if a write failed: the writer returned an error, also one for an interruption, or took no byte. A beginning of the report, but not all
+/// of it, was then written.
 pub fn write_summary<W: Write>(
     verdict: &Verdict,
     role: Role,
@@ -73,7 +74,7 @@ pub fn write_summary<W: Write>(
 ///
 /// # Errors
 ///
-/// `Write` where a write failed.
+/// `Write` if a write failed.
 fn write_rules<W: Write>(
     rules: &[Rule],
     faults: &Faults,
@@ -90,11 +91,11 @@ fn write_rules<W: Write>(
     Ok(())
 }
 
-/// Writes the line of a statement, where it has faults.
+/// Writes the line of a statement, if it has faults.
 ///
 /// # Errors
 ///
-/// `Write` where a write failed.
+/// `Write` if a write failed.
 fn write_rule<W: Write>(
     rule: Rule,
     faults: &Faults,
@@ -121,7 +122,7 @@ fn write_rule<W: Write>(
     }
 }
 
-/// Counts the faults of a statement: from all of them it takes away those of other statements.
+/// Counts the faults of a statement: all faults minus those of other statements.
 fn tally_of(rule: Rule, faults: &Faults) -> Tally
     ensures count { result.count ≡ length (faults_of rule (map.entries faults.now)) }
     ensures first { result.first ≡ first_of (faults_of rule (map.entries faults.now)) }

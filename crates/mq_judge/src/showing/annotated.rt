@@ -21,7 +21,7 @@ pub struct Annotated<'a> {
     pub faults: &'a Faults,
     /// The role of the end whose faults they are.
     pub role: Role,
-    /// How many positions an event is from a fault at most that is shown; all are shown where there is none.
+    /// Only events within this many positions of a fault are shown; with `None` all are.
     pub around: Option<u32>,
     /// Whether the lines of events are long.
     pub long: bool,
@@ -30,7 +30,7 @@ pub struct Annotated<'a> {
 }
 
 impl Annotated<'_> {
-    /// Puts what is shown of the next event, which stands at this place.
+    /// Appends what is shown of the next event, which has this place.
     #[inline(never)]
     pub fn put<W: Write>(&mut self, out: &mut Outgoing<'_, W>, place: Place3, event: &Event<'_>)
         ensures same { annotation_of self.new ≡ annotation_of self.old }
@@ -44,7 +44,7 @@ impl Annotated<'_> {
     }
 }
 
-/// Puts what is shown of an event by a view that shows it, or leaves it out.
+/// Appends what is shown of an event that is shown, or left out.
 fn put_event<W: Write>(
     out: &mut Outgoing<'_, W>,
     view: &Annotated<'_>,
@@ -62,7 +62,7 @@ fn put_event<W: Write>(
     }
 }
 
-/// Puts the line of an event at its place, and those of the faults at it.
+/// Appends the line of an event at its place, and those of the faults at it.
 fn put_noted_line<W: Write>(
     out: &mut Outgoing<'_, W>,
     view: &Annotated<'_>,
@@ -75,7 +75,7 @@ fn put_noted_line<W: Write>(
     put_notes(out, view.faults, view.role, place.position);
 }
 
-/// Whether a position is within so many of a fault's; any is where no number is given.
+/// Whether a position is within `around` positions of a fault; with `None` any is.
 fn is_near(faults: &Faults, around: Option<u32>, position: u32) -> bool
     ensures { result ≡ is_near around (map.entries faults.now) position }
 {
@@ -88,7 +88,7 @@ fn is_near(faults: &Faults, around: Option<u32>, position: u32) -> bool
     }
 }
 
-/// Puts the line of an event at its place, long or short.
+/// Appends the line of an event at its place, long or short.
 fn put_shown_line<W: Write>(out: &mut Outgoing<'_, W>, long: bool, place: Place3, event: &Event<'_>)
     ensures { Puts W.contents out.old (shown_line long (placed_at place event.now)) out.new }
 {
@@ -99,7 +99,7 @@ fn put_shown_line<W: Write>(out: &mut Outgoing<'_, W>, long: bool, place: Place3
     }
 }
 
-/// Puts the line for a run of events that are left out, if this one begins it.
+/// Appends the line for a run of events that are left out, if this one begins it.
 fn put_gap<W: Write>(out: &mut Outgoing<'_, W>, begins: bool)
     ensures { Puts W.contents out.old (if begins then line (codes "..") else []) out.new }
 {
@@ -108,7 +108,7 @@ fn put_gap<W: Write>(out: &mut Outgoing<'_, W>, begins: bool)
     }
 }
 
-/// Puts the lines of the faults at a position.
+/// Appends the lines of the faults at a position.
 fn put_notes<W: Write>(out: &mut Outgoing<'_, W>, faults: &Faults, role: Role, position: u32)
     ensures { Puts W.contents out.old (fault_notes role (faults_at position (map.entries faults.now))) out.new }
 {
@@ -117,7 +117,7 @@ fn put_notes<W: Write>(out: &mut Outgoing<'_, W>, faults: &Faults, role: Role, p
     }
 }
 
-/// Puts the line of a fault: its statement and what that says, where the fault was decided if that is at a later event, and where in its packet it is.
+/// Appends the line of a fault: its statement and what that says, where the fault was decided if that is at a later event, and where in its packet it is.
 fn put_note<W: Write>(out: &mut Outgoing<'_, W>, role: Role, mark: Mark, fault: Fault)
     ensures { Puts W.contents out.old (fault_note role (mark, fault)) out.new }
 {
@@ -127,7 +127,7 @@ fn put_note<W: Write>(out: &mut Outgoing<'_, W>, role: Role, mark: Mark, fault: 
     out.put("\n");
 }
 
-/// Puts the words on a statement that is broken by an end in this role.
+/// Appends the words on a statement that is broken by an end in this role.
 fn put_statement<W: Write>(out: &mut Outgoing<'_, W>, role: Role, rule: Rule)
     ensures { Puts W.contents out.old (statement_words role rule) out.new }
 {
@@ -139,7 +139,7 @@ fn put_statement<W: Write>(out: &mut Outgoing<'_, W>, role: Role, rule: Rule)
     out.put(rule.sentence());
 }
 
-/// Puts the words on where the fault at a position was decided, if that is at a later event.
+/// Appends the words on where the fault at a position was decided, if that is at a later event.
 fn put_decided<W: Write>(out: &mut Outgoing<'_, W>, position: u32, decided: u32)
     ensures { Puts W.contents out.old (decided_words position decided) out.new }
 {
@@ -150,7 +150,7 @@ fn put_decided<W: Write>(out: &mut Outgoing<'_, W>, position: u32, decided: u32)
     }
 }
 
-/// Puts the words on where in its packet a fault is, if it is on a packet's bytes.
+/// Appends the words on where in its packet a fault is, if it is on a packet's bytes.
 fn put_offset<W: Write>(out: &mut Outgoing<'_, W>, offset: Option<u32>)
     ensures { Puts W.contents out.old (offset_words offset) out.new }
 {

@@ -1,4 +1,4 @@
-//! What `show --long` says of an event after its line's usual words: the fields and properties of its packet, by name.
+//! What `show --long` prints of an event after its line's usual words: the fields and properties of its packet, by name.
 #![tactic(auto, using(crate::proofs::OutgoingLaws::putting, crate::proofs::DetailLaws::detailing))]
 
 ghost use Rattle.std.specs.Prelude.{ℕ, List, ◌++◌};
@@ -26,8 +26,8 @@ use mq_trace::{Event, Item};
 use property::put_properties;
 use std::io::Write;
 
-/// Puts what `--long` says of an event after its line's usual words, each word with a space before it: of a packet its fields and
-/// its properties. It says nothing of any other event.
+/// Appends what `--long` prints of an event after its line's usual words, each word with a space before it: the fields and the
+/// properties of a packet, and nothing for any other event.
 pub fn put_details<W: Write>(out: &mut Outgoing<'_, W>, event: &Event<'_>)
     ensures { Puts W.contents out.old (detail_text (event_of event.now)) out.new }
 {
@@ -37,7 +37,7 @@ pub fn put_details<W: Write>(out: &mut Outgoing<'_, W>, event: &Event<'_>)
     }
 }
 
-// Puts the details of what was sent or received.
+// Appends the details of what was sent or received.
 fn put_item_details<W: Write>(out: &mut Outgoing<'_, W>, item: &Item<'_>)
     ensures { Puts W.contents out.old (behind_spaces (item_details (item_of item.now))) out.new }
 {
@@ -47,7 +47,7 @@ fn put_item_details<W: Write>(out: &mut Outgoing<'_, W>, item: &Item<'_>)
     }
 }
 
-// Puts the details of a packet.
+// Appends the details of a packet.
 fn put_packet_details<W: Write>(out: &mut Outgoing<'_, W>, packet: &Packet<'_>)
     ensures { Puts W.contents out.old (behind_spaces (packet_words (view packet.now))) out.new }
 {
@@ -70,7 +70,7 @@ fn put_packet_details<W: Write>(out: &mut Outgoing<'_, W>, packet: &Packet<'_>)
     }
 }
 
-// Puts the details of a CONNECT (MQTT 5.0, section 3.1).
+// Appends the details of a CONNECT (MQTT 5.0, section 3.1).
 fn put_connect<W: Write>(out: &mut Outgoing<'_, W>, connect: &Connect<'_>)
     ensures { Puts W.contents out.old (behind_spaces (connect_words (connect_view connect.now))) out.new }
 {
@@ -97,7 +97,7 @@ fn put_connect<W: Write>(out: &mut Outgoing<'_, W>, connect: &Connect<'_>)
     put_password(out, connect.password);
 }
 
-// Puts the details of a Will, if there is one (MQTT 5.0, section 3.1.2.5).
+// Appends the details of a Will, if there is one (MQTT 5.0, section 3.1.2.5).
 fn put_will<W: Write>(out: &mut Outgoing<'_, W>, will: &Option<Will<'_>>)
     ensures { Puts W.contents out.old (behind_spaces (will_words (option_map will_view will.now))) out.new }
 {
@@ -130,7 +130,7 @@ fn put_will<W: Write>(out: &mut Outgoing<'_, W>, will: &Option<Will<'_>>)
     }
 }
 
-// Puts a User Name, if there is one (MQTT 5.0, section 3.1.3.5).
+// Appends a User Name, if there is one (MQTT 5.0, section 3.1.3.5).
 fn put_user_name<W: Write>(out: &mut Outgoing<'_, W>, user_name: Option<&str>)
     ensures { Puts W.contents out.old (behind_spaces (user_words (option_map (λ text. text.now) user_name.entry))) out.new }
 {
@@ -147,7 +147,7 @@ fn put_user_name<W: Write>(out: &mut Outgoing<'_, W>, user_name: Option<&str>)
     }
 }
 
-// Puts a Password's length, if there is one (MQTT 5.0, section 3.1.3.6).
+// Appends a Password's length, if there is one (MQTT 5.0, section 3.1.3.6).
 fn put_password<W: Write>(out: &mut Outgoing<'_, W>, password: Option<&[u8]>)
     ensures { Puts W.contents out.old (behind_spaces (password_words (option_map (λ bytes. bytes.now) password.entry))) out.new }
 {
@@ -164,7 +164,7 @@ fn put_password<W: Write>(out: &mut Outgoing<'_, W>, password: Option<&[u8]>)
     }
 }
 
-// Puts the details of a CONNACK (MQTT 5.0, section 3.2).
+// Appends the details of a CONNACK (MQTT 5.0, section 3.2).
 fn put_connack<W: Write>(out: &mut Outgoing<'_, W>, connack: &Connack<'_>)
     ensures { Puts W.contents out.old (behind_spaces (packet_words (view (packets.Connack connack.now)))) out.new }
 {
@@ -184,7 +184,7 @@ fn put_connack<W: Write>(out: &mut Outgoing<'_, W>, connack: &Connack<'_>)
     put_properties(out, "", &connack.properties);
 }
 
-// Puts the details of a PUBLISH (MQTT 5.0, section 3.3).
+// Appends the details of a PUBLISH (MQTT 5.0, section 3.3).
 fn put_publish<W: Write>(out: &mut Outgoing<'_, W>, publish: &Publish<'_>)
     ensures { Puts W.contents out.old (behind_spaces (publish_words (publish_view publish.now))) out.new }
 {
@@ -208,7 +208,7 @@ fn put_publish<W: Write>(out: &mut Outgoing<'_, W>, publish: &Publish<'_>)
     put_properties(out, "", &publish.properties);
 }
 
-// Puts a Reason Code and properties (MQTT 5.0, sections 3.4 to 3.7, 3.14 and 3.15).
+// Appends a Reason Code and properties (MQTT 5.0, sections 3.4 to 3.7, 3.14 and 3.15).
 fn put_reason<W: Write>(out: &mut Outgoing<'_, W>, code: u8, properties: &Props<'_>)
     ensures { Puts W.contents out.old (behind_spaces (code_words code ++ property_words properties.now)) out.new }
 {
@@ -216,7 +216,7 @@ fn put_reason<W: Write>(out: &mut Outgoing<'_, W>, code: u8, properties: &Props<
     put_properties(out, "", properties);
 }
 
-// Puts the details of a SUBSCRIBE or UNSUBSCRIBE (MQTT 5.0, sections 3.8 and 3.10).
+// Appends the details of a SUBSCRIBE or UNSUBSCRIBE (MQTT 5.0, sections 3.8 and 3.10).
 fn put_request<W: Write>(out: &mut Outgoing<'_, W>, request: &Request<'_>)
     ensures { Puts W.contents out.old (behind_spaces (property_words request.now.properties ++ flat_map filter_words request.now.filters)) out.new }
 {
@@ -224,7 +224,7 @@ fn put_request<W: Write>(out: &mut Outgoing<'_, W>, request: &Request<'_>)
     put_filters(out, &request.filters);
 }
 
-// Puts filters, in their order.
+// Appends filters, in their order.
 fn put_filters<W: Write>(out: &mut Outgoing<'_, W>, filters: &Filters<'_>)
     ensures { Puts W.contents out.old (behind_spaces (flat_map filter_words filters.now)) out.new }
 {
@@ -233,7 +233,7 @@ fn put_filters<W: Write>(out: &mut Outgoing<'_, W>, filters: &Filters<'_>)
     }
 }
 
-// Puts a filter, and its Subscription Options where it has them (MQTT 5.0, section 3.8.3.1).
+// Appends a filter, and its Subscription Options if it has them (MQTT 5.0, section 3.8.3.1).
 fn put_filter<W: Write>(out: &mut Outgoing<'_, W>, filter: Filter<'_>)
     ensures { Puts W.contents out.old (behind_spaces (filter_words (filter_view filter.entry))) out.new }
 {
@@ -248,7 +248,7 @@ fn put_filter<W: Write>(out: &mut Outgoing<'_, W>, filter: Filter<'_>)
     put_options(out, filter.options);
 }
 
-// Puts Subscription Options, if there are any.
+// Appends Subscription Options, if there are any.
 fn put_options<W: Write>(out: &mut Outgoing<'_, W>, options: Option<u8>)
     ensures { Puts W.contents out.old (behind_spaces (option_words options)) out.new }
 {
@@ -278,7 +278,7 @@ fn put_options<W: Write>(out: &mut Outgoing<'_, W>, options: Option<u8>)
     }
 }
 
-// Puts the details of a SUBACK or UNSUBACK (MQTT 5.0, sections 3.9 and 3.11).
+// Appends the details of a SUBACK or UNSUBACK (MQTT 5.0, sections 3.9 and 3.11).
 fn put_answer<W: Write>(out: &mut Outgoing<'_, W>, answer: &Answer<'_>)
     ensures { Puts W.contents out.old (behind_spaces (property_words answer.now.properties ++ flat_map code_words answer.now.codes)) out.new }
 {
@@ -286,7 +286,7 @@ fn put_answer<W: Write>(out: &mut Outgoing<'_, W>, answer: &Answer<'_>)
     put_codes(out, &answer.codes);
 }
 
-// Puts Reason Codes, in their order.
+// Appends Reason Codes, in their order.
 fn put_codes<W: Write>(out: &mut Outgoing<'_, W>, codes: &Codes<'_>)
     ensures { Puts W.contents out.old (behind_spaces (flat_map code_words codes.now)) out.new }
 {
@@ -296,7 +296,7 @@ fn put_codes<W: Write>(out: &mut Outgoing<'_, W>, codes: &Codes<'_>)
     }
 }
 
-// Puts a Reason Code (MQTT 5.0, section 2.4).
+// Appends a Reason Code (MQTT 5.0, section 2.4).
 fn put_code<W: Write>(out: &mut Outgoing<'_, W>, code: u8)
     ensures { Puts W.contents out.old (behind_spaces (code_words code)) out.new }
 {

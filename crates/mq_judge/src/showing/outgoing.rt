@@ -12,11 +12,11 @@ use std::fmt;
 use std::fmt::Write as _;
 use std::io::Write;
 
-/// For how many bytes there is room once room was made. The longest line of an event without its details has 78.
+/// How many bytes `make_room` makes room for. The longest line of an event without its details has 78.
 const LINE_ROOM: usize = 128;
 
-/// Text on its way to a writer: it waits until 8,192 bytes have no room for more, and is then written together. As
-/// `fmt::DebugStruct` does, it keeps the first failure: nothing is written after it, and `result` answers it.
+/// Text on its way to a writer, through a buffer of 8,192 bytes that is written when it has no room for more. As
+/// `fmt::DebugStruct` does, it keeps the first failure: nothing is written after it, and `result` returns it.
 pub struct Outgoing<'a, W> {
     pub(super) lines: Lines,
     pub(super) writer: &'a mut W,
@@ -36,7 +36,7 @@ impl<W> Drop for Outgoing<'_, W> {
 }
 
 impl<'a, W> Outgoing<'a, W> {
-    /// A way to this writer, on which nothing is.
+    /// No text yet, for this writer.
     pub fn to(writer: &'a mut W) -> Self
         ensures { (result.writer ≡ writer.entry) × (result.lines ≡ []) × (result.failed ≡ false) }
     {
@@ -49,14 +49,14 @@ impl<'a, W> Outgoing<'a, W> {
 }
 
 impl<W: Write> Outgoing<'_, W> {
-    /// Puts a text of any length after what waits, and writes what waits where it has no room.
+    /// Appends a text of any length. If it has no room among what waits, that is written first.
     pub fn put(&mut self, text: &str)
         ensures { Puts W.contents self.old text.now self.new }
     {
         self.put_bytes(text.as_bytes());
     }
 
-    /// Puts a number in decimal digits after it likewise.
+    /// Appends a number in decimal digits in the same way.
     pub fn put_number(&mut self, number: u64)
         ensures { Puts W.contents self.old (decimal number) self.new }
     {
@@ -64,7 +64,7 @@ impl<W: Write> Outgoing<'_, W> {
         self.failed = fails_to_put(self.failed, &mut self.lines, number);
     }
 
-    /// Puts bytes after it likewise.
+    /// Appends bytes in the same way.
     pub fn put_bytes(&mut self, bytes: &[u8])
         ensures { Puts W.contents self.old bytes.now self.new }
     {
@@ -74,7 +74,7 @@ impl<W: Write> Outgoing<'_, W> {
         }
     }
 
-    /// Sees to it that there is room for 128 bytes in `lines`. What waits after a failure is dropped.
+    /// Makes room for 128 bytes in `lines`. After a failure what waits is dropped.
     #[inline(always)]
     pub fn make_room(&mut self)
         ensures room { length self.new.lines + 128 ≤ 8192 }
@@ -86,11 +86,11 @@ impl<W: Write> Outgoing<'_, W> {
         self.write_out();
     }
 
-    /// Whether all that was to be written so far was written.
+    /// Whether no write has failed so far.
     ///
     /// # Errors
     ///
-    /// `Memory(0)` where a write failed.
+    /// `Memory(0)` if a write failed.
     #[inline(always)]
     pub fn result(&self) -> Result<(), Refusal>
         ensures ok { OnOk result (self.now.failed ≡ false) }
@@ -106,7 +106,7 @@ impl<W: Write> Outgoing<'_, W> {
     ///
     /// # Errors
     ///
-    /// `Write` where a write failed, now or before. After an earlier failure nothing is written.
+    /// `Write` if a write failed, now or before. After an earlier failure nothing is written.
     pub fn write_last(&mut self) -> Result<(), RunFault>
         ensures same { self.new.writer.ghost_name ≡ self.old.writer.ghost_name }
         ensures written { OnOk result ((self.old.failed ≡ false) × Appends (W.contents self.old.writer.now) (W.contents self.new.writer.now) self.old.lines) }
@@ -136,7 +136,7 @@ impl<W: Write> Outgoing<'_, W> {
     }
 }
 
-// Puts a number among what waits. Answers whether a write has failed before, or the number has no room: 128 bytes have room for any.
+// Appends a number to what waits. Returns true if a write has failed before, or if there is no room: 128 bytes have room for any number.
 fn fails_to_put(failed: bool, lines: &mut Lines, number: u64) -> bool
     ensures { result ≡ false → (failed ≡ false) × (lines.new ≡ lines.old ++ decimal number) }
 {
@@ -146,14 +146,14 @@ fn fails_to_put(failed: bool, lines: &mut Lines, number: u64) -> bool
     }
 }
 
-// Puts a number's decimal digits among what waits.
+// Appends a number's decimal digits to what waits.
 fn put_digits(lines: &mut Lines, number: u64) -> fmt::Result
     ensures { OnOk result (lines.new ≡ lines.old ++ decimal number) }
 {
     write!(lines, "{number}")
 }
 
-// Writes bytes, if no write has failed before. Answers whether one has failed, now or before.
+// Writes bytes, if no write has failed before. Returns whether one has failed, now or before.
 fn fails<W: Write>(failed: bool, bytes: &[u8], writer: &mut W) -> bool
     ensures written { result ≡ false → (failed ≡ false) × Appends (W.contents writer.old) (W.contents writer.new) bytes.now }
     ensures stopped { result ≡ true → StopsWriting failed (W.contents writer.old) (W.contents writer.new) bytes.now }

@@ -22,12 +22,12 @@ pub enum View<'a> {
     Brief,
     /// Its long line.
     Long,
-    /// Its line and the faults at it, where it is near to a fault.
+    /// Its line and the faults at it, if it is near to a fault.
     Annotated(Annotated<'a>),
 }
 
 impl View<'_> {
-    /// Puts what is shown of the next event, which stands at this place.
+    /// Appends what is shown of the next event, which has this place.
     #[inline(always)]
     pub fn put<W: Write>(&mut self, out: &mut Outgoing<'_, W>, place: Place3, event: &Event<'_>)
         ensures text { text_by self.new ≡ text_by self.old }
@@ -44,7 +44,7 @@ impl View<'_> {
     }
 }
 
-/// Puts the line of an event at its place.
+/// Appends the line of an event at its place.
 #[inline(always)]
 pub fn put_event_line<W: Write>(out: &mut Outgoing<'_, W>, place: Place3, event: &Event<'_>)
     ensures { Puts W.contents out.old (event_line (placed_at place event.now)) out.new }
@@ -53,7 +53,7 @@ pub fn put_event_line<W: Write>(out: &mut Outgoing<'_, W>, place: Place3, event:
     put_line(&mut out.lines, place, event);
 }
 
-/// Puts the line of an event at its place with what else its packet says.
+/// Appends the long line of an event at its place.
 #[inline(never)]
 pub fn put_long_line<W: Write>(out: &mut Outgoing<'_, W>, place: Place3, event: &Event<'_>)
     ensures { Puts W.contents out.old (long_line (placed_at place event.now)) out.new }
@@ -63,7 +63,7 @@ pub fn put_long_line<W: Write>(out: &mut Outgoing<'_, W>, place: Place3, event: 
     out.put("\n");
 }
 
-// Puts the words of an event at its place.
+// Appends the words of an event at its place.
 fn put_event_words<W: Write>(out: &mut Outgoing<'_, W>, place: Place3, event: &Event<'_>)
     ensures { Puts W.contents out.old (event_words (placed_at place event.now)) out.new }
 {
@@ -71,7 +71,7 @@ fn put_event_words<W: Write>(out: &mut Outgoing<'_, W>, place: Place3, event: &E
     put_words(&mut out.lines, place, event);
 }
 
-// Puts the line of an event at its place after those that wait, where there is room for it.
+// Appends the line of an event at its place to those that wait, for which there is room.
 #[inline(always)]
 fn put_line(lines: &mut Lines, place: Place3, event: &Event<'_>)
     requires { length lines.old + 128 ≤ 8192 }
@@ -80,7 +80,7 @@ fn put_line(lines: &mut Lines, place: Place3, event: &Event<'_>)
     try_put_line(lines, place, event).unwrap()
 }
 
-// Puts the line of an event at its place after those that wait, if there is room for it.
+// Appends the line of an event at its place to those that wait, if there is room for it.
 #[inline(always)]
 fn try_put_line(lines: &mut Lines, place: Place3, event: &Event<'_>) -> fmt::Result
     ensures puts { OnOk result (lines.new ≡ lines.old ++ event_line (placed_at place event.now)) }
@@ -90,7 +90,7 @@ fn try_put_line(lines: &mut Lines, place: Place3, event: &Event<'_>) -> fmt::Res
     lines.put("\n")
 }
 
-// Puts the words of an event at its place after what waits, where there is room for them.
+// Appends the words of an event at its place to what waits, for which there is room.
 fn put_words(lines: &mut Lines, place: Place3, event: &Event<'_>)
     requires { length lines.old + 128 ≤ 8192 }
     ensures { lines.new ≡ lines.old ++ event_words (placed_at place event.now) }
@@ -98,7 +98,7 @@ fn put_words(lines: &mut Lines, place: Place3, event: &Event<'_>)
     try_put_words(lines, place, event).unwrap()
 }
 
-// Puts the words of an event at its place after what waits, if there is room for them.
+// Appends the words of an event at its place to what waits, if there is room for them.
 #[inline(always)]
 fn try_put_words(lines: &mut Lines, place: Place3, event: &Event<'_>) -> fmt::Result
     ensures puts { OnOk result (lines.new ≡ lines.old ++ event_words (placed_at place event.now)) }
@@ -111,7 +111,7 @@ fn try_put_words(lines: &mut Lines, place: Place3, event: &Event<'_>) -> fmt::Re
     put_event(lines, event)
 }
 
-// Puts an event's text after the lines that wait, and a space before it.
+// Appends a space and an event's text to the waiting lines.
 #[inline(always)]
 fn put_event(lines: &mut Lines, event: &Event<'_>) -> fmt::Result
     ensures puts { OnOk result (lines.new ≡ lines.old ++ 32 ∷ event_text (event_of event.now)) }

@@ -1,4 +1,4 @@
-//! A field or a property by its name.
+//! A field or a property, by its name.
 #![tactic(auto, using(crate::proofs::OutgoingLaws::putting, crate::proofs::DetailLaws::detailing))]
 
 ghost use Rattle.std.specs.Prelude.{◌∷◌, ◌++◌};
@@ -28,7 +28,7 @@ pub enum Shown<'a> {
     Pair(&'a str, &'a str),
 }
 
-/// A field or a property by its name.
+/// A field or a property, by its name.
 #[derive(Clone, Copy)]
 pub struct Detail<'a> {
     /// The name, in lower case with hyphens.
@@ -37,7 +37,7 @@ pub struct Detail<'a> {
     pub value: Shown<'a>,
 }
 
-/// Puts details, one after another.
+/// Appends details, one after another.
 pub fn put_all<W: Write>(out: &mut Outgoing<'_, W>, details: &[Detail<'_>])
     ensures { Puts W.contents out.old (behind_spaces (flat_map detail_words details.now)) out.new }
 {
@@ -46,7 +46,7 @@ pub fn put_all<W: Write>(out: &mut Outgoing<'_, W>, details: &[Detail<'_>])
     }
 }
 
-/// Puts a detail, each word with a space before it, and the prefix before its name.
+/// Appends a detail, each word with a space before it, and the prefix before its name.
 pub fn put_detail<W: Write>(out: &mut Outgoing<'_, W>, prefix: &str, detail: &Detail<'_>)
     ensures { Puts W.contents out.old (behind_spaces ((prefix.now ++ detail.now.name.now) ∷ shown_words detail.now.value)) out.new }
 {
@@ -56,7 +56,7 @@ pub fn put_detail<W: Write>(out: &mut Outgoing<'_, W>, prefix: &str, detail: &De
     put_shown(out, detail.value);
 }
 
-// Puts the words of a value, each with a space before it.
+// Appends the words of a value, each with a space before it.
 fn put_shown<W: Write>(out: &mut Outgoing<'_, W>, value: Shown<'_>)
     ensures { Puts W.contents out.old (behind_spaces (shown_words value.entry)) out.new }
 {

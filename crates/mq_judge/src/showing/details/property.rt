@@ -13,7 +13,7 @@ use super::detail::{Detail, Shown, put_detail};
 use mq_props::{Prop, Props};
 use std::io::Write;
 
-/// Puts properties in their order, with the prefix before each name that doesn't begin so.
+/// Appends properties in their order, with the prefix before each name that doesn't begin with it.
 pub fn put_properties<W: Write>(out: &mut Outgoing<'_, W>, prefix: &str, properties: &Props<'_>)
     ensures { Puts W.contents out.old (behind_spaces (properties_after prefix.now properties.now)) out.new }
 {
@@ -23,7 +23,7 @@ pub fn put_properties<W: Write>(out: &mut Outgoing<'_, W>, prefix: &str, propert
     }
 }
 
-// The prefix, unless the name begins so.
+// The prefix, unless the name begins with it.
 fn missing_prefix<'a>(prefix: &'a str, name: &str) -> &'a str
     ensures { result.now ++ name.now ≡ begun_with prefix.entry.now name.now }
 {

@@ -10,7 +10,7 @@ ghost use Rattle.mq_judge.specs.Outgoing.{Puts};
 use super::super::outgoing::Outgoing;
 use std::io::Write;
 
-/// Puts a text in double quotes: a double quote and a backslash after a backslash, and a control character as `\x` and its two
+/// Appends a text in double quotes: a double quote and a backslash after a backslash, and a control character as `\x` and its two
 /// hexadecimal digits.
 pub fn put_quoted<W: Write>(out: &mut Outgoing<'_, W>, text: &str)
     ensures { Puts W.contents out.old (quoted text.now) out.new }
@@ -20,14 +20,14 @@ pub fn put_quoted<W: Write>(out: &mut Outgoing<'_, W>, text: &str)
     out.put("\"");
 }
 
-/// Puts the two hexadecimal digits of a byte, in capitals.
+/// Appends the two hexadecimal digits of a byte, in capitals.
 pub fn put_hex_digits<W: Write>(out: &mut Outgoing<'_, W>, byte: u8)
     ensures { Puts W.contents out.old (hex_digits byte) out.new }
 {
     out.put_bytes(&[hex_digit(byte / 16), hex_digit(byte % 16)]);
 }
 
-// Puts bytes of a text that stands in double quotes.
+// Appends bytes of a text that is in double quotes.
 fn put_escaped<W: Write>(out: &mut Outgoing<'_, W>, bytes: &[u8])
     ensures { Puts W.contents out.old (flat_map escaped bytes.now) out.new }
 {
@@ -49,7 +49,7 @@ fn put_escaped_byte<W: Write>(out: &mut Outgoing<'_, W>, byte: u8)
     }
 }
 
-// Whether a byte would end a text in double quotes, or hide what does.
+// Whether a byte is a double quote or a backslash, which are escaped in a text in double quotes.
 fn is_quoting(byte: u8) -> bool
     ensures { result ≡ is_quoting byte }
 {

@@ -1,4 +1,4 @@
-//! What is said of packets, written out.
+//! The details of packets, written out.
 use super::super::super::lines::Lines;
 use super::super::super::report::RunFault;
 use super::super::outgoing::Outgoing;
@@ -20,7 +20,7 @@ fn write_details(event: &Event<'_>, writer: &mut Vec<u8>) -> Result<(), RunFault
     out.write_last()
 }
 
-/// Whether this is what is said of the packet that has this first byte and this short body.
+/// Whether this is printed for the packet that has this first byte and this short body.
 fn is_detailed_as(alloc: Global, first: u8, body: &[u8], text: &str) -> bool {
     if body.len() > 1000 {
         return false;
@@ -138,7 +138,7 @@ fn each_packet_has_its_details(rt: HostRuntime) {
     }
 }
 
-/// Whether nothing is said of an event.
+/// Whether nothing is printed for an event.
 fn has_no_details(alloc: Global, event: &Event<'_>) -> bool {
     let mut written = Vec::new(alloc);
     write_details(event, &mut written).is_ok() && written.is_empty()
@@ -163,7 +163,7 @@ fn nothing_is_said_of_other_events(rt: HostRuntime) {
     }
 }
 
-/// What is said of a PUBLISH with a topic of so many quotes.
+/// The details of a PUBLISH with a topic of `count` quotes.
 fn write_quotes(alloc: Global, count: u16) -> Result<Vec<u8>, Fail> {
     let mut body = Vec::new(alloc);
     body.extend_from_slice(&count.to_be_bytes())?;
