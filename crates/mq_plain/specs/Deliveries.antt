@@ -19,7 +19,7 @@ use Rattle.mq_rules.specs.Subscriptions.{Standing, requested, granted, codes_und
 abbrev pub allows : List ℕ → ℕ → Standing → Bool
 allows topic least s = matches s.filter topic && nat_le least s.ceiling
 
--- so does a filter of a SUBSCRIBE, given its Reason Code if there is one
+-- the same for a filter of a SUBSCRIBE, given its Reason Code if there is one
 abbrev pub allows_by : List ℕ → ℕ → NotedFilter → Option ℕ → Bool
 allows_by topic least f None = allows topic least (record { filter = f.filter; ceiling = requested f })
 allows_by topic least f (Some code) = not (refuses code) && allows topic least (record { filter = f.filter; ceiling = code })
@@ -38,11 +38,11 @@ abbrev pub codes_ahead : ℕ → List Seen → Option (List ℕ)
 codes_ahead i [] = None
 codes_ahead i (e ∷ later) = cond (is_open e.note) None (or_else (codes_under i e.note) (codes_ahead i later))
 
--- some filter that a SUBSCRIBE makes stand allows the topic, where these events came after it, the oldest first
+-- some standing filter of a SUBSCRIBE allows the topic, given the events after it, the oldest first
 abbrev pub subscribes_to : List ℕ → ℕ → List Seen → Note → Bool
 subscribes_to topic least later n = is_some_and (λ s. list_any (allows topic least) (granted s.filters (unwrap_or (codes_ahead s.identifier later) []))) (received_subscription n)
 
--- what B01 and B02 look at of a PUBLISH after these events: its topic, if that is known, it isn't sent again, and no subscription of the session is shared
+-- what B01 and B02 look at in a PUBLISH after these events: its topic, if that is known, DUP is 0, and no subscription of the session is shared
 abbrev pub topic_after : List Seen → PublishNote → Option (List ℕ)
 topic_after past p = cond (length p.topic == 0) (option_and_then (λ alias. last_set alias (connection past)) p.topic_alias) (Some p.topic)
 

@@ -1,4 +1,4 @@
--- One event of a log as the evaluators meet it: where it stands, and whether it is quiet.
+-- One event of a log as the evaluators see it: where it is, and whether it is quiet.
 use Rattle.std.specs.Prelude.{◌≡◌, ℕ, Bool, true, false, ◌&&◌, ◌||◌, not, List, ◌∷◌}
 use Rattle.mq_rules.specs.declared.role.Role.{Role}
 use Rattle.mq_rules.specs.declared.role.Role.TheVariants.{Client, Server}
@@ -14,8 +14,8 @@ use Rattle.mq_rules.specs.Connections.{IsInOrder, latest_fate, is_binding}
 use Rattle.mq_rules.specs.Steps.{turns}
 use Rattle.mq_plain.specs.declared.turn.Turn.{Turn}
 
--- The event comes after these in a log that has its events at their places and in order. The turn has the fate of the latest connection before it, and says whether
--- the event is a REST that binds.
+-- The event comes after these in a log whose events are placed and in order. The turn has the fate of the latest connection before it, and says whether the event
+-- is a REST that binds.
 pub record Comes (turn : Turn) (e : Seen) (past : List Seen) : Type 0 where
   pub is_placed : IsPlaced (e ∷ past)
   pub is_in_order : IsInOrder turn.tested.role (e ∷ past)
@@ -30,12 +30,12 @@ is_client Server = false
 abbrev pub is_spoken_of : Role → PacketFields → Bool
 is_spoken_of role fields = is_session_packet fields && not (is_some_and (λ p. is_client role && not (is_acknowledged p.qos)) (publish_in fields))
 
--- A quiet event is no REST and no RELEASE, and none of these packets that the tested end sends: with it no statement on a session turns out false, since each
--- speaks of what is sent in a session, of a RELEASE or at a REST, and of a PUBLISH of QoS 0 only a server's (MQTT 5.0, sections 4.1 and 4.3).
+-- A quiet event is neither a REST nor a RELEASE nor such a packet that the tested end sends: with it no statement on a session turns out false, since each is
+-- judged at what is sent in a session, at a RELEASE or at a REST, and of PUBLISHes of QoS 0 only at a server's (MQTT 5.0, sections 4.1 and 4.3).
 abbrev pub is_quiet : Role → Note → Bool
 is_quiet role note = not (is_rest note) && (not (is_release note) && not (is_some_and (is_spoken_of role) (sent_fields note)))
 
--- A packet that a REST may show to be without an answer, or not to be sent again: a PINGREQ, or one that needs a session, other than a PUBLISH of QoS 0 (MQTT 5.0,
+-- A packet of which a REST may show that it has no answer, or wasn't sent again: a PINGREQ, or one that needs a session, other than a PUBLISH of QoS 0 (MQTT 5.0,
 -- sections 3.12.4, 4.3 and 4.4).
 abbrev pub is_asking : PacketFields → Bool
 is_asking fields = is_pingreq fields || (is_session_packet fields && not (is_some_and (λ p. not (is_acknowledged p.qos)) (publish_in fields)))

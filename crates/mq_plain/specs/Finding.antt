@@ -1,4 +1,4 @@
--- What a look back has found.
+-- What looking back has found.
 use Rattle.std.specs.Prelude.{Option, option_map, reverse}
 use Rattle.mq_rules.specs.Moments.{Moment, newest}
 use Rattle.mq_plain.specs.declared.earliest.Found.{Found}

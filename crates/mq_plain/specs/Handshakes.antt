@@ -1,4 +1,4 @@
--- What the latest connection was begun with, and what that says of the peer.
+-- The CONNECT and the CONNACK of the latest connection, and what they say of the peer.
 use Rattle.std.specs.Prelude.{ℕ, Bool, true, ◌||◌, List, is_some, unwrap_or}
 use Rattle.std.specs.Option.{option_and_then}
 use Rattle.mq_rules.specs.declared.role.Role.{Role}
@@ -16,7 +16,7 @@ abbrev pub receive_maximum_in : Role → Handshake → ℕ
 receive_maximum_in Client h = unwrap_or (option_and_then (λ a. a.receive_maximum) h.connack) 65535
 receive_maximum_in Server h = unwrap_or (option_and_then (λ c. c.receive_maximum) h.connect) 65535
 
--- what comes next may be counted: a client counts after its CONNACK alone
+-- what comes next counts: for a client only after the CONNACK
 abbrev pub counts_after : Role → Handshake → Bool
 counts_after Client h = is_some h.connack
 counts_after Server h = true

@@ -1,4 +1,4 @@
--- What one event answers where events are looked back over.
+-- What one event decides when looking back over events.
 use Rattle.std.specs.Prelude.{ℕ, Bool, true, false, ◌||◌, not, cond, List, Option, Some, None, is_some}
 use Rattle.mq_rules.specs.declared.role.Role.{Role}
 use Rattle.mq_rules.specs.declared.fate.Fate.{Fate}
@@ -12,13 +12,13 @@ use Rattle.mq_rules.specs.Identifiers.{opens, closes}
 use Rattle.mq_rules.specs.Exchanges.{subscribe_suback, unsubscribe_unsuback, causes, answers}
 use Rattle.mq_rules.specs.Releases.{brings, releases, ends}
 
--- an event that passes the first test answers yes, and one that passes the second no
+-- an event that passes the first test decides yes, and one that passes only the second decides no
 abbrev pub answer_by : Bool → Bool → Option Bool
 answer_by starts ends = cond starts (Some true) (cond ends (Some false) None)
 
 -- ---- what is in use after these events (MQTT 5.0, section 2.2.1)
 
--- the identifier is open, where the latest connection has this fate
+-- the identifier is open, if the latest connection has this fate
 abbrev pub is_open_after : Role → Fate → ℕ → List Seen → Bool
 is_open_after role f i past = since (opens i) (closes i) (session role (Some f) past)
 
@@ -34,12 +34,12 @@ is_busy_after role f i past = is_open_after role f i past || (awaits_suback_afte
 
 -- ---- REST
 
--- what ends binding, by its note
+-- an event with this note ends binding
 abbrev pub ends_binding_by : Note → Bool
 ends_binding_by n = is_some_and (λ p. is_some (disconnect_in p)) (sent_fields n) || (is_some_and (λ p. is_some (disconnect_in p)) (received_fields n)
     || (is_some_and is_broken (sent_item n) || is_some_and is_broken (received_item n)))
 
--- ---- releases (MQTT 5.0, section 4.3.3), where the latest connection has this fate
+-- ---- releases (MQTT 5.0, section 4.3.3), if the latest connection has this fate
 
 -- a QoS 2 PUBLISH under the identifier was received, or released, and nothing has ended its exchange since
 abbrev pub is_brought_after : Role → Fate → ℕ → List Seen → Bool
@@ -52,14 +52,14 @@ is_released_after role f i past = since (releases i) (ends i) (session role (Som
 abbrev pub first_brought_after : Role → Fate → ℕ → List Seen → Option Moment
 first_brought_after role f i past = earliest_since (brings i) (ends i) (session role (Some f) past)
 
--- it may end without a RELEASE
+-- it needs no RELEASE
 abbrev pub lapses_after : Role → Fate → ℕ → List Seen → Moment → Bool
 lapses_after role f i past first = is_some_and (λ p. p.has_message_expiry) (received_publish (note first))
     || not (since (is_same first) (λ m. is_id i (sent_as unmatched_pubrec_in (note m))) (session role (Some f) past))
 
 -- ---- what waits for its answer on the latest connection (MQTT 5.0, sections 3.8.4 and 3.10.4)
 
--- the first SUBSCRIBE, and the first UNSUBSCRIBE, under the identifier that no answer came after
+-- the first unanswered SUBSCRIBE, and the first unanswered UNSUBSCRIBE, under the identifier
 abbrev pub first_subscribe_after : ℕ → List Seen → Option Moment
 first_subscribe_after i past = earliest_since (causes subscribe_suback i) (answers subscribe_suback i) (connection past)
 

@@ -15,8 +15,8 @@ confirms i n = is_id i (received_as accepting_pubrec_in n)
 abbrev pub sends : ℕ → Note → Bool
 sends i n = is_id i (delivery_of n) || is_id i (sent_as pubrel_in n)
 
--- An opener is owed, where these identifiers were moved after it, and these confirmed; and these were sent again. If not all need be sent again, those alone
--- are owed that were confirmed.
+-- An opener is owed, given the identifiers that were sent again, and those that were moved, and confirmed, after it. If not all need be sent again (lenient),
+-- only those are owed that were confirmed.
 abbrev pub is_owed : Bool → (ℕ → Bool) → (ℕ → Bool) → (ℕ → Bool) → Option ℕ → Bool
 is_owed lenient again moved confirmed opener = is_some_and (λ i. not (moved i) && (not (again i) && not (not (confirmed i) && lenient))) opener
 

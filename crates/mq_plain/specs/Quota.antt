@@ -8,10 +8,10 @@ use Rattle.mq_rules.specs.Moments.{Moment, those}
 use Rattle.mq_rules.specs.Connections.{connection}
 use Rattle.mq_rules.specs.Identifiers.{counts}
 
--- the moments of the latest connection that may be counted
+-- the moments of the latest connection that count
 abbrev pub counted : Role → List Seen → List Moment
 counted role past = those (counts role) (connection past)
 
--- the room for PUBLISHes that an event leaves for what stands before it: a PUBLISH takes of it, and a closer gives back
+-- the room for PUBLISHes that an event leaves to the events before it: a PUBLISH takes one, and a closer gives one back
 abbrev pub room_back : Note → ℕ → ℕ
 room_back n room = cond (is_some (delivery_of n)) (room - 1) (cond (is_some (closer_of n)) (room + 1) room)

@@ -1,11 +1,11 @@
--- What asks in an exchange is received, and what answers is sent.
+-- In an exchange the cause is received, and the answer is sent.
 use Rattle.std.specs.Prelude.{ℕ, ◌≡◌, ◌&&◌, Option, is_some, refl}
 use Rattle.mq_rules.specs.declared.note.Note.{Note}
 use Rattle.mq_rules.specs.declared.note.Note.TheVariants as notes
 use Rattle.mq_rules.specs.declared.packet_note.PacketFields.{PacketFields}
 use Rattle.mq_rules.specs.Notes.{sent_item, received_item, sent_as, received_as, received_once_acknowledged, received_exactly_once}
 
--- these identifiers are found only in what is received, and only in what is sent
+-- the identifier is found only in what is received; only in what is sent
 abbrev pub IsReceived : (Note → Option ℕ) → Type 0
 IsReceived found = (note : Note) → is_some (found note) ≡ (is_some (received_item note) && is_some (found note))
 

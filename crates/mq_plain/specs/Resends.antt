@@ -17,7 +17,7 @@ is_void_delivery role i past = some (λ j. delivers i j && voided (fate role (nu
 abbrev pub is_delivering : ℕ → List Seen → Bool
 is_delivering i past = since (delivers i) (closes i) (connection past)
 
--- the latest opener of the identifier in the session is a PUBLISH of QoS 2, where the latest connection has this fate
+-- the latest opener of the identifier in the session is a PUBLISH of QoS 2, if the latest connection has this fate
 abbrev pub is_last_exactly_once : Role → Fate → ℕ → List Seen → Bool
 is_last_exactly_once role f i past = is_some_and (opens_exactly_once i) (latest (opens i) (session role (Some f) past))
 
@@ -25,7 +25,7 @@ is_last_exactly_once role f i past = is_some_and (opens_exactly_once i) (latest 
 abbrev pub is_pubrel_sent : Role → Fate → ℕ → List Seen → Bool
 is_pubrel_sent role f i past = since (sends_pubrel i) (opens i) (session role (Some f) past)
 
--- on the latest connection something was sent again that was open then, and whose latest opener stands after that of this identifier
+-- on the latest connection something was sent again that was open then, and whose latest opener comes after that of this identifier
 abbrev pub is_overtaken : Role → Fate → ℕ → List Seen → Bool
 is_overtaken role f i past = some (λ j. is_some_and (λ o. is_open_at role f o j
     && comes_after (latest_opener role f o j) (latest (opens i) (session role (Some f) past))) (resend_of (note j))) (connection past)

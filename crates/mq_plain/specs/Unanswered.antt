@@ -1,4 +1,4 @@
--- What asks for an answer on a connection and has none, looked back for.
+-- Unanswered causes on a connection, found by looking back.
 use Rattle.std.specs.Prelude.{ℕ, ◌==◌, Bool, true, cond, ◌&&◌, not, List, length, Option, Some, option_map}
 use Rattle.mq_rules.specs.declared.note.Note.{Note}
 use Rattle.mq_rules.specs.declared.note.Seen.{Seen}
@@ -9,22 +9,22 @@ use Rattle.mq_rules.specs.Exchanges.{Exchange, causes, answers}
 use Rattle.mq_plain.specs.declared.exchanges.slot.Slot.{Slot}
 use Rattle.mq_plain.specs.Tables.{at}
 
--- how many events stand before the first unanswered one that asks under the identifier, on the latest connection of these events
+-- how many events come before the first unanswered cause under the identifier, on the latest connection of these events
 abbrev pub first_index : Exchange → ℕ → List Seen → Option ℕ
 first_index x i past = option_map (λ m. length m.past) (earliest_since (causes x i) (answers x i) (connection past))
 
--- what is known of an identifier, with an event further back that asks under it, or answers
+-- what is known of an identifier, with an earlier event that is a cause under it, or an answer
 abbrev pub asked_at : Bool → ℕ → Slot → Slot
 asked_at asks index slot = cond asks (cond slot.is_answered slot (record { is_answered = slot.is_answered; first = Some index })) slot
 
 abbrev pub answered : Bool → Slot → Slot
 answered answers slot = cond answers (record { is_answered = true; first = slot.first }) slot
 
--- the event asks, and the first unanswered one under its identifier stands at this index
+-- the event is a cause, and the first unanswered one under its identifier is at this index
 abbrev pub is_first_in : Exchange → Slot × List Slot → ℕ → Note → Bool
 is_first_in x slots index note = is_some_and (λ i. is_id index (at slots i).first) (x.cause note)
 
--- Another identifier than this one has an unanswered event before the first one under this.
+-- Another identifier has an unanswered cause before the first one under this identifier.
 abbrev pub passes_over : Exchange → ℕ → List Seen → Bool
 passes_over x i past = is_some_and (λ first. some (λ j. is_some_and (λ other. not (other == i) && since (is_same j) (answers x other) (connection past)) (x.cause (note j)) && is_after first j) (connection past))
     (earliest_since (causes x i) (answers x i) (connection past))

@@ -1,4 +1,4 @@
-//! A REST that binds (it comes after the accepting CONNACK, and nothing before it ends binding).
+//! Binding RESTs: after the accepting CONNACK, with nothing before them that ends binding.
 ghost use Rattle.std.specs.Prelude.{◌≡◌, reverse};
 ghost use Rattle.mq_rules.specs.Moments.{newest, some};
 ghost use Rattle.mq_rules.specs.Connections.{connection, ends_binding, is_binding};

@@ -19,7 +19,7 @@ use mq_rules::{Fate, Memory, Note, NotedFilter, PacketFields, PublishNote, Role,
 use mq_topic::matches;
 use std::alloc::Global;
 
-/// The least Reason Code that refuses (MQTT 5.0, section 2.4).
+/// The lowest Reason Code that refuses (MQTT 5.0, section 2.4).
 const REFUSING: u8 = 0x80;
 
 // ---- topics
@@ -106,14 +106,14 @@ fn asks_for_shared(note: &Note) -> bool
     }
 }
 
-/// The same for an event on a connection that is accepted, where this is the connection's fate.
+/// The same for an event on a connection that is accepted, which has this fate.
 fn asks_for_shared_at(fate: Option<Fate>, note: &Note) -> bool
     ensures { result ≡ (accepted fate && is_some_and (λ s. list_any begins_shared s.filters) (received_subscription note.now)) }
 {
     is_accepted(fate) && asks_for_shared(note)
 }
 
-/// Whether a shared subscription was asked for in the session that is on after these events, where the latest connection is
+/// Whether a shared subscription was asked for in the current session after these events, if the latest connection is
 /// accepted with this fate.
 fn is_sharing(role: Role, fate: Fate, before: &[Seen]) -> bool
     ensures { result ≡ some asks_to_share (session role (Some fate) (reverse before.now)) }
@@ -133,7 +133,7 @@ fn is_sharing(role: Role, fate: Fate, before: &[Seen]) -> bool
     false
 }
 
-// ---- what stands of a SUBSCRIBE
+// ---- the standing filters of a SUBSCRIBE
 
 /// Whether a filter of a SUBSCRIBE stands, matches the topic and has at least this ceiling, given its Reason Code if there is one
 /// (MQTT 5.0, section 3.9.3).
@@ -164,7 +164,7 @@ fn next_code(codes: &[u8]) -> (Option<u8>, &[u8])
     }
 }
 
-/// Whether one of these filters stands and allows the topic, where these are the Reason Codes of the SUBACK.
+/// Whether one of these filters stands and allows the topic, given the Reason Codes of the SUBACK.
 fn any_allows(topic: &str, least: u8, filters: &[NotedFilter], codes: &[u8]) -> bool
     ensures { result ≡ list_any (allows topic.now least) (granted filters.now codes.now) }
 {
@@ -204,8 +204,8 @@ fn codes_in(identifier: u16, fields: &PacketFields) -> Option<&[u8]>
     }
 }
 
-/// The Reason Codes of the SUBACK that answers a SUBSCRIBE under this identifier, where these events came after it. There are
-/// none where it wasn't sent on the connection.
+/// The Reason Codes of the SUBACK that answers a SUBSCRIBE under this identifier, given the events after it. Empty if it wasn't sent
+/// on the connection.
 fn codes_after(identifier: u16, later: &[Seen]) -> &[u8]
     ensures { result.now ≡ unwrap_or (codes_ahead identifier later.now) [] }
 {
@@ -220,8 +220,8 @@ fn codes_after(identifier: u16, later: &[Seen]) -> &[u8]
     &[]
 }
 
-/// Whether an event is a SUBSCRIBE that was received and some standing filter of which allows the topic, where these events came
-/// after it.
+/// Whether an event is a SUBSCRIBE that was received, and one of its standing filters allows the topic, given the events after
+/// it.
 fn subscribes(topic: &str, least: u8, note: &Note, later: &[Seen]) -> bool
     ensures { result ≡ subscribes_to topic.now least later.now note.now }
 {
@@ -249,17 +249,17 @@ fn subscribes_in(topic: &str, least: u8, fields: &PacketFields, later: &[Seen]) 
     }
 }
 
-// ---- what stands in the session
+// ---- the standing filters of the session
 
-/// The same for an event on a connection that is accepted, where this is the connection's fate.
+/// The same for an event on a connection that is accepted, which has this fate.
 fn subscribes_at(fate: Option<Fate>, topic: &str, least: u8, note: &Note, later: &[Seen]) -> bool
     ensures { result ≡ (accepted fate && subscribes_to topic.now least later.now note.now) }
 {
     is_accepted(fate) && subscribes(topic, least, note, later)
 }
 
-/// Whether some filter stands after these events that matches the topic and has at least this ceiling, where the latest connection
-/// is accepted with this fate.
+/// Whether after these events some standing filter matches the topic and has at least this ceiling, if the latest connection is
+/// accepted with this fate.
 fn is_allowed(role: Role, fate: Fate, topic: &str, least: u8, before: &[Seen]) -> bool
     ensures { (e : Seen) → result ≡ list_any (allows topic.now least) (standing_at role fate (newest e (reverse before.now))) }
 {
@@ -281,7 +281,7 @@ fn is_allowed(role: Role, fate: Fate, topic: &str, least: u8, before: &[Seen]) -
 
 // ---- the statements
 
-/// The topic of a PUBLISH that has these events before it, if B01 and B02 look at it: it isn't sent again, and no shared
+/// The topic of a PUBLISH with these events before it, if B01 and B02 look at it: its DUP is 0, and no shared
 /// subscription was asked for in its session, which is that of the latest connection, accepted with this fate.
 fn judged_topic<'a>(
     role: Role,

@@ -1,4 +1,4 @@
-//! Evaluators: each judges one event of a list by some statements, and two of them do so one after the other.
+//! Evaluators: each judges one event of a list by some statements, and two of them make one that runs one after the other.
 //!
 //! An evaluator is a value that knows which of its statements bind the tested end, so that this is looked up once and not at each
 //! event.
@@ -21,18 +21,18 @@ pub trait Evaluator: Drop {
 
     // The statements that are judged.
     ghost chosen: { Rule → Bool };
-    // It judges this end.
+    // The evaluator is for this end.
     ghost is_for: { Self → Tested → Type 0 };
 
-    /// The evaluator that judges this end.
+    /// The evaluator for this end.
     fn of(tested: Tested) -> Self
         ensures { is_for result tested };
 
-    /// Judges an event that has these events before it. A pair that is among the faults keeps its fault.
+    /// Judges an event that has these events before it. A pair that already has a fault keeps it.
     ///
     /// # Errors
     ///
-    /// `Memory` where room was refused. Some of the faults that the event shows may have been added then, and no others.
+    /// `Memory` if there is no memory. Some of the faults that the event shows may then have been added, but no others.
     fn judge_at(
         &self,
         alloc: Global,
@@ -45,7 +45,7 @@ pub trait Evaluator: Drop {
         ensures memory { is_for self.now turn.tested → Comes turn event.now (reverse before.now) → OnErr result (GrowsByWithin chosen turn.tested event.now (reverse before.now) faults.old faults.new) };
 }
 
-/// Judges by one statement on the past of a session.
+/// An evaluator of one statement on the past of a session.
 #[derive(Drop)]
 pub struct OnSessions<T> {
     binds: bool,
@@ -80,7 +80,7 @@ impl<T: SessionStatement> Evaluator for OnSessions<T> {
     }
 }
 
-/// Judges by one statement on releases.
+/// An evaluator of one statement on releases.
 #[derive(Drop)]
 pub struct OnReleases<T> {
     binds: bool,
@@ -115,7 +115,7 @@ impl<T: ReleaseStatement> Evaluator for OnReleases<T> {
     }
 }
 
-/// Judges by one statement that a later REST shows.
+/// An evaluator of one statement that a later REST shows.
 #[derive(Drop)]
 pub struct OnRests<T> {
     binds: bool,
@@ -150,7 +150,7 @@ impl<T: RestStatement> Evaluator for OnRests<T> {
     }
 }
 
-/// Judges by the statements of the first, and then by those of the second.
+/// An evaluator of the statements of the first, and then of those of the second.
 #[derive(Drop)]
 pub struct Then<A, B> {
     first: A,

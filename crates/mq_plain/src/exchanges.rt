@@ -1,4 +1,4 @@
-//! Exchanges: what is received asks for an answer, and what is sent answers it (MQTT 5.0, sections 3.8.4, 3.10.4 and 4.3).
+//! Exchanges: what is received, the cause, asks for an answer, which is sent (MQTT 5.0, sections 3.8.4, 3.10.4 and 4.3).
 
 mod asking;
 mod ordering;
@@ -13,7 +13,7 @@ pub use ordering::Ordered;
 pub use pings::AnsweredPings;
 pub use settling::Settled;
 
-/// An exchange: under which Packet Identifier an event asks for an answer, and under which one it is an answer.
+/// An exchange: under which Packet Identifier an event is a cause, and under which one it is an answer.
 pub trait Exchange {
     ghost use Rattle.std.specs.Prelude.{◌≡◌};
     ghost use Rattle.mq_rules.specs.declared.role.Role.{Role};
@@ -22,14 +22,14 @@ pub trait Exchange {
     ghost use Rattle.mq_rules.specs.Statements.{statement, in_session, at_rest};
     ghost use Rattle.mq_plain.specs.Received.{IsReceived, IsSent};
 
-    // What asks, and what answers.
+    // The cause, and the answer.
     ghost exchange: { exchanges.Exchange };
     // The statement that each answer was asked for.
     ghost asked: { Rule };
-    // The statement that what asks is answered before a REST.
+    // The statement that each cause is answered before a REST.
     ghost settled: { Rule };
 
-    /// The Packet Identifier under which an event asks for an answer.
+    /// The Packet Identifier under which an event is a cause.
     fn cause(note: &Note) -> Option<u16>
         ensures { result ≡ exchange.cause note.now };
 
@@ -41,11 +41,11 @@ pub trait Exchange {
     fn asked_rule() -> Rule
         ensures { result ≡ asked };
 
-    /// The statement that what asks is answered before a REST.
+    /// The statement that each cause is answered before a REST.
     fn settled_rule() -> Rule
         ensures { result ≡ settled };
 
-    // What asks is received.
+    // A cause is received.
     ghost is_received: { IsReceived exchange.cause };
 
     // An answer is sent.
@@ -57,7 +57,7 @@ pub trait Exchange {
     ghost says_settled: { (role : Role) → statement role settled ≡ at_rest (exchanges.shows_R exchange) };
 }
 
-/// An exchange whose answers are sent in the order of what asked for them (MQTT 5.0, section 4.6).
+/// An exchange whose answers are sent in the order of their causes (MQTT 5.0, section 4.6).
 pub trait OrderedExchange: Exchange {
     ghost use Rattle.std.specs.Prelude.{◌≡◌};
     ghost use Rattle.mq_rules.specs.declared.role.Role.{Role};

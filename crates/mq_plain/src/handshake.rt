@@ -1,4 +1,4 @@
-//! What the latest connection was begun with, and what the peer announced there.
+//! The CONNECT and the CONNACK of the latest connection, and what the peer announced there.
 ghost use Rattle.std.specs.Prelude.{◌≡◌, reverse};
 ghost use Rattle.mq_plain.specs.Handshakes as begun;
 
@@ -7,7 +7,7 @@ use mq_rules::{ConnackNote, ConnectNote, Note, Role, Seen};
 /// The Receive Maximum of a peer that announces none (MQTT 5.0, sections 3.1.2.11.3 and 3.2.2.3.3).
 const RECEIVE_MAXIMUM: u16 = 65_535;
 
-/// What a connection was begun with.
+/// The CONNECT and the CONNACK of a connection.
 #[derive(Clone, Copy)]
 pub struct Handshake {
     /// The client's first CONNECT.
@@ -16,7 +16,7 @@ pub struct Handshake {
     pub connack: Option<ConnackNote>,
 }
 
-/// What the latest connection of these events was begun with.
+/// The CONNECT and the CONNACK of the latest connection of these events.
 pub fn handshake_of(role: Role, before: &[Seen]) -> Handshake
     ensures { result ≡ begun.handshake role (reverse before.now) }
 {
@@ -39,7 +39,7 @@ impl Handshake {
     ghost use Rattle.mq_rules.specs.Words.{or_else};
     ghost use Rattle.mq_rules.specs.Notes.{connect_of, connack_of};
 
-    /// With what an event says that stands before all of this.
+    /// The same with an event that comes before all of this.
     fn after(self, role: Role, note: &Note) -> Handshake
         ensures { result ≡ record { connect = or_else (connect_of role note.now) self.connect; connack = or_else (connack_of role note.now) self.connack } }
     {
@@ -60,7 +60,7 @@ impl Handshake {
         announced.unwrap_or(RECEIVE_MAXIMUM)
     }
 
-    /// Whether what comes next counts against the peer's Receive Maximum. A client knows it after the CONNACK alone.
+    /// Whether what comes next counts against the peer's Receive Maximum. A client knows that only after the CONNACK.
     pub fn counts(&self, role: Role) -> bool
         ensures { result ≡ begun.counts_after role self.now }
     {

@@ -101,7 +101,7 @@ impl NoteTest for AnswersUnsubscribe {
     }
 }
 
-/// Whether an identifier is open after these events, where the latest connection has this fate.
+/// Whether an identifier is open after these events, if the latest connection has this fate.
 pub fn is_open_id(role: Role, fate: Fate, identifier: u16, before: &[Seen]) -> bool
     ensures { result ≡ is_open_after role fate identifier (reverse before.now) }
 {
@@ -136,7 +136,7 @@ fn is_unsubscribing(identifier: u16, before: &[Seen]) -> bool
     )
 }
 
-/// Whether an identifier is busy after these events, where the latest connection has this fate: it is open, or a SUBSCRIBE or
+/// Whether an identifier is busy after these events, if the latest connection has this fate: it is open, or a SUBSCRIBE or
 /// UNSUBSCRIBE under it waits for its answer.
 fn is_busy_id(role: Role, fate: Fate, identifier: u16, before: &[Seen]) -> bool
     ensures { result ≡ is_busy_after role fate identifier (reverse before.now) }
@@ -150,7 +150,7 @@ fn is_busy_id(role: Role, fate: Fate, identifier: u16, before: &[Seen]) -> bool
     is_unsubscribing(identifier, before)
 }
 
-/// Whether a packet takes an identifier that is busy, where the latest connection has this fate.
+/// Whether a packet takes an identifier that is busy, if the latest connection has this fate.
 #[tactic(auto, unfolding(mq_rules::specs::Identifiers::breaks_S01))]
 fn takes_busy(role: Role, fate: Fate, event: &Seen, before: &[Seen]) -> bool
     ensures { result ≡ breaks_S01 role fate (newest event.now (reverse before.now)) }

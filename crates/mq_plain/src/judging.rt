@@ -12,7 +12,7 @@ use crate::turn::Turn;
 use mq_rules::{Fate, Faults, Memory, Role, Rule, Seen};
 use std::alloc::Global;
 
-/// A statement on the past of a session: it is judged where the connection is accepted.
+/// A statement on the past of a session: it is judged on accepted connections.
 pub trait SessionStatement {
     ghost use Rattle.std.specs.Prelude.{◌≡◌, Bool, IfOk, reverse};
     ghost use Rattle.mq_rules.specs.declared.role.Role.{Role};
@@ -23,18 +23,18 @@ pub trait SessionStatement {
 
     // The statement that is judged.
     ghost judged: { Rule };
-    // Where it is false.
+    // When it is false.
     ghost breaks: { Role → Fate → Moment → Bool };
 
     /// The statement.
     fn rule() -> Rule
         ensures { result ≡ judged };
 
-    /// Whether an event breaks the statement, which has these events before it, and whose connection is accepted and has this fate.
+    /// Whether an event with these events before it breaks the statement; its connection is accepted and has this fate.
     ///
     /// # Errors
     ///
-    /// `Memory` where room to look back was refused.
+    /// `Memory` if there is no memory to look back.
     fn is_broken(
         alloc: Global,
         role: Role,
@@ -49,11 +49,11 @@ pub trait SessionStatement {
 }
 
 /// Judges an event that has these events before it: it has a fault if the statement binds the tested end and is broken. A pair that
-/// is among the faults keeps its fault.
+/// already has a fault keeps it.
 ///
 /// # Errors
 ///
-/// `Memory` where room for a fault, or to look back, was refused. The faults are then unchanged.
+/// `Memory` if there is no memory for a fault, or to look back. The faults are then unchanged.
 #[inline(always)]
 pub fn judge_session<T: SessionStatement>(
     binds: bool,
@@ -74,8 +74,8 @@ pub fn judge_session<T: SessionStatement>(
     Ok(())
 }
 
-/// Whether an event has a fault, which has these events before it, and of whose connection this is the fate: the statement binds the
-/// tested end, and is broken. A statement that binds the other end alone isn't looked at.
+/// Whether an event with these events before it has a fault: the statement binds the tested end, and is broken. Its connection has this
+/// fate. A statement that binds only the other end isn't evaluated.
 #[inline(always)]
 fn is_fault_at<T: SessionStatement>(
     alloc: Global,

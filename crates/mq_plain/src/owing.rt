@@ -33,7 +33,7 @@ fn mark(marked: &mut Table<bool>, identifier: Option<u16>)
 ///
 /// # Errors
 ///
-/// `Memory` where room for them was refused.
+/// `Memory` if there is no memory for them.
 fn sent_again(alloc: Global, before: &[Seen]) -> Result<Table<bool>, Memory>
     ensures { IfOk result (λ again. (i : ℕ) → at again i ≡ some (λ m. sends i (note m)) (connection (reverse before.now))) }
 {
@@ -50,7 +50,7 @@ fn sent_again(alloc: Global, before: &[Seen]) -> Result<Table<bool>, Memory>
     Ok(again)
 }
 
-/// An identifier, where its event is in the session.
+/// An identifier, if its event is in the session.
 fn only_if(is_in: bool, identifier: Option<u16>) -> Option<u16>
     ensures { result ≡ only is_in identifier }
 {
@@ -75,7 +75,7 @@ fn mark_confirmed(confirmed: &mut Table<bool>, is_in: bool, note: &Note)
     mark(confirmed, only_if(is_in, note.received_accepting_pubrec()));
 }
 
-/// Whether the opener of an identifier is owed, if there is one, where these were sent again, and these moved and confirmed after it.
+/// Whether an opener is owed, if the event is one, given the identifiers that were sent again, and those moved and confirmed after it.
 fn is_owed(
     is_lenient: bool,
     again: &Table<bool>,
@@ -105,12 +105,12 @@ fn push_if(places: &mut Vec<Place3>, place: Place3, is_due: bool) -> Result<(), 
     Ok(())
 }
 
-/// The places of what is owed in the session that is on after these events, where the latest connection resumed it, and these
-/// identifiers were sent again there.
+/// The places of what is owed in the current session after these events, if the latest connection resumed it; these identifiers were
+/// sent again there.
 ///
 /// # Errors
 ///
-/// `Memory` where room for them, or to look back, was refused.
+/// `Memory` if there is no memory for them, or to look back.
 fn owed_in_session(
     alloc: Global,
     role: Role,
@@ -141,8 +141,8 @@ fn owed_in_session(
     Ok(places)
 }
 
-/// Whether not all need be sent again that wasn't confirmed: the send quota is used up, or the peer announced a Maximum Packet Size or
-/// a Maximum QoS.
+/// Whether what wasn't confirmed needn't all be sent again: the send quota is used up, or the peer announced a Maximum Packet Size or a
+/// Maximum QoS.
 fn is_lenient(role: Role, before: &[Seen]) -> bool
     ensures { (rest : TheSeen) → result ≡ (uses_up role (newest rest (reverse before.now)) || has_announced role (newest rest (reverse before.now))) }
 {
@@ -159,11 +159,11 @@ fn is_resumed(fate: Option<Fate>) -> bool
     matches!(fate, Some(Fate::Resumed))
 }
 
-/// The places of what is owed as a REST after these events shows.
+/// The places of what is owed, as a REST after these events shows.
 ///
 /// # Errors
 ///
-/// `Memory` where room for them, or to look back, was refused.
+/// `Memory` if there is no memory for them, or to look back.
 fn owed_at_rest(alloc: Global, role: Role, before: &[Seen]) -> Result<Vec<Place3>, Memory>
     ensures { (rest : TheSeen) → IsPlaced (reverse before.now) → IfOk result (λ places. IsShown (shows_S06 role (newest rest (reverse before.now))) (reverse before.now) places.items) }
 {
@@ -174,7 +174,7 @@ fn owed_at_rest(alloc: Global, role: Role, before: &[Seen]) -> Result<Vec<Place3
     owed_in_session(alloc, role, is_lenient(role, before), &again, before)
 }
 
-/// S06: where a session is resumed, each PUBLISH or PUBREL of it that is unacknowledged is sent again.
+/// S06: when a session is resumed, each PUBLISH or PUBREL of it that is unacknowledged is sent again.
 pub struct Resends;
 
 impl RestStatement for Resends {

@@ -1,7 +1,7 @@
 //! One pass over the events of a list, in which an evaluator judges each.
 //!
-//! Few events are spoken of: a quiet one costs a test, and each event is met once, whatever the number of statements. A REST looks
-//! back only if something before it asked for an answer.
+//! Most events are quiet and cost one test, and each event is visited once, however many statements there are. A REST looks back only
+//! if something before it asks for an answer, or may have to be sent again.
 ghost use Rattle.std.specs.Prelude.{◌≡◌, ◌∷◌, ◌&&◌, ◌||◌, not, cond, None, reverse, OnOk, OnErr};
 ghost use Rattle.mq_rules.specs.Notes.{is_open, is_rest, decides};
 ghost use Rattle.mq_rules.specs.Words.{or_else};
@@ -18,11 +18,11 @@ use mq_packet::Qos;
 use mq_rules::{Fate, Faults, ItemNote, Memory, Note, PacketFields, Role, Seen, Tested};
 use std::alloc::Global;
 
-/// Judges each event by what stands before it in the list, the oldest first. A pair that is among the faults keeps its fault.
+/// Judges each event by what comes before it in the list, the oldest first. A pair that already has a fault keeps it.
 ///
 /// # Errors
 ///
-/// `Memory` where room was refused. Some of the faults of the evaluator's statements may have been added then, and no others.
+/// `Memory` if there is no memory. Some of the faults of the evaluator's statements may then have been added, but no others.
 pub fn judge_each<E: Evaluator>(
     alloc: Global,
     tested: Tested,
@@ -51,12 +51,12 @@ pub fn judge_each<E: Evaluator>(
 struct Kept {
     /// The fate of the latest connection, if it is decided (MQTT 5.0, section 3.2.2).
     fate: Option<Fate>,
-    /// Whether some event asks for an answer, or has to be sent again.
+    /// Whether some event asks for an answer, or may have to be sent again.
     asked: bool,
 }
 
-/// Judges an event that has these events before it, of which this is kept. Nothing is looked up for a quiet one, nor for a REST
-/// before which nothing asks.
+/// Judges an event with these events before it, of which this is kept. A quiet event, or a REST before which no event asks for an
+/// answer, needs no look back.
 #[inline(always)]
 fn judge_next<E: Evaluator>(
     evaluator: &E,
@@ -85,8 +85,8 @@ fn judge_next<E: Evaluator>(
     evaluator.judge_at(alloc, turn, event, before, faults)
 }
 
-/// Whether no statement speaks of the event: it is no REST and no RELEASE, and no packet that the tested end sends in a session, but
-/// for a client's PUBLISH of QoS 0.
+/// Whether no statement on sessions is judged at the event: it is neither a REST nor a RELEASE, nor a packet that the tested end sends
+/// in a session, except a client's PUBLISH of QoS 0.
 #[inline(always)]
 fn is_quiet(role: Role, note: &Note) -> bool
     ensures { result ≡ quiet role note.now }
@@ -98,7 +98,7 @@ fn is_quiet(role: Role, note: &Note) -> bool
     }
 }
 
-/// Whether a packet needs a session, and is no client's PUBLISH of QoS 0.
+/// Whether a packet needs a session, and isn't a client's PUBLISH of QoS 0.
 #[inline(always)]
 fn is_spoken_of(role: Role, fields: &PacketFields) -> bool
     ensures { result ≡ spoken_of role fields.now }
@@ -111,7 +111,7 @@ fn is_spoken_of(role: Role, fields: &PacketFields) -> bool
     }
 }
 
-/// Whether the event is a REST that shows nothing, since nothing before it asked.
+/// Whether the event is a REST that shows nothing, since no event before it asks for an answer.
 #[inline(always)]
 fn finds_nothing(asked: bool, note: &Note) -> bool
     ensures { result ≡ (is_rest note.now && not asked) }
@@ -119,7 +119,7 @@ fn finds_nothing(asked: bool, note: &Note) -> bool
     note.is_rest() && !asked
 }
 
-/// What is kept after an event, where this is kept of those before.
+/// What is kept after an event, given what is kept before it.
 #[inline(always)]
 fn kept_after(kept: Kept, role: Role, note: &Note) -> Kept
     ensures fate { result.fate ≡ cond (is_open note.now) None (or_else kept.fate (decides role note.now)) }
@@ -144,7 +144,7 @@ fn asks(note: &Note) -> bool
     }
 }
 
-/// Whether a packet is a PINGREQ, or needs a session and is no PUBLISH of QoS 0.
+/// Whether a packet is a PINGREQ, or needs a session and isn't a PUBLISH of QoS 0.
 #[inline(always)]
 fn is_asking(fields: &PacketFields) -> bool
     ensures { result ≡ asking fields.now }
@@ -156,7 +156,7 @@ fn is_asking(fields: &PacketFields) -> bool
     }
 }
 
-/// The fate of the latest connection after an event, where this is its fate before.
+/// The fate of the latest connection after an event, given the fate before it.
 #[inline(always)]
 fn fate_after(fate: Option<Fate>, role: Role, note: &Note) -> Option<Fate>
     ensures { result ≡ cond (is_open note.now) None (or_else fate (decides role note.now)) }

@@ -1,6 +1,6 @@
 //! The plain evaluators of the statements on sessions.
 //!
-//! One pass over the events by all of them is what a log is judged by: events are many, and each is read from memory once.
+//! A log is judged in one pass by all of them: events are many, and so each is read from memory once.
 ghost use Rattle.std.specs.Prelude.{reverse, OnOk, OnErr};
 ghost use Rattle.mq_rules.specs.Moments.{IsPlaced};
 ghost use Rattle.mq_rules.specs.Connections.{IsInOrder};
@@ -23,7 +23,7 @@ use crate::resends::{ResendsBeforePubrel, ResendsInOrder, ResendsOnce, ResendsOp
 use mq_rules::{Faults, Memory, Seen, Tested};
 use std::alloc::Global;
 
-// An exchange whose answers are in order: an answer was asked for, what asks is answered at a REST, and answers are in order.
+// An exchange with ordered answers: each answer was asked for, each cause is answered at a REST, and answers are in order.
 type OrderedAnswers<X, Others> = Then<
     OnSessions<Asked<X>>,
     Then<OnRests<Settled<X>>, Then<OnSessions<Ordered<X>>, Others>>,
@@ -78,11 +78,11 @@ type Subscriptions = Then<
 >;
 
 /// Judges each event of a list, the oldest first, by the statements on identifiers, resends and the send quota (S01 to S07) and on
-/// exchanges (E1A to E7R). A pair that is among the faults keeps its fault.
+/// exchanges (E1A to E7R). A pair that already has a fault keeps it.
 ///
 /// # Errors
 ///
-/// `Memory` where room was refused. Some of the faults of these statements may have been added then, and no others.
+/// `Memory` if there is no memory. Some of the faults of these statements may then have been added, but no others.
 pub fn plain_se(
     alloc: Global,
     tested: Tested,
@@ -96,11 +96,11 @@ pub fn plain_se(
 }
 
 /// Judges each event of a list, the oldest first, by the statements on releases (L1 to L3) and on subscriptions (B01 to B04). A pair
-/// that is among the faults keeps its fault.
+/// that already has a fault keeps it.
 ///
 /// # Errors
 ///
-/// `Memory` where room was refused. Some of the faults of these statements may have been added then, and no others.
+/// `Memory` if there is no memory. Some of the faults of these statements may then have been added, but no others.
 pub fn plain_lb(
     alloc: Global,
     tested: Tested,
@@ -114,11 +114,11 @@ pub fn plain_lb(
 }
 
 /// Judges each event of a list, the oldest first, by all these statements in one pass: those of `plain_se` and those of `plain_lb`. A
-/// pair that is among the faults keeps its fault.
+/// pair that already has a fault keeps it.
 ///
 /// # Errors
 ///
-/// `Memory` where room was refused. Some of the faults of these statements may have been added then, and no others.
+/// `Memory` if there is no memory. Some of the faults of these statements may then have been added, but no others.
 pub fn plain_sessions(
     alloc: Global,
     tested: Tested,

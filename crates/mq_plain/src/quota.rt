@@ -11,21 +11,21 @@ use crate::judging::SessionStatement;
 use mq_rules::{Fate, Memory, Note, Role, Rule, Seen};
 use std::alloc::Global;
 
-/// Whether an event that has these events before it counts against the send quota of its connection.
+/// Whether an event with these events before it counts for the send quota of its connection.
 fn counts(role: Role, before: &[Seen]) -> bool
     ensures { (event : TheSeen) → result ≡ is_counted role (newest event (reverse before.now)) }
 {
     handshake_of(role, before).counts(role)
 }
 
-/// Whether a PUBLISH is sent for which there is no room.
+/// Whether a PUBLISH of QoS above 0 is sent, and no room is left for it.
 fn finds_no_room(room: usize, note: &Note) -> bool
     ensures { result ≡ (is_some (delivery_of note.now) && (room == 0)) }
 {
     note.delivery().is_some() && room == 0
 }
 
-/// The room for PUBLISHes that an event leaves for what stands before it.
+/// The room for PUBLISHes that an event leaves to the events before it.
 fn room_before(room: usize, note: &Note) -> usize
     requires { room < 2 ^ 64 - 1 }
     ensures { result ≡ room_back note.now room }
@@ -59,8 +59,8 @@ fn is_overdrawn(role: Role, room: usize, before: &[Seen]) -> bool
     false
 }
 
-/// Whether the send quota of the latest connection is used up after these events: the peer has not acknowledged as many PUBLISHes as
-/// its Receive Maximum. Acknowledgements that came before those PUBLISHes add nothing to it.
+/// Whether the send quota of the latest connection is used up after these events: as many PUBLISHes as the peer's Receive Maximum are
+/// unacknowledged. Acknowledgements that came before those PUBLISHes don't raise the quota.
 pub fn is_used_up(role: Role, before: &[Seen]) -> bool
     ensures { (event : TheSeen) → result ≡ uses_up role (newest event (reverse before.now)) }
 {
@@ -71,7 +71,7 @@ pub fn is_used_up(role: Role, before: &[Seen]) -> bool
     is_overdrawn(role, usize::from(most - 1), before)
 }
 
-/// Whether a PUBLISH passes the send quota.
+/// Whether the event is a PUBLISH that exceeds the send quota.
 fn passes_quota(role: Role, event: &Seen, before: &[Seen]) -> bool
     ensures { result ≡ breaks_S07 role (newest event.now (reverse before.now)) }
 {

@@ -123,7 +123,7 @@ fn releases_again(role: Role, fate: Fate, event: &Seen, before: &[Seen]) -> bool
     }
 }
 
-/// Whether an event completes an exchange with success whose message wasn't released, though it may not lapse.
+/// Whether an event completes an exchange with success, though the release of its message is due.
 #[tactic(auto, unfolding(mq_rules::specs::Releases::breaks_L3))]
 fn completes_unreleased(role: Role, fate: Fate, event: &Seen, before: &[Seen]) -> bool
     ensures { result ≡ breaks_L3 role fate (newest event.now (reverse before.now)) }
@@ -134,7 +134,7 @@ fn completes_unreleased(role: Role, fate: Fate, event: &Seen, before: &[Seen]) -
     }
 }
 
-/// Whether the release of the message under an identifier is due: its PUBLISH was received, it may not lapse, and it wasn't
+/// Whether the release of the message under an identifier is due: its PUBLISH was received, it needs a release, and it wasn't
 /// released.
 fn is_release_due(role: Role, fate: Fate, identifier: u16, before: &[Seen]) -> bool
     ensures { result ≡ is_some_and (λ first. not (is_released_after role fate identifier (reverse before.now)) && not (lapses_after role fate identifier (reverse before.now) first)) (first_brought_after role fate identifier (reverse before.now)) }
@@ -154,7 +154,7 @@ fn is_release_due(role: Role, fate: Fate, identifier: u16, before: &[Seen]) -> b
     }
 }
 
-/// Whether the message of this PUBLISH may end without a release: it may expire, or a PUBREC of 0x10 was sent since.
+/// Whether the message of this PUBLISH needs no release: it may expire, or a PUBREC of 0x10 was sent since.
 fn may_lapse(role: Role, fate: Fate, identifier: u16, first: Found<'_>, before: &[Seen]) -> bool
     ensures { result ≡ lapses_after role fate identifier (reverse before.now) (moment_of first.entry) }
 {
@@ -180,7 +180,7 @@ fn may_expire(note: &Note) -> bool
     }
 }
 
-/// L1: a message is released only where its QoS 2 PUBLISH was received.
+/// L1: a message is released only if its QoS 2 PUBLISH was received.
 pub struct ReceivedReleases;
 
 impl ReleaseStatement for ReceivedReleases {
@@ -226,7 +226,7 @@ impl ReleaseStatement for SingleReleases {
     ghost says = { λ role. refl };
 }
 
-/// L3: a message that may not lapse is released before its exchange is completed with success.
+/// L3: a message that needs a release is released before its exchange is completed with success.
 pub struct ReleasedCompletions;
 
 impl SessionStatement for ReleasedCompletions {

@@ -20,14 +20,14 @@ pub trait ReleaseStatement {
 
     // The statement that is judged.
     ghost judged: { Rule };
-    // Where it is false.
+    // When it is false.
     ghost breaks: { Role → Fate → Moment → Bool };
 
     /// The statement.
     fn rule() -> Rule
         ensures { result ≡ judged };
 
-    /// Whether an event breaks the statement, which has these events before it, and whose connection has this fate.
+    /// Whether an event with these events before it breaks the statement; its connection has this fate.
     fn is_broken(role: Role, fate: Fate, event: &Seen, before: &[Seen]) -> bool
         ensures { result ≡ breaks role fate (newest event.now (reverse before.now)) };
 
@@ -36,11 +36,11 @@ pub trait ReleaseStatement {
 }
 
 /// Judges an event that has these events before it: it has a fault if the statement binds the tested end and is broken. A pair that
-/// is among the faults keeps its fault.
+/// already has a fault keeps it.
 ///
 /// # Errors
 ///
-/// `Memory` where room for a fault was refused. The faults are then unchanged.
+/// `Memory` if there is no memory for a fault. The faults are then unchanged.
 #[inline(always)]
 pub fn judge_release<T: ReleaseStatement>(
     binds: bool,
@@ -60,8 +60,8 @@ pub fn judge_release<T: ReleaseStatement>(
     Ok(())
 }
 
-/// Whether an event has a fault, which has these events before it, and of whose connection this is the fate: the statement binds the
-/// tested end, and is broken. A statement that binds the other end alone isn't looked at.
+/// Whether an event with these events before it has a fault: the statement binds the tested end, and is broken. Its connection has this
+/// fate. A statement that binds only the other end isn't evaluated.
 #[inline(always)]
 fn is_fault_at<T: ReleaseStatement>(
     binds: bool,

@@ -92,14 +92,14 @@ fn is_sent_on_void(role: Role, identifier: u16, before: &[Seen]) -> bool
     false
 }
 
-/// Whether an event sends a PUBLISH under an identifier on a connection that is void, where the connection has this fate.
+/// Whether an event sends a PUBLISH under an identifier on a void connection; its connection has this fate.
 fn is_void_at(identifier: u16, fate: Option<Fate>, note: &Note) -> bool
     ensures { result ≡ (is_id identifier (delivery_of note.now) && voided fate) }
 {
     Delivers(identifier).passes(note) && is_voided(fate)
 }
 
-/// Whether what an identifier stands for may be sent again: it is open, or was sent on a void connection.
+/// Whether the PUBLISH of an identifier may be sent again: it is open, or was sent on a void connection.
 fn may_be_resent(role: Role, fate: Fate, identifier: u16, before: &[Seen]) -> bool
     ensures { result ≡ (is_open_after role fate identifier (reverse before.now) || is_void_delivery role identifier (reverse before.now)) }
 {
@@ -109,7 +109,7 @@ fn may_be_resent(role: Role, fate: Fate, identifier: u16, before: &[Seen]) -> bo
     is_sent_on_void(role, identifier, before)
 }
 
-/// Whether a packet sends again what isn't open, and was sent on no void connection.
+/// Whether a packet sends a PUBLISH again that isn't open, and wasn't sent on a void connection.
 #[tactic(auto, unfolding(mq_rules::specs::Identifiers::breaks_S02))]
 fn resends_unopened(role: Role, fate: Fate, event: &Seen, before: &[Seen]) -> bool
     ensures { result ≡ breaks_S02 role fate (newest event.now (reverse before.now)) }
@@ -127,7 +127,7 @@ fn is_sent_already(identifier: u16, before: &[Seen]) -> bool
     since_on_connection(&Delivers(identifier), &Closes(identifier), before)
 }
 
-/// Whether a packet sends again on its connection what was sent there before, and wasn't closed since.
+/// Whether a packet sends a PUBLISH again that was sent on its connection before, and wasn't closed since.
 #[tactic(auto, unfolding(mq_rules::specs::Identifiers::breaks_S03))]
 fn resends_twice(event: &Seen, before: &[Seen]) -> bool
     ensures { result ≡ breaks_S03 (newest event.now (reverse before.now)) }
@@ -184,7 +184,7 @@ fn resends_past_pubrel(role: Role, fate: Fate, event: &Seen, before: &[Seen]) ->
     }
 }
 
-/// S02: a PUBLISH is sent again only where it is open, or may have been lost on a void connection.
+/// S02: a PUBLISH is sent again only if it is open, or may have been lost on a void connection.
 pub struct ResendsOpen;
 
 impl SessionStatement for ResendsOpen {
@@ -213,7 +213,7 @@ impl SessionStatement for ResendsOpen {
     ghost says = { λ role. refl };
 }
 
-/// S03: a PUBLISH is sent again at most once on a connection, and not where it was first sent.
+/// S03: a PUBLISH is sent again at most once on a connection, and not on the one where it was first sent.
 pub struct ResendsOnce;
 
 impl SessionStatement for ResendsOnce {

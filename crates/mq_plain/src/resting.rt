@@ -10,7 +10,7 @@ use mq_rules::{Fault, Faults, Mark, Memory, Role, Rule, Seen};
 use mq_trace::Place3;
 use std::alloc::Global;
 
-/// A statement that is false at an event where a later binding REST of a session shows it.
+/// A statement that is false at an event if a later binding REST shows it.
 pub trait RestStatement {
     ghost use Rattle.std.specs.Prelude.{◌≡◌, Bool, IfOk, reverse};
     ghost use Rattle.mq_rules.specs.declared.role.Role.{Role};
@@ -21,18 +21,18 @@ pub trait RestStatement {
 
     // The statement that is judged.
     ghost judged: { Rule };
-    // Where it is false, as the first moment shows: a binding REST that comes after the second.
+    // When it is false at the second moment, as the first one shows, which is a later binding REST.
     ghost shows: { Role → Moment → Moment → Bool };
 
     /// The statement.
     fn rule() -> Rule
         ensures { result ≡ judged };
 
-    /// The places of the events that break the statement as a REST shows, which has these events before it.
+    /// The places of the events that break the statement, as a REST with these events before it shows.
     ///
     /// # Errors
     ///
-    /// `Memory` where room for them, or to look back, was refused.
+    /// `Memory` if there is no memory for them, or to look back.
     fn shown(alloc: Global, role: Role, rest: &Seen, before: &[Seen]) -> Result<Vec<Place3>, Memory>
         ensures { IsPlaced (reverse before.now) → IfOk result (λ places. IsShown (shows role (newest rest.now (reverse before.now))) (reverse before.now) places.items) };
 
@@ -40,12 +40,12 @@ pub trait RestStatement {
     ghost says: { (role : Role) → statement role judged ≡ at_rest (shows role) };
 }
 
-/// Puts the faults of the events that a REST shows to break the statement, if it binds the tested end. An event that is no binding
-/// REST shows nothing. A pair that is among the faults keeps its fault; so the first REST that shows it decides a pair.
+/// Adds a fault at each event that a REST shows to break the statement, if the statement binds the tested end. An event other than a
+/// binding REST shows nothing. A pair that already has a fault keeps it; so the first REST that shows a pair decides it.
 ///
 /// # Errors
 ///
-/// `Memory` where room for a fault, or to look back, was refused. Some of the faults may have been put then, and no others.
+/// `Memory` if there is no memory for a fault, or to look back. Some of the faults may then have been added, but no others.
 #[inline(always)]
 pub fn judge_rest<T: RestStatement>(
     binds: bool,
@@ -69,11 +69,11 @@ pub fn judge_rest<T: RestStatement>(
     Ok(())
 }
 
-/// Puts a fault of a statement at each of these places, decided at this position. A pair that is among the faults keeps its fault.
+/// Adds a fault of a statement at each of these places, decided at this position. A pair that already has a fault keeps it.
 ///
 /// # Errors
 ///
-/// `Memory` where room for a fault was refused. Some of the faults may have been put then, and no others.
+/// `Memory` if there is no memory for a fault. Some of the faults may then have been added, but no others.
 fn blame(rule: Rule, decided: u32, places: &[Place3], faults: &mut Faults) -> Result<(), Memory>
     ensures ok { OnOk result (Blames rule decided places.now faults.old faults.new) }
     ensures memory { OnErr result (BlamesWithin rule decided places.now faults.old faults.new) }

@@ -9,7 +9,7 @@ use crate::connection::latest_fate_of;
 use crate::lookback::NoteTest;
 use mq_rules::{Fate, Note, Role, Seen};
 
-/// Whether in the session that is on after these events, where the latest connection has this fate, some event passes the first
+/// Whether in the current session after these events, if the latest connection has this fate, some event passes the first
 /// test, and no later one the second.
 pub fn since_in_session<S: NoteTest, E: NoteTest>(
     role: Role,
@@ -35,7 +35,7 @@ pub fn since_in_session<S: NoteTest, E: NoteTest>(
     false
 }
 
-/// The answer that an event gives by itself, if it is in the session. It is tested first, since few events pass.
+/// What an event decides by itself, if it is in the session. The tests come first, since few events pass them.
 fn answer_at<S: NoteTest, E: NoteTest>(
     role: Role,
     fate: Option<Fate>,
@@ -63,7 +63,7 @@ pub fn begins_at(fate: Option<Fate>, note: &Note) -> bool
     note.is_open() && matches!(fate, Some(Fate::New))
 }
 
-/// The fate of the connection that is the latest one before an event, where this one is the fate of the latest one after it.
+/// The fate of the latest connection before an event, given the fate of the latest one after it.
 pub fn fate_before(role: Role, fate: Option<Fate>, note: &Note, before: &[Seen]) -> Option<Fate>
     ensures { result ≡ cond (is_open note.now) (latest_fate role (reverse before.now)) fate }
 {
@@ -81,8 +81,8 @@ fn is_in_session(role: Role, fate: Option<Fate>, event: &Seen, before: &[Seen]) 
         || (event.note.is_release() && is_voided(fate) && is_any_accepted(role, fate, before))
 }
 
-/// Whether an event on or after the latest connection, which has this fate, is in a session, where this tells whether some
-/// connection up to the event is accepted.
+/// Whether an event on or after the latest connection, which has this fate, is in a session; `any` says whether some connection
+/// up to the event is accepted.
 #[tactic(auto, using(crate::proofs::LookbackLaws::in_known))]
 pub fn is_in_known_session(
     role: Role,
@@ -96,8 +96,8 @@ pub fn is_in_known_session(
     is_accepted(fate) || (event.note.is_release() && is_voided(fate) && any)
 }
 
-/// Whether some connection before an event is accepted, where this tells it of those up to the event, and the latest one has this
-/// fate.
+/// Whether some connection before an event is accepted, if the latest one has this fate; `any` says the same of those up to the
+/// event.
 pub fn any_before(role: Role, fate: Option<Fate>, any: bool, note: &Note, before: &[Seen]) -> bool
     ensures { result ≡ cond (is_open note.now && accepted fate) (any_accepted role (latest_fate role (reverse before.now)) (reverse before.now)) any }
 {
@@ -121,7 +121,7 @@ pub fn is_voided(fate: Option<Fate>) -> bool
     matches!(fate, Some(Fate::Void))
 }
 
-/// Whether some connection of these events is accepted, where the latest one has this fate.
+/// Whether some connection of these events is accepted, if the latest one has this fate.
 pub fn is_any_accepted(role: Role, fate: Option<Fate>, before: &[Seen]) -> bool
     ensures { result ≡ any_accepted role fate (reverse before.now) }
 {

@@ -9,7 +9,7 @@ use std::marker::Model;
 /// A value for each Packet Identifier.
 #[derive(Drop)]
 pub struct Table<T: Copy> {
-    // One for each identifier, 65,536 in all.
+    // One value for each identifier, 65,536 in all.
     values: Vec<T>,
     initial: T,
 }
@@ -29,7 +29,7 @@ impl<T: Copy> Table<T> {
     ///
     /// # Errors
     ///
-    /// `Memory` where room for them was refused.
+    /// `Memory` if there is no memory for them.
     #[tactic(auto, using(crate::proofs::TableLaws::of_replicate, crate::proofs::TableLaws::one_more))]
     pub fn new(alloc: Global, initial: T) -> Result<Self, Memory>
         ensures { IfOk result (λ table. (i : ℕ) → at table i ≡ initial) }
@@ -48,7 +48,7 @@ impl<T: Copy> Table<T> {
         self.values[usize::from(identifier)]
     }
 
-    /// Gives an identifier another value.
+    /// Sets the value of an identifier.
     pub fn set(&mut self, identifier: u16, value: T)
         ensures { (i : ℕ) → at self.new i ≡ cond (i == identifier) value (at self.old i) }
     {

@@ -1,8 +1,8 @@
-//! What is known of an event before it is judged, besides what stands before it.
+//! What is known of an event before it is judged, besides the events before it.
 
 use mq_rules::{Fate, Tested};
 
-/// What the statements on a session ask of an event, besides what stands before it. It is found once for all of them.
+/// What the statements on sessions need to know of an event, besides the events before it. It is found once for all of them.
 #[derive(Clone, Copy)]
 pub struct Turn {
     /// The end that is judged.

@@ -14,7 +14,7 @@ use mq_rules::{Fate, Memory, Note, Role, Rule, Seen};
 use std::alloc::Global;
 use std::marker::PhantomData;
 
-/// E1A to E6A: an answer stands after what asks for it in the session, and no other answer of its connection between them.
+/// E1A to E6A: an answer comes after its cause in the session, with no other answer of its connection between them.
 pub struct Asked<X: Exchange>(PhantomData<X>);
 
 impl<X: Exchange> SessionStatement for Asked<X> {
@@ -41,7 +41,7 @@ impl<X: Exchange> SessionStatement for Asked<X> {
     ghost says = { X.says_asked };
 }
 
-/// Whether an event is an answer that nothing asked for, where the latest connection has this fate.
+/// Whether an event is an answer that nothing asked for, if the latest connection has this fate.
 #[tactic(auto, unfolding(mq_rules::specs::Exchanges::breaks_A))]
 fn lacks_cause<X: Exchange>(role: Role, fate: Fate, event: &Seen, before: &[Seen]) -> bool
     ensures { result ≡ breaks_A X.exchange role fate (newest event.now (reverse before.now)) }
@@ -52,8 +52,8 @@ fn lacks_cause<X: Exchange>(role: Role, fate: Fate, event: &Seen, before: &[Seen
     }
 }
 
-/// Whether in the session that is on after these events, where the latest connection has this fate, some event asks under an identifier,
-/// and no later one on the latest connection answers.
+/// Whether in the current session after these events, if the latest connection has this fate, some event is a cause under an
+/// identifier, and no later one on the latest connection is an answer.
 fn is_asked<X: Exchange>(role: Role, fate: Fate, identifier: u16, before: &[Seen]) -> bool
     ensures { result ≡ since (causes X.exchange identifier) (λ m. answers X.exchange identifier m && (number m == begun (reverse before.now))) (session role (Some fate) (reverse before.now)) }
 {
@@ -75,7 +75,8 @@ fn is_asked<X: Exchange>(role: Role, fate: Fate, identifier: u16, before: &[Seen
     false
 }
 
-/// What an event tells by itself, if its connection is accepted: it asks under the identifier, or it answers on the latest connection.
+/// What an event decides by itself, if its connection is accepted: it is a cause under the identifier, or an answer on the latest
+/// connection.
 fn told_by<X: Exchange>(is_in: bool, is_latest: bool, identifier: u16, note: &Note) -> Option<bool>
     ensures { result ≡ answer_by (is_in && is_id identifier (X.exchange.cause note.now)) (is_in && (is_id identifier (X.exchange.answer note.now) && is_latest)) }
 {
@@ -91,7 +92,7 @@ fn told_by<X: Exchange>(is_in: bool, is_latest: bool, identifier: u16, note: &No
     None
 }
 
-/// Whether what stands before an event is on the latest connection, where this says it of the event.
+/// Whether what comes before an event is on the latest connection; the flag says the same of the event.
 fn is_latest_before(is_latest: bool, note: &Note) -> bool
     ensures { result ≡ (is_latest && not (is_open note.now)) }
 {

@@ -1,4 +1,4 @@
-//! What asks for an answer is answered before the tested end is at rest.
+//! Each cause is answered before the tested end is at rest.
 ghost use Rattle.std.specs.Prelude.{◌≡◌, reverse, length, IfOk};
 ghost use Rattle.mq_rules.specs.Moments.{note, IsPlaced};
 ghost use Rattle.mq_plain.specs.Shown.{IsShown};
@@ -14,8 +14,8 @@ use mq_trace::Place3;
 use std::alloc::Global;
 use std::marker::PhantomData;
 
-/// E1R to E6R: what asks for an answer has one on its connection before a REST that binds. It is said of the first event under an
-/// identifier that has none.
+/// E1R to E6R: a cause has an answer on its connection before a REST that binds. The fault is at the first unanswered cause under an
+/// identifier.
 pub struct Settled<X: Exchange>(PhantomData<X>);
 
 impl<X: Exchange> RestStatement for Settled<X> {
@@ -42,11 +42,11 @@ impl<X: Exchange> RestStatement for Settled<X> {
     ghost says = { X.says_settled };
 }
 
-/// The places of the events that are the first unanswered ones under their identifiers.
+/// The places of the events that are the first unanswered causes under their identifiers.
 ///
 /// # Errors
 ///
-/// `Memory` where room for them was refused.
+/// `Memory` if there is no memory for them.
 fn first_places<X: Exchange>(
     alloc: Global,
     slots: &Table<Slot>,

@@ -1,18 +1,18 @@
-//! What is known of one Packet Identifier where events are looked back over.
+//! What is known of one Packet Identifier when looking back over events.
 ghost use Rattle.std.specs.Prelude.{◌≡◌, true};
 ghost use Rattle.mq_plain.specs.Unanswered.{asked_at, answered};
 
-/// What the later events of a connection tell of one Packet Identifier.
+/// What the later events of a connection say of one Packet Identifier.
 #[derive(Clone, Copy)]
 pub struct Slot {
-    /// Whether one of them answers.
+    /// Whether one of them is an answer.
     pub is_answered: bool,
-    /// Where the first of them stands that asks and isn't answered.
+    /// The index of the first of them that is an unanswered cause.
     pub first: Option<usize>,
 }
 
 impl Slot {
-    /// The same with an event before them that asks, and stands at this index.
+    /// The same with an event before them, at this index, that is a cause.
     pub fn asked(self, index: usize) -> Slot
         ensures { result ≡ asked_at true index self }
     {
@@ -25,7 +25,7 @@ impl Slot {
         }
     }
 
-    /// The same with an event before them that answers.
+    /// The same with an event before them that is an answer.
     pub fn answered(self) -> Slot
         ensures { result ≡ answered true self }
     {

@@ -1,4 +1,4 @@
-//! What asks for an answer on the latest connection and has none.
+//! Unanswered causes on the latest connection.
 ghost use Rattle.std.specs.Prelude.{ℕ, ◌≡◌, ◌&&◌, cond, nat_lt, length, reverse, IfOk};
 ghost use Rattle.mq_rules.specs.Words.{is_id};
 ghost use Rattle.mq_rules.specs.Moments.{note, some};
@@ -12,11 +12,11 @@ use crate::table::Table;
 use mq_rules::{Memory, Note, Seen};
 use std::alloc::Global;
 
-/// For each Packet Identifier, where on the latest connection of these events the first unanswered one stands that asks under it.
+/// For each Packet Identifier, the index of the first unanswered cause under it on the latest connection of these events.
 ///
 /// # Errors
 ///
-/// `Memory` where room for them was refused.
+/// `Memory` if there is no memory for them.
 pub fn unanswered<X: Exchange>(alloc: Global, before: &[Seen]) -> Result<Table<Slot>, Memory>
     ensures { IfOk result (λ slots. (i : ℕ) → (at slots i).first ≡ first_index X.exchange i (reverse before.now)) }
 {
@@ -37,7 +37,7 @@ pub fn unanswered<X: Exchange>(alloc: Global, before: &[Seen]) -> Result<Table<S
     Ok(slots)
 }
 
-/// Takes in what an event asks, which stands at this index before all that was taken in.
+/// Takes in an event as a cause. It is at this index, before all that was taken in.
 fn take_cause<X: Exchange>(slots: &mut Table<Slot>, index: usize, note: &Note)
     ensures { (i : ℕ) → at slots.new i ≡ asked_at (is_id i (X.exchange.cause note.now)) index (at slots.old i) }
 {
@@ -47,7 +47,7 @@ fn take_cause<X: Exchange>(slots: &mut Table<Slot>, index: usize, note: &Note)
     }
 }
 
-/// Takes in what an event answers, which stands before all that was taken in.
+/// Takes in an event as an answer. It comes before all that was taken in.
 fn take_answer<X: Exchange>(slots: &mut Table<Slot>, note: &Note)
     ensures { (i : ℕ) → at slots.new i ≡ answered (is_id i (X.exchange.answer note.now)) (at slots.old i) }
 {
@@ -57,7 +57,7 @@ fn take_answer<X: Exchange>(slots: &mut Table<Slot>, note: &Note)
     }
 }
 
-/// Whether an event is the first unanswered one that asks under its identifier. It stands at this index.
+/// Whether the event at this index is the first unanswered cause under its identifier.
 pub fn is_first<X: Exchange>(slots: &Table<Slot>, index: usize, note: &Note) -> bool
     ensures { result ≡ is_first_in X.exchange slots.now index note.now }
 {
