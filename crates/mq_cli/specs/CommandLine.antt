@@ -1,4 +1,4 @@
--- The command line of `mqjudge`, and what its definition makes of the words.
+-- The command line of `mqjudge`, and what its words ask for.
 use Rattle.std.specs.Prelude.{◌≡◌, ◌⊎◌, Bool, true, false, if◌then◌else◌, List, [], Option, Some, None, codes, option_map, string_bytes, unwrap_or, ⊤}
 use Rattle.std.specs.Str.{bytes_eq}
 use Rattle.std.specs.List.{Any}
@@ -14,7 +14,7 @@ use Rattle.mq_cli.specs.declared.command_line.Task.TheVariants.{Check, Show, Pac
 use Rattle.mq_cli.specs.declared.command_line.Stop.{Stop}
 use Rattle.mq_cli.specs.declared.command_line.Stop.TheVariants.{Help, Usage, Memory}
 
--- a flag of this name: its value is `true` where it is given, and else `false`
+-- a flag of this name: its value is `true` if it is given, and else `false`
 abbrev pub flag : Text → Rule
 flag name = record (new_rule name) { long = Some name; action = Some SetTrue }
 
@@ -39,7 +39,7 @@ rules_command = with_rule (new_app (codes "rules")) (record (new_rule (codes "ro
 abbrev pub explain_command : App
 explain_command = with_rule (new_app (codes "explain")) (record (new_rule (codes "CODE")) { required = true })
 
--- `mqjudge`, which has a version and whose subcommand may not be left out
+-- `mqjudge`, which has a version, and whose subcommand is required
 abbrev pub mqjudge : App
 mqjudge = with_subcommand
     (with_subcommand
@@ -77,7 +77,7 @@ check_request file json summary = record (plain_request (codes "check") file) { 
 abbrev pub show_request : Option Text → (long faults : Bool) → (around : Option Text) → Request
 show_request file long faults around = record (plain_request (codes "show") file) { long = long; faults = faults; around = around }
 
--- `packet` on these digits; the operand may not be left out
+-- `packet` on these digits; the operand is required
 abbrev pub packet_request : Option Text → Request
 packet_request hex = plain_request (codes "packet") (Some (unwrap_or hex []))
 
@@ -85,7 +85,7 @@ packet_request hex = plain_request (codes "packet") (Some (unwrap_or hex []))
 abbrev pub rules_request : Option Text → Request
 rules_request role = record (plain_request (codes "rules") None) { role = role }
 
--- `explain` of this code; the operand may not be left out
+-- `explain` of this code; the operand is required
 abbrev pub explain_request : Option Text → Request
 explain_request code = plain_request (codes "explain") (Some (unwrap_or code []))
 
@@ -103,15 +103,15 @@ request_in met = if bytes_eq met.0 (codes "check") then check_request (first_of 
     else (if bytes_eq met.0 (codes "rules") then rules_request (first_of (codes "role") met.1)
     else explain_request (first_of (codes "CODE") met.1))))
 
--- what the definition makes of the words, where it takes them
+-- what the words ask for, if they are a command line
 abbrev pub request_of : List Text → Option Request
 request_of words = option_map request_in (subcommand_of mqjudge words)
 
--- the kinds of fault that the definition finds in the words
+-- the kinds of error that the words have as a command line
 abbrev pub faults_of : List Text → Kinds
 faults_of words = fault_of mqjudge words
 
--- the request that some work stands for
+-- the request that corresponds to some work
 abbrev pub request_by : Work → Request
 request_by (Once (Check file json summary)) = check_request (option_map string_bytes file) json summary
 request_by (Once (Show file long)) = show_request (option_map string_bytes file) long false None
@@ -124,19 +124,19 @@ request_by (Twice review) = show_request (option_map string_bytes review.file) r
 abbrev pub IsShown : ErrorKind → Type 0
 IsShown kind = (kind ≡ DisplayHelp) ⊎ (kind ≡ DisplayVersion)
 
--- a kind among these gives the stop: help and the version are shown, anything else is misuse, and
--- memory may run out at any words
+-- one of these kinds gives the stop: help and the version are shown, anything else is misuse, and
+-- memory may run out with any words
 abbrev pub StopsFor : Kinds → Stop → Type 0
 StopsFor kinds (Help text) = Any IsShown kinds
 StopsFor kinds (Usage text) = Any (λ kind. ¬ IsShown kind) kinds
 StopsFor kinds Memory = ⊤
 
--- the path that an operand names: an operand that is left out names none, and neither does `-`
+-- the path that an operand names; without an operand, or with `-`, there is none
 abbrev pub path_named : Option Text → Option Text
 path_named None = None
 path_named (Some operand) = if bytes_eq operand (codes "-") then None else Some operand
 
--- the path of the log that a task reads: none where it reads standard input, or no log
+-- the path of the log that a task reads: none if it reads standard input, or no log
 abbrev pub path_of : Task → Option Text
 path_of (Check file json summary) = path_named (option_map string_bytes file)
 path_of (Show file long) = path_named (option_map string_bytes file)

@@ -1,4 +1,4 @@
--- What explains each statement.
+-- The text that explains each statement.
 use Rattle.std.specs.Prelude.{ℕ, List, [], ◌++◌, map, Option, option_map, unwrap_or}
 use Rattle.std.specs.Borrow.{Bor}
 use Rattle.std.specs.List.{find}
@@ -52,7 +52,7 @@ explanations = packets ++ (connections ++ (sessions ++ (exchanges ++ (releases +
 abbrev pub found_among : List Explained → Rule → Option Explained
 found_among rows rule = find (λ explained. same_rule explained.rule rule) rows
 
--- the one that stands in one of the tables
+-- the one in one of the tables
 unfoldable pub found_explanation : Rule → Option Explained
 found_explanation rule = or_else (found_among packets rule) (or_else (found_among connections rule) (or_else (found_among sessions rule)
     (or_else (found_among exchanges rule) (or_else (found_among releases rule) (found_among deliveries rule)))))

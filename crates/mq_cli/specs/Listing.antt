@@ -8,20 +8,20 @@ use Rattle.mq_rules.specs.declared.rule.Rule.{Rule}
 use Rattle.mq_rules.specs.Rules.{all_rules, citation_of, code_of}
 use Rattle.mq_rules.specs.Naming.{sentence_of}
 
--- the statement binds this end: it is cited for it
+-- the statement binds this end: it has a citation for it
 abbrev pub binds_end : Role → Rule → Bool
 binds_end role rule = not (length (citation_of rule role) == 0)
 
--- whom a statement binds, in a word
+-- whom a statement binds, as a word
 abbrev pub bound_ends : Rule → List ℕ
 bound_ends rule = if binds_end Client rule then (if binds_end Server rule then codes "both" else codes "client") else codes "server"
 
--- both citations, the client's first, where both ends are bound and they differ; else the one that there is
+-- both citations, the client's first, if both ends are bound and they differ; else the one that there is
 abbrev pub both_citations : List ℕ → List ℕ → List ℕ
 both_citations client server = if length client == 0 then server else (if length server == 0 then client
     else (if bytes_eq client server then client else client ++ codes ";" ++ server))
 
--- where a statement stands in MQTT 5.0, for one end, or for those that it binds
+-- the citation of a statement for one end, or for those that it binds
 abbrev pub citation_for : Option Role → Rule → List ℕ
 citation_for None rule = both_citations (citation_of rule Client) (citation_of rule Server)
 citation_for (Some role) rule = citation_of rule role
@@ -30,12 +30,12 @@ citation_for (Some role) rule = citation_of rule role
 abbrev pub statement_line : Option Role → Rule → List ℕ
 statement_line role rule = code_of rule ++ codes " " ++ bound_ends rule ++ codes " " ++ citation_for role rule ++ codes " " ++ sentence_of rule ++ 10 ∷ []
 
--- the statement is listed: for one end where it binds that one, else always
+-- the statement is listed: for one end if it binds that end; always for both
 abbrev pub is_listed : Option Role → Rule → Bool
 is_listed None rule = true
 is_listed (Some role) rule = binds_end role rule
 
--- no text for a statement that isn't listed
+-- the line of a statement, empty if it isn't listed
 abbrev pub listed_line : Option Role → Rule → List ℕ
 listed_line role rule = if is_listed role rule then statement_line role rule else []
 
@@ -47,7 +47,7 @@ statement_lines role = flat_map (listed_line role) all_rules
 abbrev pub role_named : List ℕ → Option Role
 role_named word = if bytes_eq word (codes "client") then Some Client else (if bytes_eq word (codes "server") then Some Server else None)
 
--- what the word for an end lists: all where there is none; there is no list where it names no end
+-- the list for the word that names an end: all statements without a word; none if the word isn't an end
 abbrev pub listed_for : Option (List ℕ) → Option (List ℕ)
 listed_for None = Some (statement_lines None)
 listed_for (Some word) = option_map (λ role. statement_lines (Some role)) (role_named word)

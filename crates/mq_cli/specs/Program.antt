@@ -1,4 +1,4 @@
--- What the program does with the words of its command line, by the status that it exits with.
+-- What the program does for the words of its command line, by its exit status.
 use Rattle.std.specs.Prelude.{◌≡◌, ◌⊎◌, Option, Some, None, List, ℕ, IfSome, IsErrAnd, IsOkAnd}
 use Rattle.std.specs.Io.KnownBytes.{Appends, Keeps}
 use Rattle.clap.specs.Words.{Text}
@@ -13,8 +13,8 @@ use Rattle.mq_cli.specs.CommandLine.{StopsFor, faults_of, path_of, request_by, r
 use Rattle.mq_cli.specs.Reviewing.{IsReviewed, Plan, RefusesPlan, StopsPlan, plan_of}
 use Rattle.mq_cli.specs.Told.{AppendsPart, FailsMisnamed, FailsStop, FailsTask, HasFailed, HasPassed, IsMisnamed, IsRefusedOn, IsReportedOn, IsShownOn, IsToldOn, failure_line, misnamed_line}
 
--- What the program is given: the words of its command line, the bytes of the file at a path and those of standard input, each where
--- they are known; and why the words may not be read, and the file at a path not be opened.
+-- What the program is given: the words of its command line, the bytes of the file at a path and those of standard input, each if
+-- known; and why the words couldn't be read, or the file at a path couldn't be opened.
 pub record Given : Type 1 where
   pub words : Option (List Text)
   pub file : Text → Option Text
@@ -22,7 +22,7 @@ pub record Given : Type 1 where
   pub unread : Failure → Type 0
   pub unopened : Text → Failure → Type 0
 
--- the bytes at this path, or of standard input where there is none
+-- the bytes at this path, or of standard input if there is no path
 abbrev pub bytes_at : Given → Option Text → Option Text
 bytes_at given None = given.standard
 bytes_at given (Some path) = given.file path
@@ -31,7 +31,7 @@ bytes_at given (Some path) = given.file path
 abbrev pub input_of : Given → Task → Option Text
 input_of given task = bytes_at given (path_of task)
 
--- The file that a task reads couldn't be opened: nothing was written, and why is told on the error stream, as far as that took it.
+-- The file that a task reads couldn't be opened: nothing was written, and the reason is written to the error stream, as far as possible.
 pub record IsUnopened (given : Given) (task : Task) (old new error_old error_new : Option (List ℕ)) : Type 0 where
   pub path : Text
   pub named : path_of task ≡ Some path
@@ -40,7 +40,7 @@ pub record IsUnopened (given : Given) (task : Task) (old new error_old error_new
   pub unwritten : Keeps old new
   pub told : AppendsPart error_old error_new (failure_line failure)
 
--- 4: the task failed; what its reader has left is not told
+-- 4: the task failed; what its reader has left isn't specified
 abbrev pub FailsPerforming : Given → Task → (old new error_old error_new : Option (List ℕ)) → Type 0
 FailsPerforming given task old new error_old error_new = (left : Option (List ℕ)) × FailsTask task (input_of given task) left old new error_old error_new
 
@@ -63,19 +63,19 @@ RefusesReview given review old new = IsOkAnd (plan_of review) (λ plan. IfSome (
 abbrev pub MisusesReview : Review → Option (List ℕ) → Option (List ℕ) → Type 0
 MisusesReview review error_old error_new = IsErrAnd (plan_of review) (λ line. Appends error_old error_new line)
 
--- the file couldn't be opened, and nothing was written; or a reading of it failed, or writing; what the two readers have left is not told
+-- the file couldn't be opened, and nothing was written; or reading or writing failed; what the two readers have left isn't specified
 abbrev pub StopsFile : Given → Plan → Failure → (old new : Option (List ℕ)) → Type 0
 StopsFile given plan failure old new = (given.unopened plan.path failure × Keeps old new)
     ⊎ ((judged_left : Option (List ℕ)) × (shown_left : Option (List ℕ))
     × IfSome (given.file plan.path) (λ log. StopsPlan plan failure log log judged_left shown_left old new))
 
--- 4: what failed is told on the error stream, as far as that took it
+-- 4: what failed is written to the error stream, as far as possible
 pub record FailsFile (given : Given) (plan : Plan) (old new error_old error_new : Option (List ℕ)) : Type 0 where
   pub failure : Failure
   pub stops : StopsFile given plan failure old new
   pub told : AppendsPart error_old error_new (failure_line failure)
 
--- 4: there is nothing to show, and the error stream didn't take the line that says so, or memory for that ran out
+-- 4: there is nothing to show, and the line that says so couldn't be written to the error stream, or memory ran out for it
 pub record FailsUnplanned (line : Text) (old new error_old error_new : Option (List ℕ)) : Type 0 where
   pub unwritten : Keeps old new
   pub told : AppendsPart error_old error_new line ⊎ AppendsPart error_old error_new (failure_line Memory)
@@ -85,25 +85,25 @@ abbrev pub FailsReview : Given → Review → (old new error_old error_new : Opt
 FailsReview given review old new error_old error_new = IsOkAnd (plan_of review) (λ plan. FailsFile given plan old new error_old error_new)
     ⊎ IsErrAnd (plan_of review) (λ line. FailsUnplanned line old new error_old error_new)
 
--- ---- what a status says of some work
+-- ---- what a status means for some work
 
--- 0: it was done, and all that it tells was written
+-- 0: it was done, and all of its output was written
 abbrev pub PassesWork : Given → Work → Option (List ℕ) → Option (List ℕ) → Type 0
 PassesWork given (Once task) old new = HasPassed task (input_of given task) × IsReportedOn task (input_of given task) old new
 PassesWork given (Twice review) old new = PassesReview given review old new
 
--- 1: it found faults, and all that it tells was written
+-- 1: it found faults, and all of its output was written
 abbrev pub FindsFaultsIn : Given → Work → Option (List ℕ) → Option (List ℕ) → Type 0
 FindsFaultsIn given (Once task) old new = HasFailed task (input_of given task) × IsReportedOn task (input_of given task) old new
 FindsFaultsIn given (Twice review) old new = ⊥
 
--- 2: its log is refused, and all that it tells was written
+-- 2: its log is refused, and all of its output was written
 abbrev pub RefusesWork : Given → Work → Option (List ℕ) → Option (List ℕ) → Type 0
 RefusesWork given (Once task) old new = IsRefusedOn task (input_of given task) old new
 RefusesWork given (Twice review) old new = RefusesReview given review old new
 
--- 3: the digits of a packet are invalid, a word names no end, no statement or no number, or there is no file to read twice, and the error stream took the line
--- that says so
+-- 3: the digits of a packet are invalid, a word isn't an end, a statement or a number, or there is no file to read twice, and the line that says so was written
+-- to the error stream
 abbrev pub MisusesWork : Work → Option (List ℕ) → Option (List ℕ) → Type 0
 MisusesWork (Once task) error_old error_new = IsMisnamed task × Appends error_old error_new (misnamed_line task)
 MisusesWork (Twice review) error_old error_new = MisusesReview review error_old error_new
@@ -119,34 +119,34 @@ FailsWork given (Twice review) old new error_old error_new = FailsReview given r
 abbrev pub AsksFor : List Text → Work → Type 0
 AsksFor words work = request_of words ≡ Some (request_by work)
 
--- they ask for nothing to do, and this is why
+-- they ask for no work, and this is why
 abbrev pub StopsAt : List Text → Stop → Type 0
 StopsAt words stop = StopsFor (faults_of words) stop
 
--- 0: they ask for help or the version, which was written; or for work that was done, and all that it tells was written
+-- 0: they ask for help or the version, which was written; or for work that was done, and all of its output was written
 abbrev pub Passes : List Text → Given → Option (List ℕ) → Option (List ℕ) → Type 0
 Passes words given old new = ((stop : Stop) × StopsAt words stop × IsShownOn stop old new)
     ⊎ ((work : Work) × AsksFor words work × PassesWork given work old new)
 
--- 1: they ask for work that found faults, and all that it tells was written
+-- 1: they ask for work that found faults, and all of its output was written
 abbrev pub FindsFaults : List Text → Given → Option (List ℕ) → Option (List ℕ) → Type 0
 FindsFaults words given old new = (work : Work) × AsksFor words work × FindsFaultsIn given work old new
 
--- 2: they ask for work on a log that is refused, and all that it tells was written
+-- 2: they ask for work on a log that is refused, and all of its output was written
 abbrev pub Refuses : List Text → Given → Option (List ℕ) → Option (List ℕ) → Type 0
 Refuses words given old new = (work : Work) × AsksFor words work × RefusesWork given work old new
 
--- 3: they are no command line, or ask for what can't be done, and the error stream took the text that says so
+-- 3: they aren't a command line, or ask for what can't be done, and the text that says so was written to the error stream
 abbrev pub IsMisuse : List Text → Option (List ℕ) → Option (List ℕ) → Type 0
 IsMisuse words error_old error_new = ((stop : Stop) × StopsAt words stop × IsToldOn stop error_old error_new)
     ⊎ ((work : Work) × AsksFor words work × MisusesWork work error_old error_new)
 
--- 4: the text for words that ask for nothing to do couldn't be written; or they ask for work that failed, or whose file couldn't be opened
+-- 4: the text for words that ask for no work couldn't be written; or they ask for work that failed, or whose file couldn't be opened
 abbrev pub Fails : List Text → Given → Option (List ℕ) → Option (List ℕ) → Option (List ℕ) → Option (List ℕ) → Type 0
 Fails words given old new error_old error_new = ((stop : Stop) × StopsAt words stop × FailsStop stop old new error_old error_new)
     ⊎ ((work : Work) × AsksFor words work × FailsWork given work old new error_old error_new)
 
--- 4: The words couldn't be read: nothing was written, and why is told on the error stream, as far as that took it.
+-- 4: The words couldn't be read: nothing was written, and the reason is written to the error stream, as far as possible.
 pub record IsUnread (given : Given) (old new error_old error_new : Option (List ℕ)) : Type 0 where
   pub failure : Failure
   pub why : given.unread failure

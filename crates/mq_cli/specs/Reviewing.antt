@@ -1,4 +1,4 @@
--- Showing a log with the faults at its events, which reads it twice: what the words ask for, and what each status says.
+-- Showing a log with the faults at its events, which reads it twice: what the words ask for, and what each status means.
 use Rattle.std.specs.Prelude.{◌⊎◌, ◌^◌, ◌&&◌, Bool, nat_lt, List, ℕ, Option, None, Some, Result, Ok, Err, [], ◌∷◌, ◌++◌, codes, if◌then◌else◌, length, option_map, string_bytes, IfSome}
 use Rattle.std.specs.Char.{digit_value}
 use Rattle.std.specs.Io.KnownBytes.{Appends, Keeps}
@@ -33,7 +33,7 @@ is_count digits = nat_lt 0 (length digits) && (list_all (λ digit. nat_lt (digit
 abbrev pub count_of : Text → Option ℕ
 count_of word = if is_count (without_leading_plus word) then Some (digits_value 10 (without_leading_plus word)) else None
 
--- What to show: the log at this path; all events, or only those at most so many positions from a fault; in long lines or short ones.
+-- What to show: the log at this path; all events, or only those at most `around` positions from a fault; in long lines or short ones.
 pub record Plan : Type 0 where
   pub path : Text
   pub around : Option ℕ
@@ -43,7 +43,7 @@ pub record Plan : Type 0 where
 abbrev pub plan_view : SourcePlan → Plan
 plan_view plan = record { path = plan.path.now; around = plan.around; long = plan.long }
 
--- what is told where `--around` stands without `--faults`, where no file is named that could be read twice, and where a word is no number
+-- the messages for `--around` without `--faults`, for no file that can be read twice, and for a word that isn't a number
 abbrev pub no_faults_line : Text
 no_faults_line = codes "mqjudge: --around needs --faults" ++ 10 ∷ []
 
@@ -53,29 +53,29 @@ no_file_line = codes "mqjudge: --faults reads the log twice, so it needs a FILE,
 abbrev pub no_number_line : Text → Text
 no_number_line word = codes "mqjudge: no number " ++ word ++ 10 ∷ []
 
--- what is told of a misuse
+-- the message for a misuse
 abbrev pub misuse_line : Misuse → Text
 misuse_line NoFaults = no_faults_line
 misuse_line NoFile = no_file_line
 misuse_line (NoNumber word) = no_number_line word.now
 
--- what to show of the log at this path, where the word after `--around` is a number, if there is one; else what is told
+-- what to show of the log at this path, if the word after `--around` is a number; else the message
 abbrev pub plan_counted : (path : Text) → (long : Bool) → (word : Text) → Option ℕ → Result Plan Text
 plan_counted path long word None = Err (no_number_line word)
 plan_counted path long word (Some count) = Ok (record { path = path; around = Some count; long = long })
 
--- what to show of the log in a file, where one is named that can be read twice; else what is told
+-- what to show of the log in a file, if a file is named that can be read twice; else the message
 abbrev pub plan_on : (path around : Option Text) → (long : Bool) → Result Plan Text
 plan_on None around long = Err no_file_line
 plan_on (Some path) None long = Ok (record { path = path; around = None; long = long })
 plan_on (Some path) (Some word) long = plan_counted path long word (count_of word)
 
--- what to show, or what is told where there is nothing to show
+-- what to show, or the message if there is nothing to show
 abbrev pub plan_of : Review → Result Plan Text
 plan_of review = if review.faults then plan_on (path_named (option_map string_bytes review.file)) (option_map string_bytes review.around) review.long
     else Err no_faults_line
 
--- ---- what each status says, of the log that was judged and of the one that was shown: one log, unless its file changed between the two readings
+-- ---- what each status means for the log that was judged and the one that was shown: one log, unless its file changed between the two readings
 
 -- the text of events with the faults of the log that was judged
 abbrev pub reviewed : Plan → (judged : List ℕ) → List Placed → List ℕ
@@ -85,8 +85,8 @@ reviewed plan judged = annotated (record { role = (tested_by judged).role; fault
 abbrev pub IsReviewed : Plan → (judged shown : List ℕ) → (old new : Option (List ℕ)) → Type 0
 IsReviewed plan judged shown old new = IsJudged judged × IsJudged shown × Appends old new (reviewed plan judged (events shown))
 
--- 2: the log is refused while it is judged, and the line that says so was written and nothing else; or it is only while it is shown, and that line was
--- written after the text of the events before
+-- 2: the log is refused while it is judged, and the line that says so was written and nothing else; or it is refused only while it is shown, and that line was
+-- written after the text of the preceding events
 abbrev pub RefusesPlan : Plan → (judged shown : List ℕ) → (old new : Option (List ℕ)) → Type 0
 RefusesPlan plan judged shown old new = RefusesCheck forms.Text judged old new ⊎ (IsJudged judged × RefusesShow (reviewed plan judged) shown old new)
 
@@ -96,11 +96,11 @@ StopsJudging failures.Read log left old new = (at : ℕ) × IsRefusedAt default_
 StopsJudging failures.Memory log left old new = (at : ℕ) × IsRefusedAt default_limit log left (refusals.Memory at) × Keeps old new
 StopsJudging failures.Write log left old new = (refusal : Refusal) × IsRefusedBy log refusal × AppendsPart old new (refused_line refusal)
 
--- 4: what failed, while the log was judged or while it was shown, and what was written until then; the two readers have these bytes left
+-- 4: what failed, while the log was judged or while it was shown, and what had been written; the two readers have these bytes left
 abbrev pub StopsPlan : Plan → Failure → (judged shown : List ℕ) → (judged_left shown_left old new : Option (List ℕ)) → Type 0
 StopsPlan plan failure judged shown judged_left shown_left old new = StopsJudging failure judged judged_left old new
     ⊎ (IsJudged judged × StopsShow (reviewed plan judged) failure shown shown_left old new)
 
--- this holds of the bytes of the log that was judged and of the one that was shown, where they are known
+-- this holds for the bytes of the log that was judged and of the one that was shown, if they are known
 abbrev pub IfBoth : (judged shown : Option (List ℕ)) → (List ℕ → List ℕ → Type 0) → Type 0
 IfBoth judged shown P = IfSome judged (λ first. IfSome shown (λ second. P first second))

@@ -1,4 +1,4 @@
--- What the caller is told, and where.
+-- What the program writes, and where.
 use Rattle.std.specs.Prelude.{Bool, true, false, ◌≡◌, ◌⊎◌, ⊤, List, ℕ, Option, None, [], ◌∷◌, ◌++◌, codes, string_bytes, unwrap_or, option_map, IfSome, IsSome, IsSomeAnd, IsErr, Ok}
 use Rattle.std.specs.FinMap as map
 use Rattle.std.specs.Io.KnownBytes.{Appends, Keeps}
@@ -53,28 +53,28 @@ pub record AppendsAfter (old new : Option (List ℕ)) (before text : List ℕ) :
 
 -- ---- the log
 
--- the refusal lies in the log, and not in reading it or in want of memory
+-- the log is the reason of the refusal, and not a failed read or want of memory
 abbrev pub IsOfLog : Refusal → Type 0
 IsOfLog (refusals.Read at) = ⊥
 IsOfLog (refusals.Memory at) = ⊥
 IsOfLog _ = ⊤
 
--- what failed where the line on a refusal can't be given: reading or memory where the refusal is that, else writing it
+-- what failed if the line on a refusal couldn't be written: reading or memory if that is the refusal, else writing
 abbrev pub failure_of : Refusal → Failure
 failure_of (refusals.Read at) = failures.Read
 failure_of (refusals.Memory at) = failures.Memory
 failure_of _ = failures.Write
 
--- nothing was written, or part of what is told of this refusal, which lies in the log
+-- nothing was written, or part of the report on this refusal, whose reason is the log
 abbrev pub BeginsRefusal : Form → Refusal → Option (List ℕ) → Option (List ℕ) → Type 0
 BeginsRefusal form refusal old new = Keeps old new ⊎ (IsOfLog refusal × AppendsPart old new (refused_report form refusal))
 
--- memory ran out for a refusal as JSON, which lies in the log: nothing was written
+-- memory ran out for a refusal as JSON, whose reason is the log: nothing was written
 abbrev pub LacksMemory : Form → Refusal → Option (List ℕ) → Option (List ℕ) → Type 0
 LacksMemory form refusal old new = (form ≡ Json) × IsOfLog refusal × Keeps old new
 
--- The log is refused by this, and nothing is refused before that byte: the condition of the lowest number applies to the byte after
--- those that were taken in, or the log is cut short after them.
+-- The log is refused for this reason, and nothing is refused before that byte: it is the lowest number whose condition applies at the
+-- byte after those that were taken in, or the log is cut short after them.
 pub record IsRefusedBy (log : List ℕ) (refusal : Refusal) : Type 0 where
   pub own : IsOfLog refusal
   pub taken : List ℕ
@@ -83,7 +83,7 @@ pub record IsRefusedBy (log : List ℕ) (refusal : Refusal) : Type 0 where
   pub unrefused : refused default_limit taken ≡ None
   pub why : IsRefusedNext default_limit taken later refusal
 
--- the form of the report that these flags ask for, JSON and summary: both together ask for JSON, which has all
+-- the form of the report that these flags ask for, JSON and summary: both together ask for JSON, which has everything
 abbrev pub form_of : Bool → Bool → Form
 form_of true summary = Json
 form_of false true = Summary
@@ -103,13 +103,13 @@ abbrev pub text_by : View → List Placed → List ℕ
 text_by (Lines long) = text_for long
 text_by (Faults faults role around long) = annotated (record { role = role; faults = map.entries faults.now; around = around; long = long })
 
--- Showing the log by this text of events was refused: that of the events that are complete before the refused byte was written, then the line on the
--- refusal, and nothing else.
+-- Showing the log by this text of events was refused: the text of the events that are complete before the refused byte was written, then the line on
+-- the refusal, and nothing else.
 abbrev pub RefusesShow : (List Placed → List ℕ) → List ℕ → (old new : Option (List ℕ)) → Type 0
 RefusesShow text_of log old new = (refusal : Refusal) × (by : IsRefusedBy log refusal)
     × Appends old new (text_of (events by.taken) ++ refused_line refusal)
 
--- In what follows, `left` are the bytes that the log's reader has left, where that is known.
+-- In what follows, `left` are the bytes that the log's reader has left, if that is known.
 
 -- the log was judged, or is refused
 abbrev pub IsDecided : List ℕ → Type 0
@@ -124,9 +124,9 @@ StopsCheck form failures.Memory log left old new = ((at : ℕ) × IsRefusedAt de
 StopsCheck form failures.Write log left old new = (IsJudged log × AppendsPart old new (report form log))
     ⊎ ((refusal : Refusal) × IsRefusedBy log refusal × AppendsPart old new (refused_report form refusal))
 
--- Showing the log by this text of events failed. Reading it failed, or memory ran out: the text of the events before was written. Or
--- writing failed: a beginning of the text was written; or all of it, where only a flush failed; or that of the events before the
--- refused byte, and part of the line on the refusal.
+-- Showing the log by this text of events failed. Reading it failed, or memory ran out: the text of the preceding events was written. Or
+-- writing failed: a beginning of the text was written; or all of it, if only a flush failed; or that of the events before the refused
+-- byte, and part of the line on the refusal.
 abbrev pub StopsShow : (List Placed → List ℕ) → Failure → List ℕ → (left old new : Option (List ℕ)) → Type 0
 StopsShow text_of failures.Read log left old new = (at : ℕ) × (stops : IsRefusedAt default_limit log left (refusals.Read at))
     × Appends old new (text_of (events stops.taken))
@@ -148,7 +148,7 @@ failure_line failures.Memory = codes "mqjudge: out of memory" ++ 10 ∷ []
 abbrev pub SpellsPacket : List ℕ → Type 0
 SpellsPacket hex = (bytes : List ℕ) × (decode_of hex ≡ Ok bytes) × IsOnePacket bytes
 
--- they spell bytes that aren't
+-- they spell bytes that aren't one packet
 abbrev pub SpellsNoPacket : List ℕ → Type 0
 SpellsNoPacket hex = (bytes : List ℕ) × (decode_of hex ≡ Ok bytes) × (¬ IsOnePacket bytes)
 
@@ -156,7 +156,7 @@ SpellsNoPacket hex = (bytes : List ℕ) × (decode_of hex ≡ Ok bytes) × (¬ I
 abbrev pub AppendsLineOf : List ℕ → Option (List ℕ) → Option (List ℕ) → Type 0
 AppendsLineOf hex old new = (bytes : List ℕ) × (decode_of hex ≡ Ok bytes) × Appends old new (packet_report bytes)
 
--- what is told where they spell none
+-- the message if they don't spell bytes
 abbrev pub not_hex_line : List ℕ
 not_hex_line = codes "mqjudge: not hex" ++ 10 ∷ []
 
@@ -170,14 +170,14 @@ Tells text old new = IsSomeAnd text (λ told. Appends old new told)
 abbrev pub TellsPart : Option (List ℕ) → Option (List ℕ) → Option (List ℕ) → Type 0
 TellsPart text old new = IsSomeAnd text (λ told. AppendsPart old new told)
 
--- what is told where a word names no end, and where it is no statement's code
+-- the messages for a word that isn't an end, and for one that isn't a statement's code
 abbrev pub no_role_line : List ℕ → List ℕ
 no_role_line word = codes "mqjudge: no role " ++ word ++ 10 ∷ []
 
 abbrev pub no_statement_line : List ℕ → List ℕ
 no_statement_line code = codes "mqjudge: no statement " ++ code ++ 10 ∷ []
 
--- ---- what a status tells of a task, whose input gives these bytes and then has these left, each where it is known
+-- ---- what a status means for a task, whose input gives these bytes and then has these left, each if known
 
 -- 0: the log is judged and has no fault; the log that is shown can be judged; the bytes are one packet; the word names an end, or a statement
 abbrev pub HasPassed : Task → Option (List ℕ) → Type 0
@@ -187,7 +187,7 @@ HasPassed (Packet hex) input = SpellsPacket (string_bytes hex)
 HasPassed (Rules role) input = IsSome (listed_for (option_map string_bytes role))
 HasPassed (Explain code) input = IsSome (explained_for (string_bytes code))
 
--- 1: the log is judged and has faults; the bytes are no packet, or not one alone
+-- 1: the log is judged and has faults; the bytes aren't exactly one packet
 abbrev pub HasFailed : Task → Option (List ℕ) → Type 0
 HasFailed (Check file json summary) input = IfSome input (λ log. IsJudged log × (¬ IsFaultless log))
 HasFailed (Show file long) input = ⊥
@@ -195,7 +195,7 @@ HasFailed (Packet hex) input = SpellsNoPacket (string_bytes hex)
 HasFailed (Rules role) input = ⊥
 HasFailed (Explain code) input = ⊥
 
--- 0 and 1: the report was written, or the lines of the log's events, the line on the packet, the lines of the statements, or what explains one, and nothing else
+-- 0 and 1: the report was written, or the lines of the log's events, the line on the packet, the lines of the statements, or the explanation of one, and nothing else
 abbrev pub IsReportedOn : Task → Option (List ℕ) → Option (List ℕ) → Option (List ℕ) → Type 0
 IsReportedOn (Check file json summary) input old new = IfSome input (λ log. Appends old new (report (form_of json summary) log))
 IsReportedOn (Show file long) input old new = IfSome input (λ log. Appends old new (text_for long (events log)))
@@ -203,7 +203,7 @@ IsReportedOn (Packet hex) input old new = AppendsLineOf (string_bytes hex) old n
 IsReportedOn (Rules role) input old new = Tells (listed_for (option_map string_bytes role)) old new
 IsReportedOn (Explain code) input old new = Tells (explained_for (string_bytes code)) old new
 
--- 2: the log is refused, and the line that says so was written: alone by a check, after those of the events before where it is shown
+-- 2: the log is refused, and the line that says so was written: alone by a check, after the lines of the preceding events if the log is shown
 abbrev pub IsRefusedOn : Task → (input old new : Option (List ℕ)) → Type 0
 IsRefusedOn (Check file json summary) input old new = IfSome input (λ log. RefusesCheck (form_of json summary) log old new)
 IsRefusedOn (Show file long) input old new = IfSome input (λ log. RefusesShow (text_for long) log old new)
@@ -211,7 +211,7 @@ IsRefusedOn (Packet hex) input old new = ⊥
 IsRefusedOn (Rules role) input old new = ⊥
 IsRefusedOn (Explain code) input old new = ⊥
 
--- 3: the digits of a packet are invalid, or a word names no end, or no statement
+-- 3: the digits of a packet are invalid, or a word isn't an end, or isn't the code of a statement
 abbrev pub IsMisnamed : Task → Type 0
 IsMisnamed (Check file json summary) = ⊥
 IsMisnamed (Show file long) = ⊥
@@ -219,7 +219,7 @@ IsMisnamed (Packet hex) = IsErr (decode_of (string_bytes hex))
 IsMisnamed (Rules role) = listed_for (option_map string_bytes role) ≡ None
 IsMisnamed (Explain code) = explained_for (string_bytes code) ≡ None
 
--- what is told then
+-- the message then
 abbrev pub misnamed_line : Task → List ℕ
 misnamed_line (Check file json summary) = []
 misnamed_line (Show file long) = []
@@ -233,8 +233,8 @@ StopsPacket failures.Read hex old new = ⊥
 StopsPacket failures.Write hex old new = (bytes : List ℕ) × (decode_of hex ≡ Ok bytes) × AppendsPart old new (packet_report bytes)
 StopsPacket failures.Memory hex old new = Keeps old new
 
--- 4, for these digits: what failed is told on the error stream, as far as that took it; or they spell none, and the error stream
--- didn't take the line that says so
+-- 4, for these digits: what failed is written to the error stream, as far as possible; or they don't spell bytes, and the line
+-- that says so couldn't be written to the error stream
 abbrev pub FailsPacket : List ℕ → Option (List ℕ) → Option (List ℕ) → Option (List ℕ) → Option (List ℕ) → Type 0
 FailsPacket hex old new error_old error_new =
     ((failure : Failure) × StopsPacket failure hex old new × AppendsPart error_old error_new (failure_line failure))
@@ -246,14 +246,14 @@ StopsTelling failures.Read text old new = ⊥
 StopsTelling failures.Write text old new = TellsPart text old new
 StopsTelling failures.Memory text old new = Keeps old new
 
--- 4, for this text, or this line where there is none: what failed is told on the error stream, as far as that took it; or there is
--- no text, and the error stream didn't take the line that says so
+-- 4, for this text, or this line if there is none: what failed is written to the error stream, as far as possible; or there is
+-- no text, and the line that says so couldn't be written to the error stream
 abbrev pub FailsTelling : (text : Option (List ℕ)) → (line : List ℕ) → Option (List ℕ) → Option (List ℕ) → Option (List ℕ) → Option (List ℕ) → Type 0
 FailsTelling text line old new error_old error_new =
     ((failure : Failure) × StopsTelling failure text old new × AppendsPart error_old error_new (failure_line failure))
     ⊎ ((text ≡ None) × Keeps old new × AppendsPart error_old error_new line)
 
--- 4: what failed, and what was written until then
+-- 4: what failed, and what had been written
 abbrev pub StopsTask : Failure → Task → (input left old new : Option (List ℕ)) → Type 0
 StopsTask failure (Check file json summary) input left old new = IfSome input (λ log. StopsCheck (form_of json summary) failure log left old new)
 StopsTask failure (Show file long) input left old new = IfSome input (λ log. StopsShow (text_for long) failure log left old new)
@@ -261,19 +261,19 @@ StopsTask failure (Packet hex) input left old new = StopsPacket failure (string_
 StopsTask failure (Rules role) input left old new = StopsTelling failure (listed_for (option_map string_bytes role)) old new
 StopsTask failure (Explain code) input left old new = StopsTelling failure (explained_for (string_bytes code)) old new
 
--- 4: what failed is told on the error stream, as far as that took it
+-- 4: what failed is written to the error stream, as far as possible
 pub record FailsTask (task : Task) (input left old new error_old error_new : Option (List ℕ)) : Type 0 where
   pub failure : Failure
   pub stops : StopsTask failure task input left old new
   pub told : AppendsPart error_old error_new (failure_line failure)
 
--- 4: the digits of a packet are invalid, or a word names no end, or no statement; and the error stream didn't take the line that says so
+-- 4: the digits of a packet are invalid, or a word isn't an end or a statement's code; and the line that says so couldn't be written to the error stream
 pub record FailsMisnamed (task : Task) (old new error_old error_new : Option (List ℕ)) : Type 0 where
   pub misnamed : IsMisnamed task
   pub unwritten : Keeps old new
   pub told : AppendsPart error_old error_new (misnamed_line task)
 
--- ---- what a status tells where the words ask for no task
+-- ---- what a status means if the words ask for no task
 
 -- 4: help, the version or a misuse couldn't be written, or memory ran out
 abbrev pub FailsStop : Stop → Option (List ℕ) → Option (List ℕ) → Option (List ℕ) → Option (List ℕ) → Type 0

@@ -1,4 +1,4 @@
-//! The words of a command line, read into a task.
+//! Parsing the words of a command line into a task.
 ghost use Rattle.std.specs.Prelude.{◌≡◌, [], Some, codes, false, IfOk, IfErr, map, option_map, string_bytes};
 ghost use Rattle.clap.specs.Words.{HasKind, Kinds, app_of, new_rule, rule_of, subcommand_of, subcommand_rows_of};
 ghost use Rattle.clap.specs.declared.builder.command.Command.TheViews.{out-Command};
@@ -49,9 +49,9 @@ const EXPLAIN_HELP: &str =
 /// What the program is asked to do.
 #[derive(Debug, Drop)]
 pub enum Work {
-    /// What reads its log once, or no log.
+    /// A task that reads its log once, or no log.
     Once(Task),
-    /// What reads its log twice.
+    /// A review, which reads its log twice.
     Twice(Review),
 }
 
@@ -61,9 +61,9 @@ pub enum Work {
 pub struct Review {
     /// The log's path. Standard input can't be read twice.
     pub file: Option<String>,
-    /// Whether faults are asked for at all, without which there is nothing to be near to.
+    /// Whether faults are asked for at all. Without them there is nothing to be near to.
     pub faults: bool,
-    /// Show only the events that are at most so many positions from a fault: a number, in digits.
+    /// Show only the events that are at most this many positions from a fault: a number, in digits.
     pub around: Option<String>,
     /// Say what else each packet says.
     pub long: bool,
@@ -72,7 +72,7 @@ pub struct Review {
 /// What is done with one reading of a log, or with none.
 #[derive(Debug, Drop)]
 pub enum Task {
-    /// Judge the log in `file`, or on standard input where there is none or it is `-`.
+    /// Judge the log in `file`, or on standard input if there is none or it is `-`.
     Check {
         /// The log's path.
         file: Option<String>,
@@ -81,19 +81,19 @@ pub enum Task {
         /// Report a line for each statement that has faults, in place of one for each fault.
         summary: bool,
     },
-    /// Show the events of the log in `file`, or on standard input where there is none or it is `-`.
+    /// Show the events of the log in `file`, or on standard input if there is none or it is `-`.
     Show {
         /// The log's path.
         file: Option<String>,
         /// Say what else each packet says.
         long: bool,
     },
-    /// Say what the bytes are that `hex` spells, which are to be one packet.
+    /// Say which packet the bytes are that `hex` spells.
     Packet {
         /// Two hexadecimal digits for each byte.
         hex: String,
     },
-    /// List the statements: those that bind the end that `role` names, or all where there is none.
+    /// List the statements: those that bind the end that `role` names, or all if there is none.
     Rules {
         /// `client` or `server`.
         role: Option<String>,
@@ -106,8 +106,8 @@ pub enum Task {
 }
 
 impl Task {
-    /// The path of the log that the task reads: none where it reads standard input, which `-` means
-    /// too, and none for a packet and for the statements.
+    /// The path of the log that the task reads: `None` if it reads standard input, which `-` means
+    /// too, and for tasks that read no log.
     pub fn path(&self) -> Option<&str>
         ensures { option_map (λ path. path.now) result ≡ path_of self.now }
     {
@@ -119,7 +119,7 @@ impl Task {
     }
 }
 
-/// The path that an operand names, where it names one: `-` names none.
+/// The path that an operand names, if it names one: `-` doesn't.
 pub fn path_named(file: &Option<String>) -> Option<&str>
     ensures { option_map (λ path. path.now) result ≡ path_named (option_map string_bytes file.now) }
 {
@@ -144,8 +144,8 @@ pub enum Stop {
 /// Reads the words of a command line, `mqjudge check [--json] [--summary] [FILE]`,
 /// `mqjudge show [--long] [--faults] [--around N] [FILE]`,
 /// `mqjudge packet HEX`, `mqjudge rules [--role ROLE]` or `mqjudge explain CODE`, of which the
-/// first is the program's name. A request for help or the version comes as a `Stop`, and so do
-/// words that are no such command line.
+/// first is the program's name. A request for help or the version is returned as a `Stop`, and so
+/// are words that aren't such a command line.
 pub fn parse<S: AsStr>(alloc: Global, words: &[S]) -> Result<Work, Stop>
     ensures taken { IfOk result (λ _. faults_of (map S.text words.now) ≡ []) }
     ensures work { IfOk result (λ work.
@@ -184,7 +184,7 @@ pub fn parse<S: AsStr>(alloc: Global, words: &[S]) -> Result<Work, Stop>
     }
 }
 
-// What the definition of the command line makes of the words.
+// The matches of the words, by the definition of the command line.
 fn matches_of<'a, S: AsStr>(alloc: Global, words: &'a [S]) -> Result<ArgMatches<'a>, Error>
     ensures taken { IfOk result (λ _. faults_of (map S.text words.now) ≡ []) }
     ensures met { IfOk result (λ matches.
@@ -326,7 +326,7 @@ fn explain_command<'a>(alloc: Global) -> Result<Command<'a>, AllocError>
         .arg(code)
 }
 
-// Whether the value of a flag is `true`: it is where the flag is given, and else `false`.
+// Whether the value of a flag is `true`: it is if the flag is given, and else `false`.
 fn is_true(value: Option<&str>) -> bool
     ensures { result ≡ is_true (option_map (λ text. text.now) value.entry) }
 {
@@ -376,7 +376,7 @@ fn show_task(
     }))
 }
 
-// The task of `packet` on this operand; an operand that is left out counts as an empty one.
+// The task of `packet` on this operand; a missing operand counts as an empty one.
 fn packet_task(alloc: Global, hex: Option<&str>) -> Result<Work, Stop>
     ensures work { IfOk result (λ work.
         request_by work ≡ packet_request (option_map (λ text. text.now) hex.entry)) }
@@ -398,7 +398,7 @@ fn rules_task(alloc: Global, role: Option<&str>) -> Result<Work, Stop>
     Ok(Work::Once(Task::Rules { role }))
 }
 
-// The task of `explain` on this operand; an operand that is left out counts as an empty one.
+// The task of `explain` on this operand; a missing operand counts as an empty one.
 fn explain_task(alloc: Global, code: Option<&str>) -> Result<Work, Stop>
     ensures work { IfOk result (λ work.
         request_by work ≡ explain_request (option_map (λ text. text.now) code.entry)) }
@@ -410,7 +410,7 @@ fn explain_task(alloc: Global, code: Option<&str>) -> Result<Work, Stop>
     }
 }
 
-// A copy of a word, where there is one.
+// A copy of a word, if there is one.
 fn copied(alloc: Global, word: Option<&str>) -> Result<Option<String>, Stop>
     ensures copy { IfOk result (λ copy.
         option_map string_bytes copy ≡ option_map (λ text. text.now) word.entry) }
@@ -425,7 +425,7 @@ fn copied(alloc: Global, word: Option<&str>) -> Result<Option<String>, Stop>
     }
 }
 
-// What the caller is told where the words give no task.
+// What the caller gets if the words give no task.
 fn stop_for(alloc: Global, error: &Error) -> Stop
     ensures { (kinds : Kinds) → HasKind kinds error.now → StopsFor kinds result }
 {

@@ -1,4 +1,4 @@
-//! What explains each statement to those who make clients and brokers.
+//! The text that explains each statement to those who make clients and brokers.
 ghost use Rattle.std.specs.Prelude.{◌≡◌, map, option_map};
 ghost use Rattle.std.specs.List.{find};
 ghost use Rattle.mq_rules.specs.Rules.{all_rules, same_rule};
@@ -17,7 +17,7 @@ use mq_rules::Rule;
 /// A statement, and the text that explains it, in lines of at most 80 columns.
 pub type Explanation = (Rule, &'static str);
 
-/// What explains the statements on the bytes of a packet, in the order of reports.
+/// The texts of `explain` for the statements on the bytes of a packet, in the order of reports.
 pub const PACKETS: [Explanation; 21] = [
     (Rule::W01, packets::W01),
     (Rule::W02, packets::W02),
@@ -42,7 +42,7 @@ pub const PACKETS: [Explanation; 21] = [
     (Rule::W21, packets::W21),
 ];
 
-/// What explains the statements on the past of a connection, in the order of reports.
+/// The texts of `explain` for the statements on the past of a connection, in the order of reports.
 pub const CONNECTIONS: [Explanation; 23] = [
     (Rule::C01, connections::C01),
     (Rule::C02, connections::C02),
@@ -69,7 +69,7 @@ pub const CONNECTIONS: [Explanation; 23] = [
     (Rule::C23, connections::C23),
 ];
 
-/// What explains the statements on Packet Identifiers, resends and the send quota, in the order of reports.
+/// The texts of `explain` for the statements on Packet Identifiers, resends and the send quota, in the order of reports.
 pub const SESSIONS: [Explanation; 7] = [
     (Rule::S01, sessions::S01),
     (Rule::S02, sessions::S02),
@@ -80,7 +80,7 @@ pub const SESSIONS: [Explanation; 7] = [
     (Rule::S07, sessions::S07),
 ];
 
-/// What explains the statements on exchanges, in the order of reports.
+/// The texts of `explain` for the statements on exchanges, in the order of reports.
 pub const EXCHANGES: [Explanation; 16] = [
     (Rule::E1A, exchanges::E1A),
     (Rule::E1R, exchanges::E1R),
@@ -100,14 +100,14 @@ pub const EXCHANGES: [Explanation; 16] = [
     (Rule::E7R, exchanges::E7R),
 ];
 
-/// What explains the statements on releases of QoS 2 messages, in the order of reports.
+/// The texts of `explain` for the statements on releases of QoS 2 messages, in the order of reports.
 pub const RELEASES: [Explanation; 3] = [
     (Rule::L1, releases::L1),
     (Rule::L2, releases::L2),
     (Rule::L3, releases::L3),
 ];
 
-/// What explains the statements on subscriptions, in the order of reports.
+/// The texts of `explain` for the statements on subscriptions, in the order of reports.
 pub const DELIVERIES: [Explanation; 4] = [
     (Rule::B01, deliveries::B01),
     (Rule::B02, deliveries::B02),

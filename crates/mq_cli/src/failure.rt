@@ -5,20 +5,20 @@ ghost use Rattle.mq_cli.specs.Told.{AppendsPart, failure_line};
 use crate::writing::write_out;
 use std::io::Write;
 
-/// The status where a log was judged and no fault was found, where it was shown, and where bytes are one packet.
+/// The status if a log was judged and has no fault, if a log was shown, and if bytes are one packet.
 pub const PASSED: u8 = 0;
 
-/// The status where a log was judged and has faults, or where bytes aren't one packet.
+/// The status if a log was judged and has faults, or if bytes aren't one packet.
 pub const FAULTY: u8 = 1;
 
-/// The status where the log was refused.
+/// The status if the log was refused.
 pub const REFUSED: u8 = 2;
 
-/// The status where the words aren't a command line of the program, or a packet's digits aren't
+/// The status if the words aren't a command line of the program, or a packet's digits aren't
 /// hexadecimal.
 pub const MISUSED: u8 = 3;
 
-/// The status where reading or writing failed, or memory ran out.
+/// The status if reading or writing failed, or memory ran out.
 pub const FAILED: u8 = 4;
 
 /// What kept the program from its task.
@@ -26,19 +26,19 @@ pub const FAILED: u8 = 4;
 pub enum Failure {
     /// The words or the log couldn't be read, or the file couldn't be opened.
     Read,
-    /// What was to be written couldn't be.
+    /// The output couldn't be written.
     Write,
     /// Memory ran out.
     Memory,
 }
 
 impl Failure {
-    /// Says on `error` what failed, as far as `error` takes it, and gives the status to exit with.
+    /// Writes to `error` what failed, as far as possible, and returns the status to exit with.
     pub fn report<E: Write>(self, error: &mut E) -> u8
         ensures status { result ≡ 4 }
         ensures told { AppendsPart (E.contents error.old) (E.contents error.new) (failure_line self) }
     {
-        // Nothing more can be done where `error` fails too.
+        // Nothing more can be done if `error` fails too.
         let _ = write_out(self.line(), error);
         FAILED
     }

@@ -26,7 +26,7 @@ pub trait Host {
     ///
     /// # Errors
     ///
-    /// `Read` where a word isn't UTF-8, and `Memory`.
+    /// `Read` if a word isn't UTF-8, and `Memory`.
     fn arguments(&self) -> Result<Vec<String>, Failure>
         ensures words { IfOk result (λ given. IfSome (gives self.now).words
             (λ words. map string_bytes given.items ≡ words)) }
@@ -36,7 +36,7 @@ pub trait Host {
     ///
     /// # Errors
     ///
-    /// `Read` where the file can't be opened, and `Memory`.
+    /// `Read` if the file can't be opened, and `Memory`.
     fn open(&self, path: &str) -> Result<Self::File, Failure>
         ensures bytes { IfOk result (λ opened. Keeps ((gives self.now).file path.now) (Self.File.remaining opened)) }
         ensures failed { IfErr result ((gives self.now).unopened path.now) };
@@ -46,7 +46,7 @@ pub trait Host {
         ensures { Keeps (gives self.now).standard (Self.Stdin.remaining result) };
 }
 
-/// The system that a runtime reaches.
+/// The operating system, reached through a runtime.
 #[derive(Drop)]
 pub struct System<'a, R> {
     /// The runtime.
@@ -61,7 +61,7 @@ impl<R: AllocGlobal + Env + Files + Input> Host for System<'_, R> {
 
     type Stdin = R::Reader;
 
-    // Of the bytes that the system gives nothing is known.
+    // Nothing is known of the bytes that the system gives.
     ghost gives = { λ _. record {
       words = None;
       file = λ _. None;

@@ -23,7 +23,7 @@ const LARGE_SIZE: usize = 2_097_152;
 // In each of two records.
 const PINGS: usize = 35_000;
 
-// What the words ask for does with this log: the status, what it writes, and that it tells nothing else.
+// Whether these words, with this log, have this status, write this, and report nothing on the error stream.
 fn does(
     alloc: Global,
     words: &[&str],
@@ -38,7 +38,7 @@ fn does(
     Ok(given == status && output.as_slice() == written && error.is_empty())
 }
 
-// Puts a record of bytes sent into the log.
+// Appends a record of bytes sent to the log.
 fn add_sent(log: &mut Vec<u8>, body: &[u8]) -> Result<(), AllocError> {
     let Ok(length) = u32::try_from(body.len()) else {
         return Ok(());
@@ -111,7 +111,7 @@ fn takes_a_packet_of_2_mib_in_three_records(rt: HostRuntime) -> Result<(), Fail>
     Ok(())
 }
 
-// They are more than a buffer has room for, and more than 65,536.
+// These are more than a buffer has room for, and more than 65,536.
 #[test]
 fn takes_70_000_events(rt: HostRuntime) -> Result<(), Fail> {
     let mut log = pings(rt.alloc())?;

@@ -9,8 +9,8 @@ ghost use Rattle.mq_cli.specs.Listing.{listed_line, role_named, statement_line, 
 use mq_rules::{Role, Rule};
 use std::alloc::{AllocError, Global};
 
-/// The lines of the statements, in the order of reports: of those that bind this end, or of all
-/// where none is named.
+/// The lines of the statements, in the order of reports: of those that bind this end, or of all if
+/// none is named.
 pub fn listing(alloc: Global, role: Option<Role>) -> Result<String, AllocError>
     ensures { IfOk result (λ text. string_bytes text ≡ statement_lines role) }
 {
@@ -28,7 +28,7 @@ fn lines_of(alloc: Global, rules: &[Rule], role: Option<Role>) -> Result<String,
     Ok(text)
 }
 
-// Puts the line of a statement after the text, if it is listed.
+// Appends the line of a statement to the text, if it is listed.
 fn add_line(text: &mut String, rule: Rule, role: Option<Role>) -> Result<(), AllocError>
     ensures { OnOk result (string_bytes text.new ≡ string_bytes text.old ++ listed_line role rule) }
 {
@@ -39,7 +39,7 @@ fn add_line(text: &mut String, rule: Rule, role: Option<Role>) -> Result<(), All
     }
 }
 
-// Puts the line of a statement after the text.
+// Appends the line of a statement to the text.
 fn put_line(text: &mut String, rule: Rule, role: Option<Role>) -> Result<(), AllocError>
     ensures { OnOk result (string_bytes text.new ≡ string_bytes text.old ++ statement_line role rule) }
 {
@@ -53,7 +53,7 @@ fn put_line(text: &mut String, rule: Rule, role: Option<Role>) -> Result<(), All
     text.push_str("\n")
 }
 
-// Puts where a statement stands in MQTT 5.0 after the text.
+// Appends the citation of a statement to the text.
 fn put_citation(text: &mut String, rule: Rule, role: Option<Role>) -> Result<(), AllocError>
     ensures { OnOk result (string_bytes text.new ≡ string_bytes text.old ++ citation_for role rule) }
 {
@@ -67,7 +67,7 @@ fn put_citation(text: &mut String, rule: Rule, role: Option<Role>) -> Result<(),
     }
 }
 
-// Puts both citations after the text, or the one that there is, or that both are.
+// Appends both citations to the text, or only one if there is one, or if they are equal.
 fn put_both(text: &mut String, client: &str, server: &str) -> Result<(), AllocError>
     ensures { OnOk result (string_bytes text.new ≡ string_bytes text.old ++ both_citations client.now server.now) }
 {
@@ -85,7 +85,7 @@ fn put_both(text: &mut String, client: &str, server: &str) -> Result<(), AllocEr
     text.push_str(server)
 }
 
-// Whether a statement is listed for this end, or for both where none is named.
+// Whether a statement is listed for this end, or for both if none is named.
 fn is_listed(rule: Rule, role: Option<Role>) -> bool
     ensures { result ≡ is_listed role rule }
 {
@@ -95,7 +95,7 @@ fn is_listed(rule: Rule, role: Option<Role>) -> bool
     }
 }
 
-// Whom a statement binds, in a word.
+// Whom a statement binds, as a word.
 fn bound_ends(rule: Rule) -> &'static str
     ensures { result.now ≡ bound_ends rule }
 {

@@ -25,7 +25,7 @@ const CONNECT: &[u8] = b"\x10\x0d\x00\x04MQTT\x05\x02\x00\x3c\x00\x00\x00";
 
 const CONNECT_OF_C: &[u8] = b"\x10\x0e\x00\x04MQTT\x05\x02\x00\x3c\x00\x00\x01c";
 
-// A client whose session is kept for a minute: it begins one, and goes on with it.
+// A client whose session is kept for a minute: it begins one, and resumes it.
 const CONNECT_ANEW: &[u8] =
     b"\x10\x13\x00\x04MQTT\x05\x02\x00\x3c\x05\x11\x00\x00\x00\x3c\x00\x01c";
 
@@ -76,7 +76,7 @@ const DISCONNECT: &[u8] = b"\xe0\x00";
 
 const AUTH: &[u8] = b"\xf0\x00";
 
-// A log's records, and what is made of it.
+// A log's records, and the expected result.
 struct Row {
     role: u8,
     parts: &'static [Part],
@@ -86,7 +86,7 @@ struct Row {
 
 static ROWS: [Row; 27] = [
     // On a connection that resumes the session an identifier is still in use; on one that begins a session it isn't; a
-    // connection that the server refuses is in no session, so what stands on both its sides is in one.
+    // connection that the server refuses is in no session, so what comes before and after it is in one session.
     Row {
         role: CLIENT,
         parts: &[
@@ -270,7 +270,7 @@ static ROWS: [Row; 27] = [
         status: FAULTY,
         report: "fault 6 W09 sec-2.2.1 decided 6 record 6 offset 5\nfail 1 faults 6 events\n",
     },
-    // After an invalid Remaining Length nothing is a packet.
+    // After an invalid Remaining Length the rest of the direction can't be parsed.
     Row {
         role: CLIENT,
         parts: &[
@@ -633,7 +633,7 @@ static BROKEN: [Broken; 23] = [
     },
 ];
 
-// Puts a record into the log; its body is shorter than 256 bytes.
+// Appends a record to the log; its body is shorter than 256 bytes.
 fn add_record(log: &mut Vec<u8>, kind: u8, body: &[u8]) -> Result<(), AllocError> {
     let Ok(length) = u8::try_from(body.len()) else {
         return Ok(());

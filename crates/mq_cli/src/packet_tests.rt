@@ -7,7 +7,7 @@ use std::io;
 use std::io::Cursor;
 use std::test::Fail;
 
-// The digits of some bytes, and what is said of these.
+// The digits of some bytes, and the line on them.
 struct Row {
     hex: &'static str,
     line: &'static str,
@@ -155,7 +155,7 @@ static ROWS: [Row; 48] = [
         line: "BAD W09 offset 2\n",
         status: FAULTY,
     },
-    // What follows a frame counts, whatever the frame holds; a frame may have any size; and each of the fifteen packets.
+    // Bytes after a frame are reported, whatever the frame holds; a frame may have any size; and each of the fifteen packets.
     Row {
         hex: "41020001FFFF",
         line: "left over 2 bytes\n",
@@ -300,7 +300,7 @@ fn tells_of_a_packet_line_that_fails(rt: HostRuntime) -> Result<(), Fail> {
     Ok(())
 }
 
-// With each allocation failing in turn, the answer is the packet's, or that memory ran out, and nothing else.
+// With each allocation failing in turn, the result is the packet's, or that memory ran out, and nothing else.
 #[test]
 fn tells_of_a_packet_without_memory(rt: HostRuntime) {
     let mut output = Cursor::new([0; 64]);

@@ -13,9 +13,9 @@ use std::alloc::Global;
 use std::convert::AsStr;
 use std::io::Write;
 
-/// Does what the words of the command line ask for, and gives the status to exit with: what
-/// `perform` gives for a task, `review` for a log that is read twice, and `stop` for help, the
-/// version and a misuse; and 4 where the words couldn't be read.
+/// Does what the words of the command line ask for, and returns the status to exit with: that of
+/// `perform` for a task, of `review` for a log that is read twice, and of `stop` for help, the
+/// version and a misuse; and 4 if the words couldn't be read.
 pub fn run<H: Host, W: Write, E: Write>(
     alloc: Global,
     host: &H,
@@ -44,7 +44,7 @@ pub fn run<H: Host, W: Write, E: Write>(
     }
 }
 
-// Does what these words ask for, and gives the status to exit with.
+// Does what these words ask for, and returns the status to exit with.
 fn respond<S: AsStr, H: Host, W: Write, E: Write>(
     alloc: Global,
     host: &H,
@@ -72,7 +72,7 @@ fn respond<S: AsStr, H: Host, W: Write, E: Write>(
     }
 }
 
-// Does the work, and gives the status to exit with.
+// Does the work, and returns the status to exit with.
 fn work_on<H: Host, W: Write, E: Write>(
     alloc: Global,
     host: &H,
@@ -96,7 +96,7 @@ fn work_on<H: Host, W: Write, E: Write>(
     }
 }
 
-// Does the task on the log that it names, and gives the status to exit with.
+// Does the task on the log that it names, and returns the status to exit with.
 fn read_and_perform<H: Host, W: Write, E: Write>(
     alloc: Global,
     host: &H,

@@ -41,8 +41,8 @@ const READ_FAILED: &str = "mqjudge: read failed\n";
 
 const NO_MEMORY: &str = "mqjudge: out of memory\n";
 
-// A host with these words, which fail where there are none; with one file, at `a.log`; and with a standard input. Where it can't
-// open a file, or has no words, it fails so.
+// A host with these words, one file, at `a.log`, and a standard input. If it can't open a file, or has no words, it fails with
+// this failure.
 #[derive(Drop)]
 struct Desk {
     alloc: Global,
@@ -372,7 +372,7 @@ static REVIEWS: [Row; 14] = [
     ),
 ];
 
-// Whether the program, with these words and this file and standard input, does this; `failure` is why the host fails, where it does.
+// Whether the program does this with the row's words, file and standard input; `failure` is why the host fails, if it does.
 fn does(alloc: Global, failure: Failure, row: &Row) -> bool {
     let (words, [file, input], status, shown, told) = *row;
     let desk = Desk {

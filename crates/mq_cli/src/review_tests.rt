@@ -72,7 +72,7 @@ const FAULTLESS_LINES: &str = "1 record 1 OPEN\n\
     2 record 2 SENT CONNECT size 15\n\
     3 record 3 RECV CONNACK size 5\n";
 
-// A log, how near to a fault an event is that is shown, and whether in a long line; and what is shown.
+// A log, the number after `--around`, whether lines are long, and what is shown.
 static ROWS: [(&[u8], Option<u32>, bool, &str); 9] = [
     (THREE_FAULTS, None, false, ALL),
     (THREE_FAULTS, Some(0), false, AROUND_0),
@@ -197,7 +197,7 @@ fn tells_of_a_failed_write(rt: HostRuntime) {
     }
 }
 
-// With each allocation failing in turn, all is shown, or memory ran out, after what was shown until then.
+// With each allocation failing in turn, all is shown, or memory ran out, after what was shown up to there.
 #[test]
 fn tells_of_a_review_without_memory(rt: HostRuntime) {
     let mut output = Cursor::new([0; 1024]);

@@ -18,7 +18,7 @@ use std::io::{Read, Write};
 pub struct Plan<'a> {
     /// The log's path.
     pub path: &'a str,
-    /// How many positions an event is from a fault at most that is shown; all are where there is none.
+    /// Only events within this many positions of a fault are shown; with `None` all are.
     pub around: Option<u32>,
     /// Whether lines are long.
     pub long: bool,
@@ -35,13 +35,13 @@ enum Misuse<'a> {
     NoNumber(&'a str),
 }
 
-/// Shows a log with the faults at its events, and gives the status to exit with.
+/// Shows a log with the faults at its events, and returns the status to exit with.
 ///
 /// The file is read twice, to find the faults and to show the events. The line of each event is
-/// written to `output`, and those of the faults at it after it: 0. Of a refused log the line on the
-/// refusal is written alone, since nothing is known of its faults: 2. Words that name no file, or no
-/// number after `--around`, or don't ask for faults are a misuse, which is told on `error`: 3.
-/// Where reading or writing failed or memory ran out, what failed is told on `error`: 4; what was
+/// written to `output`, and the faults at it after it: 0. If the log is refused, only the line on
+/// the refusal is written, since nothing is known of its faults: 2. Words that name no file, or no
+/// number after `--around`, or don't ask for faults are a misuse, which is reported on `error`: 3.
+/// If reading or writing failed or memory ran out, what failed is reported on `error`: 4; what was
 /// written until then is part of what would have been.
 pub fn review<H: Host, W: Write, E: Write>(
     alloc: Global,
@@ -108,14 +108,14 @@ fn plan_on<'a>(
     }
 }
 
-// The number that a word is.
+// The number that a word spells, if it is one.
 fn count_of(word: &str) -> Option<u32>
     ensures { result ≡ count_of word.now }
 {
     word.parse::<u32>().ok()
 }
 
-// Says on `error` why there is nothing to show, and gives the status.
+// Writes to `error` why there is nothing to show, and returns the status.
 fn tell<E: Write>(alloc: Global, why: Misuse<'_>, error: &mut E) -> u8
     ensures told { result ≡ MISUSED → Appends (E.contents error.old) (E.contents error.new) (misuse_line why.entry) }
     ensures failed { result ≡ FAILED → AppendsPart (E.contents error.old) (E.contents error.new) (misuse_line why.entry)
@@ -155,8 +155,8 @@ fn show_file<H: Host, W: Write>(
     }
 }
 
-/// Judges the log that one reader gives, shows the one that the other gives with the faults that
-/// were found, and gives the status. The two are one log, unless its file changed between.
+/// Judges the log from one reader, shows the log from the other with the faults that were found,
+/// and returns the status. The two are one log, unless its file changed between the readings.
 ///
 /// # Errors
 ///

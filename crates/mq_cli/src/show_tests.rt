@@ -139,7 +139,7 @@ fn shows_long_lines(rt: HostRuntime) -> Result<(), Fail> {
     Ok(())
 }
 
-// What was read until then is shown.
+// The events up to there are shown.
 #[test]
 fn tells_of_a_failed_read(rt: HostRuntime) -> Result<(), Fail> {
     for (fails_after, lines) in [(0, 0), (7, 0), (13, 1), (42, 2), (43, 3), (76, 7)] {
@@ -175,7 +175,7 @@ fn tells_of_a_failed_write(rt: HostRuntime) -> Result<(), Fail> {
     Ok(())
 }
 
-// With each allocation failing in turn, the answer is the log's, or that memory ran out, after the lines until then.
+// With each allocation failing in turn, the result is the log's, or that memory ran out, after the lines up to there.
 #[test]
 fn tells_of_a_show_without_memory(rt: HostRuntime) {
     let mut output = Cursor::new([0; 1024]);

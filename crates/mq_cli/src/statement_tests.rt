@@ -1,12 +1,11 @@
 //! Worked logs: for each statement, and each end that it binds, a log that breaks it and the nearest one that doesn't, with
-//! the whole text that `check` writes of it. Each is written from the statement's words, and not from what the program does.
+//! the whole text that `check` writes for it. Each is written from the statement's words, and not from what the program does.
 //!
-//! A log is a row of words. The first names the tested end: `client` or `server`, or `silent-client` where no releases are
+//! A log is a row of words. The first names the tested end: `client` or `server`, or `silent-client` if no releases are
 //! recorded. Each other word is a record: `OPEN`, `CLOSE`, `REST`, `RELEASE:1`, and `>CONNECT` or `<CONNACK` for bytes that
 //! the tested end sent or received, by a name of `packets` or in hexadecimal.
 //!
-//! A table of logs is a text with a row a line: what the row is there to tell, the log, and the report, with a semicolon between its
-//! lines.
+//! A table of logs is a text with one row a line: what the row shows, the log, and the report, with a semicolon between its lines.
 
 mod choices;
 mod corners;
@@ -29,7 +28,7 @@ use packets::PACKETS;
 use std::alloc::{AllocError, Global};
 use std::test::Fail;
 
-// Puts a record into the log; its body is shorter than 256 bytes.
+// Appends a record to the log; its body is shorter than 256 bytes.
 fn add_record(log: &mut Vec<u8>, kind: u8, body: &[u8]) -> Result<(), AllocError> {
     let Ok(length) = u8::try_from(body.len()) else {
         return Ok(());
@@ -38,7 +37,7 @@ fn add_record(log: &mut Vec<u8>, kind: u8, body: &[u8]) -> Result<(), AllocError
     log.extend_from_slice(body)
 }
 
-// The digits of the bytes that a word names, or is.
+// The hexadecimal digits that a word names, or the word itself.
 fn digits_of(word: &'static str) -> &'static str {
     for (name, digits) in &PACKETS {
         if *name == word {
@@ -48,7 +47,7 @@ fn digits_of(word: &'static str) -> &'static str {
     word
 }
 
-// Puts what was sent or received into the log.
+// Appends what was sent or received to the log.
 fn add_bytes(
     alloc: Global,
     log: &mut Vec<u8>,
@@ -61,7 +60,7 @@ fn add_bytes(
     }
 }
 
-// Puts what the word says into the log: its header, or a record.
+// Appends what the word says to the log: its header, or a record.
 fn add_word(alloc: Global, log: &mut Vec<u8>, word: &'static str) -> Result<(), AllocError> {
     if let Some(packet) = word.strip_prefix('>') {
         return add_bytes(alloc, log, 2, packet);
@@ -102,7 +101,7 @@ fn status_of(report: &str) -> u8 {
     }
 }
 
-// The report of these lines, between which there are semicolons.
+// The report with these lines, which are separated by semicolons.
 fn report_of(alloc: Global, lines: &'static str) -> Result<String, AllocError> {
     let mut report = String::new(alloc);
     for line in lines.split(';') {
@@ -118,7 +117,7 @@ fn is_judged_so(alloc: Global, words: &'static str, lines: &'static str) -> Resu
     Ok(is_told(alloc, &log, status_of(report.as_str()), report.as_str())?)
 }
 
-// Whether the log of a row is judged as the row says, which has three parts.
+// Whether the log of a row is judged as the row says. A row has three parts.
 fn is_row_right(alloc: Global, row: &'static str) -> Result<bool, Fail> {
     let Some((_, rest)) = row.split_once('|') else {
         return Ok(false);
@@ -129,7 +128,7 @@ fn is_row_right(alloc: Global, row: &'static str) -> Result<bool, Fail> {
     is_judged_so(alloc, words, lines)
 }
 
-// The first row whose log is judged otherwise.
+// The first row whose log is judged differently.
 fn first_wrong(alloc: Global, rows: &'static str) -> Result<Option<&'static str>, Fail> {
     for row in rows.split('\n') {
         if !is_row_right(alloc, row)? {

@@ -43,24 +43,24 @@ pub enum View<'a> {
         faults: &'a Faults,
         /// The role of the end whose faults they are.
         role: Role,
-        /// How many positions an event is from a fault at most that is shown; all are where there is none.
+        /// Only events within this many positions of a fault are shown; with `None` all are.
         around: Option<u32>,
         /// Whether lines are long.
         long: bool,
     },
 }
 
-/// Does the task, and gives the status to exit with.
+/// Does the task, and returns the status to exit with.
 ///
 /// A check judges the log that `input` gives, and writes the report, or the line on a refused log,
-/// to `output`: 0 for no fault, 1 for faults, 2 for a refused log. To show a log is to write a line
-/// for each event to `output`: 0, or 2 for a refused log, with the line on it after those of the
-/// events before. A packet's line is written to `output`: 0 where the bytes are one packet, else 1;
-/// where `hex` spells no bytes the status is 3, which is told on `error`. The lines of the
-/// statements, or what explains one, are written to `output`: 0, or 3 where the word names no end,
-/// or no statement, which is told on `error`. Where reading or writing
-/// failed or memory ran out the status is 4, and what failed is told on `error`; what was written
-/// until then is part of what would have been.
+/// to `output`: 0 for no fault, 1 for faults, 2 for a refused log. Showing a log writes a line for
+/// each event to `output`: 0, or 2 for a refused log, with the line on the refusal after those of
+/// the preceding events. A packet's line is written to `output`: 0 if the bytes are one packet, else
+/// 1; if `hex` isn't hexadecimal the status is 3, with a message on `error`. The lines of the
+/// statements, or the explanation of one, are written to `output`: 0, or 3 if the word isn't an end,
+/// or not a statement's code, with a message on `error`. If reading or writing failed or memory ran
+/// out the status is 4, with a message on `error`; what was written until then is part of what would
+/// have been.
 pub fn perform<R: Read, W: Write, E: Write>(
     alloc: Global,
     task: &Task,
@@ -82,7 +82,7 @@ pub fn perform<R: Read, W: Write, E: Write>(
         (W.contents output.old) (W.contents output.new) (E.contents error.old) (E.contents error.new) }
     ensures statuses { result ≤ 4 }
 
-    // Nothing goes to `error` but what failed, and nothing to `output` where there is nothing to do.
+    // Only what failed goes to `error`, and nothing goes to `output` if there is nothing to do.
     ensures quiet { result ≤ 2 → Keeps (E.contents error.old) (E.contents error.new) }
     ensures untold { result ≡ 3 → Keeps (W.contents output.old) (W.contents output.new) }
 {
@@ -150,7 +150,7 @@ fn check<R: Read, W: Write>(
     }
 }
 
-/// Shows the events of a log, and gives the status.
+/// Shows the events of a log, and returns the status.
 ///
 /// # Errors
 ///
@@ -200,7 +200,7 @@ fn show_lines<R: Read, W: Write>(
     }
 }
 
-/// Writes why the log is refused in this form, where that lies in the log.
+/// Writes in this form why the log is refused, if the reason is the log.
 ///
 /// # Errors
 ///
@@ -231,7 +231,7 @@ pub fn refuse<W: Write>(
     }
 }
 
-// Says which packet the bytes are that these digits spell.
+// Writes which packet the bytes are that these digits spell.
 fn packet<W: Write, E: Write>(alloc: Global, hex: &str, output: &mut W, error: &mut E) -> u8
     ensures passed { result ≡ PASSED → SpellsPacket hex.now }
     ensures faulty { result ≡ FAULTY → SpellsNoPacket hex.now }
@@ -273,7 +273,7 @@ fn tell_packet<W: Write>(bytes: &[u8], output: &mut W) -> Result<u8, Failure>
     }
 }
 
-/// Says on `error` what is wrong with the words, and gives the status.
+/// Writes to `error` what is wrong with the words, and returns the status.
 pub fn misuse<E: Write>(text: &str, error: &mut E) -> u8
     ensures told { result ≡ MISUSED → Appends (E.contents error.old) (E.contents error.new) text.now }
     ensures failed { result ≡ FAILED → AppendsPart (E.contents error.old) (E.contents error.new) text.now }
@@ -330,7 +330,7 @@ fn list<W: Write, E: Write>(alloc: Global, role: Option<Role>, output: &mut W, e
     }
 }
 
-// Tells what explains the statement with this code.
+// Writes the explanation of the statement with this code.
 fn explain<W: Write, E: Write>(alloc: Global, code: &str, output: &mut W, error: &mut E) -> u8
     ensures told { result ≡ PASSED
         → Tells (explained_for code.now) (W.contents output.old) (W.contents output.new) }
@@ -348,7 +348,7 @@ fn explain<W: Write, E: Write>(alloc: Global, code: &str, output: &mut W, error:
     }
 }
 
-// Writes a text to the end, and gives the status.
+// Writes a text to the end, and returns the status.
 fn tell<W: Write, E: Write>(text: &str, output: &mut W, error: &mut E) -> u8
     ensures told { result ≡ PASSED → Appends (W.contents output.old) (W.contents output.new) text.now }
     ensures part { result ≡ FAILED → AppendsPart (W.contents output.old) (W.contents output.new) text.now }
@@ -363,7 +363,7 @@ fn tell<W: Write, E: Write>(text: &str, output: &mut W, error: &mut E) -> u8
     }
 }
 
-/// Tells that a word names nothing, in a line that begins so, and gives the status.
+/// Writes that a word names nothing, in a line that begins with `start`, and returns the status.
 pub fn refuse_word<E: Write>(alloc: Global, start: &str, word: &str, error: &mut E) -> u8
     ensures told { result ≡ MISUSED
         → Appends (E.contents error.old) (E.contents error.new) (start.now ++ word.now ++ codes "\n") }
@@ -378,7 +378,7 @@ pub fn refuse_word<E: Write>(alloc: Global, start: &str, word: &str, error: &mut
     }
 }
 
-// A line that begins so and ends with the word.
+// A line that begins with `start` and ends with the word.
 fn line_on(alloc: Global, start: &str, word: &str) -> Result<String, AllocError>
     ensures { IfOk result (λ line. string_bytes line ≡ start.now ++ word.now ++ codes "\n") }
 {
@@ -389,7 +389,7 @@ fn line_on(alloc: Global, start: &str, word: &str) -> Result<String, AllocError>
     Ok(line)
 }
 
-// Sees to it that what was written goes out, and gives the status.
+// Flushes what was written, and returns the status.
 fn see_out<W: Write>(status: u8, output: &mut W) -> Result<u8, Failure>
     ensures status { IfOk result (λ given. given ≡ status) }
     ensures kept { Keeps (W.contents output.old) (W.contents output.new) }
@@ -399,8 +399,8 @@ fn see_out<W: Write>(status: u8, output: &mut W) -> Result<u8, Failure>
     Ok(status)
 }
 
-/// Tells the caller why there is no task, and gives the status to exit with: 0 after help or the
-/// version, 3 after a misuse, and 4 where memory ran out or the text couldn't be written.
+/// Writes why there is no task, and returns the status to exit with: 0 for help or the version, 3
+/// for a misuse, and 4 if memory ran out or the text couldn't be written.
 pub fn stop<W: Write, E: Write>(stop: &Stop, output: &mut W, error: &mut E) -> u8
     ensures shown { result ≡ 0 → IsShownOn stop.now (W.contents output.old) (W.contents output.new) }
     ensures told { result ≡ 3 → IsToldOn stop.now (E.contents error.old) (E.contents error.new) }
@@ -408,7 +408,7 @@ pub fn stop<W: Write, E: Write>(stop: &Stop, output: &mut W, error: &mut E) -> u
         (W.contents output.old) (W.contents output.new) (E.contents error.old) (E.contents error.new) }
     ensures statuses { (result ≡ 0) ⊎ ((result ≡ 3) ⊎ (result ≡ 4)) }
 
-    // A text goes to one of the two alone.
+    // A text goes to only one of the two.
     ensures quiet { result ≡ 0 → Keeps (E.contents error.old) (E.contents error.new) }
     ensures untold { result ≡ 3 → Keeps (W.contents output.old) (W.contents output.new) }
 {

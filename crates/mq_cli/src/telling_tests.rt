@@ -15,8 +15,8 @@ fn told(alloc: Global, words: &[&str]) -> Result<(u8, Vec<u8>), Stop> {
     Ok((status, output))
 }
 
-// Whether a statement's text begins with its code and citations, goes on with its sentence, says why and where it is judged, and
-// has no line of more than 80 bytes.
+// Whether a statement's text begins with its code and citations, has its sentence next, says why and where it is judged, and has
+// no line of more than 80 bytes.
 fn is_explained(rule: Rule) -> bool {
     let text = explanation(rule);
     let mut words = text.split_whitespace();

@@ -56,7 +56,7 @@ const TAKEN_TWICE: &[u8] = b"MQTR\x01\x00\x01\x00\
 
 const VERSION: &str = "mqjudge 0.1.0 (reads log version 1, judges 74 statements)\n";
 
-// A log, in parts, and what is made of it.
+// A log, in parts, and the expected result.
 struct Row {
     log: &'static [&'static [u8]],
     status: u8,
@@ -124,7 +124,7 @@ static ROWS: [Row; 10] = [
     },
 ];
 
-// Gives one byte a call, and fails where `fails_after` bytes were given.
+// A reader that gives one byte a call, and fails after `fails_after` bytes.
 #[derive(Drop)]
 pub struct Trickle<'a> {
     pub bytes: &'a [u8],
@@ -146,7 +146,7 @@ impl Read for Trickle<'_> {
     }
 }
 
-// Takes `room` bytes and then fails, as does its flush where `stays` says so.
+// A writer that takes `room` bytes and then fails, as does its flush if `stays` says so.
 #[derive(Drop)]
 pub struct Narrow {
     pub room: usize,
@@ -179,7 +179,7 @@ fn joined(alloc: Global, parts: &[&[u8]]) -> Result<Vec<u8>, AllocError> {
     Ok(whole)
 }
 
-// What comes of a check of this input.
+// The result of a check of this input.
 #[derive(Drop)]
 pub struct Told {
     pub status: u8,
@@ -188,7 +188,7 @@ pub struct Told {
 }
 
 impl Told {
-    // Whether it ended with this status and said this, and nothing of a failure.
+    // Whether it ended with this status and output, and without a message.
     pub fn says(&self, status: u8, output: &str) -> bool {
         self.status == status
             && self.output.as_slice() == output.as_bytes()
@@ -216,7 +216,7 @@ pub fn told_of<R: Read>(alloc: Global, input: &mut R) -> Result<Told, Stop> {
     })
 }
 
-// Whether a check of this log, read whole and then byte by byte, says this and nothing else.
+// Whether a check of this log, read at once and then byte by byte, writes this and nothing else.
 pub fn is_told(alloc: Global, log: &[u8], status: u8, report: &str) -> Result<bool, Stop> {
     let mut trickle = Trickle {
         bytes: log,
@@ -281,7 +281,7 @@ fn tells_of_a_failed_read(rt: HostRuntime) -> Result<(), Fail> {
     Ok(())
 }
 
-// Whether what these words ask for fails where the output is so narrow, and tells that a write did.
+// Whether what these words ask for fails if the output has this little room, and reports that a write failed.
 pub fn is_failed_write(
     alloc: Global,
     words: &[&str],
@@ -311,7 +311,7 @@ fn tells_of_a_failed_write(rt: HostRuntime) -> Result<(), Fail> {
     Ok(())
 }
 
-// With each allocation failing in turn, the answer is the log's, or that memory ran out, and nothing else.
+// With each allocation failing in turn, the result is the log's, or that memory ran out, and nothing else.
 #[test]
 fn tells_of_want_of_memory(rt: HostRuntime) {
     let mut output = Cursor::new([0; 128]);
@@ -458,7 +458,7 @@ fn refuses_other_words(rt: HostRuntime) -> Result<(), Fail> {
     Ok(())
 }
 
-// Whether a stop ends with this status, shows this, and tells that.
+// Whether a stop ends with this status, this output and this message.
 fn is_stopped(alloc: Global, why: &Stop, status: u8, shown: &str, told: &str) -> bool {
     let mut output = Vec::new(alloc);
     let mut error = Vec::new(alloc);

@@ -11,7 +11,7 @@ use std::io::Write;
 ///
 /// # Errors
 ///
-/// `Write` where a write or the flush failed. Part of the text was written then, or all of it.
+/// `Write` if a write or the flush failed. Part of the text, or all of it, was then written.
 pub fn write_out<W: Write>(text: &str, writer: &mut W) -> Result<(), Failure>
     ensures written { OnOk result (Appends (W.contents writer.old) (W.contents writer.new) text.now) }
     ensures failed { IfErr result (λ failure. failure ≡ Failure.Write) }
@@ -21,7 +21,7 @@ pub fn write_out<W: Write>(text: &str, writer: &mut W) -> Result<(), Failure>
     flush(writer)
 }
 
-// Writes the text. Where a write fails, an interruption too, a beginning of the text was written, and not all of it.
+// Writes the text. If a write fails, also by an interruption, a beginning of the text, but not all of it, was written.
 fn write_text<W: Write>(text: &str, writer: &mut W) -> Result<(), Failure>
     ensures written { OnOk result (Appends (W.contents writer.old) (W.contents writer.new) text.now) }
     ensures failed { IfErr result (λ failure. failure ≡ Failure.Write) }
@@ -41,7 +41,7 @@ fn write_text<W: Write>(text: &str, writer: &mut W) -> Result<(), Failure>
 ///
 /// # Errors
 ///
-/// `Write` where the flush failed.
+/// `Write` if the flush failed.
 pub fn flush<W: Write>(writer: &mut W) -> Result<(), Failure>
     ensures kept { Keeps (W.contents writer.old) (W.contents writer.new) }
     ensures failed { IfErr result (λ failure. failure ≡ Failure.Write) }

@@ -1,6 +1,6 @@
-//! What explains the statements on the past of a connection (C01 to C23).
+//! The texts of `explain` for the statements on the past of a connection (C01 to C23).
 
-/// What explains C01.
+/// The text of `explain C01`.
 pub const C01: &str = "C01 both sec-2.1.2\n\
     A packet has a type that this end may send.\n\n\
     Why: Each end has packets of its own. CONNECT, SUBSCRIBE, UNSUBSCRIBE and\n\
@@ -16,7 +16,7 @@ pub const C01: &str = "C01 both sec-2.1.2\n\
     apart.\n\n\
     See: MQTT 5.0, section 2.1.2.\n";
 
-/// What explains C02.
+/// The text of `explain C02`.
 pub const C02: &str = "C02 client MQTT-3.1.0-1\n\
     The first packet that a client sends on a connection is a CONNECT.\n\n\
     Why: The CONNECT says who the client is and what it can do. Until it has come\n\
@@ -28,7 +28,7 @@ pub const C02: &str = "C02 client MQTT-3.1.0-1\n\
     the queue afterwards.\n\n\
     See: MQTT 5.0, section 3.1.\n";
 
-/// What explains C03.
+/// The text of `explain C03`.
 pub const C03: &str = "C03 client sec-3.1\n\
     A client sends one CONNECT on a connection.\n\n\
     Why: A second CONNECT would change who the client is in the middle of a\n\
@@ -39,7 +39,7 @@ pub const C03: &str = "C03 client sec-3.1\n\
     the network connection and open a new one instead.\n\n\
     See: MQTT 5.0, section 3.1.\n";
 
-/// What explains C04.
+/// The text of `explain C04`.
 pub const C04: &str = "C04 server sec-3.2\n\
     A server sends a CONNACK only after a CONNECT was received.\n\n\
     Why: A CONNACK answers a CONNECT, and has nothing to say before it.\n\n\
@@ -49,7 +49,7 @@ pub const C04: &str = "C04 server sec-3.2\n\
     first, or close without a CONNACK.\n\n\
     See: MQTT 5.0, section 3.2.\n";
 
-/// What explains C05.
+/// The text of `explain C05`.
 pub const C05: &str = "C05 server MQTT-3.2.0-1\n\
     A server sends a CONNACK before any packet other than AUTH.\n\n\
     Why: The client learns from the CONNACK whether it is accepted and what it may\n\
@@ -62,7 +62,7 @@ pub const C05: &str = "C05 server MQTT-3.2.0-1\n\
     without a DISCONNECT.\n\n\
     See: MQTT 5.0, section 3.2.\n";
 
-/// What explains C06.
+/// The text of `explain C06`.
 pub const C06: &str = "C06 server MQTT-3.2.0-2\n\
     A server sends one CONNACK on a connection.\n\n\
     Why: A connection is accepted or refused once.\n\n\
@@ -73,7 +73,7 @@ pub const C06: &str = "C06 server MQTT-3.2.0-2\n\
     second CONNECT is a Protocol Error.\n\n\
     See: MQTT 5.0, section 3.2.\n";
 
-/// What explains C07.
+/// The text of `explain C07`.
 pub const C07: &str = "C07 server MQTT-3.2.2-2\n\
     Session Present is 0 where Clean Start was 1.\n\n\
     Why: Clean Start 1 asks to drop the old session. Session Present 1 would say\n\
@@ -83,7 +83,7 @@ pub const C07: &str = "C07 server MQTT-3.2.2-2\n\
     before Clean Start has removed it. Remove it first, and then look.\n\n\
     See: MQTT 5.0, section 3.2.2.1.1.\n";
 
-/// What explains C08.
+/// The text of `explain C08`.
 pub const C08: &str = "C08 server MQTT-3.2.2-3\n\
     Session Present is 1 only where the server has a session.\n\n\
     Why: The client trusts Session Present: it goes on with its half of the session.\n\
@@ -97,7 +97,7 @@ pub const C08: &str = "C08 server MQTT-3.2.2-3\n\
     record.\n\n\
     See: MQTT 5.0, section 3.2.2.1.1.\n";
 
-/// What explains C09.
+/// The text of `explain C09`.
 pub const C09: &str = "C09 server MQTT-3.2.2-6\n\
     Session Present is 0 in a CONNACK that refuses.\n\n\
     Why: A refused client has no session, so the flag must say so.\n\n\
@@ -108,7 +108,7 @@ pub const C09: &str = "C09 server MQTT-3.2.2-6\n\
     0x00.\n\n\
     See: MQTT 5.0, section 3.2.2.1.1.\n";
 
-/// What explains C10.
+/// The text of `explain C10`.
 pub const C10: &str = "C10 server MQTT-3.2.2-16\n\
     A client whose Client Identifier was empty is assigned one.\n\n\
     Why: A client without an identifier must learn the one that its session is kept\n\
@@ -119,7 +119,7 @@ pub const C10: &str = "C10 server MQTT-3.2.2-16\n\
     identifier was empty.\n\n\
     See: MQTT 5.0, section 3.2.2.3.7.\n";
 
-/// What explains C11.
+/// The text of `explain C11`.
 pub const C11: &str = "C11 both MQTT-3.14.4-1\n\
     Nothing is sent after a DISCONNECT.\n\n\
     Why: A DISCONNECT is the last packet of its sender. What follows may be lost,\n\
@@ -134,7 +134,7 @@ pub const C11: &str = "C11 both MQTT-3.14.4-1\n\
     after the DISCONNECT.\n\n\
     See: MQTT 5.0, section 3.14.4.\n";
 
-/// What explains C12.
+/// The text of `explain C12`.
 pub const C12: &str = "C12 server MQTT-3.2.2-7\n\
     A server sends nothing after a CONNACK that refuses.\n\n\
     Why: After a refusal there is no connection on which anything could be sent.\n\n\
@@ -144,7 +144,7 @@ pub const C12: &str = "C12 server MQTT-3.2.2-7\n\
     or sends a DISCONNECT too. Close the network connection right after the CONNACK.\n\n\
     See: MQTT 5.0, section 3.2.2.2.\n";
 
-/// What explains C13.
+/// The text of `explain C13`.
 pub const C13: &str = "C13 client MQTT-3.2.2-4\n\
     A client that has no session goes on with none: it only sends a DISCONNECT.\n\n\
     Why: Session Present 1 means that the server goes on with a session that the\n\
@@ -157,7 +157,7 @@ pub const C13: &str = "C13 client MQTT-3.2.2-4\n\
     store is empty, close the connection, and connect with Clean Start 1.\n\n\
     See: MQTT 5.0, section 3.2.2.1.1.\n";
 
-/// What explains C14.
+/// The text of `explain C14`.
 pub const C14: &str = "C14 both MQTT-3.2.2-15;MQTT-3.1.2-24\n\
     A packet isn't larger than the peer's Maximum Packet Size.\n\n\
     Why: The peer has said how large a packet it takes, fixed header and all. A\n\
@@ -172,7 +172,7 @@ pub const C14: &str = "C14 both MQTT-3.2.2-15;MQTT-3.1.2-24\n\
     been sent, and leave Reason String and User Property out of answers.\n\n\
     See: MQTT 5.0, sections 3.1.2.11.4 and 3.2.2.3.6.\n";
 
-/// What explains C15.
+/// The text of `explain C15`.
 pub const C15: &str = "C15 both MQTT-3.2.2-17;MQTT-3.1.2-26\n\
     A Topic Alias isn't above the peer's Topic Alias Maximum.\n\n\
     Why: The peer keeps a table of so many aliases. An alias above it has no place\n\
@@ -187,7 +187,7 @@ pub const C15: &str = "C15 both MQTT-3.2.2-17;MQTT-3.1.2-26\n\
     the property, send no alias.\n\n\
     See: MQTT 5.0, sections 3.1.2.11.5 and 3.2.2.3.8.\n";
 
-/// What explains C16.
+/// The text of `explain C16`.
 pub const C16: &str = "C16 both sec-3.3.2\n\
     A Topic Alias that stands for a Topic Name was set on this connection.\n\n\
     Why: Aliases live as long as the network connection. One that wasn't set on it\n\
@@ -199,7 +199,7 @@ pub const C16: &str = "C16 both sec-3.3.2\n\
     an alias only when its PUBLISH was written.\n\n\
     See: MQTT 5.0, section 3.3.2.3.4.\n";
 
-/// What explains C17.
+/// The text of `explain C17`.
 pub const C17: &str = "C17 client MQTT-3.2.2-11\n\
     A PUBLISH isn't sent at a QoS above the server's Maximum QoS.\n\n\
     Why: A server with a lower Maximum QoS can't keep the promise of a higher one.\n\n\
@@ -210,7 +210,7 @@ pub const C17: &str = "C17 client MQTT-3.2.2-11\n\
     queue, and refuse or lower it there.\n\n\
     See: MQTT 5.0, section 3.2.2.3.4.\n";
 
-/// What explains C18.
+/// The text of `explain C18`.
 pub const C18: &str = "C18 client MQTT-3.3.4-6\n\
     A client sends no Subscription Identifier in a PUBLISH.\n\n\
     Why: A Subscription Identifier tells a client by which of its subscriptions a\n\
@@ -221,7 +221,7 @@ pub const C18: &str = "C18 client MQTT-3.3.4-6\n\
     properties, as by a bridge. Copy only what a client may send.\n\n\
     See: MQTT 5.0, section 3.3.4.\n";
 
-/// What explains C19.
+/// The text of `explain C19`.
 pub const C19: &str = "C19 server MQTT-3.14.2-2\n\
     A server sends no Session Expiry Interval in a DISCONNECT.\n\n\
     Why: How long a session lasts is the client's to say when it leaves.\n\n\
@@ -231,7 +231,7 @@ pub const C19: &str = "C19 server MQTT-3.14.2-2\n\
     each DISCONNECT. Leave the property out on a server.\n\n\
     See: MQTT 5.0, section 3.14.2.2.2.\n";
 
-/// What explains C20.
+/// The text of `explain C20`.
 pub const C20: &str = "C20 client sec-3.14.2\n\
     A Session Expiry Interval of 0 stays 0.\n\n\
     Why: A client whose interval was 0 has told the server to end the session with\n\
@@ -242,7 +242,7 @@ pub const C20: &str = "C20 client sec-3.14.2\n\
     had none. Send the interval in the CONNECT, or leave it out of the DISCONNECT.\n\n\
     See: MQTT 5.0, section 3.14.2.2.2.\n";
 
-/// What explains C21.
+/// The text of `explain C21`.
 pub const C21: &str = "C21 server MQTT-3.1.2-29\n\
     No Reason String and no User Property is sent where the client asked for none.\n\n\
     Why: A client that asked for no problem information may have no room for it.\n\
@@ -254,7 +254,7 @@ pub const C21: &str = "C21 server MQTT-3.1.2-29\n\
     both properties out.\n\n\
     See: MQTT 5.0, section 3.1.2.11.7.\n";
 
-/// What explains C22.
+/// The text of `explain C22`.
 pub const C22: &str = "C22 server MQTT-3.1.2-28\n\
     Response Information is sent only where the client asked for it.\n\n\
     Why: Response Information costs bytes, and is only for clients that build\n\
@@ -265,7 +265,7 @@ pub const C22: &str = "C22 server MQTT-3.1.2-28\n\
     only where the CONNECT asked with 1; absent means 0.\n\n\
     See: MQTT 5.0, section 3.1.2.11.6.\n";
 
-/// What explains C23.
+/// The text of `explain C23`.
 pub const C23: &str = "C23 both MQTT-3.14.4-2;MQTT-3.14.4-2,MQTT-3.2.2-7\n\
     An end that sent a DISCONNECT, or a CONNACK that refuses, closes the connection.\n\n\
     Why: The peer waits for the connection to end, and its resources are held until\n\

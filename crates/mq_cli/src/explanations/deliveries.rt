@@ -1,6 +1,6 @@
-//! What explains the statements on subscriptions (B01 to B04).
+//! The texts of `explain` for the statements on subscriptions (B01 to B04).
 
-/// What explains B01.
+/// The text of `explain B01`.
 pub const B01: &str = "B01 server MQTT-3.3.2-3\n\
     A PUBLISH from the server matches a subscription.\n\n\
     Why: A client gets only what it asked for.\n\n\
@@ -14,7 +14,7 @@ pub const B01: &str = "B01 server MQTT-3.3.2-3\n\
     and match level by level; $ topics don't match a leading wildcard.\n\n\
     See: MQTT 5.0, section 3.3.2.1.\n";
 
-/// What explains B02.
+/// The text of `explain B02`.
 pub const B02: &str = "B02 server MQTT-3.8.4-8\n\
     A PUBLISH from the server isn't at a QoS above what was granted.\n\n\
     Why: The granted QoS is the most that the client is ready for. A higher one asks\n\
@@ -28,7 +28,7 @@ pub const B02: &str = "B02 server MQTT-3.8.4-8\n\
     of that and the QoS that the SUBACK granted.\n\n\
     See: MQTT 5.0, section 3.8.4.\n";
 
-/// What explains B03.
+/// The text of `explain B03`.
 pub const B03: &str = "B03 server MQTT-3.8.4-6\n\
     A SUBACK has a Reason Code for each filter.\n\n\
     Why: The client joins codes to filters by their order alone.\n\n\
@@ -39,7 +39,7 @@ pub const B03: &str = "B03 server MQTT-3.8.4-6\n\
     Write one code for each filter, in the order of the SUBSCRIBE.\n\n\
     See: MQTT 5.0, section 3.8.4.\n";
 
-/// What explains B04.
+/// The text of `explain B04`.
 pub const B04: &str = "B04 server sec-3.11.3\n\
     An UNSUBACK has a Reason Code for each filter.\n\n\
     Why: The client joins codes to filters by their order alone.\n\n\

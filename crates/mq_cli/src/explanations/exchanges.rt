@@ -1,6 +1,6 @@
-//! What explains the statements on exchanges (E1A to E7R).
+//! The texts of `explain` for the statements on exchanges (E1A to E7R).
 
-/// What explains E1A.
+/// The text of `explain E1A`.
 pub const E1A: &str = "E1A both MQTT-2.2.1-5\n\
     A PUBACK answers a PUBLISH of QoS 1.\n\n\
     Why: By a PUBACK the sender drops its message. One that answers nothing may drop\n\
@@ -16,7 +16,7 @@ pub const E1A: &str = "E1A both MQTT-2.2.1-5\n\
     it.\n\n\
     See: MQTT 5.0, section 2.2.1.\n";
 
-/// What explains E1R.
+/// The text of `explain E1R`.
 pub const E1R: &str = "E1R both MQTT-4.3.2-4\n\
     A PUBLISH of QoS 1 is answered by a PUBACK.\n\n\
     Why: The sender keeps the message, its identifier and a place in the send quota\n\
@@ -34,7 +34,7 @@ pub const E1R: &str = "E1R both MQTT-4.3.2-4\n\
     0x87 where it isn't authorized.\n\n\
     See: MQTT 5.0, section 4.3.2.\n";
 
-/// What explains E1O.
+/// The text of `explain E1O`.
 pub const E1O: &str = "E1O client MQTT-4.6.0-2\n\
     A client sends PUBACKs in the order of the PUBLISHes.\n\n\
     Why: A sender may rely on acknowledgements in the order of its messages.\n\n\
@@ -46,7 +46,7 @@ pub const E1O: &str = "E1O client MQTT-4.6.0-2\n\
     when all before it are ready.\n\n\
     See: MQTT 5.0, section 4.6.\n";
 
-/// What explains E2A.
+/// The text of `explain E2A`.
 pub const E2A: &str = "E2A both MQTT-2.2.1-5\n\
     A PUBREC answers a PUBLISH of QoS 2.\n\n\
     Why: A PUBREC moves the sender to its PUBREL. One that answers nothing does that\n\
@@ -61,7 +61,7 @@ pub const E2A: &str = "E2A both MQTT-2.2.1-5\n\
     arrives.\n\n\
     See: MQTT 5.0, section 2.2.1.\n";
 
-/// What explains E2R.
+/// The text of `explain E2R`.
 pub const E2R: &str = "E2R both MQTT-4.3.3-8\n\
     A PUBLISH of QoS 2 is answered by a PUBREC.\n\n\
     Why: Without a PUBREC the sender can't go on: the message stays in flight, and\n\
@@ -79,7 +79,7 @@ pub const E2R: &str = "E2R both MQTT-4.3.3-8\n\
     refused.\n\n\
     See: MQTT 5.0, section 4.3.3.\n";
 
-/// What explains E2O.
+/// The text of `explain E2O`.
 pub const E2O: &str = "E2O client MQTT-4.6.0-3\n\
     A client sends PUBRECs in the order of the PUBLISHes.\n\n\
     Why: A sender may rely on PUBRECs in the order of its messages.\n\n\
@@ -90,7 +90,7 @@ pub const E2O: &str = "E2O client MQTT-4.6.0-3\n\
     when done. Put PUBRECs into a queue in the order of arrival.\n\n\
     See: MQTT 5.0, section 4.6.\n";
 
-/// What explains E3A.
+/// The text of `explain E3A`.
 pub const E3A: &str = "E3A both MQTT-2.2.1-5\n\
     A PUBREL answers a PUBREC that accepts.\n\n\
     Why: A PUBREL tells the receiver to release the message and forget the\n\
@@ -107,7 +107,7 @@ pub const E3A: &str = "E3A both MQTT-2.2.1-5\n\
     whether its PUBREC came.\n\n\
     See: MQTT 5.0, section 2.2.1.\n";
 
-/// What explains E3R.
+/// The text of `explain E3R`.
 pub const E3R: &str = "E3R both MQTT-4.3.3-4\n\
     A PUBREC that accepts is answered by a PUBREL.\n\n\
     Why: The receiver holds the identifier until the PUBREL, and some hold the\n\
@@ -125,7 +125,7 @@ pub const E3R: &str = "E3R both MQTT-4.3.3-4\n\
     0x92 where the identifier isn't known.\n\n\
     See: MQTT 5.0, section 4.3.3.\n";
 
-/// What explains E3O.
+/// The text of `explain E3O`.
 pub const E3O: &str = "E3O client MQTT-4.6.0-4\n\
     A client sends PUBRELs in the order of the PUBRECs.\n\n\
     Why: PUBRELs in the order of the PUBRECs keep messages of QoS 2 in order where\n\
@@ -137,7 +137,7 @@ pub const E3O: &str = "E3O client MQTT-4.6.0-4\n\
     order that happens. Put them into a queue in the order of the PUBRECs.\n\n\
     See: MQTT 5.0, section 4.6.\n";
 
-/// What explains E4A.
+/// The text of `explain E4A`.
 pub const E4A: &str = "E4A both MQTT-2.2.1-5\n\
     A PUBCOMP answers a PUBREL.\n\n\
     Why: A PUBCOMP frees the identifier. One that answers nothing frees it while the\n\
@@ -151,7 +151,7 @@ pub const E4A: &str = "E4A both MQTT-2.2.1-5\n\
     reconnect. Send it only when a PUBREL comes.\n\n\
     See: MQTT 5.0, section 2.2.1.\n";
 
-/// What explains E4R.
+/// The text of `explain E4R`.
 pub const E4R: &str = "E4R both MQTT-4.3.3-11\n\
     A PUBREL is answered by a PUBCOMP.\n\n\
     Why: The sender keeps the identifier and a place in the send quota until the\n\
@@ -168,7 +168,7 @@ pub const E4R: &str = "E4R both MQTT-4.3.3-11\n\
     ignored. Answer it all the same, with code 0x92 (Packet Identifier not found).\n\n\
     See: MQTT 5.0, section 4.3.3.\n";
 
-/// What explains E5A.
+/// The text of `explain E5A`.
 pub const E5A: &str = "E5A server MQTT-2.2.1-6\n\
     A SUBACK answers a SUBSCRIBE.\n\n\
     Why: An answer without its question would free an identifier that the peer has\n\
@@ -180,7 +180,7 @@ pub const E5A: &str = "E5A server MQTT-2.2.1-6\n\
     two plugins. Collect the codes of all filters, and answer once.\n\n\
     See: MQTT 5.0, section 2.2.1.\n";
 
-/// What explains E5R.
+/// The text of `explain E5R`.
 pub const E5R: &str = "E5R server MQTT-3.8.4-1\n\
     A SUBSCRIBE is answered by a SUBACK.\n\n\
     Why: Without its SUBACK a client doesn't know whether and at which QoS it is\n\
@@ -194,7 +194,7 @@ pub const E5R: &str = "E5R server MQTT-3.8.4-1\n\
     an asynchronous check never comes back. Answer it with codes of 0x80 or more.\n\n\
     See: MQTT 5.0, section 3.8.4.\n";
 
-/// What explains E6A.
+/// The text of `explain E6A`.
 pub const E6A: &str = "E6A server MQTT-2.2.1-6\n\
     An UNSUBACK answers an UNSUBSCRIBE.\n\n\
     Why: An answer without its question would free an identifier that the peer has\n\
@@ -206,7 +206,7 @@ pub const E6A: &str = "E6A server MQTT-2.2.1-6\n\
     Collect the codes of all filters, and answer once.\n\n\
     See: MQTT 5.0, section 2.2.1.\n";
 
-/// What explains E6R.
+/// The text of `explain E6R`.
 pub const E6R: &str = "E6R server MQTT-3.10.4-4\n\
     An UNSUBSCRIBE is answered by an UNSUBACK.\n\n\
     Why: A client waits for the UNSUBACK to know that no new messages are added for\n\
@@ -220,7 +220,7 @@ pub const E6R: &str = "E6R server MQTT-3.10.4-4\n\
     with code 0x11 (No subscription existed) for that filter.\n\n\
     See: MQTT 5.0, section 3.10.4.\n";
 
-/// What explains E7R.
+/// The text of `explain E7R`.
 pub const E7R: &str = "E7R server MQTT-3.12.4-1\n\
     A PINGREQ is answered by a PINGRESP.\n\n\
     Why: A client that gets no PINGRESP takes the connection for dead, and closes\n\

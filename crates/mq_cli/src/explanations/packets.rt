@@ -1,6 +1,6 @@
-//! What explains the statements on the bytes of a packet (W01 to W21).
+//! The texts of `explain` for the statements on the bytes of a packet (W01 to W21).
 
-/// What explains W01.
+/// The text of `explain W01`.
 pub const W01: &str = "W01 both MQTT-2.1.3-1\n\
     The flags of a packet other than PUBLISH are those of its type.\n\n\
     Why: The four low bits of the first byte are reserved in every packet but\n\
@@ -17,7 +17,7 @@ pub const W01: &str = "W01 both MQTT-2.1.3-1\n\
     by type.\n\n\
     See: MQTT 5.0, section 2.1.3.\n";
 
-/// What explains W02.
+/// The text of `explain W02`.
 pub const W02: &str = "W02 both sec-2.1.2\n\
     The type isn't 0.\n\n\
     Why: Type 0 is reserved, so a receiver can't tell what such bytes mean.\n\n\
@@ -30,7 +30,7 @@ pub const W02: &str = "W02 both sec-2.1.2\n\
     length of what was written.\n\n\
     See: MQTT 5.0, section 2.1.2.\n";
 
-/// What explains W03.
+/// The text of `explain W03`.
 pub const W03: &str = "W03 both MQTT-1.5.5-1\n\
     A variable byte integer is at most four bytes long, and no longer than need be.\n\n\
     Why: Each number has one spelling, so that a receiver can compare and count\n\
@@ -43,7 +43,7 @@ pub const W03: &str = "W03 both MQTT-1.5.5-1\n\
     bits at a time until nothing is left.\n\n\
     See: MQTT 5.0, section 1.5.5.\n";
 
-/// What explains W04.
+/// The text of `explain W04`.
 pub const W04: &str = "W04 both MQTT-1.5.4-1\n\
     A text is well-formed UTF-8.\n\n\
     Why: Texts are compared and matched as characters, so both ends must read the\n\
@@ -59,7 +59,7 @@ pub const W04: &str = "W04 both MQTT-1.5.4-1\n\
     texts where they enter, and cut them at characters.\n\n\
     See: MQTT 5.0, section 1.5.4.\n";
 
-/// What explains W05.
+/// The text of `explain W05`.
 pub const W05: &str = "W05 both MQTT-1.5.4-2\n\
     A text doesn't hold U+0000.\n\n\
     Why: U+0000 ends a text in many languages, so what stands after it would be seen\n\
@@ -72,7 +72,7 @@ pub const W05: &str = "W05 both MQTT-1.5.4-2\n\
     length of the text, and refuse a text with U+0000 in the API.\n\n\
     See: MQTT 5.0, section 1.5.4.\n";
 
-/// What explains W06.
+/// The text of `explain W06`.
 pub const W06: &str = "W06 both sec-2.1.4\n\
     Each field lies within the packet or the list that it is in, and no bytes are\n\
     left over.\n\n\
@@ -87,7 +87,7 @@ pub const W06: &str = "W06 both sec-2.1.4\n\
     forgotten. Write the fields to a buffer and take the lengths from it.\n\n\
     See: MQTT 5.0, section 2.1.4.\n";
 
-/// What explains W07.
+/// The text of `explain W07`.
 pub const W07: &str = "W07 both MQTT-3.3.1-4\n\
     The QoS of a PUBLISH isn't 3.\n\n\
     Why: There are three levels of QoS. Both QoS bits together mean none of them.\n\n\
@@ -100,7 +100,7 @@ pub const W07: &str = "W07 both MQTT-3.3.1-4\n\
     publisher's with the subscription's. Take the smaller of the two numbers.\n\n\
     See: MQTT 5.0, section 3.3.1.2.\n";
 
-/// What explains W08.
+/// The text of `explain W08`.
 pub const W08: &str = "W08 both MQTT-3.3.1-2\n\
     DUP is 0 in a PUBLISH of QoS 0.\n\n\
     Why: A PUBLISH of QoS 0 is never sent again, so it can't be a duplicate.\n\n\
@@ -115,7 +115,7 @@ pub const W08: &str = "W08 both MQTT-3.3.1-2\n\
     itself sends again.\n\n\
     See: MQTT 5.0, section 3.3.1.1.\n";
 
-/// What explains W09.
+/// The text of `explain W09`.
 pub const W09: &str = "W09 both sec-2.2.1\n\
     A Packet Identifier isn't 0.\n\n\
     Why: A Packet Identifier joins a packet with its answer, and 0 stands for having\n\
@@ -130,7 +130,7 @@ pub const W09: &str = "W09 both sec-2.2.1\n\
     65,535.\n\n\
     See: MQTT 5.0, section 2.2.1.\n";
 
-/// What explains W10.
+/// The text of `explain W10`.
 pub const W10: &str = "W10 both sec-2.2.2.2\n\
     A property is known, and allowed in its list.\n\n\
     Why: A receiver skips nothing that it doesn't know: an unknown property, or one\n\
@@ -146,7 +146,7 @@ pub const W10: &str = "W10 both sec-2.2.2.2\n\
     own set of properties.\n\n\
     See: MQTT 5.0, section 2.2.2.2.\n";
 
-/// What explains W11.
+/// The text of `explain W11`.
 pub const W11: &str = "W11 both sec-2.2.2.2\n\
     A property stands in a list once, but for those that may be repeated.\n\n\
     Why: Two values for one property leave open which one counts. Only User Property\n\
@@ -161,7 +161,7 @@ pub const W11: &str = "W11 both sec-2.2.2.2\n\
     written. Keep properties in fields or a map, and let one replace the other.\n\n\
     See: MQTT 5.0, section 2.2.2.2.\n";
 
-/// What explains W12.
+/// The text of `explain W12`.
 pub const W12: &str = "W12 both sec-2.2.2.2\n\
     A property has a value that it may have.\n\n\
     Why: Some properties have only a few values that mean something: flags are 0 or\n\
@@ -177,7 +177,7 @@ pub const W12: &str = "W12 both sec-2.2.2.2\n\
     instead.\n\n\
     See: MQTT 5.0, section 2.2.2.2.\n";
 
-/// What explains W13.
+/// The text of `explain W13`.
 pub const W13: &str = "W13 both sec-2.4\n\
     A Reason Code is one of the packet's.\n\n\
     Why: The peer decides by the Reason Code what to do next, so the code must be\n\
@@ -193,7 +193,7 @@ pub const W13: &str = "W13 both sec-2.4\n\
     that packet.\n\n\
     See: MQTT 5.0, section 2.4.\n";
 
-/// What explains W14.
+/// The text of `explain W14`.
 pub const W14: &str = "W14 both sec-3.3.2\n\
     A Topic Name, and the Response Topic of a PUBLISH, has no wildcard.\n\n\
     Why: A message has one topic. Wildcards belong to filters, and one in a Topic\n\
@@ -209,7 +209,7 @@ pub const W14: &str = "W14 both sec-3.3.2\n\
     PUBLISH when it comes in.\n\n\
     See: MQTT 5.0, section 3.3.2.\n";
 
-/// What explains W15.
+/// The text of `explain W15`.
 pub const W15: &str = "W15 both sec-4.7\n\
     A Topic Filter is valid.\n\n\
     Why: A wildcard stands for whole levels: # only alone in the last level, + only\n\
@@ -224,7 +224,7 @@ pub const W15: &str = "W15 both sec-4.7\n\
     and log that end apart.\n\n\
     See: MQTT 5.0, section 4.7.\n";
 
-/// What explains W16.
+/// The text of `explain W16`.
 pub const W16: &str = "W16 both MQTT-3.8.3-2,MQTT-3.10.3-2\n\
     A SUBSCRIBE or UNSUBSCRIBE has a filter.\n\n\
     Why: A SUBSCRIBE or UNSUBSCRIBE with no filter asks for nothing, and its answer\n\
@@ -238,7 +238,7 @@ pub const W16: &str = "W16 both MQTT-3.8.3-2,MQTT-3.10.3-2\n\
     server relays as a client, as a bridge, and log that end apart.\n\n\
     See: MQTT 5.0, sections 3.8.3 and 3.10.3.\n";
 
-/// What explains W17.
+/// The text of `explain W17`.
 pub const W17: &str = "W17 both sec-3.8.3\n\
     The Subscription Options name a Maximum QoS and a Retain Handling that exist,\n\
     and have no reserved bit.\n\n\
@@ -254,7 +254,7 @@ pub const W17: &str = "W17 both sec-3.8.3\n\
     server relays as a client, as a bridge, and log that end apart.\n\n\
     See: MQTT 5.0, section 3.8.3.1.\n";
 
-/// What explains W18.
+/// The text of `explain W18`.
 pub const W18: &str = "W18 both sec-3.1.2\n\
     The protocol's name is `MQTT`.\n\n\
     Why: By its name and version a server knows which protocol is spoken, and\n\
@@ -268,7 +268,7 @@ pub const W18: &str = "W18 both sec-3.1.2\n\
     relays as a client, as a bridge, and log that end apart.\n\n\
     See: MQTT 5.0, section 3.1.2.1.\n";
 
-/// What explains W19.
+/// The text of `explain W19`.
 pub const W19: &str = "W19 both sec-3.1.2\n\
     The Connect Flags have no reserved bit, no Will QoS 3, and no Will QoS or Will\n\
     Retain without a Will.\n\n\
@@ -283,7 +283,7 @@ pub const W19: &str = "W19 both sec-3.1.2\n\
     relays as a client, as a bridge, and log that end apart.\n\n\
     See: MQTT 5.0, section 3.1.2.3.\n";
 
-/// What explains W20.
+/// The text of `explain W20`.
 pub const W20: &str = "W20 both MQTT-3.2.2-1\n\
     The Connect Acknowledge Flags have no reserved bit.\n\n\
     Why: Only Session Present is defined. The other seven bits are reserved.\n\n\
@@ -296,7 +296,7 @@ pub const W20: &str = "W20 both MQTT-3.2.2-1\n\
     Write 1 where a session is present, and else 0.\n\n\
     See: MQTT 5.0, section 3.2.2.1.\n";
 
-/// What explains W21.
+/// The text of `explain W21`.
 pub const W21: &str = "W21 both sec-3.3.2\n\
     A PUBLISH has a Topic Name or a Topic Alias.\n\n\
     Why: A receiver takes the topic from the Topic Name or from the Topic Alias.\n\

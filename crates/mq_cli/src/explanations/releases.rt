@@ -1,6 +1,6 @@
-//! What explains the statements on releases of QoS 2 messages (L1 to L3).
+//! The texts of `explain` for the statements on releases of QoS 2 messages (L1 to L3).
 
-/// What explains L1.
+/// The text of `explain L1`.
 pub const L1: &str = "L1 both sec-4.3.3\n\
     A release is of a QoS 2 message that was received and whose exchange isn't over.\n\n\
     Why: A release hands a message on. One without a message, or after its exchange\n\
@@ -15,7 +15,7 @@ pub const L1: &str = "L1 both sec-4.3.3\n\
     the exchange ends.\n\n\
     See: MQTT 5.0, section 4.3.3.\n";
 
-/// What explains L2.
+/// The text of `explain L2`.
 pub const L2: &str = "L2 both MQTT-4.3.3-10\n\
     A QoS 2 message is released once.\n\n\
     Why: Exactly once is the promise of QoS 2. A second release of the same message\n\
@@ -31,7 +31,7 @@ pub const L2: &str = "L2 both MQTT-4.3.3-10\n\
     only where its identifier is new.\n\n\
     See: MQTT 5.0, section 4.3.3.\n";
 
-/// What explains L3.
+/// The text of `explain L3`.
 pub const L3: &str = "L3 both sec-4.3.3\n\
     A QoS 2 message is released before its PUBCOMP.\n\n\
     Why: The PUBCOMP makes the sender forget the message. If it wasn't released\n\

@@ -1,6 +1,6 @@
-//! What explains the statements on Packet Identifiers, resends and the send quota (S01 to S07).
+//! The texts of `explain` for the statements on Packet Identifiers, resends and the send quota (S01 to S07).
 
-/// What explains S01.
+/// The text of `explain S01`.
 pub const S01: &str = "S01 both MQTT-2.2.1-3;MQTT-2.2.1-4\n\
     A new PUBLISH, SUBSCRIBE or UNSUBSCRIBE takes no Packet Identifier that is in\n\
     use.\n\n\
@@ -20,7 +20,7 @@ pub const S01: &str = "S01 both MQTT-2.2.1-3;MQTT-2.2.1-4\n\
     and draw only free ones.\n\n\
     See: MQTT 5.0, section 2.2.1.\n";
 
-/// What explains S02.
+/// The text of `explain S02`.
 pub const S02: &str = "S02 both MQTT-4.3.2-2,MQTT-4.3.3-2\n\
     A PUBLISH with DUP 1 was sent before with DUP 0.\n\n\
     Why: DUP says that this may be a repetition. On a first sending it misleads the\n\
@@ -37,7 +37,7 @@ pub const S02: &str = "S02 both MQTT-4.3.2-2,MQTT-4.3.3-2\n\
     that PUBLISH to this client before.\n\n\
     See: MQTT 5.0, sections 4.3.2 and 4.3.3.\n";
 
-/// What explains S03.
+/// The text of `explain S03`.
 pub const S03: &str = "S03 both MQTT-4.4.0-1\n\
     A PUBLISH isn't sent again on the same connection.\n\n\
     Why: TCP loses nothing while a connection stands, so a repetition only makes\n\
@@ -52,7 +52,7 @@ pub const S03: &str = "S03 both MQTT-4.4.0-1\n\
     time. Remove it, and send again only after a reconnect that resumes the session.\n\n\
     See: MQTT 5.0, section 4.4.\n";
 
-/// What explains S04.
+/// The text of `explain S04`.
 pub const S04: &str = "S04 both MQTT-4.3.3-6\n\
     A PUBLISH isn't sent again once its PUBREL was sent.\n\n\
     Why: The PUBREL shows that the receiver has the message. A PUBLISH after it\n\
@@ -68,7 +68,7 @@ pub const S04: &str = "S04 both MQTT-4.3.3-6\n\
     is sent again in its place.\n\n\
     See: MQTT 5.0, section 4.3.3.\n";
 
-/// What explains S05.
+/// The text of `explain S05`.
 pub const S05: &str = "S05 client MQTT-4.6.0-1\n\
     A client sends PUBLISHes again in their original order.\n\n\
     Why: Receivers rely on the order of messages, so what is sent again keeps the\n\
@@ -81,7 +81,7 @@ pub const S05: &str = "S05 client MQTT-4.6.0-1\n\
     isn't it, since they wrap.\n\n\
     See: MQTT 5.0, section 4.6.\n";
 
-/// What explains S06.
+/// The text of `explain S06`.
 pub const S06: &str = "S06 both MQTT-4.4.0-1\n\
     What is unacknowledged is sent again when a session is resumed.\n\n\
     Why: The peer still holds its half of each exchange. What isn't sent again stays\n\
@@ -100,7 +100,7 @@ pub const S06: &str = "S06 both MQTT-4.4.0-1\n\
     a CONNACK with Session Present 1.\n\n\
     See: MQTT 5.0, section 4.4.\n";
 
-/// What explains S07.
+/// The text of `explain S07`.
 pub const S07: &str = "S07 both MQTT-4.9.0-2\n\
     No more PUBLISHes are in flight than the peer's Receive Maximum.\n\n\
     Why: The peer has reserved room for so many unacknowledged messages of QoS 1 and\n\

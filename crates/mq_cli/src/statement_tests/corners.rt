@@ -1,4 +1,4 @@
-//! Corners of the statements on sessions, which are easily read in another way.
+//! Corner cases of the statements on sessions, which are easily misread.
 
 pub const ROWS: &str = "\
 does a PUBACK end a message of QoS 2? yes | client OPEN >CONNECT <CONNACK >PUBLISH2:1 <PUBACK:1 >PUBLISH1:1 | pass 6 events
