@@ -1,5 +1,5 @@
--- How each packet is written (MQTT 5.0, 3.1 to 3.15): its fields in their order, each by its spelling. Where a packet may be
--- spelled in several ways, it is the shortest of them; an AUTH has its properties' length unless it is empty.
+-- How each packet is written (MQTT 5.0, 3.1 to 3.15): its fields in their order, each by its spelling. If a packet has several
+-- spellings, it is the shortest of them; but an AUTH has its properties' length unless it is empty.
 use Rattle.std.specs.Prelude.{ℕ, ◌+◌, ◌*◌, ◌==◌, if◌then◌else◌, Bool, true, false, List, [], ◌∷◌, ◌++◌, length, Option, Some, None, is_some, unwrap_or, codes}
 use Rattle.mq_wire.specs.Spellings.{two_bytes_spelling, text_spelling, binary_spelling, varint_spelling}
 use Rattle.mq_props.specs.Values.{Property, body as properties_spelling}
@@ -44,7 +44,7 @@ type_of pingresp = types.Pingresp
 type_of (disconnect code list) = types.Disconnect
 type_of (auth code list) = types.Auth
 
--- A flag as the bit of this weight, and a QoS as two bits, of which this is the weight of the lower (3.1.2.3, 3.3.1).
+-- A flag as the bit of this weight, and a QoS as two bits, the lower of this weight (3.1.2.3, 3.3.1).
 abbrev pub bit : ℕ → Bool → ℕ
 bit weight false = 0
 bit weight true = weight
@@ -58,16 +58,16 @@ qos_bits weight ExactlyOnce = 2 * weight
 abbrev pub publish_flags : PublishFields → ℕ
 publish_flags fields = bit 8 fields.duplicate + qos_bits 2 fields.qos + bit 1 fields.retain
 
--- The flags of its own that a packet has: a PUBLISH alone has some (2.1.3).
+-- The flags that say something of the packet: only a PUBLISH has some (2.1.3).
 abbrev pub own_flags : Entry → ℕ
 own_flags (publish fields) = publish_flags fields
 own_flags _ = 0
 
--- The first byte: that of the packet's type, with the flags that are reserved for it or else the packet's own (2.1.1 to 2.1.3).
+-- The first byte: the packet's type, with the flags that are reserved for it or else the packet's own (2.1.1 to 2.1.3).
 abbrev pub first_byte : Entry → ℕ
 first_byte entry = byte_of (type_of entry) (unwrap_or (reserved_flags (type_of entry)) (own_flags entry))
 
--- A property list: the length of its properties, and they (2.2.2).
+-- A property list: the length of its properties, and the properties (2.2.2).
 abbrev pub list_spelling : List Property → List ℕ
 list_spelling items = varint_spelling (length (properties_spelling items)) ++ properties_spelling items
 
@@ -76,7 +76,7 @@ abbrev pub spelling_if : {X : Type 0} → (X → List ℕ) → Option X → List
 spelling_if spelling None = []
 spelling_if spelling (Some value) = spelling value
 
--- What the Connect Flags say of a Will: bit 2 that it is there, bits 4 and 3 its QoS, bit 5 that it is retained
+-- The Connect Flags of a Will: bit 2 says that there is one, bits 4 and 3 are its QoS, bit 5 says that it is retained
 -- (3.1.2.5 to 3.1.2.7).
 abbrev pub will_flags : Option WillFields → ℕ
 will_flags None = 0
@@ -113,7 +113,7 @@ publish_body fields =
     ++ (list_spelling fields.properties.items
     ++ fields.payload))
 
--- A Reason Code and properties: without properties the code alone, and not even that where it is 0x00 (3.4.2, 3.14.2).
+-- A Reason Code and properties: without properties only the code, and without properties nothing if it is 0x00 (3.4.2, 3.14.2).
 abbrev pub reason_spelling : ℕ → List Property → List ℕ
 reason_spelling code [] = if code == 0 then [] else code ∷ []
 reason_spelling code (p ∷ items) = code ∷ list_spelling (p ∷ items)

@@ -1,4 +1,4 @@
--- What a packet's bytes come to: the packet, or the first thing that isn't right with them.
+-- What a packet's bytes are decoded to: the packet, or the first fault in them.
 use Rattle.std.specs.Prelude.{ℕ, zero, suc, ◌+◌, ◌==◌, if◌then◌else◌, Bool, true, false, List, [], ◌∷◌, length, Option, Some, None, Result, Ok, Err}
 use Rattle.std.specs.List.{list_all, prefix_len}
 use Rattle.mq_wire.specs.declared.fault.Reason.{Reason}
@@ -18,22 +18,22 @@ use Rattle.mq_packet.specs.declared.fault.DecodeFault.TheVariants.{Broken, Other
 use Rattle.mq_packet.specs.Entries.{Entry, AskedFilter}
 use Rattle.mq_packet.specs.Formats.{Kind, byte, two_bytes, text, binary, properties, Value, Objection, breaks, other_version, is_code, filter_objection, options_objection, Format, done, rest, all_codes, all_filters, refused, field, at_end, format_of}
 
--- A step that is taken only where the one before it succeeded.
+-- A step that is taken only if the one before it succeeded.
 infixl 10 ◌>>=◌
 abbrev pub ◌>>=◌ : {A B : Type 0} → Result A DecodeFault → (A → Result B DecodeFault) → Result B DecodeFault
 (Ok x) >>= f = f x
 (Err fault) >>= f = Err fault
 
--- A rule is broken at this place.
+-- A rule is broken at this offset.
 abbrev pub broken : ℕ → PacketRule → DecodeFault
 broken at rule = Broken (record { at = at; rule = rule })
 
--- What an objection to the field at this place comes to.
+-- The fault of an objection to the field at this offset.
 abbrev pub objected : ℕ → Objection → DecodeFault
 objected at (breaks rule) = broken at rule
 objected at (other_version version) = OtherVersion version
 
--- The rule that a field breaks which isn't spelled as its kind asks.
+-- The rule that a misspelled field breaks.
 abbrev pub rule_of : Reason → PacketRule
 rule_of reasons.Short = rules.W06
 rule_of reasons.Overlong = rules.W03
@@ -49,12 +49,12 @@ list_rule prop_reasons.Repeated = rules.W11
 list_rule prop_reasons.Value = rules.W12
 list_rule prop_reasons.Wildcard = rules.W14
 
--- What was read, or the rule that is broken where no field of the kind stands.
+-- What was read, or the rule that the misspelled field breaks.
 abbrev pub spelled : {X : Type 0} → Result X WireFault → Result X DecodeFault
 spelled (Ok x) = Ok x
 spelled (Err fault) = Err (broken fault.at (rule_of fault.reason))
 
--- The same for a property list, which names the place of its first bad field.
+-- The same for a property list, with the offset of its first invalid field.
 abbrev pub spelled_list : {X : Type 0} → Result X PropFault → Result X DecodeFault
 spelled_list (Ok x) = Ok x
 spelled_list (Err fault) = Err (broken fault.at (list_rule fault.reason))
@@ -72,7 +72,7 @@ abbrev pub unless : {X : Type 0} → ℕ → Option Objection → X → Result X
 unless at None x = Ok x
 unless at (Some objection) x = Err (objected at objection)
 
--- The field at the front of what is left: first its spelling counts, then its value.
+-- The field at the front of what is left: first its spelling is checked, then its value.
 abbrev pub read_field : (kind : Kind) → (Value kind → Option Objection) → Left → Result (Value kind × Left) DecodeFault
 read_field kind objection left = do
   x ← field_on kind left
@@ -82,7 +82,7 @@ read_field kind objection left = do
 abbrev pub ended : Entry → Left → Result Entry DecodeFault
 ended packet left = if length left.rest == 0 then Ok packet else Err (broken left.at rules.W06)
 
--- All that is left as Reason Codes of a table: the first that isn't one of them is at fault (2.4).
+-- All that is left as Reason Codes of a table: the first byte that isn't one of them is at fault (2.4).
 unfoldable pub codes_on : List ℕ → Left → Result (List ℕ) DecodeFault
 codes_on table left =
     if list_all (is_code table) left.rest then Ok left.rest else Err (broken (left.at + prefix_len (is_code table) left.rest) rules.W13)
@@ -106,13 +106,13 @@ options_behind asks x = options_on asks x.1 >>= with_options x.0
 abbrev pub filter_on : Bool → Left → Result (AskedFilter × Left) DecodeFault
 filter_on asks left = read_field text filter_objection left >>= options_behind asks
 
--- All that is left as filters. Each takes some bytes, so there are at most n where n bytes are left.
+-- All that is left as filters. Each takes at least one byte, so n bytes have at most n.
 abbrev pub filters_within : ℕ → Bool → Left → Result (List AskedFilter) DecodeFault
 filters_within zero asks left = Ok []
 filters_within (suc n) asks left =
     if length left.rest == 0 then Ok [] else (filter_on asks left >>= λ x. filters_within n asks x.1 >>= λ others. Ok (x.0 ∷ others))
 
--- All that is left as filters, one at least (3.8.3, 3.10.3).
+-- All that is left as filters, at least one (3.8.3, 3.10.3).
 unfoldable pub filters_on : Bool → Left → Result (List AskedFilter) DecodeFault
 filters_on asks left =
     if length left.rest == 0 then Err (broken left.at rules.W16) else filters_within (length left.rest) asks left

@@ -1,4 +1,4 @@
--- The filters of a body in memory: which list they are, the next of them, and what their reader answers (MQTT 5.0, 3.8.3 and
+-- The filters of a body in memory: which list they are, the next of them, and what their reader returns (MQTT 5.0, 3.8.3 and
 -- 3.10.3).
 use Rattle.std.specs.Prelude.{◌≡◌, ℕ, Bool, true, false, List, [], ◌∷◌, length, drop, Option, Some, None, Result, Ok, Err}
 use Rattle.mq_wire.specs.declared.fault.Reason.{Reason}
@@ -24,7 +24,7 @@ abbrev pub asked_behind : Bool → List ℕ → Result (List ℕ × ℕ) Reason 
 asked_behind asks bytes (Ok x) = asked_with asks x.0 (drop x.1 bytes)
 asked_behind asks bytes (Err reason) = None
 
--- The filter at the front of the bytes, if one stands there, and what is left after it.
+-- The filter at the front of the bytes, if there is one, and what is left after it.
 unfoldable pub asked_at : Bool → List ℕ → Option (AskedFilter × List ℕ)
 asked_at asks bytes = asked_behind asks bytes (text_at bytes)
 
@@ -33,7 +33,7 @@ abbrev pub read_or_none : Result (List AskedFilter) DecodeFault → List AskedFi
 read_or_none (Ok filters) = filters
 read_or_none (Err fault) = []
 
--- The filters of these bytes in memory, as a list: those that are read.
+-- The filters of these bytes in memory, as the list that is read.
 unfoldable pub filters_in : Bool → List ℕ → List AskedFilter
 filters_in asks bytes = read_or_none (filters_within (length bytes) asks (record { at = 0; rest = bytes }))
 

@@ -1,4 +1,4 @@
--- The packets by their fields, apart from where their bytes lie in memory (MQTT 5.0, 3.1 to 3.15).
+-- The packets by their fields, apart from where their bytes are in memory (MQTT 5.0, 3.1 to 3.15).
 use Rattle.std.specs.Prelude.{ℕ, Bool, true, false, List, [], Option}
 use Rattle.mq_props.specs.declared.table.Place.{Place}
 use Rattle.mq_props.specs.declared.table.Place.TheVariants as places
@@ -68,7 +68,7 @@ pub data Entry : Type 0 where
   disconnect : (code : ℕ) (properties : Listed) → Entry
   auth : (code : ℕ) (properties : Listed) → Entry
 
--- Where the property list of an acknowledgement stands.
+-- The place of an acknowledgement's property list.
 abbrev pub acknowledgement_place : AcknowledgementKind → Place
 acknowledgement_place acknowledgements.Puback = places.Puback
 acknowledgement_place acknowledgements.Pubrec = places.Pubrec
@@ -82,7 +82,7 @@ acknowledgement_codes acknowledgements.Pubrec = pubrec_codes
 acknowledgement_codes acknowledgements.Pubrel = pubrel_codes
 acknowledgement_codes acknowledgements.Pubcomp = pubcomp_codes
 
--- Where the property list of a SUBSCRIBE or UNSUBSCRIBE stands, and that of its answer.
+-- The place of the property list of a SUBSCRIBE or UNSUBSCRIBE, and of its answer.
 abbrev pub request_place : RequestKind → Place
 request_place requests.Subscribe = places.Subscribe
 request_place requests.Unsubscribe = places.Unsubscribe
@@ -96,12 +96,12 @@ abbrev pub answer_codes : RequestKind → List ℕ
 answer_codes requests.Subscribe = suback_codes
 answer_codes requests.Unsubscribe = unsuback_codes
 
--- Each filter of a SUBSCRIBE has options, and none of an UNSUBSCRIBE (3.8.3, 3.10.3).
+-- Each filter of a SUBSCRIBE has options, and no filter of an UNSUBSCRIBE (3.8.3, 3.10.3).
 abbrev pub has_options : RequestKind → Bool
 has_options requests.Subscribe = true
 has_options requests.Unsubscribe = false
 
--- DISCONNECT and AUTH, which have the same fields, where their property lists stand, and their Reason Codes (3.14.2.1,
+-- DISCONNECT and AUTH, which have the same fields, the places of their property lists, and their Reason Codes (3.14.2.1,
 -- 3.15.2.1).
 abbrev pub ending : EndingKind → ℕ → Listed → Entry
 ending endings.Disconnect code properties = disconnect code properties

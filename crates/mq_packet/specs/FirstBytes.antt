@@ -47,7 +47,7 @@ packet_types =
     types.Connect ∷ types.Connack ∷ types.Publish ∷ types.Puback ∷ types.Pubrec ∷ types.Pubrel ∷ types.Pubcomp ∷ types.Subscribe
     ∷ types.Suback ∷ types.Unsubscribe ∷ types.Unsuback ∷ types.Pingreq ∷ types.Pingresp ∷ types.Disconnect ∷ types.Auth ∷ []
 
--- The type of a first byte; 0 is the number of none (2.1.2).
+-- The type in a first byte; no type has the number 0 (2.1.2).
 abbrev pub type_in : ℕ → Option PacketType
 type_in first = find (λ type. type_number type == first / 16) packet_types
 
@@ -55,7 +55,7 @@ type_in first = find (λ type. type_number type == first / 16) packet_types
 abbrev pub flags_in : ℕ → ℕ
 flags_in first = first % 16
 
--- A packet may have these flags: the reserved ones, where there are such, else any.
+-- A packet may have these flags: the reserved ones if there are any, else all.
 abbrev pub are_flags : Option ℕ → ℕ → Bool
 are_flags (Some reserved) flags = flags == reserved
 are_flags None flags = true

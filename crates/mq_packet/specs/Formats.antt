@@ -1,5 +1,5 @@
 -- The formats of the packets (MQTT 5.0, 3.1 to 3.15): which fields each has, in their order, and which values of a field
--- are taken.
+-- are valid.
 use Rattle.std.specs.Prelude.{ℕ, ◌==◌, nat_lt, Bool, true, false, ◌&&◌, ◌||◌, not, if◌then◌else◌, List, length, Option, Some, None, is_some, bit_and, bytes_eq, codes}
 use Rattle.std.specs.List.{list_any}
 use Rattle.mq_topic.specs.Levels.{is_name, filter_fault}
@@ -39,20 +39,20 @@ Value text = List ℕ
 Value binary = List ℕ
 Value (properties place) = List Property
 
--- Why a value isn't taken: it breaks a rule, or it is the version of another protocol.
+-- Why a value is invalid: it breaks a rule, or it is another version of the protocol.
 pub data Objection : Type 0 where
   breaks : PacketRule → Objection
   other_version : ℕ → Objection
 
 -- The format of what is left of a packet.
 pub data Format : Type 0 where
-  -- nothing: it is this packet
+  -- nothing is left: it is this packet
   done : Entry → Format
-  -- any bytes, of which this packet is made
+  -- any bytes, from which this packet is made
   rest : (List ℕ → Entry) → Format
-  -- Reason Codes of this table, one after another, of which this packet is made
+  -- Reason Codes of this table, one after another, from which this packet is made
   all_codes : List ℕ → (List ℕ → Entry) → Format
-  -- Topic Filters, one at least, one after another, each with options after it if they are asked for, of which this packet
+  -- Topic Filters, at least one, one after another, each with options after it if they are asked for, from which this packet
   -- is made
   all_filters : Bool → (List AskedFilter → Entry) → Format
   -- the first byte breaks this rule
@@ -62,11 +62,11 @@ pub data Format : Type 0 where
   -- the first format if nothing is left, else the second
   at_end : Format → Format → Format
 
--- A value to which nothing is objected where this holds, and which else breaks the rule.
+-- The objection to a value: none if it is good, else it breaks the rule.
 abbrev pub unless_broken : Bool → PacketRule → Option Objection
 unless_broken good rule = if good then None else Some (breaks rule)
 
--- Each value is taken.
+-- Each value is valid.
 abbrev pub any_value : {A : Type 0} → A → Option Objection
 any_value value = None
 
@@ -82,8 +82,8 @@ name_objection name = unless_broken (bytes_eq name (codes "MQTT")) rules.W18
 abbrev pub version_objection : ℕ → Option Objection
 version_objection version = if version == 5 then None else Some (other_version version)
 
--- The Connect Flags (3.1.2.3): bit 0 is reserved; bits 4 and 3, the Will QoS, aren't 3; and where bit 2, the Will Flag, isn't
--- set, neither are they, nor is bit 5, Will Retain.
+-- The Connect Flags (3.1.2.3): bit 0 is reserved; bits 4 and 3, the Will QoS, aren't 3; and if bit 2, the Will Flag, isn't set,
+-- then neither are they, nor is bit 5, Will Retain.
 abbrev pub are_connect_flags : ℕ → Bool
 are_connect_flags flags =
     not (has_bits 1 flags) && (not (bit_and flags 24 == 24) && (has_bits 4 flags || not (has_bits 56 flags)))
@@ -110,14 +110,14 @@ identifier_objection identifier = unless_broken (not (identifier == 0)) rules.W0
 abbrev pub topic_objection : List ℕ → Option Objection
 topic_objection topic = unless_broken (is_name topic) rules.W14
 
--- Where the Topic Name is empty, the properties have a Topic Alias (3.3.2.1, 3.3.2.3.4).
+-- If the Topic Name is empty, the properties have a Topic Alias (3.3.2.1, 3.3.2.3.4).
 abbrev pub names_topic : List ℕ → List Property → Bool
 names_topic topic list = not (length topic == 0) || is_some (first_two_bytes topic_alias list)
 
 abbrev pub alias_objection : List ℕ → List Property → Option Objection
 alias_objection topic list = unless_broken (names_topic topic list) rules.W21
 
--- A Topic Filter is one that may be (4.7.1).
+-- A Topic Filter is valid (4.7.1).
 abbrev pub is_filter : List ℕ → Bool
 is_filter filter = not (is_some (filter_fault filter))
 
@@ -132,12 +132,12 @@ are_options options = not (bit_and options 3 == 3) && (not (bit_and options 48 =
 abbrev pub options_objection : ℕ → Option Objection
 options_objection options = unless_broken (are_options options) rules.W17
 
--- A field that stands only where the flag for it is set, and then what it decides.
+-- A field that is there only if its flag is set, and then what it decides.
 abbrev pub field_if : Bool → (kind : Kind) → (Option (Value kind) → Format) → Format
 field_if false kind next = next None
 field_if true kind next = field kind any_value (λ value. next (Some value))
 
--- The QoS that two bits of this weight name, where they aren't both set (3.1.2.6, 3.3.1.2).
+-- The QoS that two bits name, the lower of this weight, if they aren't both set (3.1.2.6, 3.3.1.2).
 abbrev pub qos_of : ℕ → ℕ → Qos
 qos_of weight bits = if bits == 0 then AtMostOnce else if bits == weight then AtLeastOnce else ExactlyOnce
 
@@ -178,7 +178,7 @@ connack_format =
     field (properties places.Connack) any_value (λ list.
     done (connack (flags == 1) code (listed places.Connack list)))))
 
--- What stands after the Packet Identifier of a PUBLISH: properties and the payload (3.3.2.3, 3.3.3).
+-- What follows the Packet Identifier of a PUBLISH: properties and the payload (3.3.2.3, 3.3.3).
 abbrev pub publish_from : Bool → Qos → Bool → List ℕ → Option ℕ → Format
 publish_from duplicate qos retain topic identifier =
     field (properties places.Publish) (alias_objection topic) (λ list.
@@ -205,15 +205,15 @@ publish_format flags =
     if bit_and flags 6 == 4 then publish_acknowledged (has_bits 8 flags) ExactlyOnce (has_bits 1 flags) else
     refused rules.W07
 
--- The property list of a place at the end of a packet, which may be left out with all that it has.
+-- The property list of a place at the end of a packet. It may be left out if it is empty.
 abbrev pub last_properties : Place → (Listed → Entry) → Format
 last_properties place packet =
     at_end (done (packet (none_listed place)))
     (field (properties place) any_value (λ list.
     done (packet (listed place list))))
 
--- PUBACK, PUBREC, PUBREL and PUBCOMP (3.4 to 3.7): where one ends after its identifier its Reason Code is 0x00, and where it
--- ends after its code it has no properties.
+-- PUBACK, PUBREC, PUBREL and PUBCOMP (3.4 to 3.7): if one ends after its identifier, its Reason Code is 0x00; if it ends after
+-- its code, it has no properties.
 abbrev pub acknowledgement_format : AcknowledgementKind → Format
 acknowledgement_format kind =
     field two_bytes identifier_objection (λ identifier.
@@ -235,8 +235,7 @@ answer_format kind =
     field (properties (answer_place kind)) any_value (λ list.
     all_codes (answer_codes kind) (answer kind identifier (listed (answer_place kind) list))))
 
--- DISCONNECT (3.14) and AUTH (3.15): an empty one has the Reason Code 0x00, and where one ends after its code it has no
--- properties.
+-- DISCONNECT (3.14) and AUTH (3.15): an empty one has the Reason Code 0x00; if one ends after its code, it has no properties.
 abbrev pub ending_format : EndingKind → Format
 ending_format kind =
     at_end (done (ending kind 0 (none_listed (ending_place kind))))
@@ -261,7 +260,7 @@ format_by_type types.Pingresp flags = done pingresp
 format_by_type types.Disconnect flags = ending_format endings.Disconnect
 format_by_type types.Auth flags = ending_format endings.Auth
 
--- The same, if there is such a type, and it may have these flags.
+-- The same, if there is such a type and it may have these flags; else the first byte breaks a rule.
 abbrev pub format_by : Option PacketType → ℕ → Format
 format_by None flags = refused rules.W02
 format_by (Some type) flags = if are_flags (reserved_flags type) flags then format_by_type type flags else refused rules.W01

@@ -8,7 +8,7 @@ use Rattle.mq_packet.specs.declared.frame.Cut.TheVariants.{Need, Frame, Lost}
 use Rattle.mq_packet.specs.Stream.{fixed_header_of}
 use Rattle.mq_packet.specs.Decoding.{body_start}
 
--- The bytes begin with a packet that has this first byte, and whose body lies from start to end: the first byte, the
+-- The bytes begin with a packet that has this first byte, and a body from offset start to end: the first byte, the
 -- shortest spelling of the body's length, and the body (2.1.1, 2.1.4).
 pub record BeginsWithFrame (bytes : List ℕ) (first start end : ℕ) : Type 0 where
   pub body : List ℕ

@@ -5,8 +5,8 @@ use Rattle.mq_packet.specs.declared.frame.Cut.{Cut}
 use Rattle.mq_packet.specs.declared.frame.Cut.TheVariants.{Need, Frame, Lost}
 use Rattle.mq_packet.specs.Frames.{BeginsWithFrame}
 
--- The bytes, of which there may be none, are the beginning of a packet that isn't whole: with others after them they are a
--- first byte, the shortest spelling of a body's length, and the body (2.1.1, 2.1.4).
+-- The bytes, maybe none, are the beginning of a packet that isn't whole: with more bytes after them they would be a first
+-- byte, the shortest spelling of a body's length, and the body (2.1.1, 2.1.4).
 pub record IsBeginning (bytes : List ℕ) : Type 0 where
   pub first : ℕ
   pub body : List ℕ
@@ -37,7 +37,7 @@ pub record IsLost (bytes : List ℕ) : Type 0 where
   pub no_number : ¬ BeginsWithNumber following
   pub no_prefix : ¬ IsPrefixOfNumber following
 
--- What it is for each cut to stand at the front of the bytes.
+-- What each cut means for the bytes.
 abbrev pub StandsAtFront : List ℕ → Cut → Type 0
 StandsAtFront bytes Need = IsBeginning bytes
 StandsAtFront bytes (Frame first start end) = BeginsWithFrame bytes first start end

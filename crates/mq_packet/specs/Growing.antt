@@ -1,4 +1,4 @@
--- Where a vector that is written to would have to grow.
+-- When a vector that is written to would have to grow.
 use Rattle.std.specs.Prelude.{ℕ, ◌+◌, ◌<◌, List, length}
 
 -- A vector of this capacity that holds some bytes has no room for others.

@@ -31,7 +31,7 @@ connect_view p = record { clean_start = p.clean_start; keep_alive = p.keep_alive
 abbrev pub publish_view : Publish → PublishFields
 publish_view p = record { duplicate = p.duplicate; qos = p.qos; retain = p.retain; topic = p.topic.now; identifier = p.identifier; properties = p.properties; payload = p.payload.now }
 
--- The fields of a packet in memory: all but `read_len`, which tells how it was spelled.
+-- The fields of a packet in memory: all except `read_len`, which says how it was spelled.
 abbrev pub view : Packet → Entry
 view (packets.Connect p) = connect (connect_view p)
 view (packets.Connack p) = connack p.session_present p.code p.properties
@@ -59,7 +59,7 @@ read_len_of (packets.Disconnect p) = p.read_len
 read_len_of (packets.Auth p) = p.read_len
 read_len_of _ = None
 
--- What a packet keeps of the length of the body that it is read from: the acknowledgements, DISCONNECT and AUTH keep it, for
+-- What a packet keeps of the length of the body that it is read from: the acknowledgements, DISCONNECT and AUTH keep it, since
 -- each of them has several spellings (3.4.2.1 to 3.7.2.1, 3.14.2.1, 3.15.2.1).
 abbrev pub kept_len : ℕ → Entry → Option ℕ
 kept_len len (acknowledgement kind identifier code properties) = Some len
@@ -67,15 +67,15 @@ kept_len len (disconnect code properties) = Some len
 kept_len len (auth code properties) = Some len
 kept_len len _ = None
 
--- The packet keeps so the length of the body that it was read from.
+-- The packet keeps the length of the body that it was read from, if packets of its type do.
 abbrev pub HasReadLen : ℕ → Packet → Type 0
 HasReadLen len packet = read_len_of packet ≡ kept_len len (view packet)
 
--- A field that isn't spelled as its kind asks stops the reading.
+-- Why a misspelled field stops the reading.
 abbrev pub misspelled : WireFault → Stop
 misspelled fault = stops.Broken fault.at (rule_of fault.reason)
 
--- So does a bad field of a property list.
+-- Why an invalid field of a property list stops it.
 abbrev pub bad_list : PropFault → Stop
 bad_list fault = stops.Broken fault.at (list_rule fault.reason)
 
@@ -84,7 +84,7 @@ abbrev pub fault_of : Stop → DecodeFault
 fault_of (stops.Broken at rule) = broken at rule
 fault_of (stops.OtherVersion version) = OtherVersion version
 
--- A reader of a field answers what is read, with the cursor after it; or where the reading stops.
+-- A reader of a field returns what is read, with the cursor past it; or why the reading stops.
 abbrev pub Takes : {X Y : Type 0} → (X → Y) → Result X Stop → Result (Y × Left) DecodeFault → Left → Type 0
 Takes see (Ok x) read new = read ≡ Ok (see x, new)
 Takes see (Err stop) read new = read ≡ Err (fault_of stop)
@@ -100,7 +100,7 @@ abbrev pub Reads : {X Y : Type 0} → (X → Y) → Result X Stop → Result Y D
 Reads see (Ok x) read = read ≡ Ok (see x)
 Reads see (Err stop) read = read ≡ Err (fault_of stop)
 
--- The call answers this packet, or this fault.
+-- The call returns this packet, or this fault.
 abbrev pub Gives : {E X Y : Type 0} → (X → Y) → Result X E → Result Y E → Type 0
 Gives see (Ok x) read = read ≡ Ok (see x)
 Gives see (Err fault) read = read ≡ Err fault

@@ -1,5 +1,5 @@
--- The spellings of a packet. Each packet has one, but for PUBACK, PUBREC, PUBREL, PUBCOMP, DISCONNECT and AUTH, which may
--- leave out the length of no properties, and then the Reason Code 0x00 too (MQTT 5.0, 3.4.2.1 to 3.7.2.1, 3.14.2.1 and
+-- The spellings of a packet. Each packet has one, except PUBACK, PUBREC, PUBREL, PUBCOMP, DISCONNECT and AUTH, which may
+-- leave out an empty property list, and then the Reason Code 0x00 too (MQTT 5.0, 3.4.2.1 to 3.7.2.1, 3.14.2.1 and
 -- 3.15.2.1).
 use Rattle.std.specs.Prelude.{◌≡◌, ℕ, ◌-◌, ◌==◌, ◌⊎◌, Bool, true, false, List, [], ◌∷◌, ◌++◌, length, take, drop, Ok}
 use Rattle.mq_wire.specs.Spellings.{two_bytes_spelling}
@@ -11,15 +11,15 @@ use Rattle.mq_packet.specs.Frames.{cut_of}
 use Rattle.mq_packet.specs.Canonical.{list_spelling, first_byte, canonical_body}
 use Rattle.mq_packet.specs.Valid.{valid, IsTyped}
 
--- The bytes spell a Reason Code and properties at the end of a packet: the code and the property list; without properties the
--- code alone; and without properties nothing at all, where the code is 0x00.
+-- The bytes spell a Reason Code and properties at the end of a packet: the code and the property list; or, without properties,
+-- only the code; or, without properties, nothing if the code is 0x00.
 abbrev pub SpellsEnd : ℕ → List Property → List ℕ → Type 0
 SpellsEnd code items bytes =
     (bytes ≡ code ∷ list_spelling items)
     ⊎ (((items ≡ []) × (bytes ≡ code ∷ []))
     ⊎ ((items ≡ []) × (code ≡ 0) × (bytes ≡ [])))
 
--- These bytes are a body of the packet: its identifier and such an end, an end alone, or the one body that is written of it.
+-- These bytes are a body of the packet: its identifier and such an end, only an end, or the one body that is written.
 abbrev pub IsBodyOf : Entry → List ℕ → Type 0
 IsBodyOf (acknowledgement kind identifier code list) body =
     (end : List ℕ) × (body ≡ two_bytes_spelling identifier ++ end) × SpellsEnd code list.items end
@@ -53,8 +53,8 @@ has_short_form (answer kind identifier list reasons) = false
 has_short_form pingreq = false
 has_short_form pingresp = false
 
--- A body is short for another: it lacks one byte 0x00 or two at the end, which are the length of no properties, the Reason
--- Code 0x00, or both.
+-- A body is short for another: it lacks one or two bytes 0x00 at the end, which are the length of an empty property list, the
+-- Reason Code 0x00, or both.
 abbrev pub IsShortFor : List ℕ → List ℕ → Type 0
 IsShortFor short long = (long ≡ short ++ (0 ∷ [])) ⊎ (long ≡ short ++ (0 ∷ 0 ∷ []))
 

@@ -13,6 +13,6 @@ within size = if nat_le size max_varint then Some size else None
 abbrev pub remaining_length : Packet → ℕ
 remaining_length packet = unwrap_or (read_len_of packet) (length (canonical_body (view packet)))
 
--- The size of a packet with such a body: its first byte, the Remaining Length and the body.
+-- The size of a packet with a body of this length: its first byte, the Remaining Length and the body.
 abbrev pub size_with : ℕ → Option ℕ
 size_with size = if nat_le size max_varint then Some (1 + length (varint_spelling size) + size) else None

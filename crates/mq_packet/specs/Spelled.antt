@@ -30,21 +30,21 @@ spelling text value = text_spelling value
 spelling binary value = binary_spelling value
 spelling (properties place) value = varint_spelling (length (properties_spelling value)) ++ properties_spelling value
 
--- The bytes begin with a value of this kind, spelled, and these are left after it.
+-- The bytes begin with the spelling of a value of this kind, and these are left after it.
 pub record Begin (kind : Kind) (bytes : List ℕ) (value : Value kind) (left : List ℕ) : Type 0 where
   pub is_value : IsValue kind value
   pub spelled : bytes ≡ spelling kind value ++ left
 
--- They begin with a value to which nothing is objected, and then what is said of the value and of what is left after it.
+-- They begin with a valid value, and `then` holds of the value and of what is left after it.
 abbrev pub Good : (kind : Kind) → (Value kind → Option Objection) → List ℕ → (Value kind → List ℕ → Type 0) → Type 0
 Good kind objection bytes then = (value : Value kind) × (left : List ℕ) × Begin kind bytes value left × (objection value ≡ None) × then value left
 
--- They begin with a value to which this is objected.
+-- They begin with a value that is invalid for this reason.
 abbrev pub Objected : (kind : Kind) → (Value kind → Option Objection) → List ℕ → Objection → Type 0
 Objected kind objection bytes why = (value : Value kind) × (left : List ℕ) × Begin kind bytes value left × (objection value ≡ Some why)
 
 -- The bytes are Reason Codes of the table, a byte each, and then a byte that isn't one of them, which is at fault (2.4). Any
--- others may follow.
+-- bytes may follow.
 pub record BadCode (table : List ℕ) (at : ℕ) (bytes : List ℕ) (fault : DecodeFault) : Type 0 where
   pub good : List ℕ
   pub bad : ℕ
@@ -54,8 +54,8 @@ pub record BadCode (table : List ℕ) (at : ℕ) (bytes : List ℕ) (fault : Dec
   pub unknown : is_code table bad ≡ false
   pub is : fault ≡ broken (at + length good) rules.W13
 
--- The bytes don't begin with a field of this kind that may stand there, and have this fault so: they don't begin with one of
--- the kind, or they begin with one that is objected to.
+-- The bytes don't begin with a valid field of this kind, and have this fault: they don't begin with one of the kind, or they
+-- begin with one that is invalid there.
 abbrev pub FailsField : (kind : Kind) → (Value kind → Option Objection) → ℕ → List ℕ → DecodeFault → Type 0
 FailsField kind objection at bytes fault =
     Misspelled kind at bytes fault ⊎ ((why : Objection) × Objected kind objection bytes why × (fault ≡ objected at why))
@@ -65,15 +65,14 @@ abbrev pub FailsOptions : Bool → ℕ → List ℕ → DecodeFault → Type 0
 FailsOptions false at bytes fault = ⊥
 FailsOptions true at bytes fault = FailsField byte options_objection at bytes fault
 
--- The bytes don't begin with a filter that may stand there, or after it options that are asked for are at fault (3.8.3,
--- 3.10.3).
+-- The bytes don't begin with a valid filter, or the options after it are at fault, if they are asked for (3.8.3, 3.10.3).
 abbrev pub FailsFilter : Bool → ℕ → List ℕ → DecodeFault → Type 0
 FailsFilter asks at bytes fault =
     FailsField text filter_objection at bytes fault
     ⊎ Good text filter_objection bytes (λ filter left. FailsOptions asks (at + length (text_spelling filter)) left fault)
 
--- The bytes are the spellings of filters that may stand there, one after another, and then others, at least one; and the
--- filter that begins the others is at fault.
+-- The bytes are the spellings of valid filters, one after another, and then other bytes, at least one; and the filter at the
+-- front of those is at fault.
 pub record BadFilter (asks : Bool) (at : ℕ) (bytes : List ℕ) (fault : DecodeFault) : Type 0 where
   pub good : List AskedFilter
   pub each : AllByRecursion (IsAsked asks) good
@@ -82,7 +81,7 @@ pub record BadFilter (asks : Bool) (at : ℕ) (bytes : List ℕ) (fault : Decode
   pub parts : bytes ≡ filters_spelling good ++ others
   pub refused : FailsFilter asks (at + length (filters_spelling good)) others fault
 
--- The bytes are those of this packet by the format: its fields in their order, each of them good, and nothing else.
+-- The bytes are those of this packet by the format: its fields in their order, each of them valid, and nothing else.
 abbrev pub Spells : Format → List ℕ → Entry → Type 0
 Spells (done packet) bytes entry = (bytes ≡ []) × (packet ≡ entry)
 Spells (rest packet) bytes entry = packet bytes ≡ entry
@@ -93,8 +92,8 @@ Spells (field kind objection next) bytes entry = Good kind objection bytes (λ v
 Spells (at_end whole more) [] entry = Spells whole [] entry
 Spells (at_end whole more) (b ∷ bytes) entry = Spells more (b ∷ bytes) entry
 
--- The bytes, the first of which stands at this place, have this fault by the format: fields in their order, each of them
--- good, and then what is at fault.
+-- The bytes, the first of which has this offset, have this fault by the format: fields in their order, each of them valid,
+-- and then the one at fault.
 abbrev pub Fails : Format → ℕ → List ℕ → DecodeFault → Type 0
 Fails (done packet) at bytes fault = (bytes ≢ []) × (fault ≡ broken at rules.W06)
 Fails (rest packet) at bytes fault = ⊥
@@ -108,7 +107,7 @@ Fails (field kind objection next) at bytes fault =
 Fails (at_end whole more) at [] fault = Fails whole at [] fault
 Fails (at_end whole more) at (b ∷ bytes) fault = Fails more at (b ∷ bytes) fault
 
--- What bytes come to by a format: a packet that they spell, or a fault that they have.
+-- What bytes are by a format: a packet that they spell, or a fault that they have.
 abbrev pub Is : Format → ℕ → List ℕ → Result Entry DecodeFault → Type 0
 Is format at bytes (Ok entry) = Spells format bytes entry
 Is format at bytes (Err fault) = Fails format at bytes fault
@@ -117,11 +116,11 @@ Is format at bytes (Err fault) = Fails format at bytes fault
 abbrev pub IsSpelled : ℕ → List ℕ → Entry → Type 0
 IsSpelled first body entry = Spells (format_of first) body entry
 
--- They break this rule, by the field at this place, which is counted from the packet's first byte.
+-- They break this rule, in the field at this offset of the packet.
 abbrev pub Breaks : ℕ → List ℕ → ℕ → PacketRule → Type 0
 Breaks first body at rule = Fails (format_of first) (body_start (length body)) body (broken at rule)
 
--- They are a CONNECT of another protocol version, this one.
+-- They are a CONNECT of this protocol version, which isn't 5.
 abbrev pub IsOtherVersion : ℕ → List ℕ → ℕ → Type 0
 IsOtherVersion first body version = Fails (format_of first) (body_start (length body)) body (OtherVersion version)
 
@@ -130,7 +129,7 @@ abbrev pub HasFault : ℕ → List ℕ → DecodeFault → Type 0
 HasFault first body (Broken fault) = Breaks first body fault.at fault.rule
 HasFault first body (OtherVersion version) = IsOtherVersion first body version
 
--- Which of the three holds, and of what.
+-- Which of the three holds, with the packet or the fault.
 abbrev pub Comes : ℕ → List ℕ → Result Entry DecodeFault → Type 0
 Comes first body (Ok entry) = IsSpelled first body entry
 Comes first body (Err fault) = HasFault first body fault

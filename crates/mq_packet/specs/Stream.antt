@@ -1,4 +1,4 @@
--- The stream of packets of one direction (MQTT 5.0, section 2.1): what its front says of the packet there.
+-- The stream of packets of one direction (MQTT 5.0, section 2.1): what its front says of the first packet.
 use Rattle.std.specs.Prelude.{ℕ, ◌+◌, ◌≤◌, nat_le, Bool, true, false, if◌then◌else◌, List, [], ◌∷◌, length, Option, Some, None, Result, Ok, Err}
 use Rattle.mq_wire.specs.declared.fault.Reason.{Reason}
 use Rattle.mq_wire.specs.declared.fault.Reason.TheVariants as reasons
@@ -27,7 +27,7 @@ HasBounds _ = Unit {0}
 unfoldable pub fixed_header_of : List ℕ → FixedHeader
 fixed_header_of bytes = header_with (remaining_length bytes)
 
--- The size that the fixed header names, if no more bytes than these are asked for.
+-- The size that the fixed header gives, if that many bytes are available.
 abbrev pub size_within : ℕ → FixedHeader → Option ℕ
 size_within available (Whole header size) = if nat_le size available then Some size else None
 size_within available _ = None
@@ -36,11 +36,11 @@ size_within available _ = None
 unfoldable pub frame_size : List ℕ → Option ℕ
 frame_size bytes = size_within (length bytes) (fixed_header_of bytes)
 
--- The Remaining Length has more bytes than a variable byte integer may have, or than it needs (1.5.5).
+-- The Remaining Length has more bytes than a Variable Byte Integer may have, or than it needs (1.5.5).
 abbrev pub is_overlong : Result (ℕ × ℕ) Reason → Bool
 is_overlong (Err reasons.Overlong) = true
 is_overlong _ = false
 
--- The bytes aren't empty, and what stands after the first of them is no variable byte integer, whatever follows.
+-- There is a first byte, and the Remaining Length after it is invalid, whatever follows.
 unfoldable pub is_lost : List ℕ → Bool
 is_lost bytes = is_overlong (remaining_length bytes)

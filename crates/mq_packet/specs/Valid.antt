@@ -31,12 +31,12 @@ is_binary bytes = nat_le (length bytes) max_two_bytes
 abbrev pub is_identifier : ℕ → Bool
 is_identifier identifier = not (identifier == 0)
 
--- The test holds of the field, if it is there.
+-- The field passes the test, if it is there.
 abbrev pub if_there : {X : Type 0} → (X → Bool) → Option X → Bool
 if_there test None = true
 if_there test (Some value) = test value
 
--- The field is there, and the test holds of it.
+-- The field is there, and passes the test.
 abbrev pub is_there : {X : Type 0} → (X → Bool) → Option X → Bool
 is_there test None = false
 is_there test (Some value) = test value
@@ -55,7 +55,7 @@ valid_connect fields =
 unfoldable pub valid_connack : ℕ → Listed → Bool
 valid_connack code list = same_place list.place places.Connack && is_code connack_codes code
 
--- At QoS 0 a PUBLISH isn't sent again and has no Packet Identifier; above it has one (3.3.1.1, 2.2.1).
+-- At QoS 0 a PUBLISH has DUP 0 and no Packet Identifier; above 0 it has one (3.3.1.1, 2.2.1).
 abbrev pub fits_qos : Bool → Qos → Option ℕ → Bool
 fits_qos duplicate AtMostOnce identifier = not duplicate && not (is_some identifier)
 fits_qos duplicate AtLeastOnce identifier = is_there is_identifier identifier
@@ -72,7 +72,7 @@ unfoldable pub valid_acknowledgement : AcknowledgementKind → ℕ → ℕ → L
 valid_acknowledgement kind identifier code list =
     same_place list.place (acknowledgement_place kind) && (is_identifier identifier && is_code (acknowledgement_codes kind) code)
 
--- A filter has options exactly where they are asked for (3.8.3, 3.10.3).
+-- A filter has options exactly if they are asked for (3.8.3, 3.10.3).
 abbrev pub fits_request : Bool → Option ℕ → Bool
 fits_request false options = not (is_some options)
 fits_request true options = is_there are_options options
@@ -97,7 +97,7 @@ valid_answer kind identifier list reasons =
 unfoldable pub valid_ending : EndingKind → ℕ → Listed → Bool
 valid_ending kind code list = same_place list.place (ending_place kind) && is_code (ending_codes kind) code
 
--- The packet is spelled by some bytes.
+-- Some bytes spell the packet.
 abbrev pub valid : Entry → Bool
 valid (connect fields) = valid_connect fields
 valid (connack session_present code list) = valid_connack code list
@@ -110,8 +110,8 @@ valid pingresp = true
 valid (disconnect code list) = valid_ending endings.Disconnect code list
 valid (auth code list) = valid_ending endings.Auth code list
 
--- What the types of the fields say of any packet, valid or not: a property list may stand in its own place and isn't longer
--- than a length can say, a text is UTF-8, and a number has its width.
+-- What the types of the fields say of any packet, valid or not: a property list is valid in its own place and isn't longer than
+-- a length can say, a text is UTF-8, and a number has its width.
 pub record IsListed (list : Listed) : Type 0 where
   pub allowed : AreAllowed list.place list.items
   pub bound : IsVarint (length (properties_spelling list.items))

@@ -7,11 +7,11 @@ ghost use Rattle.mq_packet.specs.Frames.{BeginsWithFrame, cut_of};
 use super::frame::Cut;
 use super::header::{FixedHeader, fixed_header};
 
-/// The packet at the front of the bytes: `Frame` exactly where they begin with a whole one, `Lost` exactly where they aren't
-/// empty and no variable byte integer can stand after the first of them, else `Need` (MQTT 5.0, section 2.1).
+/// The packet at the front of the bytes: `Frame` exactly if they begin with a whole one, `Lost` exactly if the Remaining Length
+/// after the first byte is invalid, else `Need` (MQTT 5.0, sections 2.1 and 1.5.5).
 #[tactic(auto, using(crate::proofs::FrameLaws::lost_exactly))]
 pub fn cut(bytes: &[u8]) -> Cut
-    // A frame is answered exactly where the bytes begin with one.
+    // A frame is returned exactly if the bytes begin with one.
     ensures frame { (first start end : ℕ) → (result ≡ Cut.Frame first start end) ↔ BeginsWithFrame bytes.now first start end }
     ensures lost { (result ≡ Cut.Lost) ↔ (is_lost bytes.now ≡ true) }
     ensures exact { result ≡ cut_of bytes.now }

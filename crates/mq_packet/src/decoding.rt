@@ -1,7 +1,7 @@
-//! What a packet's bytes say.
+//! Decoding a packet's bytes.
 //!
-//! A packet is large, and what is inlined doesn't move it: so are `decode` and the readers of the packets that are read most. The
-//! others stay out of the way.
+//! A packet is large, and an inlined function doesn't move it: so `decode` and the readers of the most frequent packets are inlined,
+//! and the others are functions of their own.
 
 ghost use Rattle.std.specs.Prelude.{◌≡◌, ◌≤◌, ◌<◌, ℕ, IfOk, IfErr, Some, Result, length};
 ghost use Rattle.mq_packet.specs.declared.fault.DecodeFault.{DecodeFault};
@@ -22,22 +22,22 @@ use crate::reading::{read_packet, read_publish};
 use crate::stop::Stop;
 use mq_wire::Cursor;
 
-/// The packet that has this first byte, which is its type and flags, and this body, which is what stands after the
-/// Remaining Length (MQTT 5.0, sections 2.1 and 3.1 to 3.15).
+/// The packet that has this first byte, its type and flags, and this body, which is all that follows the Remaining Length
+/// (MQTT 5.0, sections 2.1 and 3.1 to 3.15). A body has at most 268,435,455 bytes (MQTT 5.0, section 2.1.4). Nothing is
+/// copied, and no memory is taken.
 ///
-/// The fields are looked at in their order, each of them first for its spelling and then for its value, and the first that
-/// isn't right decides: `Broken` where it breaks a rule on a packet's bytes, with its place, `OtherVersion` where it is the
-/// version of a CONNECT and another than 5. Last, no bytes may be left over. A body has at most 268,435,455 bytes
-/// (MQTT 5.0, section 2.1.4). Nothing is copied, and no memory is taken.
+/// The fields are checked in their order, for each first its spelling and then its value, and the first invalid one decides:
+/// `Broken` if it breaks a rule on a packet's bytes, with its offset, `OtherVersion` if it is the version of a CONNECT and
+/// isn't 5. Last, no bytes may be left over.
 #[inline(always)]
 pub fn decode<'a>(first: u8, body: &'a [u8]) -> Result<Packet<'a>, DecodeFault>
     requires { length body.now ≤ 268435455 }
-    // A packet is answered only where these bytes spell it, and a fault only where they have it.
+    // A packet is returned only if these bytes spell it, and a fault only if they have it.
     ensures packet { IfOk result (λ packet. IsSpelled first body.now (view packet)) }
     ensures fault { IfErr result (λ fault. HasFault first body.now fault) }
-    // A packet that they spell is answered, and so is a fault that they have.
+    // A packet that they spell is returned, and so is a fault that they have.
     ensures only { (outcome : Result Entry DecodeFault) → Comes first body.now outcome → Gives view result outcome }
-    // A packet that has several spellings keeps how long this one is.
+    // A packet that has several spellings keeps the length of this one.
     ensures read_len { IfOk result (λ packet. HasReadLen (length body.now) packet) }
     // Its size is that of what it was read from: its Remaining Length is the length of this body.
     ensures size { IfOk result (λ packet. remaining_length packet ≡ length body.now) }
@@ -60,8 +60,8 @@ fn read_body<'a>(first: u8, body: &'a [u8]) -> Result<Packet<'a>, DecodeFault>
     }
 }
 
-/// The PUBLISH that has this first byte and this body (MQTT 5.0, section 3.3): the packet that [`decode`] answers for them, or the
-/// fault. No other packet takes room where a PUBLISH is read by it.
+/// The PUBLISH that has this first byte and this body (MQTT 5.0, section 3.3): the packet that [`decode`] returns for them, or the
+/// fault. It takes no stack for other packets.
 #[inline(always)]
 pub fn decode_publish<'a>(first: u8, body: &'a [u8]) -> Result<Publish<'a>, DecodeFault>
     requires from { 48 ≤ first }
@@ -88,7 +88,7 @@ fn read_publish_body<'a>(first: u8, body: &'a [u8]) -> Result<Publish<'a>, Decod
     }
 }
 
-// The fault of a packet whose reading stops so. No place is past the end of the largest packet.
+// The fault of a packet whose reading stops for this reason. No offset is past the end of the largest packet.
 #[inline(always)]
 fn fault_of(stop: Stop) -> DecodeFault
     requires { (at : ℕ) (rule : PacketRule) → stop ≡ stops.Broken at rule → at ≤ 268435460 }

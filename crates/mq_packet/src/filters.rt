@@ -10,7 +10,7 @@ use crate::reading::check_filters;
 use mq_wire::Cursor;
 use std::marker::Model;
 
-/// The filters of a SUBSCRIBE or UNSUBSCRIBE: one at least, each of which may be (MQTT 5.0, sections 3.8.3, 3.10.3 and 4.7). A
+/// The filters of a SUBSCRIBE or UNSUBSCRIBE: at least one, each of them valid (MQTT 5.0, sections 3.8.3, 3.10.3 and 4.7). A
 /// contract sees them as a list.
 #[derive(Debug, Drop)]
 pub struct Filters<'a> {
@@ -23,7 +23,7 @@ pub struct Filters<'a> {
 pub struct Filter<'a> {
     /// The Topic Filter.
     pub filter: &'a str,
-    /// The Subscription Options, which stand in a SUBSCRIBE alone (MQTT 5.0, section 3.8.3.1). Bits 1 and 0 are the Maximum
+    /// The Subscription Options, which only a SUBSCRIBE has (MQTT 5.0, section 3.8.3.1). Bits 1 and 0 are the Maximum
     /// QoS, 0 to 2; bit 2 is No Local; bit 3 is Retain As Published; bits 5 and 4 are Retain Handling, 0 to 2; bits 7 and 6 are
     /// 0.
     pub options: Option<u8>,
@@ -45,11 +45,11 @@ impl<'a> Model for Filters<'a> {
 impl<'a> Filters<'a> {
     ghost use Rattle.mq_packet.specs.Asking.{AreFilters};
 
-    /// The filters that the bytes spell, one after another: each with its Subscription Options after it where `options` is
-    /// true, as in a SUBSCRIBE, and without where it is false, as in an UNSUBSCRIBE (MQTT 5.0, sections 3.8.3 and 3.10.3).
+    /// The filters that the bytes spell, one after another: each with its Subscription Options after it if `options` is true, as
+    /// in a SUBSCRIBE, and without if it is false, as in an UNSUBSCRIBE (MQTT 5.0, sections 3.8.3 and 3.10.3).
     ///
-    /// None where the bytes spell no such filters: where there are none at all, where one isn't spelled or may not be, where
-    /// options are missing or may not be, or where something is left over.
+    /// `None` if the bytes don't spell such filters: if there are none, if one is misspelled or invalid, if options are missing
+    /// or invalid, or if something is left over.
     #[tactic(auto, using(crate::proofs::FilterLaws::filters_spelled, crate::proofs::FilterLaws::filters_asked))]
     pub fn of(bytes: &'a [u8], options: bool) -> Option<Filters<'a>>
         ensures some { IfSome result (λ filters. (bytes.entry.now ≡ filters_spelling filters) × AreAsked options filters) }
@@ -77,7 +77,7 @@ impl<'a> Filters<'a> {
         self.options
     }
 
-    /// The bytes that spell the filters, one after another. Filters have one spelling.
+    /// The bytes that spell the filters, one after another. Filters have exactly one spelling.
     #[tactic(auto, using(crate::proofs::FilterLaws::filters_spelled, crate::proofs::FilterLaws::filters_asked))]
     pub fn as_bytes(&self) -> &'a [u8]
         ensures spelled { result.now ≡ filters_spelling self.now }
@@ -119,7 +119,7 @@ impl<'a> Model for FiltersIter<'a> {
     ghost invariant = { λ s. AreListed s.options s.cursor.rest };
 }
 
-// The filter at the front of what is left, if one stands there.
+// The filter at the front of what is left, if there is one.
 #[tactic(auto, unfolding(crate::specs::Elements::asked_at))]
 fn filter_at<'a>(cursor: &mut Cursor<'a>, options: bool) -> Option<Filter<'a>>
     ensures { MatchOption result (asked_at options cursor.old.rest ≡ None) (λ f. asked_at options cursor.old.rest ≡ Some (filter_view f, cursor.new.rest)) }
@@ -142,7 +142,7 @@ fn filter_at<'a>(cursor: &mut Cursor<'a>, options: bool) -> Option<Filter<'a>>
     })
 }
 
-// The next filter, if one stands at the front of what is left. With none, nothing is left.
+// The next filter at the front of what is left; none only if nothing is left.
 fn next_filter<'a>(cursor: &mut Cursor<'a>, options: bool) -> Option<Filter<'a>>
     requires { AreListed options cursor.now.rest }
     ensures listed { AreListed options cursor.new.rest }

@@ -4,7 +4,7 @@
 ghost use Rattle.std.specs.Prelude.{◌≡◌};
 ghost use Rattle.mq_packet.specs.FirstBytes.{flags_in};
 
-/// CONNECT, with the flags that are reserved for it, as each but PUBLISH has here.
+/// CONNECT, with the flags that are reserved for it, as for each type here except PUBLISH.
 pub const CONNECT: u8 = 0x10;
 
 /// CONNACK.

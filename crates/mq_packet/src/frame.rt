@@ -1,6 +1,6 @@
-//! Where the packet at the front of a stream lies.
+//! Where the packet at the front of a stream is.
 
-/// What stands at the front of a stream of packets (MQTT 5.0, section 2.1).
+/// What is at the front of a stream of packets (MQTT 5.0, section 2.1).
 #[derive(Clone, Copy, Debug, PartialEq, Eq)]
 pub enum Cut {
     /// No whole packet yet: more bytes are needed.

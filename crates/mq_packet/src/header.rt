@@ -11,7 +11,7 @@ use mq_wire::{Cursor, Reason, varint_len};
 pub enum FixedHeader {
     /// The bytes end before the Remaining Length does.
     Short,
-    /// The Remaining Length is no variable byte integer (MQTT 5.0, section 1.5.5): the stream can't be cut into packets.
+    /// The Remaining Length is invalid (MQTT 5.0, section 1.5.5): the rest of the stream can't be parsed.
     Lost,
     /// The fixed header is whole.
     Whole {
@@ -22,8 +22,8 @@ pub enum FixedHeader {
     },
 }
 
-/// The fixed header at the front of the bytes: it is `Short` where the Remaining Length has still to come, and `Lost` where
-/// no further bytes could make it a variable byte integer (MQTT 5.0, section 2.1.4).
+/// The fixed header at the front of the bytes: it is `Short` if the Remaining Length isn't complete yet, and `Lost` if no further
+/// bytes could make it a Variable Byte Integer (MQTT 5.0, section 2.1.4).
 #[tactic(auto, using(crate::proofs::Lengths::number_length), unfolding(crate::specs::Stream::fixed_header_of))]
 pub fn fixed_header(bytes: &[u8]) -> FixedHeader
     ensures exact { result ≡ fixed_header_of bytes.now }

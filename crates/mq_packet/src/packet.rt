@@ -12,11 +12,11 @@ pub enum Qos {
     AtMostOnce,
     /// QoS 1: answered by a PUBACK.
     AtLeastOnce,
-    /// QoS 2: answered by a PUBREC, and settled by PUBREL and PUBCOMP.
+    /// QoS 2: answered by a PUBREC, and completed by PUBREL and PUBCOMP.
     ExactlyOnce,
 }
 
-/// What is published for a client that is gone (MQTT 5.0, section 3.1.2.5).
+/// A message that the server publishes when the client is gone (MQTT 5.0, section 3.1.2.5).
 #[derive(Debug, Drop)]
 pub struct Will<'a> {
     /// Its Quality of Service.
@@ -64,15 +64,15 @@ pub struct Connack<'a> {
 /// PUBLISH (MQTT 5.0, section 3.3).
 #[derive(Debug, Drop)]
 pub struct Publish<'a> {
-    /// The DUP flag: set where the packet is sent again.
+    /// The DUP flag: set if the packet is sent again.
     pub duplicate: bool,
     /// The Quality of Service.
     pub qos: Qos,
     /// The RETAIN flag.
     pub retain: bool,
-    /// The Topic Name: empty where a Topic Alias stands for it.
+    /// The Topic Name: empty if a Topic Alias stands for it.
     pub topic: &'a str,
-    /// The Packet Identifier, which stands exactly where the QoS is above 0.
+    /// The Packet Identifier, which is there exactly if the QoS is above 0.
     pub identifier: Option<u16>,
     /// The properties.
     pub properties: Props<'a>,
@@ -89,7 +89,7 @@ pub struct Acknowledgement<'a> {
     pub code: u8,
     /// The properties.
     pub properties: Props<'a>,
-    /// The body's length as it was read, which may be more than it need be; None where the packet is made.
+    /// The body's length as it was read, which may be longer than needed; `None` if the packet wasn.t read.
     pub read_len: Option<u32>,
 }
 
@@ -122,7 +122,7 @@ pub struct Ending<'a> {
     pub code: u8,
     /// The properties.
     pub properties: Props<'a>,
-    /// The body's length as it was read, which may be more than it need be; None where the packet is made.
+    /// The body's length as it was read, which may be longer than needed; `None` if the packet wasn.t read.
     pub read_len: Option<u32>,
 }
 
@@ -151,7 +151,7 @@ pub enum Packet<'a> {
     Unsubscribe(Request<'a>),
     /// The answer to an UNSUBSCRIBE.
     Unsuback(Answer<'a>),
-    /// A client shows that it is there.
+    /// A client shows that it is alive.
     Pingreq,
     /// The answer to a PINGREQ.
     Pingresp,
@@ -218,7 +218,7 @@ pub enum RequestKind {
     Unsubscribe,
 }
 
-/// The two packets that have a Reason Code and properties alone (MQTT 5.0, sections 3.14 and 3.15).
+/// The two packets that have only a Reason Code and properties (MQTT 5.0, sections 3.14 and 3.15).
 #[derive(Clone, Copy, Debug, PartialEq, Eq)]
 pub enum EndingKind {
     /// DISCONNECT.

@@ -1,4 +1,4 @@
-//! Readers of packets, each held to its format (MQTT 5.0, sections 3.1 to 3.15).
+//! Readers of packets, each proved against its format (MQTT 5.0, sections 3.1 to 3.15).
 
 mod acknowledgement;
 mod answer;
@@ -33,9 +33,9 @@ use mq_wire::Cursor;
 pub use publish::{names_topic, read_publish};
 pub use request::read_request;
 
-/// The packet with this first byte whose body, of this size, is left in the cursor; or where the reading of it stops. But for
-/// PUBLISH, whose first byte has flags of its own, each type has one first byte (MQTT 5.0, sections 2.1.2 and 2.1.3). A packet
-/// that has several spellings keeps the size (MQTT 5.0, sections 3.4 to 3.7, 3.14 and 3.15).
+/// The packet with this first byte, whose body, of this size, is left in the cursor; or why reading it stops. Each type has one
+/// first byte, except PUBLISH, which has flags of its own (MQTT 5.0, sections 2.1.2 and 2.1.3). A packet that has several
+/// spellings keeps the size (MQTT 5.0, sections 3.4 to 3.7, 3.14 and 3.15).
 #[inline(always)]
 pub fn read_packet<'a>(first: u8, cursor: Cursor<'a>, size: usize) -> Result<Packet<'a>, Stop>
     requires bound { size ≤ 268435455 }
@@ -56,13 +56,13 @@ pub fn read_packet<'a>(first: u8, cursor: Cursor<'a>, size: usize) -> Result<Pac
         PUBCOMP => read_acknowledgement(cursor, AcknowledgementKind::Pubcomp, size).map(
             Packet::Pubcomp,
         ),
-        // Taken apart and put together, this packet has its own place, and the others need none in memory.
+        // Unwrapping and wrapping the result gives this packet a place of its own, so that the others need none here.
         _ => Ok(read_other(first, cursor, size)?),
     }
 }
 
-// The same for all but PUBLISH and what acknowledges one. It stays apart, so that those who read these have no room to make for
-// its packets.
+// The same for all packets except PUBLISH and its acknowledgements. It is a function of its own, so that reading those takes no
+// stack for its packets.
 #[inline(never)]
 fn read_other<'a>(first: u8, cursor: Cursor<'a>, size: usize) -> Result<Packet<'a>, Stop>
     requires bound { size ≤ 268435455 }

@@ -31,7 +31,7 @@ pub enum PacketRule {
     W13,
     /// A Topic Name, and the Response Topic of a PUBLISH, has no wildcard (MQTT 5.0, section 3.3.2).
     W14,
-    /// A Topic Filter is one that may be (MQTT 5.0, section 4.7).
+    /// A Topic Filter is valid (MQTT 5.0, section 4.7).
     W15,
     /// A SUBSCRIBE or UNSUBSCRIBE has a filter (MQTT 5.0, sections 3.8.3 and 3.10.3).
     W16,

@@ -1,4 +1,4 @@
-//! Why the reading of a packet stops.
+//! Why a packet could not be decoded.
 
 ghost use Rattle.std.specs.Prelude.{◌≡◌};
 ghost use Rattle.mq_packet.specs.Decoding.{rule_of, list_rule};
@@ -7,21 +7,21 @@ use crate::rule::PacketRule;
 use mq_props::{PropFault, PropReason};
 use mq_wire::{Reason, WireFault};
 
-/// Why the reading of a packet stops before it is whole.
+/// Why a packet could not be decoded.
 #[derive(Clone, Copy, Debug)]
 pub enum Stop {
     /// A field breaks a rule.
     Broken {
-        /// Where the field begins, counted from the packet's first byte, which is 0.
+        /// The offset of the field in the packet.
         at: usize,
         /// The rule that the field breaks.
         rule: PacketRule,
     },
-    /// It is a CONNECT of another protocol version, which it names (MQTT 5.0, section 3.1.2.2).
+    /// It is a CONNECT of this other protocol version (MQTT 5.0, section 3.1.2.2).
     OtherVersion(u8),
 }
 
-// The rule that a field breaks which isn't spelled as its kind asks.
+// The rule that a misspelled field breaks.
 fn wire_rule(reason: Reason) -> PacketRule
     ensures { result ≡ rule_of reason }
 {

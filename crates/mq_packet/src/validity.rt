@@ -103,7 +103,7 @@ fn is_connack(packet: &Connack<'_>) -> bool
     stands_in(&packet.properties, Place::Connack) && is_code(&CONNACK_CODES, packet.code)
 }
 
-// A Packet Identifier stands exactly where the QoS is above 0, where alone a PUBLISH may be sent again.
+// A PUBLISH has a Packet Identifier exactly if its QoS is above 0, and only then may it have DUP 1.
 fn fits_qos(duplicate: bool, qos: Qos, identifier: Option<u16>) -> bool
     ensures { result ≡ fits_qos duplicate qos identifier }
 {
@@ -142,7 +142,7 @@ fn is_acknowledgement(kind: AcknowledgementKind, packet: &Acknowledgement<'_>) -
         && is_code(kind.codes(), packet.code)
 }
 
-// The filters have options exactly where they are asked for.
+// The filters have options exactly if they are asked for.
 #[tactic(auto, using(crate::proofs::RequestLaws::filters_fit))]
 fn are_filters(asks: bool, filters: &Filters<'_>) -> bool
     ensures { result ≡ valid_filters asks filters.now }
@@ -191,8 +191,8 @@ fn passes(packet: &Packet<'_>) -> bool
 
 /// Whether some bytes spell the packet (MQTT 5.0, sections 3.1 to 3.15): its property lists are those of its type, its texts
 /// have at most 65,535 bytes and no U+0000, its binary data has at most 65,535 bytes, its Packet Identifier isn't 0 and is there
-/// where it must be, its Reason Codes are of its type, its Topic Name has no wildcard and isn't missing, and its filters have
-/// options exactly where it is a SUBSCRIBE. `decode` gives only such packets.
+/// exactly if it must be, its Reason Codes are of its type, its Topic Name has no wildcard and isn't missing, and its filters
+/// have options exactly if it is a SUBSCRIBE. `decode` returns only such packets.
 pub fn is_valid(packet: &Packet<'_>) -> bool
     ensures exact { result ≡ valid (view packet.now) }
     ensures spelled { (result ≡ true) ↔ ((first : ℕ) × (body : List ℕ) × IsSpelled first body (view packet.now)) }

@@ -42,7 +42,7 @@ fn put_packet(out: &mut Vec<u8>, packet: &Packet<'_>, len: u32) -> Result<(), Pu
     put_body(out, packet)
 }
 
-// How many bytes the packet has, whose body has this length.
+// How many bytes the packet has, if its body has this length.
 #[tactic(auto, using(crate::proofs::GrowingLaws::written_length))]
 fn written_len(packet: &Packet<'_>, len: u32) -> usize
     requires len { len ≡ length (canonical_body (view packet.now)) }
@@ -73,14 +73,14 @@ fn spelling_facts(packet: &Packet<'_>)
     packet_facts(packet);
 }
 
-/// Appends the packet's bytes (MQTT 5.0, sections 2.1 and 3.1 to 3.15). It must be one that some bytes spell, as `is_valid`
-/// tells. Where several spellings are there, the shortest is written: a PUBACK, PUBREC, PUBREL, PUBCOMP, DISCONNECT or AUTH of
-/// Reason Code 0x00 without properties ends before its code, and without properties any but an AUTH ends after its code.
+/// Appends the packet's bytes (MQTT 5.0, sections 2.1 and 3.1 to 3.15). The packet must be valid (see `is_valid`). If it has
+/// several spellings, the shortest is written: a PUBACK, PUBREC, PUBREL, PUBCOMP, DISCONNECT or AUTH of Reason Code 0x00 without
+/// properties ends before its code, and without properties each of these except an AUTH ends after its code.
 ///
 /// # Errors
 ///
-/// `TooLong` exactly where the Remaining Length would be over 268,435,455; else `Memory` only where the vector has no room for
-/// the packet and couldn't grow. The vector is unchanged then.
+/// `TooLong` exactly if the Remaining Length would be over 268,435,455; else `Memory` only if the vector has no room for the
+/// packet and couldn't grow. The vector is then unchanged.
 pub fn encode(packet: &Packet<'_>, out: &mut Vec<u8>) -> Result<(), EncodeFault>
     requires valid { valid (view packet.now) ≡ true }
     ensures ok { OnOk result (out.new.items ≡ out.old.items ++ canonical (view packet.now)) }

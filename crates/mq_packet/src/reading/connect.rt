@@ -35,7 +35,7 @@ const PASSWORD: u8 = 0x40;
 /// The User Name Flag (MQTT 5.0, section 3.1.2.8).
 const USER_NAME: u8 = 0x80;
 
-// Whether these may be Connect Flags.
+// Whether these are valid Connect Flags.
 fn are_flags(flags: u8) -> bool
     ensures { result ≡ are_connect_flags flags }
 {
@@ -114,7 +114,7 @@ fn read_password<'a>(cursor: &mut Cursor<'a>, flags: u8) -> Result<Option<&'a [u
 ///
 /// # Errors
 ///
-/// The first rule that a field breaks: W06, W18, W19, one of a text or of a property list; or the version, where it isn't 5.
+/// The first rule that a field breaks: W06, W18, W19, one of a text or of a property list; or the version, if it isn't 5.
 #[inline(never)]
 pub fn read_connect<'a>(mut cursor: Cursor<'a>) -> Result<Connect<'a>, Stop>
     ensures { Reads (λ p. connect (connect_view p)) result (read connect_format cursor.entry) }

@@ -1,4 +1,4 @@
-//! Readers of fields: first a field's spelling counts, then its value.
+//! Readers of fields: first a field's spelling is checked, then its value.
 
 ghost use Rattle.std.specs.Prelude.{◌≡◌, IfOk};
 ghost use Rattle.mq_packet.specs.Entries.{Entry, listed};
@@ -45,7 +45,7 @@ pub fn whole<P: Drop>(cursor: Cursor<'_>, packet: P) -> Result<P, Stop>
 ///
 /// # Errors
 ///
-/// A rule of texts, and W18 where it is another name.
+/// A rule of texts, and W18 if it is another name.
 pub fn protocol_name<'a>(cursor: &mut Cursor<'a>) -> Result<&'a str, Stop>
     ensures { Takes (λ name. name.now) result (read_field text name_objection cursor.old) cursor.new }
 {
@@ -64,7 +64,7 @@ pub fn protocol_name<'a>(cursor: &mut Cursor<'a>) -> Result<&'a str, Stop>
 ///
 /// # Errors
 ///
-/// W06 where none is left, and the version where it is another.
+/// W06 if no byte is left, and the version if it isn't 5.
 pub fn protocol_version(cursor: &mut Cursor<'_>) -> Result<u8, Stop>
     ensures { Takes (λ n. n) result (read_field byte version_objection cursor.old) cursor.new }
 {
@@ -79,7 +79,7 @@ pub fn protocol_version(cursor: &mut Cursor<'_>) -> Result<u8, Stop>
 ///
 /// # Errors
 ///
-/// W06 where less than two bytes are left, and W09 where it is 0.
+/// W06 if fewer than two bytes are left, and W09 if it is 0.
 #[inline(always)]
 pub fn packet_identifier(cursor: &mut Cursor<'_>) -> Result<u16, Stop>
     ensures { Takes (λ n. n) result (read_field two_bytes identifier_objection cursor.old) cursor.new }
@@ -99,7 +99,7 @@ pub fn packet_identifier(cursor: &mut Cursor<'_>) -> Result<u16, Stop>
 ///
 /// # Errors
 ///
-/// W06 where none is left, and W13 where it isn't in the table.
+/// W06 if no byte is left, and W13 if it isn't in the table.
 pub fn reason_code(cursor: &mut Cursor<'_>, table: &[u8]) -> Result<u8, Stop>
     ensures { Takes (λ n. n) result (read_field byte (code_objection table.now) cursor.old) cursor.new }
 {
@@ -118,7 +118,7 @@ pub fn reason_code(cursor: &mut Cursor<'_>, table: &[u8]) -> Result<u8, Stop>
 ///
 /// # Errors
 ///
-/// The rule that its first bad field breaks, there: W03 to W06, W10 to W12, W14.
+/// The rule that its first invalid field breaks, at that field: W03 to W06, W10 to W12, W14.
 #[inline(always)]
 pub fn property_list<'a>(cursor: &mut Cursor<'a>, place: Place) -> Result<Props<'a>, Stop>
     ensures list { Takes (λ list. list.items) result (read_field (properties place) any_value cursor.old) cursor.new }
@@ -132,7 +132,7 @@ pub fn property_list<'a>(cursor: &mut Cursor<'a>, place: Place) -> Result<Props<
 ///
 /// # Errors
 ///
-/// The rule that its first bad field breaks, there, and W06 at a byte after the list.
+/// The rule that its first invalid field breaks, at that field, and W06 at a byte after the list.
 pub fn last_properties<'a>(mut cursor: Cursor<'a>, place: Place) -> Result<Props<'a>, Stop>
     ensures { (packet : Listed → Entry) → Reads packet result (read (last_properties place packet) cursor.entry) }
 {
@@ -153,7 +153,7 @@ pub fn last_properties<'a>(mut cursor: Cursor<'a>, place: Place) -> Result<Props
 ///
 /// # Errors
 ///
-/// A rule of texts, and W14 where it has a wildcard.
+/// A rule of texts, and W14 if it has a wildcard.
 #[inline(always)]
 #[tactic(auto, using(crate::proofs::FieldLaws::plain_topic))]
 pub fn topic_name<'a>(cursor: &mut Cursor<'a>) -> Result<&'a str, Stop>
@@ -165,7 +165,7 @@ pub fn topic_name<'a>(cursor: &mut Cursor<'a>) -> Result<&'a str, Stop>
     }
 }
 
-// The same, of any bytes. It stays apart, so that a plain Topic Name, as most are, is read where it is wanted.
+// The same for any bytes. It is a function of its own, so that the call for a plain Topic Name, the usual case, is inlined.
 #[inline(never)]
 fn any_topic_name<'a>(cursor: &mut Cursor<'a>) -> Result<&'a str, Stop>
     ensures { Takes (λ topic. topic.now) result (read_field text topic_objection cursor.old) cursor.new }
@@ -181,7 +181,7 @@ fn any_topic_name<'a>(cursor: &mut Cursor<'a>) -> Result<&'a str, Stop>
     Ok(topic)
 }
 
-/// Whether a filter is one that may be (MQTT 5.0, section 4.7.1).
+/// Whether a filter is valid (MQTT 5.0, section 4.7.1).
 pub fn is_topic_filter(filter: &str) -> bool
     ensures { result ≡ is_filter filter.now }
 {
@@ -192,7 +192,7 @@ pub fn is_topic_filter(filter: &str) -> bool
 ///
 /// # Errors
 ///
-/// A rule of texts, and W15 where it may not be.
+/// A rule of texts, and W15 if it is invalid.
 pub fn topic_filter<'a>(cursor: &mut Cursor<'a>) -> Result<&'a str, Stop>
     ensures { Takes (λ filter. filter.now) result (read_field text filter_objection cursor.old) cursor.new }
 {

@@ -57,12 +57,12 @@ fn asked_filter<'a>(cursor: &mut Cursor<'a>, asks: bool) -> Result<Filter<'a>, S
     Ok(Filter { filter, options })
 }
 
-/// Whether all that is left are the filters of a body, one at least, each with options if they are asked for (MQTT 5.0, sections
-/// 3.8.3 and 3.10.3).
+/// Checks that all that is left are the filters of a body, at least one, each with options if they are asked for (MQTT 5.0,
+/// sections 3.8.3 and 3.10.3).
 ///
 /// # Errors
 ///
-/// The first rule that a field breaks: one of texts, W06, W15, W17; and W16 where there is no filter.
+/// The first rule that a field breaks: one of texts, W06, W15, W17; and W16 if there is no filter.
 pub fn check_filters(mut cursor: Cursor<'_>, asks: bool) -> Result<(), Stop>
     requires { AreBytes cursor.rest }
     ensures { MatchResult result (λ _. AreRead asks cursor.entry) (λ stop. filters_on asks cursor.entry ≡ Err (fault_of stop)) }
@@ -97,7 +97,7 @@ pub fn filter_list<'a>(cursor: Cursor<'a>, asks: bool) -> Result<Filters<'a>, St
 ///
 /// # Errors
 ///
-/// W13 at the first that isn't in the table.
+/// W13 at the first byte that isn't in the table.
 pub fn code_list<'a>(cursor: Cursor<'a>, table: &[u8]) -> Result<Codes<'a>, Stop>
     ensures { Reads (λ codes. codes) result (codes_on table.now cursor.entry) }
 {

@@ -28,8 +28,8 @@ const RETAIN: u8 = 0x01;
 ///
 /// # Errors
 ///
-/// W07 or W08 where the flags break it; else the first rule that a field breaks: a rule of texts, W06, W09, W14, W21, or one
-/// of its property list.
+/// W07 or W08 if the flags break it; else the first rule that a field breaks: a rule of texts, W06, W09, W14, W21, or one of
+/// its property list.
 #[inline(always)]
 pub fn read_publish<'a>(flags: u8, cursor: Cursor<'a>) -> Result<Publish<'a>, Stop>
     ensures { Reads (λ p. publish (publish_view p)) result (read (publish_format flags) cursor.entry) }

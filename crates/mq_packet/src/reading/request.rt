@@ -16,7 +16,7 @@ use mq_wire::Cursor;
 ///
 /// # Errors
 ///
-/// The first rule that a field breaks: a rule of texts, W06, W09, W15, W17, one of its property list; and W16 where it has no
+/// The first rule that a field breaks: a rule of texts, W06, W09, W15, W17, one of its property list; and W16 if it has no
 /// filter.
 #[inline(never)]
 pub fn read_request<'a>(mut cursor: Cursor<'a>, kind: RequestKind) -> Result<Request<'a>, Stop>

@@ -1,5 +1,5 @@
-//! Each packet, cut short at each of its bytes and with each of them changed: what `decode` answers is a packet that is written
-//! and read as itself, or a fault that lies in the packet.
+//! Each packet, cut short at each of its bytes and with each of them changed: `decode` returns a packet that is written and read
+//! as itself, or a fault whose offset is in the packet.
 
 use super::packets::{PACKETS, whole, written};
 use crate::*;
@@ -12,7 +12,7 @@ const MAX_BODY: usize = 1_000;
 // What one byte is changed to.
 const VALUES: [u8; 4] = [0x00, 0x7f, 0x80, 0xff];
 
-// Whether the packet is written as bytes that are one of its type, which is written so too.
+// Whether the packet is written as bytes that are a packet of its type, which is written as the same bytes.
 fn comes_back(alloc: Global, packet: &Packet<'_>) -> Result<bool, Fail> {
     let bytes = written(alloc, packet)?;
     let Cut::Frame {
@@ -35,7 +35,7 @@ fn comes_back(alloc: Global, packet: &Packet<'_>) -> Result<bool, Fail> {
     }
 }
 
-// Whether what is said of the packet at the front of the bytes may be.
+// Whether that holds of the packet at the front of the bytes.
 fn is_well_told(alloc: Global, bytes: &[u8]) -> Result<bool, Fail> {
     let Cut::Frame {
         first,

@@ -1,4 +1,4 @@
-//! Which of its spellings a packet is written by, and its size.
+//! Which of its spellings is written for a packet, and its size.
 
 use super::packets::is_written_as;
 use crate::*;
@@ -40,7 +40,7 @@ fn bare<'a>(kind: PacketType, code: u8) -> Option<Packet<'a>> {
     }
 }
 
-// Whether that packet is written as these bytes, and knows their number.
+// Whether that packet is written as these bytes, and its size is their number.
 fn is_written_short(alloc: Global, kind: PacketType, code: u8, bytes: &[u8]) -> Result<bool, Fail> {
     let packet = bare(kind, code).ok_or("no such packet")?;
     let size = Some(u32::try_from(bytes.len())?);
@@ -73,7 +73,7 @@ fn shortest_spellings(rt: HostRuntime) -> Result<(), Fail> {
     Ok(())
 }
 
-// Whether this first byte and body are of a packet that is written as these bytes.
+// Whether this first byte and body are those of a packet that is written as these bytes.
 fn is_read_as(alloc: Global, first: u8, body: &[u8], bytes: &[u8]) -> Result<bool, Fail> {
     if body.len() > MAX_BODY {
         return Ok(false);
@@ -84,7 +84,7 @@ fn is_read_as(alloc: Global, first: u8, body: &[u8], bytes: &[u8]) -> Result<boo
     }
 }
 
-// What was read in a longer spelling, or in one without the properties' length, is written as the others are.
+// What was read in a longer spelling, or in one without the properties' length, is written in the usual one.
 #[test]
 fn spellings_that_were_read(rt: HostRuntime) -> Result<(), Fail> {
     let rows: [(u8, &[u8], &[u8]); 3] = [
@@ -114,7 +114,7 @@ fn whole_spellings(rt: HostRuntime) -> Result<(), Fail> {
     Ok(())
 }
 
-// A CONNECT of a client's first words: no Will, no User Name, no Password.
+// A minimal CONNECT: no Will, no User Name, no Password.
 #[test]
 fn least_connect(rt: HostRuntime) -> Result<(), Fail> {
     let packet = Packet::Connect(Connect {

@@ -1,4 +1,4 @@
-//! What the faults show as.
+//! The messages of the faults.
 
 use crate::*;
 use std::alloc::Global;

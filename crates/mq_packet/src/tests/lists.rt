@@ -23,12 +23,12 @@ fn bytes_as_filters(rt: HostRuntime) {
         (&[0, 1, b'a'], true, None),
         (&[0, 1, b'a', 0, 0, 1, b'b'], true, None),
         (&[0, 1, b'a', 0], false, None),
-        // filters that aren't spelled
+        // misspelled filters
         (&[0], false, None),
         (&[0, 2, b'a'], false, None),
         (&[0, 1, 0xFF], false, None),
         (&[0, 1, 0], false, None),
-        // filters that may not be
+        // invalid filters
         (&[0, 0], false, None),
         (&[0, 2, b'a', b'#'], false, None),
         (&[0, 1, b'a', 0, 2, b'+', b'b'], false, None),

@@ -177,7 +177,7 @@ pub fn written(alloc: Global, packet: &Packet<'_>) -> Result<Vec<u8>, Fail> {
     Ok(out)
 }
 
-/// Whether the packet is written as these bytes, after what stood there.
+/// Whether the packet is written as these bytes, after what the vector had.
 pub fn is_written_as(alloc: Global, packet: &Packet<'_>, bytes: &[u8]) -> Result<bool, Fail> {
     let before: &[u8] = &[7, 8];
     let mut out = Vec::new(alloc);

@@ -21,7 +21,7 @@ const PLACES: [Place; 14] = [
     Auth,
 ];
 
-// Each property with a value, and the lists that it may stand in, as the standard's table has them.
+// Each property with a value, and the lists that it is allowed in, as the standard's table has them.
 #[rattlefmt::skip]
 const PROPERTIES: [(&[u8], &[Place]); 27] = [
     (&[0x01, 1], &[Publish, Will]),
@@ -196,7 +196,7 @@ fn first_bad_field(rt: HostRuntime) {
     assert_eq!(rt; read(&[0, 9], Pubrel), (None, 1));
 }
 
-// Puts each of these into the list, and tells at which one the list first answers otherwise than stated.
+// Pushes each of these to the list, and returns the first one at which the result isn't the stated one.
 fn first_other(list: &mut PropsBuf, rows: &[(Prop<'_>, Result<(), PushFault>)]) -> Option<usize> {
     for (at, (prop, answer)) in rows.iter().enumerate() {
         if list.push(prop) != *answer {

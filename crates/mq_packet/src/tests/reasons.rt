@@ -1,5 +1,5 @@
-//! Which packets may carry each Reason Code, against the standard's list of all of them (MQTT 5.0, section 2.4), which goes by the
-//! code and not by the packet.
+//! Which packets may carry each Reason Code, against the standard's list of all of them (MQTT 5.0, section 2.4), which is by code
+//! and not by packet.
 
 ghost use Rattle.std.specs.Prelude.{◌≤◌, length};
 
@@ -103,7 +103,7 @@ fn is_listed(code: u8, kind: PacketType) -> bool {
         .any(|(listed, kinds)| *listed == code && kinds.contains(&kind))
 }
 
-// Whether the packet is read; or None where it is refused for anything but its Reason Code at this place.
+// Whether the packet is read; or None if it is refused for anything other than its Reason Code at this offset.
 fn is_taken(first: u8, body: &[u8], at: u32) -> Option<bool>
     requires { length body.now ≤ 268435455 }
 {
@@ -120,7 +120,7 @@ fn is_taken(first: u8, body: &[u8], at: u32) -> Option<bool>
     }
 }
 
-// A packet of each type that has a Reason Code, with this one, and the code's place.
+// Whether a packet of this type is read with this Reason Code; None if the type has no Reason Code.
 fn is_taken_in(kind: PacketType, code: u8) -> Option<bool> {
     match kind {
         Connack => is_taken(0x20, &[0x00, code, 0x00], 3),

@@ -1,4 +1,4 @@
-//! The rule that a body breaks, and where: one row for each rule, and others on the order in which they count.
+//! The rule that a body breaks, and where: one row for each rule, and others on the order in which they are checked.
 
 ghost use Rattle.std.specs.Prelude.{◌≤◌, length};
 
@@ -56,11 +56,11 @@ const EACH_RULE: [(u8, &[u8], u32, PacketRule); 21] = [
         7,
         W12,
     ),
-    // A Reason Code of none of its table.
+    // A Reason Code that isn't in the packet's table.
     (0x40, &[0x00, 0x01, 0x01], 4, W13),
     // A wildcard in a Topic Name.
     (0x30, &[0x00, 0x01, 0x23, 0x00], 2, W14),
-    // A filter that can't be.
+    // An invalid filter.
     (
         0x82,
         &[0x00, 0x01, 0x00, 0x00, 0x02, 0x61, 0x23, 0x00],
@@ -127,7 +127,7 @@ const OF_LISTS: [(u8, &[u8], u32, PacketRule); 7] = [
     (0xa2, &[0x00, 0x01, 0x00, 0x00, 0x00], 5, W15),
     // No filter to unsubscribe.
     (0xa2, &[0x00, 0x01, 0x00], 5, W16),
-    // A Reason Code of none of SUBACK's.
+    // A Reason Code that SUBACK doesn't have.
     (0x90, &[0x00, 0x01, 0x00, 0x03], 5, W13),
     // Retain Handling 3.
     (0x82, &[0x00, 0x01, 0x00, 0x00, 0x01, 0x61, 0x30], 8, W17),
@@ -165,11 +165,11 @@ const OF_CONNECTIONS: [(u8, &[u8], u32, PacketRule); 9] = [
         9,
         W19,
     ),
-    // A Reason Code of none of DISCONNECT's.
+    // A Reason Code that DISCONNECT doesn't have.
     (0xe0, &[0x01], 2, W13),
-    // A Reason Code of none of AUTH's.
+    // A Reason Code that AUTH doesn't have.
     (0xf0, &[0x04], 2, W13),
-    // A Reason Code of none of CONNACK's.
+    // A Reason Code that CONNACK doesn't have.
     (0x20, &[0x00, 0x01, 0x00], 3, W13),
     // A byte after the properties.
     (0x40, &[0x00, 0x01, 0x00, 0x00, 0x00], 6, W06),
@@ -208,11 +208,11 @@ fn names_another_version(rt: HostRuntime) {
 #[test]
 fn takes_the_shortest(rt: HostRuntime) {
     let packets: [(u8, &[u8]); 11] = [
-        // A PINGREQ; a CONNECT of nothing but what it must have; a PUBLISH on an empty topic with an alias.
+        // A PINGREQ; a CONNECT with only what it must have; a PUBLISH on an empty topic with an alias.
         (0xc0, &[]),
         (0x10, &[0, 4, 0x4d, 0x51, 0x54, 0x54, 5, 0, 0, 0, 0, 0, 0]),
         (0x30, &[0, 0, 3, 0x23, 0, 1]),
-        // Acknowledgements, a DISCONNECT and an AUTH that leave out what they may.
+        // Acknowledgements, a DISCONNECT and an AUTH that leave out all that they may.
         (0x40, &[0, 1]),
         (0x50, &[0, 1, 0x80]),
         (0x62, &[0, 1, 0, 0]),
@@ -220,7 +220,7 @@ fn takes_the_shortest(rt: HostRuntime) {
         (0xe0, &[0x04]),
         (0xf0, &[]),
         (0xf0, &[0x18]),
-        // A SUBACK of no Reason Codes.
+        // A SUBACK without Reason Codes.
         (0x90, &[0, 1, 0]),
     ];
     for (first, body) in packets {

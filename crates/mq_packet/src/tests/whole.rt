@@ -9,7 +9,7 @@ use crate::decode;
 // The most bytes that a body has here.
 const MAX_BODY: usize = 1_000;
 
-// How many of the body's beginnings, the body itself left out, are a body too; None where it isn't one itself.
+// How many of the body's proper beginnings are a body too; None if it isn't one itself.
 fn whole_beginnings(first: u8, body: &[u8]) -> Option<usize> {
     if body.len() > MAX_BODY || decode(first, body).is_err() {
         return None;

@@ -74,7 +74,7 @@ fn refuses_varints(rt: HostRuntime) {
 
 #[test]
 fn reads_texts(rt: HostRuntime) {
-    // The byte order mark is kept, and characters that stand for none pass.
+    // The byte order mark is kept, and noncharacters are accepted.
     let cases: [(&[u8], &str); 8] = [
         (b"\x00\x00", ""),
         (b"\x00\x03a/b", "a/b"),
@@ -151,7 +151,7 @@ fn writes_fields(rt: HostRuntime) {
     assert_eq!(rt; out.len(), want.len());
 }
 
-// The longest text is written, and one byte more is not.
+// The longest text is written, and one more byte is not.
 #[test]
 fn writes_long_texts(rt: HostRuntime) -> Result<(), Fail> {
     let mut out = Vec::new(rt.alloc());

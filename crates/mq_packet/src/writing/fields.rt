@@ -49,7 +49,7 @@ pub fn put_code_and_list(out: &mut Vec<u8>, code: u8, list: &Props<'_>) -> Resul
     put_list(out, list)
 }
 
-/// Appends a Reason Code and a property list, each only where it must be (MQTT 5.0, sections 3.4.2 and 3.14.2).
+/// Appends a Reason Code and a property list, each only if it is needed (MQTT 5.0, sections 3.4.2 and 3.14.2).
 #[tactic(auto, using(crate::proofs::ReasonLaws::reason_by))]
 pub fn put_reason(out: &mut Vec<u8>, code: u8, list: &Props<'_>) -> Result<(), PutFault>
     ensures ok { OnOk result (out.new.items ≡ out.old.items ++ reason_spelling code list.now.items) }

@@ -19,7 +19,7 @@ fn bit(weight: u8, flag: bool) -> u8
     if flag { weight } else { 0 }
 }
 
-// The QoS as two bits, of which this is the weight of the lower.
+// The QoS as two bits, the lower of this weight.
 fn qos_bits(weight: u8, qos: Qos) -> u8
     requires { weight ≤ 8 }
     ensures is { result ≡ qos_bits weight qos }

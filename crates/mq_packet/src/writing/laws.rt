@@ -1,4 +1,4 @@
-//! Laws of the definitions that writing is held to. The functions here do nothing: their contracts are the laws.
+//! Laws of the definitions that the contracts of writing use, proved as the contracts of functions that do nothing.
 
 ghost use Rattle.std.specs.Prelude.{◌≡◌, ℕ, ◌+◌, ◌≤◌, true, List, ◌++◌, length, Ok};
 ghost use Rattle.mq_packet.specs.Entries.{Entry};
@@ -9,7 +9,7 @@ ghost use Rattle.mq_packet.specs.Frames.{cut_of};
 ghost use Rattle.mq_packet.specs.declared.frame.Cut.TheVariants.{Frame};
 ghost use Rattle.mq_packet.specs.Valid.{valid, IsTyped};
 
-/// A packet is valid exactly where some bytes spell it, and then the bytes that are written are among them.
+/// A packet is valid exactly if some bytes spell it, and then the bytes that are written are among them.
 #[tactic(auto, using(crate::proofs::CanonicalLaws::canonical_spelled, crate::proofs::ValidLaws::spelled_valid))]
 pub fn what_is_valid_is_spelled()
     ensures written { (entry : Entry) → IsTyped entry → valid entry ≡ true → IsSpelled (first_byte entry) (canonical_body entry) entry }

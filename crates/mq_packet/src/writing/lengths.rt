@@ -1,4 +1,4 @@
-//! How many bytes the body of a packet has where it is written.
+//! How many bytes the body of a packet has when it is written.
 
 ghost use Rattle.std.specs.Prelude.{◌≡◌, ◌+◌, ◌≤◌, sum, length};
 ghost use Rattle.std.specs.Option.{option_map};
@@ -95,7 +95,7 @@ fn will_lens(will: &Option<Will<'_>>) -> (usize, usize, usize)
     }
 }
 
-// A Reason Code and properties, each only where it must be.
+// A Reason Code and properties, each only if it is needed.
 #[tactic(auto, using(crate::proofs::ReasonLaws::reason_by))]
 fn reason_len(code: u8, list: &Props<'_>) -> usize
     ensures { result ≡ length (reason_spelling code list.now.items) }

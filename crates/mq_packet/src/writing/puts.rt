@@ -1,4 +1,4 @@
-//! Writing the kinds of field. A field that may be written is refused only where the vector has no room for it and can't grow.
+//! Writing the kinds of field. Writing a valid field fails only if the vector has no room for it and can't grow.
 
 ghost use Rattle.std.specs.Prelude.{◌≡◌, ◌≤◌, [], ◌∷◌, ◌++◌, true, OnOk, OnErr, vec_capacity};
 ghost use Rattle.mq_wire.specs.Spellings.{two_bytes_spelling, varint_spelling, text_spelling, binary_spelling};

@@ -10,7 +10,7 @@ use crate::header::header_len;
 use crate::packet::{Packet, PacketType};
 use mq_wire::MAX_VARINT;
 
-// The length of the body as it was read, where the packet keeps it.
+// The length of the body as it was read, if the packet keeps it.
 #[inline(always)]
 fn read_len(packet: &Packet<'_>) -> Option<u32>
     ensures { result ≡ read_len_of packet.now }
@@ -64,8 +64,8 @@ impl<'a> Packet<'a> {
         }
     }
 
-    /// How many bytes the whole packet has (MQTT 5.0, section 2.1): as it was read, where that is known by `read_len`, else as
-    /// `encode` writes it. None where its Remaining Length would be over 268,435,455.
+    /// How many bytes the whole packet has (MQTT 5.0, section 2.1): as it was read, if `read_len` says so, else as `encode` writes
+    /// it. `None` if its Remaining Length would be over 268,435,455.
     #[inline(always)]
     pub fn size(&self) -> Option<u32>
         ensures { result ≡ size_with (remaining_length self.now) }
