@@ -89,7 +89,7 @@ pub struct Acknowledgement<'a> {
     pub code: u8,
     /// The properties.
     pub properties: Props<'a>,
-    /// The body's length as it was read, which may be longer than needed; `None` if the packet wasn.t read.
+    /// The body's length as it was read, which may be longer than needed; `None` if the packet wasn't read.
     pub read_len: Option<u32>,
 }
 
@@ -122,7 +122,7 @@ pub struct Ending<'a> {
     pub code: u8,
     /// The properties.
     pub properties: Props<'a>,
-    /// The body's length as it was read, which may be longer than needed; `None` if the packet wasn.t read.
+    /// The body's length as it was read, which may be longer than needed; `None` if the packet wasn't read.
     pub read_len: Option<u32>,
 }
 

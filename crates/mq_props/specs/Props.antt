@@ -1,4 +1,4 @@
--- What a property of the source stands for: its identifier and its value (MQTT 5.0, 2.2.2.2).
+-- A property of the source as its identifier and its value (MQTT 5.0, 2.2.2.2).
 use Rattle.mq_props.specs.declared.prop.Prop.{Prop}
 use Rattle.mq_props.specs.declared.prop.Prop.TheVariants as props
 use Rattle.mq_props.specs.Identifiers.{payload_format_indicator, message_expiry_interval, content_type, response_topic, correlation_data, subscription_identifier, session_expiry_interval, assigned_client_identifier, server_keep_alive, authentication_method, authentication_data, request_problem_information, will_delay_interval, request_response_information, response_information, server_reference, reason_string, receive_maximum, topic_alias_maximum, topic_alias, maximum_qos, retain_available, user_property, maximum_packet_size, wildcard_subscription_available, subscription_identifier_available, shared_subscription_available}

@@ -1,4 +1,4 @@
--- What the source's values stand for.
+-- The source's values as the definitions see them.
 use Rattle.std.specs.Prelude.{◌≡◌, ℕ, false, List, length, slice_index_or}
 use Rattle.mq_props.specs.declared.value.Value.{Value as Held}
 use Rattle.mq_props.specs.declared.value.Value.TheVariants as held

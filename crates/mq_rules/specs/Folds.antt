@@ -13,12 +13,12 @@ abbrev pub folded : {A : Type 0} → (Moment → A → A) → A → List Moment 
 folded g z [] = z
 folded g z (m ∷ ms) = g m (folded g z ms)
 
--- Session packets alone change what is kept, and a RELEASE doesn't.
+-- Only session packets change what is kept; a RELEASE doesn't.
 pub record ByPackets {A : Type 0} (g : Moment → A → A) : Type 0 where
   pub idle : (m : Moment) (a : A) → needs_session (note m) ≡ false → g m a ≡ a
   pub no_release : (m : Moment) (a : A) → is_release (note m) ≡ true → g m a ≡ a
 
--- What a moment makes of it, if the moment is in the session; else it is unchanged.
+-- What is kept after a moment that is in the session; after any other moment it is unchanged.
 abbrev pub where_in : {A : Type 0} → Bool → (A → A) → A → A
 where_in true g old = g old
 where_in false g old = old
@@ -36,7 +36,7 @@ kept_by role (Some f) n g z old = cond (is_open n) old (cond (accepts f) (g old)
 abbrev pub stands_under : Role → (Moment → Bool) → (Moment → Bool) → Option Fate → List Seen → Bool
 stands_under role starts ends f log = since starts ends (session role f log)
 
--- what a moment that passes these tests makes of it, if the moment is in the session
+-- the same for `since`: the moment is in the session or not, and passes these tests or not
 abbrev pub gained : Bool → Bool → Bool → Bool → Bool
 gained inside starts ends old = cond inside (starts || (not ends && old)) old
 

@@ -272,7 +272,7 @@ type_in items.Lost = None
 abbrev pub is_of_type : PacketType → ItemNote → Bool
 is_of_type type item = is_id (type_number type) (type_in item)
 
--- the types that this end may not send, since they come from the other end alone
+-- the types that this end may not send, since only the other end may
 abbrev pub foreign_types : Role → List PacketType
 foreign_types Client = types.Connack ∷ types.Suback ∷ types.Unsuback ∷ types.Pingresp ∷ []
 foreign_types Server = types.Connect ∷ types.Subscribe ∷ types.Unsubscribe ∷ types.Pingreq ∷ []
@@ -333,7 +333,7 @@ may_explain fields = is_some (publish_in fields) || (is_some (connack_in fields)
 abbrev pub refuses : ℕ → Bool
 refuses code = nat_le 128 code
 
--- ---- what an event makes of its connection (MQTT 5.0, section 3.2.2)
+-- ---- what becomes of a connection by an event (MQTT 5.0, section 3.2.2)
 
 -- Any Reason Code but 0x00 refuses the connection; Session Present 1 resumes a session.
 abbrev pub fate_by : ConnackNote → Fate

@@ -79,7 +79,7 @@ knows_peer Server k = true
 
 -- ---- the statements
 
--- C01: what is sent has a type that comes from the other end alone.
+-- C01: what is sent has a type that only the other end may send.
 unfoldable pub breaks_C01 : Role → Moment → Bool
 breaks_C01 role k = list_any (λ type. sends_type type (note k)) (foreign_types role)
 

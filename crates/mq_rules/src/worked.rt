@@ -59,7 +59,7 @@ pub fn bytes_of_a_server()
     ensures lost { failing server W03 (Open ∷ gets kept ∷ sends accepted ∷ sends_lost ∷ gets_lost ∷ []) ≡ 4 ∷ [] }
 {}
 
-/// An end sends what comes from the other end alone (C01).
+/// An end sends what only the other end may send (C01).
 pub fn foreign_types()
     ensures client_breaks { failing client C01 (Open ∷ sends kept ∷ gets accepted ∷ sends Pingresp ∷ []) ≡ 4 ∷ [] }
     ensures client_keeps { failing client C01 (Open ∷ sends kept ∷ gets accepted ∷ sends Pingreq ∷ []) ≡ [] }

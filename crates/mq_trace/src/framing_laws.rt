@@ -40,7 +40,7 @@ pub fn one_byte_more()
     ensures events { (log : List ℕ) (byte : ℕ) → events (log ++ byte ∷ []) ≡ put (placed_for (context log) byte) (events log) }
 {}
 
-/// What the definitions make of short logs, computed from the definitions alone.
+/// Short logs, computed from the definitions alone.
 pub fn worked_logs()
     ensures empty { (events client_header ≡ []) × (refused 16777216 client_header ≡ None) × (is_cut_short client_header ≡ false) }
     ensures cut { is_cut_short (take 7 client_header) ≡ true }

@@ -114,7 +114,7 @@ static REFUSALS: [Row; 25] = [
         lines: "1 record 1 OPEN\n2 record 2 SENT Connect 15\n",
         answer: Err(Refusal::Early(39)),
     },
-    // The CONNACK comes from the server alone.
+    // Only a CONNACK from the server counts.
     Row {
         answered: false,
         parts: &[CLIENT, Open, Sent(CONNECT), Sent(CONNACK), Sent(PUBLISH)],
