@@ -9,8 +9,6 @@ mod host;
 mod large_tests;
 mod listing;
 #[cfg(test)]
-mod log_tests;
-#[cfg(test)]
 mod packet_tests;
 mod program;
 #[cfg(test)]

@@ -23,6 +23,8 @@ pub use running::{judge_reader, run, run_bounded};
 pub use showing::{show, show_faults, show_long};
 
 #[cfg(test)]
+mod log_tests;
+#[cfg(test)]
 mod showing_tests;
 #[cfg(test)]
 mod tests;

@@ -1,7 +1,17 @@
-use crate::failure::{FAULTY, PASSED, REFUSED};
-use crate::tests::is_told;
+//! Logs with the report that each must get, whole and byte by byte.
+use super::report::{Form, Outcome, RunFault, write_refused};
+use super::running::run;
 use std::alloc::{AllocError, Global};
+use std::io;
+use std::io::Read;
 use std::test::Fail;
+
+// What becomes of a log: its report is a pass or a fail, or it is refused.
+const PASSED: Option<Outcome> = Some(Outcome::Pass);
+
+const FAULTY: Option<Outcome> = Some(Outcome::Fail);
+
+const REFUSED: Option<Outcome> = None;
 
 // A record of a log.
 #[derive(Clone, Copy)]
@@ -80,7 +90,7 @@ const AUTH: &[u8] = b"\xf0\x00";
 struct Row {
     role: u8,
     parts: &'static [Part],
-    status: u8,
+    outcome: Option<Outcome>,
     report: &'static str,
 }
 
@@ -100,7 +110,7 @@ static ROWS: [Row; 27] = [
             Recv(CONNACK_RESUMED),
             Sent(PUBLISH_ONCE),
         ],
-        status: FAULTY,
+        outcome: FAULTY,
         report: "fault 9 S01 MQTT-2.2.1-3 decided 9 record 9 offset -\nfail 1 faults 9 events\n",
     },
     Row {
@@ -116,7 +126,7 @@ static ROWS: [Row; 27] = [
             Sent(CONNACK),
             Sent(PUBLISH_ONCE),
         ],
-        status: FAULTY,
+        outcome: FAULTY,
         report: "fault 4 B01 MQTT-3.3.2-3 decided 4 record 4 offset -\n\
             fault 9 B01 MQTT-3.3.2-3 decided 9 record 9 offset -\nfail 2 faults 9 events\n",
     },
@@ -138,7 +148,7 @@ static ROWS: [Row; 27] = [
             Sent(CONNACK_RESUMED),
             Sent(PUBLISH_ONCE),
         ],
-        status: FAULTY,
+        outcome: FAULTY,
         report: "fault 4 B01 MQTT-3.3.2-3 decided 4 record 4 offset -\n\
             fault 14 S01 MQTT-2.2.1-4 decided 14 record 14 offset -\n\
             fault 14 B01 MQTT-3.3.2-3 decided 14 record 14 offset -\nfail 3 faults 14 events\n",
@@ -167,7 +177,7 @@ static ROWS: [Row; 27] = [
             Sent(DISCONNECT),
             Close,
         ],
-        status: PASSED,
+        outcome: PASSED,
         report: "pass 19 events\n",
     },
     // A PUBREC that refuses sets its identifier free, as a PUBCOMP does; another PUBREC doesn't, nor does a PUBREL.
@@ -181,7 +191,7 @@ static ROWS: [Row; 27] = [
             Recv(REFUSING_PUBREC),
             Sent(PUBLISH_ONCE),
         ],
-        status: PASSED,
+        outcome: PASSED,
         report: "pass 6 events\n",
     },
     Row {
@@ -196,7 +206,7 @@ static ROWS: [Row; 27] = [
             Recv(PUBCOMP),
             Sent(PUBLISH_ONCE),
         ],
-        status: PASSED,
+        outcome: PASSED,
         report: "pass 8 events\n",
     },
     Row {
@@ -209,7 +219,7 @@ static ROWS: [Row; 27] = [
             Recv(PUBREC),
             Sent(PUBLISH_ONCE),
         ],
-        status: FAULTY,
+        outcome: FAULTY,
         report: "fault 6 S01 MQTT-2.2.1-3 decided 6 record 6 offset -\nfail 1 faults 6 events\n",
     },
     Row {
@@ -224,7 +234,7 @@ static ROWS: [Row; 27] = [
             Recv(PUBREL),
             Sent(PUBLISH_ONCE),
         ],
-        status: FAULTY,
+        outcome: FAULTY,
         report: "fault 8 S01 MQTT-2.2.1-3 decided 8 record 8 offset -\nfail 1 faults 8 events\n",
     },
     // What the tested end sent sets nothing free.
@@ -238,7 +248,7 @@ static ROWS: [Row; 27] = [
             Sent(PUBACK),
             Sent(PUBLISH_ONCE),
         ],
-        status: FAULTY,
+        outcome: FAULTY,
         report: "fault 4 B01 MQTT-3.3.2-3 decided 4 record 4 offset -\n\
             fault 5 E1A MQTT-2.2.1-5 decided 5 record 5 offset -\n\
             fault 6 S01 MQTT-2.2.1-4 decided 6 record 6 offset -\n\
@@ -254,7 +264,7 @@ static ROWS: [Row; 27] = [
             Sent(PUBLISH_ONCE),
             Sent(PUBLISH_ONCE),
         ],
-        status: PASSED,
+        outcome: PASSED,
         report: "pass 5 events\n",
     },
     Row {
@@ -267,7 +277,7 @@ static ROWS: [Row; 27] = [
             Sent(PUBLISH_ONCE),
             Sent(PUBLISH_UNIDENTIFIED),
         ],
-        status: FAULTY,
+        outcome: FAULTY,
         report: "fault 6 W09 sec-2.2.1 decided 6 record 6 offset 5\nfail 1 faults 6 events\n",
     },
     // After an invalid Remaining Length the rest of the direction can't be parsed.
@@ -282,7 +292,7 @@ static ROWS: [Row; 27] = [
             Recv(PUBLISH_ONCE),
             Rest,
         ],
-        status: FAULTY,
+        outcome: FAULTY,
         report: "fault 4 W03 MQTT-1.5.5-1 decided 4 record 4 offset 1\nfail 1 faults 6 events\n",
     },
     // Only what the tested end sent is judged.
@@ -295,26 +305,26 @@ static ROWS: [Row; 27] = [
             Recv(PUBLISH_UNIDENTIFIED),
             Sent(b"\x41\x02\x00\x01"),
         ],
-        status: FAULTY,
+        outcome: FAULTY,
         report: "fault 5 W01 MQTT-2.1.3-1 decided 5 record 5 offset 0\nfail 1 faults 5 events\n",
     },
     // Before its CONNACK a connection may have packets that need no session, and no others.
     Row {
         role: CLIENT,
         parts: &[Open, Sent(CONNECT), Sent(PINGREQ), Sent(DISCONNECT)],
-        status: PASSED,
+        outcome: PASSED,
         report: "pass 4 events\n",
     },
     Row {
         role: CLIENT,
         parts: &[Open, Sent(CONNECT), Sent(SUBSCRIBE)],
-        status: REFUSED,
+        outcome: REFUSED,
         report: "refused 13 Early at 46\n",
     },
     Row {
         role: CLIENT,
         parts: &[Open, Sent(CONNECT), Recv(PUBREL)],
-        status: REFUSED,
+        outcome: REFUSED,
         report: "refused 13 Early at 41\n",
     },
     // A packet may be cut over any records: it belongs to the one that has its last byte.
@@ -335,7 +345,7 @@ static ROWS: [Row; 27] = [
             Recv(PINGRESP),
             Sent(b"x"),
         ],
-        status: FAULTY,
+        outcome: FAULTY,
         report: "fault 5 W09 sec-2.2.1 decided 5 record 13 offset 5\nfail 1 faults 5 events\n",
     },
     // One record may end a packet and begin another; what the log's end leaves unfinished is no event.
@@ -348,7 +358,7 @@ static ROWS: [Row; 27] = [
             Recv(b"\x00\x00\xd0"),
             Recv(b"\x00\xd0\x00\xd0"),
         ],
-        status: PASSED,
+        outcome: PASSED,
         report: "pass 5 events\n",
     },
     // A CLOSE drops the unfinished packet of each direction; the next connection begins with whole ones.
@@ -368,7 +378,7 @@ static ROWS: [Row; 27] = [
             Recv(PINGRESP),
             Close,
         ],
-        status: PASSED,
+        outcome: PASSED,
         report: "pass 10 events\n",
     },
     // A direction is lost for its connection alone.
@@ -386,7 +396,7 @@ static ROWS: [Row; 27] = [
             Recv(CONNACK),
             Sent(PUBLISH_UNIDENTIFIED),
         ],
-        status: FAULTY,
+        outcome: FAULTY,
         report: "fault 4 W03 MQTT-1.5.5-1 decided 4 record 4 offset 1\n\
             fault 9 W09 sec-2.2.1 decided 9 record 10 offset 5\nfail 2 faults 9 events\n",
     },
@@ -401,7 +411,7 @@ static ROWS: [Row; 27] = [
             Open,
             Sent(PUBLISH_ONCE),
         ],
-        status: REFUSED,
+        outcome: REFUSED,
         report: "refused 13 Early at 66\n",
     },
     Row {
@@ -417,7 +427,7 @@ static ROWS: [Row; 27] = [
             Recv(CONNACK),
             Sent(PUBLISH_ONCE),
         ],
-        status: PASSED,
+        outcome: PASSED,
         report: "pass 9 events\n",
     },
     Row {
@@ -433,7 +443,7 @@ static ROWS: [Row; 27] = [
             Sent(PUBLISH_ONCE),
             Recv(CONNACK),
         ],
-        status: REFUSED,
+        outcome: REFUSED,
         report: "refused 13 Early at 112\n",
     },
     // A message is released between its PUBREL and its PUBCOMP, or between two connections.
@@ -450,7 +460,7 @@ static ROWS: [Row; 27] = [
             Sent(PUBCOMP),
             Close,
         ],
-        status: PASSED,
+        outcome: PASSED,
         report: "pass 9 events\n",
     },
     Row {
@@ -465,20 +475,20 @@ static ROWS: [Row; 27] = [
             Open,
             Sent(CONNECT),
         ],
-        status: PASSED,
+        outcome: PASSED,
         report: "pass 8 events\n",
     },
     // On a connection it isn't released before the CONNACK.
     Row {
         role: CLIENT,
         parts: &[Open, Sent(CONNECT), Release(1)],
-        status: REFUSED,
+        outcome: REFUSED,
         report: "refused 13 Early at 39\n",
     },
     Row {
         role: CLIENT,
         parts: &[Open, Sent(CONNECT), Recv(CONNACK), Close, Open, Release(1)],
-        status: REFUSED,
+        outcome: REFUSED,
         report: "refused 13 Early at 59\n",
     },
 ];
@@ -660,12 +670,60 @@ fn log_of(alloc: Global, role: u8, parts: &[Part]) -> Result<Vec<u8>, AllocError
     Ok(log)
 }
 
+// A reader that gives a byte at each read.
+#[derive(Drop)]
+struct Trickle<'a> {
+    left: &'a [u8],
+}
+
+impl Read for Trickle<'_> {
+    fn read(&mut self, buffer: &mut [u8]) -> io::Result<usize> {
+        let count = self.left.len().min(buffer.len()).min(1);
+        buffer[..count].copy_from_slice(&self.left[..count]);
+        self.left = &self.left[count..];
+        Ok(count)
+    }
+}
+
+// Whether judging what the reader gives has this outcome, and writes this report; of a refused log the report is its line.
+fn reports<R: Read>(
+    alloc: Global,
+    reader: &mut R,
+    outcome: Option<Outcome>,
+    report: &str,
+) -> Result<bool, Fail> {
+    let mut written = Vec::new(alloc);
+    let answer = match run(alloc, reader, &mut written, Form::Text) {
+        Ok(outcome) => Some(outcome),
+        Err(RunFault::Refused(refusal)) => {
+            write_refused(alloc, &refusal, Form::Text, &mut written).map_err(
+                |_| "the line was not written",
+            )?;
+            None
+        }
+        Err(RunFault::Write | RunFault::Memory) => return Ok(false),
+    };
+    Ok(answer == outcome && written.as_slice() == report.as_bytes())
+}
+
+// The same for a log that is read at once, and then byte by byte.
+fn is_reported(
+    alloc: Global,
+    log: &[u8],
+    outcome: Option<Outcome>,
+    report: &str,
+) -> Result<bool, Fail> {
+    let whole = reports(alloc, &mut &log[..], outcome, report)?;
+    let cut = reports(alloc, &mut Trickle { left: log }, outcome, report)?;
+    Ok(whole && cut)
+}
+
 #[test]
 fn judges_packets_whole_and_byte_by_byte(rt: HostRuntime) -> Result<(), Fail> {
     for row in &ROWS {
         let log = log_of(rt.alloc(), row.role, row.parts)?;
         assert!(rt;
-            is_told(rt.alloc(), &log, row.status, row.report)?,
+            is_reported(rt.alloc(), &log, row.outcome, row.report)?,
             "{}",
             row.report
         );
@@ -698,7 +756,7 @@ fn names_the_rule_that_bytes_break(rt: HostRuntime) -> Result<(), Fail> {
         let log = log_of(rt.alloc(), CLIENT, &parts)?;
         let report = report_on(rt.alloc(), broken)?;
         assert!(rt;
-            is_told(rt.alloc(), &log, FAULTY, report.as_str())?,
+            is_reported(rt.alloc(), &log, FAULTY, report.as_str())?,
             "{report}"
         );
     }
