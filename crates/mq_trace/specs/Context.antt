@@ -68,7 +68,7 @@ context log = record {
   answered = is_answered (header_by log).server (events log);
 }
 
--- one direction, of what is kept
+-- The bytes so far of the next byte's packet, that byte included, from what is kept.
 abbrev pub half_for : Context → Way → Half
 half_for c ways.Sent = c.sent
 half_for c ways.Recv = c.recv

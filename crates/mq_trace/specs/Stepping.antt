@@ -73,7 +73,7 @@ leaving r way left = record r {
   stage = if left == 0 then stages.Between else stages.Body way left;
 }
 
--- the direction that a body carries, from the reader's state
+-- the direction of a body's bytes, and what is kept of it
 abbrev pub bed_for : Reading → Way → Bed
 bed_for r way = record { way = way; server = r.header.server; record_no = r.records + 1 }
 

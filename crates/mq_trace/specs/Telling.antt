@@ -27,7 +27,7 @@ connections_with server connections event = record {
 abbrev pub next_placed : Connections → ℕ → Event → Placed
 next_placed connections record_no event = record { place = record { position = connections.events + 1; record_no = record_no }; event = event }
 
--- The sink refused what this byte completed: these events, the newest first, at least one.
+-- The sink refused what this byte completed: one event, given as a list.
 pub record RefusedBySink {S : Type 0} (declines : S → S → List Placed → Refusal → Type 0) (at : ℕ) (completed : List Placed) (old new : S) (refusal : Refusal) : Type 0 where
   pub own : Refusal
   pub refused : declines old new completed own
