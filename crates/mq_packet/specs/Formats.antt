@@ -150,7 +150,7 @@ will_if true flags next =
     field binary any_value (λ payload.
     next (Some (record { qos = qos_of 8 (bit_and flags 24); retain = has_bits 32 flags; properties = listed places.Will list; topic = topic; payload = payload })))))
 
--- What stands after the Connect Flags (3.1.2.10 to 3.1.3.6): they say whether there is a Will, a User Name (3.1.2.8) and a
+-- What follows the Connect Flags (3.1.2.10 to 3.1.3.6): they say whether there is a Will, a User Name (3.1.2.8) and a
 -- Password (3.1.2.9).
 abbrev pub connect_from : ℕ → Format
 connect_from flags =

@@ -1,4 +1,4 @@
--- What the readers of fields and packets answer.
+-- What the readers of fields and packets return.
 use Rattle.std.specs.Prelude.{◌≡◌, ℕ, Option, Some, None, Result, Ok, Err}
 use Rattle.std.specs.Option.{option_map}
 use Rattle.mq_wire.specs.declared.fault.WireFault.{WireFault}
@@ -49,7 +49,7 @@ view packets.Pingresp = pingresp
 view (packets.Disconnect p) = disconnect p.code p.properties
 view (packets.Auth p) = auth p.code p.properties
 
--- The length of the body that a packet was read from, where it keeps one.
+-- The length of the body that a packet was read from, if it keeps it.
 abbrev pub read_len_of : Packet → Option ℕ
 read_len_of (packets.Puback p) = p.read_len
 read_len_of (packets.Pubrec p) = p.read_len
@@ -89,13 +89,13 @@ abbrev pub Takes : {X Y : Type 0} → (X → Y) → Result X Stop → Result (Y 
 Takes see (Ok x) read new = read ≡ Ok (see x, new)
 Takes see (Err stop) read new = read ≡ Err (fault_of stop)
 
--- A reader of a part of a format answers what the part is, with the cursor after it: what follows is read there, given what the
--- part is. Or it answers where the reading stops, whatever follows.
+-- A reader of a part of a format returns what the part is, with the cursor past it: what follows is read there, given what the
+-- part is. Or it returns why the reading stops, whatever follows.
 abbrev pub TakesPart : {X Y : Type 0} → (X → Y) → Result X Stop → ((Y → Format) → Format) → Left → Left → Type 0
 TakesPart {X} {Y} see (Ok x) part old new = (next : Y → Format) → read (part next) old ≡ read (next (see x)) new
 TakesPart {X} {Y} see (Err stop) part old new = (next : Y → Format) → read (part next) old ≡ Err (fault_of stop)
 
--- A reader of all that is left answers what it is, as a packet or a list, or where the reading stops.
+-- A reader of all that is left returns it as a packet or a list, or why the reading stops.
 abbrev pub Reads : {X Y : Type 0} → (X → Y) → Result X Stop → Result Y DecodeFault → Type 0
 Reads see (Ok x) read = read ≡ Ok (see x)
 Reads see (Err stop) read = read ≡ Err (fault_of stop)

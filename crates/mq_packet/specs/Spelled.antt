@@ -1,4 +1,4 @@
--- Which packet a first byte and a body spell, and which fault they have: relations, apart from any reading.
+-- Which packet a first byte and a body spell, and which fault they have: relations, independent of any way of reading.
 use Rattle.std.specs.Prelude.{◌≡◌, ◌≢◌, ℕ, ◌+◌, ◌⊎◌, Bool, true, false, List, [], ◌∷◌, ◌++◌, length, Option, Some, None, Result, Ok, Err}
 use Rattle.std.specs.List.{list_all, AllByRecursion}
 use Rattle.mq_wire.specs.Spellings.{IsByte, byte_spelling, IsTwoBytes, two_bytes_spelling, IsText, text_spelling, IsBinary, binary_spelling, IsVarint, varint_spelling}

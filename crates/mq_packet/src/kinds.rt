@@ -1,5 +1,5 @@
-//! What tells packets apart that have the same fields: where their property lists stand, the Reason Codes that they may have, and
-//! whether their filters have options.
+//! What distinguishes packets that have the same fields: the places of their property lists, the Reason Codes that they may have,
+//! and whether their filters have options.
 
 ghost use Rattle.std.specs.Prelude.{◌≡◌};
 ghost use Rattle.mq_packet.specs.Entries.{acknowledgement_place, acknowledgement_codes, request_place, has_options, answer_place, answer_codes, ending_place, ending_codes};
@@ -11,7 +11,7 @@ use crate::packet::{AcknowledgementKind, EndingKind, RequestKind};
 use mq_props::Place;
 
 impl AcknowledgementKind {
-    /// Where the property list stands.
+    /// The place of the property list.
     #[inline(always)]
     pub fn place(self) -> Place
         ensures { result ≡ acknowledgement_place self }
@@ -37,7 +37,7 @@ impl AcknowledgementKind {
 }
 
 impl RequestKind {
-    /// Where the property list stands.
+    /// The place of the property list.
     pub fn place(self) -> Place
         ensures { result ≡ request_place self }
     {
@@ -57,7 +57,7 @@ impl RequestKind {
         }
     }
 
-    /// Where the property list of its answer stands.
+    /// The place of its answer's property list.
     pub fn answer_place(self) -> Place
         ensures { result ≡ answer_place self }
     {
@@ -79,7 +79,7 @@ impl RequestKind {
 }
 
 impl EndingKind {
-    /// Where the property list stands.
+    /// The place of the property list.
     pub fn place(self) -> Place
         ensures { result ≡ ending_place self }
     {
