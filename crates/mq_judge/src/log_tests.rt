@@ -1,4 +1,4 @@
-//! Logs with the report that each must get, whole and byte by byte.
+//! Logs with the expected report on each, read at once and byte by byte.
 use super::report::{Form, Outcome, RunFault, write_refused};
 use super::running::run;
 use std::alloc::{AllocError, Global};
@@ -6,7 +6,7 @@ use std::io;
 use std::io::Read;
 use std::test::Fail;
 
-// What becomes of a log: its report is a pass or a fail, or it is refused.
+// The expected result for a log: a report with a pass or a fail, or a refusal.
 const PASSED: Option<Outcome> = Some(Outcome::Pass);
 
 const FAULTY: Option<Outcome> = Some(Outcome::Fail);
@@ -381,7 +381,7 @@ static ROWS: [Row; 27] = [
         outcome: PASSED,
         report: "pass 10 events\n",
     },
-    // A direction is lost for its connection alone.
+    // A direction is lost only on its connection.
     Row {
         role: CLIENT,
         parts: &[
@@ -685,7 +685,7 @@ impl Read for Trickle<'_> {
     }
 }
 
-// Whether judging what the reader gives has this outcome, and writes this report; of a refused log the report is its line.
+// Whether judging what the reader gives has this outcome, and writes this report; for a refused log that is its line.
 fn reports<R: Read>(
     alloc: Global,
     reader: &mut R,
