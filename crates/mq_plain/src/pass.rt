@@ -77,9 +77,27 @@ fn judge_next<E: Evaluator>(
     if finds_nothing(kept.asked, &event.note) {
         return Ok(());
     }
+    judge_spoken(evaluator, alloc, tested, kept.fate, event, before, faults)
+}
+
+/// Judges an event that has these events before it, of whose latest connection this is the fate. It stays apart, so that what few
+/// events need takes no room where the others are passed over.
+#[inline(never)]
+fn judge_spoken<E: Evaluator>(
+    evaluator: &E,
+    alloc: Global,
+    tested: Tested,
+    fate: Option<Fate>,
+    event: &Seen,
+    before: &[Seen],
+    faults: &mut Faults,
+) -> Result<(), Memory>
+    ensures ok { E.is_for evaluator.now tested → IsPlaced (event.now ∷ reverse before.now) → IsInOrder tested.role (event.now ∷ reverse before.now) → fate ≡ latest_fate tested.role (reverse before.now) → OnOk result (GrowsBy E.chosen tested event.now (reverse before.now) faults.old faults.new) }
+    ensures memory { E.is_for evaluator.now tested → IsPlaced (event.now ∷ reverse before.now) → IsInOrder tested.role (event.now ∷ reverse before.now) → fate ≡ latest_fate tested.role (reverse before.now) → OnErr result (GrowsByWithin E.chosen tested event.now (reverse before.now) faults.old faults.new) }
+{
     let turn = Turn {
         tested,
-        fate: kept.fate,
+        fate,
         rests: is_binding_rest(tested.role, event, before),
     };
     evaluator.judge_at(alloc, turn, event, before, faults)

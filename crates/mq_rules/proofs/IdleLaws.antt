@@ -25,19 +25,19 @@ no-connect : (f : PacketFields) → is_ordinary_in f ≡ true → connect_in f �
 no-connect (Connect c) t = absurd (cc)
 no-connect _ t = refl
 
-no-connack : (f : PacketFields) → is_ordinary_in f ≡ true → connack_in f ≡ None
+pub no-connack : (f : PacketFields) → is_ordinary_in f ≡ true → connack_in f ≡ None
 no-connack (Connack c) t = absurd (cc)
 no-connack _ t = refl
 
-no-disconnect : (f : PacketFields) → is_ordinary_in f ≡ true → disconnect_in f ≡ None
+pub no-disconnect : (f : PacketFields) → is_ordinary_in f ≡ true → disconnect_in f ≡ None
 no-disconnect (Disconnect session_expiry) t = absurd (cc)
 no-disconnect _ t = refl
 
-not-connect : (f : PacketFields) → is_ordinary_in f ≡ true → is_id (type_number types.Connect) (Some (type_number (type_of f))) ≡ false
+pub not-connect : (f : PacketFields) → is_ordinary_in f ≡ true → is_id (type_number types.Connect) (Some (type_number (type_of f))) ≡ false
 not-connect (Connect c) t = absurd (cc)
 not-connect _ t = refl
 
-not-connack : (f : PacketFields) → is_ordinary_in f ≡ true → is_id (type_number types.Connack) (Some (type_number (type_of f))) ≡ false
+pub not-connack : (f : PacketFields) → is_ordinary_in f ≡ true → is_id (type_number types.Connack) (Some (type_number (type_of f))) ≡ false
 not-connack (Connack c) t = absurd (cc)
 not-connack _ t = refl
 

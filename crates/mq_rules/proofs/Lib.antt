@@ -26,4 +26,5 @@ pub mod FirstRestLaws
 pub mod PropertyLaws
 pub mod NamingLaws
 pub mod IdleLaws
+pub mod HarmlessLaws
 pub mod Exports

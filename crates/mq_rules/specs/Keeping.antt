@@ -16,17 +16,19 @@ use Rattle.mq_rules.specs.declared.rule.Rule.{Rule}
 use Rattle.mq_rules.specs.declared.rule.Rule.TheVariants.{C01, C02, C03, C04, C05, C06, C07, C08, C09, C10, C11, C12, C13, C14, C15, C16, C17, C18, C19, C20, C21, C22, C23}
 use Rattle.mq_rules.specs.declared.fault.Fault.{Fault}
 use Rattle.mq_rules.specs.declared.note.Note.{Note}
+use Rattle.mq_rules.specs.declared.note.Note.TheVariants as notes
 use Rattle.mq_rules.specs.declared.note.ItemNote.{ItemNote}
+use Rattle.mq_rules.specs.declared.note.ItemNote.TheVariants as items
 use Rattle.mq_rules.specs.declared.note.Seen.{Seen}
 use Rattle.mq_rules.specs.declared.packet_note.PacketNote.{PacketNote}
 use Rattle.mq_rules.specs.declared.packet_note.PacketFields.{PacketFields}
-use Rattle.mq_rules.specs.declared.packet_note.PacketFields.TheVariants.{Connect, Connack, Disconnect}
+use Rattle.mq_rules.specs.declared.packet_note.PacketFields.TheVariants.{Connect, Connack, Publish, Puback, Pubrec, Pubrel, Pubcomp, Disconnect}
 use Rattle.mq_rules.specs.declared.packet_note.PublishNote.{PublishNote}
 use Rattle.mq_rules.specs.declared.packet_note.ConnackNote.{ConnackNote}
 use Rattle.mq_rules.specs.declared.conn.state.ConnectionState.{ConnectionState}
 use Rattle.mq_rules.specs.declared.conn.Conn.{Conn}
 use Rattle.mq_rules.specs.Words.{or_else, is_some_and, is_id, only}
-use Rattle.mq_rules.specs.Notes.{is_open, is_rest, is_typed, is_of_type, foreign_types, sent_item, sent_packet, sent_fields, received_fields, sends_type, receives_type, sent_publish, sent_connack, sent_disconnect, disconnect_in, connect_of, connack_of, client_disconnect, decides, may_explain, resumed_by, qos_number}
+use Rattle.mq_rules.specs.Notes.{is_open, is_rest, is_typed, is_of_type, foreign_types, sent_item, sent_packet, sent_fields, received_fields, sends_type, receives_type, sent_publish, sent_connack, sent_disconnect, disconnect_in, connect_of, connack_of, client_disconnect, decides, may_explain, resumed_by, is_acknowledged, qos_number}
 use Rattle.mq_rules.specs.Moments.{note, moment, some, earliest}
 use Rattle.mq_rules.specs.Connections.{begun, connection, first_connect, first_connack, accepted, is_alive_after}
 use Rattle.mq_rules.specs.Pasts.{sends_typed, is_sent_disconnect, is_sent_refusal, set_alias}
@@ -265,6 +267,38 @@ is_told role s aliases n rule =
     || (is_among (connack_verdicts role s (sent_connack n)) rule
     || (is_among (disconnect_verdicts role s (sent_disconnect n)) rule
     || (is_among (rest_verdicts role s (is_rest n)) rule || false)))))
+
+-- ---- events that are seen at once to break no statement, and to leave what is kept as it is
+
+-- The tested end has begun to send and may go on: it has sent neither a DISCONNECT nor a CONNACK that refuses, a server has sent its CONNACK, and for a client no
+-- session was resumed that should not have been.
+abbrev pub may_go_on : Role → ConnectionState → Bool
+may_go_on Client s = s.has_sent && (not s.has_sent_disconnect && not (is_some_and resumed_by s.connack && (is_some_and (λ c. c.clean_start) s.connect || not s.was_alive)))
+may_go_on Server s = s.has_sent && (s.has_sent_connack && (not s.has_sent_disconnect && not s.has_sent_refusal))
+
+-- one byte more than a peer with this Maximum Packet Size takes; no packet has 2^32 bytes
+abbrev pub too_large : Option ℕ → ℕ
+too_large None = 4294967296
+too_large (Some most) = most + 1
+
+-- A packet of fewer bytes can be sent, where its type and fields break nothing; none where the end may not go on.
+abbrev pub size_bound : Role → ConnectionState → ℕ
+size_bound role s = cond (may_go_on role s) (too_large (size_limit role s)) 0
+
+-- a PUBLISH of QoS 0 with neither a Topic Alias nor a Subscription Identifier, and what acknowledges a PUBLISH: what either end may send to any peer
+abbrev pub is_harmless_in : PacketFields → Bool
+is_harmless_in (Publish p) = is_none p.topic_alias && (not p.has_subscription_identifier && not (is_acknowledged p.qos))
+is_harmless_in (Puback identifier code) = true
+is_harmless_in (Pubrec identifier code) = true
+is_harmless_in (Pubrel identifier code) = true
+is_harmless_in (Pubcomp identifier code) = true
+is_harmless_in _ = false
+
+-- such a packet is sent, below this size and without a Reason String or a User Property, or an ordinary one is received
+abbrev pub is_harmless : ℕ → Note → Bool
+is_harmless bound (notes.Sent (items.Packet p)) = nat_lt p.size bound && (not (p.has_reason_string || p.has_user_property) && is_harmless_in p.fields)
+is_harmless bound (notes.Recv (items.Packet p)) = nat_lt 0 bound && is_ordinary_in p.fields
+is_harmless bound _ = false
 
 -- ---- faults
 

@@ -12,6 +12,7 @@ ghost use Rattle.mq_rules.specs.Statements.{is_on_past};
 ghost use Rattle.mq_rules.specs.Keeping as told;
 ghost use Rattle.mq_rules.specs.Keeping.{Agrees, Judges, JudgesWithin, GrowsBy, GrowsByWithin, is_among};
 
+mod harmless;
 mod state;
 mod verdicts;
 
@@ -20,6 +21,7 @@ use crate::note::{ItemNote, Note};
 use crate::packet_note::{ConnackNote, PacketNote, PublishNote};
 use crate::role::Role;
 use crate::rule::Rule;
+pub use harmless::is_harmless;
 use mq_trace::Place3;
 pub use state::ConnectionState;
 use std::alloc::Global;
@@ -64,7 +66,15 @@ impl Conn {
         Ok(())
     }
 
-    /// Takes in an event.
+    /// The bound on sizes by which `is_harmless` tells events that `step` needn't be called for.
+    #[inline]
+    pub fn size_bound(&self) -> u64
+        ensures { result ≡ told.size_bound self.now.role self.now.state }
+    {
+        self.state.size_bound(self.role)
+    }
+
+    /// Takes an event.
     fn take(&mut self, note: &Note) -> Result<(), Memory>
         ensures role { OnOk result (self.new.role ≡ self.old.role) }
         ensures state { OnOk result (self.new.state ≡ told.after self.old.role self.old.state note.now) }

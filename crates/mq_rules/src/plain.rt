@@ -7,7 +7,7 @@ ghost use Rattle.mq_rules.specs.Statements.{is_on_bytes, is_on_past};
 ghost use Rattle.mq_rules.specs.Faults.{Grows, GrowsWithin};
 ghost use Rattle.mq_rules.specs.Keeping.{GrowsBy};
 
-use crate::conn::Conn;
+use crate::conn::{Conn, is_harmless};
 use crate::fault::Fault;
 use crate::faults::{Faults, Mark, Memory};
 use crate::note::Seen;
@@ -53,8 +53,13 @@ pub fn plain_c(
     ensures memory { IsPlaced (reverse seen.now) → OnErr result (GrowsWithin (is_on_past tested) tested (reverse seen.now) faults.old faults.new) }
 {
     let mut conn = Conn::new(alloc, tested.role);
+    let mut bound = conn.size_bound();
     for event in seen {
+        if is_harmless(bound, &event.note) {
+            continue;
+        }
         conn.step(event.place, &event.note, faults)?;
+        bound = conn.size_bound();
     }
     Ok(())
 }

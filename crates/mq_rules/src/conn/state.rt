@@ -175,7 +175,7 @@ fn receives_ordinary(note: &Note) -> bool
 
 /// Whether a packet is neither a CONNECT nor a CONNACK nor a DISCONNECT.
 #[inline]
-fn is_ordinary(fields: &PacketFields) -> bool
+pub(super) fn is_ordinary(fields: &PacketFields) -> bool
     ensures { result ≡ is_ordinary_in fields.now }
 {
     !matches!(

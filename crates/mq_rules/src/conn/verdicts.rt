@@ -147,7 +147,7 @@ impl ConnectionState {
     }
 
     /// Whether the CONNACK resumed a session.
-    fn is_resumed(&self) -> bool
+    pub(super) fn is_resumed(&self) -> bool
         ensures { result ≡ is_some_and resumed_by self.now.connack }
     {
         match self.connack {
@@ -156,8 +156,8 @@ impl ConnectionState {
         }
     }
 
-    /// Whether there was no session to resume: the CONNECT had Clean Start 1, or the session wasn't alive.
-    fn is_not_to_be_resumed(&self) -> bool
+    /// Whether there was no session to be resumed: the CONNECT had Clean Start 1, or the session wasn't alive.
+    pub(super) fn is_not_to_be_resumed(&self) -> bool
         ensures { result ≡ (is_some_and (λ c. c.clean_start) self.now.connect || not self.now.was_alive) }
     {
         self.has_clean_start() || !self.was_alive
@@ -183,7 +183,7 @@ impl ConnectionState {
     }
 
     /// The peer's Maximum Packet Size, in bytes.
-    fn size_limit(&self, role: Role) -> Option<u32>
+    pub(super) fn size_limit(&self, role: Role) -> Option<u32>
         ensures { result ≡ told.size_limit role self.now }
     {
         match role {
@@ -216,7 +216,9 @@ fn explains(packet: &PacketNote) -> bool
     has_explanation(packet) && !packet.fields.may_explain()
 }
 
-fn has_explanation(packet: &PacketNote) -> bool
+/// Whether a packet has a Reason String or a User Property.
+#[inline]
+pub(super) fn has_explanation(packet: &PacketNote) -> bool
     ensures { result ≡ (packet.now.has_reason_string || packet.now.has_user_property) }
 {
     packet.has_reason_string || packet.has_user_property

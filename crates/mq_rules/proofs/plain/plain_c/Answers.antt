@@ -1,4 +1,4 @@
-use Rattle.std.proofs.Common.{refl, sym, subst, take}
+use Rattle.std.proofs.Common.{refl, sym, subst, take, ◌∙◌}
 use Rattle.std.specs.Prelude.{reverse}
 use Rattle.mq_rules.specs.Statements.{is_on_past}
 use Rattle.mq_rules.specs.Faults.{GrowsWithin}
@@ -6,11 +6,13 @@ use Rattle.mq_rules.specs.Keeping.{Agrees}
 use Rattle.mq_rules.proofs.MarkLaws.{on_err}
 use Rattle.mq_rules.proofs.GrowLaws.{grows-start}
 use Rattle.mq_rules.proofs.PlainLaws.{newest-first, next-place, grows-next, within-next}
+use Rattle.mq_rules.proofs.HarmlessLaws.{harmless-agrees, harmless-grows}
 use Rattle.mq_rules.proofs.plain.plain_c.Goals as goal
 
 pub loop-event-init : goal.loop-event-init
 loop-event-init c = record {
   agrees = c.new-conn.ensures c.args.tested refl;
+  bounded = c.size_bound-bound.ensures;
   grown = λ placed. grows-start (is_on_past c.args.tested) c.args.tested c.args.faults.now;
 }
 
@@ -23,9 +25,26 @@ loop-event-preserved c =
     record {
       agrees = subst (Agrees c.step.new.self c.args.tested) (sym (newest-first seen i e c.loop-event-test.true c.event-item.is))
           (c.in_ok-step.ensures.agrees c.args.tested past c.loop-event.invariant.agrees);
+      bounded = c.size_bound-bound-in-loop-event.ensures;
       grown = λ placed. grows-next (is_on_past c.args.tested) c.args.tested seen i e c.args.faults.now c.loop-event.faults c.step.new.faults c.loop-event-test.true c.event-item.is
           (c.loop-event.invariant.grown placed)
           (c.in_ok-step.ensures.grows c.args.tested past c.loop-event.invariant.agrees (next-place seen i e c.loop-event-test.true c.event-item.is placed));
+    }
+
+pub loop-event-preserved-then-is_harmless : goal.loop-event-preserved-then-is_harmless
+loop-event-preserved-then-is_harmless c =
+    let seen = c.args.seen.now in
+    let i = c.loop-event.event-index in
+    let e = c.event-item.result in
+    let past = reverse (take i seen) in
+    let harmless = sym c.is_harmless.ensures ∙ c.if-is_harmless.true in
+    record {
+      agrees = subst (Agrees c.loop-event.conn c.args.tested) (sym (newest-first seen i e c.loop-event-test.true c.event-item.is))
+          (harmless-agrees c.loop-event.conn c.args.tested e past c.loop-event.bound c.loop-event.invariant.bounded harmless c.loop-event.invariant.agrees);
+      bounded = c.loop-event.invariant.bounded;
+      grown = λ placed. grows-next (is_on_past c.args.tested) c.args.tested seen i e c.args.faults.now c.loop-event.faults c.loop-event.faults c.loop-event-test.true c.event-item.is
+          (c.loop-event.invariant.grown placed)
+          (harmless-grows c.loop-event.conn c.args.tested e past c.loop-event.faults c.loop-event.bound c.loop-event.invariant.bounded harmless c.loop-event.invariant.agrees (next-place seen i e c.loop-event-test.true c.event-item.is placed));
     }
 
 pub returns-in_err-step-clause-memory : goal.returns-in_err-step-clause-memory
