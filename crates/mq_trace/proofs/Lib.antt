@@ -20,3 +20,4 @@ pub mod TellingLaws
 pub mod TracingLaws
 pub mod WritingLaws
 pub mod Exports
+pub mod HeadLaws

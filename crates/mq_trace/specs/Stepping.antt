@@ -1,12 +1,14 @@
--- The steps of a log's reader: its state after the bytes of each.
-use Rattle.std.specs.Prelude.{◌≡◌, ℕ, ◌+◌, ◌==◌, nat_lt, ◌&&◌, not, cond, if◌then◌else◌, [], ◌∷◌, Option, Some, None, Result, Ok, Err}
+-- The steps of a log's reader: its state after the bytes of one.
+use Rattle.std.specs.Prelude.{◌≡◌, ℕ, ◌+◌, ◌<◌, ◌≤◌, ◌==◌, nat_lt, List, length, slice_index, true, ◌&&◌, not, cond, if◌then◌else◌, [], ◌∷◌, Option, Some, None, Result, Ok, Err}
+use Rattle.std.specs.Int.{w32, from_be_bytes}
 use Rattle.mq_trace.specs.declared.kind.RecordKind.{RecordKind}
+use Rattle.mq_trace.specs.declared.kind.RecordKind.TheVariants as kinds
 use Rattle.mq_trace.specs.declared.kind.Way.{Way}
 use Rattle.mq_trace.specs.declared.refusal.Refusal.{Refusal}
 use Rattle.mq_trace.specs.declared.refusal.Refusal.TheVariants as refusals
 use Rattle.mq_trace.specs.declared.stage.Stage.TheVariants as stages
 use Rattle.mq_trace.specs.declared.reading.Reading.{Reading}
-use Rattle.mq_trace.specs.Framing.{opens}
+use Rattle.mq_trace.specs.Framing.{kind_named, opens}
 use Rattle.mq_trace.specs.Events.{Event}
 use Rattle.mq_trace.specs.Refusals.{first_standing, is_open_kind, needs_connection, is_release_kind}
 use Rattle.mq_trace.specs.Context.{emptied}
@@ -56,6 +58,22 @@ refused_first r (Some kind) = met_by_kind r kind
 -- after more bytes of a record's head
 abbrev pub in_head : Reading → ℕ → RecordKind → ℕ → ℕ → Reading
 in_head r at kind count number = record r { at = at; stage = stages.Head kind count number }
+
+-- the kind of the records that carry packets this way
+abbrev pub kind_for : Way → RecordKind
+kind_for ways.Sent = kinds.Sent
+kind_for ways.Recv = kinds.Recv
+
+-- The reader is between two records, and the next bytes are the head of one that carries packets this way, of this length, and meets no refusal.
+pub record IsBodyHead (r : Reading) (bytes : List ℕ) (way : Way) (number : ℕ) : Type 0 where
+  pub behind : 8 ≤ r.at
+  pub between : r.stage ≡ stages.Between
+  pub connected : r.connections.connected ≡ true
+  pub room : r.records < 4294967295
+  pub whole : 5 ≤ length bytes
+  pub named : kind_named (slice_index bytes 0) ≡ Some (kind_for way)
+  pub spelled : number ≡ from_be_bytes w32 (slice_index bytes 1 ∷ slice_index bytes 2 ∷ slice_index bytes 3 ∷ slice_index bytes 4 ∷ [])
+  pub allowed : number ≤ 1048576
 
 -- after the last byte of a record that completes this event
 abbrev pub marked : Reading → Event → Reading

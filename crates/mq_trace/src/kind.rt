@@ -31,7 +31,7 @@ pub enum Way {
 }
 
 /// The longest body that a SENT or RECV record may have, in bytes.
-const LONGEST_BODY: u32 = 1_048_576;
+pub const LONGEST_BODY: u32 = 1_048_576;
 
 /// The length of a RELEASE record's body: a Packet Identifier.
 const RELEASE_BODY: u32 = 2;

@@ -1,7 +1,7 @@
 //! Reads a log: its header, its records, and what they carry.
 
-ghost use Rattle.std.specs.Prelude.{◌≡◌, ◌≢◌, ◌+◌, ◌*◌, ◌^◌, ◌<◌, ◌≤◌, ◌∷◌, ◌++◌, [], List, true, false, cond, Some, None, OnOk, IfOk, IfErr, length, take};
-ghost use Rattle.mq_trace.specs.Keeping.{half_in, context_of, IsUnfinished, IsSound, Comes, StepStops};
+ghost use Rattle.std.specs.Prelude.{◌≡◌, ◌≢◌, ◌+◌, ◌*◌, ◌^◌, ◌<◌, ◌≤◌, ◌∷◌, ◌++◌, [], List, true, false, cond, Some, None, OnOk, IfOk, IfErr, IfSome, IsTrue, length, take};
+ghost use Rattle.mq_trace.specs.Keeping.{half_in, context_of, IsUnfinished, IsSound, Advances, Comes, StepStops};
 ghost use Rattle.mq_trace.specs.Refusals.{allows, header_refusal};
 ghost use Rattle.std.specs.Int.{w16, w32, from_be_bytes};
 ghost use Rattle.mq_trace.specs.declared.kind.RecordKind.TheVariants as kinds;
@@ -11,7 +11,7 @@ ghost use Rattle.mq_trace.specs.Events.{Placed};
 ghost use Rattle.mq_trace.specs.Hearing.{AreEvents, Declines, event_of};
 ghost use Rattle.mq_trace.specs.Telling.{met_by, next_placed, Untold};
 ghost use Rattle.mq_trace.specs.Context.{fresh};
-ghost use Rattle.mq_trace.specs.Stepping.{err_of, behind_header, met_by_kind, Begins, refused_first, in_head, marked, leaving, bed_for, direction_for, flow_for, redirected};
+ghost use Rattle.mq_trace.specs.Stepping.{err_of, behind_header, met_by_kind, kind_for, IsBodyHead, Begins, refused_first, in_head, marked, leaving, bed_for, direction_for, flow_for, redirected};
 ghost use Rattle.mq_trace.specs.Flows.{flow_refused, flow_heard, flow_behind};
 ghost use Rattle.mq_trace.specs.Directing.{flow_of, FlowStops};
 
@@ -19,7 +19,7 @@ use super::connections::{Connections, tell};
 use super::direction::{Bed, Direction};
 use super::event::Event;
 use super::header::{HEADER_LENGTH, Header, header_after, header_refusal};
-use super::kind::{RecordKind, Way};
+use super::kind::{LONGEST_BODY, RecordKind, Way};
 use super::refusal::Refusal;
 use super::sink::Sink;
 use super::stage::Stage;
@@ -27,6 +27,18 @@ use std::alloc::Global;
 
 /// The length of a record's head, in bytes: its kind, and the length of its body.
 const HEAD_LENGTH: usize = 5;
+
+/// The direction of the packets that a record carries, where this byte begins it and it is a SENT or RECV.
+#[inline(always)]
+fn way_named(byte: u8) -> Option<Way>
+    ensures { IfSome result (λ way. kind_named byte ≡ Some (kind_for way)) }
+{
+    match byte {
+        2 => Some(Way::Sent),
+        3 => Some(Way::Recv),
+        _ => None,
+    }
+}
 
 /// What is kept of a log.
 #[derive(Drop)]
@@ -74,6 +86,80 @@ impl Reading {
     ///
     /// The refusal that applies first at one of them; the sink's own refusal; `Memory`.
     pub fn take<S: Sink>(&mut self, bytes: &[u8], sink: &mut S) -> Result<usize, Refusal>
+        requires some { 1 ≤ length bytes.now }
+        requires sound { IsSound self.old }
+        ensures count { IfOk result (λ n. (1 ≤ n) × (n ≤ length bytes.now)) }
+        ensures sound { OnOk result (IsSound self.new) }
+        ensures comes { IfOk result (λ n. Comes S.agrees self.old self.new (take n bytes.now) sink.old sink.new) }
+        ensures stops { IfErr result (λ refusal. StepStops (Declines S.agrees S.refuses) self.old bytes.now sink.old sink.new refusal) }
+    {
+        let head = self.skip_head(bytes);
+        if head == bytes.len() {
+            return Ok(head);
+        }
+        match self.go_on(&bytes[head..], sink) {
+            Ok(count) => Ok(head + count),
+            Err(refusal) => Err(refusal),
+        }
+    }
+
+    /// Takes in the head of a SENT or RECV, where the next bytes are one and it meets no refusal: most records begin so. Answers how
+    /// many bytes it has, or 0.
+    #[inline(always)]
+    fn skip_head(&mut self, bytes: &[u8]) -> usize
+        requires sound { IsSound self.old }
+        ensures count { result ≤ length bytes.now }
+        ensures sound { IsSound self.new }
+        ensures moved { self.new.at ≡ self.old.at + result }
+        ensures advances { Advances self.old self.new (take result bytes.now) [] }
+    {
+        match self.body_head(bytes) {
+            Some((way, length)) => {
+                self.at += HEAD_LENGTH as u64;
+                self.leave(way, length);
+                HEAD_LENGTH
+            }
+            None => 0,
+        }
+    }
+
+    /// The direction and the length of the body, where the next bytes are the head of a SENT or RECV that meets no refusal.
+    #[inline(always)]
+    fn body_head(&self, bytes: &[u8]) -> Option<(Way, u32)>
+        ensures { IfSome result (λ body. IsBodyHead self.now bytes.now body.0 body.1) }
+    {
+        if self.at < HEADER_LENGTH {
+            return None;
+        }
+        if bytes.len() < HEAD_LENGTH {
+            return None;
+        }
+        if !self.takes_bodies() {
+            return None;
+        }
+        let way = way_named(bytes[0])?;
+        let length = u32::from_be_bytes([bytes[1], bytes[2], bytes[3], bytes[4]]);
+        if LONGEST_BODY < length {
+            return None;
+        }
+        Some((way, length))
+    }
+
+    /// Whether the next byte can begin a record that carries packets.
+    #[inline(always)]
+    fn takes_bodies(&self) -> bool
+        ensures { IsTrue result → (self.now.stage ≡ stages.Between) × (self.now.connections.connected ≡ true) × (self.now.records < 4294967295) }
+    {
+        self.stage.is_between() && self.connections.connected && self.records != u32::MAX
+    }
+
+    /// Takes in the next bytes where no head of a SENT or RECV was taken in at once.
+    ///
+    /// # Errors
+    ///
+    /// As `take`.
+    #[inline(always)]
+    fn go_on<S: Sink>(&mut self, bytes: &[u8], sink: &mut S) -> Result<usize, Refusal>
         requires some { 1 ≤ length bytes.now }
         requires sound { IsSound self.old }
         ensures count { IfOk result (λ n. (1 ≤ n) × (n ≤ length bytes.now)) }
