@@ -2,7 +2,7 @@
 //!
 //! Memory is taken only for a text that some statement looks at: the Topic Name of a PUBLISH that was sent, the Topic Filters of a
 //! SUBSCRIBE that was received, and the Reason Codes of a SUBACK that was sent.
-ghost use Rattle.std.specs.Prelude.{◌≡◌, ◌<◌, ℕ, List, [], true, is_some, length, option_map, unwrap_or, IfOk, OnErr};
+ghost use Rattle.std.specs.Prelude.{◌≡◌, ◌<◌, ◌≤◌, ℕ, List, [], true, is_some, length, option_map, unwrap_or, IfOk, OnErr};
 ghost use Rattle.mq_props.specs.First.{first_two_bytes, first_four_bytes, first_varint, first_text, first_pair};
 ghost use Rattle.mq_packet.specs.declared.packet.RequestKind.TheVariants as requests;
 ghost use Rattle.mq_packet.specs.Reading.{view, connect_view, publish_view};
@@ -154,6 +154,18 @@ fn kept_topic(alloc: Global, way: Way, topic: &str) -> Result<Text, Memory>
     match way {
         Way::Sent => Text::of(alloc, topic),
         Way::Recv => Ok(Text::empty()),
+    }
+}
+
+/// The Topic Name, where its PUBLISH was sent, and it is short.
+#[inline(always)]
+fn short_topic(way: Way, topic: &str) -> Text
+    requires { length topic.now ≤ 30 }
+    ensures { result ≡ kept (is_sent_way way) topic.now }
+{
+    match way {
+        Way::Sent => Text::short(topic),
+        Way::Recv => Text::empty(),
     }
 }
 
@@ -391,8 +403,17 @@ impl Note {
         }
     }
 
-    /// The same, with this copy of the Topic Name. The note is made in one piece, since moving a note costs more than making
-    /// it.
+    /// The same, where the Topic Name is short enough to lie in the note.
+    #[inline(always)]
+    pub fn of_short_publish(way: Way, size: u32, publish: &Publish<'_>) -> Note
+        requires { length publish.now.topic.now ≤ 30 }
+        ensures { result ≡ note_of (going way (packet size (publish_entry (publish_view publish.now)))) }
+    {
+        Note::with_topic(way, size, short_topic(way, publish.topic), publish)
+    }
+
+    /// The same, where this is kept of the Topic Name. It is made in one piece, since each move of a note costs more than what is
+    /// noted.
     #[inline(always)]
     fn with_topic(way: Way, size: u32, topic: Text, publish: &Publish<'_>) -> Note
         ensures { topic ≡ kept (is_sent_way way) publish.now.topic.now → result ≡ note_of (going way (packet size (publish_entry (publish_view publish.now)))) }

@@ -34,7 +34,7 @@ impl Model for Text {
 }
 
 impl Text {
-    ghost use Rattle.std.specs.Prelude.{◌≡◌, ◌<◌, ◌==◌, [], length, IfOk, OnErr};
+    ghost use Rattle.std.specs.Prelude.{◌≡◌, ◌<◌, ◌≤◌, ◌==◌, nat_le, [], length, IfOk, OnErr};
 
     /// The empty text.
     #[inline(always)]
@@ -56,12 +56,30 @@ impl Text {
         ensures exact { IfOk result (λ copy. copy ≡ text.now) }
         ensures needed { OnErr result (30 < length text.now) }
     {
-        if text.len() > ROOM {
-            return Text::long(alloc, text);
+        if Text::is_short(text) {
+            Ok(Text::short(text))
+        } else {
+            Text::long(alloc, text)
         }
-        Ok(Text {
+    }
+
+    /// Whether a copy of the text lies in the value itself.
+    #[inline(always)]
+    pub fn is_short(text: &str) -> bool
+        ensures { result ≡ nat_le (length text.now) 30 }
+    {
+        text.len() <= ROOM
+    }
+
+    /// A copy of the text, which lies in the value itself.
+    #[inline(always)]
+    pub fn short(text: &str) -> Text
+        requires { length text.now ≤ 30 }
+        ensures { result ≡ text.now }
+    {
+        Text {
             form: Form::Short(ShortText::of(text)),
-        })
+        }
     }
 
     /// A copy of the text, in memory of its own.
