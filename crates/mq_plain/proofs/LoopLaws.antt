@@ -1,6 +1,6 @@
 -- Judging the events of a list one after another: what comes before each of them, and the faults that one event adds.
 use Rattle.std.proofs.Common.{◌≡◌, ℕ, zero, suc, ◌+◌, ◌<◌, ◌==◌, Bool, true, false, cond, ◌&&◌, ◌||◌, List, [], ◌∷◌, ◌++◌, length, take, drop, get_or, Option, Some, None, refl, ap, sym, ◌∙◌, subst, arith, ◌⊎◌, inl, inr}
-use Rattle.std.specs.Prelude.{reverse}
+use Rattle.std.specs.Prelude.{is_some, reverse}
 use mathlib.Core.List.{reverse_aux}
 use Rattle.std.proofs.lemmas.Bool.{eqb-true}
 use Rattle.std.proofs.lemmas.List.{reverse-append, take-append-drop}
@@ -9,6 +9,7 @@ use Rattle.mq_rules.specs.contracts.rule.Rule.{the_type}
 use Rattle.mq_rules.specs.declared.role.Role.{Role}
 use Rattle.mq_rules.specs.declared.role.Tested.{Tested}
 use Rattle.mq_rules.specs.declared.rule.Rule.{Rule}
+use Rattle.mq_rules.specs.declared.note.Note.{Note}
 use Rattle.mq_rules.specs.declared.note.Seen.{Seen}
 use Rattle.mq_rules.specs.declared.fault.Fault.{Fault}
 use Rattle.mq_rules.specs.declared.fate.Fate.{Fate}
@@ -199,9 +200,18 @@ pub fate-step : (role : Role) (seen : List Seen) (i : ℕ) (e : Seen) (fate afte
 fate-step role seen i e fate after lt is at then_so =
     then_so ∙ ap (λ f. cond (is_open e.note) None (or_else f (decides role e.note))) at ∙ sym (latest_fate-next role e (reverse (take i seen))) ∙ ap (latest_fate role) (sym (newest-at seen i e lt is))
 
+-- an event that begins nothing leaves a fate that is decided
+pub fate-kept : (role : Role) (n : Note) (fate : Option Fate) → is_some fate ≡ true → is_open n ≡ false → fate ≡ cond (is_open n) None (or_else fate (decides role n))
+fate-kept role n None decided goes_on = absurd (cc)
+fate-kept role n (Some f) decided goes_on = sym (ap (λ b. cond b None (Some f)) goes_on)
+
 -- ---- whether something asks
 
 pub asked-step : (seen : List Seen) (i : ℕ) (e : Seen) (asked after : Bool) → i < length seen → e ≡ get_or seen i e → asked ≡ some_asks (reverse (take i seen))
     → after ≡ (asked || asks e.note) → after ≡ some_asks (reverse (take (i + 1) seen))
 asked-step seen i e asked after lt is at then_so =
     then_so ∙ ap (λ b. b || asks e.note) at ∙ or-turn (some_asks (reverse (take i seen))) (asks e.note) ∙ ap some_asks (sym (newest-at seen i e lt is))
+
+pub asked-kept : (n : Note) (asked : Bool) → asks n ≡ false → asked ≡ (asked || asks n)
+asked-kept n true unasked = refl
+asked-kept n false unasked = sym unasked

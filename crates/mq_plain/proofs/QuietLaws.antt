@@ -20,7 +20,7 @@ use Rattle.mq_rules.specs.Words.{or_else, is_some_and, only}
 use Rattle.mq_rules.specs.declared.packet_note.PacketFields.TheVariants as fields
 use Rattle.mq_packet.specs.declared.packet.Qos.{Qos}
 use Rattle.mq_packet.specs.declared.packet.Qos.TheVariants as quality
-use Rattle.mq_rules.specs.Notes.{is_rest, released_id, sent_fields, received_fields, publish_in, is_acknowledged, is_at_least_once, is_exactly_once, received_once_acknowledged, received_exactly_once, received_as, accepting_pubrec_in, opener_of, is_pingreq, is_received_pingreq, is_sent_pingresp, delivery_in, opener_in, resend_in, puback_in, pubrec_in, pubrel_in, pubcomp_in, subscribe_in, suback_in, unsubscribe_in, unsuback_in, success_pubcomp_in, grant_in, unsuback_count_in}
+use Rattle.mq_rules.specs.Notes.{is_open, is_rest, released_id, sent_fields, received_fields, publish_in, is_acknowledged, is_at_least_once, is_exactly_once, received_once_acknowledged, received_exactly_once, received_as, accepting_pubrec_in, opener_of, is_pingreq, is_received_pingreq, is_sent_pingresp, delivery_in, opener_in, resend_in, puback_in, pubrec_in, pubrel_in, pubcomp_in, subscribe_in, suback_in, unsubscribe_in, unsuback_in, success_pubcomp_in, grant_in, unsuback_count_in}
 use Rattle.mq_rules.specs.Moments.{Moment, newest, note, moment, moments, some, those, count, is_next}
 use Rattle.mq_rules.specs.Connections.{IsInOrder, latest_fate, accepts, resumed, connection, begun, number, is_binding}
 use Rattle.mq_rules.specs.Rules.{binds, found_line, lines, line_of}
@@ -33,9 +33,9 @@ use Rattle.mq_rules.specs.Subscriptions.{breaks_B01, breaks_B02, breaks_B03, bre
 use Rattle.mq_rules.specs.Marks.{FaultMap, fault_at}
 use Rattle.mq_rules.specs.Faults.{reported}
 use Rattle.mq_rules.specs.Keeping.{GrowsBy}
-use Rattle.mq_rules.proofs.Exports.{and_false, both_true, or_else-none, in_order-turns, in_order-releases}
+use Rattle.mq_rules.proofs.Exports.{and_false, or_false, both_true, or_else-none, in_order-turns, in_order-releases}
 use Rattle.mq_plain.specs.Chosen.{is_plain_se, is_plain_lb, is_plain}
-use Rattle.mq_plain.specs.Events.{is_client, is_spoken_of, is_quiet, is_asking, asks, some_asks, AreSilent}
+use Rattle.mq_plain.specs.Events.{is_client, is_spoken_of, is_quiet, is_asking, asks, some_asks, is_unacknowledged, is_idle, AreSilent}
 
 -- ---- what a quiet event is not
 
@@ -419,3 +419,23 @@ pub resting-grows : (chosen : Rule → Bool) (tested : Tested) (e : Seen) (past 
 resting-grows chosen tested e past faults asked silent order finds so =
     let both = both_true (is_rest e.note) (not asked) finds in
     grows-none chosen tested e past faults (λ k r is. silent.resting tested e past k r is both.0 (sym so ∙ not-true asked both.1) order)
+
+-- ---- an idle event
+
+pub record Idles (role : Role) (n : Note) : Type 0 where
+  pub quiet : is_quiet role n ≡ true
+  pub unasked : asks n ≡ false
+  pub goes_on : is_open n ≡ false
+
+idle-sent : (role : Role) (f : PacketFields) → ((is_client role && is_unacknowledged f) || false) ≡ true → (is_spoken_of role f ≡ false) × (is_asking f ≡ false)
+idle-sent Client (Publish p) h = let t = sym (or_false (not (is_acknowledged p.qos))) ∙ h in (λ i. not (t i), λ i. not (t i))
+idle-sent role _ h = absurd (cc)
+
+idle-received : (f : PacketFields) → is_unacknowledged f ≡ true → is_asking f ≡ false
+idle-received (Publish p) h = λ i. not (h i)
+idle-received _ h = absurd (cc)
+
+pub idle-idles : (role : Role) (n : Note) → is_idle role n ≡ true → Idles role n
+idle-idles role (notes.Sent (items.Packet p)) h = let both = idle-sent role p.fields h in record { quiet = ap not both.0; unasked = ap (λ b. b || false) both.1; goes_on = refl }
+idle-idles role (notes.Recv (items.Packet p)) h = record { quiet = refl; unasked = idle-received p.fields h; goes_on = refl }
+idle-idles role _ h = absurd (cc)

@@ -48,6 +48,14 @@ asks n = is_some_and is_asking (sent_fields n) || is_some_and is_asking (receive
 abbrev pub some_asks : List Seen → Bool
 some_asks log = some (λ m. asks (note m)) (moments log)
 
+-- a PUBLISH of QoS 0
+abbrev pub is_unacknowledged : PacketFields → Bool
+is_unacknowledged fields = is_some_and (λ p. not (is_acknowledged p.qos)) (publish_in fields)
+
+-- A PUBLISH of QoS 0 that a client sends, or that is received: it is quiet, asks nothing, and decides nothing.
+abbrev pub is_idle : Role → Note → Bool
+is_idle role n = is_some_and (λ fields. is_client role && is_unacknowledged fields) (sent_fields n) || is_some_and is_unacknowledged (received_fields n)
+
 -- None of these statements turns out false with a quiet event, nor with a REST before which no event asks, in a log that is in order.
 pub record AreSilent (chosen : Rule → Bool) : Type 0 where
   pub quiet : (tested : Tested) (e : Seen) (past : List Seen) (k : ℕ) (rule : Rule) → chosen rule ≡ true → is_quiet tested.role e.note ≡ true → IsInOrder tested.role (e ∷ past) → turns tested e past k rule ≡ false

@@ -1,15 +1,15 @@
 //! One pass over the events of a list, in which an evaluator judges each.
 //!
-//! Most events are quiet and cost one test, and each event is visited once, however many statements there are. A REST looks back only
-//! if something before it asks for an answer, or may have to be sent again.
-ghost use Rattle.std.specs.Prelude.{◌≡◌, ◌∷◌, ◌&&◌, ◌||◌, not, cond, None, reverse, OnOk, OnErr};
+//! Few events are spoken of: a quiet one costs a test, and each event is met once, whatever the number of statements. A REST looks
+//! back only if something before it asked for an answer.
+ghost use Rattle.std.specs.Prelude.{◌≡◌, ◌∷◌, ◌&&◌, ◌||◌, not, cond, None, is_some, reverse, OnOk, OnErr};
 ghost use Rattle.mq_rules.specs.Notes.{is_open, is_rest, decides};
 ghost use Rattle.mq_rules.specs.Words.{or_else};
 ghost use Rattle.mq_rules.specs.Moments.{IsPlaced};
 ghost use Rattle.mq_rules.specs.Connections.{IsInOrder, latest_fate};
 ghost use Rattle.mq_rules.specs.Faults.{Grows, GrowsWithin};
 ghost use Rattle.mq_rules.specs.Keeping.{GrowsBy, GrowsByWithin};
-ghost use Rattle.mq_plain.specs.Events.{AreSilent, asks as asks_for, is_asking as asking, is_quiet as quiet, is_spoken_of as spoken_of, some_asks};
+ghost use Rattle.mq_plain.specs.Events.{AreSilent, asks as asks_for, is_asking as asking, is_idle as idle, is_quiet as quiet, is_spoken_of as spoken_of, is_unacknowledged as unacknowledged, some_asks};
 
 use crate::binding::is_binding_rest;
 use crate::evaluator::Evaluator;
@@ -39,6 +39,9 @@ pub fn judge_each<E: Evaluator>(
         asked: false,
     };
     for (i, event) in seen.iter().enumerate() {
+        if is_passed_over(kept, tested.role, &event.note) {
+            continue;
+        }
         let before = &seen[..i];
         judge_next(&evaluator, alloc, tested, kept, event, before, faults)?;
         kept = kept_after(kept, tested.role, &event.note);
@@ -55,8 +58,41 @@ struct Kept {
     asked: bool,
 }
 
-/// Judges an event with these events before it, of which this is kept. A quiet event, or a REST before which no event asks for an
-/// answer, needs no look back.
+/// Whether an event is seen at once to be quiet, and to leave what is kept as it is.
+#[inline(always)]
+fn is_passed_over(kept: Kept, role: Role, note: &Note) -> bool
+    ensures { result ≡ (is_some kept.fate && idle role note.now) }
+{
+    kept.fate.is_some() && is_idle(role, note)
+}
+
+/// Whether it is a PUBLISH of QoS 0 that a client sends, or that is received.
+#[inline(always)]
+fn is_idle(role: Role, note: &Note) -> bool
+    ensures { result ≡ idle role note.now }
+{
+    match note {
+        Note::Sent(ItemNote::Packet(packet)) => {
+            matches!(role, Role::Client) && is_unacknowledged(&packet.fields)
+        }
+        Note::Recv(ItemNote::Packet(packet)) => is_unacknowledged(&packet.fields),
+        _ => false,
+    }
+}
+
+/// Whether a packet is a PUBLISH of QoS 0.
+#[inline(always)]
+fn is_unacknowledged(fields: &PacketFields) -> bool
+    ensures { result ≡ unacknowledged fields.now }
+{
+    match fields {
+        PacketFields::Publish(publish) => matches!(publish.qos, Qos::AtMostOnce),
+        _ => false,
+    }
+}
+
+/// Judges an event that has these events before it, of which this is kept. Nothing is looked up for a quiet one, nor for a REST
+/// before which nothing asks.
 #[inline(always)]
 fn judge_next<E: Evaluator>(
     evaluator: &E,
