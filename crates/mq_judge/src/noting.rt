@@ -1,5 +1,5 @@
-//! The notes of the events of a log.
-ghost use Rattle.std.specs.Prelude.{◌≡◌, ◌≤◌, ◌⊎◌, [], ◌∷◌, length, reverse, true, vec_len, vec_capacity, OnOk, OnErr};
+//! What is noted of the events of a log.
+ghost use Rattle.std.specs.Prelude.{◌≡◌, ◌≤◌, ◌⊎◌, [], ◌∷◌, length, reverse, true, vec_len, vec_capacity, IsTrue, OnOk, OnErr};
 ghost use Rattle.mq_packet.specs.Entries.{publish as publish_entry};
 ghost use Rattle.mq_packet.specs.Reading.{publish_view};
 ghost use Rattle.mq_trace.specs.Events.{packet};
@@ -9,7 +9,7 @@ ghost use Rattle.mq_rules.specs.Notes.{note_keeps_text, note_of, seen};
 ghost use Rattle.mq_rules.specs.Moments.{IsPlaced};
 
 use mq_packet::Publish;
-use mq_rules::{Memory, Note, Seen};
+use mq_rules::{Memory, Note, Seen, Text};
 use mq_trace::{Event, Place3, Refusal, Sink, Way};
 use std::alloc::Global;
 
@@ -45,11 +45,12 @@ impl Notes {
     {
         self.seen.reserve(1)?;
         let note = Note::of(self.alloc, event)?;
-        self.seen.push(Seen { place, note }).unwrap();
+        self.seen.push_reserved(Seen { place, note });
         Ok(())
     }
 
-    /// Notes the next event, a PUBLISH of `size` bytes in this direction, which has this place.
+    /// Notes the next event, which is a PUBLISH of so many bytes, goes this way, and stands at this place. Most have a short Topic
+    /// Name and no properties: the note of one is made in its place.
     ///
     /// # Errors
     ///
@@ -60,15 +61,68 @@ impl Notes {
         place: Place3,
         way: Way,
         size: u32,
-        publish: &Publish<'_>,
+        publish: Publish<'_>,
     ) -> Result<(), Memory>
-        ensures noted { OnOk result (reverse self.new.seen.items ≡ record { place = place; note = note_of (going way (packet size (publish_entry (publish_view publish.now)))) } ∷ reverse self.old.seen.items) }
-        ensures needed { OnErr result ((vec_capacity self.old.seen ≤ vec_len self.old.seen) ⊎ (note_keeps_text (note_of (going way (packet size (publish_entry (publish_view publish.now))))) ≡ true)) }
+        ensures noted { OnOk result (reverse self.new.seen.items ≡ record { place = place; note = note_of (going way (packet size (publish_entry (publish_view publish.entry)))) } ∷ reverse self.old.seen.items) }
+        ensures needed { OnErr result ((vec_capacity self.old.seen ≤ vec_len self.old.seen) ⊎ (note_keeps_text (note_of (going way (packet size (publish_entry (publish_view publish.entry))))) ≡ true)) }
+        ensures unchanged { OnErr result (self.new.seen.items ≡ self.old.seen.items) }
+    {
+        if !is_brief(&publish) {
+            return self.note_any_publish(place, way, size, publish);
+        }
+        match way {
+            Way::Sent => self.note_short_publish(place, Way::Sent, size, publish),
+            Way::Recv => self.note_short_publish(place, Way::Recv, size, publish),
+        }
+    }
+
+    /// The same where the Topic Name is short.
+    ///
+    /// # Errors
+    ///
+    /// `Memory` where there is no room for one more note. The notes are then unchanged.
+    #[inline(always)]
+    fn note_short_publish(
+        &mut self,
+        place: Place3,
+        way: Way,
+        size: u32,
+        publish: Publish<'_>,
+    ) -> Result<(), Memory>
+        requires { length publish.topic.now ≤ 30 }
+        ensures noted { OnOk result (reverse self.new.seen.items ≡ record { place = place; note = note_of (going way (packet size (publish_entry (publish_view publish.entry)))) } ∷ reverse self.old.seen.items) }
+        ensures needed { OnErr result ((vec_capacity self.old.seen ≤ vec_len self.old.seen) ⊎ (note_keeps_text (note_of (going way (packet size (publish_entry (publish_view publish.entry))))) ≡ true)) }
         ensures unchanged { OnErr result (self.new.seen.items ≡ self.old.seen.items) }
     {
         self.seen.reserve(1)?;
-        let note = Note::of_publish(self.alloc, way, size, publish)?;
-        self.seen.push(Seen { place, note }).unwrap();
+        self.seen.push_reserved(Seen {
+            place,
+            note: Note::of_short_publish(way, size, &publish),
+        });
+        Ok(())
+    }
+
+    /// The same for any PUBLISH. It stays apart, and takes the PUBLISH by value: one that another function looks at lies in memory,
+    /// and is put there field by field.
+    ///
+    /// # Errors
+    ///
+    /// `Memory` where there is no room for one more note, or none for a text that the note keeps. The notes are then unchanged.
+    #[inline(never)]
+    fn note_any_publish(
+        &mut self,
+        place: Place3,
+        way: Way,
+        size: u32,
+        publish: Publish<'_>,
+    ) -> Result<(), Memory>
+        ensures noted { OnOk result (reverse self.new.seen.items ≡ record { place = place; note = note_of (going way (packet size (publish_entry (publish_view publish.entry)))) } ∷ reverse self.old.seen.items) }
+        ensures needed { OnErr result ((vec_capacity self.old.seen ≤ vec_len self.old.seen) ⊎ (note_keeps_text (note_of (going way (packet size (publish_entry (publish_view publish.entry))))) ≡ true)) }
+        ensures unchanged { OnErr result (self.new.seen.items ≡ self.old.seen.items) }
+    {
+        self.seen.reserve(1)?;
+        let note = Note::of_publish(self.alloc, way, size, &publish)?;
+        self.seen.push_reserved(Seen { place, note });
         Ok(())
     }
 
@@ -81,6 +135,14 @@ impl Notes {
             None => 0,
         }
     }
+}
+
+/// Whether a PUBLISH has a short Topic Name and no properties.
+#[inline(always)]
+fn is_brief(publish: &Publish<'_>) -> bool
+    ensures { IsTrue result → length publish.now.topic.now ≤ 30 }
+{
+    Text::is_short(publish.topic) && publish.properties.as_bytes().is_empty()
 }
 
 impl Sink for Notes {
@@ -109,7 +171,7 @@ impl Sink for Notes {
         size: u32,
         publish: Publish<'_>,
     ) -> Result<(), Refusal> {
-        match self.note_publish(place, way, size, &publish) {
+        match self.note_publish(place, way, size, publish) {
             Ok(()) => Ok(()),
             Err(Memory) => Err(Refusal::Memory(0)),
         }
