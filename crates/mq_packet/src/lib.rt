@@ -18,6 +18,7 @@ mod kinds;
 mod laws;
 mod outcome_laws;
 mod packet;
+mod protocol;
 mod reading;
 mod reason_codes;
 mod rule;

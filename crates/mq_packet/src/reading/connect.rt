@@ -9,33 +9,15 @@ ghost use Rattle.mq_packet.specs.Reading.{Takes, TakesPart, Reads, will_view, co
 
 use super::fields::{property_list, protocol_name, protocol_version, whole};
 use crate::packet::{Connect, Qos, Will};
+use crate::protocol::{
+    CLEAN_START, PASSWORD, RESERVED, USER_NAME, WILL, WILL_QOS, WILL_QOS_ONE, WILL_RETAIN,
+};
 use crate::rule::PacketRule;
 use crate::stop::Stop;
 use mq_props::Place;
 use mq_wire::Cursor;
 
-/// The Connect Flag that is reserved (MQTT 5.0, section 3.1.2.3).
-const RESERVED: u8 = 0x01;
-
-/// The Connect Flag Clean Start (MQTT 5.0, section 3.1.2.4).
-const CLEAN_START: u8 = 0x02;
-
-/// The Will Flag (MQTT 5.0, section 3.1.2.5).
-const WILL: u8 = 0x04;
-
-/// The two bits of the Will QoS (MQTT 5.0, section 3.1.2.6).
-const WILL_QOS: u8 = 0x18;
-
-/// The Connect Flag Will Retain (MQTT 5.0, section 3.1.2.7).
-const WILL_RETAIN: u8 = 0x20;
-
-/// The Password Flag (MQTT 5.0, section 3.1.2.9).
-const PASSWORD: u8 = 0x40;
-
-/// The User Name Flag (MQTT 5.0, section 3.1.2.8).
-const USER_NAME: u8 = 0x80;
-
-// Whether these are valid Connect Flags.
+// Whether these may be Connect Flags.
 fn are_flags(flags: u8) -> bool
     ensures { result ≡ are_connect_flags flags }
 {
@@ -64,7 +46,7 @@ fn will_qos(flags: u8) -> Qos
 {
     match flags & WILL_QOS {
         0 => Qos::AtMostOnce,
-        0x08 => Qos::AtLeastOnce,
+        WILL_QOS_ONE => Qos::AtLeastOnce,
         _ => Qos::ExactlyOnce,
     }
 }

@@ -8,6 +8,7 @@ ghost use Rattle.mq_packet.specs.Decoding.{read, read_field, ended};
 ghost use Rattle.mq_packet.specs.Reading.{Takes, Reads};
 
 use crate::codes::is_code;
+use crate::protocol::{PROTOCOL_NAME, PROTOCOL_VERSION};
 use crate::rule::PacketRule;
 use crate::stop::Stop;
 use mq_props::{Place, Props};
@@ -16,12 +17,6 @@ use mq_wire::Cursor;
 
 /// The Reason Code Success (MQTT 5.0, section 2.4).
 pub const SUCCESS: u8 = 0x00;
-
-/// The protocol's name (MQTT 5.0, section 3.1.2.1).
-const PROTOCOL_NAME: &str = "MQTT";
-
-/// The protocol's version (MQTT 5.0, section 3.1.2.2).
-const PROTOCOL_VERSION: u8 = 5;
 
 /// The packet, if nothing is left over (MQTT 5.0, section 2.1.4).
 ///

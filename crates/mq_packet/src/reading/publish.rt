@@ -10,19 +10,11 @@ ghost use Rattle.mq_packet.specs.Reading.{Takes, Reads, publish_view};
 
 use super::fields::{packet_identifier, property_list, topic_name};
 use crate::packet::{Publish, Qos};
+use crate::protocol::{DUP, QOS, QOS_ONE, QOS_TWO, RETAIN};
 use crate::rule::PacketRule;
 use crate::stop::Stop;
 use mq_props::{Place, Props};
 use mq_wire::Cursor;
-
-/// The flag DUP (MQTT 5.0, section 3.3.1.1).
-const DUP: u8 = 0x08;
-
-/// The two bits of the QoS (MQTT 5.0, section 3.3.1.2).
-const QOS: u8 = 0x06;
-
-/// The flag RETAIN (MQTT 5.0, section 3.3.1.3).
-const RETAIN: u8 = 0x01;
 
 /// Reads a PUBLISH with these flags (MQTT 5.0, section 3.3) from all that is left.
 ///
@@ -38,8 +30,8 @@ pub fn read_publish<'a>(flags: u8, cursor: Cursor<'a>) -> Result<Publish<'a>, St
     let retain = flags & RETAIN != 0;
     match flags & QOS {
         0 => read_unacknowledged(cursor, duplicate, retain),
-        0x02 => read_acknowledged(cursor, duplicate, Qos::AtLeastOnce, retain),
-        0x04 => read_acknowledged(cursor, duplicate, Qos::ExactlyOnce, retain),
+        QOS_ONE => read_acknowledged(cursor, duplicate, Qos::AtLeastOnce, retain),
+        QOS_TWO => read_acknowledged(cursor, duplicate, Qos::ExactlyOnce, retain),
         _ => Err(Stop::Broken {
             at: 0,
             rule: PacketRule::W07,

@@ -15,6 +15,7 @@ use super::fields::{
 use super::first::connect_flags;
 use super::puts::{put_byte, put_bytes, put_number, put_string};
 use crate::packet::{Acknowledgement, Answer, Connack, Connect, Ending, Packet, Publish, Request};
+use crate::protocol::{PROTOCOL_NAME, PROTOCOL_VERSION};
 use mq_wire::PutFault;
 
 // The variable header of a CONNECT (MQTT 5.0, section 3.1.2).
@@ -24,8 +25,8 @@ fn put_connect_header(out: &mut Vec<u8>, packet: &Connect<'_>) -> Result<(), Put
     ensures capacity { vec_capacity out.old ≤ vec_capacity out.new }
     ensures err { OnErr result (LacksRoom (vec_capacity out.old) out.old.items (text_spelling (codes "MQTT") ++ (5 ∷ (bit 2 packet.now.clean_start + will_flags (option_map will_view packet.now.will) + bit 64 (is_some (option_map (λ b. b.now) packet.now.password)) + bit 128 (is_some (option_map (λ t. t.now) packet.now.user_name))) ∷ (two_bytes_spelling packet.now.keep_alive ++ list_spelling packet.now.properties.items)))) }
 {
-    put_string(out, "MQTT")?;
-    put_byte(out, 5)?;
+    put_string(out, PROTOCOL_NAME)?;
+    put_byte(out, PROTOCOL_VERSION)?;
     put_byte(out, connect_flags(packet))?;
     put_number(out, packet.keep_alive)?;
     put_list(out, &packet.properties)

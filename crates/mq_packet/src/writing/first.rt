@@ -10,6 +10,9 @@ use crate::first_bytes::{
     PUBREL, SUBACK, SUBSCRIBE, UNSUBACK, UNSUBSCRIBE,
 };
 use crate::packet::{Connect, Packet, Publish, Qos, Will};
+use crate::protocol::{
+    CLEAN_START, DUP, PASSWORD, QOS_ONE, RETAIN, USER_NAME, WILL, WILL_QOS_ONE, WILL_RETAIN,
+};
 
 // The flag as the bit of this weight.
 fn bit(weight: u8, flag: bool) -> u8
@@ -37,7 +40,7 @@ fn will_flags(will: &Option<Will<'_>>) -> u8
     ensures bound { result ≤ 52 }
 {
     match will {
-        Some(will) => 4 + qos_bits(8, will.qos) + bit(32, will.retain),
+        Some(will) => WILL + qos_bits(WILL_QOS_ONE, will.qos) + bit(WILL_RETAIN, will.retain),
         None => 0,
     }
 }
@@ -58,16 +61,17 @@ fn is_binary(bytes: Option<&[u8]>) -> bool
 pub fn connect_flags(packet: &Connect<'_>) -> u8
     ensures { result ≡ bit 2 packet.now.clean_start + will_flags (option_map will_view packet.now.will) + bit 64 (is_some (option_map (λ b. b.now) packet.now.password)) + bit 128 (is_some (option_map (λ t. t.now) packet.now.user_name)) }
 {
-    bit(2, packet.clean_start)
+    bit(CLEAN_START, packet.clean_start)
         + will_flags(&packet.will)
-        + bit(64, is_binary(packet.password))
-        + bit(128, is_text(packet.user_name))
+        + bit(PASSWORD, is_binary(packet.password))
+        + bit(USER_NAME, is_text(packet.user_name))
 }
 
 fn publish_first(packet: &Publish<'_>) -> u8
     ensures { result ≡ first_byte (view (Packet.Publish packet.now)) }
 {
-    PUBLISH + (bit(8, packet.duplicate) + qos_bits(2, packet.qos) + bit(1, packet.retain))
+    PUBLISH
+        + (bit(DUP, packet.duplicate) + qos_bits(QOS_ONE, packet.qos) + bit(RETAIN, packet.retain))
 }
 
 /// The first byte: the packet's type and its flags (MQTT 5.0, section 2.1.1).
