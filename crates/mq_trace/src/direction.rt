@@ -474,6 +474,7 @@ fn tell_frame<S: Sink>(
 {
     match frame[0] {
         0x30..0x40 => tell_publish(bed, connections, at, header, frame, sink),
+        0x40..0x80 => tell_acknowledgement(bed, connections, at, header, frame, sink),
         _ => tell_other(bed, connections, at, header, frame, sink),
     }
 }
@@ -510,6 +511,35 @@ fn tell_publish<S: Sink>(
             sink,
         ),
         Err(fault) => tell_fault(bed, connections, at, header, frame, fault, sink),
+    }
+}
+
+/// The same for what acknowledges a PUBLISH. Its first byte is looked at here, so that no other packet takes room where it is read.
+#[inline(never)]
+fn tell_acknowledgement<S: Sink>(
+    bed: Bed,
+    connections: &mut Connections,
+    at: u64,
+    header: usize,
+    frame: &[u8],
+    sink: &mut S,
+) -> Result<(), Refusal>
+    requires whole { fixed_header_of frame.now ≡ headers.Whole header (length frame.now) }
+    requires fits { length frame.now ≤ header + 268435455 }
+    ensures met { OnOk result (frame_met at (flow_of at (record { unfinished = []; lost = false }) connections.old) bed.way frame.now ≡ None) }
+    ensures kept { OnOk result (connections.new ≡ connections_then bed.server connections.old (frame_event bed.way frame.now)) }
+    ensures heard { (earlier : List Placed) → S.agrees sink.old earlier
+        → AreEvents (put (flow_placed_with (bed_of bed) (flow_of at (record { unfinished = []; lost = false }) connections.old) (frame_event bed.way frame.now)) earlier)
+        → OnOk result (S.agrees sink.new (put (flow_placed_with (bed_of bed) (flow_of at (record { unfinished = []; lost = false }) connections.old) (frame_event bed.way frame.now)) earlier)) }
+    ensures err { IfErr result (λ refusal. Untold (Declines S.agrees S.refuses) at (frame_met at (flow_of at (record { unfinished = []; lost = false }) connections.old) bed.way frame.now)
+        (put (flow_placed_with (bed_of bed) (flow_of at (record { unfinished = []; lost = false }) connections.old) (frame_event bed.way frame.now)) []) sink.old sink.new refusal) }
+{
+    match frame[0] {
+        0x40 | 0x50 | 0x62 | 0x70 => {
+            let read = decode(frame[0], &frame[header..]);
+            tell_decoded(bed, connections, at, header, frame, read, sink)
+        }
+        _ => tell_other(bed, connections, at, header, frame, sink),
     }
 }
 
