@@ -21,7 +21,7 @@ use Rattle.mq_cli.specs.declared.command_line.Stop.{Stop}
 use Rattle.mq_cli.specs.declared.command_line.Stop.TheVariants.{Help, Memory, Usage}
 use Rattle.clap.specs.Kinds.{FailsBy, HasKind, IsAmong, Kinds, or_else}
 use Rattle.clap.specs.Faults.{defaults_fault, turn_fault, walk_fault, word_fault, step_fault, entered_fault, settle_fault, check_fault, other_fault}
-use Rattle.mq_cli.specs.CommandLine.{IsShown, StopsFor, check_request, explain_request, faults_of, is_true, mqjudge, packet_request, request_in, request_of, rules_request, show_request}
+use Rattle.mq_cli.specs.CommandLine.{IsHelpOrVersion, StopsFor, check_request, explain_request, word_faults, is_true, mqjudge, packet_request, request_in, request_of, rules_request, show_request}
 
 -- ---- lists of kinds
 
@@ -179,7 +179,7 @@ entered_names (Some p) e some =
     ]
 
 -- words in which the definition finds no fault name a subcommand that asks for something
-subcommand_is_met : (words : List Text) → faults_of words ≡ [] → NamesTask (subcommand_of mqjudge words)
+subcommand_is_met : (words : List Text) → word_faults words ≡ [] → NamesTask (subcommand_of mqjudge words)
 subcommand_is_met words none =
     let a = built mqjudge in
     let arguments = argument_words mqjudge words in
@@ -200,7 +200,7 @@ name_met None = refl
 name_met (Some b) = refl
 
 -- matches of such words are those of one of these subcommands
-pub subcommand_is_named : (words : List Text) (m : ArgMatches) → faults_of words ≡ [] → subcommand_rows_of m ≡ subcommand_of mqjudge words
+pub subcommand_is_named : (words : List Text) (m : ArgMatches) → word_faults words ≡ [] → subcommand_rows_of m ≡ subcommand_of mqjudge words
     → (subcommand_name_of m ≡ Some (codes "check"))
     ⊎ ((subcommand_name_of m ≡ Some (codes "show"))
     ⊎ ((subcommand_name_of m ≡ Some (codes "packet"))
@@ -286,18 +286,18 @@ among P (x ∷ xs) kind (inr rest) p = Any-cons (among P xs kind rest p)
     Any-cons h = (suc h.0, h.1, omega (arith, h.2), h.3, h.4)
 
 -- what to tell the caller, where the error's text may not be had for want of memory
-pub StopsFor-shown : {E : Type 0} (error : Error) (stop : Stop) (text : Result _ E) → IsShown (kind_of error)
+pub StopsFor-shown : {E : Type 0} (error : Error) (stop : Stop) (text : Result _ E) → IsHelpOrVersion (kind_of error)
     → MatchResult text (λ t. stop ≡ Help t) (λ _. stop ≡ Memory) → (kinds : Kinds) → HasKind kinds error → StopsFor kinds stop
 StopsFor-shown error stop (Err e) shown is kinds h = subst (StopsFor kinds) (sym is) tt
 StopsFor-shown error stop (Ok t) (inl shown) is kinds (inl h) = cc
 StopsFor-shown error stop (Ok t) (inr shown) is kinds (inl h) = cc
-StopsFor-shown error stop (Ok t) shown is kinds (inr h) = subst (StopsFor kinds) (sym is) (among IsShown kinds (kind_of error) h shown)
+StopsFor-shown error stop (Ok t) shown is kinds (inr h) = subst (StopsFor kinds) (sym is) (among IsHelpOrVersion kinds (kind_of error) h shown)
 
-pub StopsFor-misused : {E : Type 0} (error : Error) (stop : Stop) (text : Result _ E) → ¬ IsShown (kind_of error) → (kind_of error ≡ OutOfMemory → ⊥)
+pub StopsFor-misused : {E : Type 0} (error : Error) (stop : Stop) (text : Result _ E) → ¬ IsHelpOrVersion (kind_of error) → (kind_of error ≡ OutOfMemory → ⊥)
     → MatchResult text (λ t. stop ≡ Usage t) (λ _. stop ≡ Memory) → (kinds : Kinds) → HasKind kinds error → StopsFor kinds stop
 StopsFor-misused error stop (Err e) misused not_memory is kinds h = subst (StopsFor kinds) (sym is) tt
 StopsFor-misused error stop (Ok t) misused not_memory is kinds (inl h) = absurd (not_memory h)
-StopsFor-misused error stop (Ok t) misused not_memory is kinds (inr h) = subst (StopsFor kinds) (sym is) (among (λ kind. ¬ IsShown kind) kinds (kind_of error) h misused)
+StopsFor-misused error stop (Ok t) misused not_memory is kinds (inr h) = subst (StopsFor kinds) (sym is) (among (λ kind. ¬ IsHelpOrVersion kind) kinds (kind_of error) h misused)
 
 -- what is taken has no fault
 pub taken-faultless : {T : Type 0} (kinds : Kinds) (r : Result T Error) → FailsBy kinds r → IfOk r (λ _. kinds ≡ [])

@@ -21,7 +21,7 @@ use Rattle.mq_cli.specs.declared.failure.Failure.{Failure}
 use Rattle.mq_cli.specs.declared.failure.Failure.TheVariants as failures
 use Rattle.mq_cli.specs.Program.{Given, StopsFile}
 use Rattle.mq_cli.specs.Reviewing.{IfBoth, IsReviewed, Plan, RefusesPlan, StopsJudging, StopsPlan, count_of, is_count, reviewed}
-use Rattle.mq_cli.specs.Told.{BeginsRefusal, IsOfLog, LacksMemory, RefusesCheck, RefusesShow, StopsShow, failure_of}
+use Rattle.mq_cli.specs.Told.{BeginsRefusal, IsOfLog, LacksJsonMemory, RefusesCheck, RefusesShow, StopsShow, failure_of}
 use Rattle.mq_cli.proofs.ToldLemmas.{own_refusal, part-kept, refusal_is_told}
 
 -- ---- the number that a word is
@@ -133,7 +133,7 @@ judging_is_refused {E} plan judged shown left old new refusal (Ok s) stops own w
 
 pub judging_stops : (plan : Plan) (judged shown left shown_left old new : Option (List ℕ)) (refusal : Refusal) (status : Result ℕ Failure)
     → IfSome judged (λ log. IsRefusedAt default_limit log left refusal)
-    → IfErr status (λ failure. (failure ≡ failure_of refusal) ⊎ ((failure ≡ failures.Memory) × LacksMemory Text refusal old new))
+    → IfErr status (λ failure. (failure ≡ failure_of refusal) ⊎ ((failure ≡ failures.Memory) × LacksJsonMemory Text refusal old new))
     → IfErr status (λ _. BeginsRefusal Text refusal old new)
     → IfErr status (λ failure. IfBoth judged shown (λ first second. StopsPlan plan failure first second left shown_left old new))
 judging_stops plan judged shown left shown_left old new refusal (Ok s) stops failed begun = tt

@@ -3,18 +3,19 @@ use Rattle.std.proofs.Common.{◌≡◌, ℕ, List, [], append-nil, Option, Some
 use Rattle.std.proofs.KnownBytes.{Appends-kept, Keeps-refl}
 use Rattle.std.specs.Io.KnownBytes.{Appends, Keeps}
 use Rattle.mq_trace.specs.Events.{Placed, events}
+use Rattle.mq_trace.specs.Writing.{AppendsBeginning}
 use Rattle.mq_judge.specs.declared.Form.{Form}
 use Rattle.mq_judge.specs.declared.Form.TheVariants.{Text, Json}
 use Rattle.mq_judge.specs.declared.Outcome.{Outcome}
 use Rattle.mq_judge.specs.declared.Refusal.{Refusal}
 use Rattle.mq_judge.specs.declared.Refusal.TheVariants as refusals
 use Rattle.mq_judge.specs.declared.RunFault.TheVariants as run_faults
-use Rattle.mq_judge.specs.Report.{AppendsBeginning, refused_line, refused_report, report}
+use Rattle.mq_judge.specs.Report.{refused_line, refused_report, report}
 use Rattle.mq_judge.specs.Running.{RunsOver, default_limit}
 use Rattle.mq_judge.specs.Showing.{Shows}
 use Rattle.mq_judge.specs.Stopping.{IsRefusedAt, IsRefusedNext, IsUnread}
 use Rattle.mq_judge.proofs.Exports.{appends-kept, appends-then}
-use Rattle.mq_cli.specs.Told.{AppendsAfter, AppendsPart, BeginsRefusal, IsOfLog, LacksMemory, IsRefusedBy, RefusesCheck, RefusesShow, StopsCheck, StopsShow, failure_of}
+use Rattle.mq_cli.specs.Told.{AppendsAfter, AppendsPart, BeginsRefusal, IsOfLog, LacksJsonMemory, IsRefusedBy, RefusesCheck, RefusesShow, StopsCheck, StopsShow, failure_of}
 use Rattle.mq_cli.specs.declared.failure.Failure.{Failure}
 use Rattle.mq_cli.specs.declared.failure.Failure.TheVariants as failures
 
@@ -104,7 +105,7 @@ refusal_is_told form remaining left old middle new refusal (Err e) ran unwritten
 -- where it can't be told, that is why
 pub refusal_stops : (form : Form) (remaining left old middle new : Option (List ℕ)) (refusal : Refusal) (status : Result ℕ Failure)
     → IfSome remaining (λ log. RunsOver form log left (Err (run_faults.Refused refusal)) old middle) → middle ≡ old
-    → IfErr status (λ failure. (failure ≡ failure_of refusal) ⊎ ((failure ≡ failures.Memory) × LacksMemory form refusal middle new))
+    → IfErr status (λ failure. (failure ≡ failure_of refusal) ⊎ ((failure ≡ failures.Memory) × LacksJsonMemory form refusal middle new))
     → IfErr status (λ _. BeginsRefusal form refusal middle new)
     → IfErr status (λ failure. IfSome remaining (λ log. StopsCheck form failure log left old new))
 refusal_stops form remaining left old middle new refusal (Ok s) ran unwritten failed begun = tt
@@ -121,7 +122,7 @@ refusal_stops form remaining left old middle new refusal (Err failure) ran unwri
     on_log r log h (inr (own, part)) = inr (r, own_refusal log left r own h, part)
 
     by_why : (log : List ℕ) → IsRefusedAt default_limit log left refusal
-        → (failure ≡ failure_of refusal) ⊎ ((failure ≡ failures.Memory) × LacksMemory form refusal middle new) → StopsCheck form failure log left old new
+        → (failure ≡ failure_of refusal) ⊎ ((failure ≡ failures.Memory) × LacksJsonMemory form refusal middle new) → StopsCheck form failure log left old new
     by_why log h (inl why) = subst (λ f. StopsCheck form f log left old new) (sym why)
         (on_log refusal log h (subst (λ v. BeginsRefusal form refusal v new) unwritten begun))
     by_why log h (inr (is, lacks)) = subst (λ f. StopsCheck form f log left old new) (sym is)
@@ -166,7 +167,7 @@ shown_refusal_is_told text_of remaining left old middle new refusal (Err e) show
 -- where it can't be told, that is why
 pub shown_refusal_stops : (text_of : List Placed → List ℕ) (remaining left old middle new : Option (List ℕ)) (refusal : Refusal) (status : Result ℕ Failure)
     → IfSome remaining (λ log. Shows text_of log left (Err (run_faults.Refused refusal)) old middle)
-    → IfErr status (λ failure. (failure ≡ failure_of refusal) ⊎ ((failure ≡ failures.Memory) × LacksMemory Text refusal middle new))
+    → IfErr status (λ failure. (failure ≡ failure_of refusal) ⊎ ((failure ≡ failures.Memory) × LacksJsonMemory Text refusal middle new))
     → IfErr status (λ _. BeginsRefusal Text refusal middle new)
     → IfErr status (λ failure. IfSome remaining (λ log. StopsShow text_of failure log left old new))
 shown_refusal_stops text_of remaining left old middle new refusal (Ok s) shown failed begun = tt

@@ -108,8 +108,8 @@ abbrev pub request_of : List Text → Option Request
 request_of words = option_map request_in (subcommand_of mqjudge words)
 
 -- the kinds of error that the words have as a command line
-abbrev pub faults_of : List Text → Kinds
-faults_of words = fault_of mqjudge words
+abbrev pub word_faults : List Text → Kinds
+word_faults words = fault_of mqjudge words
 
 -- the request that corresponds to some work
 abbrev pub request_by : Work → Request
@@ -121,14 +121,14 @@ request_by (Once (Explain code)) = explain_request (Some (string_bytes code))
 request_by (Twice review) = show_request (option_map string_bytes review.file) review.long review.faults (option_map string_bytes review.around)
 
 -- the kind asks for a text to be shown: help, or the version
-abbrev pub IsShown : ErrorKind → Type 0
-IsShown kind = (kind ≡ DisplayHelp) ⊎ (kind ≡ DisplayVersion)
+abbrev pub IsHelpOrVersion : ErrorKind → Type 0
+IsHelpOrVersion kind = (kind ≡ DisplayHelp) ⊎ (kind ≡ DisplayVersion)
 
 -- one of these kinds gives the stop: help and the version are shown, anything else is misuse, and
 -- memory may run out with any words
 abbrev pub StopsFor : Kinds → Stop → Type 0
-StopsFor kinds (Help text) = Any IsShown kinds
-StopsFor kinds (Usage text) = Any (λ kind. ¬ IsShown kind) kinds
+StopsFor kinds (Help text) = Any IsHelpOrVersion kinds
+StopsFor kinds (Usage text) = Any (λ kind. ¬ IsHelpOrVersion kind) kinds
 StopsFor kinds Memory = ⊤
 
 -- the path that an operand names; without an operand, or with `-`, there is none

@@ -2,10 +2,10 @@
 use Rattle.std.specs.Prelude.{ℕ, List, [], ◌++◌, map, Option, option_map, unwrap_or}
 use Rattle.std.specs.Borrow.{Bor}
 use Rattle.std.specs.List.{find}
+use Rattle.std.specs.Option.{option_or}
 use Rattle.mq_rules.specs.declared.rule.Rule.{Rule}
 use Rattle.mq_rules.specs.Rules.{same_rule}
 use Rattle.mq_rules.specs.Naming.{coded_rule}
-use Rattle.mq_rules.specs.Words.{or_else}
 use Rattle.mq_cli.specs.declared.explanations.TheConstants.{PACKETS, CONNECTIONS, SESSIONS, EXCHANGES, RELEASES, DELIVERIES}
 
 -- a statement, and the text that explains it
@@ -54,8 +54,8 @@ found_among rows rule = find (λ explained. same_rule explained.rule rule) rows
 
 -- the one in one of the tables
 unfoldable pub found_explanation : Rule → Option Explained
-found_explanation rule = or_else (found_among packets rule) (or_else (found_among connections rule) (or_else (found_among sessions rule)
-    (or_else (found_among exchanges rule) (or_else (found_among releases rule) (found_among deliveries rule)))))
+found_explanation rule = option_or (found_among packets rule) (option_or (found_among connections rule) (option_or (found_among sessions rule)
+    (option_or (found_among exchanges rule) (option_or (found_among releases rule) (found_among deliveries rule)))))
 
 -- the text that explains a statement
 unfoldable pub explanation_of : Rule → List ℕ

@@ -31,13 +31,13 @@ abbrev pub statement_line : Option Role → Rule → List ℕ
 statement_line role rule = code_of rule ++ codes " " ++ bound_ends rule ++ codes " " ++ citation_for role rule ++ codes " " ++ sentence_of rule ++ 10 ∷ []
 
 -- the statement is listed: for one end if it binds that end; always for both
-abbrev pub is_listed : Option Role → Rule → Bool
-is_listed None rule = true
-is_listed (Some role) rule = binds_end role rule
+abbrev pub lists_statement : Option Role → Rule → Bool
+lists_statement None rule = true
+lists_statement (Some role) rule = binds_end role rule
 
 -- the line of a statement, empty if it isn't listed
 abbrev pub listed_line : Option Role → Rule → List ℕ
-listed_line role rule = if is_listed role rule then statement_line role rule else []
+listed_line role rule = if lists_statement role rule then statement_line role rule else []
 
 -- the lines of the statements, in the order of reports: of all, or of those that bind one end
 unfoldable pub statement_lines : Option Role → List ℕ

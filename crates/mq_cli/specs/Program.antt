@@ -9,7 +9,7 @@ use Rattle.mq_cli.specs.declared.command_line.Work.{Work}
 use Rattle.mq_cli.specs.declared.command_line.Work.TheVariants.{Once, Twice}
 use Rattle.mq_cli.specs.declared.failure.Failure.{Failure}
 use Rattle.mq_cli.specs.declared.failure.Failure.TheVariants.{Memory}
-use Rattle.mq_cli.specs.CommandLine.{StopsFor, faults_of, path_of, request_by, request_of}
+use Rattle.mq_cli.specs.CommandLine.{StopsFor, word_faults, path_of, request_by, request_of}
 use Rattle.mq_cli.specs.Reviewing.{IsReviewed, Plan, RefusesPlan, StopsPlan, plan_of}
 use Rattle.mq_cli.specs.Told.{AppendsPart, FailsMisnamed, FailsStop, FailsTask, HasFailed, HasPassed, IsMisnamed, IsRefusedOn, IsReportedOn, IsShownOn, IsToldOn, failure_line, misnamed_line}
 
@@ -121,7 +121,7 @@ AsksFor words work = request_of words ≡ Some (request_by work)
 
 -- they ask for no work, and this is why
 abbrev pub StopsAt : List Text → Stop → Type 0
-StopsAt words stop = StopsFor (faults_of words) stop
+StopsAt words stop = StopsFor (word_faults words) stop
 
 -- 0: they ask for help or the version, which was written; or for work that was done, and all of its output was written
 abbrev pub Passes : List Text → Given → Option (List ℕ) → Option (List ℕ) → Type 0
@@ -142,12 +142,12 @@ IsMisuse words error_old error_new = ((stop : Stop) × StopsAt words stop × IsT
     ⊎ ((work : Work) × AsksFor words work × MisusesWork work error_old error_new)
 
 -- 4: the text for words that ask for no work couldn't be written; or they ask for work that failed, or whose file couldn't be opened
-abbrev pub Fails : List Text → Given → Option (List ℕ) → Option (List ℕ) → Option (List ℕ) → Option (List ℕ) → Type 0
-Fails words given old new error_old error_new = ((stop : Stop) × StopsAt words stop × FailsStop stop old new error_old error_new)
+abbrev pub FailsWords : List Text → Given → Option (List ℕ) → Option (List ℕ) → Option (List ℕ) → Option (List ℕ) → Type 0
+FailsWords words given old new error_old error_new = ((stop : Stop) × StopsAt words stop × FailsStop stop old new error_old error_new)
     ⊎ ((work : Work) × AsksFor words work × FailsWork given work old new error_old error_new)
 
 -- 4: The words couldn't be read: nothing was written, and the reason is written to the error stream, as far as possible.
-pub record IsUnread (given : Given) (old new error_old error_new : Option (List ℕ)) : Type 0 where
+pub record WordsUnread (given : Given) (old new error_old error_new : Option (List ℕ)) : Type 0 where
   pub failure : Failure
   pub why : given.unread failure
   pub unwritten : Keeps old new

@@ -10,7 +10,7 @@ use Rattle.mq_judge.specs.declared.Refusal.TheVariants as refusals
 use Rattle.mq_judge.specs.OnePacket.{IsOnePacket, packet_report}
 use Rattle.mq_judge.specs.Report.{refused_line, refused_report, report}
 use Rattle.mq_judge.specs.Running.{IsFaultless, IsJudged, default_limit}
-use Rattle.mq_judge.specs.Showing.{WritesBeginning, annotated, lines_of, long_lines_of}
+use Rattle.mq_judge.specs.Showing.{WritesBeginning, annotated, short_lines_of, long_lines_of}
 use Rattle.mq_judge.specs.Stopping.{IsRefusedAt, IsRefusedNext}
 use Rattle.mq_trace.specs.Events.{Placed, events}
 use Rattle.mq_trace.specs.Refusals.{refused}
@@ -70,8 +70,8 @@ abbrev pub BeginsRefusal : Form → Refusal → Option (List ℕ) → Option (Li
 BeginsRefusal form refusal old new = Keeps old new ⊎ (IsOfLog refusal × AppendsPart old new (refused_report form refusal))
 
 -- memory ran out for a refusal as JSON, whose reason is the log: nothing was written
-abbrev pub LacksMemory : Form → Refusal → Option (List ℕ) → Option (List ℕ) → Type 0
-LacksMemory form refusal old new = (form ≡ Json) × IsOfLog refusal × Keeps old new
+abbrev pub LacksJsonMemory : Form → Refusal → Option (List ℕ) → Option (List ℕ) → Type 0
+LacksJsonMemory form refusal old new = (form ≡ Json) × IsOfLog refusal × Keeps old new
 
 -- The log is refused for this reason, and nothing is refused before that byte: it is the lowest number whose condition applies at the
 -- byte after those that were taken in, or the log is cut short after them.
@@ -95,13 +95,13 @@ RefusesCheck form log old new = (refusal : Refusal) × IsRefusedBy log refusal �
 
 -- the lines of events, long or short
 abbrev pub text_for : (long : Bool) → List Placed → List ℕ
-text_for false = lines_of
+text_for false = short_lines_of
 text_for true = long_lines_of
 
 -- the text of events by a view of them
-abbrev pub text_by : View → List Placed → List ℕ
-text_by (Lines long) = text_for long
-text_by (Faults faults role around long) = annotated (record { role = role; faults = map.entries faults.now; around = around; long = long })
+abbrev pub text_in_view : View → List Placed → List ℕ
+text_in_view (Lines long) = text_for long
+text_in_view (Faults faults role around long) = annotated (record { role = role; faults = map.entries faults.now; around = around; long = long })
 
 -- Showing the log by this text of events was refused: the text of the events that are complete before the refused byte was written, then the line on
 -- the refusal, and nothing else.

@@ -3,7 +3,7 @@ ghost use Rattle.std.specs.Prelude.{◌≡◌, [], Some, codes, false, IfOk, IfE
 ghost use Rattle.clap.specs.Words.{HasKind, Kinds, app_of, new_rule, rule_of, subcommand_of, subcommand_rows_of};
 ghost use Rattle.clap.specs.declared.builder.command.Command.TheViews.{out-Command};
 ghost use Rattle.mq_cli.specs.CommandLine.{StopsFor, check_command, check_request, explain_command};
-ghost use Rattle.mq_cli.specs.CommandLine.{explain_request, faults_of, flag, is_true, mqjudge, packet_command, packet_request};
+ghost use Rattle.mq_cli.specs.CommandLine.{explain_request, word_faults, flag, is_true, mqjudge, packet_command, packet_request};
 ghost use Rattle.mq_cli.specs.CommandLine.{path_named, path_of, request_by, request_of, rules_command};
 ghost use Rattle.mq_cli.specs.CommandLine.{rules_request, show_command, show_request};
 
@@ -147,10 +147,10 @@ pub enum Stop {
 /// first is the program's name. A request for help or the version is returned as a `Stop`, and so
 /// are words that aren't such a command line.
 pub fn parse<S: AsStr>(alloc: Global, words: &[S]) -> Result<Work, Stop>
-    ensures taken { IfOk result (λ _. faults_of (map S.text words.now) ≡ []) }
+    ensures taken { IfOk result (λ _. word_faults (map S.text words.now) ≡ []) }
     ensures work { IfOk result (λ work.
         request_of (map S.text words.now) ≡ Some (request_by work)) }
-    ensures stop { IfErr result (StopsFor (faults_of (map S.text words.now))) }
+    ensures stop { IfErr result (StopsFor (word_faults (map S.text words.now))) }
 {
     match matches_of(alloc, words) {
         Ok(matches) => match matches.subcommand_matches("check") {
@@ -186,10 +186,10 @@ pub fn parse<S: AsStr>(alloc: Global, words: &[S]) -> Result<Work, Stop>
 
 // The matches of the words, by the definition of the command line.
 fn matches_of<'a, S: AsStr>(alloc: Global, words: &'a [S]) -> Result<ArgMatches<'a>, Error>
-    ensures taken { IfOk result (λ _. faults_of (map S.text words.now) ≡ []) }
+    ensures taken { IfOk result (λ _. word_faults (map S.text words.now) ≡ []) }
     ensures met { IfOk result (λ matches.
         subcommand_rows_of matches ≡ subcommand_of mqjudge (map S.text words.now)) }
-    ensures fault { IfErr result (HasKind (faults_of (map S.text words.now))) }
+    ensures fault { IfErr result (HasKind (word_faults (map S.text words.now))) }
 {
     command_line(alloc)?.try_get_matches_from(words)
 }

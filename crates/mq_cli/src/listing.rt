@@ -3,7 +3,7 @@ ghost use Rattle.std.specs.Prelude.{◌≡◌, ◌++◌, IfOk, OnOk, Some, codes
 ghost use Rattle.std.specs.List.{flat_map};
 ghost use Rattle.mq_rules.specs.declared.rule.Rule.{Rule};
 ghost use Rattle.mq_rules.specs.Rules.{citation_of};
-ghost use Rattle.mq_cli.specs.Listing.{binds_end, both_citations, bound_ends, citation_for, is_listed};
+ghost use Rattle.mq_cli.specs.Listing.{binds_end, both_citations, bound_ends, citation_for, lists_statement};
 ghost use Rattle.mq_cli.specs.Listing.{listed_line, role_named, statement_line, statement_lines};
 
 use mq_rules::{Role, Rule};
@@ -87,7 +87,7 @@ fn put_both(text: &mut String, client: &str, server: &str) -> Result<(), AllocEr
 
 // Whether a statement is listed for this end, or for both if none is named.
 fn is_listed(rule: Rule, role: Option<Role>) -> bool
-    ensures { result ≡ is_listed role rule }
+    ensures { result ≡ lists_statement role rule }
 {
     match role {
         Some(role) => rule.binds(role),

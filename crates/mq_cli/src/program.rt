@@ -1,7 +1,7 @@
 //! The program: from the words of its command line to its status.
 ghost use Rattle.std.specs.Prelude.{◌≡◌, ◌≤◌, ◌⊎◌, IfSome, map};
 ghost use Rattle.std.specs.Io.KnownBytes.{Appends, Keeps};
-ghost use Rattle.mq_cli.specs.Program.{Fails, FailsRead, FailsWork, FindsFaults, FindsFaultsIn, IsMisuse, IsUnread};
+ghost use Rattle.mq_cli.specs.Program.{FailsWords, FailsRead, FailsWork, FindsFaults, FindsFaultsIn, IsMisuse, WordsUnread};
 ghost use Rattle.mq_cli.specs.Program.{MisusesWork, Passes, PassesWork, Refuses, RefusesWork, input_of};
 ghost use Rattle.mq_cli.specs.Told.{HasFailed, HasPassed, IsMisnamed, IsRefusedOn, IsReportedOn, misnamed_line};
 
@@ -33,9 +33,9 @@ pub fn run<H: Host, W: Write, E: Write>(
         Refuses words (H.gives host.now) (W.contents output.old) (W.contents output.new)) }
     ensures misused { result ≡ 3 → IfSome (H.gives host.now).words (λ words.
         IsMisuse words (E.contents error.old) (E.contents error.new)) }
-    ensures failed { result ≡ 4 → IsUnread (H.gives host.now)
+    ensures failed { result ≡ 4 → WordsUnread (H.gives host.now)
         (W.contents output.old) (W.contents output.new) (E.contents error.old) (E.contents error.new)
-        ⊎ IfSome (H.gives host.now).words (λ words. Fails words (H.gives host.now)
+        ⊎ IfSome (H.gives host.now).words (λ words. FailsWords words (H.gives host.now)
         (W.contents output.old) (W.contents output.new) (E.contents error.old) (E.contents error.new)) }
 {
     match host.arguments() {
@@ -63,7 +63,7 @@ fn respond<S: AsStr, H: Host, W: Write, E: Write>(
         (W.contents output.old) (W.contents output.new) }
     ensures misused { result ≡ 3 → IsMisuse (map S.text words.now)
         (E.contents error.old) (E.contents error.new) }
-    ensures failed { result ≡ 4 → Fails (map S.text words.now) (H.gives host.now)
+    ensures failed { result ≡ 4 → FailsWords (map S.text words.now) (H.gives host.now)
         (W.contents output.old) (W.contents output.new) (E.contents error.old) (E.contents error.new) }
 {
     match parse(alloc, words) {

@@ -4,11 +4,11 @@ ghost use Rattle.std.specs.Io.KnownBytes.{Appends, Keeps};
 ghost use Rattle.hex.specs.Hex.{decode_of};
 ghost use Rattle.mq_cli.specs.Explaining.{explained_for};
 ghost use Rattle.mq_cli.specs.Listing.{listed_for, statement_lines};
-ghost use Rattle.mq_cli.specs.Told.{AppendsLineOf, AppendsPart, BeginsRefusal, FailsMisnamed, FailsPacket, FailsTelling, LacksMemory};
+ghost use Rattle.mq_cli.specs.Told.{AppendsLineOf, AppendsPart, BeginsRefusal, FailsMisnamed, FailsPacket, FailsTelling, LacksJsonMemory};
 ghost use Rattle.mq_cli.specs.Told.{FailsStop, FailsTask, HasFailed, HasPassed, IsMisnamed};
 ghost use Rattle.mq_cli.specs.Told.{IsOfLog, IsRefusedOn, IsReportedOn, IsShownOn, IsToldOn, RefusesCheck};
 ghost use Rattle.mq_cli.specs.Told.{RefusesShow, SpellsNoPacket, SpellsPacket, StopsCheck, StopsShow};
-ghost use Rattle.mq_cli.specs.Told.{Tells, text_by, failure_line, failure_of, form_of, misnamed_line, no_role_line, no_statement_line, not_hex_line};
+ghost use Rattle.mq_cli.specs.Told.{Tells, text_in_view, failure_line, failure_of, form_of, misnamed_line, no_role_line, no_statement_line, not_hex_line};
 ghost use Rattle.mq_judge.specs.OnePacket.{IsOnePacket, packet_report};
 ghost use Rattle.mq_judge.specs.Report.{refused_report, report};
 ghost use Rattle.mq_judge.specs.Running.{IsFaultless, IsJudged};
@@ -163,11 +163,11 @@ pub fn show_log<R: Read, W: Write>(
 ) -> Result<u8, Failure>
     ensures passed { IfOk result (λ status. status ≡ PASSED → IfSome (R.remaining input.old) IsJudged) }
     ensures shown { IfOk result (λ status. status ≡ PASSED → IfSome (R.remaining input.old)
-        (λ log. Appends (W.contents output.old) (W.contents output.new) (text_by view.entry (events log)))) }
+        (λ log. Appends (W.contents output.old) (W.contents output.new) (text_in_view view.entry (events log)))) }
     ensures refused { IfOk result (λ status. status ≡ REFUSED → IfSome (R.remaining input.old)
-        (λ log. RefusesShow (text_by view.entry) log (W.contents output.old) (W.contents output.new))) }
+        (λ log. RefusesShow (text_in_view view.entry) log (W.contents output.old) (W.contents output.new))) }
     ensures stops { IfErr result (λ failure. IfSome (R.remaining input.old)
-        (λ log. StopsShow (text_by view.entry) failure log (R.remaining input.new) (W.contents output.old) (W.contents output.new))) }
+        (λ log. StopsShow (text_in_view view.entry) failure log (R.remaining input.new) (W.contents output.old) (W.contents output.new))) }
     ensures statuses { IfOk result (λ status. (status ≡ PASSED) ⊎ (status ≡ REFUSED)) }
 {
     match show_lines(alloc, view, input, output) {
@@ -185,7 +185,7 @@ fn show_lines<R: Read, W: Write>(
     input: &mut R,
     output: &mut W,
 ) -> Result<(), RunFault>
-    ensures { IfSome (R.remaining input.old) (λ log. Shows (text_by view.entry) log (R.remaining input.new) result
+    ensures { IfSome (R.remaining input.old) (λ log. Shows (text_in_view view.entry) log (R.remaining input.new) result
         (W.contents output.old) (W.contents output.new)) }
 {
     match view {
@@ -216,7 +216,7 @@ pub fn refuse<W: Write>(
     ensures written { OnOk result
         (Appends (W.contents output.old) (W.contents output.new) (refused_report form refusal.now)) }
     ensures failed { IfErr result (λ failure. (failure ≡ failure_of refusal.now)
-        ⊎ ((failure ≡ Failure.Memory) × LacksMemory form refusal.now (W.contents output.old) (W.contents output.new))) }
+        ⊎ ((failure ≡ Failure.Memory) × LacksJsonMemory form refusal.now (W.contents output.old) (W.contents output.new))) }
     ensures begun { IfErr result (λ _.
         BeginsRefusal form refusal.now (W.contents output.old) (W.contents output.new)) }
 {

@@ -1,7 +1,7 @@
 //! Writing a text to the end.
 ghost use Rattle.std.specs.Prelude.{◌≡◌, IfErr, OnOk};
 ghost use Rattle.std.specs.Io.KnownBytes.{Appends, Keeps};
-ghost use Rattle.mq_judge.specs.Report.{AppendsBeginning};
+ghost use Rattle.mq_trace.specs.Writing.{AppendsBeginning};
 ghost use Rattle.mq_cli.specs.Told.{AppendsPart};
 
 use crate::failure::Failure;

@@ -4,9 +4,10 @@ use Rattle.std.proofs.lemmas.Grind.{take_at_read, flat_map-append}
 use Rattle.std.specs.List.{flat_map}
 use Rattle.mq_props.specs.Values.{Property}
 use Rattle.mq_packet.specs.Entries.{ConnectFields, WillFields}
-use Rattle.mq_judge.specs.Details.{begun_with, property_after, property_name, value_words, quoted, flag_text, size_text}
+use Rattle.mq_rules.specs.Notes.{qos_number}
+use Rattle.mq_judge.specs.Details.{with_prefix, property_after, property_name, value_words, quoted, flag_text, size_text}
 use Rattle.mq_judge.specs.declared.showing.outgoing.Outgoing.{Outgoing}
-use Rattle.mq_judge.specs.ItemText.{behind_spaces, qos_number}
+use Rattle.mq_judge.specs.ItemText.{behind_spaces}
 use Rattle.mq_judge.specs.Outgoing.{Puts}
 use Rattle.mq_judge.proofs.OutgoingLaws.{puts_nothing, puts_two}
 
@@ -25,11 +26,11 @@ next_mapped f xs i d within =
     ∙ ap (λ l. flat_map f (take i xs) ++ l) (append-nil (f (get_or xs i d)))
 
 -- a property's words from those of its detail
-pub named_so : (prefix missing name : List ℕ) (value : List (List ℕ)) (property : Property) → missing ++ name ≡ begun_with prefix name → name ≡ property_name property.id
+pub named_so : (prefix missing name : List ℕ) (value : List (List ℕ)) (property : Property) → missing ++ name ≡ with_prefix prefix name → name ≡ property_name property.id
     → value ≡ value_words property.value → (missing ++ name) ∷ value ≡ property_after prefix property
 named_so prefix missing name value property begun named valued =
-    ap (λ (l : List ℕ). l ∷ value) (begun ∙ ap (λ (l : List ℕ). begun_with prefix l) named)
-    ∙ ap (λ (l : List (List ℕ)). begun_with prefix (property_name property.id) ∷ l) valued
+    ap (λ (l : List ℕ). l ∷ value) (begun ∙ ap (λ (l : List ℕ). with_prefix prefix l) named)
+    ∙ ap (λ (l : List (List ℕ)). with_prefix prefix (property_name property.id) ∷ l) valued
 
 -- Of all of a text, a part was put, and this is left to put.
 pub record PutsSome {W : Type 0} (contents : W → Option (List ℕ)) (old : Outgoing W) (all left : List ℕ) (new : Outgoing W) : Type 0 where

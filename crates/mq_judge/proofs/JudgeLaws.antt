@@ -3,6 +3,7 @@ use Rattle.std.proofs.Common.{◌≡◌, ℕ, ◌+◌, ◌-◌, ◌≤◌, ◌<�
 use Rattle.std.specs.Prelude.{◌||◌, if◌then◌else◌}
 use Rattle.std.proofs.lemmas.Bool.Decides.{nat_tests}
 use Rattle.std.proofs.lemmas.List.{length-map, length-reverse}
+use Rattle.std.specs.Option.{option_or}
 use Rattle.mq_trace.specs.declared.refusal.Refusal.{Refusal}
 use Rattle.mq_trace.specs.declared.refusal.Refusal.TheVariants as refusals
 use Rattle.mq_trace.specs.declared.header.Header.{Header}
@@ -10,19 +11,18 @@ use Rattle.mq_trace.specs.Framing.{header_by}
 use Rattle.mq_trace.specs.Events.{Placed, events, events_back}
 use Rattle.mq_trace.specs.Refusals.{refused, is_cut_short}
 use Rattle.mq_trace.specs.Refusing.{moved}
-use Rattle.mq_trace.specs.Tracing.{Traced, Follows as IsTracedTo, Takes as TracerTakes, Why}
+use Rattle.mq_trace.specs.Tracing.{Traced, IsTracedTo, TracesPiece, Why}
 use Rattle.mq_trace.proofs.Exports.{header-behind}
 use Rattle.mq_rules.specs.declared.note.Seen.{Seen}
 use Rattle.mq_rules.specs.declared.role.Tested.{Tested}
 use Rattle.mq_rules.specs.declared.rule.Rule.{Rule}
-use Rattle.mq_rules.specs.Words.{or_else}
 use Rattle.mq_rules.specs.Moments.{IsPlaced}
 use Rattle.mq_rules.specs.Connections.{IsInOrder}
 use Rattle.mq_rules.specs.Faults.{chosen_fault}
 use Rattle.mq_judge.specs.Chosen.{is_judged}
 use Rattle.mq_rules.specs.Marks.{FaultMap, fault_at}
 use Rattle.mq_rules.specs.Notes.{tested_as, tested_by, seen, seen_in}
-use Rattle.mq_judge.specs.Judging.{Judged, Follows, HasRefused, Refuses, Takes, TakesEvents, AreFaultsOf, judge_of, tested_in}
+use Rattle.mq_judge.specs.Judging.{Judged, Follows, HasRefused, RefusesIn, JudgesPiece, TakesEvents, AreFaultsOf, judge_of, tested_in}
 use Rattle.mq_judge.specs.Stopping.{IsRefusedByte}
 use Rattle.mq_rules.proofs.Exports.{orderly}
 
@@ -84,7 +84,7 @@ why-refused noted refuses wants limit log taken byte old new r was (inr (inr own
 
 pub fed-events : {S : Type 0} (noted : S → List Seen) (refuses : S → List Placed → Refusal → Type 0) → WantsMemory noted refuses
     → (limit : ℕ) (tracer : Traced) (log piece : List ℕ) (old new : S) (result : Result (Unit {0}) Refusal) → noted old ≡ seen_in log
-    → TracerTakes (λ s received. noted s ≡ map seen received) refuses limit log piece old new result
+    → TracesPiece (λ s received. noted s ≡ map seen received) refuses limit log piece old new result
     → OnOk result (IsTracedTo tracer (log ++ piece)) → OnOk result (tracer.reading.limit ≡ limit)
     → TakesEvents limit log piece tracer (noted new) result
 unfolding seen_in
@@ -106,7 +106,7 @@ Heads log header rest = length header ≡ min (8 - length log) (length (header +
 -- the first is refused
 pub takes-first : (limit : ℕ) (tested : Option Tested) (tracer : Traced) (seen : List Seen) (log piece header rest : List ℕ) (r : Refusal) → piece ≡ header ++ rest
     → Heads log header rest → tested ≡ tested_in log → tracer.refusal ≡ Some r → TakesEvents limit log header tracer seen (Err r)
-    → Takes log piece (judge_of limit tested tracer seen) (Err r)
+    → JudgesPiece log piece (judge_of limit tested tracer seen) (Err r)
 takes-first limit tested tracer seen log piece header rest r parts heads whom given t =
     let s = t.0 in
     let few : length log + length s.taken < 8 = omega (arith, heads, ap length s.is, length-append s.taken (s.byte ∷ s.later), length-append header rest) in (
@@ -143,7 +143,7 @@ named-then log header rest more heads none = elim (header-done log header rest h
 -- the first is taken in
 pub takes-then : (limit : ℕ) (tested : Option Tested) (tracer : Traced) (seen : List Seen) (log piece header rest : List ℕ) (result : Result (Unit {0}) Refusal)
     → piece ≡ header ++ rest → Heads log header rest → tested ≡ tested_in (log ++ header) → IfErr result (λ r. tracer.refusal ≡ Some r)
-    → TakesEvents limit (log ++ header) rest tracer seen result → Takes log piece (judge_of limit tested tracer seen) result
+    → TakesEvents limit (log ++ header) rest tracer seen result → JudgesPiece log piece (judge_of limit tested tracer seen) result
 takes-then limit tested tracer seen log piece header rest (Ok done) parts heads whom given t =
     let same : (log ++ header) ++ rest ≡ log ++ piece = append_assoc log header rest ∙ ap (λ (p : List ℕ). log ++ p) (sym parts) in
     let next : Follows (judge_of limit tested tracer seen) ((log ++ header) ++ rest) = record {
@@ -173,10 +173,10 @@ takes-then limit tested tracer seen log piece header rest (Err r) parts heads wh
     )
 
 -- a judge that takes no more in, where it answers a refusal
-pub refuses-where-err : (log piece : List ℕ) (old new : Judged) (result : Result (Unit {0}) Refusal) → new.limit ≡ old.limit → Takes log piece new result
-    → IfErr result (λ r. Refuses old.limit new log piece r)
+pub refuses-where-err : (log piece : List ℕ) (old new : Judged) (result : Result (Unit {0}) Refusal) → new.limit ≡ old.limit → JudgesPiece log piece new result
+    → IfErr result (λ r. RefusesIn old.limit new log piece r)
 refuses-where-err log piece old new (Ok done) same t = tt
-refuses-where-err log piece old new (Err r) same t = subst (λ (l : ℕ). Refuses l new log piece r) same t
+refuses-where-err log piece old new (Err r) same t = subst (λ (l : ℕ). RefusesIn l new log piece r) same t
 
 -- ---- the end
 
@@ -210,7 +210,7 @@ counted limit items log count none e counts =
 -- the faults of the events that are kept are those of the log
 pub faults-of : (limit : ℕ) (seen : List Seen) (log : List ℕ) (tested : Tested) (old faults : FaultMap) → refused limit log ≡ None → seen ≡ seen_in log → tested ≡ tested_by log
     → ((k : ℕ) (rule : Rule) → fault_at old k rule ≡ None)
-    → (IsPlaced seen → IsInOrder tested.role seen → (k : ℕ) (rule : Rule) → fault_at faults k rule ≡ or_else (fault_at old k rule) (chosen_fault (is_judged tested) tested seen k rule))
+    → (IsPlaced seen → IsInOrder tested.role seen → (k : ℕ) (rule : Rule) → fault_at faults k rule ≡ option_or (fault_at old k rule) (chosen_fault (is_judged tested) tested seen k rule))
     → AreFaultsOf log faults
 faults-of limit seen log tested old faults none events whom fresh grown =
     let o = orderly limit log none in
@@ -218,6 +218,6 @@ faults-of limit seen log tested old faults none events whom fresh grown =
     let in_order : IsInOrder tested.role seen = subst (λ (t : Tested). IsInOrder t.role seen) (sym whom) (subst (IsInOrder (tested_by log).role) (sym events) o.in_order) in
     λ p rule.
     grown placed in_order p rule
-    ∙ ap (λ f. or_else f (chosen_fault (is_judged tested) tested seen p rule)) (fresh p rule)
+    ∙ ap (λ f. option_or f (chosen_fault (is_judged tested) tested seen p rule)) (fresh p rule)
     ∙ ap (λ t. chosen_fault (is_judged t) t seen p rule) whom
     ∙ ap (λ log_seen. chosen_fault (is_judged (tested_by log)) (tested_by log) log_seen p rule) events

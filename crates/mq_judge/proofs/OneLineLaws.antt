@@ -4,13 +4,14 @@ use Rattle.std.proofs.lemmas.Bool.{and_from, and_parts, or_parts, le-leb}
 use Rattle.std.proofs.lemmas.Grind.{common_steps}
 use Rattle.std.specs.Fmt.{digit_glyph, digits, digits_onto}
 use Rattle.std.specs.List.{flat_map, list_all, starts_with}
-use Rattle.mq_props.specs.Values.{Value, Property, byte as byte_value, two_bytes as two_bytes_value, four_bytes as four_bytes_value, varint as varint_value, text as text_value, pair as pair_value, binary as binary_value}
+use Rattle.mq_props.specs.Values.{Value, Property, byte_value, two_bytes_value, four_bytes_value, varint_value, text_value, pair_value, binary_value}
 use Rattle.mq_props.specs.Listed.{Listed}
 use Rattle.mq_packet.specs.Entries.{Entry, ConnectFields, PublishFields, WillFields, AskedFilter, connect, connack, publish, acknowledgement, request, answer, pingreq, pingresp, disconnect, auth}
 use Rattle.mq_trace.specs.Events.{Event, Item, packet as whole_item, bad as broken_item, lost as lost_item, opened, closed, rested, released, sent, received}
-use Rattle.mq_judge.specs.ItemText.{flag_number, qos_number, behind_spaces}
+use Rattle.mq_rules.specs.Notes.{qos_number}
+use Rattle.mq_judge.specs.ItemText.{flag_number, behind_spaces}
 use Rattle.mq_judge.specs.OneLine.{is_on_one_line}
-use Rattle.mq_judge.specs.Details.{hex_digits, is_quoting, is_control, escaped, quoted, reason_text, flag_text, size_text, property_names, name_beside, property_name, value_words, begun_with, property_after, properties_after, property_words, will_words, user_words, password_words, connect_words, publish_words, option_words, filter_words, code_words, packet_words, item_details, detail_text}
+use Rattle.mq_judge.specs.Details.{hex_digits, is_quoting, is_control, escaped, quoted, reason_text, flag_text, size_text, property_names, name_beside, property_name, value_words, with_prefix, property_after, properties_after, property_words, will_words, user_words, password_words, connect_words, publish_words, option_words, filter_words, code_words, packet_words, item_details, detail_text}
 
 -- a test that holds of each part of a list holds of all of it
 all_both : {X : Type 0} (test : X → Bool) (xs ys : List X) → list_all test xs ≡ true → list_all test ys ≡ true → list_all test (xs ++ ys) ≡ true
@@ -97,7 +98,7 @@ name_fits id (row ∷ rows) p =
     and_parts (is_on_one_line row.1) (list_all (λ (r : ℕ × List ℕ). is_on_one_line r.1) rows) p in
     elim (row.0 == id) as (λ t. is_on_one_line (if t then row.1 else name_beside id rows) ≡ true) [ true ↦ parts.0 | false ↦ name_fits id rows parts.1 ]
 
-begun_fits : (prefix name : List ℕ) → is_on_one_line prefix ≡ true → is_on_one_line name ≡ true → is_on_one_line (begun_with prefix name) ≡ true
+begun_fits : (prefix name : List ℕ) → is_on_one_line prefix ≡ true → is_on_one_line name ≡ true → is_on_one_line (with_prefix prefix name) ≡ true
 begun_fits prefix name p q =
     elim (starts_with (λ a b. a == b) name prefix) as (λ t. is_on_one_line (if t then name else prefix ++ name) ≡ true) [ true ↦ q | false ↦ both prefix name p q ]
 
@@ -112,7 +113,7 @@ values_fit (binary_value b) = alone (size_text b) (decimal_fits _)
 
 properties_fit : (prefix : List ℕ) (properties : Listed) → is_on_one_line prefix ≡ true → list_all is_on_one_line (properties_after prefix properties) ≡ true
 properties_fit prefix properties p =
-    all_mapped is_on_one_line (property_after prefix) (λ (property : Property). first (begun_with prefix (property_name property.id)) (value_words property.value)
+    all_mapped is_on_one_line (property_after prefix) (λ (property : Property). first (with_prefix prefix (property_name property.id)) (value_words property.value)
     (begun_fits prefix (property_name property.id) p (name_fits property.id property_names refl)) (values_fit property.value)) properties.items
 
 own_fit : (properties : Listed) → list_all is_on_one_line (property_words properties) ≡ true

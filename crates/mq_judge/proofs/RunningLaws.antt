@@ -10,12 +10,12 @@ use Rattle.mq_judge.specs.declared.report.Outcome.TheVariants.{Pass, Fail}
 use Rattle.mq_judge.specs.declared.report.RunFault.{RunFault}
 use Rattle.mq_judge.specs.declared.report.RunFault.TheVariants as run_faults
 use Rattle.mq_rules.specs.declared.role.Role.{Role}
-use Rattle.mq_judge.specs.Judging.{Judged, Knows, Follows, Refuses, AreFaultsOf}
+use Rattle.mq_judge.specs.Judging.{Judged, Knows, Follows, RefusesIn, AreFaultsOf}
 use Rattle.mq_trace.specs.Refusals.{refused, is_cut_short}
 use Rattle.mq_trace.specs.Events.{events}
 use Rattle.mq_rules.specs.Notes.{tested_by, seen_in}
 use Rattle.mq_rules.specs.Marks.{FaultMap}
-use Rattle.mq_judge.specs.Report.{report, report_on, FailsToWrite}
+use Rattle.mq_judge.specs.Report.{report, report_on, FailsToReport}
 use Rattle.mq_judge.specs.Feeding.{FedAll, FedSome}
 use Rattle.mq_judge.specs.Stopping.{IsRefusedByte, IsRefusedEnd, IsRefusedAt}
 use Rattle.mq_judge.specs.Running.{default_limit, found_in, outcome_of, IsJudged, IsVerdictOn, JudgesOver, RunsOver}
@@ -92,18 +92,18 @@ run-reports x y form w z count faults role outcome judged wrote says =
     (λ log v. (v.judged, says ∙ outcome-is log role count faults v, subst (Appends w z) (report-is form log role count faults v) wrote)) judged
 
 -- a run whose report couldn't be written
-stops-with : (form : Form) (log : List ℕ) (y w z : Option (List ℕ)) (fault : RunFault) → IsJudged log → FailsToWrite form w z (report form log) fault → RunsOver form log y (Err fault) w z
+stops-with : (form : Form) (log : List ℕ) (y w z : Option (List ℕ)) (fault : RunFault) → IsJudged log → FailsToReport form w z (report form log) fault → RunsOver form log y (Err fault) w z
 stops-with form log y w z (run_faults.Refused refusal) judged failed = absurd failed
 stops-with form log y w z run_faults.Write judged failed = (judged, failed)
 stops-with form log y w z run_faults.Memory judged failed = (judged, failed.0, failed.1)
 
 pub run-stops-writing : (x y : Option (List ℕ)) (form : Form) (w z : Option (List ℕ)) (count : ℕ) (faults : FaultMap) (role : Role) (fault : RunFault)
     → IfSome x (λ log. IsVerdictOn log role count faults)
-    → FailsToWrite form w z (report_on form role (map.entries faults) count) fault
+    → FailsToReport form w z (report_on form role (map.entries faults) count) fault
     → IfSome x (λ log. RunsOver form log y (Err fault) w z)
 run-stops-writing x y form w z count faults role fault judged stopped =
     for_log x (λ log. IsVerdictOn log role count faults) (λ log. RunsOver form log y (Err fault) w z)
-    (λ log v. stops-with form log y w z fault v.judged (subst (λ (t : List ℕ). FailsToWrite form w z t fault) (report-is form log role count faults v) stopped)) judged
+    (λ log v. stops-with form log y w z fault v.judged (subst (λ (t : List ℕ). FailsToReport form w z t fault) (report-is form log role count faults v) stopped)) judged
 
 -- a run whose judge refused the log at its end
 pub run-refused-at-end : {first : ℕ} {x y : Option (List ℕ)} {judge : Judged} (refusal : Refusal) → FedAll {S = Unit {0}} (λ j. j.limit) (λ j _. Follows j) first x y judge tt → first ≡ default_limit
@@ -119,12 +119,12 @@ run-refused-at-end {first} {x} {y} refusal took default why =
     })
 
 -- a run that was stopped while it was feeding the judge
-pub run-stopped : {first : ℕ} {x y : Option (List ℕ)} {judge : Judged} (refusal : Refusal) → FedSome {S = Unit {0}} (λ j. j.limit) (λ j _. Follows j) (λ l j _. Refuses l j) first x y judge tt refusal → first ≡ default_limit
+pub run-stopped : {first : ℕ} {x y : Option (List ℕ)} {judge : Judged} (refusal : Refusal) → FedSome {S = Unit {0}} (λ j. j.limit) (λ j _. Follows j) (λ l j _. RefusesIn l j) first x y judge tt refusal → first ≡ default_limit
     → IfSome x (λ log. IsRefusedAt default_limit log y refusal)
 run-stopped {first} {x} {y} {judge} refusal fed default =
     some-taken x y (fed.log ++ fed.piece) (λ l left. IsRefusedAt default_limit l left refusal) fed.consumed (λ left. told left fed.why)
   where
-    told : (left : List ℕ) → Refuses first judge fed.log fed.piece refusal
+    told : (left : List ℕ) → RefusesIn first judge fed.log fed.piece refusal
         ⊎ ((fed.piece ≡ []) × Follows judge fed.log × (judge.limit ≡ first) × (refusal ≡ refusals.Read (length fed.log)))
         → IsRefusedAt default_limit ((fed.log ++ fed.piece) ++ left) (Some left) refusal
     told left (inl (s, state)) = record {

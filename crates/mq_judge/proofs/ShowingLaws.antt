@@ -5,17 +5,18 @@ use Rattle.mq_trace.specs.declared.refusal.Refusal.{Refusal}
 use Rattle.mq_trace.specs.declared.refusal.Refusal.TheVariants as refusals
 use Rattle.mq_trace.specs.Events.{Placed, events}
 use Rattle.mq_trace.specs.Refusals.{refused, is_cut_short}
-use Rattle.mq_trace.specs.Tracing.{Traced, Follows, Takes, Stops, Why}
+use Rattle.mq_trace.specs.Tracing.{Traced, IsTracedTo, TracesPiece, Stops, Why}
 use Rattle.mq_judge.specs.declared.report.RunFault.{RunFault}
 use Rattle.mq_judge.specs.declared.report.RunFault.TheVariants as run_faults
 use Rattle.mq_judge.specs.Feeding.{FedAll, FedSome}
-use Rattle.mq_judge.specs.Report.{AppendsBeginning, StopsWriting}
+use Rattle.mq_judge.specs.Report.{StopsWriting}
 use Rattle.mq_judge.specs.Running.{default_limit}
 use Rattle.mq_judge.specs.Outgoing.{Sends}
 use Rattle.mq_judge.specs.Showing.{Shows, WritesBeginning}
 use Rattle.mq_judge.specs.Stopping.{IsRefusedByte}
 use Rattle.mq_judge.specs.Tracing.{TraceStops, HasFailedIn, ShowStops}
 use Rattle.mq_trace.proofs.Exports.{events-nothing}
+use Rattle.mq_trace.specs.Writing.{AppendsBeginning}
 use Rattle.mq_judge.proofs.FeedingLaws.{whole-taken, some-taken, pieces-are}
 use Rattle.mq_judge.proofs.Writes.{appends-nothing, last-written, stopped-in-last}
 
@@ -32,13 +33,13 @@ trace-stops {S} agrees refuses limit log piece old new r was s =
     go (inr (inr own)) = inr (own.own, own.refused was)
 
 pub traces-follow : {S : Type 0} (agrees : S → List Placed → Type 0) (refuses : S → List Placed → Refusal → Type 0) (limit : ℕ) (log piece : List ℕ) (old new : S)
-    (result : Result (Unit {0}) Refusal) (P : Type 0) → agrees old (events log) → Takes agrees refuses limit log piece old new result → OnOk result P
+    (result : Result (Unit {0}) Refusal) (P : Type 0) → agrees old (events log) → TracesPiece agrees refuses limit log piece old new result → OnOk result P
     → OnOk result (P × agrees new (events (log ++ piece)))
 traces-follow agrees refuses limit log piece old new (Ok done) P was t p = (p, t.1 was)
 traces-follow agrees refuses limit log piece old new (Err r) P was t p = tt
 
 pub traces-stop : {S : Type 0} (agrees : S → List Placed → Type 0) (refuses : S → List Placed → Refusal → Type 0) (limit : ℕ) (log piece : List ℕ) (old new : S)
-    (result : Result (Unit {0}) Refusal) → agrees old (events log) → Takes agrees refuses limit log piece old new result
+    (result : Result (Unit {0}) Refusal) → agrees old (events log) → TracesPiece agrees refuses limit log piece old new result
     → IfErr result (λ r. TraceStops agrees refuses limit new log piece r)
 traces-stop agrees refuses limit log piece old new (Ok done) was t = tt
 traces-stop agrees refuses limit log piece old new (Err r) was t = trace-stops agrees refuses limit log piece old new r was t
@@ -83,19 +84,19 @@ module _ {S : Type 0} (agrees : S → List Placed → Type 0) (refuses : S → L
     (sends : (received : List Placed) → agrees sink received → Sends (has_failed sink) held now (text received) lines)
     (never : (received : List Placed) (own : Refusal) → refuses sink received own → ⊥) where
   abbrev pub ShowsAll : Type 0
-  ShowsAll = FedAll (λ (t : Traced). t.reading.limit) (λ t s log. Follows t log × agrees s (events log)) first x y tracer sink
+  ShowsAll = FedAll (λ (t : Traced). t.reading.limit) (λ t s log. IsTracedTo t log × agrees s (events log)) first x y tracer sink
 
   abbrev pub ShowsSome : Refusal → Type 0
-  ShowsSome r = FedSome (λ (t : Traced). t.reading.limit) (λ t s log. Follows t log × agrees s (events log))
+  ShowsSome r = FedSome (λ (t : Traced). t.reading.limit) (λ t s log. IsTracedTo t log × agrees s (events log))
       (λ limit t s log piece refusal. ShowStops agrees refuses has_failed limit s log piece refusal) first x y tracer sink r
 
-  unrefused : (log : List ℕ) → Follows tracer log → tracer.reading.limit ≡ first → refused default_limit log ≡ None
+  unrefused : (log : List ℕ) → IsTracedTo tracer log → tracer.reading.limit ≡ first → refused default_limit log ≡ None
   unrefused log follows within = subst (λ (l : ℕ). refused l log ≡ None) (within ∙ default) follows.keeps.unrefused
 
   -- why no more was shown: a byte of the next piece is refused, the sink failed, or reading did
   abbrev pub WhySome : List ℕ → List ℕ → Refusal → Type 0
   WhySome log piece r = ShowStops agrees refuses has_failed first sink log piece r
-      ⊎ ((piece ≡ []) × (Follows tracer log × agrees sink (events log)) × (tracer.reading.limit ≡ first) × (r ≡ refusals.Read (length log)))
+      ⊎ ((piece ≡ []) × (IsTracedTo tracer log × agrees sink (events log)) × (tracer.reading.limit ≡ first) × (r ≡ refusals.Read (length log)))
 
   -- what holds of the sink whatever it has received, holds
   pub show-kept : (P : Type 0) → ((received : List Placed) → agrees sink received → P) → (result : Result (Unit {0}) Refusal) → OnOk result ShowsAll → IfErr result ShowsSome → P
@@ -190,7 +191,7 @@ module _ {S : Type 0} (agrees : S → List Placed → Type 0) (refuses : S → L
       )
 
   -- all was taken in and written
-  show-whole : (new : Option (List ℕ)) → ShowsAll → has_failed sink ≡ false → Appends now new lines → ((log : List ℕ) → Follows tracer log → is_cut_short log ≡ false)
+  show-whole : (new : Option (List ℕ)) → ShowsAll → has_failed sink ≡ false → Appends now new lines → ((log : List ℕ) → IsTracedTo tracer log → is_cut_short log ≡ false)
       → IfSome x (λ log. Shows text log y (Ok tt) held new)
   show-whole new all fine last whole =
       whole-taken x y all.log (λ l. Shows text l y (Ok tt) held new) all.consumed all.ended (
@@ -200,7 +201,7 @@ module _ {S : Type 0} (agrees : S → List Placed → Type 0) (refuses : S → L
 
   -- and the log is cut short
   show-cut : (new : Option (List ℕ)) (fault : RunFault) → ShowsAll → has_failed sink ≡ false → Appends now new lines
-      → ((log : List ℕ) → Follows tracer log → (fault ≡ run_faults.Refused (refusals.Cut (length log))) × (is_cut_short log ≡ true))
+      → ((log : List ℕ) → IsTracedTo tracer log → (fault ≡ run_faults.Refused (refusals.Cut (length log))) × (is_cut_short log ≡ true))
       → IfSome x (λ log. Shows text log y (Err fault) held new)
   show-cut new fault all fine last cut =
       let c = cut all.log all.followed.0 in
@@ -217,8 +218,8 @@ module _ {S : Type 0} (agrees : S → List Placed → Type 0) (refuses : S → L
       ))
 
   pub show-ended : (new : Option (List ℕ)) (result : Result (Unit {0}) RunFault) → ShowsAll → has_failed sink ≡ false → Appends now new lines
-      → OnOk result ((log : List ℕ) → Follows tracer log → is_cut_short log ≡ false)
-      → IfErr result (λ fault. (log : List ℕ) → Follows tracer log → (fault ≡ run_faults.Refused (refusals.Cut (length log))) × (is_cut_short log ≡ true))
+      → OnOk result ((log : List ℕ) → IsTracedTo tracer log → is_cut_short log ≡ false)
+      → IfErr result (λ fault. (log : List ℕ) → IsTracedTo tracer log → (fault ≡ run_faults.Refused (refusals.Cut (length log))) × (is_cut_short log ≡ true))
       → IfSome x (λ log. Shows text log y result held new)
   show-ended new (Ok done) all fine last ok refused = show-whole new all fine last ok
   show-ended new (Err fault) all fine last ok refused = show-cut new fault all fine last refused

@@ -2,6 +2,7 @@
 use Rattle.std.proofs.Common.{◌≡◌, ℕ, Bool, true, false, ◌<◌, ◌≤◌, ◌+◌, add-one, List, [], ◌∷◌, length, drop, drop-cons, get_or, Option, Some, None, refl, sym, ap, subst, ◌∙◌, arith, OnOk, IfErr, Result, Ok, Err}
 use Rattle.std.specs.Option.{option_or}
 use Rattle.std.specs.Io.KnownBytes.{Appends}
+use Rattle.mq_trace.specs.Writing.{AppendsBeginning}
 use Rattle.mq_judge.specs.declared.report.RunFault.{RunFault}
 use Rattle.mq_judge.specs.declared.report.RunFault.TheVariants.{Write}
 use Rattle.mq_rules.specs.declared.role.Role.{Role}
@@ -10,13 +11,13 @@ use Rattle.mq_rules.specs.declared.rule.Rule.TheVariants.{W01}
 use Rattle.mq_rules.specs.declared.fault.Fault.{Fault}
 use Rattle.mq_rules.specs.declared.faults.Mark.{Mark}
 use Rattle.mq_rules.specs.Rules.{same_rule, all_rules}
-use Rattle.mq_judge.specs.Report.{line, verdict_text, faults_of, first_of, rule_line, rule_lines, summary_report, LeavesToWrite, AppendsBeginning}
+use Rattle.mq_judge.specs.Report.{line, verdict_text, faults_of, first_fault_of, rule_line, rule_lines, summary_report, LeavesToWrite}
 use Rattle.mq_judge.proofs.Writes.{all-left, appends-then, piece-written, stopped-in-piece, stopped-in-last}
 
 -- What was counted, and the first fault that was found, before these faults are left of all: of the count, those of other statements are still to be taken away.
 pub record Tallies (rule : Rule) (count : ℕ) (found : Option (Mark × Fault)) (left whole : List (Mark × Fault)) : Type 0 where
   pub counts : count + length (faults_of rule left) ≡ length (faults_of rule whole) + length left
-  pub finds : option_or found (first_of (faults_of rule left)) ≡ first_of (faults_of rule whole)
+  pub finds : option_or found (first_fault_of (faults_of rule left)) ≡ first_fault_of (faults_of rule whole)
 
 shorter : (rule : Rule) (faults : List (Mark × Fault)) → length (faults_of rule faults) ≤ length faults
 shorter rule [] = omega arith
@@ -51,7 +52,7 @@ tally_passes {rule} {count} {found} {left} {whole} less rest mark fault so_far e
     let same : faults_of rule left ≡ faults_of rule rest = ap (faults_of rule) e ∙ other_left_out rule mark fault rest other in
     record {
       counts = omega (arith, ap length e, ap length same, so_far.counts, n);
-      finds = ap (λ (l : List (Mark × Fault)). option_or found (first_of l)) (sym same) ∙ so_far.finds;
+      finds = ap (λ (l : List (Mark × Fault)). option_or found (first_fault_of l)) (sym same) ∙ so_far.finds;
     }
 
 -- a fault of this statement is the first one, unless another one is
@@ -65,8 +66,8 @@ tally_meets {rule} {count} {found} {left} {whole} new rest mark fault so_far e t
     let first : faults_of rule left ≡ (mark, fault) ∷ faults_of rule rest = ap (faults_of rule) e ∙ this_first rule mark fault rest this in
     record {
       counts = omega (arith, ap length e, ap length first, so_far.counts);
-      finds = ap (λ (o : Option (Mark × Fault)). option_or o (first_of (faults_of rule rest))) n ∙ or_some found (first_of (faults_of rule rest)) (mark, fault)
-          ∙ ap (λ (l : List (Mark × Fault)). option_or found (first_of l)) (sym first) ∙ so_far.finds;
+      finds = ap (λ (o : Option (Mark × Fault)). option_or o (first_fault_of (faults_of rule rest))) n ∙ or_some found (first_fault_of (faults_of rule rest)) (mark, fault)
+          ∙ ap (λ (l : List (Mark × Fault)). option_or found (first_fault_of l)) (sym first) ∙ so_far.finds;
     }
 
 -- none is left
@@ -81,9 +82,9 @@ or_none None = refl
 or_none (Some a) = refl
 
 pub tally_finds : {rule : Rule} {count : ℕ} {found : Option (Mark × Fault)} {left whole : List (Mark × Fault)} → Tallies rule count found left whole → left ≡ []
-    → found ≡ first_of (faults_of rule whole)
+    → found ≡ first_fault_of (faults_of rule whole)
 tally_finds {rule} {count} {found} {left} {whole} so_far e =
-    or_none found ∙ ap (λ (l : List (Mark × Fault)). option_or found (first_of (faults_of rule l))) (sym e) ∙ so_far.finds
+    or_none found ∙ ap (λ (l : List (Mark × Fault)). option_or found (first_fault_of (faults_of rule l))) (sym e) ∙ so_far.finds
 
 next_rule : (rules : List Rule) (i : ℕ) → i < length rules → drop i rules ≡ get_or rules i W01 ∷ drop (i + 1) rules
 next_rule rules i h = rw (add-one, drop-cons rules i W01) refl

@@ -4,9 +4,10 @@ use Rattle.std.specs.Fmt.{WritesText, WritesInCalls, with_newline}
 use Rattle.std.proofs.lemmas.Fmt.{contents_after_writes}
 use Rattle.std.proofs.Common.{◌≡◌, ℕ, zero, suc, ◌-◌, ◌<◌, subst, length-drop, IfSome, IfErr, OnOk, Result, Ok, Err, List, [], ◌∷◌, ◌++◌, length, take, drop, Option, Some, None, refl, sym, ap, ◌∙◌, append_assoc, append-nil, arith}
 use Rattle.std.specs.Io.KnownBytes.{Appends, Keeps}
+use Rattle.mq_trace.specs.Writing.{AppendsBeginning}
 use Rattle.mq_judge.specs.declared.report.RunFault.{RunFault}
 use Rattle.mq_judge.specs.declared.report.RunFault.TheVariants.{Write}
-use Rattle.mq_judge.specs.Report.{line, AppendsBeginning, LeavesToWrite}
+use Rattle.mq_judge.specs.Report.{line, LeavesToWrite}
 
 pub appends-nothing : (x : Option (List ℕ)) → Appends x x []
 appends-nothing None = tt

@@ -4,11 +4,12 @@ use Rattle.std.specs.Prelude.{ℕ, ◌/◌, ◌%◌, ◌==◌, ◌||◌, nat_lt,
 use Rattle.std.specs.Fmt.{digit_glyph}
 use Rattle.std.specs.List.{flat_map, starts_with}
 use Rattle.mq_props.specs.declared.table.id.TheConstants.{PAYLOAD_FORMAT_INDICATOR, MESSAGE_EXPIRY_INTERVAL, CONTENT_TYPE, RESPONSE_TOPIC, CORRELATION_DATA, SUBSCRIPTION_IDENTIFIER, SESSION_EXPIRY_INTERVAL, ASSIGNED_CLIENT_IDENTIFIER, SERVER_KEEP_ALIVE, AUTHENTICATION_METHOD, AUTHENTICATION_DATA, REQUEST_PROBLEM_INFORMATION, WILL_DELAY_INTERVAL, REQUEST_RESPONSE_INFORMATION, RESPONSE_INFORMATION, SERVER_REFERENCE, REASON_STRING, RECEIVE_MAXIMUM, TOPIC_ALIAS_MAXIMUM, TOPIC_ALIAS, MAXIMUM_QOS, RETAIN_AVAILABLE, USER_PROPERTY, MAXIMUM_PACKET_SIZE, WILDCARD_SUBSCRIPTION_AVAILABLE, SUBSCRIPTION_IDENTIFIER_AVAILABLE, SHARED_SUBSCRIPTION_AVAILABLE}
-use Rattle.mq_props.specs.Values.{Value, Property, byte as byte_value, two_bytes as two_bytes_value, four_bytes as four_bytes_value, varint as varint_value, text as text_value, pair as pair_value, binary as binary_value}
+use Rattle.mq_props.specs.Values.{Value, Property, byte_value, two_bytes_value, four_bytes_value, varint_value, text_value, pair_value, binary_value}
 use Rattle.mq_props.specs.Listed.{Listed}
 use Rattle.mq_packet.specs.Entries.{Entry, ConnectFields, PublishFields, WillFields, AskedFilter, connect, connack, publish, acknowledgement, request, answer, pingreq, pingresp, disconnect, auth}
 use Rattle.mq_trace.specs.Events.{Event, Item, packet as whole_item, sent, received}
-use Rattle.mq_judge.specs.ItemText.{flag_number, qos_number, behind_spaces}
+use Rattle.mq_rules.specs.Notes.{qos_number}
+use Rattle.mq_judge.specs.ItemText.{flag_number, behind_spaces}
 
 -- the two hexadecimal digits of a byte, in capitals
 abbrev pub hex_digits : ℕ → List ℕ
@@ -92,12 +93,12 @@ value_words (pair_value name value) = quoted name ∷ quoted value ∷ []
 value_words (binary_value bytes) = size_text bytes ∷ []
 
 -- a name with this prefix, unless it begins with it already
-abbrev pub begun_with : List ℕ → List ℕ → List ℕ
-begun_with prefix name = if starts_with (λ a b. a == b) name prefix then name else prefix ++ name
+abbrev pub with_prefix : List ℕ → List ℕ → List ℕ
+with_prefix prefix name = if starts_with (λ a b. a == b) name prefix then name else prefix ++ name
 
 -- a property, with this prefix before its name
 abbrev pub property_after : List ℕ → Property → List (List ℕ)
-property_after prefix property = begun_with prefix (property_name property.id) ∷ value_words property.value
+property_after prefix property = with_prefix prefix (property_name property.id) ∷ value_words property.value
 
 -- properties in their order (MQTT 5.0, section 2.2.2)
 abbrev pub properties_after : List ℕ → Listed → List (List ℕ)

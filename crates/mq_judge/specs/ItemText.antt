@@ -1,7 +1,5 @@
 -- The text of what is sent or received: a packet with its size, bytes that break a rule, or a direction that is lost.
 use Rattle.std.specs.Prelude.{ℕ, Bool, true, false, List, [], ◌∷◌, ◌++◌, codes, decimal, Option, Some, None}
-use Rattle.mq_packet.specs.declared.packet.Qos.{Qos}
-use Rattle.mq_packet.specs.declared.packet.Qos.TheVariants as quality
 use Rattle.mq_packet.specs.declared.rule.PacketRule.{PacketRule}
 use Rattle.mq_packet.specs.declared.rule.PacketRule.TheVariants as packet_rules
 use Rattle.mq_trace.specs.Events.{Item, packet as whole_item, bad as broken_item, lost as lost_item}
@@ -9,6 +7,7 @@ use Rattle.mq_judge.specs.declared.report.summary.PacketSummary.{PacketSummary}
 use Rattle.mq_judge.specs.declared.report.summary.PacketSummary.TheVariants.{Connect, Connack, Publish, Puback, Pubrec, Pubrel, Pubcomp, Subscribe, Suback, Unsubscribe, Unsuback, Pingreq, Pingresp, Disconnect, Auth}
 use Rattle.mq_judge.specs.Summaries.{packet_summary}
 use Rattle.mq_trace.specs.Refusing.{spaced}
+use Rattle.mq_rules.specs.Notes.{qos_number}
 
 -- the name of a packet's type (MQTT 5.0, section 2.1.2)
 abbrev pub type_name : PacketSummary → List ℕ
@@ -41,20 +40,15 @@ identifier_of (Unsubscribe identifier) = Some identifier
 identifier_of (Unsuback identifier) = Some identifier
 identifier_of _ = None
 
--- the QoS of a PUBLISH and its DUP flag, as numbers (MQTT 5.0, section 3.3.1)
-abbrev pub qos_number : Qos → ℕ
-qos_number quality.AtMostOnce = 0
-qos_number quality.AtLeastOnce = 1
-qos_number quality.ExactlyOnce = 2
-
+-- the DUP flag of a PUBLISH, as a number (MQTT 5.0, section 3.3.1)
 abbrev pub flag_number : Bool → ℕ
 flag_number false = 0
 flag_number true = 1
 
--- both, if the packet is a PUBLISH
-abbrev pub delivery_of : PacketSummary → Option (ℕ × ℕ)
-delivery_of (Publish identifier qos duplicate) = Some (qos_number qos, flag_number duplicate)
-delivery_of _ = None
+-- its QoS and its DUP flag, if the packet is a PUBLISH
+abbrev pub qos_and_dup : PacketSummary → Option (ℕ × ℕ)
+qos_and_dup (Publish identifier qos duplicate) = Some (qos_number qos, flag_number duplicate)
+qos_and_dup _ = None
 
 -- the words on them, and on an identifier
 abbrev pub delivery_words : Option (ℕ × ℕ) → List (List ℕ)
@@ -73,7 +67,7 @@ behind_spaces (word ∷ words) = 32 ∷ (word ++ behind_spaces words)
 -- a packet: its type and its size in bytes, of a PUBLISH the QoS and the DUP flag, and the Packet Identifier, if it has one
 abbrev pub packet_text : PacketSummary → ℕ → List ℕ
 packet_text packet size = spaced (type_name packet ∷ codes "size" ∷ decimal size
-    ∷ (delivery_words (delivery_of packet) ++ identifier_words (identifier_of packet)))
+    ∷ (delivery_words (qos_and_dup packet) ++ identifier_words (identifier_of packet)))
 
 -- the code of a rule on a packet's bytes
 abbrev pub packet_rule_code : PacketRule → List ℕ

@@ -1,7 +1,7 @@
 -- The state of a judge, and what its calls return.
 use Rattle.std.specs.Prelude.{◌≡◌, ℕ, nat_lt, false, List, ◌++◌, length, Option, Some, None, if◌then◌else◌, Result, Ok, Err}
 use Rattle.mq_trace.specs.declared.refusal.Refusal.{Refusal}
-use Rattle.mq_trace.specs.Tracing.{Traced, Follows as IsTracedTo}
+use Rattle.mq_trace.specs.Tracing.{Traced, IsTracedTo}
 use Rattle.mq_trace.specs.Events.{events}
 use Rattle.mq_trace.specs.Refusals.{refused, is_cut_short}
 use Rattle.mq_rules.specs.declared.note.Seen.{Seen}
@@ -44,13 +44,13 @@ pub record HasRefused (judge : Judged) (taken : List ℕ) (refusal : Refusal) : 
   pub knows : Knows judge taken
 
 -- A judge with this limit has refused, after this log, a byte of this piece, and nothing before that byte.
-abbrev pub Refuses : ℕ → Judged → List ℕ → List ℕ → Refusal → Type 0
-Refuses limit judge log piece refusal = (stops : StopsIn limit log piece refusal) × HasRefused judge (log ++ stops.taken) refusal
+abbrev pub RefusesIn : ℕ → Judged → List ℕ → List ℕ → Refusal → Type 0
+RefusesIn limit judge log piece refusal = (stops : StopsIn limit log piece refusal) × HasRefused judge (log ++ stops.taken) refusal
 
 -- What feeding a piece after a log returns, and the judge's state then: Ok if nothing is refused, else the refusal.
-abbrev pub Takes : List ℕ → List ℕ → Judged → Result (Unit {0}) Refusal → Type 0
-Takes log piece judge (Ok _) = (refused judge.limit (log ++ piece) ≡ None) × Follows judge (log ++ piece)
-Takes log piece judge (Err refusal) = Refuses judge.limit judge log piece refusal
+abbrev pub JudgesPiece : List ℕ → List ℕ → Judged → Result (Unit {0}) Refusal → Type 0
+JudgesPiece log piece judge (Ok _) = (refused judge.limit (log ++ piece) ≡ None) × Follows judge (log ++ piece)
+JudgesPiece log piece judge (Err refusal) = RefusesIn judge.limit judge log piece refusal
 
 -- The same for a tracer with this limit and the events that were noted.
 abbrev pub TakesEvents : ℕ → List ℕ → List ℕ → Traced → List Seen → Result (Unit {0}) Refusal → Type 0

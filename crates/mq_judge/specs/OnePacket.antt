@@ -51,8 +51,8 @@ unfoldable pub packet_report : List ℕ → List ℕ
 packet_report bytes = line (finding_text (finding bytes))
 
 -- the bytes are exactly one frame, and it spells a packet
-unfoldable pub is_packet : List ℕ → Bool
-is_packet bytes = finds_packet (finding bytes)
+unfoldable pub is_one_packet : List ℕ → Bool
+is_one_packet bytes = finds_packet (finding bytes)
 
 -- The same, independent of cutting and reading: all the bytes are one frame, which spells a packet (MQTT 5.0, section 2.1).
 pub record IsOnePacket (bytes : List ℕ) : Type 0 where

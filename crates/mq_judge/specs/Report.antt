@@ -10,14 +10,15 @@ use Rattle.mq_judge.specs.declared.report.Form.TheVariants as forms
 use Rattle.mq_judge.specs.declared.report.RunFault.{RunFault}
 use Rattle.mq_judge.specs.declared.report.RunFault.TheVariants as run_faults
 use Rattle.mq_trace.specs.declared.refusal.Refusal.{Refusal}
-use Rattle.mq_trace.specs.Refusing.{spaced, number_of, name_of, byte_of, refused_text}
+use Rattle.mq_trace.specs.Refusing.{spaced, number_of, name_of, refusal_offset, refused_text}
 use Rattle.mq_trace.specs.Events.{events}
+use Rattle.mq_trace.specs.Writing.{AppendsBeginning}
 use Rattle.mq_rules.specs.declared.role.Role as roles
 use Rattle.mq_rules.specs.declared.rule.Rule.{Rule}
 use Rattle.mq_rules.specs.declared.fault.Fault.{Fault}
 use Rattle.mq_rules.specs.declared.faults.Mark.{Mark}
 use Rattle.mq_rules.specs.Notes.{tested_by, seen_in}
-use Rattle.mq_rules.specs.Faults.{listed}
+use Rattle.mq_rules.specs.Faults.{listed_faults}
 use Rattle.mq_judge.specs.Chosen.{is_judged}
 use Rattle.mq_rules.specs.Rules.{all_rules, same_rule, code_of, citation_of}
 
@@ -85,9 +86,9 @@ abbrev pub faults_of : Rule → List (Mark × Fault) → List (Mark × Fault)
 faults_of rule faults = filter (λ found. same_rule found.0.rule rule) faults
 
 -- the first of these faults, if there is one
-abbrev pub first_of : List (Mark × Fault) → Option (Mark × Fault)
-first_of [] = None
-first_of (first ∷ later) = Some first
+abbrev pub first_fault_of : List (Mark × Fault) → Option (Mark × Fault)
+first_fault_of [] = None
+first_fault_of (first ∷ later) = Some first
 
 -- a statement that has faults: how many, and the first one's position and record
 abbrev pub rule_text : roles.Role → Rule → ℕ → Mark → Fault → List ℕ
@@ -115,7 +116,7 @@ report_on forms.Summary role faults events = summary_report role faults events
 
 -- the report on a log
 unfoldable pub report : Form → List ℕ → List ℕ
-report form log = report_on form (tested_by log).role (listed (is_judged (tested_by log)) (tested_by log) (seen_in log)) (length (events log))
+report form log = report_on form (tested_by log).role (listed_faults (is_judged (tested_by log)) (tested_by log) (seen_in log)) (length (events log))
 
 -- the line of words for a log that is refused
 abbrev pub refused_line : Refusal → List ℕ
@@ -123,7 +124,7 @@ refused_line refusal = line (refused_text refusal)
 
 -- a refusal as JSON: its byte, its name and its number
 abbrev pub refused_data : Refusal → Data
-refused_data refusal = object (member (codes "at") (number (unsigned (byte_of refusal)))
+refused_data refusal = object (member (codes "at") (number (unsigned (refusal_offset refusal)))
     (member (codes "name") (string (name_of refusal))
     (member (codes "refused") (number (unsigned (number_of refusal))) no_members)))
 
@@ -133,19 +134,11 @@ refused_report forms.Text refusal = refused_line refusal
 refused_report forms.Json refusal = line (compact_text (refused_data refusal))
 refused_report forms.Summary refusal = refused_line refusal
 
--- The known bytes grew by a beginning of the text, but not all of it, and by nothing else.
-pub record AppendsBeginning (old new : Option (List ℕ)) (text : List ℕ) : Type 0 where
-  pub written : List ℕ
-  pub unwritten : List ℕ
-  pub whole : text ≡ written ++ unwritten
-  pub some : 0 < length unwritten
-  pub appended : Appends old new written
-
 -- Why this text wasn't written in this form, and what was: a write failed, after a beginning of it; or there was no memory for a JSON value, and nothing was written.
-abbrev pub FailsToWrite : Form → Option (List ℕ) → Option (List ℕ) → List ℕ → RunFault → Type 0
-FailsToWrite form old new text (run_faults.Refused refusal) = ⊥
-FailsToWrite form old new text run_faults.Write = AppendsBeginning old new text
-FailsToWrite form old new text run_faults.Memory = (form ≡ forms.Json) × (new ≡ old)
+abbrev pub FailsToReport : Form → Option (List ℕ) → Option (List ℕ) → List ℕ → RunFault → Type 0
+FailsToReport form old new text (run_faults.Refused refusal) = ⊥
+FailsToReport form old new text run_faults.Write = AppendsBeginning old new text
+FailsToReport form old new text run_faults.Memory = (form ≡ forms.Json) × (new ≡ old)
 
 -- The known bytes have grown by all of the whole text except the rest.
 pub record LeavesToWrite (old new : Option (List ℕ)) (whole rest : List ℕ) : Type 0 where

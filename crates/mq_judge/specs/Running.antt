@@ -15,10 +15,11 @@ use Rattle.mq_rules.specs.Marks.{FaultMap}
 use Rattle.mq_rules.specs.Notes.{tested_by, seen_in}
 use Rattle.mq_trace.specs.declared.refusal.Refusal.{Refusal}
 use Rattle.mq_trace.specs.Events.{events}
-use Rattle.mq_rules.specs.Faults.{listed}
+use Rattle.mq_rules.specs.Faults.{listed_faults}
 use Rattle.mq_judge.specs.Chosen.{is_judged}
 use Rattle.mq_trace.specs.Refusals.{refused, is_cut_short}
-use Rattle.mq_judge.specs.Report.{report, AppendsBeginning}
+use Rattle.mq_trace.specs.Writing.{AppendsBeginning}
+use Rattle.mq_judge.specs.Report.{report}
 use Rattle.mq_judge.specs.Stopping.{IsRefusedAt}
 
 -- the largest packet that is read by default, in bytes
@@ -27,11 +28,11 @@ default_limit = 16777216
 
 -- no statement that is judged is false at any position of the log
 abbrev pub IsFaultless : List ℕ → Type 0
-IsFaultless log = listed (is_judged (tested_by log)) (tested_by log) (seen_in log) ≡ []
+IsFaultless log = listed_faults (is_judged (tested_by log)) (tested_by log) (seen_in log) ≡ []
 
 -- Pass exactly if the log has no faults
 abbrev pub outcome_of : List ℕ → Outcome
-outcome_of log = if length (listed (is_judged (tested_by log)) (tested_by log) (seen_in log)) == 0 then Pass else Fail
+outcome_of log = if length (listed_faults (is_judged (tested_by log)) (tested_by log) (seen_in log)) == 0 then Pass else Fail
 
 -- The log can be judged: nothing is refused in it, and it ends after a whole record.
 pub record IsJudged (log : List ℕ) : Type 0 where
@@ -40,7 +41,7 @@ pub record IsJudged (log : List ℕ) : Type 0 where
 
 -- the faults of a log, in ascending order
 abbrev pub found_in : List ℕ → List (Mark × Fault)
-found_in log = listed (is_judged (tested_by log)) (tested_by log) (seen_in log)
+found_in log = listed_faults (is_judged (tested_by log)) (tested_by log) (seen_in log)
 
 -- The log can be judged, and this is the verdict on it: the end that was judged, how many events there are, and the faults.
 pub record IsVerdictOn (log : List ℕ) (role : Role) (count : ℕ) (faults : FaultMap) : Type 0 where

@@ -5,6 +5,7 @@ use Rattle.std.specs.Io.KnownBytes.{Appends}
 use Rattle.mq_trace.specs.Events.{Event, Placed, opened, closed, rested, released, sent, received, events}
 use Rattle.mq_trace.specs.Refusals.{refused}
 use Rattle.mq_trace.specs.Refusing.{spaced}
+use Rattle.mq_trace.specs.Writing.{AppendsBeginning}
 use Rattle.mq_rules.specs.declared.role.Role as roles
 use Rattle.mq_rules.specs.declared.rule.Rule.{Rule}
 use Rattle.mq_rules.specs.declared.fault.Fault.{Fault}
@@ -16,7 +17,7 @@ use Rattle.mq_judge.specs.declared.report.RunFault.{RunFault}
 use Rattle.mq_judge.specs.declared.report.RunFault.TheVariants as run_faults
 use Rattle.mq_judge.specs.Details.{detail_text}
 use Rattle.mq_judge.specs.ItemText.{item_text}
-use Rattle.mq_judge.specs.Report.{line, AppendsBeginning}
+use Rattle.mq_judge.specs.Report.{line}
 use Rattle.mq_judge.specs.Running.{default_limit, IsJudged}
 use Rattle.mq_judge.specs.Stopping.{IsRefusedAt}
 
@@ -54,8 +55,8 @@ lines_by line_of [] = []
 lines_by line_of (newest ∷ earlier) = lines_by line_of earlier ++ line_of newest
 
 -- the short lines of events
-abbrev pub lines_of : List Placed → List ℕ
-lines_of shown = lines_by event_line shown
+abbrev pub short_lines_of : List Placed → List ℕ
+short_lines_of shown = lines_by event_line shown
 
 -- the long lines of events
 abbrev pub long_lines_of : List Placed → List ℕ

@@ -5,7 +5,7 @@ use Rattle.mq_trace.specs.Events.{Placed}
 use Rattle.mq_judge.specs.declared.showing.annotated.Annotated.{Annotated as AnnotatedView}
 use Rattle.mq_judge.specs.declared.showing.view.View.{View}
 use Rattle.mq_judge.specs.declared.showing.view.View.TheVariants.{Brief, Long, Annotated}
-use Rattle.mq_judge.specs.Showing.{Annotation, annotated, begins_gap, lines_of, long_lines_of}
+use Rattle.mq_judge.specs.Showing.{Annotation, annotated, begins_gap, short_lines_of, long_lines_of}
 
 -- what a view of faults shows
 abbrev pub annotation_of : AnnotatedView → Annotation
@@ -13,7 +13,7 @@ annotation_of a = record { role = a.role; faults = map.entries a.faults.now; aro
 
 -- the text of events, which are given the newest first
 abbrev pub text_by : View → List Placed → List ℕ
-text_by Brief = lines_of
+text_by Brief = short_lines_of
 text_by Long = long_lines_of
 text_by (Annotated a) = annotated (annotation_of a)
 

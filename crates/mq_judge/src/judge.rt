@@ -1,8 +1,8 @@
 //! The judge: it is fed a log, in any pieces, and returns the verdict on it.
 ghost use Rattle.std.specs.Prelude.{◌≡◌, ℕ, ◌-◌, ◌≤◌, min, List, [], nat_lt, length, Some, None, Err, IfErr, IfSome, reverse, if◌then◌else◌};
-ghost use Rattle.mq_judge.specs.Judging.{Knows, Follows, Takes, TakesEvents, Finishes, judge_of, tested_in};
+ghost use Rattle.mq_judge.specs.Judging.{Knows, Follows, JudgesPiece, TakesEvents, Finishes, judge_of, tested_in};
 ghost use Rattle.mq_rules.specs.Notes.{tested_by, seen_in};
-ghost use Rattle.mq_trace.specs.Tracing.{Follows as IsTracedTo};
+ghost use Rattle.mq_trace.specs.Tracing.{IsTracedTo};
 
 use super::evaluating::judge_all;
 use super::feeding::Feed;
@@ -91,7 +91,7 @@ impl Judge {
     /// The refusal whose condition applies at the earliest byte; or `Memory`, at the byte that was being taken in, if nothing is refused before it.
     /// From then on each call fails with the same refusal.
     pub fn feed(&mut self, piece: &[u8]) -> Result<(), Refusal>
-        ensures answers { (log : List ℕ) → Follows self.old log → Takes log piece.now self.new result }
+        ensures answers { (log : List ℕ) → Follows self.old log → JudgesPiece log piece.now self.new result }
         ensures limit { self.new.limit ≡ self.old.limit }
         ensures refuses { IfErr result (λ refusal. self.new.tracer.refusal ≡ Some refusal) }
         ensures for_ever { IfSome self.old.tracer.refusal (λ refusal. (result ≡ Err refusal) × (self.new ≡ self.old)) }
@@ -126,13 +126,13 @@ impl Judge {
 }
 
 impl Feed<()> for Judge {
-    ghost use Rattle.mq_judge.specs.Judging.{Follows, Refuses};
+    ghost use Rattle.mq_judge.specs.Judging.{Follows, RefusesIn};
 
     ghost limit = { λ judge. judge.limit };
 
     ghost follows = { λ judge _. Follows judge };
 
-    ghost stops = { λ limit judge _. Refuses limit judge };
+    ghost stops = { λ limit judge _. RefusesIn limit judge };
 
     fn feed(&mut self, _sink: &mut (), piece: &[u8]) -> Result<(), Refusal> {
         Judge::feed(self, piece)
@@ -147,7 +147,7 @@ fn take_in(
     piece: &[u8],
 ) -> Result<(), Refusal>
     ensures answers { (limit : ℕ) (log : List ℕ) → Follows (judge_of limit tested.old tracer.old (reverse notes.old.seen.items)) log
-        → Takes log piece.now (judge_of limit tested.new tracer.new (reverse notes.new.seen.items)) result }
+        → JudgesPiece log piece.now (judge_of limit tested.new tracer.new (reverse notes.new.seen.items)) result }
     ensures refuses { IfErr result (λ refusal. tracer.new.refusal ≡ Some refusal) }
     ensures for_ever { IfSome tracer.old.refusal (λ refusal. (result ≡ Err refusal) × (tested.new ≡ tested.old) × (tracer.new ≡ tracer.old) × (notes.new ≡ notes.old)) }
 {

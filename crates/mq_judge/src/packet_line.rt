@@ -1,11 +1,12 @@
 //! The line that says what bytes are that should be one packet.
 ghost use Rattle.std.specs.Prelude.{◌≡◌, ◌≤◌, ◌↔◌, true, ◌++◌, IfOk, IfErr, OnOk, length};
 ghost use Rattle.std.specs.Io.KnownBytes.{Appends};
-ghost use Rattle.mq_judge.specs.OnePacket.{IsOnePacket, finding, finding_text, finds_packet, frame_finding, is_packet, packet_report};
-ghost use Rattle.mq_judge.specs.Report.{line, AppendsBeginning};
+ghost use Rattle.mq_judge.specs.OnePacket.{IsOnePacket, finding, finding_text, finds_packet, frame_finding, is_one_packet, packet_report};
+ghost use Rattle.mq_judge.specs.Report.{line};
 ghost use Rattle.mq_packet.specs.Decoding.{decoded};
 ghost use Rattle.mq_packet.specs.Entries.{Entry};
 ghost use Rattle.mq_packet.specs.Spelled.{IsSpelled};
+ghost use Rattle.mq_trace.specs.Writing.{AppendsBeginning};
 
 use super::lines::Lines;
 use super::report::RunFault;
@@ -123,10 +124,10 @@ fn write_finding<W: Write>(found: Finding, writer: &mut W) -> Result<(), RunFaul
 /// # Errors
 ///
 /// `Write` if a write failed: the writer returned an error, also one for an interruption, or took no byte. A beginning of the line was then written.
-#[tactic(auto, unfolding(crate::specs::OnePacket::packet_report, crate::specs::OnePacket::is_packet))]
+#[tactic(auto, unfolding(crate::specs::OnePacket::packet_report, crate::specs::OnePacket::is_one_packet))]
 pub fn write_packet<W: Write>(bytes: &[u8], writer: &mut W) -> Result<bool, RunFault>
     ensures ok { OnOk result (Appends (W.contents writer.old) (W.contents writer.new) (packet_report bytes.now)) }
-    ensures answer { IfOk result (λ told. told ≡ is_packet bytes.now) }
+    ensures answer { IfOk result (λ told. told ≡ is_one_packet bytes.now) }
     ensures one_packet { IfOk result (λ told. (told ≡ true) ↔ IsOnePacket bytes.now) }
     ensures write { IfErr result (λ fault. (fault ≡ RunFault.Write)
         × AppendsBeginning (W.contents writer.old) (W.contents writer.new) (packet_report bytes.now)) }

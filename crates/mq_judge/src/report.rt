@@ -2,7 +2,8 @@
 ghost use Rattle.std.specs.Prelude.{◌≡◌, Some, IfErr, OnOk};
 ghost use Rattle.std.specs.FinMap as map;
 ghost use Rattle.std.specs.Io.KnownBytes.{Appends};
-ghost use Rattle.mq_judge.specs.Report.{offset_text, fault_text, verdict_text, refused_report, report_on, AppendsBeginning, FailsToWrite};
+ghost use Rattle.mq_trace.specs.Writing.{AppendsBeginning};
+ghost use Rattle.mq_judge.specs.Report.{offset_text, fault_text, verdict_text, refused_report, report_on, FailsToReport};
 
 pub mod item;
 pub mod json;
@@ -165,7 +166,7 @@ pub fn write_refused<W: Write>(
     writer: &mut W,
 ) -> Result<(), RunFault>
     ensures ok { OnOk result (Appends (W.contents writer.old) (W.contents writer.new) (refused_report form refusal.now)) }
-    ensures err { IfErr result (FailsToWrite form (W.contents writer.old) (W.contents writer.new) (refused_report form refusal.now)) }
+    ensures err { IfErr result (FailsToReport form (W.contents writer.old) (W.contents writer.new) (refused_report form refusal.now)) }
 {
     match form {
         Form::Text | Form::Summary => write_line(*refusal, writer),

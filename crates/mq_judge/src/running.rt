@@ -4,7 +4,7 @@ ghost use Rattle.std.specs.FinMap as map;
 ghost use Rattle.std.specs.Io.KnownBytes.{Appends};
 ghost use Rattle.mq_judge.specs.declared.report.RunFault.TheVariants as run_faults;
 ghost use Rattle.mq_trace.specs.declared.refusal.Refusal.{Refusal as AnyRefusal};
-ghost use Rattle.mq_judge.specs.Report.{report_on, FailsToWrite};
+ghost use Rattle.mq_judge.specs.Report.{report_on, FailsToReport};
 ghost use Rattle.mq_judge.specs.Running.{JudgesOver, RunsOver};
 
 use super::feeding::feed_all;
@@ -98,7 +98,7 @@ fn write_report<W: Write>(
 ) -> Result<(), RunFault>
     ensures ok { OnOk result (Appends (W.contents writer.old) (W.contents writer.new)
         (report_on form role (map.entries verdict.now.faults) verdict.now.events)) }
-    ensures err { IfErr result (FailsToWrite form (W.contents writer.old) (W.contents writer.new)
+    ensures err { IfErr result (FailsToReport form (W.contents writer.old) (W.contents writer.new)
         (report_on form role (map.entries verdict.now.faults) verdict.now.events)) }
 {
     match form {

@@ -2,10 +2,10 @@
 ghost use Rattle.std.specs.Prelude.{◌≡◌, Bool, true, false, IfSome, OnOk, IfErr, [], List, Option, length, ℕ};
 ghost use Rattle.std.specs.FinMap as map;
 ghost use Rattle.mq_judge.specs.Running.{default_limit};
-ghost use Rattle.mq_judge.specs.Showing.{Annotation, Shows, annotated, lines_of, long_lines_of};
+ghost use Rattle.mq_judge.specs.Showing.{Annotation, Shows, annotated, short_lines_of, long_lines_of};
 ghost use Rattle.mq_judge.specs.Views.{StandsAfter, text_by};
 ghost use Rattle.mq_trace.specs.Refusals.{is_cut_short};
-ghost use Rattle.mq_trace.specs.Tracing.{Follows};
+ghost use Rattle.mq_trace.specs.Tracing.{IsTracedTo};
 ghost use Rattle.mq_trace.specs.declared.refusal.Refusal.TheVariants as refusals;
 
 mod annotated;
@@ -115,12 +115,12 @@ impl<W: Write, K> Failing for Showing<'_, '_, '_, W, K> {
 
 impl<S: Sink + Failing> Feed<S> for Tracer {
     ghost use Rattle.mq_judge.specs.Tracing.{ShowStops};
-    ghost use Rattle.mq_trace.specs.Tracing.{Follows};
+    ghost use Rattle.mq_trace.specs.Tracing.{IsTracedTo};
     ghost use Rattle.mq_trace.specs.Events.{events};
 
     ghost limit = { λ tracer. tracer.reading.limit };
 
-    ghost follows = { λ tracer sink log. Follows tracer log × S.agrees sink (events log) };
+    ghost follows = { λ tracer sink log. IsTracedTo tracer log × S.agrees sink (events log) };
 
     ghost stops = { λ limit _ sink log piece refusal. ShowStops S.agrees S.refuses S.has_failed limit sink log piece refusal };
 
@@ -146,7 +146,7 @@ pub fn show<R: Read, W: Write>(
     reader: &mut R,
     writer: &mut W,
 ) -> Result<(), RunFault>
-    ensures { IfSome (R.remaining reader.old) (λ log. Shows lines_of log (R.remaining reader.new) result (W.contents writer.old) (W.contents writer.new)) }
+    ensures { IfSome (R.remaining reader.old) (λ log. Shows short_lines_of log (R.remaining reader.new) result (W.contents writer.old) (W.contents writer.new)) }
 {
     let mut out = Outgoing::to(writer);
     show_by(alloc, View::Brief, reader, &mut out)
@@ -234,7 +234,7 @@ fn show_all<R: Read, W: Write, K: Given>(
     requires text { text_by showing.old.view ≡ K.text }
     requires empty { K.text [] ≡ [] }
     requires fresh { (showing.old.out.now.failed ≡ false) × (showing.old.out.now.lines ≡ []) × StandsAfter [] showing.old.view }
-    requires follows { Follows tracer.old [] × (tracer.old.reading.limit ≡ default_limit) }
+    requires follows { IsTracedTo tracer.old [] × (tracer.old.reading.limit ≡ default_limit) }
     ensures way { showing.new.out.ghost_name ≡ showing.old.out.ghost_name }
     ensures writer { showing.new.out.now.writer.ghost_name ≡ showing.old.out.now.writer.ghost_name }
     ensures shows { IfSome (R.remaining reader.old) (λ log. Shows K.text log (R.remaining reader.new) result K.held (W.contents showing.new.out.now.writer.now)) }
@@ -249,8 +249,8 @@ fn show_all<R: Read, W: Write, K: Given>(
 
 /// Ends the log that a tracer was fed.
 fn end(tracer: &mut Tracer) -> Result<(), RunFault>
-    ensures ok { OnOk result ((log : List ℕ) → Follows tracer.old log → is_cut_short log ≡ false) }
-    ensures refused { IfErr result (λ fault. (log : List ℕ) → Follows tracer.old log
+    ensures ok { OnOk result ((log : List ℕ) → IsTracedTo tracer.old log → is_cut_short log ≡ false) }
+    ensures refused { IfErr result (λ fault. (log : List ℕ) → IsTracedTo tracer.old log
         → (fault ≡ RunFault.Refused (refusals.Cut (length log))) × (is_cut_short log ≡ true)) }
 {
     match tracer.finish() {

@@ -8,6 +8,7 @@ use Rattle.mq_wire.specs.declared.fault.Reason.TheVariants as reasons
 use Rattle.mq_wire.specs.Fields.{varint_at}
 use Rattle.mq_wire.specs.Spellings.{AreBytes, IsVarint, Stands, text_spelling, binary_spelling, two_bytes_spelling, varint_spelling}
 use Rattle.mq_wire.proofs.Exports.{varint_exact}
+use Rattle.mq_wire.specs.Left.{Gives}
 use Rattle.mq_props.specs.declared.table.Place.TheVariants as places
 use Rattle.mq_packet.specs.declared.packet.Packet.{Packet}
 use Rattle.mq_packet.specs.declared.packet.Packet.TheVariants as packets
@@ -27,13 +28,13 @@ use Rattle.mq_packet.specs.declared.fault.DecodeFault.{DecodeFault}
 use Rattle.mq_packet.specs.declared.header.FixedHeader.{FixedHeader}
 use Rattle.mq_packet.specs.declared.header.FixedHeader.TheVariants.{Whole}
 use Rattle.mq_packet.specs.Entries.{Entry, connect, connack, publish, acknowledgement, request, answer, pingreq, pingresp, disconnect, auth, WillFields, ConnectFields, PublishFields, AskedFilter, listed}
-use Rattle.mq_packet.specs.Formats.{Kind, text, binary, Value, Format, done, rest, all_codes, all_filters, refused, field, at_end, field_if, will_if, has_bits, qos_of, connect_format, connack_format, publish_from, publish_unacknowledged, publish_acknowledged, publish_format, acknowledgement_format, request_format, answer_format, ending_format, format_of, format_by_type}
+use Rattle.mq_packet.specs.Formats.{Kind, text, binary, ValueOf, Format, done, rest, all_codes, all_filters, bad_first_byte, field, at_end, field_if, will_if, has_bits, qos_of, connect_format, connack_format, publish_from, publish_unacknowledged, publish_acknowledged, publish_format, acknowledgement_format, request_format, answer_format, ending_format, format_of, format_by_type}
 use Rattle.mq_packet.specs.Asking.{filters_spelling}
 use Rattle.mq_packet.specs.FirstBytes.{flags_in}
 use Rattle.mq_packet.specs.Canonical.{list_spelling, spelling_if, will_spelling, connect_body, connack_body, publish_body, request_body, answer_body}
 use Rattle.mq_packet.specs.Spelled.{spelling, Spells, IsSpelled}
 use Rattle.mq_packet.specs.Stream.{header_with, fixed_header_of}
-use Rattle.mq_packet.specs.Reading.{view, HasReadLen, Gives}
+use Rattle.mq_packet.specs.Reading.{view, HasReadLen}
 use Rattle.mq_packet.specs.Decoding.{decoded}
 use Rattle.mq_packet.specs.Sizes.{remaining_length, size_with}
 use Rattle.mq_packet.proofs.SizeLaws.{will_length, connect_length, connack_length, publish_length, request_length, answer_length}
@@ -61,8 +62,8 @@ Measures (done packet) n = HasLength n packet
 Measures (rest packet) n = (bytes : List ℕ) → HasLength (n + length bytes) (packet bytes)
 Measures (all_codes table packet) n = (reasons : List ℕ) → HasLength (n + length reasons) (packet reasons)
 Measures (all_filters asks packet) n = (filters : List AskedFilter) → HasLength (n + length (filters_spelling filters)) (packet filters)
-Measures (refused rule) n = Unit {0}
-Measures (field kind objection next) n = (value : Value kind) → objection value ≡ None → Measures (next value) (n + length (spelling kind value))
+Measures (bad_first_byte rule) n = Unit {0}
+Measures (field kind objection next) n = (value : ValueOf kind) → objection value ≡ None → Measures (next value) (n + length (spelling kind value))
 Measures (at_end whole more) n = Measures whole n × Measures more n
 
 -- The same after as many bytes.
@@ -80,7 +81,7 @@ measured (rest packet) n bytes entry h spelled = subst (λ (p : Entry). HasLengt
 measured (all_codes table packet) n bytes entry h spelled = subst (λ (p : Entry). HasLength (n + length bytes) p) spelled.1 (h bytes)
 measured (all_filters asks packet) n bytes entry h spelled =
     subst (λ (l : List ℕ). HasLength (n + length l) entry) (sym spelled.2) (subst (λ (p : Entry). HasLength (n + length (filters_spelling spelled.0)) p) spelled.3 (h spelled.0))
-measured (refused rule) n bytes entry h spelled = absurd spelled
+measured (bad_first_byte rule) n bytes entry h spelled = absurd spelled
 measured (field kind objection next) n bytes entry h spelled =
     (let whole : length bytes ≡ length (spelling kind spelled.0) + length spelled.1 = ap (length {A = ℕ}) spelled.2.spelled ∙ length-append (spelling kind spelled.0) spelled.1 in
     length_at entry (n + length (spelling kind spelled.0) + length spelled.1) (n + length bytes) (omega (arith, whole))
@@ -90,7 +91,7 @@ measured (at_end whole more) n (b ∷ bytes) entry h spelled = measured more n (
 
 -- ---- fields that may be missing
 
-field_if_measured : (flag : Bool) (kind : Kind) (next : Option (Value kind) → Format) (n : ℕ) → ((value : Option (Value kind)) → Measures (next value) (n + length (spelling_if (spelling kind) value)))
+field_if_measured : (flag : Bool) (kind : Kind) (next : Option (ValueOf kind) → Format) (n : ℕ) → ((value : Option (ValueOf kind)) → Measures (next value) (n + length (spelling_if (spelling kind) value)))
     → Measures (field_if flag kind next) n
 field_if_measured false kind next n h = measured_at (next None) (n + 0) n (omega arith) (h None)
 field_if_measured true kind next n h = λ value _. h (Some value)
@@ -139,9 +140,9 @@ or_next false one two h k = k
 
 publish_measured : (first : ℕ) → Measures (publish_format first) 0
 publish_measured first =
-    or_next (bit_and first 6 == 0) _ _ (or_next (has_bits 8 first) (refused rules.W08) (publish_unacknowledged (has_bits 1 first)) tt (unacknowledged_measured (has_bits 1 first))) (
+    or_next (bit_and first 6 == 0) _ _ (or_next (has_bits 8 first) (bad_first_byte rules.W08) (publish_unacknowledged (has_bits 1 first)) tt (unacknowledged_measured (has_bits 1 first))) (
     or_next (bit_and first 6 == 2) _ _ (acknowledged_measured (has_bits 8 first) AtLeastOnce (has_bits 1 first)) (
-    or_next (bit_and first 6 == 4) (publish_acknowledged (has_bits 8 first) ExactlyOnce (has_bits 1 first)) (refused rules.W07) (acknowledged_measured (has_bits 8 first) ExactlyOnce (has_bits 1 first)) tt))
+    or_next (bit_and first 6 == 4) (publish_acknowledged (has_bits 8 first) ExactlyOnce (has_bits 1 first)) (bad_first_byte rules.W07) (acknowledged_measured (has_bits 8 first) ExactlyOnce (has_bits 1 first)) tt))
 
 -- ---- SUBSCRIBE, UNSUBSCRIBE and their answers
 

@@ -25,8 +25,8 @@ use Rattle.mq_packet.specs.declared.rule.PacketRule.TheVariants as rules
 use Rattle.mq_packet.specs.Entries.{Entry, connect, connack, publish, acknowledgement, request, answer, pingreq, pingresp, disconnect, auth, WillFields, ConnectFields, PublishFields, AskedFilter, listed, request_place, answer_place, answer_codes, has_options}
 use Rattle.mq_packet.specs.Formats.{text, binary, properties, Format, done, field, field_if, will_if, is_code, names_topic, is_filter, are_connect_flags, has_bits, qos_of, connect_from, connack_format, publish_from, publish_unacknowledged, publish_acknowledged, acknowledgement_format, request_format, answer_format, any_value}
 use Rattle.mq_packet.specs.Asking.{AreOptions, IsAsked, filters_spelling, AreAsked}
-use Rattle.mq_packet.specs.Spelled.{IsValue, Spells, IsSpelled}
-use Rattle.mq_packet.specs.Canonical.{bit, connect_flags, spelling_if, list_spelling, will_spelling, reason_spelling, first_byte, connect_body, connack_body, publish_body, acknowledgement_body, request_body, answer_body, disconnect_body, auth_body, canonical_body}
+use Rattle.mq_packet.specs.Spelled.{IsValueOf, Spells, IsSpelled}
+use Rattle.mq_packet.specs.Canonical.{bit, connect_flags, spelling_if, list_spelling, will_spelling, reason_spelling, first_byte_of, connect_body, connack_body, publish_body, acknowledgement_body, request_body, answer_body, disconnect_body, auth_body, canonical_body}
 use Rattle.mq_packet.specs.Valid.{is_text, is_binary, is_identifier, if_there, fits_qos, fits_request, valid_will, valid_connect, valid_connack, valid_publish, valid_acknowledgement, valid_filter, valid_filters, valid_request, valid_answer, valid_ending, valid, IsListed, IsWill, IsConnect, IsPublish, IsIdentified, IsAskedFilter, IsRequest, IsTyped}
 use Rattle.mq_packet.specs.ShortForms.{SpellsEnd}
 use Rattle.mq_packet.proofs.EndLaws.{acknowledgement_spells, ending_spells}
@@ -36,7 +36,7 @@ use Rattle.mq_packet.proofs.ConnectFlagLaws.{FlagsSay, flags_say}
 -- ---- lists and codes at a packet's end
 
 -- A property list that ends a packet, which is made of it.
-list_ends : (place : Place) (items : List Property) (make : Listed → Entry) → IsValue (properties place) items
+list_ends : (place : Place) (items : List Property) (make : Listed → Entry) → IsValueOf (properties place) items
     → Spells (field (properties place) any_value (λ list. done (make (listed place list)))) (list_spelling items) (make (listed place items))
 list_ends place items make ok = (items, [], record { is_value = ok; spelled = sym (append-nil (list_spelling items)) }, refl, (refl, refl))
 
@@ -46,10 +46,10 @@ connack_spelled : (session_present : Bool) (code : ℕ) (list : Listed) → IsLi
 unfolding valid_connack connack_body
 connack_spelled session_present code list ok e =
     (let parts : (same_place list.place places.Connack ≡ true) × (is_code connack_codes code ≡ true) = and_parts _ _ e in
-    let value : IsValue (properties places.Connack) list.items = list_value places.Connack list ok parts.0 in
+    let value : IsValueOf (properties places.Connack) list.items = list_value places.Connack list ok parts.0 in
     subst (λ (l : Listed). Spells connack_format (bit 1 session_present ∷ code ∷ list_spelling list.items) (connack session_present code l)) (listed_is places.Connack list parts.0) (flagged session_present value parts.1))
   where
-    flagged : (s : Bool) → IsValue (properties places.Connack) list.items → is_code connack_codes code ≡ true → Spells connack_format (bit 1 s ∷ code ∷ list_spelling list.items) (connack s code (listed places.Connack list.items))
+    flagged : (s : Bool) → IsValueOf (properties places.Connack) list.items → is_code connack_codes code ≡ true → Spells connack_format (bit 1 s ∷ code ∷ list_spelling list.items) (connack s code (listed places.Connack list.items))
     flagged true value known = (
       1,
       code ∷ list_spelling list.items,
@@ -102,7 +102,7 @@ written_spells kind identifier code list ok e =
     acknowledgement_spells kind identifier code list (two_bytes_spelling identifier ++ reason_spelling code list.items) ok e (reason_spelling code list.items, refl, reason_ends code list.items)
 
 acknowledgement_spelled : (kind : AcknowledgementKind) (identifier code : ℕ) (list : Listed) → IsIdentified identifier list → valid_acknowledgement kind identifier code list ≡ true
-    → IsSpelled (first_byte (acknowledgement kind identifier code list)) (acknowledgement_body identifier code list.items) (acknowledgement kind identifier code list)
+    → IsSpelled (first_byte_of (acknowledgement kind identifier code list)) (acknowledgement_body identifier code list.items) (acknowledgement kind identifier code list)
 acknowledgement_spelled acknowledgements.Puback identifier code list ok e = written_spells acknowledgements.Puback identifier code list ok e
 acknowledgement_spelled acknowledgements.Pubrec identifier code list ok e = written_spells acknowledgements.Pubrec identifier code list ok e
 acknowledgement_spelled acknowledgements.Pubrel identifier code list ok e = written_spells acknowledgements.Pubrel identifier code list ok e
@@ -122,7 +122,7 @@ abbrev published : Bool → Qos → Bool → List ℕ → Option ℕ → Listed 
 published duplicate qos retain topic identifier list payload =
     record { duplicate = duplicate; qos = qos; retain = retain; topic = topic; identifier = identifier; properties = list; payload = payload }
 
-module _ (retain : Bool) (topic : List ℕ) (items : List Property) (payload : List ℕ) (is_topic : IsText topic) (plain : is_name topic ≡ true) (value : IsValue (properties places.Publish) items) (named : names_topic topic items ≡ true) where
+module _ (retain : Bool) (topic : List ℕ) (items : List Property) (payload : List ℕ) (is_topic : IsText topic) (plain : is_name topic ≡ true) (value : IsValueOf (properties places.Publish) items) (named : names_topic topic items ≡ true) where
   publish_tail : (duplicate : Bool) (qos : Qos) (identifier : Option ℕ) → Spells (publish_from duplicate qos retain topic identifier) (list_spelling items ++ payload) (publish (published duplicate qos retain topic identifier (listed places.Publish items) payload))
   publish_tail duplicate qos identifier = (items, payload, record { is_value = value; spelled = refl }, unobjected (names_topic topic items) rules.W21 named, refl)
 
@@ -140,9 +140,9 @@ module _ (retain : Bool) (topic : List ℕ) (items : List Property) (payload : L
   )
 
 publish_by : (duplicate : Bool) (qos : Qos) (retain : Bool) (topic : List ℕ) (identifier : Option ℕ) (items : List Property) (payload : List ℕ)
-    → IsText topic → is_name topic ≡ true → IsValue (properties places.Publish) items → names_topic topic items ≡ true
+    → IsText topic → is_name topic ≡ true → IsValueOf (properties places.Publish) items → names_topic topic items ≡ true
     → IfSome identifier (λ i. i ≤ 65535) → fits_qos duplicate qos identifier ≡ true
-    → IsSpelled (first_byte (publish (published duplicate qos retain topic identifier (listed places.Publish items) payload))) (publish_body (published duplicate qos retain topic identifier (listed places.Publish items) payload)) (publish (published duplicate qos retain topic identifier (listed places.Publish items) payload))
+    → IsSpelled (first_byte_of (publish (published duplicate qos retain topic identifier (listed places.Publish items) payload))) (publish_body (published duplicate qos retain topic identifier (listed places.Publish items) payload)) (publish (published duplicate qos retain topic identifier (listed places.Publish items) payload))
 unfolding publish_body
 publish_by true AtMostOnce retain topic identifier items payload t n v a i fits = absurd (cc)
 publish_by false AtMostOnce retain topic (Some identifier) items payload t n v a i fits = absurd (cc)
@@ -159,14 +159,14 @@ publish_by true ExactlyOnce false topic (Some identifier) items payload t n v a 
 publish_by false ExactlyOnce true topic (Some identifier) items payload t n v a i fits = acknowledged true topic items payload t n v a false ExactlyOnce identifier i fits
 publish_by false ExactlyOnce false topic (Some identifier) items payload t n v a i fits = acknowledged false topic items payload t n v a false ExactlyOnce identifier i fits
 
-publish_spelled : (fields : PublishFields) → IsPublish fields → valid_publish fields ≡ true → IsSpelled (first_byte (publish fields)) (publish_body fields) (publish fields)
+publish_spelled : (fields : PublishFields) → IsPublish fields → valid_publish fields ≡ true → IsSpelled (first_byte_of (publish fields)) (publish_body fields) (publish fields)
 unfolding valid_publish
 publish_spelled fields ok e =
     (let one : (same_place fields.properties.place places.Publish ≡ true) × ((fits_qos fields.duplicate fields.qos fields.identifier && (is_text fields.topic && (is_name fields.topic && names_topic fields.topic fields.properties.items))) ≡ true) = and_parts _ _ e in
     let two : (fits_qos fields.duplicate fields.qos fields.identifier ≡ true) × ((is_text fields.topic && (is_name fields.topic && names_topic fields.topic fields.properties.items)) ≡ true) = and_parts _ _ one.1 in
     let three : (is_text fields.topic ≡ true) × ((is_name fields.topic && names_topic fields.topic fields.properties.items) ≡ true) = and_parts _ _ two.1 in
     let four : (is_name fields.topic ≡ true) × (names_topic fields.topic fields.properties.items ≡ true) = and_parts _ _ three.1 in
-    let P : Listed → Type 0 = λ l. IsSpelled (first_byte (publish (published fields.duplicate fields.qos fields.retain fields.topic fields.identifier l fields.payload))) (publish_body (published fields.duplicate fields.qos fields.retain fields.topic fields.identifier l fields.payload)) (publish (published fields.duplicate fields.qos fields.retain fields.topic fields.identifier l fields.payload)) in
+    let P : Listed → Type 0 = λ l. IsSpelled (first_byte_of (publish (published fields.duplicate fields.qos fields.retain fields.topic fields.identifier l fields.payload))) (publish_body (published fields.duplicate fields.qos fields.retain fields.topic fields.identifier l fields.payload)) (publish (published fields.duplicate fields.qos fields.retain fields.topic fields.identifier l fields.payload)) in
     subst P (listed_is places.Publish fields.properties one.0)
     (publish_by fields.duplicate fields.qos fields.retain fields.topic fields.identifier fields.properties.items fields.payload
     (text_value fields.topic ok.topic three.0) four.0 (list_value places.Publish fields.properties ok.properties one.0) four.1 ok.identifier two.0))
@@ -214,7 +214,7 @@ request_spells kind identifier list filters ok e =
     ))
 
 request_spelled : (kind : RequestKind) (identifier : ℕ) (list : Listed) (filters : List AskedFilter) → IsRequest identifier list filters → valid_request kind identifier list filters ≡ true
-    → IsSpelled (first_byte (request kind identifier list filters)) (request_body identifier list.items filters) (request kind identifier list filters)
+    → IsSpelled (first_byte_of (request kind identifier list filters)) (request_body identifier list.items filters) (request kind identifier list filters)
 request_spelled requests.Subscribe identifier list filters ok e = request_spells requests.Subscribe identifier list filters ok e
 request_spelled requests.Unsubscribe identifier list filters ok e = request_spells requests.Unsubscribe identifier list filters ok e
 
@@ -240,7 +240,7 @@ answer_spells kind identifier list reasons ok e =
     ))
 
 answer_spelled : (kind : RequestKind) (identifier : ℕ) (list : Listed) (reasons : List ℕ) → IsIdentified identifier list → valid_answer kind identifier list reasons ≡ true
-    → IsSpelled (first_byte (answer kind identifier list reasons)) (answer_body identifier list.items reasons) (answer kind identifier list reasons)
+    → IsSpelled (first_byte_of (answer kind identifier list reasons)) (answer_body identifier list.items reasons) (answer kind identifier list reasons)
 answer_spelled requests.Subscribe identifier list reasons ok e = answer_spells requests.Subscribe identifier list reasons ok e
 answer_spelled requests.Unsubscribe identifier list reasons ok e = answer_spells requests.Unsubscribe identifier list reasons ok e
 
@@ -373,7 +373,7 @@ connect_spelled fields ok e =
       ),
     ))
 
-pub canonical_spelled : (entry : Entry) → IsTyped entry → valid entry ≡ true → IsSpelled (first_byte entry) (canonical_body entry) entry
+pub canonical_spelled : (entry : Entry) → IsTyped entry → valid entry ≡ true → IsSpelled (first_byte_of entry) (canonical_body entry) entry
 canonical_spelled (connect fields) typed e = connect_spelled fields typed e
 canonical_spelled (connack session_present code list) typed e = connack_spelled session_present code list typed e
 canonical_spelled (publish fields) typed e = publish_spelled fields typed e

@@ -16,7 +16,7 @@ use Rattle.mq_packet.specs.declared.packet.EndingKind.TheVariants as endings
 use Rattle.mq_packet.specs.declared.rule.PacketRule.TheVariants as rules
 use Rattle.mq_packet.specs.Entries.{Entry, acknowledgement, listed, none_listed, acknowledgement_place, acknowledgement_codes, ending, ending_place, ending_codes}
 use Rattle.mq_packet.specs.Formats.{byte, properties, Format, done, field, at_end, any_value, code_objection, is_code, acknowledgement_format, ending_format}
-use Rattle.mq_packet.specs.Spelled.{IsValue, Spells}
+use Rattle.mq_packet.specs.Spelled.{IsValueOf, Spells}
 use Rattle.mq_packet.specs.Canonical.{list_spelling}
 use Rattle.mq_packet.specs.Valid.{is_identifier, valid_acknowledgement, valid_ending, IsListed, IsIdentified}
 use Rattle.mq_packet.specs.ShortForms.{SpellsEnd, IsBodyOf}
@@ -33,7 +33,7 @@ behind_code place make code = at_end (done (make code (none_listed place))) (fie
 abbrev pub coded : List ℕ → Place → (ℕ → Listed → Entry) → Format
 coded table place make = at_end (done (make 0 (none_listed place))) (field byte (code_objection table) (λ code. behind_code place make code))
 
-list_spells : (place : Place) (make : ℕ → Listed → Entry) (code : ℕ) (items : List Property) (l : List ℕ) → IsValue (properties place) items → l ≡ list_spelling items → Spells (behind_code place make code) l (make code (listed place items))
+list_spells : (place : Place) (make : ℕ → Listed → Entry) (code : ℕ) (items : List Property) (l : List ℕ) → IsValueOf (properties place) items → l ≡ list_spelling items → Spells (behind_code place make code) l (make code (listed place items))
 list_spells place make code items [] ok e =
     absurd (omega (arith, varint_some (length (properties_spelling items)), length-append (varint_spelling (length (properties_spelling items))) (properties_spelling items), ap (length {A = ℕ}) e))
 list_spells place make code items (b ∷ l) ok e = (items, [], record { is_value = ok; spelled = e ∙ sym (append-nil (list_spelling items)) }, refl, (refl, refl))
@@ -42,7 +42,7 @@ module _ (table : List ℕ) (bytes : AreCodes table) (place : Place) (make : ℕ
   code_spells : (code : ℕ) (items : List Property) (l : List ℕ) → is_code table code ≡ true → Spells (behind_code place make code) l (make code (listed place items)) → Spells (coded table place make) (code ∷ l) (make code (listed place items))
   code_spells code items l known h = (code, l, record { is_value = code_value table code bytes known; spelled = refl }, unobjected (is_code table code) rules.W13 known, h)
 
-  end_spells : (code : ℕ) (items : List Property) (end : List ℕ) → IsValue (properties place) items → is_code table code ≡ true → SpellsEnd code items end → Spells (coded table place make) end (make code (listed place items))
+  end_spells : (code : ℕ) (items : List Property) (end : List ℕ) → IsValueOf (properties place) items → is_code table code ≡ true → SpellsEnd code items end → Spells (coded table place make) end (make code (listed place items))
   end_spells code items end ok known (inl e) =
       subst (λ (b : List ℕ). Spells (coded table place make) b (make code (listed place items))) (sym e) (code_spells code items (list_spelling items) known (list_spells place make code items (list_spelling items) ok refl))
   end_spells code items end ok known (inr (inl h)) =
@@ -68,7 +68,7 @@ unfolding valid_acknowledgement
 acknowledgement_spells kind identifier code list body ok e h =
     (let parts : (same_place list.place (acknowledgement_place kind) ≡ true) × ((is_identifier identifier && is_code (acknowledgement_codes kind) code) ≡ true) = and_parts _ _ e in
     let known : (is_identifier identifier ≡ true) × (is_code (acknowledgement_codes kind) code ≡ true) = and_parts _ _ parts.1 in
-    let value : IsValue (properties (acknowledgement_place kind)) list.items = list_value (acknowledgement_place kind) list ok.properties parts.0 in
+    let value : IsValueOf (properties (acknowledgement_place kind)) list.items = list_value (acknowledgement_place kind) list ok.properties parts.0 in
     subst (λ (l : Listed). Spells (acknowledgement_format kind) body (acknowledgement kind identifier code l)) (listed_is (acknowledgement_place kind) list parts.0) (
       identifier,
       h.0,

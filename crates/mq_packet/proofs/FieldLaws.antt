@@ -6,7 +6,7 @@ use Rattle.mq_wire.specs.declared.fault.Reason.{Reason}
 use Rattle.mq_wire.specs.declared.fault.WireFault.{WireFault}
 use Rattle.mq_wire.specs.Left.{Left, placed}
 use Rattle.mq_wire.specs.Fields.{text_at}
-use Rattle.mq_wire.specs.FieldTypes.{FieldType, byte as one_byte, two_byte_integer, utf8_string, binary_data}
+use Rattle.mq_wire.specs.FieldTypes.{FieldType, one_byte, two_byte_integer, utf8_string, binary_data}
 use Rattle.mq_wire.specs.Misspelled.{RefusesMisspelled}
 use Rattle.mq_wire.specs.Spellings.{AreBytes, Stands, IsExact}
 use Rattle.mq_wire.specs.Plain.{is_plain, is_plain_byte}
@@ -19,9 +19,9 @@ use Rattle.mq_props.specs.Allowed.{Lists}
 use Rattle.mq_props.specs.Reading.{list_on}
 use Rattle.mq_props.proofs.Exports.{Listing, list_found, list_only, list_breaks, breaks_list}
 use Rattle.mq_packet.specs.declared.fault.DecodeFault.{DecodeFault}
-use Rattle.mq_packet.specs.Formats.{Kind, byte, two_bytes, text, binary, properties, Value, topic_objection}
+use Rattle.mq_packet.specs.Formats.{Kind, byte, two_bytes, text, binary, properties, ValueOf, topic_objection}
 use Rattle.mq_packet.specs.Decoding.{broken, rule_of, list_rule, spelled, spelled_list, field_on, read_field}
-use Rattle.mq_packet.specs.Misspellings.{MisspelledField, Misspelled}
+use Rattle.mq_packet.specs.Misspellings.{MisspelledField, MisspelledAs}
 use Rattle.mq_packet.specs.Spelled.{spelling, Begin}
 
 -- What is left: these bytes, from this place on.
@@ -29,7 +29,7 @@ abbrev pub left_from : ℕ → List ℕ → Left
 left_from at bytes = record { at = at; rest = bytes }
 
 -- What stands at the front of these bytes: the value, spelled, and this left after it.
-pub record Front (kind : Kind) (at : ℕ) (bytes : List ℕ) (value : Value kind) (new : Left) : Type 0 where
+pub record Front (kind : Kind) (at : ℕ) (bytes : List ℕ) (value : ValueOf kind) (new : Left) : Type 0 where
   pub begin : Begin kind bytes value new.rest
   pub behind : new ≡ left_from (at + length (spelling kind value)) new.rest
 
@@ -105,7 +105,7 @@ list_read place at bytes value left begin =
     ∙ ap (λ (l : List ℕ). Ok (value, left_from (at + length (spelling (properties place) value)) l)) behind
 
 -- A field that is read stands spelled at the front.
-pub field_found : (kind : Kind) (at : ℕ) (bytes : List ℕ) (value : Value kind) (new : Left) → AreBytes bytes → field_on kind (left_from at bytes) ≡ Ok (value, new) → Front kind at bytes value new
+pub field_found : (kind : Kind) (at : ℕ) (bytes : List ℕ) (value : ValueOf kind) (new : Left) → AreBytes bytes → field_on kind (left_from at bytes) ≡ Ok (value, new) → Front kind at bytes value new
 field_found byte at bytes value new known e = let h = wire_front byte_exact at bytes value new known e in record { begin = record { is_value = h.0; spelled = h.1 }; behind = h.2 }
 field_found two_bytes at bytes value new known e = let h = wire_front two_bytes_exact at bytes value new known e in record { begin = record { is_value = h.0; spelled = h.1 }; behind = h.2 }
 field_found text at bytes value new known e = let h = wire_front text_exact at bytes value new known e in record { begin = record { is_value = h.0; spelled = h.1 }; behind = h.2 }
@@ -113,7 +113,7 @@ field_found binary at bytes value new known e = let h = wire_front binary_exact 
 field_found (properties place) at bytes value new known e = list_front place at bytes value new known (list_ok (list_on place (left_from at bytes)) (value, new) e)
 
 -- A value that stands spelled at the front is read.
-pub field_read : (kind : Kind) (at : ℕ) (bytes : List ℕ) (value : Value kind) (left : List ℕ) → Begin kind bytes value left → field_on kind (left_from at bytes) ≡ Ok (value, left_from (at + length (spelling kind value)) left)
+pub field_read : (kind : Kind) (at : ℕ) (bytes : List ℕ) (value : ValueOf kind) (left : List ℕ) → Begin kind bytes value left → field_on kind (left_from at bytes) ≡ Ok (value, left_from (at + length (spelling kind value)) left)
 field_read byte at bytes value left begin = wire_read byte_exact at bytes value left begin.is_value begin.spelled
 field_read two_bytes at bytes value left begin = wire_read two_bytes_exact at bytes value left begin.is_value begin.spelled
 field_read text at bytes value left begin = wire_read text_exact at bytes value left begin.is_value begin.spelled
@@ -136,13 +136,13 @@ misspelled_wire : {X : Type 0} {read : List ℕ → Result (X × ℕ) Reason} (t
 misspelled_wire {X} {read} type refuses at bytes fault known h =
     ap (λ (r : Result (X × ℕ) Reason). spelled (placed (left_from at bytes) r)) ((refuses.exactly bytes h.reason known).1 h.misspelled) ∙ ap (λ (f : DecodeFault). failed {A = X × Left} f) (sym h.is)
 
-list_misspelled : (place : Place) (at : ℕ) (bytes : List ℕ) (fault : DecodeFault) → AreBytes bytes → field_on (properties place) (left_from at bytes) ≡ Err fault → Misspelled (properties place) at bytes fault
+list_misspelled : (place : Place) (at : ℕ) (bytes : List ℕ) (fault : DecodeFault) → AreBytes bytes → field_on (properties place) (left_from at bytes) ≡ Err fault → MisspelledAs (properties place) at bytes fault
 list_misspelled place at bytes fault known e =
     let first = list_err (list_on place (left_from at bytes)) fault e in
     record { first = first.0; breaks = list_breaks place (left_from at bytes) first.0 known first.1; is = first.2 }
 
 -- A field that is refused isn't spelled at the front, and has the fault of that.
-pub field_misspelled : (kind : Kind) (at : ℕ) (bytes : List ℕ) (fault : DecodeFault) → AreBytes bytes → field_on kind (left_from at bytes) ≡ Err fault → Misspelled kind at bytes fault
+pub field_misspelled : (kind : Kind) (at : ℕ) (bytes : List ℕ) (fault : DecodeFault) → AreBytes bytes → field_on kind (left_from at bytes) ≡ Err fault → MisspelledAs kind at bytes fault
 field_misspelled byte at bytes fault known e = wire_misspelled one_byte byte_misspelled at bytes fault known e
 field_misspelled two_bytes at bytes fault known e = wire_misspelled two_byte_integer two_bytes_misspelled at bytes fault known e
 field_misspelled text at bytes fault known e = wire_misspelled utf8_string text_misspelled at bytes fault known e
@@ -150,7 +150,7 @@ field_misspelled binary at bytes fault known e = wire_misspelled binary_data bin
 field_misspelled (properties place) at bytes fault known e = list_misspelled place at bytes fault known e
 
 -- Bytes that don't begin with a field of the kind are refused, for the fault that they have so.
-pub misspelled_field : (kind : Kind) (at : ℕ) (bytes : List ℕ) (fault : DecodeFault) → AreBytes bytes → Misspelled kind at bytes fault → field_on kind (left_from at bytes) ≡ Err fault
+pub misspelled_field : (kind : Kind) (at : ℕ) (bytes : List ℕ) (fault : DecodeFault) → AreBytes bytes → MisspelledAs kind at bytes fault → field_on kind (left_from at bytes) ≡ Err fault
 misspelled_field byte at bytes fault known h = misspelled_wire one_byte byte_misspelled at bytes fault known h
 misspelled_field two_bytes at bytes fault known h = misspelled_wire two_byte_integer two_bytes_misspelled at bytes fault known h
 misspelled_field text at bytes fault known h = misspelled_wire utf8_string text_misspelled at bytes fault known h

@@ -8,12 +8,13 @@ use Rattle.std.proofs.lemmas.List.Concat.{flat_map-append}
 use Rattle.mq_wire.specs.Left.{Left}
 use Rattle.mq_wire.specs.Spellings.{AreBytes, text_spelling}
 use Rattle.mq_wire.proofs.Exports.{AreBytes-after}
+use Rattle.mq_wire.specs.Fields.{◌>>=◌}
 use Rattle.mq_packet.specs.declared.fault.DecodeFault.{DecodeFault}
 use Rattle.mq_packet.specs.declared.rule.PacketRule.{PacketRule}
 use Rattle.mq_packet.specs.declared.rule.PacketRule.TheVariants as rules
 use Rattle.mq_packet.specs.Entries.{AskedFilter}
-use Rattle.mq_packet.specs.Formats.{Kind, byte, text, Value, Objection, unless_broken, is_filter, filter_objection, are_options, options_objection}
-use Rattle.mq_packet.specs.Decoding.{◌>>=◌, broken, field_on, unless, read_field, some_options, options_on, with_options, options_behind, filter_on, filters_within, filters_on}
+use Rattle.mq_packet.specs.Formats.{Kind, byte, text, ValueOf, Objection, unless_broken, is_filter, filter_objection, are_options, options_objection}
+use Rattle.mq_packet.specs.Decoding.{broken, field_on, unless, read_field, some_options, options_on, with_options, options_behind, filter_on, filters_within, filters_on}
 use Rattle.mq_packet.specs.Asking.{AreOptions, IsAsked, options_spelling, asked_spelling, filters_spelling, AreAsked, AreListed, AreFilters}
 use Rattle.mq_packet.specs.Spelled.{spelling, Begin, FailsField, FailsOptions, FailsFilter, BadFilter}
 use Rattle.mq_packet.specs.Elements.{asked_at, read_or_none, filters_in, AreRead}
@@ -45,34 +46,34 @@ unbroken false rule e = absurd cc
 
 -- ---- one field
 
-module _ (kind : Kind) (objection : Value kind → Option Objection) (at : ℕ) (bytes : List ℕ) where
+module _ (kind : Kind) (objection : ValueOf kind → Option Objection) (at : ℕ) (bytes : List ℕ) where
   -- What was read, unless it is objected to.
-  abbrev judged : Result (Value kind × Left) DecodeFault → Result (Value kind × Left) DecodeFault
+  abbrev judged : Result (ValueOf kind × Left) DecodeFault → Result (ValueOf kind × Left) DecodeFault
   judged found = found >>= (λ x. unless at (objection x.0) x)
 
   -- A field that is taken stands at the front.
-  field_taken : AreBytes bytes → (value : Value kind) (new : Left) → read_field kind objection (left_from at bytes) ≡ Ok (value, new) → Front kind at bytes value new × (objection value ≡ None)
+  field_taken : AreBytes bytes → (value : ValueOf kind) (new : Left) → read_field kind objection (left_from at bytes) ≡ Ok (value, new) → Front kind at bytes value new × (objection value ≡ None)
   field_taken known value new e =
       let x = bind_ok (field_on kind (left_from at bytes)) (λ x. unless at (objection x.0) x) (value, new) e in
       let passed = unless_ok at (objection x.0.0) x.0 (value, new) x.2 in
       let here : Front kind at bytes x.0.0 x.0.1 × (objection x.0.0 ≡ None) = (field_found kind at bytes x.0.0 x.0.1 known x.1, passed.0) in
-      subst (λ (y : Value kind × Left). Front kind at bytes y.0 y.1 × (objection y.0 ≡ None)) passed.1 here
+      subst (λ (y : ValueOf kind × Left). Front kind at bytes y.0 y.1 × (objection y.0 ≡ None)) passed.1 here
 
   -- One that stands there is taken.
-  good_field : (value : Value kind) (left : List ℕ) → Begin kind bytes value left → objection value ≡ None → read_field kind objection (left_from at bytes) ≡ given (value, left_from (at + length (spelling kind value)) left)
+  good_field : (value : ValueOf kind) (left : List ℕ) → Begin kind bytes value left → objection value ≡ None → read_field kind objection (left_from at bytes) ≡ given (value, left_from (at + length (spelling kind value)) left)
   good_field value left begin none =
-      let read : Value kind × Left = (value, left_from (at + length (spelling kind value)) left) in
+      let read : ValueOf kind × Left = (value, left_from (at + length (spelling kind value)) left) in
       ap judged (field_read kind at bytes value left begin) ∙ ap (λ (o : Option Objection). unless at o read) none
 
-  objected_so : (x : Value kind × Left) → Front kind at bytes x.0 x.1 → (why : Option Objection) → objection x.0 ≡ why → (fault : DecodeFault) → unless at why x ≡ Err fault → FailsField kind objection at bytes fault
+  objected_so : (x : ValueOf kind × Left) → Front kind at bytes x.0 x.1 → (why : Option Objection) → objection x.0 ≡ why → (fault : DecodeFault) → unless at why x ≡ Err fault → FailsField kind objection at bytes fault
   objected_so x front None none fault e = absurd cc
-  objected_so x front (Some why) some fault e = inr (why, (x.0, x.1.rest, front.begin, some), sym (failed_is {A = Value kind × Left} _ fault e))
+  objected_so x front (Some why) some fault e = inr (why, (x.0, x.1.rest, front.begin, some), sym (failed_is {A = ValueOf kind × Left} _ fault e))
 
   -- A field that isn't taken is at fault.
   field_fails : AreBytes bytes → (fault : DecodeFault) → read_field kind objection (left_from at bytes) ≡ Err fault → FailsField kind objection at bytes fault
   field_fails known fault e = by_found (field_on kind (left_from at bytes)) refl e
     where
-      by_found : (found : Result (Value kind × Left) DecodeFault) → field_on kind (left_from at bytes) ≡ found → judged found ≡ Err fault → FailsField kind objection at bytes fault
+      by_found : (found : Result (ValueOf kind × Left) DecodeFault) → field_on kind (left_from at bytes) ≡ found → judged found ≡ Err fault → FailsField kind objection at bytes fault
       by_found (Ok x) is h = objected_so x (field_found kind at bytes x.0 x.1 known is) (objection x.0) refl fault h
       by_found (Err first) is h = inl (field_misspelled kind at bytes fault known (is ∙ h))
 
@@ -80,10 +81,10 @@ module _ (kind : Kind) (objection : Value kind → Option Objection) (at : ℕ) 
   fails_field : AreBytes bytes → (fault : DecodeFault) → FailsField kind objection at bytes fault → read_field kind objection (left_from at bytes) ≡ failed fault
   fails_field known fault (inl h) = ap judged (misspelled_field kind at bytes fault known h)
   fails_field known fault (inr h) =
-      let read : Value kind × Left = (h.1.0, left_from (at + length (spelling kind h.1.0)) h.1.1) in
+      let read : ValueOf kind × Left = (h.1.0, left_from (at + length (spelling kind h.1.0)) h.1.1) in
       ap judged (field_read kind at bytes h.1.0 h.1.1 h.1.2)
       ∙ ap (λ (o : Option Objection). unless at o read) h.1.3
-      ∙ ap (λ (f : DecodeFault). failed {A = Value kind × Left} f) (sym h.2)
+      ∙ ap (λ (f : DecodeFault). failed {A = ValueOf kind × Left} f) (sym h.2)
 
 -- ---- the options after a filter
 

@@ -5,8 +5,8 @@ use Rattle.std.specs.List.{find}
 use Rattle.std.proofs.lemmas.Bool.{eqb-true}
 use Rattle.mq_packet.specs.declared.packet.PacketType.{PacketType}
 use Rattle.mq_packet.specs.declared.rule.PacketRule.TheVariants as rules
-use Rattle.mq_packet.specs.FirstBytes.{type_number, packet_types, reserved_flags, type_in, flags_in, are_flags, byte_of}
-use Rattle.mq_packet.specs.Formats.{Format, refused, publish_format, format_by_type, format_by, format_of}
+use Rattle.mq_packet.specs.FirstBytes.{type_number, packet_types, reserved_flags, type_in, flags_in, are_flags, first_byte_with}
+use Rattle.mq_packet.specs.Formats.{Format, bad_first_byte, publish_format, format_by_type, format_by, format_of}
 
 -- The type that is found has the number.
 found_numbered : (number : ℕ) (all : List PacketType) (type : PacketType) → find (λ t. type_number t == number) all ≡ Some type → type_number type ≡ number
@@ -18,22 +18,22 @@ found_numbered number (t ∷ all) type e =
     ] refl e
 
 -- A first byte is made of its type and its flags.
-first_made : (first : ℕ) (type : PacketType) → type_in first ≡ Some type → first ≡ byte_of type (flags_in first)
+first_made : (first : ℕ) (type : PacketType) → type_in first ≡ Some type → first ≡ first_byte_with type (flags_in first)
 first_made first type e = (let number : type_number type ≡ first / 16 = found_numbered (first / 16) packet_types type e in omega (arith, number))
 
 -- The first byte of a type with reserved flags.
 abbrev pub reserved_byte : PacketType → ℕ
-reserved_byte type = byte_of type (unwrap_or (reserved_flags type) 0)
+reserved_byte type = first_byte_with type (unwrap_or (reserved_flags type) 0)
 
 -- Such a type has no other.
-pub reserved_first : (first reserved : ℕ) (type : PacketType) → first ≡ byte_of type (flags_in first) → (flags_in first == reserved) ≡ true → first ≡ byte_of type reserved
-reserved_first first reserved type is e = is ∙ ap (byte_of type) (eqb-true (flags_in first) reserved e)
+pub reserved_first : (first reserved : ℕ) (type : PacketType) → first ≡ first_byte_with type (flags_in first) → (flags_in first == reserved) ≡ true → first ≡ first_byte_with type reserved
+reserved_first first reserved type is e = is ∙ ap (first_byte_with type) (eqb-true (flags_in first) reserved e)
 
-module _ (P : Format → Type 0) (first : ℕ) (wrong : P (refused rules.W01)) (none : P (refused rules.W02))
-    (each : (type : PacketType) → first ≡ byte_of type (flags_in first) → are_flags (reserved_flags type) (flags_in first) ≡ true → P (format_by_type type (flags_in first))) where
-  of_type : (type : PacketType) → first ≡ byte_of type (flags_in first) → P (format_by (Some type) (flags_in first))
+module _ (P : Format → Type 0) (first : ℕ) (wrong : P (bad_first_byte rules.W01)) (none : P (bad_first_byte rules.W02))
+    (each : (type : PacketType) → first ≡ first_byte_with type (flags_in first) → are_flags (reserved_flags type) (flags_in first) ≡ true → P (format_by_type type (flags_in first))) where
+  of_type : (type : PacketType) → first ≡ first_byte_with type (flags_in first) → P (format_by (Some type) (flags_in first))
   of_type type is =
-      elim (are_flags (reserved_flags type) (flags_in first)) as (λ b. are_flags (reserved_flags type) (flags_in first) ≡ b → P (if b then format_by_type type (flags_in first) else refused rules.W01)) [
+      elim (are_flags (reserved_flags type) (flags_in first)) as (λ b. are_flags (reserved_flags type) (flags_in first) ≡ b → P (if b then format_by_type type (flags_in first) else bad_first_byte rules.W01)) [
         | true ↦ λ e. each type is e
         | false ↦ λ e. wrong
       ] refl

@@ -11,7 +11,7 @@ use Rattle.mq_wire.specs.Spellings.{AreBytes, IsVarint, Stands, varint_spelling}
 use Rattle.mq_wire.proofs.Exports.{AreBytes-drop, varint_refused, varint_exact}
 use Rattle.mq_packet.specs.declared.frame.Cut.{Cut}
 use Rattle.mq_packet.specs.declared.frame.Cut.TheVariants.{Need, Frame, Lost}
-use Rattle.mq_packet.specs.Stream.{header_with, fixed_header_of, remaining_length, is_overlong, is_lost}
+use Rattle.mq_packet.specs.Stream.{header_with, fixed_header_of, remaining_length_at, is_overlong, is_lost}
 use Rattle.mq_packet.specs.Decoding.{body_start}
 use Rattle.mq_packet.specs.Frames.{BeginsWithFrame, cut_by, cut_of}
 use Rattle.mq_packet.specs.Fronts.{IsBeginning, BeginsWithNumber, IsPrefixOfNumber, IsLost, StandsAtFront}
@@ -68,7 +68,7 @@ front_lost : (bytes : List ℕ) → AreBytes bytes → IsLost bytes → is_lost 
 unfolding is_lost
 front_lost bytes known h =
     (let fits : AreBytes (h.first ∷ h.following) = subst AreBytes h.is known in
-    ap (λ (l : List ℕ). is_overlong (remaining_length l)) h.is
+    ap (λ (l : List ℕ). is_overlong (remaining_length_at l)) h.is
     ∙ ap is_overlong ((varint_refused.overlong h.following (AreBytes-drop 1 (h.first ∷ h.following) fits)).1 (not_cut_from h.following h.no_prefix, none_from h.following h.no_number)))
 
 -- ---- the beginning of a packet

@@ -5,7 +5,7 @@ use Rattle.mq_wire.specs.declared.fault.Reason.{Reason}
 use Rattle.mq_wire.specs.declared.fault.Reason.TheVariants as reasons
 use Rattle.mq_wire.specs.Fields.{varint_at, second_byte, third_byte, fourth_byte, ended_by}
 use Rattle.mq_packet.specs.declared.header.FixedHeader.TheVariants as headers
-use Rattle.mq_packet.specs.Stream.{remaining_length, header_with, fixed_header_of}
+use Rattle.mq_packet.specs.Stream.{remaining_length_at, header_with, fixed_header_of}
 
 -- The number takes all of n bytes, if it was read.
 abbrev TakesAll : ℕ → Result (ℕ × ℕ) Reason → Type 0
@@ -94,7 +94,7 @@ pub ends_header : (a : List ℕ) (byte header size : ℕ) → fixed_header_of a 
 unfolding fixed_header_of varint_at
 ends_header [] byte header size short whole = absurd (nothing_behind whole)
   where
-    nothing_behind : header_with (remaining_length (byte ∷ [])) ≡ headers.Whole header size → ⊥
+    nothing_behind : header_with (remaining_length_at (byte ∷ [])) ≡ headers.Whole header size → ⊥
     nothing_behind e = (cc)
 ends_header (first ∷ a) byte header size short whole =
     (let all : header ≡ 1 + length (a ++ byte ∷ []) = header_takes (length (a ++ byte ∷ [])) header size (varint_at (a ++ byte ∷ [])) (number_takes a byte short) whole in

@@ -7,7 +7,7 @@ use Rattle.mq_packet.specs.declared.fault.DecodeFault.{DecodeFault}
 use Rattle.mq_packet.specs.declared.fault.DecodeFault.TheVariants.{Broken, OtherVersion}
 use Rattle.mq_packet.specs.Entries.{Entry, pingreq}
 use Rattle.mq_packet.specs.Decoding.{broken, decoded}
-use Rattle.mq_packet.specs.Spelled.{IsSpelled, Breaks, IsOtherVersion, Comes}
+use Rattle.mq_packet.specs.Spelled.{IsSpelled, Breaks, IsOtherVersion, DecodesTo}
 use Rattle.mq_packet.proofs.Readings.{comes_to_decoded, decoded_only}
 
 -- The parts of an outcome.
@@ -28,10 +28,10 @@ version_in (Err (OtherVersion version)) = version
 version_in _ = 0
 
 module _ (first : ℕ) (body : List ℕ) (known : AreBytes body) where
-  same : (one two : Result Entry DecodeFault) → Comes first body one → Comes first body two → one ≡ two
+  same : (one two : Result Entry DecodeFault) → DecodesTo first body one → DecodesTo first body two → one ≡ two
   same one two h k = sym (decoded_only first body one known h) ∙ decoded_only first body two known k
 
-  which : (outcome : Result Entry DecodeFault) → Comes first body outcome → ((entry : Entry) × IsSpelled first body entry) ⊎ (((at : ℕ) × (rule : PacketRule) × Breaks first body at rule) ⊎ ((version : ℕ) × IsOtherVersion first body version))
+  which : (outcome : Result Entry DecodeFault) → DecodesTo first body outcome → ((entry : Entry) × IsSpelled first body entry) ⊎ (((at : ℕ) × (rule : PacketRule) × Breaks first body at rule) ⊎ ((version : ℕ) × IsOtherVersion first body version))
   which (Ok entry) h = inl (entry, h)
   which (Err (Broken fault)) h = inr (inl (fault.at, fault.rule, h))
   which (Err (OtherVersion version)) h = inr (inr (version, h))

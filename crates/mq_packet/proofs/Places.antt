@@ -5,20 +5,20 @@ use Rattle.std.specs.List.{list_all, prefix_len}
 use Rattle.std.proofs.Common.{length-drop}
 use Rattle.mq_wire.specs.declared.fault.Reason.{Reason}
 use Rattle.mq_wire.specs.Left.{Left, placed, past}
-use Rattle.mq_wire.specs.Fields.{byte_at, two_bytes_at, varint_at, text_at, binary_at}
+use Rattle.mq_wire.specs.Fields.{byte_at, two_bytes_at, varint_at, text_at, binary_at, ◌>>=◌}
 use Rattle.mq_wire.proofs.Exports.{placed_ok}
 use Rattle.mq_props.specs.declared.fault.PropFault.{PropFault}
 use Rattle.mq_props.specs.declared.table.Place.{Place}
 use Rattle.mq_props.specs.Values.{Property}
-use Rattle.mq_props.specs.Reading.{◌>>=◌ as ◌>=>◌, from_wire, counted, properties_on, list_on}
+use Rattle.mq_props.specs.Reading.{from_wire, within_length, properties_on, list_on}
 use Rattle.mq_props.proofs.Exports.{bind_ok, done_is, from_wire_ok, counted_ok, taken_by, byte_within, two_bytes_within, varint_within, text_within, binary_within, list_err_within}
 use Rattle.mq_packet.specs.declared.rule.PacketRule.{PacketRule}
 use Rattle.mq_packet.specs.declared.rule.PacketRule.TheVariants as rules
 use Rattle.mq_packet.specs.declared.fault.DecodeFault.{DecodeFault}
 use Rattle.mq_packet.specs.declared.fault.DecodeFault.TheVariants.{Broken, OtherVersion}
 use Rattle.mq_packet.specs.Entries.{Entry, AskedFilter}
-use Rattle.mq_packet.specs.Formats.{Kind, byte, two_bytes, text, binary, properties, Value, Objection, breaks, other_version, is_code, filter_objection, options_objection, Format, done, rest, all_codes, all_filters, refused, field, at_end, format_of}
-use Rattle.mq_packet.specs.Decoding.{◌>>=◌, broken, objected, spelled, spelled_list, field_on, unless, read_field, codes_on, some_options, options_on, with_options, options_behind, filter_on, filters_within, filters_on, read}
+use Rattle.mq_packet.specs.Formats.{Kind, byte, two_bytes, text, binary, properties, ValueOf, Objection, breaks, other_version, is_code, filter_objection, options_objection, Format, done, rest, all_codes, all_filters, bad_first_byte, field, at_end, format_of}
+use Rattle.mq_packet.specs.Decoding.{broken, objected, spelled, spelled_list, field_on, unless, read_field, codes_on, some_options, options_on, with_options, options_behind, filter_on, filters_within, filters_on, read}
 use Rattle.mq_packet.proofs.Readings.{by_field, by_objection}
 
 -- The place after the last byte that is left.
@@ -39,8 +39,8 @@ wire_ends left (Err reason) h = omega arith
 list_end : (place : Place) (left : Left) (ps : List Property) (new : Left) → list_on place left ≡ Ok (ps, new) → end_of new ≤ end_of left
 unfolding list_on
 list_end place left ps new e =
-    let len = bind_ok (from_wire (placed left (varint_at left.rest))) (λ len. counted left len.0 len.1 >=> λ inside. properties_on place [] inside >=> λ qs. Ok (qs, past len.1 len.0)) (ps, new) e in
-    let inside = bind_ok (counted left len.0.0 len.0.1) (λ inside. properties_on place [] inside >=> λ qs. Ok (qs, past len.0.1 len.0.0)) (ps, new) len.2 in
+    let len = bind_ok (from_wire (placed left (varint_at left.rest))) (λ len. within_length left len.0 len.1 >>= λ inside. properties_on place [] inside >>= λ qs. Ok (qs, past len.1 len.0)) (ps, new) e in
+    let inside = bind_ok (within_length left len.0.0 len.0.1) (λ inside. properties_on place [] inside >>= λ qs. Ok (qs, past len.0.1 len.0.0)) (ps, new) len.2 in
     let read = bind_ok (properties_on place [] inside.0) (λ qs. Ok (qs, past len.0.1 len.0.0)) (ps, new) inside.2 in
     let named = placed_ok left (varint_at left.rest) len.0.0 len.0.1 (from_wire_ok (placed left (varint_at left.rest)) len.0 len.1) in
     let enough : len.0.0 ≤ length len.0.1.rest = (counted_ok left len.0.0 len.0.1 inside.0 inside.1).0 in
@@ -74,12 +74,12 @@ objected_place at (other_version version) = omega arith
 abbrev PlacesFit : Format → Type 0
 PlacesFit format = (left : Left) → place_of (read format left) ≤ end_of left
 
-module _ (kind : Kind) (objection : Value kind → Option Objection) (next : Value kind → Format) (left : Left) where
-  objection_fits : ((value : Value kind) → PlacesFit (next value)) → (x : Value kind × Left) → end_of x.1 ≤ end_of left → (why : Option Objection) → place_of (by_objection kind next left.at x why) ≤ end_of left
+module _ (kind : Kind) (objection : ValueOf kind → Option Objection) (next : ValueOf kind → Format) (left : Left) where
+  objection_fits : ((value : ValueOf kind) → PlacesFit (next value)) → (x : ValueOf kind × Left) → end_of x.1 ≤ end_of left → (why : Option Objection) → place_of (by_objection kind next left.at x why) ≤ end_of left
   objection_fits later x h None = omega (arith, later x.0 x.1, h)
   objection_fits later x h (Some why) = omega (arith, objected_place left.at why)
 
-  found_fits : ((value : Value kind) → PlacesFit (next value)) → (found : Result (Value kind × Left) DecodeFault) → Ends (end_of left) found → place_of (by_field kind objection next left.at found) ≤ end_of left
+  found_fits : ((value : ValueOf kind) → PlacesFit (next value)) → (found : Result (ValueOf kind × Left) DecodeFault) → Ends (end_of left) found → place_of (by_field kind objection next left.at found) ≤ end_of left
   found_fits later (Ok x) h = objection_fits later x h (objection x.0)
   found_fits later (Err (Broken fault)) h = h
   found_fits later (Err (OtherVersion version)) h = omega arith
@@ -111,15 +111,15 @@ ends_before m n (Err (Broken fault)) le h = omega (arith, le, h)
 ends_before m n (Err (OtherVersion version)) le h = tt
 
 -- A field with what is objected to it.
-read_ends : (kind : Kind) (objection : Value kind → Option Objection) (left : Left) → Ends (end_of left) (read_field kind objection left)
+read_ends : (kind : Kind) (objection : ValueOf kind → Option Objection) (left : Left) → Ends (end_of left) (read_field kind objection left)
 read_ends kind objection left = by_found (field_on kind left) (field_ends kind left)
   where
-    by_why : (x : Value kind × Left) → end_of x.1 ≤ end_of left → (why : Option Objection) → Ends (end_of left) (unless left.at why x)
+    by_why : (x : ValueOf kind × Left) → end_of x.1 ≤ end_of left → (why : Option Objection) → Ends (end_of left) (unless left.at why x)
     by_why x h None = h
     by_why x h (Some (breaks rule)) = omega arith
     by_why x h (Some (other_version version)) = tt
 
-    by_found : (found : Result (Value kind × Left) DecodeFault) → Ends (end_of left) found → Ends (end_of left) (found >>= (λ x. unless left.at (objection x.0) x))
+    by_found : (found : Result (ValueOf kind × Left) DecodeFault) → Ends (end_of left) found → Ends (end_of left) (found >>= (λ x. unless left.at (objection x.0) x))
     by_found (Ok x) h = by_why x h (objection x.0)
     by_found (Err (Broken fault)) h = h
     by_found (Err (OtherVersion version)) h = tt
@@ -189,7 +189,7 @@ places_fit (done packet) left = done_fits packet left
 places_fit (rest packet) left = omega arith
 places_fit (all_codes table packet) left = codes_fit table packet left
 places_fit (all_filters asks packet) left = filters_fit asks packet left
-places_fit (refused rule) left = omega arith
+places_fit (bad_first_byte rule) left = omega arith
 places_fit (field kind objection next) left = found_fits kind objection next left (λ value. places_fit (next value)) (field_on kind left) (field_ends kind left)
 places_fit (at_end whole more) left = at_end_fits whole more (places_fit whole) (places_fit more) left
 

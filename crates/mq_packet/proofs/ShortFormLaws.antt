@@ -11,8 +11,8 @@ use Rattle.mq_packet.specs.declared.packet.AcknowledgementKind.TheVariants as ac
 use Rattle.mq_packet.specs.declared.packet.EndingKind.TheVariants as endings
 use Rattle.mq_packet.specs.Entries.{Entry, connect, connack, publish, acknowledgement, request, answer, pingreq, pingresp, disconnect, auth}
 use Rattle.mq_packet.specs.Decoding.{body_start, decoded}
-use Rattle.mq_packet.specs.Spelled.{IsSpelled, Comes}
-use Rattle.mq_packet.specs.Canonical.{type_of, list_spelling, reason_spelling, first_byte, acknowledgement_body, disconnect_body, auth_body, canonical_body, canonical}
+use Rattle.mq_packet.specs.Spelled.{IsSpelled, DecodesTo}
+use Rattle.mq_packet.specs.Canonical.{type_of, list_spelling, reason_spelling, first_byte_of, acknowledgement_body, disconnect_body, auth_body, canonical_body, canonical}
 use Rattle.mq_packet.specs.Valid.{valid, IsTyped}
 use Rattle.mq_packet.specs.ShortForms.{SpellsEnd, IsBodyOf, IsSpelling, has_short_form, IsShortFor, BeginsWithPacket}
 use Rattle.mq_packet.proofs.EndLaws.{acknowledgement_spells, ending_spells}
@@ -32,10 +32,10 @@ spelled_spelling first body entry h =
 -- ---- and each of them is spelled
 
 -- The body that is written, for a packet that has no short form.
-as_written : (entry : Entry) (body : List ℕ) → IsTyped entry → valid entry ≡ true → body ≡ canonical_body entry → IsSpelled (first_byte entry) body entry
-as_written entry body typed e is = subst (λ (b : List ℕ). IsSpelled (first_byte entry) b entry) (sym is) (canonical_spelled entry typed e)
+as_written : (entry : Entry) (body : List ℕ) → IsTyped entry → valid entry ≡ true → body ≡ canonical_body entry → IsSpelled (first_byte_of entry) body entry
+as_written entry body typed e is = subst (λ (b : List ℕ). IsSpelled (first_byte_of entry) b entry) (sym is) (canonical_spelled entry typed e)
 
-body_spelled : (entry : Entry) (body : List ℕ) → IsTyped entry → valid entry ≡ true → IsBodyOf entry body → IsSpelled (first_byte entry) body entry
+body_spelled : (entry : Entry) (body : List ℕ) → IsTyped entry → valid entry ≡ true → IsBodyOf entry body → IsSpelled (first_byte_of entry) body entry
 body_spelled (connect fields) body typed e h = as_written (connect fields) body typed e h
 body_spelled (connack session_present code list) body typed e h = as_written (connack session_present code list) body typed e h
 body_spelled (publish fields) body typed e h = as_written (publish fields) body typed e h
@@ -197,7 +197,7 @@ body_fits (auth code list) body h small = auth_fits code list.items body h small
 -- ---- decoding and writing again
 
 decoded_spelled : (first : ℕ) (body : List ℕ) (entry : Entry) → AreBytes body → decoded first body ≡ Ok entry → IsSpelled first body entry
-decoded_spelled first body entry known e = subst (λ (r : Result Entry DecodeFault). Comes first body r) e (comes_to_decoded first body known)
+decoded_spelled first body entry known e = subst (λ (r : Result Entry DecodeFault). DecodesTo first body r) e (comes_to_decoded first body known)
 
 module _ (first : ℕ) (body : List ℕ) (entry : Entry) (known : AreBytes body) (e : decoded first body ≡ Ok entry) where
   pub read_valid : IsTyped entry × (valid entry ≡ true)
@@ -206,11 +206,11 @@ module _ (first : ℕ) (body : List ℕ) (entry : Entry) (known : AreBytes body)
   pub read_fits : length body ≤ 268435455 → length (canonical_body entry) ≤ 268435455
   read_fits small = body_fits entry body (spelled_spelling first body entry (decoded_spelled first body entry known e)).body_is small
 
-  pub read_again : decoded (first_byte entry) (canonical_body entry) ≡ Ok entry
+  pub read_again : decoded (first_byte_of entry) (canonical_body entry) ≡ Ok entry
   read_again = written_decoded entry read_valid.0 read_valid.1
 
-  pub read_written : (first_byte entry ≡ first) × ((canonical_body entry ≡ body) ⊎ ((has_short_form entry ≡ true) × (IsShortFor (canonical_body entry) body ⊎ IsShortFor body (canonical_body entry))))
-  read_written = two_spellings (first_byte entry) first (canonical_body entry) body entry (canonical_spelled entry read_valid.0 read_valid.1) (decoded_spelled first body entry known e)
+  pub read_written : (first_byte_of entry ≡ first) × ((canonical_body entry ≡ body) ⊎ ((has_short_form entry ≡ true) × (IsShortFor (canonical_body entry) body ⊎ IsShortFor body (canonical_body entry))))
+  read_written = two_spellings (first_byte_of entry) first (canonical_body entry) body entry (canonical_spelled entry read_valid.0 read_valid.1) (decoded_spelled first body entry known e)
 
   pub read_same : has_short_form entry ≡ false → canonical entry ≡ first ∷ (varint_spelling (length body) ++ body)
   unfolding canonical
@@ -236,9 +236,9 @@ pub written_read : (entry : Entry) (more : List ℕ) → IsTyped entry → valid
 unfolding canonical body_start
 written_read entry more typed e small =
     record {
-      first = first_byte entry;
+      first = first_byte_of entry;
       start = body_start (length (canonical_body entry));
       end = body_start (length (canonical_body entry)) + length (canonical_body entry);
       cut = written_cut entry more small;
-      read = ap (decoded (first_byte entry)) (body_found (first_byte entry) (length (varint_spelling (length (canonical_body entry)))) (canonical_body entry) more refl) ∙ written_decoded entry typed e;
+      read = ap (decoded (first_byte_of entry)) (body_found (first_byte_of entry) (length (varint_spelling (length (canonical_body entry)))) (canonical_body entry) more refl) ∙ written_decoded entry typed e;
     }

@@ -20,14 +20,14 @@ use Rattle.mq_packet.specs.declared.packet.RequestKind.{RequestKind}
 use Rattle.mq_packet.specs.declared.packet.RequestKind.TheVariants as requests
 use Rattle.mq_packet.specs.declared.rule.PacketRule.TheVariants as rules
 use Rattle.mq_packet.specs.Entries.{Entry, WillFields, ConnectFields, AskedFilter, listed, none_listed, acknowledgement_place, has_options}
-use Rattle.mq_packet.specs.Formats.{Kind, text, binary, Value, other_version, version_objection, Format, done, rest, all_codes, all_filters, refused, field, at_end, field_if, will_if, are_connect_flags, has_bits, qos_of, connect_format, connack_format, publish_from, publish_unacknowledged, publish_acknowledged, publish_format, acknowledgement_format, request_format, answer_format, ending_format, format_of, format_by_type}
+use Rattle.mq_packet.specs.Formats.{Kind, text, binary, ValueOf, other_version, version_objection, Format, done, rest, all_codes, all_filters, bad_first_byte, field, at_end, field_if, will_if, are_connect_flags, has_bits, qos_of, connect_format, connack_format, publish_from, publish_unacknowledged, publish_acknowledged, publish_format, acknowledgement_format, request_format, answer_format, ending_format, format_of, format_by_type}
 use Rattle.mq_packet.specs.Asking.{filters_spelling, AreAsked}
-use Rattle.mq_packet.specs.Spelled.{IsValue, spelling, Spells, IsSpelled}
-use Rattle.mq_packet.specs.Canonical.{acknowledgement_type, request_type, answer_type, bit, qos_bits, will_flags, connect_flags, spelling_if, list_spelling, will_spelling, first_byte, connect_body, connack_body, publish_body, request_body, answer_body}
+use Rattle.mq_packet.specs.Spelled.{IsValueOf, spelling, Spells, IsSpelled}
+use Rattle.mq_packet.specs.Canonical.{acknowledgement_type, request_type, answer_type, bit, qos_bits, will_flags, connect_flags, spelling_if, list_spelling, will_spelling, first_byte_of, connect_body, connack_body, publish_body, request_body, answer_body}
 use Rattle.mq_packet.specs.Valid.{IsListed, IsWill, IsTyped}
 use Rattle.mq_packet.specs.ShortForms.{SpellsEnd, IsBodyOf}
 use Rattle.mq_packet.proofs.RequestLaws.{all_typed}
-use Rattle.mq_packet.specs.FirstBytes.{reserved_flags, flags_in, are_flags, byte_of}
+use Rattle.mq_packet.specs.FirstBytes.{reserved_flags, flags_in, are_flags, first_byte_with}
 use Rattle.mq_packet.proofs.FirstByteLaws.{reserved_byte, reserved_first, each_first}
 use Rattle.mq_packet.proofs.ValueLaws.{not_objected}
 
@@ -39,8 +39,8 @@ Writes P (done packet) f = P packet (f [])
 Writes P (rest packet) f = (bytes : List ℕ) → P (packet bytes) (f bytes)
 Writes P (all_codes table packet) f = (reasons : List ℕ) → P (packet reasons) (f reasons)
 Writes P (all_filters asks packet) f = (filters : List AskedFilter) → AreAsked asks filters → P (packet filters) (f (filters_spelling filters))
-Writes P (refused rule) f = Unit {0}
-Writes P (field kind objection next) f = (value : Value kind) → IsValue kind value → objection value ≡ None → Writes P (next value) (λ left. f (spelling kind value ++ left))
+Writes P (bad_first_byte rule) f = Unit {0}
+Writes P (field kind objection next) f = (value : ValueOf kind) → IsValueOf kind value → objection value ≡ None → Writes P (next value) (λ left. f (spelling kind value ++ left))
 Writes P (at_end whole more) f = Writes P whole f × Writes P more f
 
 -- What the format spells is so.
@@ -49,7 +49,7 @@ written P (done packet) f bytes entry h spelled = subst (λ (b : List ℕ). P en
 written P (rest packet) f bytes entry h spelled = subst (λ (e : Entry). P e (f bytes)) spelled (h bytes)
 written P (all_codes table packet) f bytes entry h spelled = subst (λ (e : Entry). P e (f bytes)) spelled.1 (h bytes)
 written P (all_filters asks packet) f bytes entry h spelled = subst (λ (b : List ℕ). P entry (f b)) (sym spelled.2) (subst (λ (e : Entry). P e (f (filters_spelling spelled.0))) spelled.3 (h spelled.0 spelled.1))
-written P (refused rule) f bytes entry h spelled = absurd spelled
+written P (bad_first_byte rule) f bytes entry h spelled = absurd spelled
 written P (field kind objection next) f bytes entry h spelled =
     subst (λ (b : List ℕ). P entry (f b)) (sym spelled.2.spelled)
     (written P (next spelled.0) (λ left. f (spelling kind spelled.0 ++ left)) spelled.1 entry (h spelled.0 spelled.2.is_value spelled.3) spelled.4)
@@ -62,21 +62,21 @@ writes_alike P (done packet) f g e h = subst (λ (b : List ℕ). P packet b) (e 
 writes_alike P (rest packet) f g e h = λ bytes. subst (λ (b : List ℕ). P (packet bytes) b) (e bytes) (h bytes)
 writes_alike P (all_codes table packet) f g e h = λ reasons. subst (λ (b : List ℕ). P (packet reasons) b) (e reasons) (h reasons)
 writes_alike P (all_filters asks packet) f g e h = λ filters are. subst (λ (b : List ℕ). P (packet filters) b) (e (filters_spelling filters)) (h filters are)
-writes_alike P (refused rule) f g e h = tt
+writes_alike P (bad_first_byte rule) f g e h = tt
 writes_alike P (field kind objection next) f g e h = λ value is none.
     writes_alike P (next value) (λ left. f (spelling kind value ++ left)) (λ left. g (spelling kind value ++ left)) (λ left. e (spelling kind value ++ left)) (h value is none)
 writes_alike P (at_end whole more) f g e h = (writes_alike P whole f g e h.0, writes_alike P more f g e h.1)
 
 -- A packet with this first byte and body, which its types allow.
 pub record IsMade (first : ℕ) (entry : Entry) (body : List ℕ) : Type 0 where
-  pub first_is : first ≡ first_byte entry
+  pub first_is : first ≡ first_byte_of entry
   pub body_is : IsBodyOf entry body
   pub typed : IsTyped entry
 
 -- ---- fields that may be missing
 
-field_if_writes : (P : Entry → List ℕ → Type 0) (flag : Bool) (kind : Kind) (next : Option (Value kind) → Format) (f : List ℕ → List ℕ)
-    → ((value : Option (Value kind)) → is_some value ≡ flag → IfSome value (IsValue kind) → Writes P (next value) (λ left. f (spelling_if (spelling kind) value ++ left)))
+field_if_writes : (P : Entry → List ℕ → Type 0) (flag : Bool) (kind : Kind) (next : Option (ValueOf kind) → Format) (f : List ℕ → List ℕ)
+    → ((value : Option (ValueOf kind)) → is_some value ≡ flag → IfSome value (IsValueOf kind) → Writes P (next value) (λ left. f (spelling_if (spelling kind) value ++ left)))
     → Writes P (field_if flag kind next) f
 field_if_writes P false kind next f h = h None refl tt
 field_if_writes P true kind next f h = λ value is none. h (Some value) refl is
@@ -168,7 +168,7 @@ connect_is name version flags fields one two three =
 abbrev flags_by : Bool → ℕ → Bool → Bool → ℕ
 flags_by clean_start will password user_name = bit 2 clean_start + will + bit 64 password + bit 128 user_name
 
-utf8_if : (value : Option (List ℕ)) → IfSome value (IsValue text) → IfSome value IsUtf8
+utf8_if : (value : Option (List ℕ)) → IfSome value (IsValueOf text) → IfSome value IsUtf8
 utf8_if None h = tt
 utf8_if (Some bytes) h = h.utf8
 
@@ -218,7 +218,7 @@ connack_writes first first_is = λ flags small good code is_code _ list is_list 
     }
 
 publish_from_writes : (first : ℕ) (duplicate : Bool) (qos : Qos) (retain : Bool) (topic : List ℕ) (identifier : Option ℕ)
-    → first ≡ byte_of types.Publish (publish_bits duplicate (qos_bits 2 qos) retain) → IsUtf8 topic → IfSome identifier (λ i. i ≤ 65535)
+    → first ≡ first_byte_with types.Publish (publish_bits duplicate (qos_bits 2 qos) retain) → IsUtf8 topic → IfSome identifier (λ i. i ≤ 65535)
     → Writes (IsMade first) (publish_from duplicate qos retain topic identifier) (λ left. text_spelling topic ++ (spelling_if two_bytes_spelling identifier ++ left))
 unfolding publish_body
 publish_from_writes first duplicate qos retain topic identifier first_is is_topic is_identifier = λ list is_list _ payload.
@@ -228,10 +228,10 @@ publish_from_writes first duplicate qos retain topic identifier first_is is_topi
       typed = record { topic = is_topic; identifier = is_identifier; properties = record { allowed = is_list.0; bound = is_list.1 } };
     }
 
-unacknowledged_writes : (first : ℕ) (retain : Bool) → first ≡ byte_of types.Publish (publish_bits false 0 retain) → Writes (IsMade first) (publish_unacknowledged retain) (λ left. left)
+unacknowledged_writes : (first : ℕ) (retain : Bool) → first ≡ first_byte_with types.Publish (publish_bits false 0 retain) → Writes (IsMade first) (publish_unacknowledged retain) (λ left. left)
 unacknowledged_writes first retain first_is = λ topic is_topic _. publish_from_writes first false AtMostOnce retain topic None first_is is_topic.utf8 tt
 
-acknowledged_writes : (first : ℕ) (duplicate : Bool) (qos : Qos) (retain : Bool) → first ≡ byte_of types.Publish (publish_bits duplicate (qos_bits 2 qos) retain) → Writes (IsMade first) (publish_acknowledged duplicate qos retain) (λ left. left)
+acknowledged_writes : (first : ℕ) (duplicate : Bool) (qos : Qos) (retain : Bool) → first ≡ first_byte_with types.Publish (publish_bits duplicate (qos_bits 2 qos) retain) → Writes (IsMade first) (publish_acknowledged duplicate qos retain) (λ left. left)
 acknowledged_writes first duplicate qos retain first_is = λ topic is_topic _ identifier is_identifier _. publish_from_writes first duplicate qos retain topic (Some identifier) first_is is_topic.utf8 is_identifier
 
 -- One choice by the first byte.
@@ -239,16 +239,16 @@ or_known : (P : Entry → List ℕ → Type 0) (b : Bool) (one two : Format) →
 or_known P true one two h k = h refl
 or_known P false one two h k = k refl
 
-publish_writes : (first : ℕ) → first ≡ byte_of types.Publish (flags_in first) → Writes (IsMade first) (publish_format (flags_in first)) (λ left. left)
+publish_writes : (first : ℕ) → first ≡ first_byte_with types.Publish (flags_in first) → Writes (IsMade first) (publish_format (flags_in first)) (λ left. left)
 publish_writes first is =
     (let flags : ℕ = flags_in first in
     let small : flags < 16 = omega arith in
-    let made : (bits : ℕ) → flags ≡ bits → first ≡ byte_of types.Publish bits = λ bits same. is ∙ ap (byte_of types.Publish) same in
-    or_known (IsMade first) (bit_and flags 6 == 0) (if has_bits 8 flags then refused rules.W08 else publish_unacknowledged (has_bits 1 flags)) _
-    (λ zero. or_known (IsMade first) (has_bits 8 flags) (refused rules.W08) (publish_unacknowledged (has_bits 1 flags)) (λ _. tt) (λ once. unacknowledged_writes first (has_bits 1 flags) (made _ (zero_back flags small zero once))))
+    let made : (bits : ℕ) → flags ≡ bits → first ≡ first_byte_with types.Publish bits = λ bits same. is ∙ ap (first_byte_with types.Publish) same in
+    or_known (IsMade first) (bit_and flags 6 == 0) (if has_bits 8 flags then bad_first_byte rules.W08 else publish_unacknowledged (has_bits 1 flags)) _
+    (λ zero. or_known (IsMade first) (has_bits 8 flags) (bad_first_byte rules.W08) (publish_unacknowledged (has_bits 1 flags)) (λ _. tt) (λ once. unacknowledged_writes first (has_bits 1 flags) (made _ (zero_back flags small zero once))))
     (λ _. or_known (IsMade first) (bit_and flags 6 == 2) (publish_acknowledged (has_bits 8 flags) AtLeastOnce (has_bits 1 flags)) _
     (λ one. acknowledged_writes first (has_bits 8 flags) AtLeastOnce (has_bits 1 flags) (made _ (one_back flags small one)))
-    (λ _. or_known (IsMade first) (bit_and flags 6 == 4) (publish_acknowledged (has_bits 8 flags) ExactlyOnce (has_bits 1 flags)) (refused rules.W07)
+    (λ _. or_known (IsMade first) (bit_and flags 6 == 4) (publish_acknowledged (has_bits 8 flags) ExactlyOnce (has_bits 1 flags)) (bad_first_byte rules.W07)
     (λ two. acknowledged_writes first (has_bits 8 flags) ExactlyOnce (has_bits 1 flags) (made _ (two_back flags small two))) (λ _. tt))))
 
 -- ---- acknowledgements, DISCONNECT and AUTH
@@ -314,7 +314,7 @@ answer_writes first kind first_is = λ identifier is_identifier _ list is_list _
 
 -- ---- any first byte
 
-type_writes : (first : ℕ) (type : PacketType) → first ≡ byte_of type (flags_in first) → are_flags (reserved_flags type) (flags_in first) ≡ true
+type_writes : (first : ℕ) (type : PacketType) → first ≡ first_byte_with type (flags_in first) → are_flags (reserved_flags type) (flags_in first) ≡ true
     → Writes (IsMade first) (format_by_type type (flags_in first)) (λ left. left)
 type_writes first types.Connect is e = connect_writes first (reserved_first first 0 types.Connect is e)
 type_writes first types.Connack is e = connack_writes first (reserved_first first 0 types.Connack is e)

@@ -9,7 +9,7 @@ use Rattle.mq_wire.specs.Fields.{varint_at, second_byte, third_byte, fourth_byte
 use Rattle.mq_packet.specs.declared.header.FixedHeader.{FixedHeader}
 use Rattle.mq_packet.specs.declared.header.FixedHeader.TheVariants.{Short, Lost, Whole}
 use Rattle.mq_packet.proofs.Lengths.{OneToFour, varint_length}
-use Rattle.mq_packet.specs.Stream.{remaining_length, header_with, fixed_header_of, size_within, frame_size, is_overlong, is_lost}
+use Rattle.mq_packet.specs.Stream.{remaining_length_at, header_with, fixed_header_of, size_within, frame_size, is_overlong, is_lost}
 
 -- A number that was read has more than n bytes.
 abbrev LongerThan : ℕ → Result (ℕ × ℕ) Reason → Type 0
@@ -162,7 +162,7 @@ short_before a c e =
 -- The fixed header is lost exactly where the bytes are.
 pub lost_header : (a : List ℕ) → is_lost a ≡ true → fixed_header_of a ≡ Lost
 unfolding is_lost fixed_header_of
-lost_header a e = told (remaining_length a) e
+lost_header a e = told (remaining_length_at a) e
   where
     told : (r : Result (ℕ × ℕ) Reason) → is_overlong r ≡ true → header_with r ≡ Lost
     told (Ok x) e = (cc)
@@ -173,7 +173,7 @@ lost_header a e = told (remaining_length a) e
 
 pub header_lost : (a : List ℕ) → fixed_header_of a ≡ Lost → is_lost a ≡ true
 unfolding is_lost fixed_header_of
-header_lost a e = told (remaining_length a) e
+header_lost a e = told (remaining_length_at a) e
   where
     told : (r : Result (ℕ × ℕ) Reason) → header_with r ≡ Lost → is_overlong r ≡ true
     told (Ok x) e = (cc)
@@ -243,7 +243,7 @@ header_from_frame a n h = told (fixed_header_of a) refl h
 -- The size of a packet is above that of its fixed header's first byte.
 pub size_above : (a : List ℕ) (header size : ℕ) → fixed_header_of a ≡ Whole header size → (1 ≤ header) × (header ≤ size)
 unfolding fixed_header_of
-size_above a header size e = told (remaining_length a) e
+size_above a header size e = told (remaining_length_at a) e
   where
     told : (r : Result (ℕ × ℕ) Reason) → header_with r ≡ Whole header size → (1 ≤ header) × (header ≤ size)
     told (Ok x) e =

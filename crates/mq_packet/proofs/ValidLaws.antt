@@ -21,11 +21,11 @@ use Rattle.mq_packet.specs.declared.packet.RequestKind.TheVariants as requests
 use Rattle.mq_packet.specs.declared.rule.PacketRule.{PacketRule}
 use Rattle.mq_packet.specs.declared.rule.PacketRule.TheVariants as rules
 use Rattle.mq_packet.specs.Entries.{Entry, connect, connack, publish, acknowledgement, request, answer, pingreq, pingresp, disconnect, auth, WillFields, listed, acknowledgement_place, acknowledgement_codes, request_place, answer_place, has_options}
-use Rattle.mq_packet.specs.Formats.{byte, text, binary, properties, Format, done, refused, field, at_end, field_if, will_if, is_code, names_topic, has_bits, qos_of, connect_from, connect_format, connack_format, publish_from, publish_unacknowledged, publish_acknowledged, publish_format, acknowledgement_format, request_format, answer_format, ending_format, any_value, code_objection, format_of, format_by_type}
+use Rattle.mq_packet.specs.Formats.{byte, text, binary, properties, Format, done, bad_first_byte, field, at_end, field_if, will_if, is_code, names_topic, has_bits, qos_of, connect_from, connect_format, connack_format, publish_from, publish_unacknowledged, publish_acknowledged, publish_format, acknowledgement_format, request_format, answer_format, ending_format, any_value, code_objection, format_of, format_by_type}
 use Rattle.mq_packet.specs.FirstBytes.{flags_in}
 use Rattle.mq_packet.specs.Spelled.{Spells, IsSpelled}
 use Rattle.mq_packet.specs.Valid.{is_text, is_binary, is_identifier, if_there, fits_qos, valid_will, valid_connect, valid_connack, valid_publish, valid_acknowledgement, valid_filters, valid_request, valid_answer, valid_ending, valid, IsTyped}
-use Rattle.mq_packet.specs.Canonical.{first_byte, canonical_body}
+use Rattle.mq_packet.specs.Canonical.{first_byte_of, canonical_body}
 use Rattle.mq_packet.proofs.CanonicalLaws.{canonical_spelled}
 use Rattle.mq_packet.proofs.RequestLaws.{filters_fit}
 use Rattle.mq_packet.proofs.FirstByteLaws.{each_first}
@@ -108,7 +108,7 @@ acknowledged_sound : (duplicate : Bool) (qos : Qos) (retain : Bool) → ((identi
 acknowledged_sound duplicate qos retain fits bytes entry h =
     publish_from_sound duplicate qos retain h.0 (Some h.4.0) h.2.is_value (not_objected (is_name h.0) rules.W14 h.3) (fits h.4.0 (not_objected (is_identifier h.4.0) rules.W09 h.4.3)) h.4.1 entry h.4.4
 
-refused_sound : (rule : PacketRule) → IsSound (refused rule)
+refused_sound : (rule : PacketRule) → IsSound (bad_first_byte rule)
 refused_sound rule bytes entry h = absurd h
 
 if_sound : (b : Bool) (one two : Format) → IsSound one → IsSound two → IsSound (if b then one else two)
@@ -117,11 +117,11 @@ if_sound false one two h k = k
 
 publish_sound : (first : ℕ) → IsSound (publish_format first)
 publish_sound first =
-    if_sound (bit_and first 6 == 0) (if has_bits 8 first then refused rules.W08 else publish_unacknowledged (has_bits 1 first)) (if bit_and first 6 == 2 then publish_acknowledged (has_bits 8 first) AtLeastOnce (has_bits 1 first) else if bit_and first 6 == 4 then publish_acknowledged (has_bits 8 first) ExactlyOnce (has_bits 1 first) else refused rules.W07)
-    (if_sound (has_bits 8 first) (refused rules.W08) (publish_unacknowledged (has_bits 1 first)) (refused_sound rules.W08) (unacknowledged_sound (has_bits 1 first)))
-    (if_sound (bit_and first 6 == 2) (publish_acknowledged (has_bits 8 first) AtLeastOnce (has_bits 1 first)) (if bit_and first 6 == 4 then publish_acknowledged (has_bits 8 first) ExactlyOnce (has_bits 1 first) else refused rules.W07)
+    if_sound (bit_and first 6 == 0) (if has_bits 8 first then bad_first_byte rules.W08 else publish_unacknowledged (has_bits 1 first)) (if bit_and first 6 == 2 then publish_acknowledged (has_bits 8 first) AtLeastOnce (has_bits 1 first) else if bit_and first 6 == 4 then publish_acknowledged (has_bits 8 first) ExactlyOnce (has_bits 1 first) else bad_first_byte rules.W07)
+    (if_sound (has_bits 8 first) (bad_first_byte rules.W08) (publish_unacknowledged (has_bits 1 first)) (refused_sound rules.W08) (unacknowledged_sound (has_bits 1 first)))
+    (if_sound (bit_and first 6 == 2) (publish_acknowledged (has_bits 8 first) AtLeastOnce (has_bits 1 first)) (if bit_and first 6 == 4 then publish_acknowledged (has_bits 8 first) ExactlyOnce (has_bits 1 first) else bad_first_byte rules.W07)
     (acknowledged_sound (has_bits 8 first) AtLeastOnce (has_bits 1 first) (λ i known. known))
-    (if_sound (bit_and first 6 == 4) (publish_acknowledged (has_bits 8 first) ExactlyOnce (has_bits 1 first)) (refused rules.W07)
+    (if_sound (bit_and first 6 == 4) (publish_acknowledged (has_bits 8 first) ExactlyOnce (has_bits 1 first)) (bad_first_byte rules.W07)
     (acknowledged_sound (has_bits 8 first) ExactlyOnce (has_bits 1 first) (λ i known. known)) (refused_sound rules.W07)))
 
 -- ---- SUBSCRIBE, UNSUBSCRIBE and their answers
@@ -203,4 +203,4 @@ spelled_valid first body entry h = format_sound first body entry h
 -- A packet is valid exactly where it is spelled.
 pub valid_exactly : (entry : Entry) → IsTyped entry → (given : Bool) → given ≡ valid entry → (given ≡ true) ↔ ((first : ℕ) × (body : List ℕ) × IsSpelled first body entry)
 valid_exactly entry typed given is =
-    (λ e. (first_byte entry, canonical_body entry, canonical_spelled entry typed (sym is ∙ e)), λ h. is ∙ spelled_valid h.0 h.1 entry h.2)
+    (λ e. (first_byte_of entry, canonical_body entry, canonical_spelled entry typed (sym is ∙ e)), λ h. is ∙ spelled_valid h.0 h.1 entry h.2)

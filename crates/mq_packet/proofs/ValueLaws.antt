@@ -12,8 +12,8 @@ use Rattle.mq_props.specs.Table.{place_number, same_place}
 use Rattle.mq_props.specs.Listed.{Listed}
 use Rattle.mq_packet.specs.declared.rule.PacketRule.{PacketRule}
 use Rattle.mq_packet.specs.Entries.{Entry, listed}
-use Rattle.mq_packet.specs.Formats.{Kind, properties, Value, Format, field_if, unless_broken, is_code}
-use Rattle.mq_packet.specs.Spelled.{IsValue, spelling, Spells}
+use Rattle.mq_packet.specs.Formats.{Kind, properties, ValueOf, Format, field_if, unless_broken, is_code}
+use Rattle.mq_packet.specs.Spelled.{IsValueOf, spelling, Spells}
 use Rattle.mq_packet.specs.Canonical.{spelling_if}
 use Rattle.mq_packet.specs.Valid.{is_text, is_binary, if_there, IsListed}
 
@@ -63,8 +63,8 @@ same_as_itself p = eq-eqb (place_number p) (place_number p) refl
 pub listed_is : (place : Place) (list : Listed) → same_place list.place place ≡ true → listed place list.items ≡ list
 listed_is place list e = ap (λ (p : Place). listed p list.items) (sym (place_is list.place place e))
 
-pub list_value : (place : Place) (list : Listed) → IsListed list → same_place list.place place ≡ true → IsValue (properties place) list.items
-list_value place list ok e = subst (λ (p : Place). IsValue (properties p) list.items) (place_is list.place place e) (ok.allowed, ok.bound)
+pub list_value : (place : Place) (list : Listed) → IsListed list → same_place list.place place ≡ true → IsValueOf (properties place) list.items
+list_value place list ok e = subst (λ (p : Place). IsValueOf (properties p) list.items) (place_is list.place place e) (ok.allowed, ok.bound)
 
 -- ---- lengths
 
@@ -114,16 +114,16 @@ unobjected false rule e = absurd (cc)
 -- ---- fields that may be missing
 
 -- The field is there as the flag for it says.
-pub field_if_spelled : (flag : Bool) (kind : Kind) (value : Option (Value kind)) (next : Option (Value kind) → Format) (left : List ℕ) (entry : Entry)
-    → flag ≡ is_some value → IfSome value (IsValue kind) → Spells (next value) left entry → Spells (field_if flag kind next) (spelling_if (spelling kind) value ++ left) entry
+pub field_if_spelled : (flag : Bool) (kind : Kind) (value : Option (ValueOf kind)) (next : Option (ValueOf kind) → Format) (left : List ℕ) (entry : Entry)
+    → flag ≡ is_some value → IfSome value (IsValueOf kind) → Spells (next value) left entry → Spells (field_if flag kind next) (spelling_if (spelling kind) value ++ left) entry
 field_if_spelled flag kind None next left entry e ok h = subst (λ (t : Bool). Spells (field_if t kind next) left entry) (sym e) h
 field_if_spelled flag kind (Some x) next left entry e ok h =
     subst (λ (t : Bool). Spells (field_if t kind next) (spelling kind x ++ left) entry) (sym e)
     (x, left, record { is_value = ok; spelled = refl }, refl, h)
 
 -- What the bytes of such a field say.
-pub field_if_says : (flag : Bool) (kind : Kind) (next : Option (Value kind) → Format) (bytes : List ℕ) (entry : Entry)
-    → Spells (field_if flag kind next) bytes entry → (value : Option (Value kind)) × (left : List ℕ) × IfSome value (IsValue kind) × Spells (next value) left entry
+pub field_if_says : (flag : Bool) (kind : Kind) (next : Option (ValueOf kind) → Format) (bytes : List ℕ) (entry : Entry)
+    → Spells (field_if flag kind next) bytes entry → (value : Option (ValueOf kind)) × (left : List ℕ) × IfSome value (IsValueOf kind) × Spells (next value) left entry
 field_if_says false kind next bytes entry h = (None, bytes, tt, h)
 field_if_says true kind next bytes entry h = (Some h.0, h.1, h.2.is_value, h.4)
 

@@ -20,11 +20,11 @@ use Rattle.mq_packet.specs.declared.rule.PacketRule.TheVariants as rules
 use Rattle.mq_packet.specs.declared.fault.DecodeFault.{DecodeFault}
 use Rattle.mq_packet.specs.declared.fault.DecodeFault.TheVariants.{OtherVersion}
 use Rattle.mq_packet.specs.Entries.{Entry, WillFields, acknowledgement_codes, pingreq, pingresp, ending_codes}
-use Rattle.mq_packet.specs.Formats.{Kind, byte, two_bytes, text, binary, properties, Value, Objection, breaks, other_version, unless_broken, name_objection, version_objection, are_connect_flags, connect_flags_objection, is_code, names_topic, is_filter, are_options, filter_objection, options_objection, Format, done, rest, all_codes, all_filters, refused, field, at_end, field_if, will_if, has_bits, connect_from, connect_format, connack_format, publish_from, publish_unacknowledged, publish_acknowledged, publish_format, acknowledgement_format, request_format, answer_format, ending_format, format_of, format_by_type}
-use Rattle.mq_packet.specs.FirstBytes.{reserved_flags, flags_in, are_flags, byte_of}
+use Rattle.mq_packet.specs.Formats.{Kind, byte, two_bytes, text, binary, properties, ValueOf, Objection, breaks, other_version, unless_broken, name_objection, version_objection, are_connect_flags, connect_flags_objection, is_code, names_topic, is_filter, are_options, filter_objection, options_objection, Format, done, rest, all_codes, all_filters, bad_first_byte, field, at_end, field_if, will_if, has_bits, connect_from, connect_format, connack_format, publish_from, publish_unacknowledged, publish_acknowledged, publish_format, acknowledgement_format, request_format, answer_format, ending_format, format_of, format_by_type}
+use Rattle.mq_packet.specs.FirstBytes.{reserved_flags, flags_in, are_flags, first_byte_with}
 use Rattle.mq_packet.specs.Decoding.{objected, body_start, decoded}
-use Rattle.mq_packet.specs.Misspellings.{Misspelled}
-use Rattle.mq_packet.specs.Spelled.{spelling, FailsField, FailsOptions, FailsFilter, Fails, IsOtherVersion, Comes}
+use Rattle.mq_packet.specs.Misspellings.{MisspelledAs}
+use Rattle.mq_packet.specs.Spelled.{spelling, FailsField, FailsOptions, FailsFilter, Fails, IsOtherVersion, DecodesTo}
 use Rattle.mq_packet.specs.Versions.{IsConnectOfVersion}
 use Rattle.mq_packet.specs.Valid.{is_identifier}
 use Rattle.mq_packet.proofs.ValueLaws.{text_value, not_objected}
@@ -46,8 +46,8 @@ HasNoVersion (done packet) = Unit {0}
 HasNoVersion (rest packet) = Unit {0}
 HasNoVersion (all_codes table packet) = Unit {0}
 HasNoVersion (all_filters asks packet) = Unit {0}
-HasNoVersion (refused rule) = Unit {0}
-HasNoVersion (field kind objection next) = (value : Value kind) → IsRule (objection value) × HasNoVersion (next value)
+HasNoVersion (bad_first_byte rule) = Unit {0}
+HasNoVersion (field kind objection next) = (value : ValueOf kind) → IsRule (objection value) × HasNoVersion (next value)
 HasNoVersion (at_end whole more) = HasNoVersion whole × HasNoVersion more
 
 broken_rule : (good : Bool) (rule : PacketRule) → IsRule (unless_broken good rule)
@@ -55,7 +55,7 @@ broken_rule true rule = tt
 broken_rule false rule = tt
 
 -- Neither is a field that isn't spelled.
-misspelled_no : (kind : Kind) (at : ℕ) (bytes : List ℕ) (version : ℕ) → Misspelled kind at bytes (OtherVersion version) → ⊥
+misspelled_no : (kind : Kind) (at : ℕ) (bytes : List ℕ) (version : ℕ) → MisspelledAs kind at bytes (OtherVersion version) → ⊥
 misspelled_no byte at bytes version h = (let never = h.is in cc)
 misspelled_no two_bytes at bytes version h = (let never = h.is in cc)
 misspelled_no text at bytes version h = (let never = h.is in cc)
@@ -66,7 +66,7 @@ objected_no : (o : Option Objection) (why : Objection) (at version : ℕ) → Is
 objected_no o (breaks rule) at version h is e = cc
 objected_no o (other_version w) at version h is e = subst (λ (x : Option Objection). IsRule x) is h
 
-field_no : (kind : Kind) (objection : Value kind → Option Objection) → ((value : Value kind) → IsRule (objection value)) → (at : ℕ) (bytes : List ℕ) (version : ℕ) → FailsField kind objection at bytes (OtherVersion version) → ⊥
+field_no : (kind : Kind) (objection : ValueOf kind → Option Objection) → ((value : ValueOf kind) → IsRule (objection value)) → (at : ℕ) (bytes : List ℕ) (version : ℕ) → FailsField kind objection at bytes (OtherVersion version) → ⊥
 field_no kind objection rule at bytes version (inl fails) = misspelled_no kind at bytes version fails
 field_no kind objection rule at bytes version (inr fails) = objected_no (objection fails.1.0) fails.0 at version (rule fails.1.0) fails.1.3 fails.2
 
@@ -85,7 +85,7 @@ no_version (rest packet) h at bytes version fails = fails
 no_version (all_codes table packet) h at bytes version fails = (let never = fails.is in cc)
 no_version (all_filters asks packet) h at bytes version (inl fails) = (let never = fails.1 in cc)
 no_version (all_filters asks packet) h at bytes version (inr fails) = filter_no asks _ fails.others version fails.refused
-no_version (refused rule) h at bytes version fails = cc
+no_version (bad_first_byte rule) h at bytes version fails = cc
 no_version (field kind objection next) h at bytes version (inl fails) = misspelled_no kind at bytes version fails
 no_version (field kind objection next) h at bytes version (inr (inl fails)) = objected_no (objection fails.1.0) fails.0 at version (h fails.1.0).0 fails.1.3 fails.2
 no_version (field kind objection next) h at bytes version (inr (inr fails)) = no_version (next fails.0) (h fails.0).1 _ fails.1 version fails.4
@@ -94,7 +94,7 @@ no_version (at_end whole more) h at (b ∷ bytes) version fails = no_version mor
 
 -- ---- the formats
 
-field_if_none : (flag : Bool) (kind : Kind) (next : Option (Value kind) → Format) → ((value : Option (Value kind)) → HasNoVersion (next value)) → HasNoVersion (field_if flag kind next)
+field_if_none : (flag : Bool) (kind : Kind) (next : Option (ValueOf kind) → Format) → ((value : Option (ValueOf kind)) → HasNoVersion (next value)) → HasNoVersion (field_if flag kind next)
 field_if_none false kind next h = h None
 field_if_none true kind next h = λ value. (tt, h (Some value))
 
@@ -133,9 +133,9 @@ or_next false one two h k = k
 
 publish_none : (first : ℕ) → HasNoVersion (publish_format first)
 publish_none first =
-    or_next (bit_and first 6 == 0) _ _ (or_next (has_bits 8 first) (refused rules.W08) (publish_unacknowledged (has_bits 1 first)) tt (unacknowledged_none (has_bits 1 first))) (
+    or_next (bit_and first 6 == 0) _ _ (or_next (has_bits 8 first) (bad_first_byte rules.W08) (publish_unacknowledged (has_bits 1 first)) tt (unacknowledged_none (has_bits 1 first))) (
     or_next (bit_and first 6 == 2) _ _ (acknowledged_none (has_bits 8 first) AtLeastOnce (has_bits 1 first)) (
-    or_next (bit_and first 6 == 4) (publish_acknowledged (has_bits 8 first) ExactlyOnce (has_bits 1 first)) (refused rules.W07) (acknowledged_none (has_bits 8 first) ExactlyOnce (has_bits 1 first)) tt))
+    or_next (bit_and first 6 == 4) (publish_acknowledged (has_bits 8 first) ExactlyOnce (has_bits 1 first)) (bad_first_byte rules.W07) (acknowledged_none (has_bits 8 first) ExactlyOnce (has_bits 1 first)) tt))
 
 acknowledgement_none : (kind : AcknowledgementKind) → HasNoVersion (acknowledgement_format kind)
 acknowledgement_none kind = λ identifier. (broken_rule (is_identifier identifier) rules.W09, (tt, λ code. (broken_rule (is_code (acknowledgement_codes kind) code) rules.W13, (tt, λ list. (tt, tt)))))
@@ -197,7 +197,7 @@ module _ (first at : ℕ) (body : List ℕ) (version : ℕ) where
   connect_tells : first ≡ 16 → Tells connect_format
   connect_tells is fails = subst (λ (f : ℕ). IsConnectOfVersion f body version) (sym is) (connect_version at body version fails)
 
-  type_tells : (type : PacketType) (flags : ℕ) → first ≡ byte_of type (flags_in first) → are_flags (reserved_flags type) (flags_in first) ≡ true → Tells (format_by_type type flags)
+  type_tells : (type : PacketType) (flags : ℕ) → first ≡ first_byte_with type (flags_in first) → are_flags (reserved_flags type) (flags_in first) ≡ true → Tells (format_by_type type flags)
   type_tells types.Connect flags is e = connect_tells (reserved_first first 0 types.Connect is e)
   type_tells types.Connack flags is e = none_tells connack_format connack_none
   type_tells types.Publish flags is e = none_tells (publish_format flags) (publish_none flags)
@@ -216,7 +216,7 @@ module _ (first at : ℕ) (body : List ℕ) (version : ℕ) where
 
   format_tells : Tells (format_of first)
   format_tells =
-      each_first Tells first (none_tells (refused rules.W01) tt) (none_tells (refused rules.W02) tt) (λ type is e. type_tells type (flags_in first) is e)
+      each_first Tells first (none_tells (bad_first_byte rules.W01) tt) (none_tells (bad_first_byte rules.W02) tt) (λ type is e. type_tells type (flags_in first) is e)
 
 version_connects : (first : ℕ) (body : List ℕ) (version : ℕ) → IsOtherVersion first body version → IsConnectOfVersion first body version
 version_connects first body version = format_tells first (body_start (length body)) body version
@@ -246,6 +246,6 @@ version_exactly first body version = (version_connects first body version, conne
 
 pub version_decoded : (first : ℕ) (body : List ℕ) (version : ℕ) → AreBytes body → (decoded first body ≡ Err (OtherVersion version)) ↔ IsConnectOfVersion first body version
 version_decoded first body version known = (
-  λ e. version_connects first body version (subst (λ (r : Result Entry DecodeFault). Comes first body r) e (comes_to_decoded first body known)),
+  λ e. version_connects first body version (subst (λ (r : Result Entry DecodeFault). DecodesTo first body r) e (comes_to_decoded first body known)),
   λ h. decoded_only first body (Err (OtherVersion version)) known (connects_version first body version h),
 )

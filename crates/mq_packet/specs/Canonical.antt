@@ -13,7 +13,7 @@ use Rattle.mq_packet.specs.declared.packet.RequestKind.{RequestKind}
 use Rattle.mq_packet.specs.declared.packet.RequestKind.TheVariants as requests
 use Rattle.mq_packet.specs.Entries.{Entry, connect, connack, publish, acknowledgement, request, answer, pingreq, pingresp, disconnect, auth, WillFields, ConnectFields, PublishFields, AskedFilter}
 use Rattle.mq_packet.specs.Asking.{filters_spelling}
-use Rattle.mq_packet.specs.FirstBytes.{reserved_flags, byte_of}
+use Rattle.mq_packet.specs.FirstBytes.{reserved_flags, first_byte_with}
 pub use Rattle.mq_packet.specs.FirstBytes.{type_number}
 
 -- The type of an acknowledgement, of a SUBSCRIBE or UNSUBSCRIBE, and of the answer to one.
@@ -64,8 +64,8 @@ own_flags (publish fields) = publish_flags fields
 own_flags _ = 0
 
 -- The first byte: the packet's type, with the flags that are reserved for it or else the packet's own (2.1.1 to 2.1.3).
-abbrev pub first_byte : Entry → ℕ
-first_byte entry = byte_of (type_of entry) (unwrap_or (reserved_flags (type_of entry)) (own_flags entry))
+abbrev pub first_byte_of : Entry → ℕ
+first_byte_of entry = first_byte_with (type_of entry) (unwrap_or (reserved_flags (type_of entry)) (own_flags entry))
 
 -- A property list: the length of its properties, and the properties (2.2.2).
 abbrev pub list_spelling : List Property → List ℕ
@@ -154,4 +154,4 @@ canonical_body (auth code list) = auth_body code list.items
 
 -- A packet: its first byte, the length of its body, and its body (2.1).
 unfoldable pub canonical : Entry → List ℕ
-canonical entry = first_byte entry ∷ (varint_spelling (length (canonical_body entry)) ++ canonical_body entry)
+canonical entry = first_byte_of entry ∷ (varint_spelling (length (canonical_body entry)) ++ canonical_body entry)

@@ -5,7 +5,7 @@ use Rattle.mq_wire.specs.declared.fault.Reason.{Reason}
 use Rattle.mq_wire.specs.declared.fault.Reason.TheVariants as reasons
 use Rattle.mq_wire.specs.declared.fault.WireFault.{WireFault}
 use Rattle.mq_wire.specs.Left.{Left, placed}
-use Rattle.mq_wire.specs.Fields.{byte_at, two_bytes_at, text_at, binary_at}
+use Rattle.mq_wire.specs.Fields.{byte_at, two_bytes_at, text_at, binary_at, ◌>>=◌}
 use Rattle.mq_wire.specs.Spellings.{varint_spelling}
 use Rattle.mq_props.specs.declared.fault.PropFault.{PropFault}
 use Rattle.mq_props.specs.declared.fault.PropReason.{PropReason}
@@ -16,13 +16,7 @@ use Rattle.mq_packet.specs.declared.rule.PacketRule.TheVariants as rules
 use Rattle.mq_packet.specs.declared.fault.DecodeFault.{DecodeFault}
 use Rattle.mq_packet.specs.declared.fault.DecodeFault.TheVariants.{Broken, OtherVersion}
 use Rattle.mq_packet.specs.Entries.{Entry, AskedFilter}
-use Rattle.mq_packet.specs.Formats.{Kind, byte, two_bytes, text, binary, properties, Value, Objection, breaks, other_version, is_code, filter_objection, options_objection, Format, done, rest, all_codes, all_filters, refused, field, at_end, format_of}
-
--- A step that is taken only if the one before it succeeded.
-infixl 10 ◌>>=◌
-abbrev pub ◌>>=◌ : {A B : Type 0} → Result A DecodeFault → (A → Result B DecodeFault) → Result B DecodeFault
-(Ok x) >>= f = f x
-(Err fault) >>= f = Err fault
+use Rattle.mq_packet.specs.Formats.{Kind, byte, two_bytes, text, binary, properties, ValueOf, Objection, breaks, other_version, is_code, filter_objection, options_objection, Format, done, rest, all_codes, all_filters, bad_first_byte, field, at_end, format_of}
 
 -- A rule is broken at this offset.
 abbrev pub broken : ℕ → PacketRule → DecodeFault
@@ -60,7 +54,7 @@ spelled_list (Ok x) = Ok x
 spelled_list (Err fault) = Err (broken fault.at (list_rule fault.reason))
 
 -- The field of this kind at the front of what is left, with what is left after it; or the rule that is broken.
-abbrev pub field_on : (kind : Kind) → Left → Result (Value kind × Left) DecodeFault
+abbrev pub field_on : (kind : Kind) → Left → Result (ValueOf kind × Left) DecodeFault
 field_on byte left = spelled (placed left (byte_at left.rest))
 field_on two_bytes left = spelled (placed left (two_bytes_at left.rest))
 field_on text left = spelled (placed left (text_at left.rest))
@@ -73,7 +67,7 @@ unless at None x = Ok x
 unless at (Some objection) x = Err (objected at objection)
 
 -- The field at the front of what is left: first its spelling is checked, then its value.
-abbrev pub read_field : (kind : Kind) → (Value kind → Option Objection) → Left → Result (Value kind × Left) DecodeFault
+abbrev pub read_field : (kind : Kind) → (ValueOf kind → Option Objection) → Left → Result (ValueOf kind × Left) DecodeFault
 read_field kind objection left = do
   x ← field_on kind left
   unless left.at (objection x.0) x
@@ -127,7 +121,7 @@ read (all_codes table packet) left = do
 read (all_filters asks packet) left = do
   filters ← filters_on asks left
   Ok (packet filters)
-read (refused rule) left = Err (broken 0 rule)
+read (bad_first_byte rule) left = Err (broken 0 rule)
 read (field kind objection next) left = do
   x ← read_field kind objection left
   read (next x.0) x.1

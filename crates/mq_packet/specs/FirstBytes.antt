@@ -61,5 +61,5 @@ are_flags (Some reserved) flags = flags == reserved
 are_flags None flags = true
 
 -- The first byte with this type and these flags.
-abbrev pub byte_of : PacketType → ℕ → ℕ
-byte_of type flags = 16 * type_number type + flags
+abbrev pub first_byte_with : PacketType → ℕ → ℕ
+first_byte_with type flags = 16 * type_number type + flags

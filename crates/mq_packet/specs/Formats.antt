@@ -32,12 +32,12 @@ pub data Kind : Type 0 where
   properties : Place → Kind
 
 -- The values of a kind of field.
-abbrev pub Value : Kind → Type 0
-Value byte = ℕ
-Value two_bytes = ℕ
-Value text = List ℕ
-Value binary = List ℕ
-Value (properties place) = List Property
+abbrev pub ValueOf : Kind → Type 0
+ValueOf byte = ℕ
+ValueOf two_bytes = ℕ
+ValueOf text = List ℕ
+ValueOf binary = List ℕ
+ValueOf (properties place) = List Property
 
 -- Why a value is invalid: it breaks a rule, or it is another version of the protocol.
 pub data Objection : Type 0 where
@@ -56,9 +56,9 @@ pub data Format : Type 0 where
   -- is made
   all_filters : Bool → (List AskedFilter → Entry) → Format
   -- the first byte breaks this rule
-  refused : PacketRule → Format
+  bad_first_byte : PacketRule → Format
   -- a field, whose value may be objected to, and then what its value decides
-  field : (kind : Kind) → (Value kind → Option Objection) → (Value kind → Format) → Format
+  field : (kind : Kind) → (ValueOf kind → Option Objection) → (ValueOf kind → Format) → Format
   -- the first format if nothing is left, else the second
   at_end : Format → Format → Format
 
@@ -133,7 +133,7 @@ abbrev pub options_objection : ℕ → Option Objection
 options_objection options = unless_broken (are_options options) rules.W17
 
 -- A field that is there only if its flag is set, and then what it decides.
-abbrev pub field_if : Bool → (kind : Kind) → (Option (Value kind) → Format) → Format
+abbrev pub field_if : Bool → (kind : Kind) → (Option (ValueOf kind) → Format) → Format
 field_if false kind next = next None
 field_if true kind next = field kind any_value (λ value. next (Some value))
 
@@ -200,10 +200,10 @@ publish_acknowledged duplicate qos retain =
 -- PUBLISH by its flags (3.3.1): bit 3 is DUP, bits 2 and 1 are the QoS, bit 0 is RETAIN.
 abbrev pub publish_format : ℕ → Format
 publish_format flags =
-    if bit_and flags 6 == 0 then (if has_bits 8 flags then refused rules.W08 else publish_unacknowledged (has_bits 1 flags)) else
+    if bit_and flags 6 == 0 then (if has_bits 8 flags then bad_first_byte rules.W08 else publish_unacknowledged (has_bits 1 flags)) else
     if bit_and flags 6 == 2 then publish_acknowledged (has_bits 8 flags) AtLeastOnce (has_bits 1 flags) else
     if bit_and flags 6 == 4 then publish_acknowledged (has_bits 8 flags) ExactlyOnce (has_bits 1 flags) else
-    refused rules.W07
+    bad_first_byte rules.W07
 
 -- The property list of a place at the end of a packet. It may be left out if it is empty.
 abbrev pub last_properties : Place → (Listed → Entry) → Format
@@ -262,8 +262,8 @@ format_by_type types.Auth flags = ending_format endings.Auth
 
 -- The same, if there is such a type and it may have these flags; else the first byte breaks a rule.
 abbrev pub format_by : Option PacketType → ℕ → Format
-format_by None flags = refused rules.W02
-format_by (Some type) flags = if are_flags (reserved_flags type) flags then format_by_type type flags else refused rules.W01
+format_by None flags = bad_first_byte rules.W02
+format_by (Some type) flags = if are_flags (reserved_flags type) flags then format_by_type type flags else bad_first_byte rules.W01
 
 -- The format of a body after a first byte (2.1.1).
 abbrev pub format_of : ℕ → Format

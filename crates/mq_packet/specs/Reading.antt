@@ -18,6 +18,7 @@ use Rattle.mq_packet.specs.declared.stop.Stop.TheVariants as stops
 use Rattle.mq_packet.specs.Entries.{Entry, WillFields, ConnectFields, PublishFields, connect, connack, publish, acknowledgement, request, answer, pingreq, pingresp, disconnect, auth}
 use Rattle.mq_packet.specs.Formats.{Format}
 use Rattle.mq_packet.specs.Decoding.{broken, rule_of, list_rule, read}
+pub use Rattle.mq_wire.specs.Left.{Gives}
 
 -- The Will of a CONNECT in memory.
 abbrev pub will_view : Will → WillFields
@@ -80,27 +81,22 @@ abbrev pub bad_list : PropFault → Stop
 bad_list fault = stops.Broken fault.at (list_rule fault.reason)
 
 -- The fault of a packet whose reading stops.
-abbrev pub fault_of : Stop → DecodeFault
-fault_of (stops.Broken at rule) = broken at rule
-fault_of (stops.OtherVersion version) = OtherVersion version
+abbrev pub decode_fault : Stop → DecodeFault
+decode_fault (stops.Broken at rule) = broken at rule
+decode_fault (stops.OtherVersion version) = OtherVersion version
 
 -- A reader of a field returns what is read, with the cursor past it; or why the reading stops.
-abbrev pub Takes : {X Y : Type 0} → (X → Y) → Result X Stop → Result (Y × Left) DecodeFault → Left → Type 0
-Takes see (Ok x) read new = read ≡ Ok (see x, new)
-Takes see (Err stop) read new = read ≡ Err (fault_of stop)
+abbrev pub ReadsField : {X Y : Type 0} → (X → Y) → Result X Stop → Result (Y × Left) DecodeFault → Left → Type 0
+ReadsField see (Ok x) read new = read ≡ Ok (see x, new)
+ReadsField see (Err stop) read new = read ≡ Err (decode_fault stop)
 
 -- A reader of a part of a format returns what the part is, with the cursor past it: what follows is read there, given what the
 -- part is. Or it returns why the reading stops, whatever follows.
 abbrev pub TakesPart : {X Y : Type 0} → (X → Y) → Result X Stop → ((Y → Format) → Format) → Left → Left → Type 0
 TakesPart {X} {Y} see (Ok x) part old new = (next : Y → Format) → read (part next) old ≡ read (next (see x)) new
-TakesPart {X} {Y} see (Err stop) part old new = (next : Y → Format) → read (part next) old ≡ Err (fault_of stop)
+TakesPart {X} {Y} see (Err stop) part old new = (next : Y → Format) → read (part next) old ≡ Err (decode_fault stop)
 
 -- A reader of all that is left returns it as a packet or a list, or why the reading stops.
 abbrev pub Reads : {X Y : Type 0} → (X → Y) → Result X Stop → Result Y DecodeFault → Type 0
 Reads see (Ok x) read = read ≡ Ok (see x)
-Reads see (Err stop) read = read ≡ Err (fault_of stop)
-
--- The call returns this packet, or this fault.
-abbrev pub Gives : {E X Y : Type 0} → (X → Y) → Result X E → Result Y E → Type 0
-Gives see (Ok x) read = read ≡ Ok (see x)
-Gives see (Err fault) read = read ≡ Err fault
+Reads see (Err stop) read = read ≡ Err (decode_fault stop)

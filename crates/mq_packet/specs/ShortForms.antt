@@ -8,7 +8,7 @@ use Rattle.mq_packet.specs.Entries.{Entry, connect, connack, publish, acknowledg
 use Rattle.mq_packet.specs.declared.frame.Cut.TheVariants.{Frame}
 use Rattle.mq_packet.specs.Decoding.{decoded}
 use Rattle.mq_packet.specs.Frames.{cut_of}
-use Rattle.mq_packet.specs.Canonical.{list_spelling, first_byte, canonical_body}
+use Rattle.mq_packet.specs.Canonical.{list_spelling, first_byte_of, canonical_body}
 use Rattle.mq_packet.specs.Valid.{valid, IsTyped}
 
 -- The bytes spell a Reason Code and properties at the end of a packet: the code and the property list; or, without properties,
@@ -37,7 +37,7 @@ IsBodyOf pingresp body = body ≡ []
 pub record IsSpelling (first : ℕ) (body : List ℕ) (entry : Entry) : Type 0 where
   pub typed : IsTyped entry
   pub is_valid : valid entry ≡ true
-  pub first_is : first ≡ first_byte entry
+  pub first_is : first ≡ first_byte_of entry
   pub body_is : IsBodyOf entry body
 
 -- The packets that have short forms: PUBACK, PUBREC, PUBREL, PUBCOMP, DISCONNECT and AUTH without properties.

@@ -9,21 +9,21 @@ use Rattle.mq_packet.specs.declared.rule.PacketRule.TheVariants as rules
 use Rattle.mq_packet.specs.declared.fault.DecodeFault.{DecodeFault}
 use Rattle.mq_packet.specs.declared.fault.DecodeFault.TheVariants.{Broken, OtherVersion}
 use Rattle.mq_packet.specs.Entries.{Entry, AskedFilter}
-use Rattle.mq_packet.specs.Formats.{Kind, byte, two_bytes, text, binary, properties, Value, Objection, is_code, filter_objection, options_objection, Format, done, rest, all_codes, all_filters, refused, field, at_end, format_of}
+use Rattle.mq_packet.specs.Formats.{Kind, byte, two_bytes, text, binary, properties, ValueOf, Objection, is_code, filter_objection, options_objection, Format, done, rest, all_codes, all_filters, bad_first_byte, field, at_end, format_of}
 use Rattle.mq_packet.specs.Decoding.{broken, objected, body_start}
 use Rattle.mq_packet.specs.Asking.{IsAsked, filters_spelling, AreAsked}
-use Rattle.mq_packet.specs.Misspellings.{Misspelled}
+use Rattle.mq_packet.specs.Misspellings.{MisspelledAs}
 
 -- The values of a kind of field (1.5, 2.2.2).
-abbrev pub IsValue : (kind : Kind) → Value kind → Type 0
-IsValue byte value = IsByte value
-IsValue two_bytes value = IsTwoBytes value
-IsValue text value = IsText value
-IsValue binary value = IsBinary value
-IsValue (properties place) value = AreAllowed place value × IsVarint (length (properties_spelling value))
+abbrev pub IsValueOf : (kind : Kind) → ValueOf kind → Type 0
+IsValueOf byte value = IsByte value
+IsValueOf two_bytes value = IsTwoBytes value
+IsValueOf text value = IsText value
+IsValueOf binary value = IsBinary value
+IsValueOf (properties place) value = AreAllowed place value × IsVarint (length (properties_spelling value))
 
 -- The spelling of a value.
-abbrev pub spelling : (kind : Kind) → Value kind → List ℕ
+abbrev pub spelling : (kind : Kind) → ValueOf kind → List ℕ
 spelling byte value = byte_spelling value
 spelling two_bytes value = two_bytes_spelling value
 spelling text value = text_spelling value
@@ -31,17 +31,17 @@ spelling binary value = binary_spelling value
 spelling (properties place) value = varint_spelling (length (properties_spelling value)) ++ properties_spelling value
 
 -- The bytes begin with the spelling of a value of this kind, and these are left after it.
-pub record Begin (kind : Kind) (bytes : List ℕ) (value : Value kind) (left : List ℕ) : Type 0 where
-  pub is_value : IsValue kind value
+pub record Begin (kind : Kind) (bytes : List ℕ) (value : ValueOf kind) (left : List ℕ) : Type 0 where
+  pub is_value : IsValueOf kind value
   pub spelled : bytes ≡ spelling kind value ++ left
 
 -- They begin with a valid value, and `then` holds of the value and of what is left after it.
-abbrev pub Good : (kind : Kind) → (Value kind → Option Objection) → List ℕ → (Value kind → List ℕ → Type 0) → Type 0
-Good kind objection bytes then = (value : Value kind) × (left : List ℕ) × Begin kind bytes value left × (objection value ≡ None) × then value left
+abbrev pub Good : (kind : Kind) → (ValueOf kind → Option Objection) → List ℕ → (ValueOf kind → List ℕ → Type 0) → Type 0
+Good kind objection bytes then = (value : ValueOf kind) × (left : List ℕ) × Begin kind bytes value left × (objection value ≡ None) × then value left
 
 -- They begin with a value that is invalid for this reason.
-abbrev pub Objected : (kind : Kind) → (Value kind → Option Objection) → List ℕ → Objection → Type 0
-Objected kind objection bytes why = (value : Value kind) × (left : List ℕ) × Begin kind bytes value left × (objection value ≡ Some why)
+abbrev pub Objected : (kind : Kind) → (ValueOf kind → Option Objection) → List ℕ → Objection → Type 0
+Objected kind objection bytes why = (value : ValueOf kind) × (left : List ℕ) × Begin kind bytes value left × (objection value ≡ Some why)
 
 -- The bytes are Reason Codes of the table, a byte each, and then a byte that isn't one of them, which is at fault (2.4). Any
 -- bytes may follow.
@@ -56,9 +56,9 @@ pub record BadCode (table : List ℕ) (at : ℕ) (bytes : List ℕ) (fault : Dec
 
 -- The bytes don't begin with a valid field of this kind, and have this fault: they don't begin with one of the kind, or they
 -- begin with one that is invalid there.
-abbrev pub FailsField : (kind : Kind) → (Value kind → Option Objection) → ℕ → List ℕ → DecodeFault → Type 0
+abbrev pub FailsField : (kind : Kind) → (ValueOf kind → Option Objection) → ℕ → List ℕ → DecodeFault → Type 0
 FailsField kind objection at bytes fault =
-    Misspelled kind at bytes fault ⊎ ((why : Objection) × Objected kind objection bytes why × (fault ≡ objected at why))
+    MisspelledAs kind at bytes fault ⊎ ((why : Objection) × Objected kind objection bytes why × (fault ≡ objected at why))
 
 -- The options that the bytes begin with after a filter are at fault, if options are asked for (3.8.3.1).
 abbrev pub FailsOptions : Bool → ℕ → List ℕ → DecodeFault → Type 0
@@ -87,7 +87,7 @@ Spells (done packet) bytes entry = (bytes ≡ []) × (packet ≡ entry)
 Spells (rest packet) bytes entry = packet bytes ≡ entry
 Spells (all_codes table packet) bytes entry = (list_all (is_code table) bytes ≡ true) × (packet bytes ≡ entry)
 Spells (all_filters asks packet) bytes entry = (filters : List AskedFilter) × AreAsked asks filters × (bytes ≡ filters_spelling filters) × (packet filters ≡ entry)
-Spells (refused rule) bytes entry = ⊥
+Spells (bad_first_byte rule) bytes entry = ⊥
 Spells (field kind objection next) bytes entry = Good kind objection bytes (λ value left. Spells (next value) left entry)
 Spells (at_end whole more) [] entry = Spells whole [] entry
 Spells (at_end whole more) (b ∷ bytes) entry = Spells more (b ∷ bytes) entry
@@ -99,9 +99,9 @@ Fails (done packet) at bytes fault = (bytes ≢ []) × (fault ≡ broken at rule
 Fails (rest packet) at bytes fault = ⊥
 Fails (all_codes table packet) at bytes fault = BadCode table at bytes fault
 Fails (all_filters asks packet) at bytes fault = ((bytes ≡ []) × (fault ≡ broken at rules.W16)) ⊎ BadFilter asks at bytes fault
-Fails (refused rule) at bytes fault = fault ≡ broken 0 rule
+Fails (bad_first_byte rule) at bytes fault = fault ≡ broken 0 rule
 Fails (field kind objection next) at bytes fault =
-    Misspelled kind at bytes fault
+    MisspelledAs kind at bytes fault
     ⊎ (((why : Objection) × Objected kind objection bytes why × (fault ≡ objected at why))
     ⊎ Good kind objection bytes (λ value left. Fails (next value) (at + length (spelling kind value)) left fault))
 Fails (at_end whole more) at [] fault = Fails whole at [] fault
@@ -130,6 +130,6 @@ HasFault first body (Broken fault) = Breaks first body fault.at fault.rule
 HasFault first body (OtherVersion version) = IsOtherVersion first body version
 
 -- Which of the three holds, with the packet or the fault.
-abbrev pub Comes : ℕ → List ℕ → Result Entry DecodeFault → Type 0
-Comes first body (Ok entry) = IsSpelled first body entry
-Comes first body (Err fault) = HasFault first body fault
+abbrev pub DecodesTo : ℕ → List ℕ → Result Entry DecodeFault → Type 0
+DecodesTo first body (Ok entry) = IsSpelled first body entry
+DecodesTo first body (Err fault) = HasFault first body fault

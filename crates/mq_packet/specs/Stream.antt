@@ -8,9 +8,9 @@ use Rattle.mq_packet.specs.declared.header.FixedHeader.{FixedHeader}
 use Rattle.mq_packet.specs.declared.header.FixedHeader.TheVariants.{Short, Lost, Whole}
 
 -- The Remaining Length after the first byte, and how many bytes spell it (2.1.4).
-abbrev pub remaining_length : List ℕ → Result (ℕ × ℕ) Reason
-remaining_length [] = Err reasons.Short
-remaining_length (first ∷ behind) = varint_at behind
+abbrev pub remaining_length_at : List ℕ → Result (ℕ × ℕ) Reason
+remaining_length_at [] = Err reasons.Short
+remaining_length_at (first ∷ behind) = varint_at behind
 
 -- The fixed header with this Remaining Length: the first byte and the bytes that spell it, and the packet's size.
 abbrev pub header_with : Result (ℕ × ℕ) Reason → FixedHeader
@@ -25,7 +25,7 @@ HasBounds _ = Unit {0}
 
 -- The fixed header at the front.
 unfoldable pub fixed_header_of : List ℕ → FixedHeader
-fixed_header_of bytes = header_with (remaining_length bytes)
+fixed_header_of bytes = header_with (remaining_length_at bytes)
 
 -- The size that the fixed header gives, if that many bytes are available.
 abbrev pub size_within : ℕ → FixedHeader → Option ℕ
@@ -43,4 +43,4 @@ is_overlong _ = false
 
 -- There is a first byte, and the Remaining Length after it is invalid, whatever follows.
 unfoldable pub is_lost : List ℕ → Bool
-is_lost bytes = is_overlong (remaining_length bytes)
+is_lost bytes = is_overlong (remaining_length_at bytes)

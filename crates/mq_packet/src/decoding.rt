@@ -4,14 +4,15 @@
 //! and the others are functions of their own.
 
 ghost use Rattle.std.specs.Prelude.{◌≡◌, ◌≤◌, ◌<◌, ℕ, IfOk, IfErr, Some, Result, length};
+ghost use Rattle.mq_wire.specs.Left.{Gives};
 ghost use Rattle.mq_packet.specs.declared.fault.DecodeFault.{DecodeFault};
 ghost use Rattle.mq_packet.specs.declared.packet.Packet.TheVariants as packets;
 ghost use Rattle.mq_packet.specs.declared.rule.PacketRule.{PacketRule};
 ghost use Rattle.mq_packet.specs.declared.stop.Stop.TheVariants as stops;
 ghost use Rattle.mq_packet.specs.Entries.{Entry};
 ghost use Rattle.mq_packet.specs.Decoding.{decoded};
-ghost use Rattle.mq_packet.specs.Spelled.{IsSpelled, HasFault, Comes};
-ghost use Rattle.mq_packet.specs.Reading.{view, HasReadLen, Gives, fault_of};
+ghost use Rattle.mq_packet.specs.Spelled.{IsSpelled, HasFault, DecodesTo};
+ghost use Rattle.mq_packet.specs.Reading.{view, HasReadLen, decode_fault};
 ghost use Rattle.mq_packet.specs.Sizes.{remaining_length};
 
 use crate::fault::{BodyFault, DecodeFault};
@@ -36,7 +37,7 @@ pub fn decode<'a>(first: u8, body: &'a [u8]) -> Result<Packet<'a>, DecodeFault>
     ensures packet { IfOk result (λ packet. IsSpelled first body.now (view packet)) }
     ensures fault { IfErr result (λ fault. HasFault first body.now fault) }
     // A packet that they spell is returned, and so is a fault that they have.
-    ensures only { (outcome : Result Entry DecodeFault) → Comes first body.now outcome → Gives view result outcome }
+    ensures only { (outcome : Result Entry DecodeFault) → DecodesTo first body.now outcome → Gives view result outcome }
     // A packet that has several spellings keeps the length of this one.
     ensures read_len { IfOk result (λ packet. HasReadLen (length body.now) packet) }
     // Its size is that of what it was read from: its Remaining Length is the length of this body.
@@ -92,7 +93,7 @@ fn read_publish_body<'a>(first: u8, body: &'a [u8]) -> Result<Publish<'a>, Decod
 #[inline(always)]
 fn fault_of(stop: Stop) -> DecodeFault
     requires { (at : ℕ) (rule : PacketRule) → stop ≡ stops.Broken at rule → at ≤ 268435460 }
-    ensures { result ≡ fault_of stop }
+    ensures { result ≡ decode_fault stop }
 {
     match stop {
         Stop::Broken { at, rule } => DecodeFault::Broken(BodyFault {

@@ -5,13 +5,13 @@ ghost use Rattle.mq_wire.specs.Spellings.{AreBytes};
 ghost use Rattle.mq_packet.specs.declared.fault.DecodeFault.{DecodeFault};
 ghost use Rattle.mq_packet.specs.Entries.{Entry};
 ghost use Rattle.mq_packet.specs.Stream.{frame_size, is_lost};
-ghost use Rattle.mq_packet.specs.Spelled.{Comes};
+ghost use Rattle.mq_packet.specs.Spelled.{DecodesTo};
 
 /// Each first byte and body are exactly one of these: a packet that they spell, a rule that they break at one offset, or a
 /// CONNECT of one other version of the protocol.
 #[tactic(auto, using(crate::proofs::Readings::one_outcome))]
 pub fn each_body_comes_to_one_thing()
-    ensures { (first : ℕ) (body : List ℕ) → AreBytes body → (outcome : Result Entry DecodeFault) × Comes first body outcome × ((other : Result Entry DecodeFault) → Comes first body other → outcome ≡ other) }
+    ensures { (first : ℕ) (body : List ℕ) → AreBytes body → (outcome : Result Entry DecodeFault) × DecodesTo first body outcome × ((other : Result Entry DecodeFault) → DecodesTo first body other → outcome ≡ other) }
 {}
 
 /// What is at the front of a stream stays the same whatever follows: a frame, in each beginning of the stream that holds it, or

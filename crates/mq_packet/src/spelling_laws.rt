@@ -9,7 +9,7 @@ ghost use Rattle.mq_packet.specs.declared.packet.AcknowledgementKind.TheVariants
 ghost use Rattle.mq_packet.specs.Entries.{Entry, acknowledgement, pingreq, auth, none_listed};
 ghost use Rattle.mq_packet.specs.Decoding.{decoded};
 ghost use Rattle.mq_packet.specs.Spelled.{IsSpelled};
-ghost use Rattle.mq_packet.specs.Canonical.{type_of, first_byte, canonical_body, canonical};
+ghost use Rattle.mq_packet.specs.Canonical.{type_of, first_byte_of, canonical_body, canonical};
 ghost use Rattle.mq_packet.specs.Valid.{valid, IsTyped};
 ghost use Rattle.mq_packet.specs.ShortForms.{IsSpelling, has_short_form, IsShortFor, BeginsWithPacket};
 
@@ -42,9 +42,9 @@ pub fn what_is_read_is_written()
     // A packet without short forms is written as the frame that was read.
     ensures same { (first : ℕ) (body : List ℕ) (entry : Entry) → AreBytes body → decoded first body ≡ Ok entry → has_short_form entry ≡ false → canonical entry ≡ first ∷ (varint_spelling (length body) ++ body) }
     // Any other is written as that frame, except for what a short form leaves out (sections 3.4.2.1, 3.14.2.1 and 3.15.2.1).
-    ensures short { (first : ℕ) (body : List ℕ) (entry : Entry) → AreBytes body → decoded first body ≡ Ok entry → (first_byte entry ≡ first) × ((canonical_body entry ≡ body) ⊎ ((has_short_form entry ≡ true) × (IsShortFor (canonical_body entry) body ⊎ IsShortFor body (canonical_body entry)))) }
+    ensures short { (first : ℕ) (body : List ℕ) (entry : Entry) → AreBytes body → decoded first body ≡ Ok entry → (first_byte_of entry ≡ first) × ((canonical_body entry ≡ body) ⊎ ((has_short_form entry ≡ true) × (IsShortFor (canonical_body entry) body ⊎ IsShortFor body (canonical_body entry)))) }
     // It is read as the packet again.
-    ensures again { (first : ℕ) (body : List ℕ) (entry : Entry) → AreBytes body → decoded first body ≡ Ok entry → decoded (first_byte entry) (canonical_body entry) ≡ Ok entry }
+    ensures again { (first : ℕ) (body : List ℕ) (entry : Entry) → AreBytes body → decoded first body ≡ Ok entry → decoded (first_byte_of entry) (canonical_body entry) ≡ Ok entry }
 {}
 
 /// Short examples, computed from the definitions alone (MQTT 5.0, sections 3.4, 3.12 and 3.15).

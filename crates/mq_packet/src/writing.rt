@@ -13,7 +13,7 @@ ghost use Rattle.std.specs.Prelude.{◌≡◌, ◌+◌, ◌++◌, ◌<◌, ◌�
 ghost use Rattle.mq_packet.specs.Growing.{LacksRoom};
 ghost use Rattle.mq_packet.specs.Reading.{view};
 ghost use Rattle.mq_packet.specs.Spelled.{IsSpelled};
-ghost use Rattle.mq_packet.specs.Canonical.{first_byte, canonical_body, canonical};
+ghost use Rattle.mq_packet.specs.Canonical.{first_byte_of, canonical_body, canonical};
 ghost use Rattle.mq_packet.specs.Valid.{valid};
 
 use crate::facts::packet_facts;
@@ -68,7 +68,7 @@ fn put_within(out: &mut Vec<u8>, packet: &Packet<'_>, len: u32)
 #[tactic(auto, using(crate::proofs::CanonicalLaws::canonical_spelled))]
 fn spelling_facts(packet: &Packet<'_>)
     requires { valid (view packet.now) ≡ true }
-    ensures { IsSpelled (first_byte (view packet.now)) (canonical_body (view packet.now)) (view packet.now) }
+    ensures { IsSpelled (first_byte_of (view packet.now)) (canonical_body (view packet.now)) (view packet.now) }
 {
     packet_facts(packet);
 }
@@ -85,7 +85,7 @@ pub fn encode(packet: &Packet<'_>, out: &mut Vec<u8>) -> Result<(), EncodeFault>
     requires valid { valid (view packet.now) ≡ true }
     ensures ok { OnOk result (out.new.items ≡ out.old.items ++ canonical (view packet.now)) }
     // What is written spells the packet.
-    ensures spelled { IsSpelled (first_byte (view packet.now)) (canonical_body (view packet.now)) (view packet.now) }
+    ensures spelled { IsSpelled (first_byte_of (view packet.now)) (canonical_body (view packet.now)) (view packet.now) }
     ensures too_long { (result ≡ Err EncodeFault.TooLong) ↔ (268435455 < length (canonical_body (view packet.now))) }
     ensures memory { result ≡ Err EncodeFault.Memory → vec_capacity out.old < vec_len out.old + length (canonical (view packet.now)) }
     ensures err { OnErr result (out.new.items ≡ out.old.items) }

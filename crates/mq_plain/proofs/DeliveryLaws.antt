@@ -4,7 +4,7 @@ use Rattle.std.specs.Prelude.{reverse}
 use Rattle.mq_rules.specs.declared.role.Role.{Role}
 use Rattle.mq_rules.specs.declared.fate.Fate.{Fate}
 use Rattle.mq_rules.specs.declared.note.Seen.{Seen}
-use Rattle.mq_rules.specs.Words.{or_else, is_some_and}
+use Rattle.mq_rules.specs.Words.{is_some_and}
 use Rattle.mq_rules.specs.Notes.{is_open, is_release, Subscription, received_subscription, sent_publish, qos_number}
 use Rattle.mq_rules.specs.Moments.{Moment, newest, note, some, those, earliest, is_after}
 use Rattle.mq_rules.specs.Connections.{begun, number, of_connection, connection, latest_fate, accepted, voided, begins, any_accepted, has_session, with_first, session}
@@ -22,20 +22,21 @@ use Rattle.mq_rules.specs.declared.note.Note.{Note}
 use Rattle.mq_rules.specs.declared.note.Note.TheVariants as notes
 use Rattle.std.proofs.lemmas.Bool.{ne_eqb, eq-eqb}
 use Rattle.std.proofs.lemmas.Bool.Decides.{nat_tests}
+use Rattle.std.specs.Option.{option_or}
 
 -- ---- topics
 
 -- the Topic Name that was last set, one event further back
-pub last_set-next : (alias : ℕ) (e : Seen) (past : List Seen) → last_set alias (connection (e ∷ past)) ≡ or_else (topic_set alias e.note) (cond (is_open e.note) None (last_set alias (connection past)))
+pub last_set-next : (alias : ℕ) (e : Seen) (past : List Seen) → last_set alias (connection (e ∷ past)) ≡ option_or (topic_set alias e.note) (cond (is_open e.note) None (last_set alias (connection past)))
 last_set-next alias e past = ap (last_set alias) (connection-next e past) ∙ go (is_open e.note)
   where
-    go : (b : Bool) → last_set alias (cond b (newest e past ∷ []) (newest e past ∷ connection past)) ≡ or_else (topic_set alias e.note) (cond b None (last_set alias (connection past)))
+    go : (b : Bool) → last_set alias (cond b (newest e past ∷ []) (newest e past ∷ connection past)) ≡ option_or (topic_set alias e.note) (cond b None (last_set alias (connection past)))
     go true = refl
     go false = refl
 
 pub last_set-open : (alias : ℕ) (e : Seen) (past : List Seen) → topic_set alias e.note ≡ None → is_open e.note ≡ true → last_set alias (connection (e ∷ past)) ≡ None
 last_set-open alias e past unset opens =
-    last_set-next alias e past ∙ (ap (λ o. or_else o (cond (is_open e.note) None (last_set alias (connection past)))) unset ∙ ap (λ b. cond b None (last_set alias (connection past))) opens)
+    last_set-next alias e past ∙ (ap (λ o. option_or o (cond (is_open e.note) None (last_set alias (connection past)))) unset ∙ ap (λ b. cond b None (last_set alias (connection past))) opens)
 
 -- ---- what RELEASEs don't pass, looked for in a session
 
@@ -130,18 +131,18 @@ any-reverse test (x ∷ xs) =
     ∙ (ap (λ b. list_any test xs || b) (or_false (test x)) ∙ or-turn (list_any test xs) (test x))))
 
 -- one event more after the others counts where none is an OPEN
-ahead-last : (i : ℕ) (xs : List Seen) (x : Seen) → codes_ahead i (xs ++ x ∷ []) ≡ cond (list_any opens (xs ++ x ∷ [])) (codes_ahead i xs) (or_else (codes_ahead i xs) (codes_under i x.note))
+ahead-last : (i : ℕ) (xs : List Seen) (x : Seen) → codes_ahead i (xs ++ x ∷ []) ≡ cond (list_any opens (xs ++ x ∷ [])) (codes_ahead i xs) (option_or (codes_ahead i xs) (codes_under i x.note))
 unfolding opens
 ahead-last i [] x = go (is_open x.note) (codes_under i x.note)
   where
-    go : (b : Bool) (o : Option (List ℕ)) → cond b None (or_else o None) ≡ cond (b || false) None o
+    go : (b : Bool) (o : Option (List ℕ)) → cond b None (option_or o None) ≡ cond (b || false) None o
     go true o = refl
     go false None = refl
     go false (Some codes) = refl
-ahead-last i (y ∷ xs) x = ap (λ o. cond (is_open y.note) None (or_else (codes_under i y.note) o)) (ahead-last i xs x) ∙ go (is_open y.note) (codes_under i y.note) (list_any opens (xs ++ x ∷ []))
+ahead-last i (y ∷ xs) x = ap (λ o. cond (is_open y.note) None (option_or (codes_under i y.note) o)) (ahead-last i xs x) ∙ go (is_open y.note) (codes_under i y.note) (list_any opens (xs ++ x ∷ []))
   where
-    go : (b : Bool) (own : Option (List ℕ)) (any : Bool) → cond b None (or_else own (cond any (codes_ahead i xs) (or_else (codes_ahead i xs) (codes_under i x.note))))
-        ≡ cond (b || any) (cond b None (or_else own (codes_ahead i xs))) (or_else (cond b None (or_else own (codes_ahead i xs))) (codes_under i x.note))
+    go : (b : Bool) (own : Option (List ℕ)) (any : Bool) → cond b None (option_or own (cond any (codes_ahead i xs) (option_or (codes_ahead i xs) (codes_under i x.note))))
+        ≡ cond (b || any) (cond b None (option_or own (codes_ahead i xs))) (option_or (cond b None (option_or own (codes_ahead i xs))) (codes_under i x.note))
     go true own any = refl
     go false own true = refl
     go false None false = refl
@@ -168,8 +169,8 @@ ahead-back i e past [] = let le : length (e ∷ past) ≤ length past + 1 = omeg
 ahead-back i e past (x ∷ later) =
     ap (λ b. earliest (codes_under i) (those after (cond b (newest x whole ∷ of_connection c whole) (of_connection c whole)))) (begun-same (x ∷ later) (e ∷ past))
     ∙ (go (list_any opens (x ∷ later))
-    ∙ (ap (λ o. cond (list_any opens (x ∷ later)) o (or_else o (codes_under i x.note))) (ahead-back i e past later)
-    ∙ (ap (λ b. cond b (codes_ahead i (reverse later)) (or_else (codes_ahead i (reverse later)) (codes_under i x.note))) (sym (any-reverse opens (x ∷ later)) ∙ ap (list_any opens) (one_back x later))
+    ∙ (ap (λ o. cond (list_any opens (x ∷ later)) o (option_or o (codes_under i x.note))) (ahead-back i e past later)
+    ∙ (ap (λ b. cond b (codes_ahead i (reverse later)) (option_or (codes_ahead i (reverse later)) (codes_under i x.note))) (sym (any-reverse opens (x ∷ later)) ∙ ap (list_any opens) (one_back x later))
     ∙ sym (ap (codes_ahead i) (one_back x later) ∙ ahead-last i (reverse later) x))))
   where
     whole : List Seen
@@ -182,7 +183,7 @@ ahead-back i e past (x ∷ later) =
     after m = is_after m (newest e past)
 
     go : (b : Bool) → earliest (codes_under i) (those after (cond (not b) (newest x whole ∷ of_connection c whole) (of_connection c whole)))
-        ≡ cond b (earliest (codes_under i) (those after (of_connection c whole))) (or_else (earliest (codes_under i) (those after (of_connection c whole))) (codes_under i x.note))
+        ≡ cond b (earliest (codes_under i) (those after (of_connection c whole))) (option_or (earliest (codes_under i) (those after (of_connection c whole))) (codes_under i x.note))
     go true = refl
     go false =
         let long : length whole ≡ length later + (length past + 1) = simp length-append (omega arith) in

@@ -2,10 +2,11 @@
 use Rattle.std.proofs.Common.{◌≡◌, ℕ, ◌+◌, ◌≤◌, ◌==◌, Bool, true, false, cond, ◌&&◌, ◌||◌, not, List, [], ◌∷◌, length, Option, Some, None, refl, ap, sym, ◌∙◌, subst, arith, inl, inr}
 use Rattle.std.specs.Prelude.{is_some, option_map}
 use Rattle.std.proofs.lemmas.Bool.{eq-eqb}
+use Rattle.std.specs.Option.{option_or}
 use Rattle.mq_rules.specs.declared.note.Note.{Note}
 use Rattle.mq_rules.specs.declared.note.Note.TheVariants as notes
 use Rattle.mq_rules.specs.declared.note.Seen.{Seen}
-use Rattle.mq_rules.specs.Words.{or_else, is_id, is_some_and}
+use Rattle.mq_rules.specs.Words.{is_id, is_some_and}
 use Rattle.mq_rules.specs.Notes.{is_open, sent_item, received_item}
 use Rattle.mq_rules.specs.Moments.{Moment, newest, note, moments, moment, position, is_same, since, earliest_since, Among, IsDescending}
 use Rattle.mq_rules.specs.Connections.{number, begun, connection}
@@ -67,7 +68,7 @@ shown-newest x i e past asks plain closed =
     here = ap (since (is_same (newest e past)) (answers x i)) (connection-newest e past)
         ∙ ap (λ b. b || (not (is_id i (x.answer e.note)) && since (is_same (newest e past)) (answers x i) (cond (is_open e.note) [] (connection past)))) (eq-eqb (length past + 1) (length past + 1) refl)
 
-    go : (o : Option Moment) → first ≡ o → (not (is_some o) && true) ≡ is_id (length past) (option_map (λ m. length m.past) (or_else o (Some (newest e past))))
+    go : (o : Option Moment) → first ≡ o → (not (is_some o) && true) ≡ is_id (length past) (option_map (λ m. length m.past) (option_or o (Some (newest e past))))
     go None is = sym (eq-eqb (length past) (length past) refl)
     go (Some f) is = let within = first-within (causes x i) (answers x i) past f is in sym (differ (length past) (length f.past) (λ same. absurd (omega arith)))
 
@@ -90,7 +91,7 @@ shown-older x i e past m fresh within before =
 
     go : (ends opens asks : Bool) (o : Option Moment) → (fresh && since (is_same m) (answers x i) (connection past)) ≡ is_id (length m.past) (option_map (λ n. length n.past) o)
         → (fresh && (not ends && since (is_same m) (answers x i) (cond opens [] (connection past))))
-        ≡ is_id (length m.past) (option_map (λ n. length n.past) (or_else (cond ends None (cond opens None o)) (cond asks (Some (newest e past)) None)))
+        ≡ is_id (length m.past) (option_map (λ n. length n.past) (option_or (cond ends None (cond opens None o)) (cond asks (Some (newest e past)) None)))
     go true opens asks o before = and_false fresh ∙ sym (not_here asks)
     go false true asks o before = and_false fresh ∙ sym (not_here asks)
     go false false asks None before = before ∙ sym (not_here asks)

@@ -5,7 +5,6 @@ use Rattle.mq_rules.specs.declared.fate.Fate.{Fate}
 use Rattle.mq_rules.specs.declared.note.Note.{Note}
 use Rattle.mq_rules.specs.declared.note.Note.TheVariants as notes
 use Rattle.mq_rules.specs.declared.note.Seen.{Seen}
-use Rattle.mq_rules.specs.Words.{or_else}
 use Rattle.mq_rules.specs.Notes.{is_open, is_release, decides}
 use Rattle.mq_rules.specs.Moments.{Moment, newest, note, some, since}
 use Rattle.mq_rules.specs.Connections.{connection, latest_fate, session, has_session, with_first, begins, accepted, voided, any_accepted}
@@ -13,6 +12,7 @@ use Rattle.mq_plain.specs.Lookback.{answer_by}
 use Rattle.std.specs.Prelude.{reverse}
 use Rattle.std.proofs.lemmas.Bool.{eqb-true, eq-eqb}
 use Rattle.std.proofs.lemmas.List.{length-reverse}
+use Rattle.std.specs.Option.{option_or}
 use Rattle.mq_rules.proofs.Exports.{same_test, connection-next, latest_fate-next}
 
 pub no_events : (events : List Seen) → length events ≡ 0 → events ≡ []
@@ -53,13 +53,13 @@ since-session starts ends role f e past = first (has_session role f e past) (is_
 
 -- what later events of a connection decide, and what stands before them
 abbrev pub fate_back : Role → Option Fate → List Seen → Option Fate
-fate_back role found log = or_else (latest_fate role log) found
+fate_back role found log = option_or (latest_fate role log) found
 
 pub fate_back-next : (role : Role) (found : Option Fate) (e : Seen) (past : List Seen)
-    → fate_back role found (e ∷ past) ≡ cond (is_open e.note) found (fate_back role (or_else (decides role e.note) found) past)
-fate_back-next role found e past = ap (λ f. or_else f found) (latest_fate-next role e past) ∙ go (is_open e.note) (latest_fate role past)
+    → fate_back role found (e ∷ past) ≡ cond (is_open e.note) found (fate_back role (option_or (decides role e.note) found) past)
+fate_back-next role found e past = ap (λ f. option_or f found) (latest_fate-next role e past) ∙ go (is_open e.note) (latest_fate role past)
   where
-    go : (b : Bool) (f : Option Fate) → or_else (cond b None (or_else f (decides role e.note))) found ≡ cond b found (or_else f (or_else (decides role e.note) found))
+    go : (b : Bool) (f : Option Fate) → option_or (cond b None (option_or f (decides role e.note))) found ≡ cond b found (option_or f (option_or (decides role e.note) found))
     go true f = refl
     go false (Some f) = refl
     go false None = refl

@@ -4,6 +4,7 @@ use Rattle.std.specs.Prelude.{is_some, reverse}
 use mathlib.Core.List.{reverse_aux}
 use Rattle.std.proofs.lemmas.Bool.{eqb-true}
 use Rattle.std.proofs.lemmas.List.{reverse-append, take-append-drop}
+use Rattle.std.specs.Option.{option_or}
 use denote.Enum.Bare.{same_true}
 use Rattle.mq_rules.specs.contracts.rule.Rule.{the_type}
 use Rattle.mq_rules.specs.declared.role.Role.{Role}
@@ -13,7 +14,7 @@ use Rattle.mq_rules.specs.declared.note.Note.{Note}
 use Rattle.mq_rules.specs.declared.note.Seen.{Seen}
 use Rattle.mq_rules.specs.declared.fault.Fault.{Fault}
 use Rattle.mq_rules.specs.declared.fate.Fate.{Fate}
-use Rattle.mq_rules.specs.Words.{or_else, is_some_and}
+use Rattle.mq_rules.specs.Words.{is_some_and}
 use Rattle.mq_rules.specs.Notes.{is_open, decides}
 use Rattle.mq_rules.specs.Moments.{Moment, newest, moment, is_next, IsPlaced}
 use Rattle.mq_rules.specs.Connections.{IsInOrder, latest_fate, accepts}
@@ -23,9 +24,9 @@ use Rattle.mq_rules.specs.Steps.{turns, JudgedAtOnce}
 use Rattle.mq_rules.specs.Marks.{FaultMap, fault_at, judged}
 use Rattle.mq_rules.specs.Faults.{offset_of, reported}
 use Rattle.mq_rules.specs.Keeping.{news, GrowsBy, GrowsByWithin}
-use Rattle.mq_rules.proofs.Exports.{and_false, or-turn, or_else-none, fault_at-judged, latest_fate-next, in_order-turns, in_order-releases}
+use Rattle.mq_rules.proofs.Exports.{and_false, or-turn, option_or-none, fault_at-judged, latest_fate-next, in_order-turns, in_order-releases}
 use Rattle.mq_plain.specs.declared.turn.Turn.{Turn}
-use Rattle.mq_plain.specs.Events.{Comes, asks, some_asks}
+use Rattle.mq_plain.specs.Events.{ComesNext, asks, some_asks}
 
 -- ---- a list that is read from its front
 
@@ -74,9 +75,9 @@ in_order-here role xs i e lt is order = subst (IsInOrder role) (newest-at xs i e
 at_once : (tested : Tested) (rule r : Rule) (e : Seen) (past : List Seen) (broken : Bool) (old : FaultMap) (k : ℕ) → e.place.position ≡ length past + 1
     → JudgedAtOnce tested rule e past broken → ((m : Option Moment) → offset_of (statement tested.role rule) m ≡ None)
     → fault_at (judged broken rule e.place old) k r
-    ≡ or_else (fault_at old k r) (cond (same_rule r rule) (cond (turns tested e past k r) (Some (reported tested.role (moment (e ∷ past) k) r (length past + 1))) None) None)
+    ≡ option_or (fault_at old k r) (cond (same_rule r rule) (cond (turns tested e past k r) (Some (reported tested.role (moment (e ∷ past) k) r (length past + 1))) None) None)
 at_once tested rule r e past broken old k placed at_newest plain =
-    fault_at-judged old broken rule r e.place k ∙ ap (or_else (fault_at old k r)) (go (same_rule r rule) refl)
+    fault_at-judged old broken rule r e.place k ∙ ap (option_or (fault_at old k r)) (go (same_rule r rule) refl)
   where
     told : ℕ → Fault
     told n = record { decided = n; record_no = e.place.record_no; offset = None }
@@ -112,7 +113,7 @@ pub judged-grows : (tested : Tested) (rule named : Rule) (e : Seen) (past : List
 judged-grows tested rule named e past broken old new placed at_newest plain names now = record {
   each = λ k r. ap (λ m. fault_at m k r) (now ∙ ap (λ n. judged broken n e.place old) names)
       ∙ at_once tested rule r e past broken old k placed at_newest plain
-      ∙ ap (or_else (fault_at old k r)) (both_tests (same_rule r rule) (turns tested e past k r) (Some (reported tested.role (moment (e ∷ past) k) r (length past + 1))));
+      ∙ ap (option_or (fault_at old k r)) (both_tests (same_rule r rule) (turns tested e past k r) (Some (reported tested.role (moment (e ∷ past) k) r (length past + 1))));
 }
 
 -- an event at which the statement isn't broken adds nothing
@@ -128,7 +129,7 @@ pub session-plain : (tested : Tested) (rule : Rule) (breaks : Fate → Moment �
 session-plain tested rule breaks says m = ap (λ s. offset_of s m) says
 
 pub session-at_once : (turn : Turn) (rule : Rule) (breaks : Fate → Moment → Bool) (e : Seen) (past : List Seen) (bound broken : Bool)
-    → Comes turn e past → statement turn.tested.role rule ≡ in_session breaks → bound ≡ binds rule turn.tested
+    → ComesNext turn e past → statement turn.tested.role rule ≡ in_session breaks → bound ≡ binds rule turn.tested
     → broken ≡ (bound && is_some_and (λ f. accepts f && breaks f (newest e past)) turn.fate)
     → JudgedAtOnce turn.tested rule e past broken
 session-at_once turn rule breaks e past bound broken comes says binds_it broken_so = λ k.
@@ -142,7 +143,7 @@ pub release-plain : (tested : Tested) (rule : Rule) (breaks : Fate → Moment �
 release-plain tested rule breaks says m = ap (λ s. offset_of s m) says
 
 pub release-at_once : (turn : Turn) (rule : Rule) (breaks : Fate → Moment → Bool) (e : Seen) (past : List Seen) (bound broken : Bool)
-    → Comes turn e past → statement turn.tested.role rule ≡ at_release breaks → bound ≡ binds rule turn.tested
+    → ComesNext turn e past → statement turn.tested.role rule ≡ at_release breaks → bound ≡ binds rule turn.tested
     → broken ≡ (bound && is_some_and (λ f. breaks f (newest e past)) turn.fate)
     → JudgedAtOnce turn.tested rule e past broken
 release-at_once turn rule breaks e past bound broken comes says binds_it broken_so = λ k.
@@ -152,7 +153,7 @@ release-at_once turn rule breaks e past bound broken comes says binds_it broken_
 
 -- ---- two evaluators one after the other
 
-both_added : (o : Option Fault) (a b t : Bool) (x : Fault) → or_else (or_else o (cond (a && t) (Some x) None)) (cond (b && t) (Some x) None) ≡ or_else o (cond ((a || b) && t) (Some x) None)
+both_added : (o : Option Fault) (a b t : Bool) (x : Fault) → option_or (option_or o (cond (a && t) (Some x) None)) (cond (b && t) (Some x) None) ≡ option_or o (cond ((a || b) && t) (Some x) None)
 both_added (Some y) a b t x = refl
 both_added None true true true x = refl
 both_added None true false true x = refl
@@ -164,15 +165,15 @@ both_added None false b t x = refl
 pub grows-then : (f g : Rule → Bool) (tested : Tested) (e : Seen) (past : List Seen) (old mid new : FaultMap)
     → GrowsBy f tested e past old mid → GrowsBy g tested e past mid new → GrowsBy (λ r. f r || g r) tested e past old new
 grows-then f g tested e past old mid new p q = record {
-  each = λ k r. q.each k r ∙ ap (λ o. or_else o (news g tested e past k r)) (p.each k r)
+  each = λ k r. q.each k r ∙ ap (λ o. option_or o (news g tested e past k r)) (p.each k r)
       ∙ both_added (fault_at old k r) (f r) (g r) (turns tested e past k r) (reported tested.role (moment (e ∷ past) k) r (length past + 1));
 }
 
 -- what the first ones may have added, both may
-first_may : (c d t : Bool) (x o : Option Fault) (f : Fault) → (x ≡ o) ⊎ (x ≡ or_else o (cond (c && t) (Some f) None)) → (x ≡ o) ⊎ (x ≡ or_else o (cond ((c || d) && t) (Some f) None))
+first_may : (c d t : Bool) (x o : Option Fault) (f : Fault) → (x ≡ o) ⊎ (x ≡ option_or o (cond (c && t) (Some f) None)) → (x ≡ o) ⊎ (x ≡ option_or o (cond ((c || d) && t) (Some f) None))
 first_may c d t x o f (inl same) = inl same
 first_may true d t x o f (inr more) = inr more
-first_may false d t x o f (inr more) = inl (more ∙ or_else-none o)
+first_may false d t x o f (inr more) = inl (more ∙ option_or-none o)
 
 pub first-within : (f g : Rule → Bool) (tested : Tested) (e : Seen) (past : List Seen) (old new : FaultMap)
     → GrowsByWithin f tested e past old new → GrowsByWithin (λ r. f r || g r) tested e past old new
@@ -181,11 +182,11 @@ first-within f g tested e past old new p = record {
 }
 
 -- what the second ones may have added to all that the first ones did, both may
-second_may : (c d t : Bool) (x y o : Option Fault) (f : Fault) → y ≡ or_else o (cond (c && t) (Some f) None) → (x ≡ y) ⊎ (x ≡ or_else y (cond (d && t) (Some f) None))
-    → (x ≡ o) ⊎ (x ≡ or_else o (cond ((c || d) && t) (Some f) None))
+second_may : (c d t : Bool) (x y o : Option Fault) (f : Fault) → y ≡ option_or o (cond (c && t) (Some f) None) → (x ≡ y) ⊎ (x ≡ option_or y (cond (d && t) (Some f) None))
+    → (x ≡ o) ⊎ (x ≡ option_or o (cond ((c || d) && t) (Some f) None))
 second_may true d t x y o f first (inl same) = inr (same ∙ first)
-second_may false d t x y o f first (inl same) = inl (same ∙ first ∙ or_else-none o)
-second_may c d t x y o f first (inr more) = inr (more ∙ ap (λ z. or_else z (cond (d && t) (Some f) None)) first ∙ both_added o c d t f)
+second_may false d t x y o f first (inl same) = inl (same ∙ first ∙ option_or-none o)
+second_may c d t x y o f first (inr more) = inr (more ∙ ap (λ z. option_or z (cond (d && t) (Some f) None)) first ∙ both_added o c d t f)
 
 pub second-within : (f g : Rule → Bool) (tested : Tested) (e : Seen) (past : List Seen) (old mid new : FaultMap)
     → GrowsBy f tested e past old mid → GrowsByWithin g tested e past mid new → GrowsByWithin (λ r. f r || g r) tested e past old new
@@ -196,12 +197,12 @@ second-within f g tested e past old mid new p q = record {
 -- ---- the fate of the latest connection
 
 pub fate-step : (role : Role) (seen : List Seen) (i : ℕ) (e : Seen) (fate after : Option Fate) → i < length seen → e ≡ get_or seen i e → fate ≡ latest_fate role (reverse (take i seen))
-    → after ≡ cond (is_open e.note) None (or_else fate (decides role e.note)) → after ≡ latest_fate role (reverse (take (i + 1) seen))
+    → after ≡ cond (is_open e.note) None (option_or fate (decides role e.note)) → after ≡ latest_fate role (reverse (take (i + 1) seen))
 fate-step role seen i e fate after lt is at then_so =
-    then_so ∙ ap (λ f. cond (is_open e.note) None (or_else f (decides role e.note))) at ∙ sym (latest_fate-next role e (reverse (take i seen))) ∙ ap (latest_fate role) (sym (newest-at seen i e lt is))
+    then_so ∙ ap (λ f. cond (is_open e.note) None (option_or f (decides role e.note))) at ∙ sym (latest_fate-next role e (reverse (take i seen))) ∙ ap (latest_fate role) (sym (newest-at seen i e lt is))
 
 -- an event that begins nothing leaves a fate that is decided
-pub fate-kept : (role : Role) (n : Note) (fate : Option Fate) → is_some fate ≡ true → is_open n ≡ false → fate ≡ cond (is_open n) None (or_else fate (decides role n))
+pub fate-kept : (role : Role) (n : Note) (fate : Option Fate) → is_some fate ≡ true → is_open n ≡ false → fate ≡ cond (is_open n) None (option_or fate (decides role n))
 fate-kept role n None decided goes_on = absurd (cc)
 fate-kept role n (Some f) decided goes_on = sym (ap (λ b. cond b None (Some f)) goes_on)
 

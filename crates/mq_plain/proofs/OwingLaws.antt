@@ -16,9 +16,9 @@ use Rattle.mq_rules.specs.declared.packet_note.PublishNote.{PublishNote}
 use Rattle.mq_rules.specs.Moments.{Moment, newest, position, note, moments, moment, is_same, some, since, IsPlaced}
 use Rattle.mq_rules.specs.Connections.{begun, number, connection, session, has_session, begins, accepted, resumed, voided, any_accepted, latest_fate}
 use Rattle.mq_rules.specs.declared.fate.Fate.TheVariants.{Void, New, Resumed}
-use Rattle.mq_rules.specs.Identifiers.{opens, closes, is_used_up, has_announced, shows_S06}
+use Rattle.mq_rules.specs.Identifiers.{opens_id, closes_id, is_used_up, has_announced, shows_S06}
 use Rattle.mq_rules.proofs.Exports.{and_false, or_false, moment-newest, moment-older, moment-beginning, moment-placed, among-moment, those-among, some-among, among-some}
-use Rattle.mq_plain.specs.Owing.{moves, confirms, sends, is_owed, owes}
+use Rattle.mq_plain.specs.Owing.{moves, confirms, sends_under, is_owed, owes}
 use Rattle.mq_plain.specs.Shown.{IsShown}
 use Rattle.mq_plain.proofs.MarkedLaws.{IsMarked, since-newest, since-begun, marked-start, marked-step}
 use Rattle.mq_plain.proofs.PlacesLaws.{IsGiven, moment-zero, given-start, given-step, given-shown}
@@ -182,7 +182,7 @@ opener-delivery i n h = go (sent_publish n) h
 
 -- an opener on the connection is itself sent there
 here-again : (past : List Seen) (k i : ℕ) (m : Moment) → moment past k ≡ Some m → opener_of (note m) ≡ Some i → some (is_same m) (connection past) ≡ true
-    → some (λ n. sends i (note n)) (connection past) ≡ true
+    → some (λ n. sends_under i (note n)) (connection past) ≡ true
 here-again past k i m at opener here =
     let found = some-among (is_same m) (connection past) here in
     let n = found.0 in
@@ -191,19 +191,19 @@ here-again past k i m at opener here =
     let its : k ≡ position m = (moment-beginning past k m at).at in
     let same : Some m ≡ Some n = sym at ∙ ap (moment past) (its ∙ spot) ∙ one in
     let delivers : delivery_of (note n) ≡ Some i = subst (λ (l : Moment). delivery_of (note l) ≡ Some i) (only_one m n same) (opener-delivery i (note m) opener) in
-    let passes : sends i (note n) ≡ true = ap (λ o. is_id i o || is_id i (sent_as pubrel_in (note n))) delivers ∙ ap (λ b. b || is_id i (sent_as pubrel_in (note n))) (eq-eqb i i refl) in
-    among-some (λ l. sends i (note l)) (connection past) n found.1 passes
+    let passes : sends_under i (note n) ≡ true = ap (λ o. is_id i o || is_id i (sent_as pubrel_in (note n))) delivers ∙ ap (λ b. b || is_id i (sent_as pubrel_in (note n))) (eq-eqb i i refl) in
+    among-some (λ l. sends_under i (note l)) (connection past) n found.1 passes
   where
     only_one : (a b : Moment) → ◌≡◌ {A = Option Moment} (Some a) (Some b) → a ≡ b
     only_one a b h = cc
 
 shows-owes : (role : Role) (d : Seen) (past : List Seen) (again : ℕ → Bool) (lenient : Bool) (k : ℕ) (m : Moment) → moment past k ≡ Some m → latest_fate role past ≡ Some Resumed
-    → ((i : ℕ) → again i ≡ some (λ n. sends i (note n)) (connection past)) → lenient ≡ (is_used_up role (newest d past) || has_announced role (newest d past))
+    → ((i : ℕ) → again i ≡ some (λ n. sends_under i (note n)) (connection past)) → lenient ≡ (is_used_up role (newest d past) || has_announced role (newest d past))
     → shows_S06 role (newest d past) m ≡ owes lenient again (session role (Some Resumed) past) m
 unfolding shows_S06
 shows-owes role d past again lenient k m at fate sent allowed =
-    ap (λ f. resumed f && is_some_and (λ i. since (is_same m) (λ n. opens i n || closes i n) (session role f past)
-    && (not (some (is_same m) (connection past)) && (not (some (λ n. sends i (note n)) (connection past))
+    ap (λ f. resumed f && is_some_and (λ i. since (is_same m) (λ n. opens_id i n || closes_id i n) (session role f past)
+    && (not (some (is_same m) (connection past)) && (not (some (λ n. sends_under i (note n)) (connection past))
     && not (since (is_same m) (λ n. confirms i (note n)) (session role f past) && (is_used_up role (newest d past) || has_announced role (newest d past)))))) (opener_of (note m))) fate
     ∙ go (opener_of (note m)) refl
   where
@@ -214,13 +214,13 @@ shows-owes role d past again lenient k m at fate sent allowed =
 
     go : (o : Option ℕ) → opener_of (note m) ≡ o
         → is_some_and (λ i. since (is_same m) (λ n. moves i (note n)) (session role (Some Resumed) past)
-        && (not (some (is_same m) (connection past)) && (not (some (λ n. sends i (note n)) (connection past))
+        && (not (some (is_same m) (connection past)) && (not (some (λ n. sends_under i (note n)) (connection past))
         && not (since (is_same m) (λ n. confirms i (note n)) (session role (Some Resumed) past) && (is_used_up role (newest d past) || has_announced role (newest d past)))))) o
         ≡ is_some_and (λ i. since (is_same m) (λ n. moves i (note n)) (session role (Some Resumed) past)
         && (not (again i) && not (since (is_same m) (λ n. confirms i (note n)) (session role (Some Resumed) past) && lenient))) o
     go None is = refl
     go (Some i) is =
-        bits (since (is_same m) (λ n. moves i (note n)) (session role (Some Resumed) past)) (some (is_same m) (connection past)) (some (λ n. sends i (note n)) (connection past))
+        bits (since (is_same m) (λ n. moves i (note n)) (session role (Some Resumed) past)) (some (is_same m) (connection past)) (some (λ n. sends_under i (note n)) (connection past))
         (not (since (is_same m) (λ n. confirms i (note n)) (session role (Some Resumed) past) && (is_used_up role (newest d past) || has_announced role (newest d past)))) (here-again past k i m at is)
         ∙ ap (λ g. since (is_same m) (λ n. moves i (note n)) (session role (Some Resumed) past)
         && (not g && not (since (is_same m) (λ n. confirms i (note n)) (session role (Some Resumed) past) && (is_used_up role (newest d past) || has_announced role (newest d past))))) (sym (sent i))
@@ -234,7 +234,7 @@ resumed-is (Some New) h = absurd (cc)
 resumed-is (Some Resumed) h = refl
 
 pub shown-owed : (role : Role) (d : Seen) (past : List Seen) (again : ℕ → Bool) (lenient : Bool) (places : List Place3) → latest_fate role past ≡ Some Resumed
-    → ((i : ℕ) → again i ≡ some (λ n. sends i (note n)) (connection past)) → lenient ≡ (is_used_up role (newest d past) || has_announced role (newest d past))
+    → ((i : ℕ) → again i ≡ some (λ n. sends_under i (note n)) (connection past)) → lenient ≡ (is_used_up role (newest d past) || has_announced role (newest d past))
     → IsShown (owes lenient again (session role (Some Resumed) past)) past places → IsShown (shows_S06 role (newest d past)) past places
 shown-owed role d past again lenient places fate sent allowed shown = record { each = λ k. shown.each k ∙ go k (moment past k) refl; own = shown.own }
   where

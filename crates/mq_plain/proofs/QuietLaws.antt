@@ -1,7 +1,7 @@
 -- At a quiet event no statement on a session turns out false, nor at a REST before which nothing asks.
 use Rattle.std.proofs.Common.{◌≡◌, ℕ, ◌+◌, Bool, true, false, cond, ◌&&◌, ◌||◌, not, nat_lt, zero, List, [], ◌∷◌, length, Option, Some, None, refl, ap, sym, ◌∙◌, arith, ◌==◌, ◌⊎◌, inl, inr}
 use Rattle.std.specs.Prelude.{is_some}
-use Rattle.std.specs.Option.{option_and_then}
+use Rattle.std.specs.Option.{option_and_then, option_or}
 use Rattle.std.proofs.lemmas.Bool.Decides.{nat_tests}
 use Rattle.mq_rules.specs.declared.role.Role.{Role}
 use Rattle.mq_rules.specs.declared.role.Role.TheVariants.{Client, Server}
@@ -16,7 +16,7 @@ use Rattle.mq_rules.specs.declared.note.Seen.{Seen}
 use Rattle.mq_rules.specs.declared.packet_note.PacketFields.{PacketFields}
 use Rattle.mq_rules.specs.declared.packet_note.PacketFields.TheVariants.{Publish, Puback, Pubrec, Pubrel, Pubcomp, Subscribe, Suback, Unsubscribe, Unsuback}
 use Rattle.mq_rules.specs.declared.packet_note.PublishNote.{PublishNote}
-use Rattle.mq_rules.specs.Words.{or_else, is_some_and, only}
+use Rattle.mq_rules.specs.Words.{is_some_and, only}
 use Rattle.mq_rules.specs.declared.packet_note.PacketFields.TheVariants as fields
 use Rattle.mq_packet.specs.declared.packet.Qos.{Qos}
 use Rattle.mq_packet.specs.declared.packet.Qos.TheVariants as quality
@@ -33,15 +33,15 @@ use Rattle.mq_rules.specs.Subscriptions.{breaks_B01, breaks_B02, breaks_B03, bre
 use Rattle.mq_rules.specs.Marks.{FaultMap, fault_at}
 use Rattle.mq_rules.specs.Faults.{reported}
 use Rattle.mq_rules.specs.Keeping.{GrowsBy}
-use Rattle.mq_rules.proofs.Exports.{and_false, or_false, both_true, or_else-none, in_order-turns, in_order-releases}
-use Rattle.mq_plain.specs.Chosen.{is_plain_se, is_plain_lb, is_plain}
+use Rattle.mq_rules.proofs.Exports.{and_false, or_false, both_true, option_or-none, in_order-turns, in_order-releases}
+use Rattle.mq_plain.specs.Chosen.{is_plain_se, is_plain_lb, is_plain_rule}
 use Rattle.mq_plain.specs.Events.{is_client, is_spoken_of, is_quiet, is_asking, asks, some_asks, is_unacknowledged, is_idle, AreSilent}
 
 -- ---- what a quiet event is not
 
 -- what the statements look at of a packet that is sent
 record IsUnspoken (role : Role) (fields : Option PacketFields) : Type 0 where
-  pub taken : or_else (option_and_then opener_in (option_and_then publish_in fields)) (or_else (option_and_then subscribe_in fields) (option_and_then unsubscribe_in fields)) ≡ None
+  pub taken : option_or (option_and_then opener_in (option_and_then publish_in fields)) (option_or (option_and_then subscribe_in fields) (option_and_then unsubscribe_in fields)) ≡ None
   pub opener : option_and_then opener_in (option_and_then publish_in fields) ≡ None
   pub resend : option_and_then resend_in (option_and_then publish_in fields) ≡ None
   pub delivery : option_and_then delivery_in (option_and_then publish_in fields) ≡ None
@@ -69,7 +69,7 @@ unacknowledged p h =
     let delivery : delivery_in p ≡ None = ap (λ b. only b p.identifier) h in
     let opener : opener_in p ≡ None = ap (only (not p.duplicate)) delivery ∙ only-none (not p.duplicate) in
     record {
-      taken = ap (λ o. or_else o None) opener;
+      taken = ap (λ o. option_or o None) opener;
       opener = opener;
       resend = ap (only p.duplicate) delivery ∙ only-none p.duplicate;
       delivery = delivery;
@@ -244,7 +244,7 @@ unfolding found_line lines line_of
 only-servers-B02 Client releases h = absurd (cc)
 only-servers-B02 Server releases h = refl
 
-never : (role : Role) (releases : Bool) (rule : Rule) (e : Seen) (past : List Seen) → is_plain rule ≡ true → IsIdle role e past
+never : (role : Role) (releases : Bool) (rule : Rule) (e : Seen) (past : List Seen) → is_plain_rule rule ≡ true → IsIdle role e past
     → IsNever (binds rule (record { role = role; releases = releases })) (statement role rule) (newest e past)
 unfolding breaks_S01 breaks_S02 breaks_S03 breaks_S04 breaks_S05 breaks_S07 breaks_A breaks_O breaks_L1 breaks_L2 breaks_L3 breaks_B01 breaks_B02 breaks_B03 breaks_B04 shows_R shows_S06
 never role releases S01 e past chosen idle = λ bound f. none-passes _ _ (untaken role e.note idle.unspoken)
@@ -332,7 +332,7 @@ quiet-idle role e past quiet = record {
   unpinged = and-first _ _ (unbinding role e past (quiet-rest role e.note quiet));
 }
 
-silent : (tested : Tested) (e : Seen) (past : List Seen) (k : ℕ) (rule : Rule) → is_plain rule ≡ true → is_quiet tested.role e.note ≡ true → IsInOrder tested.role (e ∷ past)
+silent : (tested : Tested) (e : Seen) (past : List Seen) (k : ℕ) (rule : Rule) → is_plain_rule rule ≡ true → is_quiet tested.role e.note ≡ true → IsInOrder tested.role (e ∷ past)
     → turns tested e past k rule ≡ false
 silent tested e past k rule chosen quiet order =
     never-turns tested rule (statement tested.role rule) e past k refl (inl (unbinding tested.role e past (quiet-rest tested.role e.note quiet))) order
@@ -369,7 +369,7 @@ resting-release : (n : Note) → is_rest n ≡ true → released_id n ≡ None
 resting-release notes.Rest h = refl
 resting-release _ h = absurd (cc)
 
-resting : (tested : Tested) (e : Seen) (past : List Seen) (k : ℕ) (rule : Rule) → is_plain rule ≡ true → is_rest e.note ≡ true → some_asks past ≡ false → IsInOrder tested.role (e ∷ past)
+resting : (tested : Tested) (e : Seen) (past : List Seen) (k : ℕ) (rule : Rule) → is_plain_rule rule ≡ true → is_rest e.note ≡ true → some_asks past ≡ false → IsInOrder tested.role (e ∷ past)
     → turns tested e past k rule ≡ false
 resting tested e past k rule chosen rest unasked order =
     never-turns tested rule (statement tested.role rule) e past k refl (inr unasked) order
@@ -384,7 +384,7 @@ other-of : (a b : Bool) → b ≡ true → (a || b) ≡ true
 other-of true b h = refl
 other-of false b h = h
 
-pub silent_plain : AreSilent is_plain
+pub silent_plain : AreSilent is_plain_rule
 silent_plain = record { quiet = λ tested e past k rule chosen. silent tested e past k rule chosen; resting = λ tested e past k rule chosen. resting tested e past k rule chosen }
 
 pub silent_se : AreSilent is_plain_se
@@ -403,7 +403,7 @@ silent_lb = record {
 grows-none : (chosen : Rule → Bool) (tested : Tested) (e : Seen) (past : List Seen) (faults : FaultMap) → ((k : ℕ) (r : Rule) → chosen r ≡ true → turns tested e past k r ≡ false)
     → GrowsBy chosen tested e past faults faults
 grows-none chosen tested e past faults never = record {
-  each = λ k r. sym (ap (or_else (fault_at faults k r)) (go k r (chosen r) refl) ∙ or_else-none (fault_at faults k r));
+  each = λ k r. sym (ap (option_or (fault_at faults k r)) (go k r (chosen r) refl) ∙ option_or-none (fault_at faults k r));
 }
   where
     go : (k : ℕ) (r : Rule) (c : Bool) → chosen r ≡ c → cond (c && turns tested e past k r) (Some (reported tested.role (moment (e ∷ past) k) r (length past + 1))) None ≡ None

@@ -2,16 +2,16 @@
 use Rattle.std.proofs.Common.{◌≡◌, ℕ, zero, suc, ◌+◌, ◌-◌, ◌<◌, ◌≤◌, ◌==◌, Bool, true, false, cond, ◌&&◌, ◌||◌, nat_lt, nat_le, List, [], ◌∷◌, Option, Some, None, refl, ap, sym, ◌∙◌, arith}
 use Rattle.std.specs.Prelude.{is_some}
 use Rattle.std.proofs.lemmas.Bool.{eqb-true, lt-ltb, ltb-true, le-ltb, le-leb, leb-true}
+use Rattle.std.specs.Option.{option_or}
 use Rattle.mq_rules.specs.declared.role.Role.{Role}
 use Rattle.mq_rules.specs.declared.role.Role.TheVariants.{Client, Server}
 use Rattle.mq_rules.specs.declared.note.Note.{Note}
 use Rattle.mq_rules.specs.declared.note.Note.TheVariants as notes
 use Rattle.mq_rules.specs.declared.note.Seen.{Seen}
-use Rattle.mq_rules.specs.Words.{or_else}
 use Rattle.mq_rules.specs.Notes.{is_open, delivery_of, closer_of, connack_of}
 use Rattle.mq_rules.specs.Moments.{Moment, newest, note, those, earliest, count, some_stretch}
 use Rattle.mq_rules.specs.Connections.{connection}
-use Rattle.mq_rules.specs.Pasts.{receive_maximum}
+use Rattle.mq_rules.specs.Pasts.{peer_receive_maximum}
 use Rattle.mq_rules.specs.Identifiers.{is_delivery, is_closer, counts, passes, breaks_S07, is_used_up}
 use Rattle.mq_rules.proofs.Exports.{same_test, both_true, connection-next}
 use Rattle.mq_plain.specs.Quota.{counted, room_back}
@@ -119,9 +119,9 @@ counted-next role e past = ap (those (counts role)) (connection-next e past) ∙
 uncounted-before : (role : Role) (d e : Seen) (past : List Seen) → is_open e.note ≡ false → counts role (newest d (e ∷ past)) ≡ false → counts role (newest e past) ≡ false
 uncounted-before Client d e past opens h =
     go (earliest (connack_of Client) (connection past)) (connack_of Client e.note)
-    (sym (ap is_some (earliest-next (connack_of Client) e past ∙ ap (λ b. or_else (cond b None (earliest (connack_of Client) (connection past))) (connack_of Client e.note)) opens)) ∙ h)
+    (sym (ap is_some (earliest-next (connack_of Client) e past ∙ ap (λ b. option_or (cond b None (earliest (connack_of Client) (connection past))) (connack_of Client e.note)) opens)) ∙ h)
   where
-    go : {A : Type 0} (o p : Option A) → is_some (or_else o p) ≡ false → is_some o ≡ false
+    go : {A : Type 0} (o p : Option A) → is_some (option_or o p) ≡ false → is_some o ≡ false
     go None p h = refl
     go (Some a) p h = h
 uncounted-before Server d e past opens h = absurd (cc)
@@ -196,14 +196,14 @@ at_start room = none_over (room + 0)
 used : ℕ → List Moment → Bool
 used most s = nat_le (most + count is_closer s) (count is_delivery s)
 
-pub used_up : (role : Role) (room most : ℕ) (e : Seen) (past : List Seen) → most ≡ receive_maximum role (newest e past) → most ≡ room + 1
+pub used_up : (role : Role) (room most : ℕ) (e : Seen) (past : List Seen) → most ≡ peer_receive_maximum role (newest e past) → most ≡ room + 1
     → is_used_up role (newest e past) ≡ passes room (counted role past)
 unfolding used under
 used_up role room most e past is more =
     ap (λ n. some_stretch (used n) (counted role past)) (sym is ∙ more)
     ∙ stretch-same (used (room + 1)) (under room) (counted role past) (λ s. strict (room + 1 + count is_closer s) (count is_delivery s) (room + count is_closer s) (count is_delivery s) (omega arith))
 
-pub used_up-none : (role : Role) (most : ℕ) (e : Seen) (past : List Seen) → most ≡ receive_maximum role (newest e past) → most ≡ 0 → is_used_up role (newest e past) ≡ true
+pub used_up-none : (role : Role) (most : ℕ) (e : Seen) (past : List Seen) → most ≡ peer_receive_maximum role (newest e past) → most ≡ 0 → is_used_up role (newest e past) ≡ true
 unfolding used
 used_up-none role most e past is none =
     ap (λ n. some_stretch (used n) (counted role past)) (sym is ∙ none) ∙ stretch-first (used 0) (counted role past) refl
@@ -216,12 +216,12 @@ over_quota role e past delivers counting full is_delivered is_counted is_full =
     rw (is_delivered, is_counted, is_full) (go (is_delivery (newest e past)) refl)
   where
     go : (d : Bool) → is_delivery (newest e past) ≡ d → (d && (counts role (newest e past) && is_used_up role (newest e past)))
-        ≡ (d && (counts role (newest e past) && passes (receive_maximum role (newest e past)) (newest e past ∷ counted role past)))
+        ≡ (d && (counts role (newest e past) && passes (peer_receive_maximum role (newest e past)) (newest e past ∷ counted role past)))
     go false is = refl
-    go true is = ap (λ b. counts role (newest e past) && b) (sym (passes-first (receive_maximum role (newest e past)) (newest e past) (counted role past)
-        ∙ stretch-same (over (receive_maximum role (newest e past)) (is_delivery (newest e past)) (is_closer (newest e past))) (used (receive_maximum role (newest e past))) (counted role past)
-        (λ s. ap (λ d. over (receive_maximum role (newest e past)) d (is_closer (newest e past)) s) is ∙ ap (λ c. over (receive_maximum role (newest e past)) true c s) (apart e.note is)
-        ∙ sym (strict (receive_maximum role (newest e past) + count is_closer s) (count is_delivery s) (receive_maximum role (newest e past) + (0 + count is_closer s)) (1 + count is_delivery s) (omega arith)))))
+    go true is = ap (λ b. counts role (newest e past) && b) (sym (passes-first (peer_receive_maximum role (newest e past)) (newest e past) (counted role past)
+        ∙ stretch-same (over (peer_receive_maximum role (newest e past)) (is_delivery (newest e past)) (is_closer (newest e past))) (used (peer_receive_maximum role (newest e past))) (counted role past)
+        (λ s. ap (λ d. over (peer_receive_maximum role (newest e past)) d (is_closer (newest e past)) s) is ∙ ap (λ c. over (peer_receive_maximum role (newest e past)) true c s) (apart e.note is)
+        ∙ sym (strict (peer_receive_maximum role (newest e past) + count is_closer s) (count is_delivery s) (peer_receive_maximum role (newest e past) + (0 + count is_closer s)) (1 + count is_delivery s) (omega arith)))))
 
 -- an event gives back one at most
 pub room_back-bound : (n : Note) (room next : ℕ) → next ≡ room_back n room → next < room + 2

@@ -7,7 +7,7 @@ use Rattle.mq_rules.specs.Words.{is_id, is_some_and}
 use Rattle.mq_rules.specs.Notes.{is_open, delivery_of, opener_of, sent_publish, is_exactly_once}
 use Rattle.mq_rules.specs.Moments.{Moment, note, moments, some, since, latest}
 use Rattle.mq_rules.specs.Connections.{begun, number, fate, latest_fate, session, voided}
-use Rattle.mq_rules.specs.Identifiers.{opens, delivers}
+use Rattle.mq_rules.specs.Identifiers.{opens_id, delivers}
 use Rattle.mq_rules.proofs.Exports.{or_false, begun-least, begun-open, begun-same, fate-elsewhere}
 use Rattle.mq_plain.specs.Resends.{is_void_delivery, is_last_exactly_once}
 
@@ -25,7 +25,7 @@ of_latest p t (m ∷ ms) = go (p m) (t m) (of_latest p t ms) refl refl
 pub since_latest : (role : Role) (f : Fate) (i : ℕ) (past : List Seen)
     → since (λ m. is_id i (opener_of (note m)) && is_some_and (λ p. is_exactly_once p.qos) (sent_publish (note m))) (λ m. is_id i (opener_of (note m))) (session role (Some f) past)
     ≡ is_last_exactly_once role f i past
-since_latest role f i past = sym (of_latest (opens i) (λ m. is_some_and (λ p. is_exactly_once p.qos) (sent_publish (note m))) (session role (Some f) past))
+since_latest role f i past = sym (of_latest (opens_id i) (λ m. is_some_and (λ p. is_exactly_once p.qos) (sent_publish (note m))) (session role (Some f) past))
 
 -- ---- what was sent on a void connection
 

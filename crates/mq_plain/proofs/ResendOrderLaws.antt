@@ -10,7 +10,7 @@ use Rattle.mq_rules.specs.Words.{is_id, is_some_and}
 use Rattle.mq_rules.specs.Notes.{is_open, is_release, opener_of, closer_of, resend_of}
 use Rattle.mq_rules.specs.Moments.{Moment, newest, note, position, some, since, latest}
 use Rattle.mq_rules.specs.Connections.{connection, latest_fate, session, has_session, with_first, begins, accepted, voided, any_accepted}
-use Rattle.mq_rules.specs.Identifiers.{opens, closes, is_open_at, latest_opener, comes_after}
+use Rattle.mq_rules.specs.Identifiers.{opens_id, closes_id, is_open_at, latest_opener, comes_after}
 use Rattle.mq_rules.proofs.Exports.{and_false, both_true, or_parts, or_left, or_right, same_test, some-next}
 use Rattle.mq_plain.specs.Lookback.{is_open_after}
 use Rattle.mq_plain.specs.Resends.{is_overtaken}
@@ -75,20 +75,20 @@ session_rest role f e past h = ap (with_first (has_session role f e past) (newes
     go false fresh h = refl
 
 latest_next : (role : Role) (f : Option Fate) (e : Seen) (past : List Seen) (o : ℕ) → (is_open e.note && begins f) ≡ false
-    → latest (opens o) (session role f (e ∷ past))
-    ≡ cond (accepted f && is_id o (opener_of e.note)) (Some (newest e past)) (latest (opens o) (session role (cond (is_open e.note) (latest_fate role past) f) past))
+    → latest (opens_id o) (session role f (e ∷ past))
+    ≡ cond (accepted f && is_id o (opener_of e.note)) (Some (newest e past)) (latest (opens_id o) (session role (cond (is_open e.note) (latest_fate role past) f) past))
 latest_next role f e past o h =
-    ap (latest (opens o)) (session_rest role f e past h)
-    ∙ first_latest (opens o) (has_session role f e past) (newest e past) (session role (cond (is_open e.note) (latest_fate role past) f) past)
-    ∙ ap (λ b. cond b (Some (newest e past)) (latest (opens o) (session role (cond (is_open e.note) (latest_fate role past) f) past))) (opener_in e.note (accepted f) (voided f && any_accepted role f past) o)
+    ap (latest (opens_id o)) (session_rest role f e past h)
+    ∙ first_latest (opens_id o) (has_session role f e past) (newest e past) (session role (cond (is_open e.note) (latest_fate role past) f) past)
+    ∙ ap (λ b. cond b (Some (newest e past)) (latest (opens_id o) (session role (cond (is_open e.note) (latest_fate role past) f) past))) (opener_in e.note (accepted f) (voided f && any_accepted role f past) o)
 
 since_next : (role : Role) (f : Option Fate) (e : Seen) (past : List Seen) (o : ℕ) → (is_open e.note && begins f) ≡ false
-    → since (opens o) (closes o) (session role f (e ∷ past))
-    ≡ ((accepted f && is_id o (opener_of e.note)) || (not (accepted f && is_id o (closer_of e.note)) && since (opens o) (closes o) (session role (cond (is_open e.note) (latest_fate role past) f) past)))
+    → since (opens_id o) (closes_id o) (session role f (e ∷ past))
+    ≡ ((accepted f && is_id o (opener_of e.note)) || (not (accepted f && is_id o (closer_of e.note)) && since (opens_id o) (closes_id o) (session role (cond (is_open e.note) (latest_fate role past) f) past)))
 since_next role f e past o h =
-    let rest : Bool = since (opens o) (closes o) (session role (cond (is_open e.note) (latest_fate role past) f) past) in
-    ap (since (opens o) (closes o)) (session_rest role f e past h)
-    ∙ first_since (opens o) (closes o) (has_session role f e past) (newest e past) (session role (cond (is_open e.note) (latest_fate role past) f) past)
+    let rest : Bool = since (opens_id o) (closes_id o) (session role (cond (is_open e.note) (latest_fate role past) f) past) in
+    ap (since (opens_id o) (closes_id o)) (session_rest role f e past h)
+    ∙ first_since (opens_id o) (closes_id o) (has_session role f e past) (newest e past) (session role (cond (is_open e.note) (latest_fate role past) f) past)
     ∙ ap (λ b. b || (not (has_session role f e past && is_id o (closer_of e.note)) && rest)) (opener_in e.note (accepted f) (voided f && any_accepted role f past) o)
     ∙ ap (λ b. (accepted f && is_id o (opener_of e.note)) || (not b && rest)) (closer_in e.note (accepted f) (voided f && any_accepted role f past) o)
 
@@ -96,7 +96,7 @@ since_next role f e past o h =
 
 -- it is open in these moments, and its latest opener among them is later than this position
 abbrev opened_later : ℕ → ℕ → List Moment → Bool
-opened_later p o ms = since (opens o) (closes o) ms && is_some_and (λ m. nat_lt p (position m)) (latest (opens o) ms)
+opened_later p o ms = since (opens_id o) (closes_id o) ms && is_some_and (λ m. nat_lt p (position m)) (latest (opens_id o) ms)
 
 -- it was sent again on the latest connection, where it was opened later
 abbrev resent_later : Role → ℕ → ℕ → Option Fate → List Seen → Bool
@@ -134,9 +134,9 @@ found_next : (role : Role) (p o : ℕ) (f : Option Fate) (on : Bool) (met : ℕ 
     → found role p o f on (met o) (e ∷ past)
     ≡ found role p o (cond (is_open e.note) (latest_fate role past) f) (on && not (is_open e.note)) (met_before (accepted f) on met e.note o) past
 found_next role p o f on met e past h none =
-    ap (λ b. (met o && (b && is_some_and (λ m. nat_lt p (position m)) (latest (opens o) (session role f (e ∷ past))))) || (on && resent_later role p o f (e ∷ past))) (since_next role f e past o h)
+    ap (λ b. (met o && (b && is_some_and (λ m. nat_lt p (position m)) (latest (opens_id o) (session role f (e ∷ past))))) || (on && resent_later role p o f (e ∷ past))) (since_next role f e past o h)
     ∙ ap (λ l. (met o && ((a || (not c && rest)) && is_some_and (λ m. nat_lt p (position m)) l)) || (on && resent_later role p o f (e ∷ past))) (latest_next role f e past o h)
-    ∙ ap (λ b. b || (on && resent_later role p o f (e ∷ past))) (one_met p (newest e past) (latest (opens o) (session role (cond (is_open e.note) (latest_fate role past) f) past)) (met o) a c rest none)
+    ∙ ap (λ b. b || (on && resent_later role p o f (e ∷ past))) (one_met p (newest e past) (latest (opens_id o) (session role (cond (is_open e.note) (latest_fate role past) f) past)) (met o) a c rest none)
     ∙ ap (λ b. ((not c && met o) && opened_later p o (session role (cond (is_open e.note) (latest_fate role past) f) past)) || (on && b))
     (some-next (λ j. is_id o (resend_of (note j)) && opened_later p o (session role f j.past)) e past)
     ∙ go (is_open e.note) refl
@@ -151,7 +151,7 @@ found_next role p o f on met e past h none =
     r = is_id o (resend_of e.note)
 
     rest : Bool
-    rest = since (opens o) (closes o) (session role (cond (is_open e.note) (latest_fate role past) f) past)
+    rest = since (opens_id o) (closes_id o) (session role (cond (is_open e.note) (latest_fate role past) f) past)
 
     go : (first : Bool) → is_open e.note ≡ first
         → (((not c && met o) && opened_later p o (session role (cond first (latest_fate role past) f) past)) || (on && ((r && opened_later p o (session role f past)) || (not first && resent_later role p o f past))))
@@ -180,13 +180,13 @@ latest_within test role f (e ∷ past) n at =
     go false false fresh at before same = more (same at)
 
 none_later : (role : Role) (p o : ℕ) (f : Option Fate) (log : List Seen) → length log ≤ p → opened_later p o (session role f log) ≡ false
-none_later role p o f log le = go (latest (opens o) (session role f log)) refl
+none_later role p o f log le = go (latest (opens_id o) (session role f log)) refl
   where
-    go : (l : Option Moment) → latest (opens o) (session role f log) ≡ l → (since (opens o) (closes o) (session role f log) && is_some_and (λ m. nat_lt p (position m)) l) ≡ false
-    go None is = and_false (since (opens o) (closes o) (session role f log))
+    go : (l : Option Moment) → latest (opens_id o) (session role f log) ≡ l → (since (opens_id o) (closes_id o) (session role f log) && is_some_and (λ m. nat_lt p (position m)) l) ≡ false
+    go None is = and_false (since (opens_id o) (closes_id o) (session role f log))
     go (Some n) is =
-        let within = latest_within (opens o) role f log n is in
-        ap (λ b. since (opens o) (closes o) (session role f log) && b) (le-ltb p (position n) (omega arith)) ∙ and_false (since (opens o) (closes o) (session role f log))
+        let within = latest_within (opens_id o) role f log n is in
+        ap (λ b. since (opens_id o) (closes_id o) (session role f log) && b) (le-ltb p (position n) (omega arith)) ∙ and_false (since (opens_id o) (closes_id o) (session role f log))
 
 none_resent : (role : Role) (p o : ℕ) (f : Option Fate) (log : List Seen) → length log ≤ p → resent_later role p o f log ≡ false
 none_resent role p o f [] le = refl
@@ -219,17 +219,17 @@ none_found role p o f on met log le =
 
 -- the latest opener that is looked for stands in front here, or further back
 ahead : (role : Role) (i : ℕ) (f : Option Fate) (e : Seen) (past : List Seen) (n : Moment) → (is_open e.note && begins f) ≡ false → (accepted f && is_id i (opener_of e.note)) ≡ false
-    → latest (opens i) (session role f (e ∷ past)) ≡ Some n → latest (opens i) (session role (cond (is_open e.note) (latest_fate role past) f) past) ≡ Some n
+    → latest (opens_id i) (session role f (e ∷ past)) ≡ Some n → latest (opens_id i) (session role (cond (is_open e.note) (latest_fate role past) f) past) ≡ Some n
 ahead role i f e past n h none at =
-    sym (latest_next role f e past i h ∙ ap (λ b. cond b (Some (newest e past)) (latest (opens i) (session role (cond (is_open e.note) (latest_fate role past) f) past))) none) ∙ at
+    sym (latest_next role f e past i h ∙ ap (λ b. cond b (Some (newest e past)) (latest (opens_id i) (session role (cond (is_open e.note) (latest_fate role past) f) past))) none) ∙ at
 
 -- here it stands
 own_opener : (role : Role) (i : ℕ) (f : Option Fate) (e : Seen) (past : List Seen) (n : Moment) → (accepted f && is_id i (opener_of e.note)) ≡ true
-    → latest (opens i) (session role f (e ∷ past)) ≡ Some n → length (e ∷ past) ≤ position n
+    → latest (opens_id i) (session role f (e ∷ past)) ≡ Some n → length (e ∷ past) ≤ position n
 own_opener role i f e past n own at =
     let here : has_session role f e past && is_id i (opener_of e.note) ≡ true = opener_in e.note (accepted f) (voided f && any_accepted role f past) i ∙ own in
     let first : Some (newest e past) ≡ Some n =
-    sym (first_latest (opens i) (has_session role f e past) (newest e past) rest ∙ ap (λ b. cond b (Some (newest e past)) (latest (opens i) rest)) here) ∙ at in
+    sym (first_latest (opens_id i) (has_session role f e past) (newest e past) rest ∙ ap (λ b. cond b (Some (newest e past)) (latest (opens_id i) rest)) here) ∙ at in
     let is : newest e past ≡ n = cc in
     let same : length past + 1 ≡ position n = ap position is in
     omega arith
@@ -239,16 +239,16 @@ own_opener role i f e past n own at =
 
 -- the session that begins here has no opener further back
 none_before : (role : Role) (i : ℕ) (f : Option Fate) (e : Seen) (past : List Seen) (n : Moment) → (is_open e.note && begins f) ≡ true → (accepted f && is_id i (opener_of e.note)) ≡ false
-    → latest (opens i) (session role f (e ∷ past)) ≡ Some n → ⊥
+    → latest (opens_id i) (session role f (e ∷ past)) ≡ Some n → ⊥
 none_before role i f e past n h none at =
     let here : has_session role f e past && is_id i (opener_of e.note) ≡ false = opener_in e.note (accepted f) (voided f && any_accepted role f past) i ∙ none in
     go (is_open e.note) (begins f) h
-    (sym (first_latest (opens i) (has_session role f e past) (newest e past) rest ∙ ap (λ b. cond b (Some (newest e past)) (latest (opens i) rest)) here) ∙ at)
+    (sym (first_latest (opens_id i) (has_session role f e past) (newest e past) rest ∙ ap (λ b. cond b (Some (newest e past)) (latest (opens_id i) rest)) here) ∙ at)
   where
     rest : List Moment
     rest = cond (is_open e.note) (cond (begins f) [] (session role (latest_fate role past) past)) (session role f past)
 
-    go : (first fresh : Bool) → (first && fresh) ≡ true → latest (opens i) (cond first (cond fresh [] (session role (latest_fate role past) past)) (session role f past)) ≡ Some n → ⊥
+    go : (first fresh : Bool) → (first && fresh) ≡ true → latest (opens_id i) (cond first (cond fresh [] (session role (latest_fate role past) past)) (session role f past)) ≡ Some n → ⊥
     go true true h at = absurd (cc)
     go true false h at = absurd (cc)
     go false fresh h at = absurd (cc)
@@ -269,7 +269,7 @@ missed true met (Some j) o h = go (o == j) refl
     go false is = refl
 
 -- an opener of what was met comes later
-found_here : (role : Role) (i o : ℕ) (f : Option Fate) (on : Bool) (met : ℕ → Bool) (e : Seen) (past : List Seen) (n : Moment) → latest (opens i) (session role f (e ∷ past)) ≡ Some n
+found_here : (role : Role) (i o : ℕ) (f : Option Fate) (on : Bool) (met : ℕ → Bool) (e : Seen) (past : List Seen) (n : Moment) → latest (opens_id i) (session role f (e ∷ past)) ≡ Some n
     → (accepted f && is_id i (opener_of e.note)) ≡ false → (accepted f && is_id o (opener_of e.note)) ≡ true → met o ≡ true → found role (position n) o f on (met o) (e ∷ past) ≡ true
 found_here role i o f on met e past n at none own is_met =
     ap (λ b. (b && opened_later (position n) o (session role f (e ∷ past))) || (on && resent_later role (position n) o f (e ∷ past))) is_met
@@ -284,25 +284,25 @@ found_here role i o f on met e past n at none own is_met =
     not_here : has_session role f e past && is_id i (opener_of e.note) ≡ false
     not_here = opener_in e.note (accepted f) (voided f && any_accepted role f past) i ∙ none
 
-    before : latest (opens i) rest ≡ Some n
-    before = sym (first_latest (opens i) (has_session role f e past) (newest e past) rest ∙ ap (λ b. cond b (Some (newest e past)) (latest (opens i) rest)) not_here) ∙ at
+    before : latest (opens_id i) rest ≡ Some n
+    before = sym (first_latest (opens_id i) (has_session role f e past) (newest e past) rest ∙ ap (λ b. cond b (Some (newest e past)) (latest (opens_id i) rest)) not_here) ∙ at
 
-    less : (first fresh : Bool) → latest (opens i) (cond first (cond fresh [] (session role (latest_fate role past) past)) (session role f past)) ≡ Some n → position n < length past + 1
+    less : (first fresh : Bool) → latest (opens_id i) (cond first (cond fresh [] (session role (latest_fate role past) past)) (session role f past)) ≡ Some n → position n < length past + 1
     less true true at = absurd (cc)
-    less true false at = let le = latest_within (opens i) role (latest_fate role past) past n at in omega arith
-    less false fresh at = let le = latest_within (opens i) role f past n at in omega arith
+    less true false at = let le = latest_within (opens_id i) role (latest_fate role past) past n at in omega arith
+    less false fresh at = let le = latest_within (opens_id i) role f past n at in omega arith
 
     later : opened_later (position n) o (session role f (e ∷ past)) ≡ true
     later =
-        ap (λ b. b && is_some_and (λ m. nat_lt (position n) (position m)) (latest (opens o) (session role f (e ∷ past))))
-        (first_since (opens o) (closes o) (has_session role f e past) (newest e past) rest
-        ∙ ap (λ b. b || (not (has_session role f e past && is_id o (closer_of e.note)) && since (opens o) (closes o) rest)) here)
+        ap (λ b. b && is_some_and (λ m. nat_lt (position n) (position m)) (latest (opens_id o) (session role f (e ∷ past))))
+        (first_since (opens_id o) (closes_id o) (has_session role f e past) (newest e past) rest
+        ∙ ap (λ b. b || (not (has_session role f e past && is_id o (closer_of e.note)) && since (opens_id o) (closes_id o) rest)) here)
         ∙ ap (λ l. is_some_and (λ m. nat_lt (position n) (position m)) l)
-        (first_latest (opens o) (has_session role f e past) (newest e past) rest ∙ ap (λ b. cond b (Some (newest e past)) (latest (opens o) rest)) here)
+        (first_latest (opens_id o) (has_session role f e past) (newest e past) rest ∙ ap (λ b. cond b (Some (newest e past)) (latest (opens_id o) rest)) here)
         ∙ lt-ltb (position n) (length past + 1) (less (is_open e.note) (begins f) before)
 
 -- what it says is so
-sound : (role : Role) (i : ℕ) (n : Moment) (f : Option Fate) (on : Bool) (met : ℕ → Bool) (log : List Seen) → latest (opens i) (session role f log) ≡ Some n
+sound : (role : Role) (i : ℕ) (n : Moment) (f : Option Fate) (on : Bool) (met : ℕ → Bool) (log : List Seen) → latest (opens_id i) (session role f log) ≡ Some n
     → overtaken_back role i f on met log ≡ true → (o : ℕ) × (found role (position n) o f on (met o) log ≡ true)
 sound role i n f on met [] at h = absurd (cc)
 sound role i n f on met (e ∷ past) at h =
@@ -319,7 +319,7 @@ sound role i n f on met (e ∷ past) at h =
     Earlier = (o : ℕ) × (found role (position n) o (cond (is_open e.note) (latest_fate role past) f) (on && not (is_open e.note)) (met_before (accepted f) on met e.note o) past ≡ true)
 
     go : (s k b : Bool) → (accepted f && is_id i (opener_of e.note)) ≡ s → (accepted f && is_some_and met (opener_of e.note)) ≡ k → (is_open e.note && begins f) ≡ b
-        → (not s && (k || (not b && rest))) ≡ true → (latest (opens i) (session role (cond (is_open e.note) (latest_fate role past) f) past) ≡ Some n → rest ≡ true → Earlier) → Goal
+        → (not s && (k || (not b && rest))) ≡ true → (latest (opens_id i) (session role (cond (is_open e.note) (latest_fate role past) f) past) ≡ Some n → rest ≡ true → Earlier) → Goal
     go true k b own hit fresh h again = absurd (cc)
     go false true b own hit fresh h again =
         let there = hit_at (accepted f) met (opener_of e.note) hit in
@@ -330,7 +330,7 @@ sound role i n f on met (e ∷ past) at h =
         (there.0, found_next role (position n) there.0 f on met e past fresh (missed (accepted f) met (opener_of e.note) there.0 hit) ∙ there.1)
 
 -- and what is so it says
-complete : (role : Role) (i : ℕ) (n : Moment) (f : Option Fate) (on : Bool) (met : ℕ → Bool) (log : List Seen) (o : ℕ) → latest (opens i) (session role f log) ≡ Some n
+complete : (role : Role) (i : ℕ) (n : Moment) (f : Option Fate) (on : Bool) (met : ℕ → Bool) (log : List Seen) (o : ℕ) → latest (opens_id i) (session role f log) ≡ Some n
     → found role (position n) o f on (met o) log ≡ true → overtaken_back role i f on met log ≡ true
 complete role i n f on met [] o at h = absurd (cc)
 complete role i n f on met (e ∷ past) o at h =
@@ -341,7 +341,7 @@ complete role i n f on met (e ∷ past) o at h =
     rest = overtaken_back role i (cond (is_open e.note) (latest_fate role past) f) (on && not (is_open e.note)) (met_before (accepted f) on met e.note) past
 
     go : (s k b : Bool) → (accepted f && is_id i (opener_of e.note)) ≡ s → (accepted f && is_some_and met (opener_of e.note)) ≡ k → (is_open e.note && begins f) ≡ b
-        → (latest (opens i) (session role (cond (is_open e.note) (latest_fate role past) f) past) ≡ Some n
+        → (latest (opens_id i) (session role (cond (is_open e.note) (latest_fate role past) f) past) ≡ Some n
         → found role (position n) o (cond (is_open e.note) (latest_fate role past) f) (on && not (is_open e.note)) (met_before (accepted f) on met e.note o) past ≡ true → rest ≡ true)
         → (not s && (k || (not b && rest))) ≡ true
     go true k b own hit fresh again = absurd (let never = none_found role (position n) o f on (met o) (e ∷ past) (own_opener role i f e past n own at) in cc)
@@ -393,7 +393,7 @@ has_opener starts ends (m ∷ ms) h = go (starts m) (ends m) h (has_opener start
 
 -- ---- the whole look back, where nothing is met yet
 
-overtaken_at : (role : Role) (i : ℕ) (f : Fate) (met : ℕ → Bool) (log : List Seen) (n : Moment) → ((o : ℕ) → met o ≡ false) → latest (opens i) (session role (Some f) log) ≡ Some n
+overtaken_at : (role : Role) (i : ℕ) (f : Fate) (met : ℕ → Bool) (log : List Seen) (n : Moment) → ((o : ℕ) → met o ≡ false) → latest (opens_id i) (session role (Some f) log) ≡ Some n
     → overtaken_back role i (Some f) true met log ≡ is_overtaken role f i log
 overtaken_at role i f met log n none at = same_test (overtaken_back role i (Some f) true met log) (is_overtaken role f i log) to from
   where
@@ -418,7 +418,7 @@ overtaken_at role i f met log n none at = same_test (overtaken_back role i (Some
 
 pub overtaken_all : (role : Role) (i : ℕ) (f : Fate) (met : ℕ → Bool) (log : List Seen) → ((o : ℕ) → met o ≡ false) → is_open_after role f i log ≡ true
     → overtaken_back role i (Some f) true met log ≡ is_overtaken role f i log
-overtaken_all role i f met log none now = let there = has_opener (opens i) (closes i) (session role (Some f) log) now in overtaken_at role i f met log there.0 none there.1
+overtaken_all role i f met log none now = let there = has_opener (opens_id i) (closes_id i) (session role (Some f) log) now in overtaken_at role i f met log there.0 none there.1
 
 -- ---- one step of the loop
 

@@ -4,6 +4,7 @@ use Rattle.std.specs.Prelude.{option_map, is_some}
 use Rattle.std.specs.List.{list_any, AllByRecursion}
 use Rattle.std.proofs.lemmas.Bool.{eqb-true, eq-eqb}
 use Rattle.std.proofs.lemmas.List.Elements.{recursion_from_All}
+use Rattle.std.specs.Option.{option_or}
 use denote.Enum.Bare.{same_true}
 use Rattle.mq_trace.specs.declared.place.Place3.{Place3}
 use Rattle.mq_rules.specs.contracts.rule.Rule.{the_type}
@@ -11,7 +12,7 @@ use Rattle.mq_rules.specs.declared.role.Tested.{Tested}
 use Rattle.mq_rules.specs.declared.rule.Rule.{Rule}
 use Rattle.mq_rules.specs.declared.note.Seen.{Seen}
 use Rattle.mq_rules.specs.declared.fault.Fault.{Fault}
-use Rattle.mq_rules.specs.Words.{or_else, is_some_and}
+use Rattle.mq_rules.specs.Words.{is_some_and}
 use Rattle.mq_rules.specs.Moments.{Moment, newest, moment}
 use Rattle.mq_rules.specs.Connections.{is_binding}
 use Rattle.mq_rules.specs.Rules.{binds, same_rule}
@@ -20,7 +21,7 @@ use Rattle.mq_rules.specs.Steps.{shows, turns}
 use Rattle.mq_rules.specs.Marks.{FaultMap, fault_at, with_fault}
 use Rattle.mq_rules.specs.Faults.{record_of, offset_of, reported}
 use Rattle.mq_rules.specs.Keeping.{news, GrowsBy, GrowsByWithin}
-use Rattle.mq_rules.proofs.Exports.{and_false, or_else-none, same_test, fault_at-with_fault, moment-stays}
+use Rattle.mq_rules.proofs.Exports.{and_false, option_or-none, same_test, fault_at-with_fault, moment-stays}
 use Rattle.mq_plain.specs.Shown.{IsShown}
 use Rattle.mq_plain.specs.Blames.{place_at, decided_by, Blames, BlamesWithin}
 
@@ -28,13 +29,13 @@ use Rattle.mq_plain.specs.Blames.{place_at, decided_by, Blames, BlamesWithin}
 
 -- one place more is told where none before it has its position
 place_at-more : (places : List Place3) (i k : ℕ) (d : Place3) → i < length places
-    → place_at k (take (suc i) places) ≡ or_else (place_at k (take i places)) (cond (k == (get_or places i d).position) (Some (get_or places i d)) None)
+    → place_at k (take (suc i) places) ≡ option_or (place_at k (take i places)) (cond (k == (get_or places i d).position) (Some (get_or places i d)) None)
 place_at-more [] i k d h = absurd (omega arith)
 place_at-more (p ∷ places) zero k d h = refl
 place_at-more (p ∷ places) (suc i) k d h = go (k == p.position) (let lt : i < length places = omega arith in place_at-more places i k d lt)
   where
-    go : (b : Bool) → place_at k (take (suc i) places) ≡ or_else (place_at k (take i places)) (cond (k == (get_or places i d).position) (Some (get_or places i d)) None)
-        → cond b (Some p) (place_at k (take (suc i) places)) ≡ or_else (cond b (Some p) (place_at k (take i places))) (cond (k == (get_or places i d).position) (Some (get_or places i d)) None)
+    go : (b : Bool) → place_at k (take (suc i) places) ≡ option_or (place_at k (take i places)) (cond (k == (get_or places i d).position) (Some (get_or places i d)) None)
+        → cond b (Some p) (place_at k (take (suc i) places)) ≡ option_or (cond b (Some p) (place_at k (take i places))) (cond (k == (get_or places i d).position) (Some (get_or places i d)) None)
     go true rest = refl
     go false rest = rest
 
@@ -54,7 +55,7 @@ nothing true = refl
 nothing false = refl
 
 pub blames-start : (rule : Rule) (decided : ℕ) (faults : FaultMap) → Blames rule decided [] faults faults
-blames-start rule decided faults = record { each = λ k r. sym (ap (or_else (fault_at faults k r)) (nothing (same_rule r rule)) ∙ or_else-none (fault_at faults k r)) }
+blames-start rule decided faults = record { each = λ k r. sym (ap (option_or (fault_at faults k r)) (nothing (same_rule r rule)) ∙ option_or-none (fault_at faults k r)) }
 
 pub blames-more : (rule : Rule) (decided : ℕ) (places : List Place3) (i : ℕ) (d : Place3) (first old new : FaultMap) → i < length places
     → Blames rule decided (take i places) first old → new ≡ with_fault (record { position = (get_or places i d).position; rule = rule }) (decided_by decided (get_or places i d)) old
@@ -62,13 +63,13 @@ pub blames-more : (rule : Rule) (decided : ℕ) (places : List Place3) (i : ℕ)
 blames-more rule decided places i d first old new lt was now = record {
   each = λ k r.
       ap (λ m. fault_at m k r) now ∙ fault_at-with_fault old (get_or places i d).position k rule r (decided_by decided (get_or places i d))
-      ∙ ap (λ o. or_else o (cond ((k == (get_or places i d).position) && same_rule r rule) (Some (decided_by decided (get_or places i d))) None)) (was.each k r)
+      ∙ ap (λ o. option_or o (cond ((k == (get_or places i d).position) && same_rule r rule) (Some (decided_by decided (get_or places i d))) None)) (was.each k r)
       ∙ go (get_or places i d) (fault_at first k r) (same_rule r rule) (place_at k (take i places)) (k == (get_or places i d).position)
-      ∙ ap (λ o. or_else (fault_at first k r) (cond (same_rule r rule) (option_map (decided_by decided) o) None)) (sym (one_more k));
+      ∙ ap (λ o. option_or (fault_at first k r) (cond (same_rule r rule) (option_map (decided_by decided) o) None)) (sym (one_more k));
 }
   where
-    go : (p : Place3) (o : Option Fault) (s : Bool) (q : Option Place3) (t : Bool) → or_else (or_else o (cond s (option_map (decided_by decided) q) None)) (cond (t && s) (Some (decided_by decided p)) None)
-        ≡ or_else o (cond s (option_map (decided_by decided) (or_else q (cond t (Some p) None))) None)
+    go : (p : Place3) (o : Option Fault) (s : Bool) (q : Option Place3) (t : Bool) → option_or (option_or o (cond s (option_map (decided_by decided) q) None)) (cond (t && s) (Some (decided_by decided p)) None)
+        ≡ option_or o (cond s (option_map (decided_by decided) (option_or q (cond t (Some p) None))) None)
     go p (Some f) s q t = refl
     go p None true (Some q) t = refl
     go p None true None true = refl
@@ -79,18 +80,18 @@ blames-more rule decided places i d first old new lt was now = record {
     one : i + 1 ≡ suc i
     one = omega arith
 
-    one_more : (k : ℕ) → place_at k (take (i + 1) places) ≡ or_else (place_at k (take i places)) (cond (k == (get_or places i d).position) (Some (get_or places i d)) None)
+    one_more : (k : ℕ) → place_at k (take (i + 1) places) ≡ option_or (place_at k (take i places)) (cond (k == (get_or places i d).position) (Some (get_or places i d)) None)
     one_more k = ap (λ n. place_at k (take n places)) one ∙ place_at-more places i k d lt
 
 -- a refusal after the first places
 pub blames-part : (rule : Rule) (decided : ℕ) (places : List Place3) (i : ℕ) (old new : FaultMap) → Blames rule decided (take i places) old new → BlamesWithin rule decided places old new
 blames-part rule decided places i old new h = record { each = λ k r. go (fault_at new k r) (fault_at old k r) (same_rule r rule) (place_at k (take i places)) (place_at k places) (h.each k r) (place_at-later places i k) }
   where
-    go : (x o : Option Fault) (s : Bool) (here whole : Option Place3) → x ≡ or_else o (cond s (option_map (decided_by decided) here) None) → ((p : Place3) → here ≡ Some p → whole ≡ Some p)
-        → (x ≡ o) ⊎ (x ≡ or_else o (cond s (option_map (decided_by decided) whole) None))
-    go x o false here whole h later = inl (h ∙ or_else-none o)
-    go x o true None whole h later = inl (h ∙ or_else-none o)
-    go x o true (Some p) whole h later = inr (h ∙ ap (λ q. or_else o (option_map (decided_by decided) q)) (sym (later p refl)))
+    go : (x o : Option Fault) (s : Bool) (here whole : Option Place3) → x ≡ option_or o (cond s (option_map (decided_by decided) here) None) → ((p : Place3) → here ≡ Some p → whole ≡ Some p)
+        → (x ≡ o) ⊎ (x ≡ option_or o (cond s (option_map (decided_by decided) whole) None))
+    go x o false here whole h later = inl (h ∙ option_or-none o)
+    go x o true None whole h later = inl (h ∙ option_or-none o)
+    go x o true (Some p) whole h later = inr (h ∙ ap (λ q. option_or o (option_map (decided_by decided) q)) (sym (later p refl)))
 
 -- ---- what a REST shows
 
@@ -136,8 +137,8 @@ pub rest-none : (tested : Tested) (rule : Rule) (tells : Moment → Moment → B
     → (binds rule tested && is_binding tested.role (newest e past)) ≡ false → GrowsBy (λ r. same_rule r rule) tested e past faults faults
 unfolding shown_fault
 rest-none tested rule tells e past faults says none = record {
-  each = λ k r. sym (ap (or_else (fault_at faults k r)) (news-rest tested rule tells e past k r says
-      ∙ ap (λ b. cond (same_rule r rule) (shown_fault b (tells (newest e past)) past k) None) none ∙ nothing (same_rule r rule)) ∙ or_else-none (fault_at faults k r));
+  each = λ k r. sym (ap (option_or (fault_at faults k r)) (news-rest tested rule tells e past k r says
+      ∙ ap (λ b. cond (same_rule r rule) (shown_fault b (tells (newest e past)) past k) None) none ∙ nothing (same_rule r rule)) ∙ option_or-none (fault_at faults k r));
 }
 
 same_turned : (a b : ℕ) → (a == b) ≡ (b == a)
@@ -196,7 +197,7 @@ pub rest-shown : (tested : Tested) (rule : Rule) (tells : Moment → Moment → 
     → (binds rule tested && is_binding tested.role (newest e past)) ≡ true → decided ≡ length past + 1 → IsShown (tells (newest e past)) past places
     → Blames rule decided places old new → GrowsBy (λ r. same_rule r rule) tested e past old new
 rest-shown tested rule tells e past places decided old new says judged at shown blames = record {
-  each = λ k r. blames.each k r ∙ ap (or_else (fault_at old k r)) (news-shown tested rule tells e past places decided k r says judged at shown);
+  each = λ k r. blames.each k r ∙ ap (option_or (fault_at old k r)) (news-shown tested rule tells e past places decided k r says judged at shown);
 }
 
 pub rest-within : (tested : Tested) (rule : Rule) (tells : Moment → Moment → Bool) (e : Seen) (past : List Seen) (places : List Place3) (decided : ℕ) (old new : FaultMap) → statement tested.role rule ≡ at_rest tells
@@ -204,10 +205,10 @@ pub rest-within : (tested : Tested) (rule : Rule) (tells : Moment → Moment →
     → BlamesWithin rule decided places old new → GrowsByWithin (λ r. same_rule r rule) tested e past old new
 rest-within tested rule tells e past places decided old new says judged at shown blames = record { each = λ k r. go k r (blames.each k r) }
   where
-    go : (k : ℕ) (r : Rule) → (fault_at new k r ≡ fault_at old k r) ⊎ (fault_at new k r ≡ or_else (fault_at old k r) (cond (same_rule r rule) (option_map (decided_by decided) (place_at k places)) None))
-        → (fault_at new k r ≡ fault_at old k r) ⊎ (fault_at new k r ≡ or_else (fault_at old k r) (news (λ q. same_rule q rule) tested e past k r))
+    go : (k : ℕ) (r : Rule) → (fault_at new k r ≡ fault_at old k r) ⊎ (fault_at new k r ≡ option_or (fault_at old k r) (cond (same_rule r rule) (option_map (decided_by decided) (place_at k places)) None))
+        → (fault_at new k r ≡ fault_at old k r) ⊎ (fault_at new k r ≡ option_or (fault_at old k r) (news (λ q. same_rule q rule) tested e past k r))
     go k r (inl same) = inl same
-    go k r (inr more) = inr (more ∙ ap (or_else (fault_at old k r)) (news-shown tested rule tells e past places decided k r says judged at shown))
+    go k r (inr more) = inr (more ∙ ap (option_or (fault_at old k r)) (news-shown tested rule tells e past places decided k r says judged at shown))
 
 -- ---- whether it is judged
 

@@ -19,5 +19,5 @@ abbrev pub is_plain_lb : Rule → Bool
 is_plain_lb rule = is_one_of (L1 ∷ L2 ∷ L3 ∷ B01 ∷ B02 ∷ B03 ∷ B04 ∷ []) rule
 
 -- all of them
-abbrev pub is_plain : Rule → Bool
-is_plain rule = is_plain_se rule || is_plain_lb rule
+abbrev pub is_plain_rule : Rule → Bool
+is_plain_rule rule = is_plain_se rule || is_plain_lb rule

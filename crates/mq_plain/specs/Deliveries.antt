@@ -1,6 +1,6 @@
 -- What a server may deliver, found by looking back over a session.
 use Rattle.std.specs.Prelude.{ℕ, ◌==◌, nat_le, Bool, ◌&&◌, cond, List, [], ◌∷◌, length, Option, Some, None, not, unwrap_or}
-use Rattle.std.specs.Option.{option_and_then}
+use Rattle.std.specs.Option.{option_and_then, option_or}
 use Rattle.std.specs.List.{list_any}
 use Rattle.mq_topic.specs.Matching.{matches}
 use Rattle.mq_rules.specs.declared.role.Role.{Role}
@@ -9,7 +9,7 @@ use Rattle.mq_rules.specs.declared.note.Note.{Note}
 use Rattle.mq_rules.specs.declared.note.Seen.{Seen}
 use Rattle.mq_rules.specs.declared.text.NotedFilter.{NotedFilter}
 use Rattle.mq_rules.specs.declared.packet_note.PublishNote.{PublishNote}
-use Rattle.mq_rules.specs.Words.{is_some_and, or_else}
+use Rattle.mq_rules.specs.Words.{is_some_and}
 use Rattle.mq_rules.specs.Notes.{is_open, received_subscription, refuses}
 use Rattle.mq_rules.specs.Moments.{some}
 use Rattle.mq_rules.specs.Connections.{connection, session}
@@ -36,7 +36,7 @@ other_codes (code ∷ codes) = codes
 -- the Reason Codes of the first SUBACK that is sent under this identifier, among events with the oldest first, up to the next OPEN
 abbrev pub codes_ahead : ℕ → List Seen → Option (List ℕ)
 codes_ahead i [] = None
-codes_ahead i (e ∷ later) = cond (is_open e.note) None (or_else (codes_under i e.note) (codes_ahead i later))
+codes_ahead i (e ∷ later) = cond (is_open e.note) None (option_or (codes_under i e.note) (codes_ahead i later))
 
 -- some standing filter of a SUBSCRIBE allows the topic, given the events after it, the oldest first
 abbrev pub subscribes_to : List ℕ → ℕ → List Seen → Note → Bool

@@ -16,7 +16,7 @@ use Rattle.mq_plain.specs.declared.turn.Turn.{Turn}
 
 -- The event comes after these in a log whose events are placed and in order. The turn has the fate of the latest connection before it, and says whether the event
 -- is a REST that binds.
-pub record Comes (turn : Turn) (e : Seen) (past : List Seen) : Type 0 where
+pub record ComesNext (turn : Turn) (e : Seen) (past : List Seen) : Type 0 where
   pub is_placed : IsPlaced (e ∷ past)
   pub is_in_order : IsInOrder turn.tested.role (e ∷ past)
   pub is_decided : turn.fate ≡ latest_fate turn.tested.role past

@@ -8,9 +8,9 @@ use Rattle.mq_rules.specs.Words.{is_id, is_some_and}
 use Rattle.mq_rules.specs.Notes.{is_broken, sent_item, received_item, sent_fields, received_fields, disconnect_in, sent_as, received_as, subscribe_in, suback_in, unsubscribe_in, unsuback_in, received_publish, unmatched_pubrec_in}
 use Rattle.mq_rules.specs.Moments.{Moment, note, is_same, since, earliest_since}
 use Rattle.mq_rules.specs.Connections.{connection, session}
-use Rattle.mq_rules.specs.Identifiers.{opens, closes}
+use Rattle.mq_rules.specs.Identifiers.{opens_id, closes_id}
 use Rattle.mq_rules.specs.Exchanges.{subscribe_suback, unsubscribe_unsuback, causes, answers}
-use Rattle.mq_rules.specs.Releases.{brings, releases, ends}
+use Rattle.mq_rules.specs.Releases.{brings, releases_message, ends}
 
 -- an event that passes the first test decides yes, and one that passes only the second decides no
 abbrev pub answer_by : Bool → Bool → Option Bool
@@ -20,7 +20,7 @@ answer_by starts ends = cond starts (Some true) (cond ends (Some false) None)
 
 -- the identifier is open, if the latest connection has this fate
 abbrev pub is_open_after : Role → Fate → ℕ → List Seen → Bool
-is_open_after role f i past = since (opens i) (closes i) (session role (Some f) past)
+is_open_after role f i past = since (opens_id i) (closes_id i) (session role (Some f) past)
 
 -- a SUBSCRIBE, or an UNSUBSCRIBE, under it waits for its answer on the latest connection
 abbrev pub awaits_suback_after : ℕ → List Seen → Bool
@@ -46,7 +46,7 @@ abbrev pub is_brought_after : Role → Fate → ℕ → List Seen → Bool
 is_brought_after role f i past = since (brings i) (ends i) (session role (Some f) past)
 
 abbrev pub is_released_after : Role → Fate → ℕ → List Seen → Bool
-is_released_after role f i past = since (releases i) (ends i) (session role (Some f) past)
+is_released_after role f i past = since (releases_message i) (ends i) (session role (Some f) past)
 
 -- the first such PUBLISH
 abbrev pub first_brought_after : Role → Fate → ℕ → List Seen → Option Moment

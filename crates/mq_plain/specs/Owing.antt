@@ -12,8 +12,8 @@ moves i n = is_id i (opener_of n) || is_id i (closer_of n)
 abbrev pub confirms : ℕ → Note → Bool
 confirms i n = is_id i (received_as accepting_pubrec_in n)
 
-abbrev pub sends : ℕ → Note → Bool
-sends i n = is_id i (delivery_of n) || is_id i (sent_as pubrel_in n)
+abbrev pub sends_under : ℕ → Note → Bool
+sends_under i n = is_id i (delivery_of n) || is_id i (sent_as pubrel_in n)
 
 -- An opener is owed, given the identifiers that were sent again, and those that were moved, and confirmed, after it. If not all need be sent again (lenient),
 -- only those are owed that were confirmed.

@@ -14,8 +14,8 @@ abbrev pub first_index : Exchange → ℕ → List Seen → Option ℕ
 first_index x i past = option_map (λ m. length m.past) (earliest_since (causes x i) (answers x i) (connection past))
 
 -- what is known of an identifier, with an earlier event that is a cause under it, or an answer
-abbrev pub asked_at : Bool → ℕ → Slot → Slot
-asked_at asks index slot = cond asks (cond slot.is_answered slot (record { is_answered = slot.is_answered; first = Some index })) slot
+abbrev pub asking_at : Bool → ℕ → Slot → Slot
+asking_at asks index slot = cond asks (cond slot.is_answered slot (record { is_answered = slot.is_answered; first = Some index })) slot
 
 abbrev pub answered : Bool → Slot → Slot
 answered answers slot = cond answers (record { is_answered = true; first = slot.first }) slot

@@ -17,7 +17,7 @@ pub trait Evaluator: Drop {
     ghost use Rattle.mq_rules.specs.declared.role.Tested.{Tested};
     ghost use Rattle.mq_rules.specs.declared.rule.Rule.{Rule};
     ghost use Rattle.mq_rules.specs.Keeping.{GrowsBy, GrowsByWithin};
-    ghost use Rattle.mq_plain.specs.Events.{Comes};
+    ghost use Rattle.mq_plain.specs.Events.{ComesNext};
 
     // The statements that are judged.
     ghost chosen: { Rule → Bool };
@@ -41,8 +41,8 @@ pub trait Evaluator: Drop {
         before: &[Seen],
         faults: &mut Faults,
     ) -> Result<(), Memory>
-        ensures ok { is_for self.now turn.tested → Comes turn event.now (reverse before.now) → OnOk result (GrowsBy chosen turn.tested event.now (reverse before.now) faults.old faults.new) }
-        ensures memory { is_for self.now turn.tested → Comes turn event.now (reverse before.now) → OnErr result (GrowsByWithin chosen turn.tested event.now (reverse before.now) faults.old faults.new) };
+        ensures ok { is_for self.now turn.tested → ComesNext turn event.now (reverse before.now) → OnOk result (GrowsBy chosen turn.tested event.now (reverse before.now) faults.old faults.new) }
+        ensures memory { is_for self.now turn.tested → ComesNext turn event.now (reverse before.now) → OnErr result (GrowsByWithin chosen turn.tested event.now (reverse before.now) faults.old faults.new) };
 }
 
 /// An evaluator of one statement on the past of a session.

@@ -36,12 +36,12 @@ pub fn handshake_of(role: Role, before: &[Seen]) -> Handshake
 }
 
 impl Handshake {
-    ghost use Rattle.mq_rules.specs.Words.{or_else};
+    ghost use Rattle.std.specs.Option.{option_or};
     ghost use Rattle.mq_rules.specs.Notes.{connect_of, connack_of};
 
     /// The same with an event that comes before all of this.
     fn after(self, role: Role, note: &Note) -> Handshake
-        ensures { result ≡ record { connect = or_else (connect_of role note.now) self.connect; connack = or_else (connack_of role note.now) self.connack } }
+        ensures { result ≡ record { connect = option_or (connect_of role note.now) self.connect; connack = option_or (connack_of role note.now) self.connack } }
     {
         Handshake {
             connect: note.connect(role).copied().or(self.connect),

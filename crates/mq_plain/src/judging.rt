@@ -5,7 +5,7 @@ ghost use Rattle.mq_rules.specs.Moments.{newest};
 ghost use Rattle.mq_rules.specs.Connections.{accepts as is_accepting};
 ghost use Rattle.mq_rules.specs.Rules.{same_rule, binds as is_bound};
 ghost use Rattle.mq_rules.specs.Keeping.{GrowsBy};
-ghost use Rattle.mq_plain.specs.Events.{Comes};
+ghost use Rattle.mq_plain.specs.Events.{ComesNext};
 
 use crate::session::accepts;
 use crate::turn::Turn;
@@ -63,7 +63,7 @@ pub fn judge_session<T: SessionStatement>(
     before: &[Seen],
     faults: &mut Faults,
 ) -> Result<(), Memory>
-    ensures ok { binds ≡ is_bound T.judged turn.tested → Comes turn event.now (reverse before.now) → OnOk result (GrowsBy (λ r. same_rule r T.judged) turn.tested event.now (reverse before.now) faults.old faults.new) }
+    ensures ok { binds ≡ is_bound T.judged turn.tested → ComesNext turn event.now (reverse before.now) → OnOk result (GrowsBy (λ r. same_rule r T.judged) turn.tested event.now (reverse before.now) faults.old faults.new) }
     ensures unchanged { OnErr result (faults.new ≡ faults.old) }
 {
     let broken = is_fault_at::<T>(alloc, binds, turn.tested.role, turn.fate, event, before)?;

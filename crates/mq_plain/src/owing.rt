@@ -6,7 +6,7 @@ ghost use Rattle.mq_rules.specs.Words.{is_id, only};
 ghost use Rattle.mq_rules.specs.Moments.{newest, note, some, IsPlaced};
 ghost use Rattle.mq_rules.specs.Connections.{connection, session, resumed};
 ghost use Rattle.mq_rules.specs.Identifiers.{shows_S06, is_used_up as uses_up, has_announced};
-ghost use Rattle.mq_plain.specs.Owing.{moves, confirms, sends, is_owed as owed_so, owes};
+ghost use Rattle.mq_plain.specs.Owing.{moves, confirms, sends_under, is_owed as owed_so, owes};
 ghost use Rattle.mq_plain.specs.Shown.{IsShown};
 ghost use Rattle.mq_plain.specs.Tables.{at};
 
@@ -35,7 +35,7 @@ fn mark(marked: &mut Table<bool>, identifier: Option<u16>)
 ///
 /// `Memory` if there is no memory for them.
 fn sent_again(alloc: Global, before: &[Seen]) -> Result<Table<bool>, Memory>
-    ensures { IfOk result (λ again. (i : ℕ) → at again i ≡ some (λ m. sends i (note m)) (connection (reverse before.now))) }
+    ensures { IfOk result (λ again. (i : ℕ) → at again i ≡ some (λ m. sends_under i (note m)) (connection (reverse before.now))) }
 {
     let mut again = Table::new(alloc, false)?;
     let mut earlier = before;

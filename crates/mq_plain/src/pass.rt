@@ -3,8 +3,8 @@
 //! Few events are spoken of: a quiet one costs a test, and each event is met once, whatever the number of statements. A REST looks
 //! back only if something before it asked for an answer.
 ghost use Rattle.std.specs.Prelude.{◌≡◌, ◌∷◌, ◌&&◌, ◌||◌, not, cond, None, is_some, reverse, OnOk, OnErr};
+ghost use Rattle.std.specs.Option.{option_or};
 ghost use Rattle.mq_rules.specs.Notes.{is_open, is_rest, decides};
-ghost use Rattle.mq_rules.specs.Words.{or_else};
 ghost use Rattle.mq_rules.specs.Moments.{IsPlaced};
 ghost use Rattle.mq_rules.specs.Connections.{IsInOrder, latest_fate};
 ghost use Rattle.mq_rules.specs.Faults.{Grows, GrowsWithin};
@@ -176,7 +176,7 @@ fn finds_nothing(asked: bool, note: &Note) -> bool
 /// What is kept after an event, given what is kept before it.
 #[inline(always)]
 fn kept_after(kept: Kept, role: Role, note: &Note) -> Kept
-    ensures fate { result.fate ≡ cond (is_open note.now) None (or_else kept.fate (decides role note.now)) }
+    ensures fate { result.fate ≡ cond (is_open note.now) None (option_or kept.fate (decides role note.now)) }
     ensures asked { result.asked ≡ (kept.asked || asks_for note.now) }
 {
     Kept {
@@ -213,7 +213,7 @@ fn is_asking(fields: &PacketFields) -> bool
 /// The fate of the latest connection after an event, given the fate before it.
 #[inline(always)]
 fn fate_after(fate: Option<Fate>, role: Role, note: &Note) -> Option<Fate>
-    ensures { result ≡ cond (is_open note.now) None (or_else fate (decides role note.now)) }
+    ensures { result ≡ cond (is_open note.now) None (option_or fate (decides role note.now)) }
 {
     if note.is_open() {
         return None;

@@ -5,7 +5,7 @@ ghost use Rattle.std.specs.Prelude.{reverse, OnOk, OnErr};
 ghost use Rattle.mq_rules.specs.Moments.{IsPlaced};
 ghost use Rattle.mq_rules.specs.Connections.{IsInOrder};
 ghost use Rattle.mq_rules.specs.Faults.{Grows, GrowsWithin};
-ghost use Rattle.mq_plain.specs.Chosen.{is_plain, is_plain_lb, is_plain_se};
+ghost use Rattle.mq_plain.specs.Chosen.{is_plain_rule, is_plain_lb, is_plain_se};
 
 use crate::answers::{CountedSubacks, CountedUnsubacks};
 use crate::deliveries::{AskedTopics, GrantedQos};
@@ -125,8 +125,8 @@ pub fn plain_sessions(
     seen: &[Seen],
     faults: &mut Faults,
 ) -> Result<(), Memory>
-    ensures ok { IsPlaced (reverse seen.now) → IsInOrder tested.role (reverse seen.now) → OnOk result (Grows is_plain tested (reverse seen.now) faults.old faults.new) }
-    ensures memory { IsPlaced (reverse seen.now) → IsInOrder tested.role (reverse seen.now) → OnErr result (GrowsWithin is_plain tested (reverse seen.now) faults.old faults.new) }
+    ensures ok { IsPlaced (reverse seen.now) → IsInOrder tested.role (reverse seen.now) → OnOk result (Grows is_plain_rule tested (reverse seen.now) faults.old faults.new) }
+    ensures memory { IsPlaced (reverse seen.now) → IsInOrder tested.role (reverse seen.now) → OnErr result (GrowsWithin is_plain_rule tested (reverse seen.now) faults.old faults.new) }
 {
     judge_each::<Then<Messages<Exchanges>, Releases<Subscriptions>>>(alloc, tested, seen, faults)
 }

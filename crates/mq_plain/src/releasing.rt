@@ -4,7 +4,7 @@ ghost use Rattle.mq_rules.specs.Words.{is_some_and};
 ghost use Rattle.mq_rules.specs.Moments.{newest};
 ghost use Rattle.mq_rules.specs.Rules.{same_rule, binds as is_bound};
 ghost use Rattle.mq_rules.specs.Keeping.{GrowsBy};
-ghost use Rattle.mq_plain.specs.Events.{Comes};
+ghost use Rattle.mq_plain.specs.Events.{ComesNext};
 
 use crate::turn::Turn;
 use mq_rules::{Fate, Faults, Memory, Role, Rule, Seen};
@@ -49,7 +49,7 @@ pub fn judge_release<T: ReleaseStatement>(
     before: &[Seen],
     faults: &mut Faults,
 ) -> Result<(), Memory>
-    ensures ok { binds ≡ is_bound T.judged turn.tested → Comes turn event.now (reverse before.now) → OnOk result (GrowsBy (λ r. same_rule r T.judged) turn.tested event.now (reverse before.now) faults.old faults.new) }
+    ensures ok { binds ≡ is_bound T.judged turn.tested → ComesNext turn event.now (reverse before.now) → OnOk result (GrowsBy (λ r. same_rule r T.judged) turn.tested event.now (reverse before.now) faults.old faults.new) }
     ensures unchanged { OnErr result (faults.new ≡ faults.old) }
 {
     let broken = is_fault_at::<T>(binds, turn.tested.role, turn.fate, event, before);

@@ -3,7 +3,7 @@ ghost use Rattle.std.specs.Prelude.{◌≡◌, reverse, OnOk, OnErr};
 ghost use Rattle.mq_rules.specs.Rules.{same_rule, binds as is_bound};
 ghost use Rattle.mq_rules.specs.Keeping.{GrowsBy, GrowsByWithin};
 ghost use Rattle.mq_plain.specs.Blames.{Blames, BlamesWithin};
-ghost use Rattle.mq_plain.specs.Events.{Comes};
+ghost use Rattle.mq_plain.specs.Events.{ComesNext};
 
 use crate::turn::Turn;
 use mq_rules::{Fault, Faults, Mark, Memory, Role, Rule, Seen};
@@ -55,8 +55,8 @@ pub fn judge_rest<T: RestStatement>(
     before: &[Seen],
     faults: &mut Faults,
 ) -> Result<(), Memory>
-    ensures ok { binds ≡ is_bound T.judged turn.tested → Comes turn event.now (reverse before.now) → OnOk result (GrowsBy (λ r. same_rule r T.judged) turn.tested event.now (reverse before.now) faults.old faults.new) }
-    ensures memory { binds ≡ is_bound T.judged turn.tested → Comes turn event.now (reverse before.now) → OnErr result (GrowsByWithin (λ r. same_rule r T.judged) turn.tested event.now (reverse before.now) faults.old faults.new) }
+    ensures ok { binds ≡ is_bound T.judged turn.tested → ComesNext turn event.now (reverse before.now) → OnOk result (GrowsBy (λ r. same_rule r T.judged) turn.tested event.now (reverse before.now) faults.old faults.new) }
+    ensures memory { binds ≡ is_bound T.judged turn.tested → ComesNext turn event.now (reverse before.now) → OnErr result (GrowsByWithin (λ r. same_rule r T.judged) turn.tested event.now (reverse before.now) faults.old faults.new) }
 {
     if !binds {
         return Ok(());

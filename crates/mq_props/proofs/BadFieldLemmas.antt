@@ -4,7 +4,7 @@ use Rattle.std.proofs.lemmas.Bool.{cases_Bool}
 use Rattle.mq_wire.specs.declared.fault.Reason.{Reason}
 use Rattle.mq_wire.specs.declared.fault.WireFault.{WireFault}
 use Rattle.mq_wire.specs.Left.{Left, placed}
-use Rattle.mq_wire.specs.Fields.{varint_at, byte_at, two_bytes_at, four_bytes_at, text_at, pair_at, binary_at}
+use Rattle.mq_wire.specs.Fields.{varint_at, byte_at, two_bytes_at, four_bytes_at, text_at, pair_at, binary_at, ◌>>=◌}
 use Rattle.mq_wire.specs.Spellings.{AreBytes, IsVarint, varint_spelling, Stands}
 use Rattle.mq_wire.specs.Misspelled.{Misspelled}
 use Rattle.mq_wire.proofs.Exports.{AreBytes-drop, AreBytes-after, byte_misspelled, two_bytes_misspelled, four_bytes_misspelled, varint_misspelled, text_misspelled, pair_misspelled, binary_misspelled, placed_ok, varint_exact}
@@ -14,10 +14,10 @@ use Rattle.mq_props.specs.declared.table.Place.{Place}
 use Rattle.mq_props.specs.declared.table.ValueType.{ValueType}
 use Rattle.mq_props.specs.declared.table.ValueType.TheVariants as types
 use Rattle.mq_props.specs.Table.{Line, row_of, is_listed}
-use Rattle.mq_props.specs.Values.{Value, byte, two_bytes, four_bytes, varint, text, binary, Property, value_spelling}
+use Rattle.mq_props.specs.Values.{Value, byte_value, two_bytes_value, four_bytes_value, varint_value, text_value, binary_value, Property, value_spelling}
 use Rattle.mq_props.specs.Allowed.{is_repeated, in_range, is_wild}
 use Rattle.mq_props.specs.BadFields.{Numbered, NamedBy, field_type, Begins, IsValued, BreaksIdentifier, BreaksValue, BreaksProperty}
-use Rattle.mq_props.specs.Reading.{◌>>=◌, from_wire, judged_at, value_on, admitted, valued, property_on}
+use Rattle.mq_props.specs.Reading.{from_wire, judged_at, value_on, admitted, valued, property_on}
 use Rattle.mq_props.proofs.Finding.{line_known}
 use Rattle.mq_props.proofs.Fields.{value_at, value_on_is, mapped, pair_of, IsOf, value_exact}
 use Rattle.mq_props.proofs.Steps.{from_wire_ok, admitted_ok, judged_ok}
@@ -72,13 +72,13 @@ abbrev refused_for : {A : Type 0} → Reason → Result A Reason
 refused_for reason = Err reason
 
 misspelled_at : (kind : ValueType) (bytes : List ℕ) (reason : Reason) → AreBytes bytes → Misspelled (field_type kind) bytes reason → value_at kind bytes ≡ refused_for reason
-misspelled_at types.Byte bytes reason fits h = ap (mapped byte) ((byte_misspelled.exactly bytes reason fits).1 h)
-misspelled_at types.TwoBytes bytes reason fits h = ap (mapped two_bytes) ((two_bytes_misspelled.exactly bytes reason fits).1 h)
-misspelled_at types.FourBytes bytes reason fits h = ap (mapped four_bytes) ((four_bytes_misspelled.exactly bytes reason fits).1 h)
-misspelled_at types.Varint bytes reason fits h = ap (mapped varint) ((varint_misspelled.exactly bytes reason fits).1 h)
-misspelled_at types.Text bytes reason fits h = ap (mapped text) ((text_misspelled.exactly bytes reason fits).1 h)
+misspelled_at types.Byte bytes reason fits h = ap (mapped byte_value) ((byte_misspelled.exactly bytes reason fits).1 h)
+misspelled_at types.TwoBytes bytes reason fits h = ap (mapped two_bytes_value) ((two_bytes_misspelled.exactly bytes reason fits).1 h)
+misspelled_at types.FourBytes bytes reason fits h = ap (mapped four_bytes_value) ((four_bytes_misspelled.exactly bytes reason fits).1 h)
+misspelled_at types.Varint bytes reason fits h = ap (mapped varint_value) ((varint_misspelled.exactly bytes reason fits).1 h)
+misspelled_at types.Text bytes reason fits h = ap (mapped text_value) ((text_misspelled.exactly bytes reason fits).1 h)
 misspelled_at types.Pair bytes reason fits h = ap (mapped pair_of) ((pair_misspelled.exactly bytes reason fits).1 h)
-misspelled_at types.Binary bytes reason fits h = ap (mapped binary) ((binary_misspelled.exactly bytes reason fits).1 h)
+misspelled_at types.Binary bytes reason fits h = ap (mapped binary_value) ((binary_misspelled.exactly bytes reason fits).1 h)
 
 -- what stands after an identifier are bytes
 bytes_begun : (place : Place) (before : List Property) (left : Left) (line : Line) (behind : Left) → AreBytes left.rest → Begins place before left line behind → AreBytes behind.rest
@@ -154,13 +154,13 @@ mapped_err {X} {Y} make (Err first) reason e = ap (λ (other : Reason). refused_
     reason_is a b same = cc
 
 misspelled_from : (kind : ValueType) (bytes : List ℕ) (reason : Reason) → AreBytes bytes → value_at kind bytes ≡ Err reason → Misspelled (field_type kind) bytes reason
-misspelled_from types.Byte bytes reason fits e = (byte_misspelled.exactly bytes reason fits).0 (mapped_err byte (byte_at bytes) reason e)
-misspelled_from types.TwoBytes bytes reason fits e = (two_bytes_misspelled.exactly bytes reason fits).0 (mapped_err two_bytes (two_bytes_at bytes) reason e)
-misspelled_from types.FourBytes bytes reason fits e = (four_bytes_misspelled.exactly bytes reason fits).0 (mapped_err four_bytes (four_bytes_at bytes) reason e)
-misspelled_from types.Varint bytes reason fits e = (varint_misspelled.exactly bytes reason fits).0 (mapped_err varint (varint_at bytes) reason e)
-misspelled_from types.Text bytes reason fits e = (text_misspelled.exactly bytes reason fits).0 (mapped_err text (text_at bytes) reason e)
+misspelled_from types.Byte bytes reason fits e = (byte_misspelled.exactly bytes reason fits).0 (mapped_err byte_value (byte_at bytes) reason e)
+misspelled_from types.TwoBytes bytes reason fits e = (two_bytes_misspelled.exactly bytes reason fits).0 (mapped_err two_bytes_value (two_bytes_at bytes) reason e)
+misspelled_from types.FourBytes bytes reason fits e = (four_bytes_misspelled.exactly bytes reason fits).0 (mapped_err four_bytes_value (four_bytes_at bytes) reason e)
+misspelled_from types.Varint bytes reason fits e = (varint_misspelled.exactly bytes reason fits).0 (mapped_err varint_value (varint_at bytes) reason e)
+misspelled_from types.Text bytes reason fits e = (text_misspelled.exactly bytes reason fits).0 (mapped_err text_value (text_at bytes) reason e)
 misspelled_from types.Pair bytes reason fits e = (pair_misspelled.exactly bytes reason fits).0 (mapped_err pair_of (pair_at bytes) reason e)
-misspelled_from types.Binary bytes reason fits e = (binary_misspelled.exactly bytes reason fits).0 (mapped_err binary (binary_at bytes) reason e)
+misspelled_from types.Binary bytes reason fits e = (binary_misspelled.exactly bytes reason fits).0 (mapped_err binary_value (binary_at bytes) reason e)
 
 -- a property, with what is left after it
 abbrev with_rest : Left → Property → Result (Property × Left) PropFault

@@ -6,15 +6,15 @@ use Rattle.std.proofs.lemmas.List.Concat.{flat_map-cons}
 use Rattle.mq_wire.specs.declared.fault.Reason.{Reason}
 use Rattle.mq_wire.specs.declared.fault.WireFault.{WireFault}
 use Rattle.mq_wire.specs.Left.{Left, past, placed}
-use Rattle.mq_wire.specs.Fields.{varint_at}
+use Rattle.mq_wire.specs.Fields.{varint_at, ◌>>=◌}
 use Rattle.mq_wire.specs.Spellings.{AreBytes, varint_spelling}
 use Rattle.mq_wire.proofs.Exports.{AreBytes-take, AreBytes-after, varint_misspelled}
 use Rattle.mq_props.specs.declared.fault.PropFault.{PropFault}
 use Rattle.mq_props.specs.declared.table.Place.{Place}
 use Rattle.mq_props.specs.Values.{Property, value_spelling, property_spelling, body}
 use Rattle.mq_props.specs.Allowed.{AllowedBehind}
-use Rattle.mq_props.specs.Breaks.{LongLength, BadProperty, Breaks}
-use Rattle.mq_props.specs.Reading.{◌>>=◌, from_wire, counted, property_on, properties_within, properties_on, list_on}
+use Rattle.mq_props.specs.Breaks.{LongLength, BadProperty, BreaksList}
+use Rattle.mq_props.specs.Reading.{from_wire, within_length, property_on, properties_within, properties_on, list_on}
 use Rattle.mq_props.proofs.BadFieldLemmas.{named_on, breaks_property}
 use Rattle.mq_props.proofs.Exact.{left_at, after, property_read, spelling_some, some_bytes}
 
@@ -57,7 +57,7 @@ refused_all place good at others fault some allowed e = refused_behind (length (
 
 -- the list whose length was read
 abbrev list_of_length : Place → Left → Result (ℕ × Left) WireFault → Result (List Property × Left) PropFault
-list_of_length place left r = from_wire r >>= λ len. counted left len.0 len.1 >>= λ inside. properties_on place [] inside >>= λ ps. Ok (ps, past len.1 len.0)
+list_of_length place left r = from_wire r >>= λ len. within_length left len.0 len.1 >>= λ inside. properties_on place [] inside >>= λ ps. Ok (ps, past len.1 len.0)
 
 abbrev list_inside : Place → Left → Result Left PropFault → Result (List Property × Left) PropFault
 list_inside place behind r = r >>= λ inside. properties_on place [] inside >>= λ ps. Ok (ps, behind)
@@ -70,7 +70,7 @@ long_list place left fault long =
     ap (list_of_length place left) (named_on left long.len long.inside long.numbered) ∙ rw (lt-ltb (length long.inside.rest) long.len long.passes) (ap failed (sym long.is))
 
 -- the bytes that the length counts
-counted_inside : (start inside : Left) (counts behind : List ℕ) → inside.rest ≡ counts ++ behind → counted start (length counts) inside ≡ done (left_at inside.at counts)
+counted_inside : (start inside : Left) (counts behind : List ℕ) → inside.rest ≡ counts ++ behind → within_length start (length counts) inside ≡ done (left_at inside.at counts)
 counted_inside start inside counts behind is =
     let enough : length counts ≤ length inside.rest = omega (arith, ap length is, length-append counts behind) in
     rw (le-ltb (length inside.rest) (length counts) enough) (ap (λ (bytes : List ℕ). done (left_at inside.at bytes)) (ap (take (length counts)) is ∙ take_at counts behind (length counts) refl))
@@ -80,8 +80,8 @@ others_fit : (place : Place) (left : Left) (fault : PropFault) (bad : BadPropert
 others_fit place left fault bad fits =
     let counts : List ℕ = body bad.good ++ bad.others in
     let inside : AreBytes bad.inside.rest = AreBytes-after (varint_spelling (length counts)) bad.inside.rest left.rest fits bad.numbered.spelled in
-    let counted : AreBytes counts = subst (λ (bytes : List ℕ). AreBytes bytes) (ap (take (length counts)) bad.parts ∙ take_at counts bad.rest (length counts) refl) (AreBytes-take (length counts) bad.inside.rest inside) in
-    AreBytes-after (body bad.good) bad.others counts counted refl
+    let within_length : AreBytes counts = subst (λ (bytes : List ℕ). AreBytes bytes) (ap (take (length counts)) bad.parts ∙ take_at counts bad.rest (length counts) refl) (AreBytes-take (length counts) bad.inside.rest inside) in
+    AreBytes-after (body bad.good) bad.others counts within_length refl
 
 bad_list : (place : Place) (left : Left) (fault : PropFault) → AreBytes left.rest → BadProperty place left fault → list_of_length place left (placed left (varint_at left.rest)) ≡ failed fault
 bad_list place left fault fits bad =
@@ -92,7 +92,7 @@ bad_list place left fault fits bad =
     ∙ ap (list_inside place after_all) (counted_inside left bad.inside counts bad.rest bad.parts)
     ∙ ap (list_from after_all) (refused_all place bad.good bad.inside.at bad.others fault bad.some bad.allowed (breaks_property place bad.good first fault (others_fit place left fault bad fits) bad.refused))
 
-pub breaks_list : (place : Place) (left : Left) (fault : PropFault) → AreBytes left.rest → Breaks place left fault → list_on place left ≡ Err fault
+pub breaks_list : (place : Place) (left : Left) (fault : PropFault) → AreBytes left.rest → BreaksList place left fault → list_on place left ≡ Err fault
 unfolding list_on
 breaks_list place left fault fits (inl bad) =
     ap (λ (r : Result (ℕ × ℕ) Reason). list_of_length place left (placed left r)) ((varint_misspelled.exactly left.rest bad.reason fits).1 bad.misspelled) ∙ ap failed (sym bad.is)

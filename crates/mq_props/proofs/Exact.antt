@@ -6,7 +6,7 @@ use Rattle.std.proofs.lemmas.List.Concat.{flat_map-cons}
 use Rattle.std.proofs.lemmas.List.{drop_at, append-nil}
 use Rattle.mq_wire.specs.declared.fault.WireFault.{WireFault}
 use Rattle.mq_wire.specs.Left.{Left, placed}
-use Rattle.mq_wire.specs.Fields.{varint_at}
+use Rattle.mq_wire.specs.Fields.{varint_at, ◌>>=◌}
 use Rattle.mq_wire.specs.Spellings.{AreBytes, IsVarint, varint_spelling, Stands}
 use Rattle.mq_wire.proofs.Exports.{AreBytes-drop, varint_exact}
 use Rattle.mq_props.specs.declared.fault.PropFault.{PropFault}
@@ -16,7 +16,7 @@ use Rattle.mq_props.specs.declared.table.ValueType.{ValueType}
 use Rattle.mq_props.specs.Table.{Line, row_of}
 use Rattle.mq_props.specs.Values.{Value, Property, value_spelling, property_spelling, body}
 use Rattle.mq_props.specs.Allowed.{is_repeated, is_wild, IsAllowed, AllowedBehind, AreAllowed}
-use Rattle.mq_props.specs.Reading.{◌>>=◌, from_wire, judged_at, value_on, admitted, valued, property_on, properties_within, properties_on, item_valued, item_known, item_named, item_on, items_within, items_on, items_of}
+use Rattle.mq_props.specs.Reading.{from_wire, judged_at, value_on, admitted, valued, property_on, properties_within, properties_on, item_valued, item_known, item_named, item_on, items_within, items_on, items_of}
 use Rattle.mq_props.specs.Listed.{IsList}
 use Rattle.mq_props.proofs.Finding.{line_known, known_below}
 use Rattle.mq_props.proofs.Fields.{value_on_is, varint_taken, IsOf, value_exact}

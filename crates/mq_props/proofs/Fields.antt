@@ -8,7 +8,7 @@ use Rattle.mq_wire.specs.Spellings.{IsByte, IsTwoBytes, IsFourBytes, IsVarint, I
 use Rattle.mq_wire.proofs.Exports.{byte_exact, two_bytes_exact, four_bytes_exact, binary_exact, text_exact, pair_exact, varint_exact}
 use Rattle.mq_props.specs.declared.table.ValueType.{ValueType}
 use Rattle.mq_props.specs.declared.table.ValueType.TheVariants as types
-use Rattle.mq_props.specs.Values.{Value, byte, two_bytes, four_bytes, varint, text, pair, binary, type_of, IsValue, value_spelling}
+use Rattle.mq_props.specs.Values.{Value, byte_value, two_bytes_value, four_bytes_value, varint_value, text_value, pair_value, binary_value, value_type, IsValue, value_spelling}
 use Rattle.mq_props.specs.Reading.{as_value, value_on}
 
 -- a value that is read, made one of its type
@@ -17,30 +17,30 @@ mapped make (Ok x) = Ok (make x.0, x.1)
 mapped make (Err reason) = Err reason
 
 abbrev pub value_at : ValueType → List ℕ → Result (Value × ℕ) Reason
-value_at types.Byte bytes = mapped byte (byte_at bytes)
-value_at types.TwoBytes bytes = mapped two_bytes (two_bytes_at bytes)
-value_at types.FourBytes bytes = mapped four_bytes (four_bytes_at bytes)
-value_at types.Varint bytes = mapped varint (varint_at bytes)
-value_at types.Text bytes = mapped text (text_at bytes)
-value_at types.Pair bytes = mapped (λ (texts : List ℕ × List ℕ). pair texts.0 texts.1) (pair_at bytes)
-value_at types.Binary bytes = mapped binary (binary_at bytes)
+value_at types.Byte bytes = mapped byte_value (byte_at bytes)
+value_at types.TwoBytes bytes = mapped two_bytes_value (two_bytes_at bytes)
+value_at types.FourBytes bytes = mapped four_bytes_value (four_bytes_at bytes)
+value_at types.Varint bytes = mapped varint_value (varint_at bytes)
+value_at types.Text bytes = mapped text_value (text_at bytes)
+value_at types.Pair bytes = mapped (λ (texts : List ℕ × List ℕ). pair_value texts.0 texts.1) (pair_at bytes)
+value_at types.Binary bytes = mapped binary_value (binary_at bytes)
 
 as_value-placed : {X : Type 0} (make : X → Value) (left : Left) (read : Result (X × ℕ) Reason) → as_value make (placed left read) ≡ placed left (mapped make read)
 as_value-placed make left (Ok x) = refl
 as_value-placed make left (Err reason) = refl
 
 pub value_on_is : (kind : ValueType) (left : Left) → value_on kind left ≡ placed left (value_at kind left.rest)
-value_on_is types.Byte left = as_value-placed byte left (byte_at left.rest)
-value_on_is types.TwoBytes left = as_value-placed two_bytes left (two_bytes_at left.rest)
-value_on_is types.FourBytes left = as_value-placed four_bytes left (four_bytes_at left.rest)
-value_on_is types.Varint left = as_value-placed varint left (varint_at left.rest)
-value_on_is types.Text left = as_value-placed text left (text_at left.rest)
-value_on_is types.Pair left = as_value-placed (λ (texts : List ℕ × List ℕ). pair texts.0 texts.1) left (pair_at left.rest)
-value_on_is types.Binary left = as_value-placed binary left (binary_at left.rest)
+value_on_is types.Byte left = as_value-placed byte_value left (byte_at left.rest)
+value_on_is types.TwoBytes left = as_value-placed two_bytes_value left (two_bytes_at left.rest)
+value_on_is types.FourBytes left = as_value-placed four_bytes_value left (four_bytes_at left.rest)
+value_on_is types.Varint left = as_value-placed varint_value left (varint_at left.rest)
+value_on_is types.Text left = as_value-placed text_value left (text_at left.rest)
+value_on_is types.Pair left = as_value-placed (λ (texts : List ℕ × List ℕ). pair_value texts.0 texts.1) left (pair_at left.rest)
+value_on_is types.Binary left = as_value-placed binary_value left (binary_at left.rest)
 
 -- the values of a type
 abbrev pub IsOf : ValueType → Value → Type 0
-IsOf kind v = (type_of v ≡ kind) × IsValue v
+IsOf kind v = (value_type v ≡ kind) × IsValue v
 
 -- a way to make values of a type
 record Makes {X : Type 0} (kind : ValueType) (make : X → Value) (IsX : X → Type 0) (spelling : X → List ℕ) : Type 0 where
@@ -82,46 +82,46 @@ mapped_exact {X} kind make IsX spelling read makes exact = record {
       ap (mapped make) read_x ∙ ap (λ (w : Value). done (w, length (value_spelling v))) x.1;
 }
 
-each_byte : (v : Value) → IsOf types.Byte v → (x : ℕ) × (byte x ≡ v) × IsByte x
-each_byte (byte n) is = (n, refl, is.1)
+each_byte : (v : Value) → IsOf types.Byte v → (x : ℕ) × (byte_value x ≡ v) × IsByte x
+each_byte (byte_value n) is = (n, refl, is.1)
 each_byte v is = absurd (let e = is.0 in cc)
 
-each_two_bytes : (v : Value) → IsOf types.TwoBytes v → (x : ℕ) × (two_bytes x ≡ v) × IsTwoBytes x
-each_two_bytes (two_bytes n) is = (n, refl, is.1)
+each_two_bytes : (v : Value) → IsOf types.TwoBytes v → (x : ℕ) × (two_bytes_value x ≡ v) × IsTwoBytes x
+each_two_bytes (two_bytes_value n) is = (n, refl, is.1)
 each_two_bytes v is = absurd (let e = is.0 in cc)
 
-each_four_bytes : (v : Value) → IsOf types.FourBytes v → (x : ℕ) × (four_bytes x ≡ v) × IsFourBytes x
-each_four_bytes (four_bytes n) is = (n, refl, is.1)
+each_four_bytes : (v : Value) → IsOf types.FourBytes v → (x : ℕ) × (four_bytes_value x ≡ v) × IsFourBytes x
+each_four_bytes (four_bytes_value n) is = (n, refl, is.1)
 each_four_bytes v is = absurd (let e = is.0 in cc)
 
-each_varint : (v : Value) → IsOf types.Varint v → (x : ℕ) × (varint x ≡ v) × IsVarint x
-each_varint (varint n) is = (n, refl, is.1)
+each_varint : (v : Value) → IsOf types.Varint v → (x : ℕ) × (varint_value x ≡ v) × IsVarint x
+each_varint (varint_value n) is = (n, refl, is.1)
 each_varint v is = absurd (let e = is.0 in cc)
 
-each_text : (v : Value) → IsOf types.Text v → (x : List ℕ) × (text x ≡ v) × IsText x
-each_text (text t) is = (t, refl, is.1)
+each_text : (v : Value) → IsOf types.Text v → (x : List ℕ) × (text_value x ≡ v) × IsText x
+each_text (text_value t) is = (t, refl, is.1)
 each_text v is = absurd (let e = is.0 in cc)
 
 abbrev pub pair_of : List ℕ × List ℕ → Value
-pair_of texts = pair texts.0 texts.1
+pair_of texts = pair_value texts.0 texts.1
 
 each_pair : (v : Value) → IsOf types.Pair v → (x : List ℕ × List ℕ) × (pair_of x ≡ v) × IsPair x
-each_pair (pair name value) is = ((name, value), refl, is.1)
+each_pair (pair_value name value) is = ((name, value), refl, is.1)
 each_pair v is = absurd (let e = is.0 in cc)
 
-each_binary : (v : Value) → IsOf types.Binary v → (x : List ℕ) × (binary x ≡ v) × IsBinary x
-each_binary (binary bytes) is = (bytes, refl, is.1)
+each_binary : (v : Value) → IsOf types.Binary v → (x : List ℕ) × (binary_value x ≡ v) × IsBinary x
+each_binary (binary_value bytes) is = (bytes, refl, is.1)
 each_binary v is = absurd (let e = is.0 in cc)
 
 -- the reading of a value of each type is exact
 pub value_exact : (kind : ValueType) → IsExact (value_at kind) (IsOf kind) value_spelling
-value_exact types.Byte = mapped_exact types.Byte byte IsByte byte_spelling byte_at (record { made = λ x is. (refl, is); spelled = λ x. refl; each = each_byte }) byte_exact
-value_exact types.TwoBytes = mapped_exact types.TwoBytes two_bytes IsTwoBytes two_bytes_spelling two_bytes_at (record { made = λ x is. (refl, is); spelled = λ x. refl; each = each_two_bytes }) two_bytes_exact
-value_exact types.FourBytes = mapped_exact types.FourBytes four_bytes IsFourBytes four_bytes_spelling four_bytes_at (record { made = λ x is. (refl, is); spelled = λ x. refl; each = each_four_bytes }) four_bytes_exact
-value_exact types.Varint = mapped_exact types.Varint varint IsVarint varint_spelling varint_at (record { made = λ x is. (refl, is); spelled = λ x. refl; each = each_varint }) varint_exact
-value_exact types.Text = mapped_exact types.Text text IsText text_spelling text_at (record { made = λ x is. (refl, is); spelled = λ x. refl; each = each_text }) text_exact
+value_exact types.Byte = mapped_exact types.Byte byte_value IsByte byte_spelling byte_at (record { made = λ x is. (refl, is); spelled = λ x. refl; each = each_byte }) byte_exact
+value_exact types.TwoBytes = mapped_exact types.TwoBytes two_bytes_value IsTwoBytes two_bytes_spelling two_bytes_at (record { made = λ x is. (refl, is); spelled = λ x. refl; each = each_two_bytes }) two_bytes_exact
+value_exact types.FourBytes = mapped_exact types.FourBytes four_bytes_value IsFourBytes four_bytes_spelling four_bytes_at (record { made = λ x is. (refl, is); spelled = λ x. refl; each = each_four_bytes }) four_bytes_exact
+value_exact types.Varint = mapped_exact types.Varint varint_value IsVarint varint_spelling varint_at (record { made = λ x is. (refl, is); spelled = λ x. refl; each = each_varint }) varint_exact
+value_exact types.Text = mapped_exact types.Text text_value IsText text_spelling text_at (record { made = λ x is. (refl, is); spelled = λ x. refl; each = each_text }) text_exact
 value_exact types.Pair = mapped_exact types.Pair pair_of IsPair pair_spelling pair_at (record { made = λ x is. (refl, is); spelled = λ x. refl; each = each_pair }) pair_exact
-value_exact types.Binary = mapped_exact types.Binary binary IsBinary binary_spelling binary_at (record { made = λ x is. (refl, is); spelled = λ x. refl; each = each_binary }) binary_exact
+value_exact types.Binary = mapped_exact types.Binary binary_value IsBinary binary_spelling binary_at (record { made = λ x is. (refl, is); spelled = λ x. refl; each = each_binary }) binary_exact
 
 -- ---- an identifier takes bytes
 

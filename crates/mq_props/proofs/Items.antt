@@ -10,7 +10,7 @@ use Rattle.mq_wire.proofs.Exports.{placed_ok}
 use Rattle.mq_props.specs.declared.table.ValueType.{ValueType}
 use Rattle.mq_props.specs.declared.table.ValueType.TheVariants as types
 use Rattle.mq_props.specs.Table.{Line, rows, row_of, kind_number, has_kind}
-use Rattle.mq_props.specs.Values.{Value, byte, two_bytes, four_bytes, varint, text, binary, Property, type_of}
+use Rattle.mq_props.specs.Values.{Value, byte_value, two_bytes_value, four_bytes_value, varint_value, text_value, binary_value, Property, value_type}
 use Rattle.mq_props.specs.Reading.{value_on, item_valued, item_known, item_named, item_on, items_within, items_on}
 use Rattle.mq_props.specs.Allowed.{first_of}
 use Rattle.mq_props.proofs.Finding.{line_known}
@@ -18,17 +18,17 @@ use Rattle.mq_props.proofs.Fields.{value_at, value_on_is, mapped_ok, pair_of, va
 
 -- ---- one property
 
-typed_at : (kind : ValueType) (bytes : List ℕ) (v : Value) (n : ℕ) → value_at kind bytes ≡ Ok (v, n) → type_of v ≡ kind
-typed_at types.Byte bytes v n e = let x = mapped_ok byte (byte_at bytes) v n e in sym (ap type_of x.2)
-typed_at types.TwoBytes bytes v n e = let x = mapped_ok two_bytes (two_bytes_at bytes) v n e in sym (ap type_of x.2)
-typed_at types.FourBytes bytes v n e = let x = mapped_ok four_bytes (four_bytes_at bytes) v n e in sym (ap type_of x.2)
-typed_at types.Varint bytes v n e = let x = mapped_ok varint (varint_at bytes) v n e in sym (ap type_of x.2)
-typed_at types.Text bytes v n e = let x = mapped_ok text (text_at bytes) v n e in sym (ap type_of x.2)
-typed_at types.Pair bytes v n e = let x = mapped_ok pair_of (pair_at bytes) v n e in sym (ap type_of x.2)
-typed_at types.Binary bytes v n e = let x = mapped_ok binary (binary_at bytes) v n e in sym (ap type_of x.2)
+typed_at : (kind : ValueType) (bytes : List ℕ) (v : Value) (n : ℕ) → value_at kind bytes ≡ Ok (v, n) → value_type v ≡ kind
+typed_at types.Byte bytes v n e = let x = mapped_ok byte_value (byte_at bytes) v n e in sym (ap value_type x.2)
+typed_at types.TwoBytes bytes v n e = let x = mapped_ok two_bytes_value (two_bytes_at bytes) v n e in sym (ap value_type x.2)
+typed_at types.FourBytes bytes v n e = let x = mapped_ok four_bytes_value (four_bytes_at bytes) v n e in sym (ap value_type x.2)
+typed_at types.Varint bytes v n e = let x = mapped_ok varint_value (varint_at bytes) v n e in sym (ap value_type x.2)
+typed_at types.Text bytes v n e = let x = mapped_ok text_value (text_at bytes) v n e in sym (ap value_type x.2)
+typed_at types.Pair bytes v n e = let x = mapped_ok pair_of (pair_at bytes) v n e in sym (ap value_type x.2)
+typed_at types.Binary bytes v n e = let x = mapped_ok binary_value (binary_at bytes) v n e in sym (ap value_type x.2)
 
 record ReadsValue (kind : ValueType) (left : Left) (v : Value) (new : Left) : Type 0 where
-  typed : type_of v ≡ kind
+  typed : value_type v ≡ kind
   within : length new.rest ≤ length left.rest
 
 value_reads : (kind : ValueType) (left : Left) (v : Value) (new : Left) → value_on kind left ≡ Ok (v, new) → ReadsValue kind left v new
@@ -54,7 +54,7 @@ line_kind id line known = found-any (λ (row : Line). eqb row.id id) (λ (row : 
 
 -- a property that stands at the front of what is left
 pub record StandsFirst (left : Left) (x : Property × Left) : Type 0 where
-  pub typed : has_kind (type_of x.0.value) x.0.id ≡ true
+  pub typed : has_kind (value_type x.0.value) x.0.id ≡ true
   pub shorter : length x.1.rest < length left.rest
 
 abbrev some : {A : Type 0} → A → Option A
@@ -154,7 +154,7 @@ first_none id left whole e so_far = sym (ap (first_of id) (items_on-none left e)
 pub item_shorter : (left : Left) (p : Property) (new : Left) → item_on left ≡ Some (p, new) → length new.rest < length left.rest
 item_shorter left p new e = (item_first left (p, new) e).shorter
 
-pub item_typed : (left : Left) (p : Property) (new : Left) → item_on left ≡ Some (p, new) → has_kind (type_of p.value) p.id ≡ true
+pub item_typed : (left : Left) (p : Property) (new : Left) → item_on left ≡ Some (p, new) → has_kind (value_type p.value) p.id ≡ true
 item_typed left p new e = (item_first left (p, new) e).typed
 
 -- nothing is left of no bytes

@@ -8,7 +8,7 @@ use Rattle.mq_wire.specs.declared.fault.Reason.{Reason}
 use Rattle.mq_wire.specs.declared.fault.Reason.TheVariants.{Short}
 use Rattle.mq_wire.specs.declared.fault.WireFault.{WireFault}
 use Rattle.mq_wire.specs.Left.{Left, past, placed}
-use Rattle.mq_wire.specs.Fields.{varint_at}
+use Rattle.mq_wire.specs.Fields.{varint_at, ◌>>=◌}
 use Rattle.mq_wire.specs.Spellings.{AreBytes, IsVarint, varint_spelling, Stands}
 use Rattle.mq_wire.proofs.Exports.{AreBytes-drop, AreBytes-take, AreBytes-after, varint_misspelled, placed_ok, varint_exact}
 use Rattle.mq_props.specs.declared.fault.PropFault.{PropFault}
@@ -17,9 +17,9 @@ use Rattle.mq_props.specs.declared.table.Place.{Place}
 use Rattle.mq_props.specs.Values.{Property, property_spelling, body}
 use Rattle.mq_props.specs.Allowed.{AllowedBehind, AreAllowed, Lists}
 use Rattle.mq_props.specs.BadFields.{Numbered}
-use Rattle.mq_props.specs.Breaks.{Breaks}
+use Rattle.mq_props.specs.Breaks.{BreaksList}
 use Rattle.mq_props.specs.Listed.{Listed}
-use Rattle.mq_props.specs.Reading.{◌>>=◌, from_wire, counted, property_on, properties_within, properties_on, list_on, Reads}
+use Rattle.mq_props.specs.Reading.{from_wire, within_length, property_on, properties_within, properties_on, list_on, ReadsFront}
 use Rattle.mq_props.proofs.Steps.{property_on_ok, found_shorter, bind_ok, done_is, from_wire_ok}
 use Rattle.mq_props.proofs.BadFieldLemmas.{property_breaks}
 use Rattle.mq_props.proofs.Exact.{found_spells, named_read, properties_only, properties_all}
@@ -46,7 +46,7 @@ pub record Listing (place : Place) (left : Left) (ps : List Property) (new : Lef
   pub parts : left.rest ≡ bytes ++ new.rest
   pub behind : new ≡ past left (length bytes)
 
-pub counted_ok : (start : Left) (len : ℕ) (left inside : Left) → counted start len left ≡ Ok inside → (len ≤ length left.rest) × (inside ≡ record { at = left.at; rest = take len left.rest })
+pub counted_ok : (start : Left) (len : ℕ) (left inside : Left) → within_length start len left ≡ Ok inside → (len ≤ length left.rest) × (inside ≡ record { at = left.at; rest = take len left.rest })
 counted_ok start len left inside e =
     elim (cases_Bool (ltb (length left.rest) len)) [
       | inl short ↦ absurd (let never = rw short at e in cc)
@@ -76,8 +76,8 @@ listing_from place left len n ps fits named enough read =
 pub list_found : (place : Place) (left : Left) (ps : List Property) (new : Left) → AreBytes left.rest → list_on place left ≡ Ok (ps, new) → Listing place left ps new
 unfolding list_on
 list_found place left ps new fits e =
-    let len = bind_ok (from_wire (placed left (varint_at left.rest))) (λ len. counted left len.0 len.1 >>= λ inside. properties_on place [] inside >>= λ qs. Ok (qs, past len.1 len.0)) (ps, new) e in
-    let inside = bind_ok (counted left len.0.0 len.0.1) (λ inside. properties_on place [] inside >>= λ qs. Ok (qs, past len.0.1 len.0.0)) (ps, new) len.2 in
+    let len = bind_ok (from_wire (placed left (varint_at left.rest))) (λ len. within_length left len.0 len.1 >>= λ inside. properties_on place [] inside >>= λ qs. Ok (qs, past len.1 len.0)) (ps, new) e in
+    let inside = bind_ok (within_length left len.0.0 len.0.1) (λ inside. properties_on place [] inside >>= λ qs. Ok (qs, past len.0.1 len.0.0)) (ps, new) len.2 in
     let read = bind_ok (properties_on place [] inside.0) (λ qs. Ok (qs, past len.0.1 len.0.0)) (ps, new) inside.2 in
     let named = placed_ok left (varint_at left.rest) len.0.0 len.0.1 (from_wire_ok (placed left (varint_at left.rest)) len.0 len.1) in
     let within = counted_ok left len.0.0 len.0.1 inside.0 inside.1 in
@@ -93,7 +93,7 @@ list_found place left ps new fits e =
 abbrev left_at : ℕ → List ℕ → Left
 left_at at rest = record { at = at; rest = rest }
 
-counted_all : (start : Left) (at : ℕ) (inside more : List ℕ) → counted start (length inside) (left_at at (inside ++ more)) ≡ done (left_at at inside)
+counted_all : (start : Left) (at : ℕ) (inside more : List ℕ) → within_length start (length inside) (left_at at (inside ++ more)) ≡ done (left_at at inside)
 counted_all start at inside more =
     let enough : length inside ≤ length (inside ++ more) = omega (arith, length-append inside more) in
     rw (le-ltb (length (inside ++ more)) (length inside) enough, take_at inside more (length inside) refl) refl
@@ -105,7 +105,7 @@ spelled_read place at ps more bound allowed =
     let len : ℕ = length (body ps) in
     let start : Left = left_at at (varint_spelling len ++ (body ps ++ more)) in
     let behind : Left = left_at (at + length (varint_spelling len)) (body ps ++ more) in
-    ap (λ (r : Result (ℕ × Left) WireFault). from_wire r >>= λ x. counted start x.0 x.1 >>= λ inside. properties_on place [] inside >>= λ qs. done (qs, past x.1 x.0)) (named_read at len (body ps ++ more) bound)
+    ap (λ (r : Result (ℕ × Left) WireFault). from_wire r >>= λ x. within_length start x.0 x.1 >>= λ inside. properties_on place [] inside >>= λ qs. done (qs, past x.1 x.0)) (named_read at len (body ps ++ more) bound)
     ∙ ap (λ (r : Result Left PropFault). r >>= λ inside. properties_on place [] inside >>= λ qs. done (qs, past behind len)) (counted_all start (at + length (varint_spelling len)) (body ps) more)
     ∙ ap (λ (r : Result (List Property) PropFault). r >>= λ qs. done (qs, past behind len)) (properties_all place (at + length (varint_spelling len)) ps allowed)
 
@@ -120,7 +120,7 @@ list_only place left ps bytes rest lists parts =
     let behind : past (left_at (left.at + length number) (body ps ++ rest)) len ≡ past left (length bytes) = sym (ap (λ (l : Left). past l len) first) ∙ past-past left (length number) len ∙ ap (past left) taken in
     ap (λ (all : List ℕ). list_on place (left_at left.at all)) whole ∙ spelled_read place left.at ps rest lists.bound lists.allowed ∙ ap (λ (l : Left). done (ps, l)) behind
 
-pub reads_only : {X Y : Type 0} (view : X → Y) (result : Result X PropFault) (read : Result (Y × Left) PropFault) (y : Y) (new behind : Left) → Reads view result read new → read ≡ Ok (y, behind) → IsOkAnd result (λ x. view x ≡ y) × (new ≡ behind)
+pub reads_only : {X Y : Type 0} (view : X → Y) (result : Result X PropFault) (read : Result (Y × Left) PropFault) (y : Y) (new behind : Left) → ReadsFront view result read new → read ≡ Ok (y, behind) → IsOkAnd result (λ x. view x ≡ y) × (new ≡ behind)
 reads_only {X} {Y} view (Ok x) read y new behind h e =
     let found : Y × Left = (view x, new) in
     let same = done_is found (y, behind) (sym h ∙ e) in
@@ -197,7 +197,7 @@ abbrev with_rest : Left → List Property → Result (List Property × Left) Pro
 with_rest new ps = Ok (ps, new)
 
 breaks_behind : (place : Place) (left : Left) (fault : PropFault) (len n : ℕ) → AreBytes left.rest → varint_at left.rest ≡ Ok (len, n)
-    → (counted left len (past left n) >>= λ inside. properties_on place [] inside >>= λ qs. with_rest (past (past left n) len) qs) ≡ Err fault → Breaks place left fault
+    → (within_length left len (past left n) >>= λ inside. properties_on place [] inside >>= λ qs. with_rest (past (past left n) len) qs) ≡ Err fault → BreaksList place left fault
 breaks_behind place left fault len n fits named e =
     let stands : Stands IsVarint varint_spelling left.rest len n = varint_exact.only left.rest len n fits named in
     let numbered : Numbered left len (past left n) = record { is_number = stands.value; spelled = stands.spelled; place = ap (λ (k : ℕ). left.at + k) stands.taken } in
@@ -217,23 +217,23 @@ breaks_behind place left fault len n fits named e =
     ]
 
 breaks_by : (place : Place) (left : Left) (fault : PropFault) (r : Result (ℕ × ℕ) Reason) → AreBytes left.rest → varint_at left.rest ≡ r
-    → (from_wire (placed left r) >>= λ len. counted left len.0 len.1 >>= λ inside. properties_on place [] inside >>= λ qs. with_rest (past len.1 len.0) qs) ≡ Err fault → Breaks place left fault
+    → (from_wire (placed left r) >>= λ len. within_length left len.0 len.1 >>= λ inside. properties_on place [] inside >>= λ qs. with_rest (past len.1 len.0) qs) ≡ Err fault → BreaksList place left fault
 breaks_by place left fault (Err reason) fits is e =
     inl (record { reason = reason; misspelled = (varint_misspelled.exactly left.rest reason fits).0 is; is = sym (failed_is {A = List Property × Left} (record { at = left.at; reason = Wire reason }) fault e) })
 breaks_by place left fault (Ok x) fits is e = breaks_behind place left fault x.0 x.1 fits is e
 
-pub list_breaks : (place : Place) (left : Left) (fault : PropFault) → AreBytes left.rest → list_on place left ≡ Err fault → Breaks place left fault
+pub list_breaks : (place : Place) (left : Left) (fault : PropFault) → AreBytes left.rest → list_on place left ≡ Err fault → BreaksList place left fault
 unfolding list_on
 list_breaks place left fault fits e = breaks_by place left fault (varint_at left.rest) fits refl e
 
 -- ---- as the call answers
 
-pub found_result : (place : Place) (left : Left) (result : Result Listed PropFault) (new : Left) → AreBytes left.rest → Reads (λ (l : Listed). l.items) result (list_on place left) new
+pub found_result : (place : Place) (left : Left) (result : Result Listed PropFault) (new : Left) → AreBytes left.rest → ReadsFront (λ (l : Listed). l.items) result (list_on place left) new
     → IfOk result (λ l. (bytes : List ℕ) × Lists place l.items bytes × (left.rest ≡ bytes ++ new.rest) × (new ≡ past left (length bytes)))
 found_result place left (Ok l) new fits h = let found = list_found place left l.items new fits h in (found.bytes, found.lists, found.parts, found.behind)
 found_result place left (Err fault) new fits h = tt
 
-pub broken_result : (place : Place) (left : Left) (result : Result Listed PropFault) (new : Left) → AreBytes left.rest → Reads (λ (l : Listed). l.items) result (list_on place left) new → IfErr result (λ fault. Breaks place left fault)
+pub broken_result : (place : Place) (left : Left) (result : Result Listed PropFault) (new : Left) → AreBytes left.rest → ReadsFront (λ (l : Listed). l.items) result (list_on place left) new → IfErr result (λ fault. BreaksList place left fault)
 broken_result place left (Ok l) new fits h = tt
 broken_result place left (Err fault) new fits h = list_breaks place left fault fits h
 

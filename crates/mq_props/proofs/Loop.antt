@@ -2,11 +2,12 @@
 use Rattle.std.proofs.Common.{◌≡◌, ℕ, zero, suc, ◌≤◌, false, eqb, List, [], ◌∷◌, ◌++◌, length, Ok, Err, refl, sym, ap, ◌∙◌, arith}
 use Rattle.std.proofs.lemmas.Bool.{ne_eqb}
 use Rattle.mq_wire.specs.Left.{Left}
+use Rattle.mq_wire.specs.Fields.{◌>>=◌}
 use Rattle.mq_props.specs.declared.fault.PropFault.{PropFault}
 use Rattle.mq_props.specs.declared.seen.Seen.{Seen}
 use Rattle.mq_props.specs.declared.table.Place.{Place}
 use Rattle.mq_props.specs.Values.{Property}
-use Rattle.mq_props.specs.Reading.{◌>>=◌, property_on, properties_within, properties_on}
+use Rattle.mq_props.specs.Reading.{property_on, properties_within, properties_on}
 use Rattle.mq_props.specs.Views.{Sees}
 use Rattle.mq_props.proofs.Steps.{property_on_ok, found_shorter}
 

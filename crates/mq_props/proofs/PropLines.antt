@@ -3,14 +3,14 @@ use Rattle.std.proofs.Common.{◌≡◌, Some, refl}
 use Rattle.mq_props.specs.declared.prop.Prop.{Prop}
 use Rattle.mq_props.specs.declared.prop.Prop.TheVariants as props
 use Rattle.mq_props.specs.Table.{Line, row_of, rows}
-use Rattle.mq_props.specs.Values.{type_of}
+use Rattle.mq_props.specs.Values.{value_type}
 use Rattle.mq_props.specs.Props.{prop_view}
 
 -- a line of the property
 pub record HasLine (p : Prop) : Type 0 where
   pub line : Line
   pub known : row_of (prop_view p).id ≡ Some line
-  pub typed : type_of (prop_view p).value ≡ line.kind
+  pub typed : value_type (prop_view p).value ≡ line.kind
 
 pub prop_line : (p : Prop) → HasLine p
 unfolding row_of rows

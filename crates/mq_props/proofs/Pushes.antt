@@ -11,14 +11,14 @@ use Rattle.mq_props.specs.declared.table.Place.{Place}
 use Rattle.mq_props.specs.declared.prop.Prop.{Prop}
 use Rattle.mq_props.specs.Props.{prop_view}
 use Rattle.mq_props.specs.Table.{Line, row_of, is_listed}
-use Rattle.mq_props.specs.Values.{Value, Property, IsValue, type_of, value_spelling, property_spelling, body}
+use Rattle.mq_props.specs.Values.{Value, Property, IsValue, value_type, value_spelling, property_spelling, body}
 use Rattle.mq_props.specs.Allowed.{is_repeated, in_range, is_wild, IsAllowed, AllowedBehind, AreAllowed}
 use Rattle.mq_props.specs.Reading.{items_of, items_on}
 use Rattle.mq_props.specs.declared.seen.Seen.{Seen}
 use Rattle.mq_props.specs.Views.{Sees}
 use Rattle.mq_props.specs.Listed.{Listed, IsList}
-use Rattle.mq_props.specs.Making.{Keeps}
-use Rattle.mq_props.specs.Pushing.{nul_in, is_long, is_large, is_bad, overflows, fault_of}
+use Rattle.mq_props.specs.Making.{HoldsList}
+use Rattle.mq_props.specs.Pushing.{nul_in, is_long, is_large, is_bad, overflows, push_fault_by_line}
 use Rattle.mq_props.proofs.Finding.{line_known}
 use Rattle.mq_props.proofs.PropLines.{prop_line}
 use Rattle.mq_props.proofs.Exact.{items_of-body, list_items, list_spelled, list_allowed}
@@ -53,7 +53,7 @@ pub record Taken (list : Listed) (p : Property) (line : Line) : Type 0 where
   pub short : is_long p.value ≡ false
   pub fits : length (body list.items) + length (property_spelling (record { id = line.id; value = p.value })) ≤ 268435455
 
-taken_by : (list : Listed) (p : Property) (line : Line) → fault_of list p.value (Some line) ≡ None → Taken list p line
+taken_by : (list : Listed) (p : Property) (line : Line) → push_fault_by_line list p.value (Some line) ≡ None → Taken list p line
 taken_by list p line e =
     let made : Property = record { id = line.id; value = p.value } in
     let listed = cond_none (not (is_listed list.place line)) NotAllowed (cond (is_repeated list.place list.items line.id) (Some Repeated) (cond (is_bad list.place line p.value) (Some BadValue) (cond (is_long p.value || overflows list.items made) (Some TooLong) None))) e in
@@ -76,8 +76,8 @@ taken_by list p line e =
     }
 
 -- it has a line
-pub taken : (list : Listed) (p : Property) (line : Line) → row_of p.id ≡ Some line → fault_of list p.value (row_of p.id) ≡ None → Taken list p line
-taken list p line known e = taken_by list p line (sym (ap (fault_of list p.value) known) ∙ e)
+pub taken : (list : Listed) (p : Property) (line : Line) → row_of p.id ≡ Some line → push_fault_by_line list p.value (row_of p.id) ≡ None → Taken list p line
+taken list p line known e = taken_by list p line (sym (ap (push_fault_by_line list p.value) known) ∙ e)
 
 -- a property isn't refused for want of memory before it is written
 memory_by : (a b c d : Bool) → cond a (Some NotAllowed) (cond b (Some Repeated) (cond c (Some BadValue) (cond d (Some TooLong) None))) ≡ Some Memory → ⊥
@@ -87,7 +87,7 @@ memory_by false false true d e = cc
 memory_by false false false true e = cc
 memory_by false false false false e = cc
 
-pub never_memory : (list : Listed) (v : Value) (o : Option Line) → fault_of list v o ≡ Some Memory → ⊥
+pub never_memory : (list : Listed) (v : Value) (o : Option Line) → push_fault_by_line list v o ≡ Some Memory → ⊥
 never_memory list v None e = cc
 never_memory list v (Some line) e =
     memory_by (not (is_listed list.place line)) (is_repeated list.place list.items line.id) (is_bad list.place line v) (is_long v || overflows list.items (record { id = line.id; value = v })) e
@@ -98,11 +98,11 @@ pub record Writes (v : Value) : Type 0 where
   pub small : is_large v ≡ false
   pub short : is_long v ≡ false
 
-writes_by : (list : Listed) (p : Property) (o : Option Line) → fault_of list p.value o ≡ None → Writes p.value
+writes_by : (list : Listed) (p : Property) (o : Option Line) → push_fault_by_line list p.value o ≡ None → Writes p.value
 writes_by list p None e = absurd cc
 writes_by list p (Some line) e = let t = taken_by list p line e in record { no_nul = t.no_nul; small = t.small; short = t.short }
 
-pub writes : (list : Listed) (p : Property) → fault_of list p.value (row_of p.id) ≡ None → Writes p.value
+pub writes : (list : Listed) (p : Property) → push_fault_by_line list p.value (row_of p.id) ≡ None → Writes p.value
 writes list p e = writes_by list p (row_of p.id) e
 
 allowed-push : (place : Place) (before ps : List Property) (p : Property) → AllowedBehind place before ps → IsAllowed place (before ++ ps) p → AllowedBehind place before (ps ++ p ∷ [])
@@ -118,8 +118,8 @@ pub record Pushed (place : Place) (bytes : List ℕ) (p : Property) : Type 0 whe
   pub items : items_of (bytes ++ property_spelling p) ≡ items_of bytes ++ p ∷ []
   pub is_list : IsList place (bytes ++ property_spelling p)
 
-pub pushed : (place : Place) (bytes : List ℕ) (p : Property) (line : Line) → IsList place bytes → row_of p.id ≡ Some line → type_of p.value ≡ line.kind → IsValue p.value
-    → fault_of (record { place = place; items = items_of bytes }) p.value (row_of p.id) ≡ None → Pushed place bytes p
+pub pushed : (place : Place) (bytes : List ℕ) (p : Property) (line : Line) → IsList place bytes → row_of p.id ≡ Some line → value_type p.value ≡ line.kind → IsValue p.value
+    → push_fault_by_line (record { place = place; items = items_of bytes }) p.value (row_of p.id) ≡ None → Pushed place bytes p
 pushed place bytes p line is known typed valid e =
     let list : Listed = record { place = place; items = items_of bytes } in
     let t = taken list p line known e in
@@ -184,25 +184,25 @@ pub record Leaves (place : Place) (bytes new : List ℕ) (p : Property) : Type 0
   pub is_list : IsList place new
   pub items : items_of new ≡ items_of bytes ++ p ∷ []
 
-pub leaves : (place : Place) (bytes new : List ℕ) (prop : Prop) (p : Property) → p ≡ prop_view prop → IsList place bytes → fault_of (record { place = place; items = items_of bytes }) p.value (row_of p.id) ≡ None
+pub leaves : (place : Place) (bytes new : List ℕ) (prop : Prop) (p : Property) → p ≡ prop_view prop → IsList place bytes → push_fault_by_line (record { place = place; items = items_of bytes }) p.value (row_of p.id) ≡ None
     → new ≡ bytes ++ property_spelling p → IsValue p.value → Leaves place bytes new p
 leaves place bytes new prop p same is e ok valid =
     let line = prop_line prop in
     let known : row_of p.id ≡ Some line.line = ap (λ (q : Property). row_of q.id) same ∙ line.known in
-    let typed : type_of p.value ≡ line.line.kind = ap (λ (q : Property). type_of q.value) same ∙ line.typed in
+    let typed : value_type p.value ≡ line.line.kind = ap (λ (q : Property). value_type q.value) same ∙ line.typed in
     let done = pushed place bytes p line.line is known typed valid e in
     record { is_list = subst (λ (all : List ℕ). IsList place all) (sym ok) done.is_list; items = ap items_of ok ∙ done.items }
 
 -- where nothing was seen, no property is kept
-pub keeps_nothing : (place : Place) (seen : Seen) → Sees seen [] → Keeps place seen []
+pub keeps_nothing : (place : Place) (seen : Seen) → Sees seen [] → HoldsList place seen []
 keeps_nothing place seen sees = record { is_list = record { properties = []; allowed = tt; spelled = refl; bound = omega arith }; sees = sees }
 
 -- what was seen are the properties that are read from the bytes
-pub sees_items : (place : Place) (seen : Seen) (bytes : List ℕ) → Keeps place seen bytes → Sees seen (items_of bytes)
+pub sees_items : (place : Place) (seen : Seen) (bytes : List ℕ) → HoldsList place seen bytes → Sees seen (items_of bytes)
 sees_items place seen bytes keeps = subst (λ (ps : List Property). Sees seen ps) (sym (list_items place bytes keeps.is_list)) keeps.sees
 
 -- it is kept, where the property was seen
-pub keeps_more : (place : Place) (seen : Seen) (bytes new : List ℕ) (p : Property) → Leaves place bytes new p → Sees seen (items_of bytes ++ p ∷ []) → Keeps place seen new
+pub keeps_more : (place : Place) (seen : Seen) (bytes new : List ℕ) (p : Property) → Leaves place bytes new p → Sees seen (items_of bytes ++ p ∷ []) → HoldsList place seen new
 keeps_more place seen bytes new p left sees = record { is_list = left.is_list; sees = subst (λ (ps : List Property). Sees seen ps) (sym left.items ∙ list_items place new left.is_list) sees }
 
 pub listed_after : (place : Place) (bytes new : List ℕ) (list : Listed) (p q : Property) → (let was : Listed = record { place = place; items = items_of bytes } in was) ≡ list → p ≡ q → items_of new ≡ items_of bytes ++ p ∷ []

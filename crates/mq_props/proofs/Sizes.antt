@@ -5,10 +5,10 @@ use Rattle.std.specs.Prelude.{◌==◌, nat_lt, if◌then◌else◌}
 use Rattle.std.proofs.lemmas.Bool.{ltb-false}
 use Rattle.mq_wire.specs.declared.fault.Reason.{Reason}
 use Rattle.mq_wire.specs.declared.fault.Reason.TheVariants as reasons
-use Rattle.mq_wire.specs.Fields.{◌>>=◌, byte_at, two_bytes_at, four_bytes_at, varint_at, ended_by, second_byte, third_byte, fourth_byte, counted, binary_at, text_of, text_at, pair_at}
+use Rattle.mq_wire.specs.Fields.{◌>>=◌, byte_at, two_bytes_at, four_bytes_at, varint_at, ended_by, second_byte, third_byte, fourth_byte, counted_bytes, binary_at, text_of, text_at, pair_at}
 use Rattle.mq_props.specs.declared.table.ValueType.{ValueType}
 use Rattle.mq_props.specs.declared.table.ValueType.TheVariants as types
-use Rattle.mq_props.specs.Values.{byte, two_bytes, four_bytes, varint, text, binary}
+use Rattle.mq_props.specs.Values.{byte_value, two_bytes_value, four_bytes_value, varint_value, text_value, binary_value}
 use Rattle.mq_props.proofs.Fields.{mapped, value_at, pair_of}
 
 -- how many bytes a field takes
@@ -53,7 +53,7 @@ varint_within (a ∷ bytes) =
       | false ↦ omega (arith, second_within (a - 128) bytes)
     ]
 
-counted_within : (n : ℕ) (bytes : List ℕ) → taken_by (counted n bytes) ≤ 2 + length bytes
+counted_within : (n : ℕ) (bytes : List ℕ) → taken_by (counted_bytes n bytes) ≤ 2 + length bytes
 counted_within n bytes =
     elim (nat_lt (length bytes) n) as (λ b. nat_lt (length bytes) n ≡ b → taken_by (if b then Err reasons.Short else Ok (take n bytes, 2 + n)) ≤ 2 + length bytes) [
       | true ↦ λ e. omega arith
@@ -123,10 +123,10 @@ mapped_within make (Err reason) size h = h
 
 -- a value of each type
 pub value_within : (kind : ValueType) (bytes : List ℕ) → taken_by (value_at kind bytes) ≤ length bytes
-value_within types.Byte bytes = mapped_within byte (byte_at bytes) (length bytes) (byte_within bytes)
-value_within types.TwoBytes bytes = mapped_within two_bytes (two_bytes_at bytes) (length bytes) (two_bytes_within bytes)
-value_within types.FourBytes bytes = mapped_within four_bytes (four_bytes_at bytes) (length bytes) (four_bytes_within bytes)
-value_within types.Varint bytes = mapped_within varint (varint_at bytes) (length bytes) (varint_within bytes)
-value_within types.Text bytes = mapped_within text (text_at bytes) (length bytes) (text_within bytes)
+value_within types.Byte bytes = mapped_within byte_value (byte_at bytes) (length bytes) (byte_within bytes)
+value_within types.TwoBytes bytes = mapped_within two_bytes_value (two_bytes_at bytes) (length bytes) (two_bytes_within bytes)
+value_within types.FourBytes bytes = mapped_within four_bytes_value (four_bytes_at bytes) (length bytes) (four_bytes_within bytes)
+value_within types.Varint bytes = mapped_within varint_value (varint_at bytes) (length bytes) (varint_within bytes)
+value_within types.Text bytes = mapped_within text_value (text_at bytes) (length bytes) (text_within bytes)
 value_within types.Pair bytes = mapped_within pair_of (pair_at bytes) (length bytes) (pair_within bytes)
-value_within types.Binary bytes = mapped_within binary (binary_at bytes) (length bytes) (binary_within bytes)
+value_within types.Binary bytes = mapped_within binary_value (binary_at bytes) (length bytes) (binary_within bytes)

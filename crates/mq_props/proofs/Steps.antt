@@ -2,7 +2,7 @@
 use Rattle.std.proofs.Common.{◌≡◌, ℕ, ◌<◌, Bool, true, false, cond, List, length, drop, Option, None, Some, Result, Ok, Err, refl, sym, ap, subst, ◌∙◌, length-drop, arith}
 use Rattle.mq_wire.specs.declared.fault.WireFault.{WireFault}
 use Rattle.mq_wire.specs.Left.{Left, past, placed}
-use Rattle.mq_wire.specs.Fields.{varint_at}
+use Rattle.mq_wire.specs.Fields.{varint_at, ◌>>=◌}
 use Rattle.mq_wire.proofs.Exports.{placed_ok}
 use Rattle.mq_props.specs.declared.fault.PropFault.{PropFault}
 use Rattle.mq_props.specs.declared.fault.PropReason.{PropReason}
@@ -11,7 +11,7 @@ use Rattle.mq_props.specs.declared.table.Place.{Place}
 use Rattle.mq_props.specs.Table.{Line, row_of, is_listed}
 use Rattle.mq_props.specs.Values.{Value, Property}
 use Rattle.mq_props.specs.Allowed.{is_repeated, in_range, is_wild}
-use Rattle.mq_props.specs.Reading.{◌>>=◌, from_wire, judged_at, value_on, admitted, valued, property_on}
+use Rattle.mq_props.specs.Reading.{from_wire, judged_at, value_on, admitted, valued, property_on}
 use Rattle.mq_props.proofs.Finding.{line_known, known_below}
 use Rattle.mq_props.proofs.Fields.{value_at, value_on_is, varint_taken}
 

@@ -5,7 +5,7 @@ use Rattle.std.proofs.lemmas.List.{length-take}
 use Rattle.mq_wire.specs.declared.fault.Reason.{Reason}
 use Rattle.mq_wire.specs.declared.fault.Reason.TheVariants.{Short}
 use Rattle.mq_wire.specs.Left.{Left, past, placed}
-use Rattle.mq_wire.specs.Fields.{varint_at}
+use Rattle.mq_wire.specs.Fields.{varint_at, ◌>>=◌}
 use Rattle.mq_wire.proofs.Exports.{placed_ok}
 use Rattle.mq_props.specs.declared.fault.PropFault.{PropFault}
 use Rattle.mq_props.specs.declared.fault.PropReason.{PropReason}
@@ -14,7 +14,7 @@ use Rattle.mq_props.specs.declared.table.Place.{Place}
 use Rattle.mq_props.specs.Table.{Line, row_of}
 use Rattle.mq_props.specs.Values.{Value, Property}
 use Rattle.mq_props.specs.Listed.{Listed}
-use Rattle.mq_props.specs.Reading.{◌>>=◌, from_wire, judged_at, value_on, admitted, valued, property_on, properties_within, properties_on, counted, list_on, Reads}
+use Rattle.mq_props.specs.Reading.{from_wire, judged_at, value_on, admitted, valued, property_on, properties_within, properties_on, within_length, list_on, ReadsFront}
 use Rattle.mq_props.proofs.Fields.{value_at, value_on_is}
 use Rattle.mq_props.proofs.Sizes.{taken_by, varint_within, value_within}
 use Rattle.mq_props.proofs.Steps.{Found, from_wire_ok, property_on_ok}
@@ -91,7 +91,7 @@ properties_fault : (place : Place) (before : List Property) (left : Left) → If
 unfolding properties_on
 properties_fault place before left = within_fault (length left.rest) place before left
 
-counted_fault : (start : Left) (len : ℕ) (left : Left) → IfErr (counted start len left) (Within start)
+counted_fault : (start : Left) (len : ℕ) (left : Left) → IfErr (within_length start len left) (Within start)
 counted_fault start len left =
     elim (nat_lt (length left.rest) len) as (λ b. IfErr {T = Left} (if b then Err (record { at = start.at; reason = Wire Short }) else Ok (record { at = left.at; rest = take len left.rest })) (Within start)) [
       | true ↦ (omega arith, omega arith)
@@ -99,7 +99,7 @@ counted_fault start len left =
     ]
 
 -- the bytes that a length counts lie in what was left after it
-counted_inside : (start : Left) (len : ℕ) (left inside : Left) → counted start len left ≡ Ok inside → Inside left inside
+counted_inside : (start : Left) (len : ℕ) (left inside : Left) → within_length start len left ≡ Ok inside → Inside left inside
 counted_inside start len left inside e =
     let is = counted_ok start len left inside e in
     subst (λ (l : Left). Inside left l) (sym is.1) (omega arith, omega (arith, is.0, length-take len left.rest))
@@ -107,8 +107,8 @@ counted_inside start len left inside e =
 list_fault : (place : Place) (left : Left) → IfErr (list_on place left) (Within left)
 unfolding list_on
 list_fault place left =
-    bind_within (Within left) (from_wire (placed left (varint_at left.rest))) (λ len. counted left len.0 len.1 >>= λ inside. properties_on place [] inside >>= λ ps. Ok (ps, past len.1 len.0)) (wire_within left (varint_at left.rest)) (λ len named.
-    bind_within (Within left) (counted left len.0 len.1) (λ inside. properties_on place [] inside >>= λ ps. Ok (ps, past len.1 len.0)) (counted_fault left len.0 len.1) (λ inside enough.
+    bind_within (Within left) (from_wire (placed left (varint_at left.rest))) (λ len. within_length left len.0 len.1 >>= λ inside. properties_on place [] inside >>= λ ps. Ok (ps, past len.1 len.0)) (wire_within left (varint_at left.rest)) (λ len named.
+    bind_within (Within left) (within_length left len.0 len.1) (λ inside. properties_on place [] inside >>= λ ps. Ok (ps, past len.1 len.0)) (counted_fault left len.0 len.1) (λ inside enough.
     let behind = field_inside left (varint_at left.rest) len.0 len.1 (varint_within left.rest) named in
     let part = counted_inside left len.0 len.1 inside enough in
     bind_within (Within left) (properties_on place [] inside) (λ ps. Ok (ps, past len.1 len.0)) (part_within left inside (properties_on place [] inside) (omega (arith, behind.0, part.0), omega (arith, behind.1, part.1)) (properties_fault place [] inside)) (λ ps read. tt)))
@@ -118,7 +118,7 @@ pub list_err_within : (place : Place) (left : Left) (fault : PropFault) → list
 list_err_within place left fault e = subst (λ (r : Result (List Property × Left) PropFault). IfErr r (Within left)) e (list_fault place left)
 
 -- as the call answers it
-pub within_result : (place : Place) (left : Left) (result : Result Listed PropFault) (new : Left) → Reads (λ (l : Listed). l.items) result (list_on place left) new
+pub within_result : (place : Place) (left : Left) (result : Result Listed PropFault) (new : Left) → ReadsFront (λ (l : Listed). l.items) result (list_on place left) new
     → IfErr result (λ fault. (left.at ≤ fault.at) × (fault.at ≤ left.at + length left.rest))
 within_result place left (Ok l) new h = tt
 within_result place left (Err fault) new h = list_err_within place left fault h

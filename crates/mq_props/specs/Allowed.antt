@@ -10,7 +10,7 @@ use Rattle.mq_props.specs.declared.table.Range.{Range}
 use Rattle.mq_props.specs.declared.table.Range.TheVariants.{Any, NotZero, ZeroOrOne}
 use Rattle.mq_props.specs.Identifiers.{response_topic}
 use Rattle.mq_props.specs.Table.{Line, row_of, same_place, is_listed, may_repeat}
-use Rattle.mq_props.specs.Values.{Value, byte, two_bytes, four_bytes, varint, text, pair, binary, Property, type_of, IsValue, body}
+use Rattle.mq_props.specs.Values.{Value, byte_value, two_bytes_value, four_bytes_value, varint_value, text_value, pair_value, binary_value, Property, value_type, IsValue, body}
 
 -- A property with the identifier is among these.
 abbrev pub stands_in : ℕ → List Property → Bool
@@ -28,23 +28,23 @@ number_in_range ZeroOrOne n = nat_lt n 2
 
 -- The value is in the range. A range restricts numbers alone.
 abbrev pub in_range : Range → Value → Bool
-in_range range (byte n) = number_in_range range n
-in_range range (two_bytes n) = number_in_range range n
-in_range range (four_bytes n) = number_in_range range n
-in_range range (varint n) = number_in_range range n
-in_range range (text t) = true
-in_range range (pair name value) = true
-in_range range (binary bytes) = true
+in_range range (byte_value n) = number_in_range range n
+in_range range (two_bytes_value n) = number_in_range range n
+in_range range (four_bytes_value n) = number_in_range range n
+in_range range (varint_value n) = number_in_range range n
+in_range range (text_value t) = true
+in_range range (pair_value name value) = true
+in_range range (binary_value bytes) = true
 
 -- The value is a text that has a wildcard.
 abbrev pub has_wildcard : Value → Bool
-has_wildcard (byte n) = false
-has_wildcard (two_bytes n) = false
-has_wildcard (four_bytes n) = false
-has_wildcard (varint n) = false
-has_wildcard (text t) = not (is_name t)
-has_wildcard (pair name value) = false
-has_wildcard (binary bytes) = false
+has_wildcard (byte_value n) = false
+has_wildcard (two_bytes_value n) = false
+has_wildcard (four_bytes_value n) = false
+has_wildcard (varint_value n) = false
+has_wildcard (text_value t) = not (is_name t)
+has_wildcard (pair_value name value) = false
+has_wildcard (binary_value bytes) = false
 
 -- The value is a Response Topic of a PUBLISH with a wildcard (3.3.2.3.5).
 abbrev pub is_wild : Place → ℕ → Value → Bool
@@ -56,7 +56,7 @@ pub record IsAllowed (place : Place) (before : List Property) (p : Property) : T
   pub known : row_of p.id ≡ Some line
   pub listed : is_listed place line ≡ true
   pub once : is_repeated place before p.id ≡ false
-  pub typed : type_of p.value ≡ line.kind
+  pub typed : value_type p.value ≡ line.kind
   pub valid : IsValue p.value
   pub ranged : in_range line.range p.value ≡ true
   pub plain : is_wild place p.id p.value ≡ false

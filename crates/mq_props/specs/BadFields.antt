@@ -2,7 +2,7 @@
 use Rattle.std.specs.Prelude.{◌≡◌, ℕ, ◌+◌, ◌⊎◌, true, false, List, ◌++◌, length, None, Some}
 use Rattle.mq_wire.specs.declared.fault.Reason.{Reason}
 use Rattle.mq_wire.specs.Left.{Left}
-use Rattle.mq_wire.specs.FieldTypes.{FieldType, byte, two_byte_integer, four_byte_integer, variable_byte_integer, utf8_string, string_pair, binary_data}
+use Rattle.mq_wire.specs.FieldTypes.{FieldType, one_byte, two_byte_integer, four_byte_integer, variable_byte_integer, utf8_string, string_pair, binary_data}
 use Rattle.mq_wire.specs.Misspelled.{Misspelled}
 use Rattle.mq_wire.specs.Spellings.{IsVarint, varint_spelling}
 use Rattle.mq_props.specs.declared.fault.PropFault.{PropFault}
@@ -11,7 +11,7 @@ use Rattle.mq_props.specs.declared.table.Place.{Place}
 use Rattle.mq_props.specs.declared.table.ValueType.{ValueType}
 use Rattle.mq_props.specs.declared.table.ValueType.TheVariants as types
 use Rattle.mq_props.specs.Table.{Line, row_of, is_listed}
-use Rattle.mq_props.specs.Values.{Value, Property, type_of, IsValue, value_spelling}
+use Rattle.mq_props.specs.Values.{Value, Property, value_type, IsValue, value_spelling}
 use Rattle.mq_props.specs.Allowed.{is_repeated, in_range, is_wild}
 
 -- What is left begins with a Variable Byte Integer, after which this is left.
@@ -33,14 +33,14 @@ pub record Begins (place : Place) (before : List Property) (left : Left) (line :
 
 -- What is left begins with a value of the type.
 pub record IsValued (kind : ValueType) (left : Left) (value : Value) : Type 0 where
-  pub typed : type_of value ≡ kind
+  pub typed : value_type value ≡ kind
   pub valid : IsValue value
   pub rest : List ℕ
   pub spelled : left.rest ≡ value_spelling value ++ rest
 
 -- The type of field (1.5) of a type of value.
 abbrev pub field_type : ValueType → FieldType
-field_type types.Byte = byte
+field_type types.Byte = one_byte
 field_type types.TwoBytes = two_byte_integer
 field_type types.FourBytes = four_byte_integer
 field_type types.Varint = variable_byte_integer

@@ -40,5 +40,5 @@ pub record BadProperty (place : Place) (left : Left) (fault : PropFault) : Type 
   pub refused : BreaksProperty place good (record { at = inside.at + length (body good); rest = others }) fault
 
 -- The fault is the first one of the list at the front of what is left.
-abbrev pub Breaks : Place → Left → PropFault → Type 0
-Breaks place left fault = BadLength left fault ⊎ (LongLength left fault ⊎ BadProperty place left fault)
+abbrev pub BreaksList : Place → Left → PropFault → Type 0
+BreaksList place left fault = BadLength left fault ⊎ (LongLength left fault ⊎ BadProperty place left fault)

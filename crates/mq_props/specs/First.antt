@@ -1,102 +1,102 @@
 -- The first property of a kind in a list.
 use Rattle.std.specs.Prelude.{ℕ, List, Option, None, Some, option_and_then}
-use Rattle.mq_props.specs.Values.{Value, byte, two_bytes, four_bytes, varint, text, pair, binary, Property}
+use Rattle.mq_props.specs.Values.{Value, byte_value, two_bytes_value, four_bytes_value, varint_value, text_value, pair_value, binary_value, Property}
 use Rattle.mq_props.specs.Allowed.{first_of}
 
 -- The value, if it is a byte.
-abbrev pub byte_of : Value → Option ℕ
-byte_of (byte x) = Some x
-byte_of (two_bytes x) = None
-byte_of (four_bytes x) = None
-byte_of (varint x) = None
-byte_of (text x) = None
-byte_of (pair name value) = None
-byte_of (binary x) = None
+abbrev pub as_byte : Value → Option ℕ
+as_byte (byte_value x) = Some x
+as_byte (two_bytes_value x) = None
+as_byte (four_bytes_value x) = None
+as_byte (varint_value x) = None
+as_byte (text_value x) = None
+as_byte (pair_value name value) = None
+as_byte (binary_value x) = None
 
 -- The value of the first property with the identifier, if it is there and a byte.
 abbrev pub first_byte : ℕ → List Property → Option ℕ
-first_byte id ps = option_and_then byte_of (first_of id ps)
+first_byte id ps = option_and_then as_byte (first_of id ps)
 
 -- The value, if it is a Two Byte Integer.
-abbrev pub two_bytes_of : Value → Option ℕ
-two_bytes_of (byte x) = None
-two_bytes_of (two_bytes x) = Some x
-two_bytes_of (four_bytes x) = None
-two_bytes_of (varint x) = None
-two_bytes_of (text x) = None
-two_bytes_of (pair name value) = None
-two_bytes_of (binary x) = None
+abbrev pub as_two_bytes : Value → Option ℕ
+as_two_bytes (byte_value x) = None
+as_two_bytes (two_bytes_value x) = Some x
+as_two_bytes (four_bytes_value x) = None
+as_two_bytes (varint_value x) = None
+as_two_bytes (text_value x) = None
+as_two_bytes (pair_value name value) = None
+as_two_bytes (binary_value x) = None
 
 -- The value of the first property with the identifier, if it is there and a Two Byte Integer.
 abbrev pub first_two_bytes : ℕ → List Property → Option ℕ
-first_two_bytes id ps = option_and_then two_bytes_of (first_of id ps)
+first_two_bytes id ps = option_and_then as_two_bytes (first_of id ps)
 
 -- The value, if it is a Four Byte Integer.
-abbrev pub four_bytes_of : Value → Option ℕ
-four_bytes_of (byte x) = None
-four_bytes_of (two_bytes x) = None
-four_bytes_of (four_bytes x) = Some x
-four_bytes_of (varint x) = None
-four_bytes_of (text x) = None
-four_bytes_of (pair name value) = None
-four_bytes_of (binary x) = None
+abbrev pub as_four_bytes : Value → Option ℕ
+as_four_bytes (byte_value x) = None
+as_four_bytes (two_bytes_value x) = None
+as_four_bytes (four_bytes_value x) = Some x
+as_four_bytes (varint_value x) = None
+as_four_bytes (text_value x) = None
+as_four_bytes (pair_value name value) = None
+as_four_bytes (binary_value x) = None
 
 -- The value of the first property with the identifier, if it is there and a Four Byte Integer.
 abbrev pub first_four_bytes : ℕ → List Property → Option ℕ
-first_four_bytes id ps = option_and_then four_bytes_of (first_of id ps)
+first_four_bytes id ps = option_and_then as_four_bytes (first_of id ps)
 
 -- The value, if it is a Variable Byte Integer.
-abbrev pub varint_of : Value → Option ℕ
-varint_of (byte x) = None
-varint_of (two_bytes x) = None
-varint_of (four_bytes x) = None
-varint_of (varint x) = Some x
-varint_of (text x) = None
-varint_of (pair name value) = None
-varint_of (binary x) = None
+abbrev pub as_varint : Value → Option ℕ
+as_varint (byte_value x) = None
+as_varint (two_bytes_value x) = None
+as_varint (four_bytes_value x) = None
+as_varint (varint_value x) = Some x
+as_varint (text_value x) = None
+as_varint (pair_value name value) = None
+as_varint (binary_value x) = None
 
 -- The value of the first property with the identifier, if it is there and a Variable Byte Integer.
 abbrev pub first_varint : ℕ → List Property → Option ℕ
-first_varint id ps = option_and_then varint_of (first_of id ps)
+first_varint id ps = option_and_then as_varint (first_of id ps)
 
 -- The value, if it is a text.
-abbrev pub text_of : Value → Option (List ℕ)
-text_of (byte x) = None
-text_of (two_bytes x) = None
-text_of (four_bytes x) = None
-text_of (varint x) = None
-text_of (text x) = Some x
-text_of (pair name value) = None
-text_of (binary x) = None
+abbrev pub as_text : Value → Option (List ℕ)
+as_text (byte_value x) = None
+as_text (two_bytes_value x) = None
+as_text (four_bytes_value x) = None
+as_text (varint_value x) = None
+as_text (text_value x) = Some x
+as_text (pair_value name value) = None
+as_text (binary_value x) = None
 
 -- The value of the first property with the identifier, if it is there and a text.
 abbrev pub first_text : ℕ → List Property → Option (List ℕ)
-first_text id ps = option_and_then text_of (first_of id ps)
+first_text id ps = option_and_then as_text (first_of id ps)
 
 -- The value, if it is a pair of texts.
-abbrev pub pair_of : Value → Option (List ℕ × List ℕ)
-pair_of (byte x) = None
-pair_of (two_bytes x) = None
-pair_of (four_bytes x) = None
-pair_of (varint x) = None
-pair_of (text x) = None
-pair_of (pair name value) = Some (name, value)
-pair_of (binary x) = None
+abbrev pub as_pair : Value → Option (List ℕ × List ℕ)
+as_pair (byte_value x) = None
+as_pair (two_bytes_value x) = None
+as_pair (four_bytes_value x) = None
+as_pair (varint_value x) = None
+as_pair (text_value x) = None
+as_pair (pair_value name value) = Some (name, value)
+as_pair (binary_value x) = None
 
 -- The value of the first property with the identifier, if it is there and a pair of texts.
 abbrev pub first_pair : ℕ → List Property → Option (List ℕ × List ℕ)
-first_pair id ps = option_and_then pair_of (first_of id ps)
+first_pair id ps = option_and_then as_pair (first_of id ps)
 
 -- The value, if it is binary data.
-abbrev pub binary_of : Value → Option (List ℕ)
-binary_of (byte x) = None
-binary_of (two_bytes x) = None
-binary_of (four_bytes x) = None
-binary_of (varint x) = None
-binary_of (text x) = None
-binary_of (pair name value) = None
-binary_of (binary x) = Some x
+abbrev pub as_binary : Value → Option (List ℕ)
+as_binary (byte_value x) = None
+as_binary (two_bytes_value x) = None
+as_binary (four_bytes_value x) = None
+as_binary (varint_value x) = None
+as_binary (text_value x) = None
+as_binary (pair_value name value) = None
+as_binary (binary_value x) = Some x
 
 -- The value of the first property with the identifier, if it is there and binary data.
 abbrev pub first_binary : ℕ → List Property → Option (List ℕ)
-first_binary id ps = option_and_then binary_of (first_of id ps)
+first_binary id ps = option_and_then as_binary (first_of id ps)

@@ -11,6 +11,6 @@ pub record Made : Type 0 where
   pub spare : ℕ
 
 -- The bytes spell a list for the place, and the identifiers that were seen are those of its properties.
-pub record Keeps (place : Place) (seen : Seen) (bytes : List ℕ) : Type 0 where
+pub record HoldsList (place : Place) (seen : Seen) (bytes : List ℕ) : Type 0 where
   pub is_list : IsList place bytes
   pub sees : Sees seen is_list.properties

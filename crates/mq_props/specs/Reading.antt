@@ -4,7 +4,7 @@ use Rattle.std.specs.Option.{option_map_or}
 use Rattle.mq_wire.specs.declared.fault.Reason.TheVariants.{Short}
 use Rattle.mq_wire.specs.declared.fault.WireFault.{WireFault}
 use Rattle.mq_wire.specs.Left.{Left, placed, past}
-use Rattle.mq_wire.specs.Fields.{byte_at, two_bytes_at, four_bytes_at, varint_at, text_at, binary_at, pair_at}
+use Rattle.mq_wire.specs.Fields.{byte_at, two_bytes_at, four_bytes_at, varint_at, text_at, binary_at, pair_at, ◌>>=◌}
 use Rattle.mq_props.specs.declared.fault.PropFault.{PropFault}
 use Rattle.mq_props.specs.declared.fault.PropReason.{PropReason}
 use Rattle.mq_props.specs.declared.fault.PropReason.TheVariants.{Wire, Unknown, NotAllowed, Repeated, Value as BadValue, Wildcard}
@@ -13,14 +13,8 @@ use Rattle.mq_props.specs.declared.table.ValueType.{ValueType}
 use Rattle.mq_props.specs.declared.table.ValueType.TheVariants as types
 use Rattle.mq_props.specs.Faults.{wire_fault}
 use Rattle.mq_props.specs.Table.{Line, row_of, is_listed}
-use Rattle.mq_props.specs.Values.{Value, byte, two_bytes, four_bytes, varint, text, pair, binary, Property}
+use Rattle.mq_props.specs.Values.{Value, byte_value, two_bytes_value, four_bytes_value, varint_value, text_value, pair_value, binary_value, Property}
 use Rattle.mq_props.specs.Allowed.{is_repeated, in_range, is_wild}
-
--- A step that is taken only if the one before it succeeded.
-infixl 10 ◌>>=◌
-abbrev pub ◌>>=◌ : {A B : Type 0} → Result A PropFault → (A → Result B PropFault) → Result B PropFault
-(Ok x) >>= f = f x
-(Err fault) >>= f = Err fault
 
 -- A field's fault is one of the list.
 abbrev pub from_wire : {A : Type 0} → Result A WireFault → Result A PropFault
@@ -39,13 +33,13 @@ as_value make (Err fault) = Err fault
 
 -- A value of the type, at the front of what is left.
 abbrev pub value_on : ValueType → Left → Result (Value × Left) WireFault
-value_on types.Byte left = as_value byte (placed left (byte_at left.rest))
-value_on types.TwoBytes left = as_value two_bytes (placed left (two_bytes_at left.rest))
-value_on types.FourBytes left = as_value four_bytes (placed left (four_bytes_at left.rest))
-value_on types.Varint left = as_value varint (placed left (varint_at left.rest))
-value_on types.Text left = as_value text (placed left (text_at left.rest))
-value_on types.Pair left = as_value (λ texts. pair texts.0 texts.1) (placed left (pair_at left.rest))
-value_on types.Binary left = as_value binary (placed left (binary_at left.rest))
+value_on types.Byte left = as_value byte_value (placed left (byte_at left.rest))
+value_on types.TwoBytes left = as_value two_bytes_value (placed left (two_bytes_at left.rest))
+value_on types.FourBytes left = as_value four_bytes_value (placed left (four_bytes_at left.rest))
+value_on types.Varint left = as_value varint_value (placed left (varint_at left.rest))
+value_on types.Text left = as_value text_value (placed left (text_at left.rest))
+value_on types.Pair left = as_value (λ texts. pair_value texts.0 texts.1) (placed left (pair_at left.rest))
+value_on types.Binary left = as_value binary_value (placed left (binary_at left.rest))
 
 -- The line, if a property of it is allowed in the place's list after these.
 abbrev pub admitted : Place → List Property → Option Line → Result Line PropReason
@@ -79,8 +73,8 @@ unfoldable pub properties_on : Place → List Property → Left → Result (List
 properties_on place before left = properties_within (length left.rest) place before left
 
 -- The bytes that a length counts, or a fault if they aren't all there.
-abbrev pub counted : Left → ℕ → Left → Result Left PropFault
-counted start len left =
+abbrev pub within_length : Left → ℕ → Left → Result Left PropFault
+within_length start len left =
     if nat_lt (length left.rest) len then Err (record { at = start.at; reason = Wire Short })
     else Ok (record { at = left.at; rest = take len left.rest })
 
@@ -88,7 +82,7 @@ counted start len left =
 unfoldable pub list_on : Place → Left → Result (List Property × Left) PropFault
 list_on place left = do
   len ← from_wire (placed left (varint_at left.rest))
-  inside ← counted left len.0 len.1
+  inside ← within_length left len.0 len.1
   ps ← properties_on place [] inside
   Ok (ps, past len.1 len.0)
 
@@ -126,11 +120,6 @@ unfoldable pub items_of : List ℕ → List Property
 items_of bytes = items_on (record { at = 0; rest = bytes })
 
 -- The call returns what was read: its value, and the cursor is past it; or its fault.
-abbrev pub Reads : {X Y : Type 0} → (X → Y) → Result X PropFault → Result (Y × Left) PropFault → Left → Type 0
-Reads view (Ok x) read new = read ≡ Ok (view x, new)
-Reads view (Err fault) read new = read ≡ Err fault
-
--- The call returns this value, as `view` sees it, or this fault.
-abbrev pub Gives : {X Y : Type 0} → (X → Y) → Result X PropFault → Result Y PropFault → Type 0
-Gives view (Ok x) read = read ≡ Ok (view x)
-Gives view (Err fault) read = read ≡ Err fault
+abbrev pub ReadsFront : {X Y : Type 0} → (X → Y) → Result X PropFault → Result (Y × Left) PropFault → Left → Type 0
+ReadsFront view (Ok x) read new = read ≡ Ok (view x, new)
+ReadsFront view (Err fault) read new = read ≡ Err fault

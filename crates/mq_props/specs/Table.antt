@@ -51,40 +51,40 @@ abbrev pub rows_of : List (ℕ × ValueType × Range × Bor (List Place)) → Li
 rows_of rows = map row_view rows
 
 -- A line of these parts.
-abbrev pub line : ℕ → ValueType → Range → List Place → Line
-line id kind range lists = record { id = id; kind = kind; range = range; lists = lists }
+abbrev pub property_line : ℕ → ValueType → Range → List Place → Line
+property_line id kind range lists = record { id = id; kind = kind; range = range; lists = lists }
 
 -- The lines of the table, in the order of the standard. The ranges are those of the sections on each property (3.1.2.11,
 -- 3.2.2.3, 3.3.2.3 and 3.8.2.1.2).
 unfoldable pub rows : List Line
 rows =
-    line payload_format_indicator types.Byte Any (Publish ∷ Will ∷ [])
-    ∷ line message_expiry_interval types.FourBytes Any (Publish ∷ Will ∷ [])
-    ∷ line content_type types.Text Any (Publish ∷ Will ∷ [])
-    ∷ line response_topic types.Text Any (Publish ∷ Will ∷ [])
-    ∷ line correlation_data types.Binary Any (Publish ∷ Will ∷ [])
-    ∷ line subscription_identifier types.Varint NotZero (Publish ∷ Subscribe ∷ [])
-    ∷ line session_expiry_interval types.FourBytes Any (Connect ∷ Connack ∷ Disconnect ∷ [])
-    ∷ line assigned_client_identifier types.Text Any (Connack ∷ [])
-    ∷ line server_keep_alive types.TwoBytes Any (Connack ∷ [])
-    ∷ line authentication_method types.Text Any (Connect ∷ Connack ∷ Auth ∷ [])
-    ∷ line authentication_data types.Binary Any (Connect ∷ Connack ∷ Auth ∷ [])
-    ∷ line request_problem_information types.Byte ZeroOrOne (Connect ∷ [])
-    ∷ line will_delay_interval types.FourBytes Any (Will ∷ [])
-    ∷ line request_response_information types.Byte ZeroOrOne (Connect ∷ [])
-    ∷ line response_information types.Text Any (Connack ∷ [])
-    ∷ line server_reference types.Text Any (Connack ∷ Disconnect ∷ [])
-    ∷ line reason_string types.Text Any (Connack ∷ Puback ∷ Pubrec ∷ Pubrel ∷ Pubcomp ∷ Suback ∷ Unsuback ∷ Disconnect ∷ Auth ∷ [])
-    ∷ line receive_maximum types.TwoBytes NotZero (Connect ∷ Connack ∷ [])
-    ∷ line topic_alias_maximum types.TwoBytes Any (Connect ∷ Connack ∷ [])
-    ∷ line topic_alias types.TwoBytes NotZero (Publish ∷ [])
-    ∷ line maximum_qos types.Byte ZeroOrOne (Connack ∷ [])
-    ∷ line retain_available types.Byte ZeroOrOne (Connack ∷ [])
-    ∷ line user_property types.Pair Any (Connect ∷ Will ∷ Connack ∷ Publish ∷ Puback ∷ Pubrec ∷ Pubrel ∷ Pubcomp ∷ Subscribe ∷ Suback ∷ Unsubscribe ∷ Unsuback ∷ Disconnect ∷ Auth ∷ [])
-    ∷ line maximum_packet_size types.FourBytes NotZero (Connect ∷ Connack ∷ [])
-    ∷ line wildcard_subscription_available types.Byte ZeroOrOne (Connack ∷ [])
-    ∷ line subscription_identifier_available types.Byte ZeroOrOne (Connack ∷ [])
-    ∷ line shared_subscription_available types.Byte ZeroOrOne (Connack ∷ [])
+    property_line payload_format_indicator types.Byte Any (Publish ∷ Will ∷ [])
+    ∷ property_line message_expiry_interval types.FourBytes Any (Publish ∷ Will ∷ [])
+    ∷ property_line content_type types.Text Any (Publish ∷ Will ∷ [])
+    ∷ property_line response_topic types.Text Any (Publish ∷ Will ∷ [])
+    ∷ property_line correlation_data types.Binary Any (Publish ∷ Will ∷ [])
+    ∷ property_line subscription_identifier types.Varint NotZero (Publish ∷ Subscribe ∷ [])
+    ∷ property_line session_expiry_interval types.FourBytes Any (Connect ∷ Connack ∷ Disconnect ∷ [])
+    ∷ property_line assigned_client_identifier types.Text Any (Connack ∷ [])
+    ∷ property_line server_keep_alive types.TwoBytes Any (Connack ∷ [])
+    ∷ property_line authentication_method types.Text Any (Connect ∷ Connack ∷ Auth ∷ [])
+    ∷ property_line authentication_data types.Binary Any (Connect ∷ Connack ∷ Auth ∷ [])
+    ∷ property_line request_problem_information types.Byte ZeroOrOne (Connect ∷ [])
+    ∷ property_line will_delay_interval types.FourBytes Any (Will ∷ [])
+    ∷ property_line request_response_information types.Byte ZeroOrOne (Connect ∷ [])
+    ∷ property_line response_information types.Text Any (Connack ∷ [])
+    ∷ property_line server_reference types.Text Any (Connack ∷ Disconnect ∷ [])
+    ∷ property_line reason_string types.Text Any (Connack ∷ Puback ∷ Pubrec ∷ Pubrel ∷ Pubcomp ∷ Suback ∷ Unsuback ∷ Disconnect ∷ Auth ∷ [])
+    ∷ property_line receive_maximum types.TwoBytes NotZero (Connect ∷ Connack ∷ [])
+    ∷ property_line topic_alias_maximum types.TwoBytes Any (Connect ∷ Connack ∷ [])
+    ∷ property_line topic_alias types.TwoBytes NotZero (Publish ∷ [])
+    ∷ property_line maximum_qos types.Byte ZeroOrOne (Connack ∷ [])
+    ∷ property_line retain_available types.Byte ZeroOrOne (Connack ∷ [])
+    ∷ property_line user_property types.Pair Any (Connect ∷ Will ∷ Connack ∷ Publish ∷ Puback ∷ Pubrec ∷ Pubrel ∷ Pubcomp ∷ Subscribe ∷ Suback ∷ Unsubscribe ∷ Unsuback ∷ Disconnect ∷ Auth ∷ [])
+    ∷ property_line maximum_packet_size types.FourBytes NotZero (Connect ∷ Connack ∷ [])
+    ∷ property_line wildcard_subscription_available types.Byte ZeroOrOne (Connack ∷ [])
+    ∷ property_line subscription_identifier_available types.Byte ZeroOrOne (Connack ∷ [])
+    ∷ property_line shared_subscription_available types.Byte ZeroOrOne (Connack ∷ [])
     ∷ []
 
 -- The line of an identifier, if a property has it.

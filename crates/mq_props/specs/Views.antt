@@ -4,18 +4,18 @@ use Rattle.mq_props.specs.declared.value.Value.{Value as Held}
 use Rattle.mq_props.specs.declared.value.Value.TheVariants as held
 use Rattle.mq_props.specs.declared.value.Item.{Item}
 use Rattle.mq_props.specs.declared.seen.Seen.{Seen}
-use Rattle.mq_props.specs.Values.{Value, byte, two_bytes, four_bytes, varint, text, pair, binary, Property}
+use Rattle.mq_props.specs.Values.{Value, byte_value, two_bytes_value, four_bytes_value, varint_value, text_value, pair_value, binary_value, Property}
 use Rattle.mq_props.specs.Allowed.{stands_in}
 
 -- A value, apart from where its bytes are in memory.
 abbrev pub value_view : Held → Value
-value_view (held.Byte n) = byte n
-value_view (held.TwoBytes n) = two_bytes n
-value_view (held.FourBytes n) = four_bytes n
-value_view (held.Varint n) = varint n
-value_view (held.Text t) = text t.now
-value_view (held.Pair name value) = pair name.now value.now
-value_view (held.Binary bytes) = binary bytes.now
+value_view (held.Byte n) = byte_value n
+value_view (held.TwoBytes n) = two_bytes_value n
+value_view (held.FourBytes n) = four_bytes_value n
+value_view (held.Varint n) = varint_value n
+value_view (held.Text t) = text_value t.now
+value_view (held.Pair name value) = pair_value name.now value.now
+value_view (held.Binary bytes) = binary_value bytes.now
 
 -- A property likewise.
 abbrev pub item_view : Item → Property

@@ -3,9 +3,9 @@
 ghost use Rattle.std.specs.Prelude.{◌≡◌, ◌+◌, ◌<◌, ◌≤◌, ◌||◌, false, [], ◌∷◌, ◌++◌, length, take, OnOk, OnErr, IsOkUnless, MatchOption, Some, Err, nat_lt, vec_len, vec_capacity};
 ghost use Rattle.mq_wire.specs.Spellings.{max_two_bytes, max_varint, has_nul};
 ghost use Rattle.mq_props.specs.Table.{row_view, row_of};
-ghost use Rattle.mq_props.specs.Values.{byte, two_bytes, four_bytes, varint, text, pair, binary, IsValue, value_spelling, property_spelling, body};
+ghost use Rattle.mq_props.specs.Values.{byte_value, two_bytes_value, four_bytes_value, varint_value, text_value, pair_value, binary_value, IsValue, value_spelling, property_spelling, body};
 ghost use Rattle.mq_props.specs.Reading.{items_of};
-ghost use Rattle.mq_props.specs.Pushing.{nul_in, is_long, is_large, is_bad, overflows, fault_of, push_fault, Puts};
+ghost use Rattle.mq_props.specs.Pushing.{nul_in, is_long, is_large, is_bad, overflows, push_fault_by_line, push_fault, AppendsValue};
 ghost use Rattle.mq_props.specs.Views.{Sees, item_view, value_view};
 ghost use Rattle.mq_props.specs.Props.{prop_view};
 
@@ -35,13 +35,13 @@ pub struct PropsBuf {
 impl Model for PropsBuf {
     ghost use Rattle.std.specs.Prelude.{◌-◌, vec_len, vec_capacity};
     ghost use Rattle.mq_props.specs.Reading.{items_of};
-    ghost use Rattle.mq_props.specs.Making.{Made, Keeps};
+    ghost use Rattle.mq_props.specs.Making.{Made, HoldsList};
 
     ghost Value = { Made };
 
     ghost view = { λ b. record { list = record { place = b.place; items = items_of b.bytes.items }; spare = vec_capacity b.bytes - vec_len b.bytes } };
 
-    ghost invariant = { λ b. Keeps b.place b.seen b.bytes.items };
+    ghost invariant = { λ b. HoldsList b.place b.seen b.bytes.items };
 }
 
 fn is_over(bytes: &[u8]) -> bool
@@ -153,7 +153,7 @@ fn fault_with(place: Place, seen: &Seen, bytes: &[u8], row: Row, value: &Value) 
     requires spelled { bytes.now ≡ body (items_of bytes.now) }
     requires bound { length bytes.now ≤ max_varint }
     requires known { row.0 < 43 }
-    ensures { result ≡ fault_of (record { place = place; items = items_of bytes.now }) (value_view value.now) (Some (row_view row.entry)) }
+    ensures { result ≡ push_fault_by_line (record { place = place; items = items_of bytes.now }) (value_view value.now) (Some (row_view row.entry)) }
 {
     if !lists_place(row.3, place) {
         return Some(PushFault::NotAllowed);
@@ -184,21 +184,21 @@ fn fault_in(place: Place, seen: &Seen, bytes: &[u8], item: &Item) -> Option<Push
 
 #[tactic(auto, using(mq_wire::proofs::Exports::number_room))]
 fn put_byte(out: &mut Vec<u8>, number: u8) -> Result<(), PushFault>
-    ensures { Puts (byte number) result out.old out.new }
+    ensures { AppendsValue (byte_value number) result out.old out.new }
 {
     put_u8(out, number).map_err(|_| PushFault::Memory)
 }
 
 #[tactic(auto, using(mq_wire::proofs::Exports::number_room))]
 fn put_two_bytes(out: &mut Vec<u8>, number: u16) -> Result<(), PushFault>
-    ensures { Puts (two_bytes number) result out.old out.new }
+    ensures { AppendsValue (two_bytes_value number) result out.old out.new }
 {
     put_u16(out, number).map_err(|_| PushFault::Memory)
 }
 
 #[tactic(auto, using(mq_wire::proofs::Exports::number_room))]
 fn put_four_bytes(out: &mut Vec<u8>, number: u32) -> Result<(), PushFault>
-    ensures { Puts (four_bytes number) result out.old out.new }
+    ensures { AppendsValue (four_bytes_value number) result out.old out.new }
 {
     put_u32(out, number).map_err(|_| PushFault::Memory)
 }
@@ -206,7 +206,7 @@ fn put_four_bytes(out: &mut Vec<u8>, number: u32) -> Result<(), PushFault>
 #[tactic(auto, using(mq_wire::proofs::Exports::counted_room))]
 fn put_number(out: &mut Vec<u8>, number: u32) -> Result<(), PushFault>
     requires { number ≤ max_varint }
-    ensures { Puts (varint number) result out.old out.new }
+    ensures { AppendsValue (varint_value number) result out.old out.new }
 {
     put_varint(out, number).map_err(|_| PushFault::Memory)
 }
@@ -215,7 +215,7 @@ fn put_number(out: &mut Vec<u8>, number: u32) -> Result<(), PushFault>
 fn put_string(out: &mut Vec<u8>, string: &str) -> Result<(), PushFault>
     requires short { length string.now ≤ max_two_bytes }
     requires no_nul { has_nul string.now ≡ false }
-    ensures { Puts (text string.now) result out.old out.new }
+    ensures { AppendsValue (text_value string.now) result out.old out.new }
 {
     put_text(out, string).map_err(|_| PushFault::Memory)
 }
@@ -226,7 +226,7 @@ fn put_strings(out: &mut Vec<u8>, name: &str, value: &str) -> Result<(), PushFau
     requires value_short { length value.now ≤ max_two_bytes }
     requires name_no_nul { has_nul name.now ≡ false }
     requires value_no_nul { has_nul value.now ≡ false }
-    ensures { Puts (pair name.now value.now) result out.old out.new }
+    ensures { AppendsValue (pair_value name.now value.now) result out.old out.new }
 {
     put_pair(out, name, value).map_err(|_| PushFault::Memory)
 }
@@ -234,7 +234,7 @@ fn put_strings(out: &mut Vec<u8>, name: &str, value: &str) -> Result<(), PushFau
 #[tactic(auto, using(mq_wire::proofs::Exports::counted_room))]
 fn put_bytes(out: &mut Vec<u8>, bytes: &[u8]) -> Result<(), PushFault>
     requires { length bytes.now ≤ max_two_bytes }
-    ensures { Puts (binary bytes.now) result out.old out.new }
+    ensures { AppendsValue (binary_value bytes.now) result out.old out.new }
 {
     put_binary(out, bytes).map_err(|_| PushFault::Memory)
 }
@@ -243,7 +243,7 @@ fn put_value(out: &mut Vec<u8>, value: &Value) -> Result<(), PushFault>
     requires long { is_long (value_view value.now) ≡ false }
     requires nul { nul_in (value_view value.now) ≡ false }
     requires large { is_large (value_view value.now) ≡ false }
-    ensures { Puts (value_view value.now) result out.old out.new }
+    ensures { AppendsValue (value_view value.now) result out.old out.new }
 {
     match *value {
         Value::Byte(number) => put_byte(out, number),

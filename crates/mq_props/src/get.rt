@@ -5,7 +5,7 @@
 
 ghost use Rattle.std.specs.Prelude.{◌≡◌};
 ghost use Rattle.std.specs.Option.{option_map};
-ghost use Rattle.mq_props.specs.First.{byte_of, two_bytes_of, four_bytes_of, varint_of, text_of, pair_of, binary_of, first_byte, first_two_bytes, first_four_bytes, first_varint, first_text, first_pair, first_binary};
+ghost use Rattle.mq_props.specs.First.{as_byte, as_two_bytes, as_four_bytes, as_varint, as_text, as_pair, as_binary, first_byte, first_two_bytes, first_four_bytes, first_varint, first_text, first_pair, first_binary};
 ghost use Rattle.mq_props.specs.Identifiers.{payload_format_indicator, message_expiry_interval, content_type, response_topic, correlation_data, subscription_identifier, session_expiry_interval, assigned_client_identifier, server_keep_alive, authentication_method, authentication_data, request_problem_information, will_delay_interval, request_response_information, response_information, server_reference, reason_string, receive_maximum, topic_alias_maximum, topic_alias, maximum_qos, retain_available, user_property, maximum_packet_size, wildcard_subscription_available, subscription_identifier_available, shared_subscription_available};
 ghost use Rattle.mq_props.specs.Reading.{items_of};
 ghost use Rattle.mq_props.specs.Views.{value_view};
@@ -24,7 +24,7 @@ use crate::value::Value;
 
 impl<'a> Value<'a> {
     fn byte(self) -> Option<u8>
-        ensures { result ≡ byte_of (value_view self.entry) }
+        ensures { result ≡ as_byte (value_view self.entry) }
     {
         match self {
             Value::Byte(value) => Some(value),
@@ -33,7 +33,7 @@ impl<'a> Value<'a> {
     }
 
     fn two_bytes(self) -> Option<u16>
-        ensures { result ≡ two_bytes_of (value_view self.entry) }
+        ensures { result ≡ as_two_bytes (value_view self.entry) }
     {
         match self {
             Value::TwoBytes(value) => Some(value),
@@ -42,7 +42,7 @@ impl<'a> Value<'a> {
     }
 
     fn four_bytes(self) -> Option<u32>
-        ensures { result ≡ four_bytes_of (value_view self.entry) }
+        ensures { result ≡ as_four_bytes (value_view self.entry) }
     {
         match self {
             Value::FourBytes(value) => Some(value),
@@ -51,7 +51,7 @@ impl<'a> Value<'a> {
     }
 
     fn varint(self) -> Option<u32>
-        ensures { result ≡ varint_of (value_view self.entry) }
+        ensures { result ≡ as_varint (value_view self.entry) }
     {
         match self {
             Value::Varint(value) => Some(value),
@@ -60,7 +60,7 @@ impl<'a> Value<'a> {
     }
 
     fn text(self) -> Option<&'a str>
-        ensures { option_map (λ text. text.now) result ≡ text_of (value_view self.entry) }
+        ensures { option_map (λ text. text.now) result ≡ as_text (value_view self.entry) }
     {
         match self {
             Value::Text(value) => Some(value),
@@ -69,7 +69,7 @@ impl<'a> Value<'a> {
     }
 
     fn pair(self) -> Option<(&'a str, &'a str)>
-        ensures { option_map (λ texts. (texts.0.now, texts.1.now)) result ≡ pair_of (value_view self.entry) }
+        ensures { option_map (λ texts. (texts.0.now, texts.1.now)) result ≡ as_pair (value_view self.entry) }
     {
         match self {
             Value::Pair(name, value) => Some((name, value)),
@@ -78,7 +78,7 @@ impl<'a> Value<'a> {
     }
 
     fn binary(self) -> Option<&'a [u8]>
-        ensures { option_map (λ bytes. bytes.now) result ≡ binary_of (value_view self.entry) }
+        ensures { option_map (λ bytes. bytes.now) result ≡ as_binary (value_view self.entry) }
     {
         match self {
             Value::Binary(value) => Some(value),

@@ -7,7 +7,7 @@ ghost use Rattle.mq_props.specs.declared.fault.PropFault.{PropFault};
 ghost use Rattle.mq_props.specs.declared.table.Place.{Place};
 ghost use Rattle.mq_props.specs.Values.{Property, body};
 ghost use Rattle.mq_props.specs.Allowed.{AreAllowed};
-ghost use Rattle.mq_props.specs.Breaks.{Breaks};
+ghost use Rattle.mq_props.specs.Breaks.{BreaksList};
 ghost use Rattle.mq_props.specs.Reading.{properties_on, list_on};
 
 /// Bytes are read as the properties of a place exactly if they spell them.
@@ -23,5 +23,5 @@ pub fn properties_are_exact()
 /// Reading a property list fails with a fault exactly if that is its first one.
 pub fn property_faults_are_exact()
     ensures breaks { (place : Place) (left : Left) (fault : PropFault) → AreBytes left.rest
-        → (list_on place left ≡ Err fault) ↔ Breaks place left fault }
+        → (list_on place left ≡ Err fault) ↔ BreaksList place left fault }
 {}

@@ -1,9 +1,10 @@
 //! Reading a property list.
 
 ghost use Rattle.std.specs.Prelude.{◌≡◌, ◌<◌, List, [], Ok, Err, MatchResult, IfOk};
+ghost use Rattle.mq_wire.specs.Left.{Gives};
 ghost use Rattle.mq_props.specs.Table.{row_of, row_view};
 ghost use Rattle.mq_props.specs.Values.{Property};
-ghost use Rattle.mq_props.specs.Reading.{judged_at, admitted, valued, property_on, properties_on, Reads, Gives};
+ghost use Rattle.mq_props.specs.Reading.{judged_at, admitted, valued, property_on, properties_on, ReadsFront};
 ghost use Rattle.mq_props.specs.Views.{Sees, value_view, item_view};
 
 use crate::fault::{PropFault, PropReason};
@@ -59,7 +60,7 @@ fn judge<'a>(place: Place, row: Row, at: usize, value: Value<'a>) -> Result<Item
 // A property at the front of what is left, after those seen.
 #[tactic(auto, unfolding(crate::specs::Reading::property_on))]
 fn read_item<'a>(place: Place, seen: &Seen, cursor: &mut Cursor<'a>) -> Result<Item<'a>, PropFault>
-    ensures { (before : List Property) → Sees seen.now before → Reads item_view result (property_on place before cursor.old) cursor.new }
+    ensures { (before : List Property) → Sees seen.now before → ReadsFront item_view result (property_on place before cursor.old) cursor.new }
 {
     let start = cursor.at();
     let id = cursor.varint()?;

@@ -3,7 +3,7 @@
 ghost use Rattle.std.specs.Prelude.{◌≡◌, IsSome, IfSome, true};
 ghost use Rattle.mq_props.specs.declared.table.ValueType.TheVariants as types;
 ghost use Rattle.mq_props.specs.Table.{has_kind};
-ghost use Rattle.mq_props.specs.Values.{type_of, byte, two_bytes, four_bytes, varint, text, pair, binary};
+ghost use Rattle.mq_props.specs.Values.{value_type, byte_value, two_bytes_value, four_bytes_value, varint_value, text_value, pair_value, binary_value};
 ghost use Rattle.mq_props.specs.Views.{item_view, value_view};
 ghost use Rattle.mq_props.specs.Props.{prop_view};
 
@@ -107,7 +107,7 @@ pub fn item_of<'a>(prop: Prop<'a>) -> Item<'a>
 
 // The property of an identifier, whose values are of this type.
 fn byte_prop<'a>(id: u8, number: u8) -> Option<Prop<'a>>
-    ensures view { IfSome result (λ prop. prop_view prop ≡ record { id = id; value = byte number }) }
+    ensures view { IfSome result (λ prop. prop_view prop ≡ record { id = id; value = byte_value number }) }
     ensures each { has_kind types.Byte id ≡ true → IsSome result }
 {
     match id {
@@ -127,7 +127,7 @@ fn byte_prop<'a>(id: u8, number: u8) -> Option<Prop<'a>>
 
 // The property of an identifier, whose values are of this type.
 fn two_bytes_prop<'a>(id: u8, number: u16) -> Option<Prop<'a>>
-    ensures view { IfSome result (λ prop. prop_view prop ≡ record { id = id; value = two_bytes number }) }
+    ensures view { IfSome result (λ prop. prop_view prop ≡ record { id = id; value = two_bytes_value number }) }
     ensures each { has_kind types.TwoBytes id ≡ true → IsSome result }
 {
     match id {
@@ -141,7 +141,7 @@ fn two_bytes_prop<'a>(id: u8, number: u16) -> Option<Prop<'a>>
 
 // The property of an identifier, whose values are of this type.
 fn four_bytes_prop<'a>(id: u8, number: u32) -> Option<Prop<'a>>
-    ensures view { IfSome result (λ prop. prop_view prop ≡ record { id = id; value = four_bytes number }) }
+    ensures view { IfSome result (λ prop. prop_view prop ≡ record { id = id; value = four_bytes_value number }) }
     ensures each { has_kind types.FourBytes id ≡ true → IsSome result }
 {
     match id {
@@ -155,7 +155,7 @@ fn four_bytes_prop<'a>(id: u8, number: u32) -> Option<Prop<'a>>
 
 // The property of an identifier, whose values are of this type.
 fn text_prop<'a>(id: u8, string: &'a str) -> Option<Prop<'a>>
-    ensures view { IfSome result (λ prop. prop_view prop ≡ record { id = id; value = text string.entry.now }) }
+    ensures view { IfSome result (λ prop. prop_view prop ≡ record { id = id; value = text_value string.entry.now }) }
     ensures each { has_kind types.Text id ≡ true → IsSome result }
 {
     match id {
@@ -172,7 +172,7 @@ fn text_prop<'a>(id: u8, string: &'a str) -> Option<Prop<'a>>
 
 // The property of an identifier, whose values are of this type.
 fn binary_prop<'a>(id: u8, bytes: &'a [u8]) -> Option<Prop<'a>>
-    ensures view { IfSome result (λ prop. prop_view prop ≡ record { id = id; value = binary bytes.entry.now }) }
+    ensures view { IfSome result (λ prop. prop_view prop ≡ record { id = id; value = binary_value bytes.entry.now }) }
     ensures each { has_kind types.Binary id ≡ true → IsSome result }
 {
     match id {
@@ -184,7 +184,7 @@ fn binary_prop<'a>(id: u8, bytes: &'a [u8]) -> Option<Prop<'a>>
 
 // The property of an identifier, whose values are of this type.
 fn varint_prop<'a>(id: u8, number: u32) -> Option<Prop<'a>>
-    ensures view { IfSome result (λ prop. prop_view prop ≡ record { id = id; value = varint number }) }
+    ensures view { IfSome result (λ prop. prop_view prop ≡ record { id = id; value = varint_value number }) }
     ensures each { has_kind types.Varint id ≡ true → IsSome result }
 {
     match id {
@@ -195,7 +195,7 @@ fn varint_prop<'a>(id: u8, number: u32) -> Option<Prop<'a>>
 
 // The property of an identifier, whose values are of this type.
 fn pair_prop<'a>(id: u8, name: &'a str, value: &'a str) -> Option<Prop<'a>>
-    ensures view { IfSome result (λ prop. prop_view prop ≡ record { id = id; value = pair name.entry.now value.entry.now }) }
+    ensures view { IfSome result (λ prop. prop_view prop ≡ record { id = id; value = pair_value name.entry.now value.entry.now }) }
     ensures each { has_kind types.Pair id ≡ true → IsSome result }
 {
     match id {
@@ -207,7 +207,7 @@ fn pair_prop<'a>(id: u8, name: &'a str, value: &'a str) -> Option<Prop<'a>>
 /// The property with this identifier and value, if the value is of the identifier's type.
 pub fn prop_of<'a>(item: Item<'a>) -> Option<Prop<'a>>
     ensures view { IfSome result (λ prop. prop_view prop ≡ item_view item.entry) }
-    ensures each { has_kind (type_of (item_view item.entry).value) (item_view item.entry).id ≡ true → IsSome result }
+    ensures each { has_kind (value_type (item_view item.entry).value) (item_view item.entry).id ≡ true → IsSome result }
 {
     match item.value {
         Value::Byte(number) => byte_prop(item.id, number),

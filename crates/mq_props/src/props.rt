@@ -7,8 +7,8 @@ ghost use Rattle.mq_wire.specs.Left.{past};
 ghost use Rattle.mq_wire.specs.Spellings.{AreBytes, max_varint};
 ghost use Rattle.mq_props.specs.Values.{Property, body};
 ghost use Rattle.mq_props.specs.Allowed.{first_of, AreAllowed, Lists};
-ghost use Rattle.mq_props.specs.Breaks.{Breaks};
-ghost use Rattle.mq_props.specs.Reading.{properties_on, list_on, item_on, items_on, items_of, Reads};
+ghost use Rattle.mq_props.specs.Breaks.{BreaksList};
+ghost use Rattle.mq_props.specs.Reading.{properties_on, list_on, item_on, items_on, items_of, ReadsFront};
 ghost use Rattle.mq_props.specs.Views.{item_view, value_view};
 ghost use Rattle.mq_props.specs.Props.{prop_view};
 
@@ -82,7 +82,7 @@ fn behind_zero(bytes: &[u8]) -> Option<&[u8]>
 // The property list at the front of what is left. Most have no property.
 #[inline(always)]
 fn list_at<'a>(cursor: &mut Cursor<'a>, place: Place) -> Result<Props<'a>, PropFault>
-    ensures exact { Reads (λ props. props.items) result (list_on place cursor.old) cursor.new }
+    ensures exact { ReadsFront (λ props. props.items) result (list_on place cursor.old) cursor.new }
     ensures place { IfOk result (λ props. props.place ≡ place) }
     ensures err { OnErr result (cursor.new ≡ cursor.old) }
     ensures bytes { AreBytes cursor.old.rest }
@@ -101,7 +101,7 @@ fn list_at<'a>(cursor: &mut Cursor<'a>, place: Place) -> Result<Props<'a>, PropF
 #[inline(never)]
 #[tactic(auto, unfolding(crate::specs::Reading::list_on))]
 fn any_list_at<'a>(cursor: &mut Cursor<'a>, place: Place) -> Result<Props<'a>, PropFault>
-    ensures exact { Reads (λ props. props.items) result (list_on place cursor.old) cursor.new }
+    ensures exact { ReadsFront (λ props. props.items) result (list_on place cursor.old) cursor.new }
     ensures place { IfOk result (λ props. props.place ≡ place) }
     ensures err { OnErr result (cursor.new ≡ cursor.old) }
     ensures bytes { AreBytes cursor.old.rest }
@@ -174,10 +174,10 @@ impl<'a> Props<'a> {
         ensures only { (ps : List Property) (bytes rest : List ℕ) → Lists place ps bytes → cursor.old.rest ≡ bytes ++ rest
             → IsOkAnd result (λ props. props.items ≡ ps) × (cursor.new ≡ past cursor.old (length bytes)) }
         // Else the first invalid field is named.
-        ensures broken { IfErr result (λ fault. Breaks place cursor.old fault) }
+        ensures broken { IfErr result (λ fault. BreaksList place cursor.old fault) }
         // That field begins in what was left, or right after it.
         ensures within { IfErr result (λ fault. (cursor.old.at ≤ fault.at) × (fault.at ≤ cursor.old.at + length cursor.old.rest)) }
-        ensures exact { Reads (λ props. props.items) result (list_on place cursor.old) cursor.new }
+        ensures exact { ReadsFront (λ props. props.items) result (list_on place cursor.old) cursor.new }
         ensures place { IfOk result (λ props. props.place ≡ place) }
         ensures err { OnErr result (cursor.new ≡ cursor.old) }
     {

@@ -2,7 +2,7 @@
 use Rattle.std.proofs.Common.{◌≡◌, ℕ, ◌==◌, Bool, true, false, ◌&&◌, ◌||◌, Option, Some, None, refl, ap, sym, ◌⊎◌, inl, inr}
 use Rattle.std.specs.Prelude.{is_some}
 use Rattle.std.proofs.lemmas.Bool.{eqb-true}
-use Rattle.mq_rules.specs.Words.{or_else}
+use Rattle.std.specs.Option.{option_or}
 
 pub both_true : (a b : Bool) → (a && b) ≡ true → (a ≡ true) × (b ≡ true)
 both_true true true e = (refl, refl)
@@ -73,17 +73,17 @@ same_test false false f g = refl
 
 -- what may be absent
 
-pub or_else-none : {A : Type 0} (o : Option A) → or_else o None ≡ o
-or_else-none None = refl
-or_else-none (Some a) = refl
+pub option_or-none : {A : Type 0} (o : Option A) → option_or o None ≡ o
+option_or-none None = refl
+option_or-none (Some a) = refl
 
-pub or_else-there : {A : Type 0} (o p : Option A) → is_some o ≡ true → is_some (or_else o p) ≡ true
-or_else-there (Some a) p h = refl
-or_else-there None p h = absurd (cc)
+pub option_or-there : {A : Type 0} (o p : Option A) → is_some o ≡ true → is_some (option_or o p) ≡ true
+option_or-there (Some a) p h = refl
+option_or-there None p h = absurd (cc)
 
-pub or_else-other : {A : Type 0} (o p : Option A) → is_some p ≡ true → is_some (or_else o p) ≡ true
-or_else-other (Some a) p h = refl
-or_else-other None p h = h
+pub option_or-other : {A : Type 0} (o p : Option A) → is_some p ≡ true → is_some (option_or o p) ≡ true
+option_or-other (Some a) p h = refl
+option_or-other None p h = h
 
 pub there : {A : Type 0} (o : Option A) → is_some o ≡ true → (a : A) × (o ≡ Some a)
 there None h = absurd (cc)

@@ -1,19 +1,20 @@
 -- What is kept of the latest connection, with one event more.
 use Rattle.std.proofs.Common.{◌≡◌, ℕ, ◌+◌, ◌-◌, ◌<◌, ◌≤◌, ◌==◌, Bool, true, false, cond, ◌&&◌, ◌||◌, not, List, [], ◌∷◌, Option, Some, None, refl, ap, sym, ◌∙◌, arith, zero, suc}
 use Rattle.std.proofs.lemmas.Bool.{ne_eqb, eq-eqb}
+use Rattle.std.specs.Option.{option_or}
 use Rattle.mq_packet.specs.declared.packet.PacketType.TheVariants as types
 use Rattle.mq_rules.specs.declared.role.Role.{Role}
 use Rattle.mq_rules.specs.declared.fate.Fate.TheVariants.{Void}
 use Rattle.mq_rules.specs.declared.note.Note.{Note}
 use Rattle.mq_rules.specs.declared.note.Seen.{Seen}
 use Rattle.mq_rules.specs.declared.conn.state.ConnectionState.{ConnectionState}
-use Rattle.mq_rules.specs.Words.{or_else, is_id, is_some_and}
+use Rattle.mq_rules.specs.Words.{is_id, is_some_and}
 use Rattle.mq_rules.specs.Notes.{is_open, sent_item, is_typed, connect_of, connack_of, client_disconnect, decides, sends_type, receives_type}
 use Rattle.mq_rules.specs.Moments.{Moment, newest, note, some, earliest}
 use Rattle.mq_rules.specs.Connections.{begun, of_connection, connection, accepted, session_expiry, may_be_accepted, is_alive_after}
 use Rattle.mq_rules.specs.Pasts.{sends_typed, is_sent_disconnect, is_sent_refusal, set_alias}
 use Rattle.mq_rules.proofs.BoolLaws.{or-turn}
-use Rattle.mq_rules.specs.Keeping.{kept, is_alias_set, stays_alive, begun_if, followed, after}
+use Rattle.mq_rules.specs.Keeping.{kept, is_alias_set, stays_alive, begun_if, followed, connection_after}
 
 -- ---- the latest connection with one event more
 
@@ -53,10 +54,10 @@ some-next test e past = ap (some test) (connection-next e past) ∙ ap (λ b. te
 some-last : (test : Moment → Bool) (e : Seen) (past : List Seen) → some test (connection (e ∷ past)) ≡ ((not (is_open e.note) && some test (connection past)) || test (newest e past))
 some-last test e past = some-next test e past ∙ or-turn (test (newest e past)) (not (is_open e.note) && some test (connection past))
 
-pub earliest-next : {A : Type 0} (found : Note → Option A) (e : Seen) (past : List Seen) → earliest found (connection (e ∷ past)) ≡ or_else (cond (is_open e.note) None (earliest found (connection past))) (found e.note)
+pub earliest-next : {A : Type 0} (found : Note → Option A) (e : Seen) (past : List Seen) → earliest found (connection (e ∷ past)) ≡ option_or (cond (is_open e.note) None (earliest found (connection past))) (found e.note)
 earliest-next found e past =
     ap (earliest found) (connection-next e past)
-    ∙ ap (λ o. or_else o (found e.note)) (go (is_open e.note))
+    ∙ ap (λ o. option_or o (found e.note)) (go (is_open e.note))
   where
     go : (b : Bool) → earliest found (cond b [] (connection past)) ≡ cond b None (earliest found (connection past))
     go true = refl
@@ -130,10 +131,10 @@ raw : Role → Bool → ConnectionState → Note → ConnectionState
 raw role b s n = record {
   has_begun = b || s.has_begun;
   was_alive = cond b (stays_alive s) s.was_alive;
-  fate = or_else (cond b None s.fate) (decides role n);
-  connect = or_else (cond b None s.connect) (connect_of role n);
-  connack = or_else (cond b None s.connack) (connack_of role n);
-  disconnect = or_else (cond b None s.disconnect) (client_disconnect role n);
+  fate = option_or (cond b None s.fate) (decides role n);
+  connect = option_or (cond b None s.connect) (connect_of role n);
+  connack = option_or (cond b None s.connack) (connack_of role n);
+  disconnect = option_or (cond b None s.disconnect) (client_disconnect role n);
   has_sent = (not b && s.has_sent) || is_some_and is_typed (sent_item n);
   has_sent_connect = (not b && s.has_sent_connect) || sends_type types.Connect n;
   has_sent_connack = (not b && s.has_sent_connack) || sends_type types.Connack n;
@@ -158,7 +159,7 @@ begun-next e past = go (is_open e.note)
     go false = ap (λ n. not (n == 0)) (no_zero (begun past))
 
 -- what is kept, with one event more
-pub kept-next : (role : Role) (e : Seen) (past : List Seen) → kept role (e ∷ past) ≡ after role (kept role past) e.note
+pub kept-next : (role : Role) (e : Seen) (past : List Seen) → kept role (e ∷ past) ≡ connection_after role (kept role past) e.note
 unfolding kept raw
 kept-next role e past =
     (λ i. record {

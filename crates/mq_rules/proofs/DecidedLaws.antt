@@ -2,11 +2,11 @@
 use Rattle.std.proofs.Common.{◌≡◌, ℕ, ◌+◌, ◌<◌, ◌≤◌, nat_le, Bool, true, false, cond, ◌||◌, List, [], ◌∷◌, ◌++◌, length, Option, Some, None, is_some, refl, ap, sym, ◌∙◌, arith, length-append, nat_lt}
 use Rattle.std.specs.Prelude.{option_map}
 use Rattle.std.proofs.lemmas.Bool.{leb-true, le-leb, ltb-true, ltb-false}
+use Rattle.std.specs.Option.{option_or}
 use Rattle.mq_rules.specs.declared.role.Tested.{Tested}
 use Rattle.mq_rules.specs.declared.rule.Rule.{Rule}
 use Rattle.mq_rules.specs.declared.note.Seen.{Seen}
 use Rattle.mq_rules.specs.declared.fault.Fault.{Fault}
-use Rattle.mq_rules.specs.Words.{or_else}
 use Rattle.mq_rules.specs.Moments.{moment, is_next}
 use Rattle.mq_rules.specs.Statements.{fails}
 use Rattle.mq_rules.specs.Steps.{turns}
@@ -14,7 +14,7 @@ use Rattle.mq_rules.specs.Faults.{decided, reported, fault_in}
 use Rattle.mq_rules.proofs.BoolLaws.{not_true}
 use Rattle.mq_rules.proofs.StepLaws.{moment-beyond, moment-next, moment-older, fails-step, fails-kept, fails-nowhere}
 
-some_or : {A : Type 0} (o : Option A) (b : Bool) (a : A) → is_some (or_else o (cond b (Some a) None)) ≡ (is_some o || b)
+some_or : {A : Type 0} (o : Option A) (b : Bool) (a : A) → is_some (option_or o (cond b (Some a) None)) ≡ (is_some o || b)
 some_or None true a = refl
 some_or None false a = refl
 some_or (Some x) b a = refl
@@ -48,10 +48,10 @@ fault_in-nowhere tested log k rule none = ap (λ b. cond b (option_map (reported
 
 -- with one event more a pair has the fault that it had, or else the one that the event shows
 pub fault_in-step : (tested : Tested) (e : Seen) (past : List Seen) (k : ℕ) (rule : Rule)
-    → fault_in tested (e ∷ past) k rule ≡ or_else (fault_in tested past k rule) (cond (turns tested e past k rule) (Some (reported tested.role (moment (e ∷ past) k) rule (length past + 1))) None)
+    → fault_in tested (e ∷ past) k rule ≡ option_or (fault_in tested past k rule) (cond (turns tested e past k rule) (Some (reported tested.role (moment (e ∷ past) k) rule (length past + 1))) None)
 unfolding fault_in
 fault_in-step tested e past k rule =
-    ap (λ b. cond b (option_map at_now (or_else (decided tested past k rule) (cond b (Some (length past + 1)) None))) None) (fails-step tested e past k rule)
+    ap (λ b. cond b (option_map at_now (option_or (decided tested past k rule) (cond b (Some (length past + 1)) None))) None) (fails-step tested e past k rule)
     ∙ go (fails tested past k rule) refl (decided tested past k rule) (decided-fails tested past k rule) (turns tested e past k rule)
   where
     at_now : ℕ → Fault
@@ -65,7 +65,7 @@ fault_in-step tested e past k rule =
     apart h = not_true (is_next past k) (λ t. let none : fails tested past k rule ≡ false = fails-nowhere tested past k rule (moment-next past k t) in absurd (cc))
 
     go : (b : Bool) → fails tested past k rule ≡ b → (o : Option ℕ) → is_some o ≡ fails tested past k rule → (t : Bool)
-        → cond (b || t) (option_map at_now (or_else o (cond (b || t) (Some (length past + 1)) None))) None ≡ or_else (cond b (option_map at_past o) None) (cond t (Some (at_now (length past + 1))) None)
+        → cond (b || t) (option_map at_now (option_or o (cond (b || t) (Some (length past + 1)) None))) None ≡ option_or (cond b (option_map at_past o) None) (cond t (Some (at_now (length past + 1))) None)
     go true h (Some n) is t = ap (λ m. Some (reported tested.role m rule n)) (moment-older e past k (apart h))
     go true h None is t = absurd (cc)
     go false h (Some n) is t = absurd (cc)
@@ -99,7 +99,7 @@ pub decided-within : (tested : Tested) (log : List Seen) (n k : ℕ) (rule : Rul
 decided-within tested [] n k rule h = absurd (cc)
 decided-within tested (e ∷ past) n k rule h = go (decided tested past k rule) refl (fails tested (e ∷ past) k rule) refl h (decided-within tested past n k rule)
   where
-    go : (o : Option ℕ) → decided tested past k rule ≡ o → (b : Bool) → fails tested (e ∷ past) k rule ≡ b → or_else o (cond b (Some (length past + 1)) None) ≡ Some n
+    go : (o : Option ℕ) → decided tested past k rule ≡ o → (b : Bool) → fails tested (e ∷ past) k rule ≡ b → option_or o (cond b (Some (length past + 1)) None) ≡ Some n
         → (decided tested past k rule ≡ Some n → (k ≤ n) × (n ≤ length past)) → (k ≤ n) × (n ≤ length (e ∷ past))
     go (Some x) is b f h rest = let le = rest (is ∙ h) in (le.0, (let l : n ≤ length past = le.1 in omega arith))
     go None is true f h rest =
@@ -119,7 +119,7 @@ decided-reached tested (e ∷ later) past n k rule h = go (decided tested (later
         let q = decided-fails tested (later ++ past) k rule in
         absurd (cc))
 
-    go : (o : Option ℕ) → decided tested (later ++ past) k rule ≡ o → (b : Bool) → or_else o (cond b (Some (length (later ++ past) + 1)) None) ≡ Some n
+    go : (o : Option ℕ) → decided tested (later ++ past) k rule ≡ o → (b : Bool) → option_or o (cond b (Some (length (later ++ past) + 1)) None) ≡ Some n
         → (decided tested (later ++ past) k rule ≡ Some n → fails tested past k rule ≡ nat_le n (length past)) → fails tested past k rule ≡ nat_le n (length past)
     go (Some x) is b h rest = rest (is ∙ h)
     go None is true h rest =

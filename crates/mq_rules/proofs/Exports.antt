@@ -1,5 +1,5 @@
 -- The laws on statements, moments and faults that the crates above cite. They cite no other file of these proofs.
-pub use Rattle.mq_rules.proofs.BoolLaws.{and_false, and_true, both_true, differ, or-turn, or_else-none, or_false, or_left, or_parts, or_right, same_test, there}
+pub use Rattle.mq_rules.proofs.BoolLaws.{and_false, and_true, both_true, differ, or-turn, option_or-none, or_false, or_left, or_parts, or_right, same_test, there}
 pub use Rattle.mq_rules.proofs.ConnLaws.{connection-next as connection-newest, some-next}
 pub use Rattle.mq_rules.proofs.FateLaws.{begun-least, begun-open, begun-same, connection-next, fate-elsewhere, latest_fate-next}
 pub use Rattle.mq_rules.proofs.GrowLaws.{grows-start}

@@ -2,6 +2,7 @@
 use Rattle.std.proofs.Common.{◌≡◌, ℕ, ◌+◌, ◌<◌, ◌≤◌, ◌==◌, Bool, true, false, cond, ◌&&◌, ◌||◌, not, List, [], ◌∷◌, ◌++◌, Option, Some, None, refl, ap, sym, ◌∙◌, arith, zero-add}
 use Rattle.std.specs.Prelude.{is_some, option_map}
 use Rattle.std.proofs.lemmas.Bool.{eq-eqb}
+use Rattle.std.specs.Option.{option_or}
 use Rattle.mq_rules.specs.declared.role.Role.{Role}
 use Rattle.mq_rules.specs.declared.role.Role.TheVariants.{Client, Server}
 use Rattle.mq_rules.specs.declared.fate.Fate.{Fate}
@@ -9,11 +10,10 @@ use Rattle.mq_rules.specs.declared.fate.Fate.TheVariants.{Void}
 use Rattle.mq_rules.specs.declared.note.Note.{Note}
 use Rattle.mq_rules.specs.declared.note.Note.TheVariants as notes
 use Rattle.mq_rules.specs.declared.note.Seen.{Seen}
-use Rattle.mq_rules.specs.Words.{or_else}
 use Rattle.mq_rules.specs.Notes.{is_open, is_close, decides, fate_by, connack_of}
 use Rattle.mq_rules.specs.Moments.{newest, note, earliest}
 use Rattle.mq_rules.specs.Connections.{begun, of_connection, connection, fate, latest_fate, is_connected}
-use Rattle.mq_rules.proofs.BoolLaws.{differ, or_else-none, or_else-other, or_else-there}
+use Rattle.mq_rules.proofs.BoolLaws.{differ, option_or-none, option_or-other, option_or-there}
 
 -- ---- connections
 
@@ -55,17 +55,17 @@ connection-next e past =
 -- ---- fates
 
 -- one event more decides its own connection alone, where that is undecided
-pub fate-next : (role : Role) (c : ℕ) (e : Seen) (past : List Seen) → fate role c (e ∷ past) ≡ or_else (fate role c past) (cond (begun (e ∷ past) == c) (decides role e.note) None)
+pub fate-next : (role : Role) (c : ℕ) (e : Seen) (past : List Seen) → fate role c (e ∷ past) ≡ option_or (fate role c past) (cond (begun (e ∷ past) == c) (decides role e.note) None)
 fate-next role c e past = go (c == 0) (begun (e ∷ past) == c)
   where
     go : (zeroth own : Bool) → cond zeroth (Some Void) (earliest (decides role) (cond own (newest e past ∷ of_connection c past) (of_connection c past)))
-        ≡ or_else (cond zeroth (Some Void) (earliest (decides role) (of_connection c past))) (cond own (decides role e.note) None)
+        ≡ option_or (cond zeroth (Some Void) (earliest (decides role) (of_connection c past))) (cond own (decides role e.note) None)
     go true own = refl
     go false true = refl
-    go false false = sym (or_else-none (earliest (decides role) (of_connection c past)))
+    go false false = sym (option_or-none (earliest (decides role) (of_connection c past)))
 
 pub fate-kept : (role : Role) (c : ℕ) (f : Fate) (e : Seen) (past : List Seen) → fate role c past ≡ Some f → fate role c (e ∷ past) ≡ Some f
-fate-kept role c f e past h = fate-next role c e past ∙ ap (λ o. or_else o (cond (begun (e ∷ past) == c) (decides role e.note) None)) h
+fate-kept role c f e past h = fate-next role c e past ∙ ap (λ o. option_or o (cond (begun (e ∷ past) == c) (decides role e.note) None)) h
 
 -- a fate, once decided, is the same in every longer log
 pub fate-stays : (role : Role) (c : ℕ) (f : Fate) (later past : List Seen) → fate role c past ≡ Some f → fate role c (later ++ past) ≡ Some f
@@ -76,7 +76,7 @@ fate-stays role c f (e ∷ later) past h = fate-kept role c f e (later ++ past) 
 pub fate-elsewhere : (role : Role) (c : ℕ) (e : Seen) (past : List Seen) → c < begun (e ∷ past) → fate role c (e ∷ past) ≡ fate role c past
 fate-elsewhere role c e past h =
     let other : (begun (e ∷ past) == c) ≡ false = differ (begun (e ∷ past)) c (λ q. omega arith) in
-    fate-next role c e past ∙ ap (λ b. or_else (fate role c past) (cond b (decides role e.note) None)) other ∙ or_else-none (fate role c past)
+    fate-next role c e past ∙ ap (λ b. option_or (fate role c past) (cond b (decides role e.note) None)) other ∙ option_or-none (fate role c past)
 
 pub begun-later : (later past : List Seen) → begun past ≤ begun (later ++ past)
 begun-later [] past = omega arith
@@ -111,24 +111,24 @@ pub latest_fate-open : (role : Role) (e : Seen) (past : List Seen) → is_open e
 latest_fate-open role e past h =
     ap (λ n. fate role n (e ∷ past)) (begun-open e past h)
     ∙ fate-next role (1 + begun past) e past
-    ∙ ap (λ o. or_else o (cond (begun (e ∷ past) == 1 + begun past) (decides role e.note) None)) (fate-none role (1 + begun past) past (omega arith))
+    ∙ ap (λ o. option_or o (cond (begun (e ∷ past) == 1 + begun past) (decides role e.note) None)) (fate-none role (1 + begun past) past (omega arith))
     ∙ nothing (begun (e ∷ past) == 1 + begun past) (decides role e.note) (open-decides role e.note h)
   where
     nothing : (b : Bool) (o : Option Fate) → o ≡ None → cond b o None ≡ None
     nothing true o h = h
     nothing false o h = refl
 
-pub latest_fate-same : (role : Role) (e : Seen) (past : List Seen) → is_open e.note ≡ false → latest_fate role (e ∷ past) ≡ or_else (latest_fate role past) (decides role e.note)
+pub latest_fate-same : (role : Role) (e : Seen) (past : List Seen) → is_open e.note ≡ false → latest_fate role (e ∷ past) ≡ option_or (latest_fate role past) (decides role e.note)
 latest_fate-same role e past h =
     let same = begun-same e past h in
     ap (λ n. fate role n (e ∷ past)) same
     ∙ fate-next role (begun past) e past
-    ∙ ap (λ b. or_else (latest_fate role past) (cond b (decides role e.note) None)) (eq-eqb (begun (e ∷ past)) (begun past) same)
+    ∙ ap (λ b. option_or (latest_fate role past) (cond b (decides role e.note) None)) (eq-eqb (begun (e ∷ past)) (begun past) same)
 
-pub latest_fate-next : (role : Role) (e : Seen) (past : List Seen) → latest_fate role (e ∷ past) ≡ cond (is_open e.note) None (or_else (latest_fate role past) (decides role e.note))
+pub latest_fate-next : (role : Role) (e : Seen) (past : List Seen) → latest_fate role (e ∷ past) ≡ cond (is_open e.note) None (option_or (latest_fate role past) (decides role e.note))
 latest_fate-next role e past = go (is_open e.note) refl
   where
-    go : (b : Bool) → is_open e.note ≡ b → latest_fate role (e ∷ past) ≡ cond b None (or_else (latest_fate role past) (decides role e.note))
+    go : (b : Bool) → is_open e.note ≡ b → latest_fate role (e ∷ past) ≡ cond b None (option_or (latest_fate role past) (decides role e.note))
     go true h = latest_fate-open role e past h
     go false h = latest_fate-same role e past h
 
@@ -142,8 +142,8 @@ closed-decided role [] h = refl
 closed-decided role (e ∷ past) h = ap is_some (latest_fate-next role e past) ∙ go (is_open e.note) (is_close e.note) (is_connected past) h (closed-decided role past) (close-decides role e.note)
   where
     go : (opens closes was : Bool) → (opens || (not closes && was)) ≡ false → (was ≡ false → is_some (latest_fate role past) ≡ true) → (closes ≡ true → is_some (decides role e.note) ≡ true)
-        → is_some (cond opens None (or_else (latest_fate role past) (decides role e.note))) ≡ true
+        → is_some (cond opens None (option_or (latest_fate role past) (decides role e.note))) ≡ true
     go true closes was h before now = absurd (cc)
-    go false true was h before now = or_else-other (latest_fate role past) (decides role e.note) (now refl)
+    go false true was h before now = option_or-other (latest_fate role past) (decides role e.note) (now refl)
     go false false true h before now = absurd (cc)
-    go false false false h before now = or_else-there (latest_fate role past) (decides role e.note) (before refl)
+    go false false false h before now = option_or-there (latest_fate role past) (decides role e.note) (before refl)

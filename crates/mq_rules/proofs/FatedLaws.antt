@@ -1,18 +1,19 @@
 -- What fails where the latest connection is taken to have a fate: with the event that decides it, and with one that doesn't.
 use Rattle.std.proofs.Common.{◌≡◌, ℕ, ◌+◌, ◌≤◌, ◌==◌, Bool, true, false, cond, ◌&&◌, ◌||◌, not, List, ◌∷◌, Option, Some, None, refl, ap, sym, ◌∙◌, arith}
 use Rattle.std.proofs.lemmas.Bool.{eqb-true, eq-eqb}
+use Rattle.std.specs.Option.{option_or}
 use Rattle.mq_rules.specs.declared.role.Role.{Role}
 use Rattle.mq_rules.specs.declared.role.Tested.{Tested}
 use Rattle.mq_rules.specs.declared.fate.Fate.{Fate}
 use Rattle.mq_rules.specs.declared.rule.Rule.{Rule}
 use Rattle.mq_rules.specs.declared.note.Seen.{Seen}
-use Rattle.mq_rules.specs.Words.{or_else, is_some_and}
+use Rattle.mq_rules.specs.Words.{is_some_and}
 use Rattle.mq_rules.specs.Notes.{is_open, is_rest, decides}
 use Rattle.mq_rules.specs.Moments.{Moment, newest, moments, moment, is_next, is_after, some}
 use Rattle.mq_rules.specs.Connections.{number, begun, connection, fate, latest_fate, fate_under, accepted, ends_binding, is_binding}
 use Rattle.mq_rules.specs.Rules.{binds}
 use Rattle.mq_rules.specs.Statements.{Statement, on_bytes, on_past, in_session, at_release, at_rest, statement, breaks_bytes, is_false_under, where_accepted, is_false, fails, fails_under}
-use Rattle.mq_rules.proofs.BoolLaws.{and_false, or_false, or_else-none, not_true, differ}
+use Rattle.mq_rules.proofs.BoolLaws.{and_false, or_false, option_or-none, not_true, differ}
 use Rattle.mq_rules.proofs.StepLaws.{moment-next, moment-older, fate-step, false-nowhere}
 use Rattle.mq_rules.proofs.GivenLaws.{decides-closed, rest-undecided, rest-opens-nothing, begun-open, begun-closed, number-within}
 
@@ -81,18 +82,18 @@ unbound-open role e past h =
 deciding-fates : (role : Role) (c : ℕ) (f : Fate) (e : Seen) (past : List Seen) → latest_fate role past ≡ None → decides role e.note ≡ Some f → fate role c (e ∷ past) ≡ fate_under role (Some f) past c
 deciding-fates role c f e past undecided h =
     fate-step role c e past
-    ∙ ap (λ n. or_else (fate role c past) (cond (n == c) (decides role e.note) None)) (begun-closed e past (decides-closed role e.note f h))
-    ∙ ap (λ o. or_else (fate role c past) (cond (begun past == c) o None)) h
+    ∙ ap (λ n. option_or (fate role c past) (cond (n == c) (decides role e.note) None)) (begun-closed e past (decides-closed role e.note f h))
+    ∙ ap (λ o. option_or (fate role c past) (cond (begun past == c) o None)) h
     ∙ go (c == begun past) refl
   where
-    go : (b : Bool) → (c == begun past) ≡ b → or_else (fate role c past) (cond (begun past == c) (Some f) None) ≡ cond b (Some f) (fate role c past)
+    go : (b : Bool) → (c == begun past) ≡ b → option_or (fate role c past) (cond (begun past == c) (Some f) None) ≡ cond b (Some f) (fate role c past)
     go true t =
         let at : c ≡ begun past = eqb-true c (begun past) t in
-        ap (λ o. or_else o (cond (begun past == c) (Some f) None)) (ap (λ n. fate role n past) at ∙ undecided)
+        ap (λ o. option_or o (cond (begun past == c) (Some f) None)) (ap (λ n. fate role n past) at ∙ undecided)
         ∙ ap (λ b. cond b (Some f) None) (eq-eqb (begun past) c (sym at))
     go false t =
-        ap (λ b. or_else (fate role c past) (cond b (Some f) None)) (differ (begun past) c (λ is. let same : (c == begun past) ≡ true = eq-eqb c (begun past) (sym is) in absurd (cc)))
-        ∙ or_else-none (fate role c past)
+        ap (λ b. option_or (fate role c past) (cond b (Some f) None)) (differ (begun past) c (λ is. let same : (c == begun past) ≡ true = eq-eqb c (begun past) (sym is) in absurd (cc)))
+        ∙ option_or-none (fate role c past)
 
 -- with another event on the latest connection, and with an OPEN, each earlier connection has the fate that it had
 going-fates : (role : Role) (c : ℕ) (f : Fate) (e : Seen) (past : List Seen) → is_open e.note ≡ false → fate_under role (Some f) (e ∷ past) c ≡ fate_under role (Some f) past c
@@ -107,17 +108,17 @@ going-fates role c f e past closed =
     go true t = refl
     go false t =
         fate-step role c e past
-        ∙ ap (λ n. or_else (fate role c past) (cond (n == c) (decides role e.note) None)) number-is
-        ∙ ap (λ b. or_else (fate role c past) (cond b (decides role e.note) None)) (differ (begun past) c (λ is. let same : (c == begun past) ≡ true = eq-eqb c (begun past) (sym is) in absurd (cc)))
-        ∙ or_else-none (fate role c past)
+        ∙ ap (λ n. option_or (fate role c past) (cond (n == c) (decides role e.note) None)) number-is
+        ∙ ap (λ b. option_or (fate role c past) (cond b (decides role e.note) None)) (differ (begun past) c (λ is. let same : (c == begun past) ≡ true = eq-eqb c (begun past) (sym is) in absurd (cc)))
+        ∙ option_or-none (fate role c past)
 
 opened-fates : (role : Role) (c : ℕ) (f : Fate) (e : Seen) (past : List Seen) → is_open e.note ≡ true → c ≤ begun past → fate_under role (Some f) (e ∷ past) c ≡ fate role c past
 opened-fates role c f e past opens le =
     let more : begun (e ∷ past) ≡ 1 + begun past = begun-open e past opens in
     ap (λ b. cond b (Some f) (fate role c (e ∷ past))) (differ c (begun (e ∷ past)) (λ is. omega arith))
     ∙ fate-step role c e past
-    ∙ ap (λ b. or_else (fate role c past) (cond b (decides role e.note) None)) (differ (begun (e ∷ past)) c (λ is. omega arith))
-    ∙ or_else-none (fate role c past)
+    ∙ ap (λ b. option_or (fate role c past) (cond b (decides role e.note) None)) (differ (begun (e ∷ past)) c (λ is. omega arith))
+    ∙ option_or-none (fate role c past)
 
 -- ---- what fails
 

@@ -2,13 +2,13 @@
 use Rattle.std.proofs.Common.{◌≡◌, Bool, true, false, cond, ◌&&◌, not, List, [], ◌∷◌, Option, Some, None, refl, ap, sym, ◌∙◌}
 use Rattle.std.specs.Prelude.{is_some}
 use Rattle.std.proofs.lemmas.Bool.{false_from_ne_true}
+use Rattle.std.specs.Option.{option_or}
 use Rattle.mq_rules.specs.declared.role.Role.{Role}
 use Rattle.mq_rules.specs.declared.fate.Fate.{Fate}
 use Rattle.mq_rules.specs.declared.fate.Fate.TheVariants.{Void, New, Resumed}
 use Rattle.mq_rules.specs.declared.note.Note.{Note}
 use Rattle.mq_rules.specs.declared.note.Note.TheVariants as notes
 use Rattle.mq_rules.specs.declared.note.Seen.{Seen}
-use Rattle.mq_rules.specs.Words.{or_else}
 use Rattle.mq_rules.specs.Notes.{is_open, is_release, decides, needs_session}
 use Rattle.mq_rules.specs.Moments.{Moment, newest, some, since, latest}
 use Rattle.mq_rules.specs.Connections.{latest_fate, accepts, begins, any_accepted, has_session, with_first, session, IsInOrder}
@@ -81,9 +81,9 @@ open-idle (notes.Recv item) h = absurd (cc)
 undecided-idle : (n : Bool) (o : Option Fate) → (n ≡ true → is_some o ≡ true) → o ≡ None → n ≡ false
 undecided-idle n o order h = false_from_ne_true n (λ t. absurd (let there = order t in let never : is_some o ≡ false = ap is_some h in cc))
 
-or_else-left : {A : Type 0} (o p : Option A) → or_else o p ≡ None → o ≡ None
-or_else-left None p h = refl
-or_else-left (Some a) p h = absurd (cc)
+option_or-left : {A : Type 0} (o p : Option A) → option_or o p ≡ None → o ≡ None
+option_or-left None p h = refl
+option_or-left (Some a) p h = absurd (cc)
 
 module _ {A : Type 0} (g : Moment → A → A) (z : A) (packets : ByPackets g) (role : Role) where
   -- on an undecided connection nothing has been of the session
@@ -102,7 +102,7 @@ module _ {A : Type 0} (g : Moment → A → A) (z : A) (packets : ByPackets g) (
       new true = refl
       new false = refl
 
-      go : (b : Bool) → is_open e.note ≡ b → cond b None (or_else (latest_fate role past) (decides role e.note)) ≡ None → Before
+      go : (b : Bool) → is_open e.note ≡ b → cond b None (option_or (latest_fate role past) (decides role e.note)) ≡ None → Before
           → folded g z (with_first (has_session role f e past) (newest e past) (rest b f)) ≡ cond (begins f) z (folded g z (with_first (has_session role None e past) (newest e past) (rest b None)))
       go true t h before =
           let idle : (a : A) → g (newest e past) a ≡ a = λ a. packets.idle (newest e past) a (open-idle e.note t) in
@@ -110,7 +110,7 @@ module _ {A : Type 0} (g : Moment → A → A) (z : A) (packets : ByPackets g) (
           ∙ new (begins f)
           ∙ ap (cond (begins f) z) (sym (with_first-idle g z (has_session role None e past) (newest e past) (session role (latest_fate role past) past) idle))
       go false t h before =
-          let none = or_else-left (latest_fate role past) (decides role e.note) h in
+          let none = option_or-left (latest_fate role past) (decides role e.note) h in
           let idle : (a : A) → g (newest e past) a ≡ a = λ a. packets.idle (newest e past) a (undecided-idle (needs_session e.note) (latest_fate role past) order.0 none) in
           with_first-idle g z (has_session role f e past) (newest e past) (session role f past) idle
           ∙ before none f
@@ -166,15 +166,15 @@ module _ {A : Type 0} (g : Moment → A → A) (z : A) (packets : ByPackets g) (
       ap (λ f. folded g z (session role f (e ∷ past))) (latest_fate-next role e past) ∙ go (is_open e.note) (latest_fate role past) refl refl
     where
       go : (b : Bool) (o : Option Fate) → is_open e.note ≡ b → latest_fate role past ≡ o
-          → folded g z (session role (cond b None (or_else (latest_fate role past) (decides role e.note))) (e ∷ past))
+          → folded g z (session role (cond b None (option_or (latest_fate role past) (decides role e.note))) (e ∷ past))
           ≡ kept_by role (latest_fate role past) e.note (g (newest e past)) z (folded g z (session role (latest_fate role past) past))
       go true o t is =
           next-opened e past t ∙ sym (kept-open (latest_fate role past) e.note (g (newest e past)) (folded g z (session role (latest_fate role past) past)) t)
       go false (Some f) t is =
-          ap (λ o. folded g z (session role (or_else o (decides role e.note)) (e ∷ past))) is
+          ap (λ o. folded g z (session role (option_or o (decides role e.note)) (e ∷ past))) is
           ∙ next-decided e past f t
           ∙ sym (ap (λ o. kept_by role o e.note (g (newest e past)) z (folded g z (session role o past))) is)
       go false None t is =
-          ap (λ o. folded g z (session role (or_else o (decides role e.note)) (e ∷ past))) is
+          ap (λ o. folded g z (session role (option_or o (decides role e.note)) (e ∷ past))) is
           ∙ next-undecided e past t order is
           ∙ sym (ap (λ o. kept_by role o e.note (g (newest e past)) z (folded g z (session role o past))) is)

@@ -1,6 +1,7 @@
 -- The fate that an event gives to the latest connection.
 use Rattle.std.proofs.Common.{◌≡◌, ℕ, ◌+◌, ◌<◌, ◌≤◌, ◌==◌, Bool, true, false, cond, List, [], ◌∷◌, Option, Some, None, is_some, refl, ap, sym, ◌∙◌, arith}
 use Rattle.std.proofs.lemmas.Bool.{eqb-true, eq-eqb}
+use Rattle.std.specs.Option.{option_or}
 use Rattle.mq_rules.specs.declared.role.Role.{Role}
 use Rattle.mq_rules.specs.declared.role.Role.TheVariants.{Client, Server}
 use Rattle.mq_rules.specs.declared.fate.Fate.{Fate}
@@ -8,7 +9,6 @@ use Rattle.mq_rules.specs.declared.fate.Fate.TheVariants.{Void}
 use Rattle.mq_rules.specs.declared.note.Note.{Note}
 use Rattle.mq_rules.specs.declared.note.Note.TheVariants as notes
 use Rattle.mq_rules.specs.declared.note.Seen.{Seen}
-use Rattle.mq_rules.specs.Words.{or_else}
 use Rattle.mq_rules.specs.Notes.{is_open, is_rest, decides, needs_session}
 use Rattle.mq_rules.specs.Moments.{Moment, newest, moment, is_next, earliest}
 use Rattle.mq_rules.specs.Connections.{number, begun, of_connection, fate, latest_fate}
@@ -99,22 +99,22 @@ nothing : (b : Bool) (o : Option Fate) → o ≡ None → cond b o None ≡ None
 nothing true o h = h
 nothing false o h = refl
 
-pub latest_fate-next : (role : Role) (e : Seen) (past : List Seen) → latest_fate role (e ∷ past) ≡ cond (is_open e.note) None (or_else (latest_fate role past) (decides role e.note))
+pub latest_fate-next : (role : Role) (e : Seen) (past : List Seen) → latest_fate role (e ∷ past) ≡ cond (is_open e.note) None (option_or (latest_fate role past) (decides role e.note))
 latest_fate-next role e past = go (is_open e.note) refl
   where
     c : ℕ
     c = begun (e ∷ past)
 
-    go : (b : Bool) → is_open e.note ≡ b → fate role c (e ∷ past) ≡ cond b None (or_else (latest_fate role past) (decides role e.note))
+    go : (b : Bool) → is_open e.note ≡ b → fate role c (e ∷ past) ≡ cond b None (option_or (latest_fate role past) (decides role e.note))
     go true t =
         let more : begun (e ∷ past) ≡ 1 + begun past = begun-open e past t in
         fate-step role c e past
-        ∙ ap (λ o. or_else o (cond (c == c) (decides role e.note) None)) (fate-unbegun role c past (omega arith))
+        ∙ ap (λ o. option_or o (cond (c == c) (decides role e.note) None)) (fate-unbegun role c past (omega arith))
         ∙ nothing (c == c) (decides role e.note) (open-undecided role e.note t)
     go false t =
         fate-step role c e past
-        ∙ ap (λ b. or_else (fate role c past) (cond b (decides role e.note) None)) (eq-eqb c c refl)
-        ∙ ap (λ n. or_else (fate role n past) (decides role e.note)) (begun-closed e past t)
+        ∙ ap (λ b. option_or (fate role c past) (cond b (decides role e.note) None)) (eq-eqb c c refl)
+        ∙ ap (λ n. option_or (fate role n past) (decides role e.note)) (begun-closed e past t)
 
 -- a connection that was decided at a moment is decided so in the log
 pub fate-from : (role : Role) (c : ℕ) (f : Fate) (log : List Seen) (k : ℕ) (m : Moment) → moment log k ≡ Some m → fate role c m.past ≡ Some f → fate role c log ≡ Some f
@@ -130,7 +130,7 @@ pub given-gives : (role : Role) (e : Seen) (past : List Seen) (c : ℕ) (f : Fat
     → (c ≡ begun past) × (is_open e.note ≡ false) × (decides role e.note ≡ Some f) × (fate role c past ≡ None)
 given-gives role e past c f h = go (fate role c past) refl (begun (e ∷ past) == c) refl (ap (cond (is_some (fate role c past)) None) (sym (fate-step role c e past)) ∙ h)
   where
-    go : (o : Option Fate) → fate role c past ≡ o → (b : Bool) → (begun (e ∷ past) == c) ≡ b → cond (is_some o) None (or_else o (cond b (decides role e.note) None)) ≡ Some f
+    go : (o : Option Fate) → fate role c past ≡ o → (b : Bool) → (begun (e ∷ past) == c) ≡ b → cond (is_some o) None (option_or o (cond b (decides role e.note) None)) ≡ Some f
         → (c ≡ begun past) × (is_open e.note ≡ false) × (decides role e.note ≡ Some f) × (fate role c past ≡ None)
     go (Some g) is b t h = absurd (cc)
     go None is false t h = absurd (cc)

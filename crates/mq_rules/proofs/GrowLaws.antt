@@ -1,5 +1,6 @@
 -- How the faults grow, by several statements and by several events.
 use Rattle.std.proofs.Common.{◌≡◌, ℕ, ◌+◌, ◌<◌, ◌==◌, Bool, true, false, cond, ◌&&◌, ◌||◌, List, [], ◌∷◌, length, take, drop, get_or, Option, Some, None, refl, ap, sym, subst, ◌∙◌, arith, add-one, zero, suc, ◌⊎◌, inl, inr}
+use Rattle.std.specs.Option.{option_or}
 use mathlib.Core.List.{reverse_aux}
 use Rattle.mq_trace.specs.declared.place.Place3.{Place3}
 use Rattle.mq_rules.specs.declared.role.Tested.{Tested}
@@ -7,14 +8,13 @@ use Rattle.mq_rules.specs.declared.rule.Rule.{Rule}
 use Rattle.mq_rules.specs.declared.rule.Rule.TheVariants.{W01}
 use Rattle.mq_rules.specs.declared.fault.Fault.{Fault}
 use Rattle.mq_rules.specs.declared.note.Seen.{Seen}
-use Rattle.mq_rules.specs.Words.{or_else}
 use Rattle.mq_rules.specs.Moments.{moment}
 use Rattle.mq_rules.specs.Rules.{same_rule}
 use Rattle.mq_rules.specs.Steps.{turns}
 use Rattle.mq_rules.specs.Marks.{FaultMap, fault_at, judged}
 use Rattle.mq_rules.specs.Faults.{reported, fault_in, Grows, GrowsWithin}
 use Rattle.mq_rules.specs.Keeping.{is_among, is_any_broken, at_place, Judges, JudgesWithin, news, GrowsBy, GrowsByWithin}
-use Rattle.mq_rules.proofs.BoolLaws.{and_false, or_false, or_else-none}
+use Rattle.mq_rules.proofs.BoolLaws.{and_false, or_false, option_or-none}
 use Rattle.mq_rules.proofs.MarkLaws.{fault_at-judged, same_told}
 use Rattle.mq_rules.proofs.DecidedLaws.{fault_in-step, fault_in-start}
 
@@ -25,16 +25,16 @@ nothing_at place k = ap (λ b. cond b (Some (record { decided = place.position; 
 
 -- where no statement is false, the faults are unchanged
 pub judges-none : (place : Place3) (faults : FaultMap) → Judges (λ rule. false) place faults faults
-judges-none place faults = record { each = λ k rule. sym (ap (or_else (fault_at faults k rule)) (nothing_at place k) ∙ or_else-none (fault_at faults k rule)) }
+judges-none place faults = record { each = λ k rule. sym (ap (option_or (fault_at faults k rule)) (nothing_at place k) ∙ option_or-none (fault_at faults k rule)) }
 
 pub judges-same : (f g : Rule → Bool) (place : Place3) (old new : FaultMap) → ((rule : Rule) → f rule ≡ g rule) → Judges f place old new → Judges g place old new
-judges-same f g place old new same h = record { each = λ k rule. h.each k rule ∙ ap (λ b. or_else (fault_at old k rule) (at_place place k b)) (same rule) }
+judges-same f g place old new same h = record { each = λ k rule. h.each k rule ∙ ap (λ b. option_or (fault_at old k rule) (at_place place k b)) (same rule) }
 
-both_at : (place : Place3) (k : ℕ) (o : Option Fault) (f g : Bool) → or_else (or_else o (at_place place k f)) (at_place place k g) ≡ or_else o (at_place place k (f || g))
+both_at : (place : Place3) (k : ℕ) (o : Option Fault) (f g : Bool) → option_or (option_or o (at_place place k f)) (at_place place k g) ≡ option_or o (at_place place k (f || g))
 both_at place k (Some x) f g = refl
 both_at place k None f g = go (k == place.position) f g
   where
-    go : (t f g : Bool) → or_else {A = Fault} (cond (t && f) (Some (record { decided = place.position; record_no = place.record_no; offset = None })) None) (cond (t && g) (Some (record { decided = place.position; record_no = place.record_no; offset = None })) None)
+    go : (t f g : Bool) → option_or {T = Fault} (cond (t && f) (Some (record { decided = place.position; record_no = place.record_no; offset = None })) None) (cond (t && g) (Some (record { decided = place.position; record_no = place.record_no; offset = None })) None)
         ≡ cond {A = Option Fault} (t && (f || g)) (Some (record { decided = place.position; record_no = place.record_no; offset = None })) None
     go true true g = refl
     go true false g = refl
@@ -43,31 +43,31 @@ both_at place k None f g = go (k == place.position) f g
 -- some statements in turn, and then others
 pub judges-then : (f g : Rule → Bool) (place : Place3) (old mid new : FaultMap) → Judges f place old mid → Judges g place mid new → Judges (λ rule. f rule || g rule) place old new
 judges-then f g place old mid new p q = record {
-  each = λ k rule. q.each k rule ∙ ap (λ o. or_else o (at_place place k (g rule))) (p.each k rule) ∙ both_at place k (fault_at old k rule) (f rule) (g rule);
+  each = λ k rule. q.each k rule ∙ ap (λ o. option_or o (at_place place k (g rule))) (p.each k rule) ∙ both_at place k (fault_at old k rule) (f rule) (g rule);
 }
 
 -- the first of two parts was refused
 pub within-first : (f g : Rule → Bool) (place : Place3) (old new : FaultMap) → JudgesWithin f place old new → JudgesWithin (λ rule. f rule || g rule) place old new
 within-first f g place old new p = record { each = λ k rule. go k rule (f rule) refl (p.each k rule) }
   where
-    go : (k : ℕ) (rule : Rule) (b : Bool) → f rule ≡ b → (fault_at new k rule ≡ fault_at old k rule) ⊎ (fault_at new k rule ≡ or_else (fault_at old k rule) (at_place place k (f rule)))
-        → (fault_at new k rule ≡ fault_at old k rule) ⊎ (fault_at new k rule ≡ or_else (fault_at old k rule) (at_place place k (f rule || g rule)))
+    go : (k : ℕ) (rule : Rule) (b : Bool) → f rule ≡ b → (fault_at new k rule ≡ fault_at old k rule) ⊎ (fault_at new k rule ≡ option_or (fault_at old k rule) (at_place place k (f rule)))
+        → (fault_at new k rule ≡ fault_at old k rule) ⊎ (fault_at new k rule ≡ option_or (fault_at old k rule) (at_place place k (f rule || g rule)))
     go k rule b is (inl same) = inl same
-    go k rule true is (inr more) = inr (more ∙ ap (λ t. or_else (fault_at old k rule) (at_place place k t)) (is ∙ sym (ap (λ t. t || g rule) is)))
-    go k rule false is (inr more) = inl (more ∙ ap (λ t. or_else (fault_at old k rule) (at_place place k t)) is ∙ ap (or_else (fault_at old k rule)) (nothing_at place k) ∙ or_else-none (fault_at old k rule))
+    go k rule true is (inr more) = inr (more ∙ ap (λ t. option_or (fault_at old k rule) (at_place place k t)) (is ∙ sym (ap (λ t. t || g rule) is)))
+    go k rule false is (inr more) = inl (more ∙ ap (λ t. option_or (fault_at old k rule) (at_place place k t)) is ∙ ap (option_or (fault_at old k rule)) (nothing_at place k) ∙ option_or-none (fault_at old k rule))
 
 -- the second of two parts was refused
 pub within-second : (f g : Rule → Bool) (place : Place3) (old mid new : FaultMap) → Judges f place old mid → JudgesWithin g place mid new → JudgesWithin (λ rule. f rule || g rule) place old new
 within-second f g place old mid new p q = record { each = λ k rule. go k rule (f rule) refl (q.each k rule) }
   where
-    whole : (k : ℕ) (rule : Rule) → fault_at new k rule ≡ or_else (fault_at mid k rule) (at_place place k (g rule)) → fault_at new k rule ≡ or_else (fault_at old k rule) (at_place place k (f rule || g rule))
-    whole k rule more = more ∙ ap (λ o. or_else o (at_place place k (g rule))) (p.each k rule) ∙ both_at place k (fault_at old k rule) (f rule) (g rule)
+    whole : (k : ℕ) (rule : Rule) → fault_at new k rule ≡ option_or (fault_at mid k rule) (at_place place k (g rule)) → fault_at new k rule ≡ option_or (fault_at old k rule) (at_place place k (f rule || g rule))
+    whole k rule more = more ∙ ap (λ o. option_or o (at_place place k (g rule))) (p.each k rule) ∙ both_at place k (fault_at old k rule) (f rule) (g rule)
 
-    go : (k : ℕ) (rule : Rule) (b : Bool) → f rule ≡ b → (fault_at new k rule ≡ fault_at mid k rule) ⊎ (fault_at new k rule ≡ or_else (fault_at mid k rule) (at_place place k (g rule)))
-        → (fault_at new k rule ≡ fault_at old k rule) ⊎ (fault_at new k rule ≡ or_else (fault_at old k rule) (at_place place k (f rule || g rule)))
+    go : (k : ℕ) (rule : Rule) (b : Bool) → f rule ≡ b → (fault_at new k rule ≡ fault_at mid k rule) ⊎ (fault_at new k rule ≡ option_or (fault_at mid k rule) (at_place place k (g rule)))
+        → (fault_at new k rule ≡ fault_at old k rule) ⊎ (fault_at new k rule ≡ option_or (fault_at old k rule) (at_place place k (f rule || g rule)))
     go k rule b is (inr more) = inr (whole k rule more)
-    go k rule true is (inl same) = inr (same ∙ p.each k rule ∙ ap (λ t. or_else (fault_at old k rule) (at_place place k t)) (is ∙ sym (ap (λ t. t || g rule) is)))
-    go k rule false is (inl same) = inl (same ∙ p.each k rule ∙ ap (λ t. or_else (fault_at old k rule) (at_place place k t)) is ∙ ap (or_else (fault_at old k rule)) (nothing_at place k) ∙ or_else-none (fault_at old k rule))
+    go k rule true is (inl same) = inr (same ∙ p.each k rule ∙ ap (λ t. option_or (fault_at old k rule) (at_place place k t)) (is ∙ sym (ap (λ t. t || g rule) is)))
+    go k rule false is (inl same) = inl (same ∙ p.each k rule ∙ ap (λ t. option_or (fault_at old k rule) (at_place place k t)) is ∙ ap (option_or (fault_at old k rule)) (nothing_at place k) ∙ option_or-none (fault_at old k rule))
 
 -- what was judged in full is within it
 pub within-all : (f : Rule → Bool) (place : Place3) (old new : FaultMap) → Judges f place old new → JudgesWithin f place old new
@@ -76,10 +76,10 @@ within-all f place old new p = record { each = λ k rule. inr (p.each k rule) }
 pub within-same : (f g : Rule → Bool) (place : Place3) (old new : FaultMap) → ((rule : Rule) → f rule ≡ g rule) → JudgesWithin f place old new → JudgesWithin g place old new
 within-same f g place old new same h = record { each = λ k rule. go k rule (h.each k rule) }
   where
-    go : (k : ℕ) (rule : Rule) → (fault_at new k rule ≡ fault_at old k rule) ⊎ (fault_at new k rule ≡ or_else (fault_at old k rule) (at_place place k (f rule)))
-        → (fault_at new k rule ≡ fault_at old k rule) ⊎ (fault_at new k rule ≡ or_else (fault_at old k rule) (at_place place k (g rule)))
+    go : (k : ℕ) (rule : Rule) → (fault_at new k rule ≡ fault_at old k rule) ⊎ (fault_at new k rule ≡ option_or (fault_at old k rule) (at_place place k (f rule)))
+        → (fault_at new k rule ≡ fault_at old k rule) ⊎ (fault_at new k rule ≡ option_or (fault_at old k rule) (at_place place k (g rule)))
     go k rule (inl e) = inl e
-    go k rule (inr e) = inr (e ∙ ap (λ b. or_else (fault_at old k rule) (at_place place k b)) (same rule))
+    go k rule (inr e) = inr (e ∙ ap (λ b. option_or (fault_at old k rule) (at_place place k b)) (same rule))
 
 -- ---- a list of statements
 
@@ -117,7 +117,7 @@ and_turn false false = refl
 pub judges-one : (m : FaultMap) (b : Bool) (s : Rule) (place : Place3) → Judges (λ rule. b && same_rule rule s) place m (judged b s place m)
 judges-one m b s place = record {
   each = λ k rule. fault_at-judged m b s rule place k
-      ∙ ap (or_else (fault_at m k rule)) (sym (same_told k place.position (same_rule rule s && b) (λ n. record { decided = n; record_no = place.record_no; offset = None }))
+      ∙ ap (option_or (fault_at m k rule)) (sym (same_told k place.position (same_rule rule s && b) (λ n. record { decided = n; record_no = place.record_no; offset = None }))
       ∙ ap (at_place place k) (and_turn (same_rule rule s) b));
 }
 
@@ -152,7 +152,7 @@ within-part vs i place old new h =
 -- ---- one event more
 
 -- a pair's fault of the events so far, or else the one that the next event shows
-one_more : (o : Option Fault) (c : Bool) (here : Option Fault) (t : Bool) (x : Fault) → or_else (or_else o (cond c here None)) (cond (c && t) (Some x) None) ≡ or_else o (cond c (or_else here (cond t (Some x) None)) None)
+one_more : (o : Option Fault) (c : Bool) (here : Option Fault) (t : Bool) (x : Fault) → option_or (option_or o (cond c here None)) (cond (c && t) (Some x) None) ≡ option_or o (cond c (option_or here (cond t (Some x) None)) None)
 one_more (Some y) c here t x = refl
 one_more None true here t x = refl
 one_more None false here t x = refl
@@ -162,15 +162,15 @@ pub grows-step : (chosen : Rule → Bool) (tested : Tested) (e : Seen) (past : L
     → Grows chosen tested past first old → GrowsBy chosen tested e past old new → Grows chosen tested (e ∷ past) first new
 grows-step chosen tested e past first old new was more = record {
   each = λ k rule. more.each k rule
-      ∙ ap (λ o. or_else o (news chosen tested e past k rule)) (was.each k rule)
+      ∙ ap (λ o. option_or o (news chosen tested e past k rule)) (was.each k rule)
       ∙ one_more (fault_at first k rule) (chosen rule) (fault_in tested past k rule) (turns tested e past k rule) (reported tested.role (moment (e ∷ past) k) rule (length past + 1))
-      ∙ ap (λ o. or_else (fault_at first k rule) (cond (chosen rule) o None)) (sym (fault_in-step tested e past k rule));
+      ∙ ap (λ o. option_or (fault_at first k rule) (cond (chosen rule) o None)) (sym (fault_in-step tested e past k rule));
 }
 
 pub grows-start : (chosen : Rule → Bool) (tested : Tested) (faults : FaultMap) → Grows chosen tested [] faults faults
 grows-start chosen tested faults = record {
-  each = λ k rule. sym (ap (λ o. or_else (fault_at faults k rule) (cond (chosen rule) o None)) (fault_in-start tested k rule)
-      ∙ ap (or_else (fault_at faults k rule)) (alike (chosen rule)) ∙ or_else-none (fault_at faults k rule));
+  each = λ k rule. sym (ap (λ o. option_or (fault_at faults k rule) (cond (chosen rule) o None)) (fault_in-start tested k rule)
+      ∙ ap (option_or (fault_at faults k rule)) (alike (chosen rule)) ∙ option_or-none (fault_at faults k rule));
 }
   where
     alike : (c : Bool) → cond {A = Option Fault} c None None ≡ None
@@ -181,20 +181,20 @@ grows-start chosen tested faults = record {
 
 -- the fault of a pair stays with one event more
 fault_stays : (tested : Tested) (e : Seen) (past : List Seen) (k : ℕ) (rule : Rule) (x : Fault) → fault_in tested past k rule ≡ Some x → fault_in tested (e ∷ past) k rule ≡ Some x
-fault_stays tested e past k rule x h = fault_in-step tested e past k rule ∙ ap (λ o. or_else o (cond (turns tested e past k rule) (Some (reported tested.role (moment (e ∷ past) k) rule (length past + 1))) None)) h
+fault_stays tested e past k rule x h = fault_in-step tested e past k rule ∙ ap (λ o. option_or o (cond (turns tested e past k rule) (Some (reported tested.role (moment (e ∷ past) k) rule (length past + 1))) None)) h
 
-later_or_old : (now first here whole : Option Fault) (c : Bool) → now ≡ or_else first (cond c here None) → ((x : Fault) → here ≡ Some x → whole ≡ Some x)
-    → (now ≡ first) ⊎ (now ≡ or_else first (cond c whole None))
-later_or_old now first here whole false h later = inl (h ∙ or_else-none first)
-later_or_old now first None whole true h later = inl (h ∙ or_else-none first)
-later_or_old now first (Some x) whole true h later = inr (h ∙ ap (or_else first) (sym (later x refl)))
+later_or_old : (now first here whole : Option Fault) (c : Bool) → now ≡ option_or first (cond c here None) → ((x : Fault) → here ≡ Some x → whole ≡ Some x)
+    → (now ≡ first) ⊎ (now ≡ option_or first (cond c whole None))
+later_or_old now first here whole false h later = inl (h ∙ option_or-none first)
+later_or_old now first None whole true h later = inl (h ∙ option_or-none first)
+later_or_old now first (Some x) whole true h later = inr (h ∙ ap (option_or first) (sym (later x refl)))
 
 -- what is within the faults of a log is within those of the log with one event more
 within-older : (chosen : Rule → Bool) (tested : Tested) (e : Seen) (past : List Seen) (first now : FaultMap) → GrowsWithin chosen tested past first now → GrowsWithin chosen tested (e ∷ past) first now
 within-older chosen tested e past first now h = record { each = λ k rule. go k rule (h.each k rule) }
   where
-    go : (k : ℕ) (rule : Rule) → (fault_at now k rule ≡ fault_at first k rule) ⊎ (fault_at now k rule ≡ or_else (fault_at first k rule) (cond (chosen rule) (fault_in tested past k rule) None))
-        → (fault_at now k rule ≡ fault_at first k rule) ⊎ (fault_at now k rule ≡ or_else (fault_at first k rule) (cond (chosen rule) (fault_in tested (e ∷ past) k rule) None))
+    go : (k : ℕ) (rule : Rule) → (fault_at now k rule ≡ fault_at first k rule) ⊎ (fault_at now k rule ≡ option_or (fault_at first k rule) (cond (chosen rule) (fault_in tested past k rule) None))
+        → (fault_at now k rule ≡ fault_at first k rule) ⊎ (fault_at now k rule ≡ option_or (fault_at first k rule) (cond (chosen rule) (fault_in tested (e ∷ past) k rule) None))
     go k rule (inl same) = inl same
     go k rule (inr more) = later_or_old (fault_at now k rule) (fault_at first k rule) (fault_in tested past k rule) (fault_in tested (e ∷ past) k rule) (chosen rule) more (fault_stays tested e past k rule)
 
@@ -213,9 +213,9 @@ within-step chosen tested e past first old now was more = record { each = λ k r
     older : GrowsWithin chosen tested (e ∷ past) first old
     older = within-older chosen tested e past first old (grows-within chosen tested past first old was)
 
-    go : (k : ℕ) (rule : Rule) → (fault_at now k rule ≡ fault_at old k rule) ⊎ (fault_at now k rule ≡ or_else (fault_at old k rule) (news chosen tested e past k rule))
-        → (fault_at now k rule ≡ fault_at first k rule) ⊎ (fault_at now k rule ≡ or_else (fault_at first k rule) (cond (chosen rule) (fault_in tested (e ∷ past) k rule) None))
-    go k rule (inl same) = subst (λ o. (o ≡ fault_at first k rule) ⊎ (o ≡ or_else (fault_at first k rule) (cond (chosen rule) (fault_in tested (e ∷ past) k rule) None))) (sym same) (older.each k rule)
-    go k rule (inr grown) = inr (grown ∙ ap (λ o. or_else o (news chosen tested e past k rule)) (was.each k rule)
+    go : (k : ℕ) (rule : Rule) → (fault_at now k rule ≡ fault_at old k rule) ⊎ (fault_at now k rule ≡ option_or (fault_at old k rule) (news chosen tested e past k rule))
+        → (fault_at now k rule ≡ fault_at first k rule) ⊎ (fault_at now k rule ≡ option_or (fault_at first k rule) (cond (chosen rule) (fault_in tested (e ∷ past) k rule) None))
+    go k rule (inl same) = subst (λ o. (o ≡ fault_at first k rule) ⊎ (o ≡ option_or (fault_at first k rule) (cond (chosen rule) (fault_in tested (e ∷ past) k rule) None))) (sym same) (older.each k rule)
+    go k rule (inr grown) = inr (grown ∙ ap (λ o. option_or o (news chosen tested e past k rule)) (was.each k rule)
         ∙ one_more (fault_at first k rule) (chosen rule) (fault_in tested past k rule) (turns tested e past k rule) (reported tested.role (moment (e ∷ past) k) rule (length past + 1))
-        ∙ ap (λ o. or_else (fault_at first k rule) (cond (chosen rule) o None)) (sym (fault_in-step tested e past k rule)))
+        ∙ ap (λ o. option_or (fault_at first k rule) (cond (chosen rule) o None)) (sym (fault_in-step tested e past k rule)))

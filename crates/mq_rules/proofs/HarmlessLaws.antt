@@ -25,11 +25,11 @@ use Rattle.mq_rules.specs.declared.packet_note.PublishNote.{PublishNote}
 use Rattle.mq_rules.specs.declared.conn.Conn.{Conn}
 use Rattle.mq_rules.specs.declared.conn.state.ConnectionState.{ConnectionState}
 use Rattle.mq_rules.specs.Words.{is_id, is_some_and, only}
-use Rattle.mq_rules.specs.Notes.{is_open, type_of, foreign_types, publish_in, resumed_by, may_explain, is_acknowledged, qos_number}
+use Rattle.mq_rules.specs.Notes.{is_open, fields_type, foreign_types, publish_in, resumed_by, may_explain, is_acknowledged, qos_number}
 use Rattle.mq_rules.specs.Pasts.{set_alias}
 use Rattle.mq_rules.specs.Statements.{is_on_past}
 use Rattle.mq_rules.specs.Marks.{FaultMap}
-use Rattle.mq_rules.specs.Keeping.{after, is_ordinary_in, is_ordinary, size_limit, alias_limit, qos_limit, may_look, item_verdicts, packet_verdicts, publish_verdicts, connack_verdicts, disconnect_verdicts, rest_verdicts, is_among, is_any_broken, is_told, may_go_on, too_large, size_bound, is_harmless_in, is_harmless, Judges, GrowsBy, Agrees}
+use Rattle.mq_rules.specs.Keeping.{connection_after, is_ordinary_in, is_ordinary, size_limit, alias_limit, qos_limit, may_look, item_verdicts, packet_verdicts, publish_verdicts, connack_verdicts, disconnect_verdicts, rest_verdicts, is_among, is_any_broken, is_told, may_go_on, too_large, size_bound, is_harmless_in, is_harmless, Judges, GrowsBy, Agrees}
 use Rattle.mq_rules.proofs.BoolLaws.{both_true, and_false, or_false}
 use Rattle.mq_rules.proofs.GrowLaws.{judges-none, judges-unbroken}
 use Rattle.mq_rules.proofs.JudgeLaws.{no_item, no_packet, no_publish, no_connack, no_disconnect, judged-all}
@@ -46,7 +46,7 @@ harmless-ordinary (Pubrel identifier code) t = refl
 harmless-ordinary (Pubcomp identifier code) t = refl
 harmless-ordinary _ t = absurd (cc)
 
-not-foreign : (role : Role) (f : PacketFields) → is_harmless_in f ≡ true → list_any (λ type. is_id (type_number type) (Some (type_number (type_of f)))) (foreign_types role) ≡ false
+not-foreign : (role : Role) (f : PacketFields) → is_harmless_in f ≡ true → list_any (λ type. is_id (type_number type) (Some (type_number (fields_type f)))) (foreign_types role) ≡ false
 not-foreign Client (Publish p) t = refl
 not-foreign Client (Puback identifier code) t = refl
 not-foreign Client (Pubrec identifier code) t = refl
@@ -59,7 +59,7 @@ not-foreign Server (Pubrel identifier code) t = refl
 not-foreign Server (Pubcomp identifier code) t = refl
 not-foreign role _ t = absurd (cc)
 
-not-auth : (f : PacketFields) → is_harmless_in f ≡ true → is_id (type_number types.Auth) (Some (type_number (type_of f))) ≡ false
+not-auth : (f : PacketFields) → is_harmless_in f ≡ true → is_id (type_number types.Auth) (Some (type_number (fields_type f))) ≡ false
 not-auth (Publish p) t = refl
 not-auth (Puback identifier code) t = refl
 not-auth (Pubrec identifier code) t = refl
@@ -192,7 +192,7 @@ begun-to-send : (role : Role) (s : ConnectionState) → may_go_on role s ≡ tru
 begun-to-send Client s on = (both_true s.has_sent (not s.has_sent_disconnect && not (is_some_and resumed_by s.connack && (is_some_and (λ c. c.clean_start) s.connect || not s.was_alive))) on).0
 begun-to-send Server s on = (both_true s.has_sent (s.has_sent_connack && (not s.has_sent_disconnect && not s.has_sent_refusal)) on).0
 
-harmless-state : (role : Role) (s : ConnectionState) (n : Note) → is_harmless (size_bound role s) n ≡ true → s ≡ after role s n
+harmless-state : (role : Role) (s : ConnectionState) (n : Note) → is_harmless (size_bound role s) n ≡ true → s ≡ connection_after role s n
 harmless-state role s (notes.Sent (items.Packet p)) t =
     let first = both_true (nat_lt p.size (size_bound role s)) (not (p.has_reason_string || p.has_user_property) && is_harmless_in p.fields) t in
     let second = both_true (not (p.has_reason_string || p.has_user_property)) (is_harmless_in p.fields) first.1 in

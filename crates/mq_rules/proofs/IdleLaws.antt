@@ -1,6 +1,7 @@
 -- An event that leaves what is kept of a connection as it is.
 use Rattle.std.proofs.Common.{◌≡◌, ℕ, Bool, true, false, cond, ◌&&◌, ◌||◌, Option, Some, None, is_some, refl, ap, sym, ◌∙◌}
 use Rattle.std.specs.Prelude.{option_map}
+use Rattle.std.specs.Option.{option_or}
 use Rattle.mq_packet.specs.Canonical.{type_number}
 use Rattle.mq_packet.specs.declared.packet.PacketType.TheVariants as types
 use Rattle.mq_rules.specs.declared.role.Role.{Role}
@@ -13,11 +14,11 @@ use Rattle.mq_rules.specs.declared.packet_note.ConnackNote.{ConnackNote}
 use Rattle.mq_rules.specs.declared.packet_note.PacketFields.{PacketFields}
 use Rattle.mq_rules.specs.declared.packet_note.PacketFields.TheVariants.{Connect, Connack, Disconnect}
 use Rattle.mq_rules.specs.declared.conn.state.ConnectionState.{ConnectionState}
-use Rattle.mq_rules.specs.Words.{or_else, is_id, is_some_and}
-use Rattle.mq_rules.specs.Notes.{is_open, is_close, is_typed, type_of, sent_item, sent_connack, sent_disconnect, connect_in, connack_in, disconnect_in, connect_of, connack_of, client_disconnect, fate_by, decides, refuses, sends_type, receives_type}
+use Rattle.mq_rules.specs.Words.{is_id, is_some_and}
+use Rattle.mq_rules.specs.Notes.{is_open, is_close, is_typed, fields_type, sent_item, sent_connack, sent_disconnect, connect_in, connack_in, disconnect_in, connect_of, connack_of, client_disconnect, fate_by, decides, refuses, sends_type, receives_type}
 use Rattle.mq_rules.specs.Pasts.{is_sent_disconnect, is_sent_refusal}
-use Rattle.mq_rules.specs.Keeping.{begun_if, followed, after, is_ordinary_in, is_ordinary}
-use Rattle.mq_rules.proofs.BoolLaws.{both_true, or_false, or_else-none}
+use Rattle.mq_rules.specs.Keeping.{begun_if, followed, connection_after, is_ordinary_in, is_ordinary}
+use Rattle.mq_rules.proofs.BoolLaws.{both_true, or_false, option_or-none}
 
 -- ---- what an ordinary packet is not
 
@@ -33,18 +34,18 @@ pub no-disconnect : (f : PacketFields) → is_ordinary_in f ≡ true → disconn
 no-disconnect (Disconnect session_expiry) t = absurd (cc)
 no-disconnect _ t = refl
 
-pub not-connect : (f : PacketFields) → is_ordinary_in f ≡ true → is_id (type_number types.Connect) (Some (type_number (type_of f))) ≡ false
+pub not-connect : (f : PacketFields) → is_ordinary_in f ≡ true → is_id (type_number types.Connect) (Some (type_number (fields_type f))) ≡ false
 not-connect (Connect c) t = absurd (cc)
 not-connect _ t = refl
 
-pub not-connack : (f : PacketFields) → is_ordinary_in f ≡ true → is_id (type_number types.Connack) (Some (type_number (type_of f))) ≡ false
+pub not-connack : (f : PacketFields) → is_ordinary_in f ≡ true → is_id (type_number types.Connack) (Some (type_number (fields_type f))) ≡ false
 not-connack (Connack c) t = absurd (cc)
 not-connack _ t = refl
 
 -- ---- what is kept
 
-keeps : {A : Type 0} (o x : Option A) → x ≡ None → or_else o x ≡ o
-keeps o x e = ap (or_else o) e ∙ or_else-none o
+keeps : {A : Type 0} (o x : Option A) → x ≡ None → option_or o x ≡ o
+keeps o x e = ap (option_or o) e ∙ option_or-none o
 
 stays : (b x : Bool) → x ≡ false → (b || x) ≡ b
 stays b x e = ap (λ y. b || y) e ∙ or_false b
@@ -60,7 +61,7 @@ decides-none role n close none = ap (λ b. cond b (Some Void) (option_map fate_b
 settled : (role : Role) (s : ConnectionState) (n : Note) → s.has_sent ≡ true → is_open n ≡ false → is_close n ≡ false
     → connect_of role n ≡ None → connack_of role n ≡ None → client_disconnect role n ≡ None
     → sends_type types.Connect n ≡ false → sends_type types.Connack n ≡ false → receives_type types.Connect n ≡ false
-    → sent_disconnect n ≡ None → sent_connack n ≡ None → s ≡ after role s n
+    → sent_disconnect n ≡ None → sent_connack n ≡ None → s ≡ connection_after role s n
 settled role s n sent open_not close_not connect connack disconnect s_connect s_connack r_connect s_disconnect refusal =
     sym (ap (λ b. followed role (begun_if b s) n) open_not
     ∙ (λ i. record {
@@ -78,7 +79,7 @@ settled role s n sent open_not close_not connect connack disconnect s_connect s_
       has_sent_refusal = stays s.has_sent_refusal (is_sent_refusal n) (ap (λ (o : Option ConnackNote). is_some_and (λ c. refuses c.code) o) refusal) i;
     }))
 
-ordinary : (role : Role) (s : ConnectionState) (n : Note) → s.has_sent ≡ true → is_ordinary n ≡ true → s ≡ after role s n
+ordinary : (role : Role) (s : ConnectionState) (n : Note) → s.has_sent ≡ true → is_ordinary n ≡ true → s ≡ connection_after role s n
 ordinary Client s (notes.Sent (items.Packet p)) h t =
     let u : is_ordinary_in p.fields ≡ true = sym (or_false (is_ordinary_in p.fields)) ∙ t in
     settled Client s (notes.Sent (items.Packet p)) h refl refl (no-connect p.fields u) refl (no-disconnect p.fields u)
@@ -96,7 +97,7 @@ ordinary Server s (notes.Recv (items.Packet p)) h t =
 ordinary role s _ h t = absurd (cc)
 
 -- once the tested end has sent, an ordinary packet changes nothing
-pub unchanged : (role : Role) (s : ConnectionState) (n : Note) → (s.has_sent && is_ordinary n) ≡ true → s ≡ after role s n
+pub unchanged : (role : Role) (s : ConnectionState) (n : Note) → (s.has_sent && is_ordinary n) ≡ true → s ≡ connection_after role s n
 unchanged role s n t =
     let both : (s.has_sent ≡ true) × (is_ordinary n ≡ true) = both_true s.has_sent (is_ordinary n) t in
     ordinary role s n both.0 both.1

@@ -1,12 +1,13 @@
 -- Statements that are judged at their own position, as soon as its event is there.
 use Rattle.std.proofs.Common.{◌≡◌, ℕ, ◌+◌, Bool, true, false, cond, ◌&&◌, ◌||◌, not, nat_lt, List, [], ◌∷◌, length, Option, Some, None, is_some, refl, ap, sym, ◌∙◌}
+use Rattle.std.specs.Option.{option_or}
 use Rattle.mq_packet.specs.declared.rule.PacketRule.{PacketRule}
 use Rattle.mq_rules.specs.declared.role.Role.{Role}
 use Rattle.mq_rules.specs.declared.role.Tested.{Tested}
 use Rattle.mq_rules.specs.declared.fate.Fate.{Fate}
 use Rattle.mq_rules.specs.declared.rule.Rule.{Rule}
 use Rattle.mq_rules.specs.declared.note.Seen.{Seen}
-use Rattle.mq_rules.specs.Words.{or_else, is_some_and}
+use Rattle.mq_rules.specs.Words.{is_some_and}
 use Rattle.mq_rules.specs.Notes.{is_open, is_rest, decides, needs_session, is_sent_pingresp, is_received_pingreq}
 use Rattle.mq_rules.specs.Moments.{Moment, newest, note, moment, is_next, some, count}
 use Rattle.mq_rules.specs.Connections.{begun, number, connection, fate, latest_fate, accepts, accepted, ends_binding, is_binding, IsInOrder}
@@ -76,7 +77,7 @@ late-newest role breaks e past late = ap (is_false_under breaks (newest e past))
     undecided (Some f) h = not_true (breaks f (newest e past)) (λ t. let some : is_some (latest_fate role past) ≡ true = late.decided (length past + 1) (newest e past) f there t in absurd (cc))
 
     go : (b : Bool) → is_open e.note ≡ b → (o : Option Fate) → latest_fate role past ≡ o
-        → is_false_under breaks (newest e past) (cond b None (or_else o (decides role e.note))) ≡ is_false_under breaks (newest e past) o
+        → is_false_under breaks (newest e past) (cond b None (option_or o (decides role e.note))) ≡ is_false_under breaks (newest e past) o
     go true h o is = sym (at_open o h)
     go false h (Some f) is = refl
     go false h None is = undecided (decides role e.note) is

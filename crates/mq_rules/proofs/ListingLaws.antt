@@ -14,6 +14,7 @@ use Rattle.std.specs.FinMap.Entries.{below_all}
 use Rattle.std.proofs.lemmas.Bool.{eqb-true, eq-eqb}
 use Rattle.std.proofs.lemmas.Map.Keys.{IsDistinct-from_sorted}
 use Rattle.std.proofs.lemmas.Map.Views.{Contains-from_lookup, lookup-from_Contains}
+use Rattle.std.specs.Option.{option_or}
 use denote.Enum.Bare.{same_true}
 use Rattle.mq_rules.specs.contracts.rule.Rule.{the_type}
 use Rattle.mq_rules.specs.declared.role.Tested.{Tested}
@@ -21,12 +22,11 @@ use Rattle.mq_rules.specs.declared.rule.Rule.{Rule}
 use Rattle.mq_rules.specs.declared.note.Seen.{Seen}
 use Rattle.mq_rules.specs.declared.fault.Fault.{Fault}
 use Rattle.mq_rules.specs.declared.faults.Mark.{Mark}
-use Rattle.mq_rules.specs.Words.{or_else}
 use Rattle.mq_rules.specs.Moments.{newest, moment}
 use Rattle.mq_rules.specs.Rules.{same_rule, all_rules}
-use Rattle.mq_rules.specs.Faults.{fault_in, chosen_fault, listed}
+use Rattle.mq_rules.specs.Faults.{fault_in, chosen_fault, listed_faults}
 use Rattle.mq_rules.specs.Marks.{mark_cmp, FaultMap, fault_at}
-use Rattle.mq_rules.proofs.BoolLaws.{differ, and_false, or_else-none}
+use Rattle.mq_rules.proofs.BoolLaws.{differ, and_false, option_or-none}
 use Rattle.mq_rules.proofs.MarkLaws.{marks_total, exact_marks, ties, find-lookup, equal_of}
 use Rattle.mq_rules.proofs.StepLaws.{moment-beyond}
 use Rattle.mq_rules.proofs.DecidedLaws.{fault_in-nowhere}
@@ -107,50 +107,50 @@ sorted_blocks g j (suc n) = sorted_block g j all_rules (blocks g (j + 1) n) rows
 
 -- ---- what is found
 
-find-block : (g : Faulty) (k : ℕ) (q : Mark) (rules : List Rule) (ys : List (Mark × Fault)) → find mark_cmp q (block g k rules ++ ys) ≡ or_else (cond ((q.position == k) && has q.rule rules) (g k q.rule) None) (find mark_cmp q ys)
-find-block g k q [] ys = ap (λ b. or_else (cond b (g k q.rule) None) (find mark_cmp q ys)) (sym (and_false (q.position == k)))
+find-block : (g : Faulty) (k : ℕ) (q : Mark) (rules : List Rule) (ys : List (Mark × Fault)) → find mark_cmp q (block g k rules ++ ys) ≡ option_or (cond ((q.position == k) && has q.rule rules) (g k q.rule) None) (find mark_cmp q ys)
+find-block g k q [] ys = ap (λ b. option_or (cond b (g k q.rule) None) (find mark_cmp q ys)) (sym (and_false (q.position == k)))
 find-block g k q (s ∷ ss) ys = go (g k s) refl (find-block g k q ss ys)
   where
     rest : Option Fault
     rest = find mark_cmp q ys
 
-    none : (p t h : Bool) → g k s ≡ None → (t ≡ true → q.rule ≡ s) → or_else (cond (p && h) (g k q.rule) None) rest ≡ or_else (cond (p && (t || h)) (g k q.rule) None) rest
+    none : (p t h : Bool) → g k s ≡ None → (t ≡ true → q.rule ≡ s) → option_or (cond (p && h) (g k q.rule) None) rest ≡ option_or (cond (p && (t || h)) (g k q.rule) None) rest
     none false t h e same = refl
     none true false h e same = refl
     none true true true e same = refl
-    none true true false e same = ap (λ o. or_else o rest) (sym (ap (g k) (same refl) ∙ e))
+    none true true false e same = ap (λ o. option_or o rest) (sym (ap (g k) (same refl) ∙ e))
 
-    some : (p t h : Bool) (f : Fault) → g k s ≡ Some f → (t ≡ true → q.rule ≡ s) → cond (p && t) (Some f) (or_else (cond (p && h) (g k q.rule) None) rest) ≡ or_else (cond (p && (t || h)) (g k q.rule) None) rest
+    some : (p t h : Bool) (f : Fault) → g k s ≡ Some f → (t ≡ true → q.rule ≡ s) → cond (p && t) (Some f) (option_or (cond (p && h) (g k q.rule) None) rest) ≡ option_or (cond (p && (t || h)) (g k q.rule) None) rest
     some false t h f e same = refl
     some true false h f e same = refl
-    some true true h f e same = ap (λ o. or_else o rest) (sym (ap (g k) (same refl) ∙ e))
+    some true true h f e same = ap (λ o. option_or o rest) (sym (ap (g k) (same refl) ∙ e))
 
-    go : (o : Option Fault) → g k s ≡ o → find mark_cmp q (block g k ss ++ ys) ≡ or_else (cond ((q.position == k) && has q.rule ss) (g k q.rule) None) rest
-        → find mark_cmp q (cons_option (option_map (λ fault. (mark k s, fault)) o) (block g k ss) ++ ys) ≡ or_else (cond ((q.position == k) && (same_rule q.rule s || has q.rule ss)) (g k q.rule) None) rest
+    go : (o : Option Fault) → g k s ≡ o → find mark_cmp q (block g k ss ++ ys) ≡ option_or (cond ((q.position == k) && has q.rule ss) (g k q.rule) None) rest
+        → find mark_cmp q (cons_option (option_map (λ fault. (mark k s, fault)) o) (block g k ss) ++ ys) ≡ option_or (cond ((q.position == k) && (same_rule q.rule s || has q.rule ss)) (g k q.rule) None) rest
     go None e h = h ∙ none (q.position == k) (same_rule q.rule s) (has q.rule ss) e (same_true the_type tt q.rule s)
     go (Some f) e h =
         ap (λ b. cond b (Some f) (find mark_cmp q (block g k ss ++ ys))) (sym (ties q (mark k s)))
         ∙ ap (cond ((q.position == k) && same_rule q.rule s) (Some f)) h
         ∙ some (q.position == k) (same_rule q.rule s) (has q.rule ss) f e (same_true the_type tt q.rule s)
 
-find-step : (g : Faulty) (j n : ℕ) (q : Mark) → find mark_cmp q (blocks g j (suc n)) ≡ or_else (cond (q.position == j) (g j q.rule) None) (find mark_cmp q (blocks g (j + 1) n))
-find-step g j n q = find-block g j q all_rules (blocks g (j + 1) n) ∙ ap (λ b. or_else (cond b (g j q.rule) None) (find mark_cmp q (blocks g (j + 1) n))) (ap (λ b. (q.position == j) && b) (rows_have q.rule) ∙ and-true (q.position == j))
+find-step : (g : Faulty) (j n : ℕ) (q : Mark) → find mark_cmp q (blocks g j (suc n)) ≡ option_or (cond (q.position == j) (g j q.rule) None) (find mark_cmp q (blocks g (j + 1) n))
+find-step g j n q = find-block g j q all_rules (blocks g (j + 1) n) ∙ ap (λ b. option_or (cond b (g j q.rule) None) (find mark_cmp q (blocks g (j + 1) n))) (ap (λ b. (q.position == j) && b) (rows_have q.rule) ∙ and-true (q.position == j))
 
 find-early : (g : Faulty) (j n : ℕ) (q : Mark) → q.position < j → find mark_cmp q (blocks g j n) ≡ None
 find-early g j zero q h = refl
 find-early g j (suc n) q h =
     let lt : q.position < j + 1 = omega arith in
-    find-step g j n q ∙ ap (λ b. or_else (cond b (g j q.rule) None) (find mark_cmp q (blocks g (j + 1) n))) (differ q.position j (λ e. omega arith)) ∙ find-early g (j + 1) n q lt
+    find-step g j n q ∙ ap (λ b. option_or (cond b (g j q.rule) None) (find mark_cmp q (blocks g (j + 1) n))) (differ q.position j (λ e. omega arith)) ∙ find-early g (j + 1) n q lt
 
 find-blocks : (g : Faulty) (j n : ℕ) (q : Mark) → j ≤ q.position → (j + n ≤ q.position → g q.position q.rule ≡ None) → find mark_cmp q (blocks g j n) ≡ g q.position q.rule
 find-blocks g j zero q h past = sym (past (omega arith))
 find-blocks g j (suc n) q h past = find-step g j n q ∙ go (q.position == j) refl (λ le. find-blocks g (j + 1) n q le (λ l. past (omega arith)))
   where
-    go : (b : Bool) → (q.position == j) ≡ b → (j + 1 ≤ q.position → find mark_cmp q (blocks g (j + 1) n) ≡ g q.position q.rule) → or_else (cond b (g j q.rule) None) (find mark_cmp q (blocks g (j + 1) n)) ≡ g q.position q.rule
+    go : (b : Bool) → (q.position == j) ≡ b → (j + 1 ≤ q.position → find mark_cmp q (blocks g (j + 1) n) ≡ g q.position q.rule) → option_or (cond b (g j q.rule) None) (find mark_cmp q (blocks g (j + 1) n)) ≡ g q.position q.rule
     go true e rest =
         let at : q.position ≡ j = eqb-true q.position j e in
         let lt : q.position < j + 1 = omega arith in
-        ap (or_else (g j q.rule)) (find-early g (j + 1) n q lt) ∙ or_else-none (g j q.rule) ∙ ap (λ k. g k q.rule) (sym at)
+        ap (option_or (g j q.rule)) (find-early g (j + 1) n q lt) ∙ option_or-none (g j q.rule) ∙ ap (λ k. g k q.rule) (sym at)
     go false e rest =
         let ne : q.position ≡ j → ⊥ = λ is. absurd (let t : (q.position == j) ≡ true = eq-eqb q.position j is in cc) in
         let le : j + 1 ≤ q.position = omega arith in
@@ -170,15 +170,15 @@ nowhere chosen tested log k rule h = go (chosen rule) (fault_in-nowhere tested l
     go true none = none
     go false none = refl
 
-pub listed-sorted : (chosen : Rule → Bool) (tested : Tested) (log : List Seen) → T (is_sorted mark_cmp (listed chosen tested log))
-unfolding listed
+pub listed-sorted : (chosen : Rule → Bool) (tested : Tested) (log : List Seen) → T (is_sorted mark_cmp (listed_faults chosen tested log))
+unfolding listed_faults
 listed-sorted chosen tested log = sorted_blocks (chosen_fault chosen tested log) 1 (length log)
 
-pub find-listed : (chosen : Rule → Bool) (tested : Tested) (log : List Seen) (q : Mark) → find mark_cmp q (listed chosen tested log) ≡ chosen_fault chosen tested log q.position q.rule
-unfolding listed
+pub find-listed : (chosen : Rule → Bool) (tested : Tested) (log : List Seen) (q : Mark) → find mark_cmp q (listed_faults chosen tested log) ≡ chosen_fault chosen tested log q.position q.rule
+unfolding listed_faults
 find-listed chosen tested log q = go (q.position == 0) refl
   where
-    go : (b : Bool) → (q.position == 0) ≡ b → find mark_cmp q (listed chosen tested log) ≡ chosen_fault chosen tested log q.position q.rule
+    go : (b : Bool) → (q.position == 0) ≡ b → find mark_cmp q (listed_faults chosen tested log) ≡ chosen_fault chosen tested log q.position q.rule
     go true e =
         let at : q.position ≡ 0 = eqb-true q.position 0 e in
         find-early (chosen_fault chosen tested log) 1 (length log) q (omega arith) ∙ sym (ap (λ k. chosen_fault chosen tested log k q.rule) at ∙ nowhere chosen tested log 0 q.rule (moment-zero log))
@@ -187,10 +187,10 @@ find-listed chosen tested log q = go (q.position == 0) refl
         find-blocks (chosen_fault chosen tested log) 1 (length log) q (omega arith) (λ l. nowhere chosen tested log q.position q.rule (moment-beyond log q.position (omega arith)))
 
 -- faults that are those of a log have its list
-pub entries-listed : (chosen : Rule → Bool) (tested : Tested) (log : List Seen) (faults : FaultMap) → ((k : ℕ) (rule : Rule) → fault_at faults k rule ≡ chosen_fault chosen tested log k rule) → entries faults ≡ listed chosen tested log
+pub entries-listed : (chosen : Rule → Bool) (tested : Tested) (log : List Seen) (faults : FaultMap) → ((k : ℕ) (rule : Rule) → fault_at faults k rule ≡ chosen_fault chosen tested log k rule) → entries faults ≡ listed_faults chosen tested log
 entries-listed chosen tested log faults h =
-    ap entries (same_map marks_total exact_marks faults (from_sorted (listed chosen tested log)) (λ q. h q.position q.rule ∙ sym (get-from_sorted mark_cmp (listed chosen tested log) q (listed-sorted chosen tested log) ∙ find-listed chosen tested log q)))
-    ∙ entries-from_sorted mark_cmp (listed chosen tested log) (listed-sorted chosen tested log)
+    ap entries (same_map marks_total exact_marks faults (from_sorted (listed_faults chosen tested log)) (λ q. h q.position q.rule ∙ sym (get-from_sorted mark_cmp (listed_faults chosen tested log) q (listed-sorted chosen tested log) ∙ find-listed chosen tested log q)))
+    ∙ entries-from_sorted mark_cmp (listed_faults chosen tested log) (listed-sorted chosen tested log)
 
 less_of : (o : Ordering) → T (is_lt o) → o ≡ Less
 less_of Less h = refl
@@ -206,15 +206,15 @@ unfolding IsStrictlySortedBy
 strictly [] h = tt
 strictly (e ∷ es) h = (each_below e.0 es (first _ _ h), strictly es (second _ _ h))
 
-pub listed-ascends : (chosen : Rule → Bool) (tested : Tested) (log : List Seen) → IsStrictlySortedBy mark_cmp (keys_of (listed chosen tested log))
-listed-ascends chosen tested log = strictly (listed chosen tested log) (listed-sorted chosen tested log)
+pub listed-ascends : (chosen : Rule → Bool) (tested : Tested) (log : List Seen) → IsStrictlySortedBy mark_cmp (keys_of (listed_faults chosen tested log))
+listed-ascends chosen tested log = strictly (listed_faults chosen tested log) (listed-sorted chosen tested log)
 
 same_marks : (x y : Mark) → eq_by_cmp mark_cmp x y ≡ true → x ≡ y
 same_marks x y h = exact_marks x y (equal_of (mark_cmp x y) h)
 
 -- a fault is in the list exactly where it is the fault of its mark
-pub listed-there : (chosen : Rule → Bool) (tested : Tested) (log : List Seen) (m : Mark) (f : Fault) → Contains (listed chosen tested log) (m, f) ↔ (chosen_fault chosen tested log m.position m.rule ≡ Some f)
+pub listed-there : (chosen : Rule → Bool) (tested : Tested) (log : List Seen) (m : Mark) (f : Fault) → Contains (listed_faults chosen tested log) (m, f) ↔ (chosen_fault chosen tested log m.position m.rule ≡ Some f)
 listed-there chosen tested log m f = (
-  (λ h. sym (sym (find-lookup mark_cmp m (listed chosen tested log)) ∙ find-listed chosen tested log m) ∙ lookup-from_Contains (eq_by_cmp_equiv marks_total) m f (listed chosen tested log) (IsDistinct-from_sorted mark_cmp (keys_of (listed chosen tested log)) (listed-ascends chosen tested log)) h),
-  (λ h. Contains-from_lookup same_marks m f (listed chosen tested log) (sym (find-lookup mark_cmp m (listed chosen tested log)) ∙ find-listed chosen tested log m ∙ h)),
+  (λ h. sym (sym (find-lookup mark_cmp m (listed_faults chosen tested log)) ∙ find-listed chosen tested log m) ∙ lookup-from_Contains (eq_by_cmp_equiv marks_total) m f (listed_faults chosen tested log) (IsDistinct-from_sorted mark_cmp (keys_of (listed_faults chosen tested log)) (listed-ascends chosen tested log)) h),
+  (λ h. Contains-from_lookup same_marks m f (listed_faults chosen tested log) (sym (find-lookup mark_cmp m (listed_faults chosen tested log)) ∙ find-listed chosen tested log m ∙ h)),
 )

@@ -18,6 +18,7 @@ use Rattle.std.specs.FinMap.Entries.{below_all}
 use Rattle.std.proofs.lemmas.Map.Lookups.{CmpEqualImpliesEq}
 use Rattle.std.proofs.lemmas.Bool.{eqb-true}
 use Rattle.std.proofs.Math.Bool.{and-true}
+use Rattle.std.specs.Option.{option_or}
 use denote.Enum.Bare.{same_true, sameb}
 use Rattle.mq_rules.specs.contracts.rule.Rule.{the_type}
 use Rattle.mq_rules.specs.contracts.faults.MarkOrd.TheImpl.Laws as laws
@@ -25,7 +26,6 @@ use Rattle.mq_rules.specs.declared.rule.Rule.{Rule}
 use Rattle.mq_rules.specs.declared.faults.Mark.{Mark}
 use Rattle.mq_rules.specs.declared.fault.Fault.{Fault}
 use Rattle.mq_trace.specs.declared.place.Place3.{Place3}
-use Rattle.mq_rules.specs.Words.{or_else}
 use Rattle.mq_rules.specs.Rules.{rule_cmp, same_rule}
 use Rattle.mq_rules.specs.Marks.{mark_cmp, FaultMap, fault_at, faults_at, first_from, with_fault, judged}
 
@@ -38,9 +38,9 @@ and_false : (a : Bool) → (a && false) ≡ false
 and_false true = refl
 and_false false = refl
 
-or_else-none : {A : Type 0} (o : Option A) → or_else o None ≡ o
-or_else-none None = refl
-or_else-none (Some a) = refl
+option_or-none : {A : Type 0} (o : Option A) → option_or o None ≡ o
+option_or-none None = refl
+option_or-none (Some a) = refl
 
 pub marks_total : IsTotalOrder mark_cmp
 marks_total = laws.total-law
@@ -123,12 +123,12 @@ alike true a = refl
 alike false a = refl
 
 -- a fault that is added is found under its mark, unless one was there, and under no other
-pub fault_at-with_fault : (m : FaultMap) (p k : ℕ) (s r : Rule) (f : Fault) → fault_at (with_fault (record { position = p; rule = s }) f m) k r ≡ or_else (fault_at m k r) (cond ((k == p) && same_rule r s) (Some f) None)
+pub fault_at-with_fault : (m : FaultMap) (p k : ℕ) (s r : Rule) (f : Fault) → fault_at (with_fault (record { position = p; rule = s }) f m) k r ≡ option_or (fault_at m k r) (cond ((k == p) && same_rule r s) (Some f) None)
 fault_at-with_fault m p k s r f =
     get-cond (is_some (get m mark)) m (insert m mark f) q
     ∙ ap (cond (is_some (get m mark)) (get m q)) (get-insert marks_total m mark f q)
     ∙ go (eq_by_cmp mark_cmp q mark) refl (is_some (get m mark)) refl
-    ∙ ap (λ b. or_else (get m q) (cond b (Some f) None)) (sym (ties q mark))
+    ∙ ap (λ b. option_or (get m q) (cond b (Some f) None)) (sym (ties q mark))
   where
     mark : Mark
     mark = record { position = p; rule = s }
@@ -136,15 +136,15 @@ fault_at-with_fault m p k s r f =
     q : Mark
     q = record { position = k; rule = r }
 
-    there : (o : Option Fault) (h : Bool) → is_some o ≡ h → cond h o (Some f) ≡ or_else o (Some f)
+    there : (o : Option Fault) (h : Bool) → is_some o ≡ h → cond h o (Some f) ≡ option_or o (Some f)
     there (Some x) true e = refl
     there (Some x) false e = absurd (cc)
     there None true e = absurd (cc)
     there None false e = refl
 
-    go : (t : Bool) → eq_by_cmp mark_cmp q mark ≡ t → (h : Bool) → is_some (get m mark) ≡ h → cond h (get m q) (cond t (Some f) (get m q)) ≡ or_else (get m q) (cond t (Some f) None)
-    go true e h i = subst (λ (o : Option Fault). cond h o (Some f) ≡ or_else o (Some f)) (get_tied marks_total m q mark (equal_of (mark_cmp q mark) e)) (there (get m mark) h i)
-    go false e h i = alike h (get m q) ∙ sym (or_else-none (get m q))
+    go : (t : Bool) → eq_by_cmp mark_cmp q mark ≡ t → (h : Bool) → is_some (get m mark) ≡ h → cond h (get m q) (cond t (Some f) (get m q)) ≡ option_or (get m q) (cond t (Some f) None)
+    go true e h i = subst (λ (o : Option Fault). cond h o (Some f) ≡ option_or o (Some f)) (get_tied marks_total m q mark (equal_of (mark_cmp q mark) e)) (there (get m mark) h i)
+    go false e h i = alike h (get m q) ∙ sym (option_or-none (get m q))
 
 -- where the positions are one, what is told of them is one
 pub same_told : (k p : ℕ) (b : Bool) (f : ℕ → Fault) → cond ((k == p) && b) (Some (f p)) None ≡ cond ((k == p) && b) (Some (f k)) None
@@ -155,14 +155,14 @@ same_told k p b f = go (k == p) refl
     go false e = refl
 
 pub fault_at-judged : (m : FaultMap) (b : Bool) (s r : Rule) (place : Place3) (k : ℕ) → fault_at (judged b s place m) k r
-    ≡ or_else (fault_at m k r) (cond ((k == place.position) && (same_rule r s && b)) (Some (record { decided = k; record_no = place.record_no; offset = None })) None)
+    ≡ option_or (fault_at m k r) (cond ((k == place.position) && (same_rule r s && b)) (Some (record { decided = k; record_no = place.record_no; offset = None })) None)
 fault_at-judged m true s r place k =
     fault_at-with_fault m place.position k s r (record { decided = place.position; record_no = place.record_no; offset = None })
-    ∙ ap (or_else (fault_at m k r)) (same_told k place.position (same_rule r s) (λ n. record { decided = n; record_no = place.record_no; offset = None })
+    ∙ ap (option_or (fault_at m k r)) (same_told k place.position (same_rule r s) (λ n. record { decided = n; record_no = place.record_no; offset = None })
     ∙ ap (λ b. cond ((k == place.position) && b) (Some (record { decided = k; record_no = place.record_no; offset = None })) None) (sym (and-true (same_rule r s))))
 fault_at-judged m false s r place k =
-    sym (or_else-none (fault_at m k r))
-    ∙ ap (λ b. or_else (fault_at m k r) (cond b (Some (record { decided = k; record_no = place.record_no; offset = None })) None)) (sym (ap (λ b. (k == place.position) && b) (and_false (same_rule r s)) ∙ and_false (k == place.position)))
+    sym (option_or-none (fault_at m k r))
+    ∙ ap (λ b. option_or (fault_at m k r) (cond b (Some (record { decided = k; record_no = place.record_no; offset = None })) None)) (sym (ap (λ b. (k == place.position) && b) (and_false (same_rule r s)) ∙ and_false (k == place.position)))
 
 -- ---- the marks at a position, and from one on
 

@@ -3,18 +3,19 @@ use Rattle.std.proofs.Common.{◌≡◌, ℕ, ◌+◌, ◌≤◌, Bool, true, fa
 use Rattle.std.specs.Prelude.{◌||◌, ◌&&◌, not, if◌then◌else◌, option_map}
 use Rattle.std.proofs.lemmas.List.{reverse-append, reverse-reverse, length-map}
 use Rattle.std.proofs.lemmas.Bool.{ltb-true, ltb-false, le-ltb}
+use Rattle.std.specs.Option.{option_or}
 use Rattle.mq_packet.specs.declared.packet.AcknowledgementKind.TheVariants as acknowledgements
 use Rattle.mq_packet.specs.declared.packet.RequestKind.TheVariants as requests
 use Rattle.mq_packet.specs.Entries.{Entry, connect, connack, publish, acknowledgement, request, answer, pingreq, pingresp, disconnect, auth}
-use Rattle.mq_packet.specs.Canonical.{type_of as entry_type}
+use Rattle.mq_packet.specs.Canonical.{type_of}
 use Rattle.mq_trace.specs.declared.kind.Way.{Way}
 use Rattle.mq_trace.specs.declared.kind.Way.TheVariants as ways
 use Rattle.mq_trace.specs.declared.refusal.Refusal.{Refusal}
 use Rattle.mq_trace.specs.declared.header.Header.{Header}
 use Rattle.mq_trace.specs.Framing.{header_by}
 use Rattle.mq_trace.specs.Events.{Event, Placed, event_in, events, packet, bad, lost, opened, closed, sent, received}
-use Rattle.mq_trace.specs.Connections.{begins, ends, is_connack_type, is_session_type, is_answer, needs_answer, is_connected as trace_connected, is_answered as trace_answered}
-use Rattle.mq_trace.specs.Refusals.{Situation, first_standing, conditions, header_refusal, record_refusal, refusal_at, refused, is_early, or_else as first_of}
+use Rattle.mq_trace.specs.Connections.{begins_connection, ends_connection, is_connack_type, is_session_type, is_answer, needs_answer, has_open_connection, is_answered as trace_answered}
+use Rattle.mq_trace.specs.Refusals.{Situation, first_standing, conditions, header_refusal, record_refusal, refusal_at, refused, is_early}
 use Rattle.mq_trace.specs.Context.{Context, context, situated, so_far_for, refusal_for, event_for, placed_with, placed_for, put}
 use Rattle.mq_trace.proofs.Exports.{refused-grow, refusal-kept, events-kept, events-header, header-behind, at_context}
 use Rattle.mq_rules.specs.declared.role.Role.{Role}
@@ -24,16 +25,15 @@ use Rattle.mq_rules.specs.declared.note.Seen.{Seen}
 use Rattle.mq_rules.specs.declared.packet_note.PacketFields.{PacketFields}
 use Rattle.mq_rules.specs.declared.packet_note.PacketFields.TheVariants.{Connack}
 use Rattle.mq_rules.specs.declared.packet_note.ConnackNote.{ConnackNote}
-use Rattle.mq_rules.specs.Words.{or_else}
-use Rattle.mq_rules.specs.Notes.{tested_as, tested_by, note_of, seen, seen_in, packet_fields, type_of, connack_in, connack_of, is_open, is_close, fate_by, decides, needs_session}
+use Rattle.mq_rules.specs.Notes.{tested_as, tested_by, note_of, seen, seen_in, packet_fields, fields_type, connack_in, connack_of, is_open, is_close, fate_by, decides, needs_session}
 use Rattle.mq_rules.specs.Moments.{note, moments, since, IsPlaced}
 use Rattle.mq_rules.specs.Connections.{latest_fate, is_connected, IsInOrder}
-use Rattle.mq_rules.proofs.BoolLaws.{or_else-there, or_else-other}
+use Rattle.mq_rules.proofs.BoolLaws.{option_or-there, option_or-other}
 use Rattle.mq_rules.proofs.FateLaws.{latest_fate-next, closed-decided, open-decides}
 
 -- ---- what the log's reader knows of an event is what the statements look at of it
 
-type-noted : (way : Way) (entry : Entry) → entry_type entry ≡ type_of (packet_fields way entry)
+type-noted : (way : Way) (entry : Entry) → type_of entry ≡ fields_type (packet_fields way entry)
 type-noted way (connect fields) = refl
 type-noted way (connack session_present code properties) = refl
 type-noted way (publish fields) = refl
@@ -50,7 +50,7 @@ type-noted way pingresp = refl
 type-noted way (disconnect code properties) = refl
 type-noted way (auth code properties) = refl
 
-connack-typed : (fields : PacketFields) → is_connack_type (type_of fields) ≡ is_some (connack_in fields)
+connack-typed : (fields : PacketFields) → is_connack_type (fields_type fields) ≡ is_some (connack_in fields)
 connack-typed (Connack c) = refl
 connack-typed _ = refl
 
@@ -75,7 +75,7 @@ or_false false = refl
 
 -- a session packet or a RELEASE
 needs-noted : (e : Event) → needs_answer e ≡ needs_session (note_of e)
-needs-noted (sent (packet size entry)) = ap is_session_type (type-noted ways.Sent entry) ∙ or_false (is_session_type (type_of (packet_fields ways.Sent entry)))
+needs-noted (sent (packet size entry)) = ap is_session_type (type-noted ways.Sent entry) ∙ or_false (is_session_type (fields_type (packet_fields ways.Sent entry)))
 needs-noted (sent (bad first rule at)) = refl
 needs-noted (sent lost) = refl
 needs-noted (received (packet size entry)) = ap is_session_type (type-noted ways.Recv entry)
@@ -83,20 +83,20 @@ needs-noted (received (bad first rule at)) = refl
 needs-noted (received lost) = refl
 needs-noted _ = refl
 
-begins-noted : (e : Event) → begins e ≡ is_open (note_of e)
+begins-noted : (e : Event) → begins_connection e ≡ is_open (note_of e)
 begins-noted opened = refl
 begins-noted _ = refl
 
-ends-noted : (e : Event) → ends e ≡ is_close (note_of e)
+ends-noted : (e : Event) → ends_connection e ≡ is_close (note_of e)
 ends-noted closed = refl
 ends-noted _ = refl
 
 -- an open connection
-connected-noted : (log : List Placed) → trace_connected log ≡ is_connected (map seen log)
+connected-noted : (log : List Placed) → has_open_connection log ≡ is_connected (map seen log)
 connected-noted [] = refl
 connected-noted (e ∷ past) =
-    ap (λ b. b || (not (ends e.event) && trace_connected past)) (begins-noted e.event)
-    ∙ ap (λ b. is_open (note_of e.event) || (not b && trace_connected past)) (ends-noted e.event)
+    ap (λ b. b || (not (ends_connection e.event) && has_open_connection past)) (begins-noted e.event)
+    ∙ ap (λ b. is_open (note_of e.event) || (not b && has_open_connection past)) (ends-noted e.event)
     ∙ ap (λ b. is_open (note_of e.event) || (not (is_close (note_of e.event)) && b)) (connected-noted past)
 
 -- The CONNACK of the latest connection has come.
@@ -106,7 +106,7 @@ is_answered role log = since (λ m. is_some (connack_of role (note m))) (λ m. i
 answered-noted : (header : Header) (log : List Placed) → trace_answered header.server log ≡ is_answered (role_of header) (map seen log)
 answered-noted header [] = refl
 answered-noted header (e ∷ past) =
-    ap (λ b. b || (not (begins e.event) && trace_answered header.server past)) (answer-noted header.server header.releases e.event)
+    ap (λ b. b || (not (begins_connection e.event) && trace_answered header.server past)) (answer-noted header.server header.releases e.event)
     ∙ ap (λ b. is_some (connack_of (role_of header) (note_of e.event)) || (not b && trace_answered header.server past)) (begins-noted e.event)
     ∙ ap (λ b. is_some (connack_of (role_of header) (note_of e.event)) || (not (is_open (note_of e.event)) && b)) (answered-noted header past)
 
@@ -128,11 +128,11 @@ answered-decided role (e ∷ past) h =
     ∙ go (is_open e.note) (is_some (connack_of role e.note)) (is_answered role past) h (open-decides role e.note) (connack-decides role e.note) (answered-decided role past)
   where
     go : (opens answers was : Bool) → (answers || (not opens && was)) ≡ true → (opens ≡ true → decides role e.note ≡ None) → (answers ≡ true → is_some (decides role e.note) ≡ true)
-        → (was ≡ true → is_some (latest_fate role past) ≡ true) → is_some (cond opens None (or_else (latest_fate role past) (decides role e.note))) ≡ true
+        → (was ≡ true → is_some (latest_fate role past) ≡ true) → is_some (cond opens None (option_or (latest_fate role past) (decides role e.note))) ≡ true
     go true true was h none now before = absurd (let a = none refl in let b = now refl in cc)
     go true false was h none now before = absurd (cc)
-    go false true was h none now before = or_else-other (latest_fate role past) (decides role e.note) (now refl)
-    go false false was h none now before = or_else-there (latest_fate role past) (decides role e.note) (before h)
+    go false true was h none now before = option_or-other (latest_fate role past) (decides role e.note) (now refl)
+    go false false was h none now before = option_or-there (latest_fate role past) (decides role e.note) (before h)
 
 -- ---- a byte that is not refused
 
@@ -165,7 +165,7 @@ not-early limit s h = (none_applies (conditions limit s) h).1.1.1.1.1.1.1.0
 unrefused-grow : (limit : ℕ) (log : List ℕ) (byte : ℕ) → refused limit (log ++ byte ∷ []) ≡ None → (refused limit log ≡ None) × (refusal_at limit log byte ≡ None)
 unrefused-grow limit log byte h = go (refused limit log) (refusal_at limit log byte) (sym (refused-grow limit log byte) ∙ h)
   where
-    go : (a b : Option Refusal) → first_of a b ≡ None → (a ≡ None) × (b ≡ None)
+    go : (a b : Option Refusal) → option_or a b ≡ None → (a ≡ None) × (b ≡ None)
     go None b e = (refl, e)
     go (Some r) b e = absurd (cc)
 

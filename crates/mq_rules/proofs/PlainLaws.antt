@@ -1,6 +1,7 @@
 -- The plain evaluators: a list that is read from its front, and the statements on the bytes of one packet.
 use Rattle.std.proofs.Common.{◌≡◌, ℕ, ◌+◌, ◌<◌, ◌==◌, Bool, true, false, cond, ◌&&◌, List, [], ◌∷◌, length, take, drop, get_or, Option, Some, None, refl, ap, sym, ◌∙◌, subst, arith, zero, suc, add-one, inl}
 use Rattle.std.specs.Prelude.{option_map, reverse}
+use Rattle.std.specs.Option.{option_or}
 use mathlib.Core.List.{reverse_aux}
 use denote.Enum.Bare.{same_true, sameb}
 use Rattle.mq_packet.specs.declared.rule.PacketRule.{PacketRule}
@@ -15,8 +16,8 @@ use Rattle.mq_rules.specs.declared.rule.Rule.{Rule}
 use Rattle.mq_rules.specs.declared.rule.Rule.TheVariants.{W01, W02, W03, W04, W05, W06, W07, W08, W09, W10, W11, W12, W13, W14, W15, W16, W17, W18, W19, W20, W21}
 use Rattle.mq_rules.specs.declared.fault.Fault.{Fault}
 use Rattle.mq_rules.specs.declared.note.Seen.{Seen}
-use Rattle.mq_rules.specs.Words.{or_else, is_some_and}
-use Rattle.mq_rules.specs.Notes.{broken}
+use Rattle.mq_rules.specs.Words.{is_some_and}
+use Rattle.mq_rules.specs.Notes.{sent_fault}
 use Rattle.mq_rules.specs.Moments.{newest, moment, IsPlaced}
 use Rattle.mq_rules.specs.Rules.{same_rule, binds, found_line, lines, line_of}
 use Rattle.mq_rules.specs.Statements.{Statement, on_bytes, on_past, in_session, at_release, at_rest, statement, breaks_bytes, is_by_bytes, is_on_bytes}
@@ -24,7 +25,7 @@ use Rattle.mq_rules.specs.Steps.{shows, turns}
 use Rattle.mq_rules.specs.Marks.{FaultMap, fault_at, with_fault}
 use Rattle.mq_rules.specs.Faults.{record_of, offset_of, Grows, GrowsWithin}
 use Rattle.mq_rules.specs.Keeping.{GrowsBy, GrowsByWithin}
-use Rattle.mq_rules.proofs.BoolLaws.{and_false, or_else-none, same_test, not_true}
+use Rattle.mq_rules.proofs.BoolLaws.{and_false, option_or-none, same_test, not_true}
 use Rattle.mq_rules.proofs.MarkLaws.{fault_at-with_fault}
 use Rattle.mq_rules.proofs.GrowLaws.{grows-step, within-later, grows-within, within-step}
 
@@ -128,7 +129,7 @@ self_same W01 = refl
 self_same _ = refl
 
 -- an event whose bytes break nothing
-news-none : (s : Statement) (b : Bool) (role : Role) (e : Seen) (past : List Seen) (k : ℕ) → broken e.note ≡ None → (is_by_bytes s && (b && shows role s e past k)) ≡ false
+news-none : (s : Statement) (b : Bool) (role : Role) (e : Seen) (past : List Seen) (k : ℕ) → sent_fault e.note ≡ None → (is_by_bytes s && (b && shows role s e past k)) ≡ false
 unfolding breaks_bytes
 news-none (on_bytes bytes) b role e past k none =
     ap (λ o. b && ((k == length past + 1) && is_some_and (λ (fault : BodyFault). sameb packet_rules bytes fault.rule) o)) none ∙ go b (k == length past + 1)
@@ -142,13 +143,13 @@ news-none (in_session breaks) b role e past k none = refl
 news-none (at_release breaks) b role e past k none = refl
 news-none (at_rest test) b role e past k none = refl
 
-pub bytes-none : (tested : Tested) (e : Seen) (past : List Seen) (m : FaultMap) → broken e.note ≡ None → GrowsBy (is_on_bytes tested) tested e past m m
+pub bytes-none : (tested : Tested) (e : Seen) (past : List Seen) (m : FaultMap) → sent_fault e.note ≡ None → GrowsBy (is_on_bytes tested) tested e past m m
 unfolding turns
 bytes-none tested e past m none = record {
   each = λ k rule. sym (
-      ap (λ b. or_else (fault_at m k rule) (cond {A = Option Fault} b (Some (record { decided = length past + 1; record_no = record_of (moment (e ∷ past) k); offset = offset_of (statement tested.role rule) (moment (e ∷ past) k) })) None))
+      ap (λ b. option_or (fault_at m k rule) (cond {A = Option Fault} b (Some (record { decided = length past + 1; record_no = record_of (moment (e ∷ past) k); offset = offset_of (statement tested.role rule) (moment (e ∷ past) k) })) None))
       (news-none (statement tested.role rule) (binds rule tested) tested.role e past k none)
-      ∙ or_else-none (fault_at m k rule));
+      ∙ option_or-none (fault_at m k rule));
 }
 
 -- a rule and the packet rule that are of one statement
@@ -180,7 +181,7 @@ none_of tested rule name e k b other =
 
 -- an event whose bytes break a rule
 news-some : (tested : Tested) (rule name : Rule) (e : Seen) (past : List Seen) (k : ℕ) (b : BodyFault) (s : Statement)
-    → e.place.position ≡ length past + 1 → broken e.note ≡ Some b → statement tested.role name ≡ on_bytes b.rule → statement tested.role rule ≡ s
+    → e.place.position ≡ length past + 1 → sent_fault e.note ≡ Some b → statement tested.role name ≡ on_bytes b.rule → statement tested.role rule ≡ s
     → cond {A = Option Fault} ((k == e.place.position) && same_rule rule name) (Some (record { decided = e.place.position; record_no = e.place.record_no; offset = Some b.at })) None
     ≡ cond {A = Option Fault} (is_by_bytes s && (binds rule tested && shows tested.role s e past k)) (Some (record { decided = length past + 1; record_no = record_of (moment (e ∷ past) k); offset = offset_of s (moment (e ∷ past) k) })) None
 unfolding breaks_bytes
@@ -198,7 +199,7 @@ news-some tested rule name e past k b (on_bytes bytes) placed broke name_is is =
 
     go : (t : Bool) → cond {A = Option Fault} (t && sameb packet_rules bytes b.rule) (Some (record { decided = length past + 1; record_no = e.place.record_no; offset = Some b.at })) None
         ≡ cond {A = Option Fault} (t && sameb packet_rules bytes b.rule) (Some (record { decided = length past + 1; record_no = record_of (cond t (Some (newest e past)) (moment past k)); offset = offset_of (on_bytes bytes) (cond t (Some (newest e past)) (moment past k)) })) None
-    go true = ap (λ o. cond {A = Option Fault} (sameb packet_rules bytes b.rule) (Some (record { decided = length past + 1; record_no = e.place.record_no; offset = o })) None) (at (broken e.note) broke)
+    go true = ap (λ o. cond {A = Option Fault} (sameb packet_rules bytes b.rule) (Some (record { decided = length past + 1; record_no = e.place.record_no; offset = o })) None) (at (sent_fault e.note) broke)
     go false = refl
 news-some tested rule name e past k b (on_past breaks) placed broke name_is is = none_of tested rule name e k b (other_shape tested rule name b.rule (on_past breaks) is refl name_is)
 news-some tested rule name e past k b (in_session breaks) placed broke name_is is = none_of tested rule name e k b (other_shape tested rule name b.rule (in_session breaks) is refl name_is)
@@ -206,12 +207,12 @@ news-some tested rule name e past k b (at_release breaks) placed broke name_is i
 news-some tested rule name e past k b (at_rest test) placed broke name_is is = none_of tested rule name e k b (other_shape tested rule name b.rule (at_rest test) is refl name_is)
 
 pub bytes-some : (tested : Tested) (e : Seen) (past : List Seen) (m : FaultMap) (name : Rule) (b : BodyFault) → e.place.position ≡ length past + 1
-    → broken e.note ≡ Some b → statement tested.role name ≡ on_bytes b.rule
+    → sent_fault e.note ≡ Some b → statement tested.role name ≡ on_bytes b.rule
     → GrowsBy (is_on_bytes tested) tested e past m (with_fault (record { position = e.place.position; rule = name }) (record { decided = e.place.position; record_no = e.place.record_no; offset = Some b.at }) m)
 unfolding turns
 bytes-some tested e past m name b placed broke name_is = record {
   each = λ k rule. fault_at-with_fault m e.place.position k name rule (record { decided = e.place.position; record_no = e.place.record_no; offset = Some b.at })
-      ∙ ap (or_else (fault_at m k rule)) (news-some tested rule name e past k b (statement tested.role rule) placed broke name_is refl);
+      ∙ ap (option_or (fault_at m k rule)) (news-some tested rule name e past k b (statement tested.role rule) placed broke name_is refl);
 }
 
 -- a refusal that leaves the faults unchanged

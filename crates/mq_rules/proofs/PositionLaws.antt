@@ -2,13 +2,13 @@
 use Rattle.std.proofs.Common.{◌≡◌, ℕ, zero, suc, ◌+◌, ◌<◌, ◌≤◌, ◌==◌, Bool, true, false, cond, ◌&&◌, ◌||◌, not, List, [], ◌∷◌, ◌++◌, length, Option, Some, None, refl, ap, sym, ◌∙◌, subst, arith, ◌⊎◌, inl, inr, take, length-append}
 use Rattle.std.specs.Prelude.{is_some}
 use Rattle.std.proofs.lemmas.Bool.{eq-eqb, eqb-true}
+use Rattle.std.specs.Option.{option_or}
 use Rattle.mq_rules.specs.declared.role.Role.{Role}
 use Rattle.mq_rules.specs.declared.fate.Fate.{Fate}
 use Rattle.mq_rules.specs.declared.note.Note.{Note}
 use Rattle.mq_rules.specs.declared.note.Seen.{Seen}
-use Rattle.mq_rules.specs.Words.{or_else}
 use Rattle.mq_rules.specs.Notes.{is_open}
-use Rattle.mq_rules.specs.Moments.{Moment, newest, position, note, moments, moment, some, since, those, latest, earliest, earliest_since, count, some_stretch, IsBeginning, Among, IsDescending, Stands, IsLatest, IsEarliest, IsEarliestSince, IsPlaced}
+use Rattle.mq_rules.specs.Moments.{Moment, newest, position, note, moments, moment, some, since, those, latest, earliest, earliest_since, count, some_stretch, IsMomentAt, Among, IsDescending, HoldsSince, IsLatest, IsEarliest, IsEarliestSince, IsPlaced}
 use Rattle.mq_rules.specs.Connections.{begins, latest_fate, has_session, with_first, session}
 use Rattle.mq_rules.proofs.BoolLaws.{differ, or_parts, or_right}
 use Rattle.mq_rules.proofs.SessionLaws.{session-members}
@@ -40,14 +40,14 @@ moment-among (e ∷ past) k m h = go (k == length past + 1) h (moment-among past
     go true h rest = inl (cc)
     go false h rest = inr (rest h)
 
-pub moment-beginning : (log : List Seen) (k : ℕ) (m : Moment) → moment log k ≡ Some m → IsBeginning log k m
+pub moment-beginning : (log : List Seen) (k : ℕ) (m : Moment) → moment log k ≡ Some m → IsMomentAt log k m
 moment-beginning [] k m h = absurd (cc)
 moment-beginning (e ∷ past) k m h = go (k == length past + 1) refl h (moment-beginning past k m)
   where
-    first : k ≡ length past + 1 → m ≡ newest e past → IsBeginning (e ∷ past) k m
+    first : k ≡ length past + 1 → m ≡ newest e past → IsMomentAt (e ∷ past) k m
     first at is = record { at = at ∙ ap position (sym is); later = []; joined = ap (λ (n : Moment). n.event ∷ n.past) (sym is) }
 
-    go : (b : Bool) → (k == length past + 1) ≡ b → cond b (Some (newest e past)) (moment past k) ≡ Some m → (moment past k ≡ Some m → IsBeginning past k m) → IsBeginning (e ∷ past) k m
+    go : (b : Bool) → (k == length past + 1) ≡ b → cond b (Some (newest e past)) (moment past k) ≡ Some m → (moment past k ≡ Some m → IsMomentAt past k m) → IsMomentAt (e ∷ past) k m
     go true t h rest = first (eqb-true k (length past + 1) t) (cc)
     go false t h rest = let r = rest h in record { at = r.at; later = e ∷ r.later; joined = ap (λ es. e ∷ es) r.joined }
 
@@ -57,7 +57,7 @@ moment-joined (l ∷ later) e past =
     let l_is = length-append later (e ∷ past) in
     moment-older l (later ++ (e ∷ past)) (length past + 1) (omega arith) ∙ moment-joined later e past
 
-pub beginning-moment : (log : List Seen) (k : ℕ) (m : Moment) → IsBeginning log k m → moment log k ≡ Some m
+pub beginning-moment : (log : List Seen) (k : ℕ) (m : Moment) → IsMomentAt log k m → moment log k ≡ Some m
 beginning-moment log k m b = ap (λ n. moment log n) b.at ∙ ap (λ es. moment es (position m)) b.joined ∙ moment-joined b.later m.event m.past
 
 -- in a log whose events have their places, the event at a position has that position
@@ -154,7 +154,7 @@ since_kept true b c h k = refl
 since_kept false true c h k = absurd (cc)
 since_kept false false c h k = k
 
-pub since-stands : (starts ends : Moment → Bool) (ms : List Moment) → IsDescending ms → since starts ends ms ≡ true → Stands starts ends ms
+pub since-stands : (starts ends : Moment → Bool) (ms : List Moment) → IsDescending ms → since starts ends ms ≡ true → HoldsSince starts ends ms
 since-stands starts ends [] d h = absurd (cc)
 since-stands starts ends (m ∷ ms) d h = go (since_cases (starts m) (ends m) (since starts ends ms) h) (since-stands starts ends ms d.1)
   where
@@ -166,17 +166,17 @@ since-stands starts ends (m ∷ ms) d h = go (since_cases (starts m) (ends m) (s
     none n (inl is) lt = absurd (let same : position n ≡ position m = ap position is in omega arith)
     none n (inr h) lt = absurd (let before = d.0 n h in omega arith)
 
-    go : (starts m ≡ true) ⊎ ((ends m ≡ false) × (since starts ends ms ≡ true)) → (since starts ends ms ≡ true → Stands starts ends ms) → Stands starts ends (m ∷ ms)
+    go : (starts m ≡ true) ⊎ ((ends m ≡ false) × (since starts ends ms ≡ true)) → (since starts ends ms ≡ true → HoldsSince starts ends ms) → HoldsSince starts ends (m ∷ ms)
     go (inl passes) rest = record { at = m; there = inl refl; passes = passes; none_after = none }
     go (inr p) rest =
         let s = rest p.1 in
         record { at = s.at; there = inr s.there; passes = s.passes; none_after = λ n h lt. after s.at n h lt p.0 s.none_after }
 
-pub stands-since : (starts ends : Moment → Bool) (ms : List Moment) → IsDescending ms → Stands starts ends ms → since starts ends ms ≡ true
+pub stands-since : (starts ends : Moment → Bool) (ms : List Moment) → IsDescending ms → HoldsSince starts ends ms → since starts ends ms ≡ true
 stands-since starts ends [] d s = absurd (s.there)
 stands-since starts ends (m ∷ ms) d s = go s.there (stands-since starts ends ms d.1)
   where
-    go : (s.at ≡ m) ⊎ Among s.at ms → (Stands starts ends ms → since starts ends ms ≡ true) → since starts ends (m ∷ ms) ≡ true
+    go : (s.at ≡ m) ⊎ Among s.at ms → (HoldsSince starts ends ms → since starts ends ms ≡ true) → since starts ends (m ∷ ms) ≡ true
     go (inl is) rest = ap (λ b. b || (not (ends m) && since starts ends ms)) (ap starts (sym is) ∙ s.passes)
     go (inr h) rest =
         since_kept (starts m) (ends m) (since starts ends ms) (s.none_after m (inl refl) (d.0 s.at h))
@@ -231,18 +231,18 @@ none-latest test (m ∷ ms) none = ap (λ b. cond b (Some m) (latest test ms)) (
 
 -- ---- `earliest`
 
-or_else-absent : {A : Type 0} (o p : Option A) → or_else o p ≡ None → (o ≡ None) × (p ≡ None)
-or_else-absent None p h = (refl, h)
-or_else-absent (Some a) p h = absurd (cc)
+option_or-absent : {A : Type 0} (o p : Option A) → option_or o p ≡ None → (o ≡ None) × (p ≡ None)
+option_or-absent None p h = (refl, h)
+option_or-absent (Some a) p h = absurd (cc)
 
 pub earliest-none : {A : Type 0} (found : Note → Option A) (ms : List Moment) → earliest found ms ≡ None → (m : Moment) → Among m ms → found (note m) ≡ None
 earliest-none found [] h m there = absurd there
-earliest-none found (n ∷ ms) h m (inl is) = ap (λ (l : Moment). found (note l)) is ∙ (or_else-absent (earliest found ms) (found (note n)) h).1
-earliest-none found (n ∷ ms) h m (inr there) = earliest-none found ms (or_else-absent (earliest found ms) (found (note n)) h).0 m there
+earliest-none found (n ∷ ms) h m (inl is) = ap (λ (l : Moment). found (note l)) is ∙ (option_or-absent (earliest found ms) (found (note n)) h).1
+earliest-none found (n ∷ ms) h m (inr there) = earliest-none found ms (option_or-absent (earliest found ms) (found (note n)) h).0 m there
 
 pub none-earliest : {A : Type 0} (found : Note → Option A) (ms : List Moment) → ((m : Moment) → Among m ms → found (note m) ≡ None) → earliest found ms ≡ None
 none-earliest found [] none = refl
-none-earliest found (m ∷ ms) none = ap (λ o. or_else o (found (note m))) (none-earliest found ms (λ n there. none n (inr there))) ∙ none m (inl refl)
+none-earliest found (m ∷ ms) none = ap (λ o. option_or o (found (note m))) (none-earliest found ms (λ n there. none n (inr there))) ∙ none m (inl refl)
 
 pub earliest-is : {A : Type 0} (found : Note → Option A) (ms : List Moment) (a : A) → IsDescending ms → earliest found ms ≡ Some a → IsEarliest found ms a
 earliest-is found [] a d h = absurd (cc)
@@ -262,7 +262,7 @@ earliest-is {A = A} found (m ∷ ms) a d h = go (earliest found ms) refl h (earl
         none n (inl same) lt = absurd (let p : position n ≡ position m = ap position same in omega arith)
         none n (inr h) lt = earliest-none found ms absent n h
 
-    go : (o : Option A) → earliest found ms ≡ o → or_else o (found (note m)) ≡ Some a → (earliest found ms ≡ Some a → IsEarliest found ms a) → IsEarliest found (m ∷ ms) a
+    go : (o : Option A) → earliest found ms ≡ o → option_or o (found (note m)) ≡ Some a → (earliest found ms ≡ Some a → IsEarliest found ms a) → IsEarliest found (m ∷ ms) a
     go (Some b) is h rest = before (rest (is ∙ h))
     go None is h rest = here is h
 
@@ -273,9 +273,9 @@ is-earliest {A = A} found (m ∷ ms) a d r = go r.there (is-earliest found ms a 
     go : (r.at ≡ m) ⊎ Among r.at ms → (IsEarliest found ms a → earliest found ms ≡ Some a) → earliest found (m ∷ ms) ≡ Some a
     go (inl is) rest =
         let same : position r.at ≡ position m = ap position is in
-        ap (λ o. or_else o (found (note m))) (none-earliest found ms (λ n h. r.none_before n (inr h) (let before = d.0 n h in omega arith)))
+        ap (λ o. option_or o (found (note m))) (none-earliest found ms (λ n h. r.none_before n (inr h) (let before = d.0 n h in omega arith)))
         ∙ ap (λ (n : Moment). found (note n)) (sym is) ∙ r.has
-    go (inr h) rest = ap (λ o. or_else o (found (note m))) (rest (record { at = r.at; there = h; has = r.has; none_before = λ n there lt. r.none_before n (inr there) lt }))
+    go (inr h) rest = ap (λ o. option_or o (found (note m))) (rest (record { at = r.at; there = h; has = r.has; none_before = λ n there lt. r.none_before n (inr there) lt }))
 
 -- ---- `earliest_since`
 
@@ -284,7 +284,7 @@ pub earliest_since-there : (starts ends : Moment → Bool) (ms : List Moment) �
 earliest_since-there starts ends [] = refl
 earliest_since-there starts ends (m ∷ ms) = go (starts m) (ends m) (earliest_since starts ends ms) ∙ ap (λ b. starts m || (not (ends m) && b)) (earliest_since-there starts ends ms)
   where
-    go : (a b : Bool) (o : Option Moment) → is_some (or_else (cond b None o) (cond a (Some m) None)) ≡ (a || (not b && is_some o))
+    go : (a b : Bool) (o : Option Moment) → is_some (option_or (cond b None o) (cond a (Some m) None)) ≡ (a || (not b && is_some o))
     go true true o = refl
     go true false None = refl
     go true false (Some n) = refl
@@ -346,7 +346,7 @@ earliest_since-is starts ends (m ∷ ms) at d h = go (ends m) (earliest_since st
         let x = since-ended starts ends ms d.1 (sym (earliest_since-there starts ends ms) ∙ ap is_some none) n h passes in
         (x.0, inr x.1, x.2, x.3)
 
-    go : (b : Bool) (o : Option Moment) (s : Bool) → ends m ≡ b → earliest_since starts ends ms ≡ o → starts m ≡ s → or_else (cond b None o) (cond s (Some m) None) ≡ Some at
+    go : (b : Bool) (o : Option Moment) (s : Bool) → ends m ≡ b → earliest_since starts ends ms ≡ o → starts m ≡ s → option_or (cond b None o) (cond s (Some m) None) ≡ Some at
         → (earliest_since starts ends ms ≡ Some at → IsEarliestSince starts ends ms at) → IsEarliestSince starts ends (m ∷ ms) at
     go true o true b is s h rest = here s (cc) (λ n there passes. (m, inl refl, d.0 n there, b))
     go true o false b is s h rest = absurd (cc)
@@ -379,12 +379,12 @@ is-earliest_since starts ends (m ∷ ms) at d r = go r.there (is-earliest_since 
 
     go : (at ≡ m) ⊎ Among at ms → (IsEarliestSince starts ends ms at → earliest_since starts ends ms ≡ Some at) → earliest_since starts ends (m ∷ ms) ≡ Some at
     go (inl is) rest =
-        ap (λ o. or_else o (cond (starts m) (Some m) None)) (absent is (ends m) (earliest_since starts ends ms) refl refl)
+        ap (λ o. option_or o (cond (starts m) (Some m) None)) (absent is (ends m) (earliest_since starts ends ms) refl refl)
         ∙ ap (λ b. cond b (Some m) None) (ap starts (sym is) ∙ r.passes) ∙ ap Some (sym is)
     go (inr h) rest =
         let kept : ends m ≡ false = r.none_after m (inl refl) (d.0 at h) in
-        ap (λ b. or_else (cond b None (earliest_since starts ends ms)) (cond (starts m) (Some m) None)) kept
-        ∙ ap (λ o. or_else o (cond (starts m) (Some m) None)) (rest (record {
+        ap (λ b. option_or (cond b None (earliest_since starts ends ms)) (cond (starts m) (Some m) None)) kept
+        ∙ ap (λ o. option_or o (cond (starts m) (Some m) None)) (rest (record {
           there = h;
           passes = r.passes;
           none_after = λ n there lt. r.none_after n (inr there) lt;

@@ -1,13 +1,14 @@
 -- What fails with one event more: once for each shape of statement, over any predicate.
 use Rattle.std.proofs.Common.{◌≡◌, ℕ, ◌+◌, ◌<◌, ◌≤◌, ◌==◌, nat_lt, Bool, true, false, cond, ◌&&◌, ◌||◌, List, [], ◌∷◌, length, Option, Some, None, is_some, refl, ap, sym, ◌∙◌, arith}
 use Rattle.std.proofs.lemmas.Bool.{eqb-true, eq-eqb, lt-ltb, ltb-true}
+use Rattle.std.specs.Option.{option_or}
 use Rattle.mq_rules.specs.declared.role.Role.{Role}
 use Rattle.mq_rules.specs.declared.role.Tested.{Tested}
 use Rattle.mq_rules.specs.declared.fate.Fate.{Fate}
 use Rattle.mq_rules.specs.declared.fate.Fate.TheVariants.{Void}
 use Rattle.mq_rules.specs.declared.rule.Rule.{Rule}
 use Rattle.mq_rules.specs.declared.note.Seen.{Seen}
-use Rattle.mq_rules.specs.Words.{or_else, is_some_and}
+use Rattle.mq_rules.specs.Words.{is_some_and}
 use Rattle.mq_rules.specs.Notes.{decides}
 use Rattle.mq_rules.specs.Moments.{Moment, newest, position, moments, moment, is_next, is_after, some, earliest}
 use Rattle.mq_rules.specs.Connections.{number, of_connection, fate, is_binding}
@@ -52,24 +53,24 @@ moment-within (e ∷ past) k m h = go (is_next past k) h (moment-within past k m
 -- ---- fates
 
 -- a connection's fate with one event more
-pub fate-step : (role : Role) (c : ℕ) (e : Seen) (past : List Seen) → fate role c (e ∷ past) ≡ or_else (fate role c past) (cond (number (newest e past) == c) (decides role e.note) None)
+pub fate-step : (role : Role) (c : ℕ) (e : Seen) (past : List Seen) → fate role c (e ∷ past) ≡ option_or (fate role c past) (cond (number (newest e past) == c) (decides role e.note) None)
 fate-step role c e past = go (c == 0) (number (newest e past) == c)
   where
     older : List Moment
     older = of_connection c past
 
-    none : (o : Option Fate) → o ≡ or_else o None
+    none : (o : Option Fate) → o ≡ option_or o None
     none None = refl
     none (Some f) = refl
 
-    go : (z b : Bool) → cond z (Some Void) (earliest (decides role) (cond b (newest e past ∷ older) older)) ≡ or_else (cond z (Some Void) (earliest (decides role) older)) (cond b (decides role e.note) None)
+    go : (z b : Bool) → cond z (Some Void) (earliest (decides role) (cond b (newest e past ∷ older) older)) ≡ option_or (cond z (Some Void) (earliest (decides role) older)) (cond b (decides role e.note) None)
     go true b = refl
     go false true = refl
     go false false = none (earliest (decides role) older)
 
 -- once decided, it stays
 pub fate-kept : (role : Role) (c : ℕ) (f : Fate) (e : Seen) (past : List Seen) → fate role c past ≡ Some f → fate role c (e ∷ past) ≡ Some f
-fate-kept role c f e past h = fate-step role c e past ∙ ap (λ o. or_else o (cond (number (newest e past) == c) (decides role e.note) None)) h
+fate-kept role c f e past h = fate-step role c e past ∙ ap (λ o. option_or o (cond (number (newest e past) == c) (decides role e.note) None)) h
 
 -- ---- each shape
 

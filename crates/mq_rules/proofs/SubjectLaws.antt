@@ -1,6 +1,6 @@
 -- What a statement of a session is about needs a session; so in a log in order each such statement is judged at once.
 use Rattle.std.proofs.Common.{◌≡◌, ℕ, Bool, true, false, ◌&&◌, ◌||◌, List, ◌∷◌, Option, Some, None, is_some, refl, subst}
-use Rattle.std.specs.Option.{option_and_then}
+use Rattle.std.specs.Option.{option_and_then, option_or}
 use Rattle.mq_rules.specs.declared.role.Role.{Role}
 use Rattle.mq_rules.specs.declared.role.Role.TheVariants.{Client, Server}
 use Rattle.mq_rules.specs.declared.role.Tested.{Tested}
@@ -12,7 +12,7 @@ use Rattle.mq_rules.specs.declared.note.Note.TheVariants as notes
 use Rattle.mq_rules.specs.declared.note.Seen.{Seen}
 use Rattle.mq_rules.specs.declared.packet_note.PacketFields.{PacketFields}
 use Rattle.mq_rules.specs.declared.packet_note.PacketFields.TheVariants.{Publish, Puback, Pubrec, Pubrel, Pubcomp, Subscribe, Suback, Unsubscribe, Unsuback}
-use Rattle.mq_rules.specs.Words.{or_else, is_some_and}
+use Rattle.mq_rules.specs.Words.{is_some_and}
 use Rattle.mq_rules.specs.Notes.{sent_fields, received_fields, sent_publish, is_release, released_id, publish_in, puback_in, pubrec_in, pubrel_in, pubcomp_in, success_pubcomp_in, subscribe_in, unsubscribe_in, suback_in, unsuback_in, grant_in, unsuback_count_in, sent_as, delivery_in, delivery_of, opener_in, opener_of, resend_in, resend_of, is_session_packet, needs_session}
 use Rattle.mq_rules.specs.Moments.{Moment, newest, note}
 use Rattle.mq_rules.specs.Connections.{latest_fate, accepts, IsInOrder}
@@ -120,7 +120,7 @@ pub taken-needs : (role : Role) (n : Note) → is_some (taken_by role n) ≡ tru
 taken-needs Server n h = opener-needs n h
 taken-needs Client n h = go (opener_of n) (sent_as subscribe_in n) (sent_as unsubscribe_in n) h (opener-needs n) (sent-needs subscribe_in subscribe-session n) (sent-needs unsubscribe_in unsubscribe-session n)
   where
-    go : (a b c : Option ℕ) → is_some (or_else a (or_else b c)) ≡ true → (is_some a ≡ true → needs_session n ≡ true) → (is_some b ≡ true → needs_session n ≡ true)
+    go : (a b c : Option ℕ) → is_some (option_or a (option_or b c)) ≡ true → (is_some a ≡ true → needs_session n ≡ true) → (is_some b ≡ true → needs_session n ≡ true)
         → (is_some c ≡ true → needs_session n ≡ true) → needs_session n ≡ true
     go (Some i) b c h x y z = x refl
     go None (Some i) c h x y z = y refl

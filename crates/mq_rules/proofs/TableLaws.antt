@@ -12,16 +12,16 @@ use denote.Enum.Bare.{same_true}
 use Rattle.mq_rules.specs.contracts.rule.Rule.{the_type}
 use Rattle.mq_rules.specs.declared.rule.Rule.{Rule}
 use Rattle.mq_rules.specs.declared.rule.Rule.TheVariants.{W01}
-use Rattle.mq_rules.specs.Rules.{Line, line_view, lines_of, lines, found_line, all_rules, rule_cmp, same_rule}
+use Rattle.mq_rules.specs.Rules.{StatementLine, line_view, lines_of, lines, found_line, all_rules, rule_cmp, same_rule}
 
 cond-map : {A B : Type 0} (view : A → B) (b : Bool) (x : A) (o : Option A) (q : Option B) → option_map view o ≡ q → option_map view (cond b (Some x) o) ≡ cond b (Some (view x)) q
 cond-map view true x o q h = refl
 cond-map view false x o q h = h
 
 pub find-view : (rule : Rule) (rows : List (Rule × Bor (List ℕ) × Bor (List ℕ) × Bor (List ℕ) × Bool))
-    → option_map line_view (find (λ row. same_rule row.0 rule) rows) ≡ find (λ (line : Line). same_rule line.rule rule) (lines_of rows)
+    → option_map line_view (find (λ row. same_rule row.0 rule) rows) ≡ find (λ (line : StatementLine). same_rule line.rule rule) (lines_of rows)
 find-view rule [] = refl
-find-view rule (row ∷ rows) = cond-map line_view (same_rule row.0 rule) row (find (λ r. same_rule r.0 rule) rows) (find (λ (l : Line). same_rule l.rule rule) (lines_of rows)) (find-view rule rows)
+find-view rule (row ∷ rows) = cond-map line_view (same_rule row.0 rule) row (find (λ r. same_rule r.0 rule) rows) (find (λ (l : StatementLine). same_rule l.rule rule) (lines_of rows)) (find-view rule rows)
 
 -- ---- each statement has its row
 

@@ -2,6 +2,7 @@
 use Rattle.std.proofs.Common.{◌≡◌, ℕ, Bool, true, false, cond, ◌&&◌, ◌||◌, ◌+◌, ◌==◌, ◌⊎◌, inl, inr, not, length, List, [], ◌∷◌, Option, Some, None, refl, ap, sym, ◌∙◌}
 use Rattle.std.specs.BTreeSet.{contains}
 use Rattle.std.specs.Ordering.{nat_cmp}
+use Rattle.std.specs.Option.{option_or}
 use Rattle.mq_trace.specs.declared.place.Place3.{Place3}
 use Rattle.mq_rules.specs.declared.role.Role.{Role}
 use Rattle.mq_rules.specs.declared.role.Role.TheVariants.{Client, Server}
@@ -14,14 +15,14 @@ use Rattle.mq_rules.specs.declared.note.Seen.{Seen}
 use Rattle.mq_rules.specs.declared.conn.Conn.{Conn}
 use Rattle.mq_rules.specs.declared.conn.state.ConnectionState.{ConnectionState}
 use Rattle.mq_rules.specs.Notes.{is_open, is_rest, sent_item, sent_packet, sent_publish, sent_connack, sent_disconnect}
-use Rattle.mq_rules.specs.Words.{or_else, is_id}
+use Rattle.mq_rules.specs.Words.{is_id}
 use Rattle.mq_rules.specs.Moments.{Moment, newest, note, moment, some}
 use Rattle.mq_rules.specs.Connections.{connection}
 use Rattle.mq_rules.specs.Pasts.{set_alias, is_sent_disconnect, is_sent_refusal, breaks_C01, breaks_C02, breaks_C03, breaks_C04, breaks_C05, breaks_C06, breaks_C07, breaks_C08, breaks_C09, breaks_C10, breaks_C11, breaks_C12, breaks_C13, breaks_C14, breaks_C15, breaks_C16, breaks_C17, breaks_C18, breaks_C19, breaks_C20, breaks_C21, breaks_C22, breaks_C23}
 use Rattle.mq_rules.specs.Rules.{same_rule, binds, found_line, lines, line_of}
 use Rattle.mq_rules.specs.Statements.{Statement, on_bytes, on_past, in_session, at_release, at_rest, statement, is_by_past, is_on_past}
 use Rattle.mq_rules.specs.Steps.{shows, turns}
-use Rattle.mq_rules.specs.Keeping.{kept, is_alias_set, item_verdicts, packet_verdicts, publish_verdicts, connack_verdicts, disconnect_verdicts, rest_verdicts, is_among, is_told, after, at_place, Judges, JudgesWithin, news, GrowsBy, GrowsByWithin, Agrees}
+use Rattle.mq_rules.specs.Keeping.{kept, is_alias_set, item_verdicts, packet_verdicts, publish_verdicts, connack_verdicts, disconnect_verdicts, rest_verdicts, is_among, is_told, connection_after, at_place, Judges, JudgesWithin, news, GrowsBy, GrowsByWithin, Agrees}
 use Rattle.mq_rules.specs.Marks.{FaultMap, fault_at}
 use Rattle.mq_rules.specs.Faults.{record_of, offset_of}
 use Rattle.mq_rules.proofs.BoolLaws.{and_false, or-turn}
@@ -196,16 +197,16 @@ at_place-news tested e past k rule placed = told_news (statement tested.role rul
 -- the faults of an event that was judged, in full or in part
 pub grows-judged : (tested : Tested) (e : Seen) (past : List Seen) (old new : FaultMap) → e.place.position ≡ length past + 1
     → Judges (is_told tested.role (kept tested.role past) (is_alias_set past) e.note) e.place old new → GrowsBy (is_on_past tested) tested e past old new
-grows-judged tested e past old new placed h = record { each = λ k rule. h.each k rule ∙ ap (or_else (fault_at old k rule)) (at_place-news tested e past k rule placed) }
+grows-judged tested e past old new placed h = record { each = λ k rule. h.each k rule ∙ ap (option_or (fault_at old k rule)) (at_place-news tested e past k rule placed) }
 
 pub grows-judged_within : (tested : Tested) (e : Seen) (past : List Seen) (old new : FaultMap) → e.place.position ≡ length past + 1
     → JudgesWithin (is_told tested.role (kept tested.role past) (is_alias_set past) e.note) e.place old new → GrowsByWithin (is_on_past tested) tested e past old new
 grows-judged_within tested e past old new placed h = record { each = λ k rule. go k rule (h.each k rule) }
   where
-    go : (k : ℕ) (rule : Rule) → (fault_at new k rule ≡ fault_at old k rule) ⊎ (fault_at new k rule ≡ or_else (fault_at old k rule) (at_place e.place k (is_told tested.role (kept tested.role past) (is_alias_set past) e.note rule)))
-        → (fault_at new k rule ≡ fault_at old k rule) ⊎ (fault_at new k rule ≡ or_else (fault_at old k rule) (news (is_on_past tested) tested e past k rule))
+    go : (k : ℕ) (rule : Rule) → (fault_at new k rule ≡ fault_at old k rule) ⊎ (fault_at new k rule ≡ option_or (fault_at old k rule) (at_place e.place k (is_told tested.role (kept tested.role past) (is_alias_set past) e.note rule)))
+        → (fault_at new k rule ≡ fault_at old k rule) ⊎ (fault_at new k rule ≡ option_or (fault_at old k rule) (news (is_on_past tested) tested e past k rule))
     go k rule (inl same) = inl same
-    go k rule (inr more) = inr (more ∙ ap (or_else (fault_at old k rule)) (at_place-news tested e past k rule placed))
+    go k rule (inr more) = inr (more ∙ ap (option_or (fault_at old k rule)) (at_place-news tested e past k rule placed))
 
 -- what the state of Conn tells is what is kept
 pub told-kept : (conn : Conn) (tested : Tested) (past : List Seen) (n : Note) → Agrees conn tested past
@@ -215,12 +216,12 @@ told-kept conn tested past n here rule = λ i. is_told (here.same_role i) (here.
 -- ---- what is kept, with one event more
 
 pub agrees-next : (old new : Conn) (tested : Tested) (e : Seen) (past : List Seen) → Agrees old tested past
-    → new.role ≡ old.role → new.state ≡ after old.role old.state e.note
+    → new.role ≡ old.role → new.state ≡ connection_after old.role old.state e.note
     → ((alias : ℕ) → contains nat_cmp new.aliases alias ≡ ((not (is_open e.note) && contains nat_cmp old.aliases alias) || is_id alias (set_alias e.note)))
     → Agrees new tested (e ∷ past)
 agrees-next old new tested e past here role state aliases = record {
   same_role = role ∙ here.same_role;
-  same_state = state ∙ (λ i. after (here.same_role i) (here.same_state i) e.note) ∙ sym (kept-next tested.role e past);
+  same_state = state ∙ (λ i. connection_after (here.same_role i) (here.same_state i) e.note) ∙ sym (kept-next tested.role e past);
   same_aliases = λ alias. aliases alias ∙ ap (λ b. (not (is_open e.note) && b) || is_id alias (set_alias e.note)) (here.same_aliases alias)
       ∙ or-turn (not (is_open e.note) && is_alias_set past alias) (is_id alias (set_alias e.note)) ∙ sym (is_alias_set-next e past alias);
 }

@@ -1,6 +1,6 @@
 -- Network connections and sessions (MQTT 5.0, sections 3.1.2.4, 3.2 and 4.1).
 use Rattle.std.specs.Prelude.{ℕ, suc, zero, ◌≡◌, ◌<◌, ◌≤◌, ◌==◌, ◌⊎◌, Bool, true, false, ◌&&◌, ◌||◌, not, cond, List, [], ◌∷◌, Option, Some, None, is_some, is_none, unwrap_or}
-use Rattle.std.specs.Option.{option_and_then}
+use Rattle.std.specs.Option.{option_and_then, option_or}
 use Rattle.mq_rules.specs.declared.role.Role.{Role}
 use Rattle.mq_rules.specs.declared.fate.Fate.{Fate}
 use Rattle.mq_rules.specs.declared.fate.Fate.TheVariants.{Void, New, Resumed}
@@ -8,7 +8,7 @@ use Rattle.mq_rules.specs.declared.note.Note.{Note}
 use Rattle.mq_rules.specs.declared.note.Seen.{Seen}
 use Rattle.mq_rules.specs.declared.packet_note.ConnectNote.{ConnectNote}
 use Rattle.mq_rules.specs.declared.packet_note.ConnackNote.{ConnackNote}
-use Rattle.mq_rules.specs.Words.{or_else, is_some_and}
+use Rattle.mq_rules.specs.Words.{is_some_and}
 use Rattle.mq_rules.specs.Notes.{is_open, is_close, is_rest, is_release, is_broken, sent_item, received_item, sent_fields, received_fields, disconnect_in, connect_of, connack_of, client_disconnect, decides, needs_session}
 use Rattle.mq_rules.specs.Moments.{Moment, newest, note, moments, Among, some, since, those, earliest, count}
 
@@ -130,8 +130,8 @@ first_connack role ms = earliest (connack_of role) ms
 -- The Session Expiry Interval of a connection: that of the client's first DISCONNECT, else that of the CONNACK, else that of the CONNECT, else 0
 -- (MQTT 5.0, sections 3.1.2.11.2, 3.2.2.3.2 and 3.14.2.2.2).
 abbrev pub session_expiry : Role → List Moment → ℕ
-session_expiry role ms = unwrap_or (or_else (option_and_then (λ d. d) (earliest (client_disconnect role) ms))
-    (or_else (option_and_then (λ a. a.session_expiry) (first_connack role ms)) (option_and_then (λ c. c.session_expiry) (first_connect role ms)))) 0
+session_expiry role ms = unwrap_or (option_or (option_and_then (λ d. d) (earliest (client_disconnect role) ms))
+    (option_or (option_and_then (λ a. a.session_expiry) (first_connack role ms)) (option_and_then (λ c. c.session_expiry) (first_connect role ms)))) 0
 
 -- The connection had a CONNECT and closed without a CONNACK, so that the server may have accepted it.
 abbrev pub may_be_accepted : Role → List Moment → Bool

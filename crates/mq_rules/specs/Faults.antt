@@ -1,6 +1,6 @@
 -- The failing pairs of a log, each with where it was decided.
 use Rattle.std.specs.Prelude.{ℕ, ◌≡◌, ◌⊎◌, ◌+◌, cond, Bool, ◌||◌, ◌&&◌, List, [], ◌∷◌, length, Option, Some, None, option_map}
-use Rattle.std.specs.Option.{option_and_then}
+use Rattle.std.specs.Option.{option_and_then, option_or}
 use Rattle.std.specs.List.{flat_map, filter_map, range_with_len}
 use Rattle.mq_rules.specs.declared.role.Role.{Role}
 use Rattle.mq_rules.specs.declared.role.Tested.{Tested}
@@ -8,8 +8,7 @@ use Rattle.mq_rules.specs.declared.rule.Rule.{Rule}
 use Rattle.mq_rules.specs.declared.note.Seen.{Seen}
 use Rattle.mq_rules.specs.declared.fault.Fault.{Fault}
 use Rattle.mq_rules.specs.declared.faults.Mark.{Mark}
-use Rattle.mq_rules.specs.Words.{or_else}
-use Rattle.mq_rules.specs.Notes.{broken}
+use Rattle.mq_rules.specs.Notes.{sent_fault}
 use Rattle.mq_rules.specs.Moments.{Moment, note, moment}
 use Rattle.mq_rules.specs.Rules.{all_rules}
 use Rattle.mq_rules.specs.Statements.{Statement, on_bytes, on_past, in_session, at_release, at_rest, statement, fails}
@@ -18,7 +17,7 @@ use Rattle.mq_rules.specs.Marks.{FaultMap, fault_at}
 -- the length of the shortest beginning of the log in which the statement fails at position k
 abbrev pub decided : Tested → List Seen → ℕ → Rule → Option ℕ
 decided tested [] k rule = None
-decided tested (e ∷ past) k rule = or_else (decided tested past k rule) (cond (fails tested (e ∷ past) k rule) (Some (length past + 1)) None)
+decided tested (e ∷ past) k rule = option_or (decided tested past k rule) (cond (fails tested (e ∷ past) k rule) (Some (length past + 1)) None)
 
 -- the record of a moment's event
 abbrev pub record_of : Option Moment → ℕ
@@ -27,7 +26,7 @@ record_of (Some m) = m.event.place.record_no
 
 -- for a statement on a packet's bytes, where in the packet it is broken
 abbrev pub offset_of : Statement → Option Moment → Option ℕ
-offset_of (on_bytes rule) m = option_and_then (λ n. option_map (λ fault. fault.at) (broken (note n))) m
+offset_of (on_bytes rule) m = option_and_then (λ n. option_map (λ fault. fault.at) (sent_fault (note n))) m
 offset_of (on_past breaks) m = None
 offset_of (in_session breaks) m = None
 offset_of (at_release breaks) m = None
@@ -50,14 +49,14 @@ abbrev pub listed_at : (Rule → Bool) → Tested → List Seen → ℕ → List
 listed_at chosen tested log k = filter_map (λ rule. option_map (λ fault. (record { position = k; rule = rule }, fault)) (chosen_fault chosen tested log k rule)) all_rules
 
 -- the faults of a log, in the order of reports: by position, and then in the order of the statements
-unfoldable pub listed : (Rule → Bool) → Tested → List Seen → List (Mark × Fault)
-listed chosen tested log = flat_map (listed_at chosen tested log) (range_with_len 1 (length log))
+unfoldable pub listed_faults : (Rule → Bool) → Tested → List Seen → List (Mark × Fault)
+listed_faults chosen tested log = flat_map (listed_at chosen tested log) (range_with_len 1 (length log))
 
 -- Each pair of the chosen statements keeps the fault that it had, or else gets the one that it has in this log; the others are unchanged.
 pub record Grows (chosen : Rule → Bool) (tested : Tested) (log : List Seen) (old new : FaultMap) : Type 0 where
-  pub each : (k : ℕ) (rule : Rule) → fault_at new k rule ≡ or_else (fault_at old k rule) (chosen_fault chosen tested log k rule)
+  pub each : (k : ℕ) (rule : Rule) → fault_at new k rule ≡ option_or (fault_at old k rule) (chosen_fault chosen tested log k rule)
 
 -- Each pair keeps the fault that it had, and those of the chosen statements may have got the one that they have in this log.
 pub record GrowsWithin (chosen : Rule → Bool) (tested : Tested) (log : List Seen) (old new : FaultMap) : Type 0 where
   pub each : (k : ℕ) (rule : Rule) → (fault_at new k rule ≡ fault_at old k rule)
-      ⊎ (fault_at new k rule ≡ or_else (fault_at old k rule) (chosen_fault chosen tested log k rule))
+      ⊎ (fault_at new k rule ≡ option_or (fault_at old k rule) (chosen_fault chosen tested log k rule))

@@ -1,25 +1,25 @@
 -- Packet Identifiers, resends and the send quota (S01 to S07). Each statement says when it is false at a moment k whose connection is accepted and has the fate f.
 use Rattle.std.specs.Prelude.{ℕ, ◌+◌, ◌-◌, ◌==◌, nat_le, nat_lt, Bool, true, false, ◌&&◌, ◌||◌, not, cond, List, [], ◌∷◌, length, Option, Some, None, is_some}
-use Rattle.std.specs.Option.{option_and_then}
+use Rattle.std.specs.Option.{option_and_then, option_or}
 use Rattle.mq_rules.specs.declared.role.Role.{Role}
 use Rattle.mq_rules.specs.declared.role.Role.TheVariants.{Client, Server}
 use Rattle.mq_rules.specs.declared.fate.Fate.{Fate}
 use Rattle.mq_rules.specs.declared.note.Note.{Note}
 use Rattle.mq_rules.specs.declared.packet_note.PublishNote.{PublishNote}
-use Rattle.mq_rules.specs.Words.{or_else, is_some_and, is_id}
+use Rattle.mq_rules.specs.Words.{is_some_and, is_id}
 use Rattle.mq_rules.specs.Notes.{opener_of, resend_of, delivery_of, closer_of, sent_publish, is_exactly_once, sent_as, received_as, pubrel_in, accepting_pubrec_in, subscribe_in, suback_in, unsubscribe_in, unsuback_in, connack_of}
 use Rattle.mq_rules.specs.Moments.{Moment, position, note, moments, is_same, some, since, those, latest, count, some_stretch}
 use Rattle.mq_rules.specs.Connections.{number, connection, fate, latest_fate, resumed, voided, session}
-use Rattle.mq_rules.specs.Pasts.{receive_maximum, maximum_packet_size, connack_before}
+use Rattle.mq_rules.specs.Pasts.{peer_receive_maximum, peer_maximum_packet_size, connack_before}
 
 -- ---- identifiers in use (MQTT 5.0, section 2.2.1)
 
 -- the moment opens the identifier; closes it; sends a PUBLISH of QoS above 0 under it
-abbrev pub opens : ℕ → Moment → Bool
-opens i m = is_id i (opener_of (note m))
+abbrev pub opens_id : ℕ → Moment → Bool
+opens_id i m = is_id i (opener_of (note m))
 
-abbrev pub closes : ℕ → Moment → Bool
-closes i m = is_id i (closer_of (note m))
+abbrev pub closes_id : ℕ → Moment → Bool
+closes_id i m = is_id i (closer_of (note m))
 
 abbrev pub delivers : ℕ → Moment → Bool
 delivers i m = is_id i (delivery_of (note m))
@@ -30,11 +30,11 @@ session_before role f k = session role (Some f) k.past
 
 -- The identifier is open at k: some opener of it comes before k in its session, with no closer of it between.
 abbrev pub is_open_at : Role → Fate → ℕ → Moment → Bool
-is_open_at role f i k = since (opens i) (closes i) (session_before role f k)
+is_open_at role f i k = since (opens_id i) (closes_id i) (session_before role f k)
 
 -- its latest opener before k in the session
 abbrev pub latest_opener : Role → Fate → ℕ → Moment → Option Moment
-latest_opener role f i k = latest (opens i) (session_before role f k)
+latest_opener role f i k = latest (opens_id i) (session_before role f k)
 
 -- a SUBSCRIBE, or an UNSUBSCRIBE, sent under the identifier on k's connection, waits for its answer
 abbrev pub awaits_suback : ℕ → Moment → Bool
@@ -49,7 +49,7 @@ is_busy_at role f i k = is_open_at role f i k || (awaits_suback i k || awaits_un
 
 -- the identifier that a packet takes: an opener, and a client's SUBSCRIBE or UNSUBSCRIBE
 abbrev pub taken_by : Role → Note → Option ℕ
-taken_by Client n = or_else (opener_of n) (or_else (sent_as subscribe_in n) (sent_as unsubscribe_in n))
+taken_by Client n = option_or (opener_of n) (option_or (sent_as subscribe_in n) (sent_as unsubscribe_in n))
 taken_by Server n = opener_of n
 
 -- S01: it takes an identifier that is busy.
@@ -68,11 +68,11 @@ breaks_S02 role f k = is_some_and (λ i. not (is_open_at role f i k || was_sent_
 
 -- S03: a resend, and a PUBLISH under its identifier was sent before on the connection, with no closer between.
 unfoldable pub breaks_S03 : Moment → Bool
-breaks_S03 k = is_some_and (λ i. since (delivers i) (closes i) (connection k.past)) (resend_of (note k))
+breaks_S03 k = is_some_and (λ i. since (delivers i) (closes_id i) (connection k.past)) (resend_of (note k))
 
 -- the moment opens the identifier by a PUBLISH of QoS 2; sends a PUBREL under it
 abbrev pub opens_exactly_once : ℕ → Moment → Bool
-opens_exactly_once i m = opens i m && is_some_and (λ p. is_exactly_once p.qos) (sent_publish (note m))
+opens_exactly_once i m = opens_id i m && is_some_and (λ p. is_exactly_once p.qos) (sent_publish (note m))
 
 abbrev pub sends_pubrel : ℕ → Moment → Bool
 sends_pubrel i m = is_id i (sent_as pubrel_in (note m))
@@ -80,7 +80,7 @@ sends_pubrel i m = is_id i (sent_as pubrel_in (note m))
 -- S04: a resend of what is open by an opener of QoS 2, and a PUBREL of it was sent since that opener.
 unfoldable pub breaks_S04 : Role → Fate → Moment → Bool
 breaks_S04 role f k = is_some_and (λ i. is_open_at role f i k && (is_some_and (opens_exactly_once i) (latest_opener role f i k)
-    && since (sends_pubrel i) (opens i) (session_before role f k))) (resend_of (note k))
+    && since (sends_pubrel i) (opens_id i) (session_before role f k))) (resend_of (note k))
 
 -- both moments are there, and the first comes after the second
 abbrev pub comes_after : Option Moment → Option Moment → Bool
@@ -111,11 +111,11 @@ passes most ms = some_stretch (λ stretch. nat_lt (most + count is_closer stretc
 
 -- S07: a PUBLISH of QoS above 0, and in some stretch of the connection that ends with it more PUBLISHes are unacknowledged than the Receive Maximum.
 unfoldable pub breaks_S07 : Role → Moment → Bool
-breaks_S07 role k = is_delivery k && (counts role k && passes (receive_maximum role k) (k ∷ those (counts role) (connection k.past)))
+breaks_S07 role k = is_delivery k && (counts role k && passes (peer_receive_maximum role k) (k ∷ those (counts role) (connection k.past)))
 
 -- The send quota is used up before t: in some stretch that ends just before it at least as many PUBLISHes are unacknowledged as the Receive Maximum.
 abbrev pub is_used_up : Role → Moment → Bool
-is_used_up role t = some_stretch (λ stretch. nat_le (receive_maximum role t + count is_closer stretch) (count is_delivery stretch)) (those (counts role) (connection t.past))
+is_used_up role t = some_stretch (λ stretch. nat_le (peer_receive_maximum role t + count is_closer stretch) (count is_delivery stretch)) (those (counts role) (connection t.past))
 
 -- ---- what a resumed session owes (MQTT 5.0, section 4.4)
 
@@ -126,7 +126,7 @@ announced_qos Server t = None
 
 -- the peer announced a Maximum Packet Size or a Maximum QoS on t's connection, whatever its value
 abbrev pub has_announced : Role → Moment → Bool
-has_announced role t = is_some (maximum_packet_size role t) || is_some (announced_qos role t)
+has_announced role t = is_some (peer_maximum_packet_size role t) || is_some (announced_qos role t)
 
 -- an opener k that wasn't sent again by t is excused: no PUBREC below 0x80 came after it, and the quota is used up or the peer announced a bound
 abbrev pub is_excused : Role → ℕ → Moment → Moment → Bool
@@ -141,5 +141,5 @@ was_sent_again i t = some (λ m. delivers i m || sends_pubrel i m) (connection t
 -- between; it wasn't sent again, and isn't excused.
 unfoldable pub shows_S06 : Role → Moment → Moment → Bool
 shows_S06 role t k = resumed (latest_fate role t.past) && is_some_and (λ i.
-    since (is_same k) (λ m. opens i m || closes i m) (session role (latest_fate role t.past) t.past)
+    since (is_same k) (λ m. opens_id i m || closes_id i m) (session role (latest_fate role t.past) t.past)
     && (not (some (is_same k) (connection t.past)) && (not (was_sent_again i t) && not (is_excused role i t k)))) (opener_of (note k))

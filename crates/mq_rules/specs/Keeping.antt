@@ -1,7 +1,7 @@
 -- What is kept of the latest connection, so that C01 to C23 are judged in one pass: what it is after these events, how one more event updates it,
 -- and which statements it shows to be false at that event.
 use Rattle.std.specs.Prelude.{ℕ, ◌≡◌, ◌+◌, ◌-◌, ◌==◌, ◌⊎◌, nat_lt, Bool, true, false, ◌&&◌, ◌||◌, not, cond, List, [], ◌∷◌, length, Option, Some, None, is_some, is_none, unwrap_or, option_map}
-use Rattle.std.specs.Option.{option_and_then}
+use Rattle.std.specs.Option.{option_and_then, option_or}
 use Rattle.std.specs.List.{list_any}
 use Rattle.std.specs.Borrow.{Bor}
 use Rattle.std.specs.BTreeSet.{contains}
@@ -27,7 +27,7 @@ use Rattle.mq_rules.specs.declared.packet_note.PublishNote.{PublishNote}
 use Rattle.mq_rules.specs.declared.packet_note.ConnackNote.{ConnackNote}
 use Rattle.mq_rules.specs.declared.conn.state.ConnectionState.{ConnectionState}
 use Rattle.mq_rules.specs.declared.conn.Conn.{Conn}
-use Rattle.mq_rules.specs.Words.{or_else, is_some_and, is_id, only}
+use Rattle.mq_rules.specs.Words.{is_some_and, is_id, only}
 use Rattle.mq_rules.specs.Notes.{is_open, is_rest, is_typed, is_of_type, foreign_types, sent_item, sent_packet, sent_fields, received_fields, sends_type, receives_type, sent_publish, sent_connack, sent_disconnect, disconnect_in, connect_of, connack_of, client_disconnect, decides, may_explain, resumed_by, is_acknowledged, qos_number}
 use Rattle.mq_rules.specs.Moments.{note, moment, some, earliest}
 use Rattle.mq_rules.specs.Connections.{begun, connection, first_connect, first_connack, accepted, is_alive_after}
@@ -63,8 +63,8 @@ is_alias_set past alias = some (λ m. is_id alias (set_alias (note m))) (connect
 
 -- the Session Expiry Interval of the connection, in seconds (MQTT 5.0, sections 3.1.2.11.2, 3.2.2.3.2 and 3.14.2.2.2)
 abbrev pub expiry : ConnectionState → ℕ
-expiry s = unwrap_or (or_else (option_and_then (λ d. d) s.disconnect)
-    (or_else (option_and_then (λ a. a.session_expiry) s.connack) (option_and_then (λ c. c.session_expiry) s.connect))) 0
+expiry s = unwrap_or (option_or (option_and_then (λ d. d) s.disconnect)
+    (option_or (option_and_then (λ a. a.session_expiry) s.connack) (option_and_then (λ c. c.session_expiry) s.connect))) 0
 
 -- the session is alive after the connection (MQTT 5.0, section 4.1)
 abbrev pub stays_alive : ConnectionState → Bool
@@ -93,10 +93,10 @@ abbrev pub followed : Role → ConnectionState → Note → ConnectionState
 followed role s n = record {
   has_begun = s.has_begun;
   was_alive = s.was_alive;
-  fate = or_else s.fate (decides role n);
-  connect = or_else s.connect (connect_of role n);
-  connack = or_else s.connack (connack_of role n);
-  disconnect = or_else s.disconnect (client_disconnect role n);
+  fate = option_or s.fate (decides role n);
+  connect = option_or s.connect (connect_of role n);
+  connack = option_or s.connack (connack_of role n);
+  disconnect = option_or s.disconnect (client_disconnect role n);
   has_sent = s.has_sent || is_some_and is_typed (sent_item n);
   has_sent_connect = s.has_sent_connect || sends_type types.Connect n;
   has_sent_connack = s.has_sent_connack || sends_type types.Connack n;
@@ -105,8 +105,8 @@ followed role s n = record {
   has_sent_refusal = s.has_sent_refusal || is_sent_refusal n;
 }
 
-abbrev pub after : Role → ConnectionState → Note → ConnectionState
-after role s n = followed role (begun_if (is_open n) s) n
+abbrev pub connection_after : Role → ConnectionState → Note → ConnectionState
+connection_after role s n = followed role (begun_if (is_open n) s) n
 
 -- a packet other than CONNECT, CONNACK and DISCONNECT, and an event at which such a packet was sent or received: of what is kept it
 -- changes only that the tested end has sent something
@@ -224,8 +224,8 @@ tells_C23 role s is_rest = is_rest && has_left role s
 -- ---- each statement that binds the end, with whether it is false at the event
 
 -- what a reference points to, if there is one
-abbrev pub behind : {A : Type 0} → Option (Bor A) → Option A
-behind r = option_map (λ b. b.now) r
+abbrev pub dereferenced : {A : Type 0} → Option (Bor A) → Option A
+dereferenced r = option_map (λ b. b.now) r
 
 abbrev pub item_verdicts : Role → ConnectionState → Option ItemNote → List (Rule × Bool)
 item_verdicts Client s item = (C01, tells_C01 Client item) ∷ (C02, tells_C02 s item) ∷ (C03, tells_C03 s item) ∷ (C11, tells_C11 s item) ∷ []
@@ -308,11 +308,11 @@ at_place place k broken = cond ((k == place.position) && broken) (Some (record {
 
 -- Each pair keeps the fault that it had, or else gets that of a statement that is false at this place.
 pub record Judges (is_false : Rule → Bool) (place : Place3) (old new : FaultMap) : Type 0 where
-  pub each : (k : ℕ) (rule : Rule) → fault_at new k rule ≡ or_else (fault_at old k rule) (at_place place k (is_false rule))
+  pub each : (k : ℕ) (rule : Rule) → fault_at new k rule ≡ option_or (fault_at old k rule) (at_place place k (is_false rule))
 
 -- Each pair keeps the fault that it had, and may have got that of a statement that is false at this place.
 pub record JudgesWithin (is_false : Rule → Bool) (place : Place3) (old new : FaultMap) : Type 0 where
-  pub each : (k : ℕ) (rule : Rule) → (fault_at new k rule ≡ fault_at old k rule) ⊎ (fault_at new k rule ≡ or_else (fault_at old k rule) (at_place place k (is_false rule)))
+  pub each : (k : ℕ) (rule : Rule) → (fault_at new k rule ≡ fault_at old k rule) ⊎ (fault_at new k rule ≡ option_or (fault_at old k rule) (at_place place k (is_false rule)))
 
 -- the fault that a pair gets with this event, if its statement is chosen and turns out to fail
 abbrev pub news : (Rule → Bool) → Tested → Seen → List Seen → ℕ → Rule → Option Fault
@@ -320,11 +320,11 @@ news chosen tested e past k rule = cond (chosen rule && turns tested e past k ru
 
 -- Each pair keeps the fault that it had, or else gets the new one, if its statement is chosen and turns out to fail with this event; the others are unchanged.
 pub record GrowsBy (chosen : Rule → Bool) (tested : Tested) (e : Seen) (past : List Seen) (old new : FaultMap) : Type 0 where
-  pub each : (k : ℕ) (rule : Rule) → fault_at new k rule ≡ or_else (fault_at old k rule) (news chosen tested e past k rule)
+  pub each : (k : ℕ) (rule : Rule) → fault_at new k rule ≡ option_or (fault_at old k rule) (news chosen tested e past k rule)
 
 -- Each pair keeps the fault that it had, and those of the chosen statements that turn out to fail with this event may have got the new one.
 pub record GrowsByWithin (chosen : Rule → Bool) (tested : Tested) (e : Seen) (past : List Seen) (old new : FaultMap) : Type 0 where
-  pub each : (k : ℕ) (rule : Rule) → (fault_at new k rule ≡ fault_at old k rule) ⊎ (fault_at new k rule ≡ or_else (fault_at old k rule) (news chosen tested e past k rule))
+  pub each : (k : ℕ) (rule : Rule) → (fault_at new k rule ≡ fault_at old k rule) ⊎ (fault_at new k rule ≡ option_or (fault_at old k rule) (news chosen tested e past k rule))
 
 -- ---- what is kept agrees with the events so far
 

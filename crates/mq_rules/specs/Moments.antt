@@ -1,9 +1,9 @@
 -- Moments: an event of a log with all that comes before it. A list of events, and a list of moments, has the newest one first; so a beginning of
 -- the log is a tail of its list. Each word on moments looks at such a list, and is a quantifier over positions.
 use Rattle.std.specs.Prelude.{ℕ, ◌≡◌, ◌<◌, ◌+◌, ◌==◌, nat_lt, ◌⊎◌, Bool, true, false, ◌||◌, ◌&&◌, not, cond, List, [], ◌∷◌, ◌++◌, length, Option, Some, None}
+use Rattle.std.specs.Option.{option_or}
 use Rattle.mq_rules.specs.declared.note.Note.{Note}
 use Rattle.mq_rules.specs.declared.note.Seen.{Seen}
-use Rattle.mq_rules.specs.Words.{or_else}
 
 -- An event, and the events before it in the log.
 pub record Moment : Type 0 where
@@ -67,12 +67,12 @@ latest test (m ∷ ms) = cond (test m) (Some m) (latest test ms)
 -- what is found at the earliest moment that has it
 abbrev pub earliest : {A : Type 0} → (Note → Option A) → List Moment → Option A
 earliest found [] = None
-earliest found (m ∷ ms) = or_else (earliest found ms) (found (note m))
+earliest found (m ∷ ms) = option_or (earliest found ms) (found (note m))
 
 -- the earliest moment that passes the first test with no later one that passes the second
 abbrev pub earliest_since : (Moment → Bool) → (Moment → Bool) → List Moment → Option Moment
 earliest_since starts ends [] = None
-earliest_since starts ends (m ∷ ms) = or_else (cond (ends m) None (earliest_since starts ends ms)) (cond (starts m) (Some m) None)
+earliest_since starts ends (m ∷ ms) = option_or (cond (ends m) None (earliest_since starts ends ms)) (cond (starts m) (Some m) None)
 
 -- how many moments pass the test
 abbrev pub count : (Moment → Bool) → List Moment → ℕ
@@ -87,7 +87,7 @@ some_stretch test (m ∷ ms) = test [] || some_stretch (λ stretch. test (m ∷ 
 -- ---- what the words are by positions
 
 -- The moment is at this position of the log, and up to there the log is its event and what comes before.
-pub record IsBeginning (log : List Seen) (k : ℕ) (m : Moment) : Type 0 where
+pub record IsMomentAt (log : List Seen) (k : ℕ) (m : Moment) : Type 0 where
   pub at : k ≡ position m
   pub later : List Seen
   pub joined : log ≡ later ++ (m.event ∷ m.past)
@@ -103,7 +103,7 @@ IsDescending [] = Unit {0}
 IsDescending (m ∷ ms) = ((n : Moment) → Among n ms → position n < position m) × IsDescending ms
 
 -- Some moment among these passes the first test, and none among them at a later position passes the second.
-pub record Stands (starts ends : Moment → Bool) (ms : List Moment) : Type 0 where
+pub record HoldsSince (starts ends : Moment → Bool) (ms : List Moment) : Type 0 where
   pub at : Moment
   pub there : Among at ms
   pub passes : starts at ≡ true

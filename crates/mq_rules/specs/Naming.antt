@@ -5,7 +5,7 @@ use Rattle.std.specs.List.{find}
 use Rattle.std.specs.Str.{str_eq_ignore_ascii_case}
 use Rattle.mq_rules.specs.declared.rule.Rule.{Rule}
 use Rattle.mq_rules.specs.declared.naming.TheConstants.{SENTENCES}
-use Rattle.mq_rules.specs.Rules.{Line, lines, same_rule}
+use Rattle.mq_rules.specs.Rules.{StatementLine, lines, same_rule}
 
 -- a statement, and what it says
 pub record Said : Type 0 where
@@ -31,7 +31,7 @@ unfoldable pub sentence_of : Rule → List ℕ
 sentence_of rule = unwrap_or (option_map (λ said. said.sentence) (found_sentence rule)) []
 
 -- the line of the table whose code is the text, in capital or small letters
-unfoldable pub coded_line : List ℕ → Option Line
+unfoldable pub coded_line : List ℕ → Option StatementLine
 coded_line text = find (λ line. str_eq_ignore_ascii_case line.code text) lines
 
 -- the statement that a code names, in capitals or not

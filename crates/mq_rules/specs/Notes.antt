@@ -52,9 +52,9 @@ tested_by log = tested_as (header_by log)
 -- ---- the note of an event
 
 -- a list, if its packet went this way; of one that went the other way nothing is kept, since no statement looks at it
-abbrev pub kept : {A : Type 0} → Bool → List A → List A
-kept true texts = texts
-kept false texts = []
+abbrev pub only_list : {A : Type 0} → Bool → List A → List A
+only_list true texts = texts
+only_list false texts = []
 
 abbrev pub is_sent_way : Way → Bool
 is_sent_way ways.Sent = true
@@ -93,7 +93,7 @@ publish_note way p = record {
   identifier = p.identifier;
   qos = p.qos;
   duplicate = p.duplicate;
-  topic = kept (is_sent_way way) p.topic;
+  topic = only_list (is_sent_way way) p.topic;
   topic_alias = first_two_bytes 35 p.properties.items;
   has_message_expiry = is_some (first_four_bytes 2 p.properties.items);
   has_subscription_identifier = is_some (first_varint 11 p.properties.items);
@@ -112,12 +112,12 @@ filter_note f = record { filter = f.filter; options = unwrap_or f.options 0 }
 
 -- of SUBSCRIBE and UNSUBSCRIBE (MQTT 5.0, sections 3.8 and 3.10)
 abbrev pub request_fields : Way → RequestKind → ℕ → List AskedFilter → PacketFields
-request_fields way requests.Subscribe identifier filters = Subscribe identifier (kept (not (is_sent_way way)) (map filter_note filters))
+request_fields way requests.Subscribe identifier filters = Subscribe identifier (only_list (not (is_sent_way way)) (map filter_note filters))
 request_fields way requests.Unsubscribe identifier filters = Unsubscribe identifier (length filters)
 
 -- of SUBACK and UNSUBACK (MQTT 5.0, sections 3.9 and 3.11)
 abbrev pub answer_fields : Way → RequestKind → ℕ → List ℕ → PacketFields
-answer_fields way requests.Subscribe identifier codes = Suback identifier (kept (is_sent_way way) codes)
+answer_fields way requests.Subscribe identifier codes = Suback identifier (only_list (is_sent_way way) codes)
 answer_fields way requests.Unsubscribe identifier codes = Unsuback identifier (length codes)
 
 -- of any packet, by its type (MQTT 5.0, section 2.1.2)
@@ -246,31 +246,31 @@ is_broken _ = true
 
 -- ---- the types of packets (MQTT 5.0, section 2.1.2)
 
-abbrev pub type_of : PacketFields → PacketType
-type_of (Connect c) = types.Connect
-type_of (Connack c) = types.Connack
-type_of (Publish p) = types.Publish
-type_of (Puback identifier code) = types.Puback
-type_of (Pubrec identifier code) = types.Pubrec
-type_of (Pubrel identifier code) = types.Pubrel
-type_of (Pubcomp identifier code) = types.Pubcomp
-type_of (Subscribe identifier filters) = types.Subscribe
-type_of (Suback identifier codes) = types.Suback
-type_of (Unsubscribe identifier filters) = types.Unsubscribe
-type_of (Unsuback identifier codes) = types.Unsuback
-type_of Pingreq = types.Pingreq
-type_of Pingresp = types.Pingresp
-type_of (Disconnect session_expiry) = types.Disconnect
-type_of Auth = types.Auth
+abbrev pub fields_type : PacketFields → PacketType
+fields_type (Connect c) = types.Connect
+fields_type (Connack c) = types.Connack
+fields_type (Publish p) = types.Publish
+fields_type (Puback identifier code) = types.Puback
+fields_type (Pubrec identifier code) = types.Pubrec
+fields_type (Pubrel identifier code) = types.Pubrel
+fields_type (Pubcomp identifier code) = types.Pubcomp
+fields_type (Subscribe identifier filters) = types.Subscribe
+fields_type (Suback identifier codes) = types.Suback
+fields_type (Unsubscribe identifier filters) = types.Unsubscribe
+fields_type (Unsuback identifier codes) = types.Unsuback
+fields_type Pingreq = types.Pingreq
+fields_type Pingresp = types.Pingresp
+fields_type (Disconnect session_expiry) = types.Disconnect
+fields_type Auth = types.Auth
 
 -- The number of an item's type, which is the high four bits of its first byte: bytes that break a rule have one too.
-abbrev pub type_in : ItemNote → Option ℕ
-type_in (items.Packet p) = Some (type_number (type_of p.fields))
-type_in (items.Bad first rule at) = Some (first / 16)
-type_in items.Lost = None
+abbrev pub type_number_in : ItemNote → Option ℕ
+type_number_in (items.Packet p) = Some (type_number (fields_type p.fields))
+type_number_in (items.Bad first rule at) = Some (first / 16)
+type_number_in items.Lost = None
 
 abbrev pub is_of_type : PacketType → ItemNote → Bool
-is_of_type type item = is_id (type_number type) (type_in item)
+is_of_type type item = is_id (type_number type) (type_number_in item)
 
 -- the types that this end may not send, since only the other end may
 abbrev pub foreign_types : Role → List PacketType
@@ -530,7 +530,7 @@ sent_unsuback note = option_and_then unsuback_count_in (sent_fields note)
 
 -- PUBLISH, SUBSCRIBE, UNSUBSCRIBE and what acknowledges them need a session.
 abbrev pub is_session_packet : PacketFields → Bool
-is_session_packet fields = is_session_type (type_of fields)
+is_session_packet fields = is_session_type (fields_type fields)
 
 -- a session packet of either direction, or a RELEASE
 abbrev pub needs_session : Note → Bool
@@ -572,5 +572,5 @@ broken_in (items.Packet p) = None
 broken_in (items.Bad first rule at) = Some (record { at = at; rule = rule })
 broken_in items.Lost = Some (record { at = 1; rule = packet_rules.W03 })
 
-abbrev pub broken : Note → Option BodyFault
-broken note = option_and_then broken_in (sent_item note)
+abbrev pub sent_fault : Note → Option BodyFault
+sent_fault note = option_and_then broken_in (sent_item note)

@@ -53,24 +53,24 @@ is_alive role k = is_alive_after role (begun k.past - 1) k.past
 -- ---- what the peer announced, on the same connection and before the moment: the server in its CONNACK, the client in its CONNECT
 
 -- Maximum Packet Size, in bytes; None means no bound (MQTT 5.0, sections 3.1.2.11.4 and 3.2.2.3.6)
-abbrev pub maximum_packet_size : Role → Moment → Option ℕ
-maximum_packet_size Client k = option_and_then (λ a. a.maximum_packet_size) (connack_before Client k)
-maximum_packet_size Server k = option_and_then (λ c. c.maximum_packet_size) (connect_before Server k)
+abbrev pub peer_maximum_packet_size : Role → Moment → Option ℕ
+peer_maximum_packet_size Client k = option_and_then (λ a. a.maximum_packet_size) (connack_before Client k)
+peer_maximum_packet_size Server k = option_and_then (λ c. c.maximum_packet_size) (connect_before Server k)
 
 -- Topic Alias Maximum, 0 by default (MQTT 5.0, sections 3.1.2.11.5 and 3.2.2.3.8)
-abbrev pub topic_alias_maximum : Role → Moment → ℕ
-topic_alias_maximum Client k = unwrap_or (option_and_then (λ a. a.topic_alias_maximum) (connack_before Client k)) 0
-topic_alias_maximum Server k = unwrap_or (option_and_then (λ c. c.topic_alias_maximum) (connect_before Server k)) 0
+abbrev pub peer_topic_alias_maximum : Role → Moment → ℕ
+peer_topic_alias_maximum Client k = unwrap_or (option_and_then (λ a. a.topic_alias_maximum) (connack_before Client k)) 0
+peer_topic_alias_maximum Server k = unwrap_or (option_and_then (λ c. c.topic_alias_maximum) (connect_before Server k)) 0
 
 -- Maximum QoS, 2 by default: only a server announces it (MQTT 5.0, section 3.2.2.3.4)
-abbrev pub maximum_qos : Role → Moment → ℕ
-maximum_qos Client k = unwrap_or (option_and_then (λ a. a.maximum_qos) (connack_before Client k)) 2
-maximum_qos Server k = 2
+abbrev pub peer_maximum_qos : Role → Moment → ℕ
+peer_maximum_qos Client k = unwrap_or (option_and_then (λ a. a.maximum_qos) (connack_before Client k)) 2
+peer_maximum_qos Server k = 2
 
 -- Receive Maximum, 65,535 by default (MQTT 5.0, sections 3.1.2.11.3 and 3.2.2.3.3)
-abbrev pub receive_maximum : Role → Moment → ℕ
-receive_maximum Client k = unwrap_or (option_and_then (λ a. a.receive_maximum) (connack_before Client k)) 65535
-receive_maximum Server k = unwrap_or (option_and_then (λ c. c.receive_maximum) (connect_before Server k)) 65535
+abbrev pub peer_receive_maximum : Role → Moment → ℕ
+peer_receive_maximum Client k = unwrap_or (option_and_then (λ a. a.receive_maximum) (connack_before Client k)) 65535
+peer_receive_maximum Server k = unwrap_or (option_and_then (λ c. c.receive_maximum) (connect_before Server k)) 65535
 
 -- A client looks at what the server announced only after its CONNACK; a server may look at once.
 abbrev pub knows_peer : Role → Moment → Bool
@@ -134,11 +134,11 @@ breaks_C13 k = is_some (sent_packet (note k)) && (not (is_sent_disconnect (note 
 
 -- C14: a packet is sent that is larger than the peer's Maximum Packet Size.
 unfoldable pub breaks_C14 : Role → Moment → Bool
-breaks_C14 role k = is_some_and (λ p. is_some_and (λ most. nat_lt most p.size) (maximum_packet_size role k)) (sent_packet (note k))
+breaks_C14 role k = is_some_and (λ p. is_some_and (λ most. nat_lt most p.size) (peer_maximum_packet_size role k)) (sent_packet (note k))
 
 -- C15: a PUBLISH is sent with a Topic Alias above the peer's Topic Alias Maximum.
 unfoldable pub breaks_C15 : Role → Moment → Bool
-breaks_C15 role k = knows_peer role k && is_some_and (λ alias. nat_lt (topic_alias_maximum role k) alias) (option_and_then (λ p. p.topic_alias) (sent_publish (note k)))
+breaks_C15 role k = knows_peer role k && is_some_and (λ alias. nat_lt (peer_topic_alias_maximum role k) alias) (option_and_then (λ p. p.topic_alias) (sent_publish (note k)))
 
 -- the Topic Alias that a PUBLISH with a Topic Name sets, and the one that a PUBLISH without one uses
 abbrev pub set_alias : Note → Option ℕ
@@ -153,7 +153,7 @@ breaks_C16 k = is_some_and (λ alias. not (stood (λ n. is_id alias (set_alias n
 
 -- C17: a PUBLISH is sent at a QoS above the server's Maximum QoS.
 unfoldable pub breaks_C17 : Moment → Bool
-breaks_C17 k = is_some_and (λ p. nat_lt (maximum_qos Client k) (qos_number p.qos)) (sent_publish (note k))
+breaks_C17 k = is_some_and (λ p. nat_lt (peer_maximum_qos Client k) (qos_number p.qos)) (sent_publish (note k))
 
 -- C18: a client sends a PUBLISH with a Subscription Identifier.
 unfoldable pub breaks_C18 : Moment → Bool

@@ -11,8 +11,8 @@ use Rattle.mq_rules.specs.Identifiers.{session_before}
 abbrev pub brings : ℕ → Moment → Bool
 brings i m = is_id i (received_exactly_once (note m))
 
-abbrev pub releases : ℕ → Moment → Bool
-releases i m = is_id i (released_id (note m))
+abbrev pub releases_message : ℕ → Moment → Bool
+releases_message i m = is_id i (released_id (note m))
 
 abbrev pub ends : ℕ → Moment → Bool
 ends i m = is_id i (sent_as ended_in (note m))
@@ -23,7 +23,7 @@ breaks_L1 role f k = is_some_and (λ i. not (since (brings i) (ends i) (session_
 
 -- L2: a RELEASE, and another one under its identifier came before in the session, and the exchange hasn't ended between.
 unfoldable pub breaks_L2 : Role → Fate → Moment → Bool
-breaks_L2 role f k = is_some_and (λ i. since (releases i) (ends i) (session_before role f k)) (released_id (note k))
+breaks_L2 role f k = is_some_and (λ i. since (releases_message i) (ends i) (session_before role f k)) (released_id (note k))
 
 -- the first QoS 2 PUBLISH under the identifier in the session whose exchange hasn't ended since
 abbrev pub first_brought : Role → Fate → ℕ → Moment → Option Moment
@@ -36,5 +36,5 @@ may_lapse role f i k first = is_some_and (λ p. p.has_message_expiry) (received_
 
 -- L3: a PUBCOMP of code 0x00 for such a PUBLISH, which needs a RELEASE and had none.
 unfoldable pub breaks_L3 : Role → Fate → Moment → Bool
-breaks_L3 role f k = is_some_and (λ i. is_some_and (λ first. not (since (releases i) (ends i) (session_before role f k)) && not (may_lapse role f i k first))
+breaks_L3 role f k = is_some_and (λ i. is_some_and (λ first. not (since (releases_message i) (ends i) (session_before role f k)) && not (may_lapse role f i k first))
     (first_brought role f i k)) (sent_as success_pubcomp_in (note k))

@@ -14,7 +14,7 @@ use Rattle.mq_rules.specs.declared.table.TheConstants.{TABLE}
 
 -- A line of the table: a statement, its code, its citation for a client and for a server, and whether it is judged only if the log records releases. An empty
 -- citation means that the statement doesn't bind that end.
-pub record Line : Type 0 where
+pub record StatementLine : Type 0 where
   pub rule : Rule
   pub code : List ℕ
   pub client : List ℕ
@@ -30,14 +30,14 @@ abbrev pub rule_cmp : Rule → Rule → Ordering
 rule_cmp = (rule_ord.ghosts).cmp
 
 -- a line as the source has it
-abbrev pub line_view : Rule × Bor (List ℕ) × Bor (List ℕ) × Bor (List ℕ) × Bool → Line
+abbrev pub line_view : Rule × Bor (List ℕ) × Bor (List ℕ) × Bor (List ℕ) × Bool → StatementLine
 line_view row = record { rule = row.0; code = row.1.now; client = row.2.now; server = row.3.now; needs_releases = row.4 }
 
-abbrev pub lines_of : List (Rule × Bor (List ℕ) × Bor (List ℕ) × Bor (List ℕ) × Bool) → List Line
+abbrev pub lines_of : List (Rule × Bor (List ℕ) × Bor (List ℕ) × Bor (List ℕ) × Bool) → List StatementLine
 lines_of rows = map line_view rows
 
 -- the lines of the table, in the order of reports
-unfoldable pub lines : List Line
+unfoldable pub lines : List StatementLine
 lines = map (λ row. record { rule = row.0; code = row.1.now; client = row.2.now; server = row.3.now; needs_releases = row.4 }) TABLE
 
 -- the statements, in the order of reports
@@ -45,10 +45,10 @@ abbrev pub all_rules : List Rule
 all_rules = map (λ line. line.rule) lines
 
 -- the line of a statement
-unfoldable pub found_line : Rule → Option Line
+unfoldable pub found_line : Rule → Option StatementLine
 found_line rule = find (λ line. same_rule line.rule rule) lines
 
-unfoldable pub line_of : Rule → Line
+unfoldable pub line_of : Rule → StatementLine
 line_of rule = unwrap_or (found_line rule) (record { rule = rule; code = []; client = []; server = []; needs_releases = false })
 
 -- a statement's code
@@ -56,7 +56,7 @@ abbrev pub code_of : Rule → List ℕ
 code_of rule = (line_of rule).code
 
 -- the citation of a line's statement for this end
-abbrev pub cites : Role → Line → List ℕ
+abbrev pub cites : Role → StatementLine → List ℕ
 cites Client line = line.client
 cites Server line = line.server
 

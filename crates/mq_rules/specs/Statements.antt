@@ -11,7 +11,7 @@ use Rattle.mq_rules.specs.declared.rule.Rule.{Rule}
 use Rattle.mq_rules.specs.declared.rule.Rule.TheVariants.{W01, W02, W03, W04, W05, W06, W07, W08, W09, W10, W11, W12, W13, W14, W15, W16, W17, W18, W19, W20, W21, C01, C02, C03, C04, C05, C06, C07, C08, C09, C10, C11, C12, C13, C14, C15, C16, C17, C18, C19, C20, C21, C22, C23, S01, S02, S03, S04, S05, S06, S07, E1A, E1R, E1O, E2A, E2R, E2O, E3A, E3R, E3O, E4A, E4R, E5A, E5R, E6A, E6R, E7R, L1, L2, L3, B01, B02, B03, B04}
 use Rattle.mq_rules.specs.declared.note.Seen.{Seen}
 use Rattle.mq_rules.specs.Words.{is_some_and}
-use Rattle.mq_rules.specs.Notes.{broken}
+use Rattle.mq_rules.specs.Notes.{sent_fault}
 use Rattle.mq_rules.specs.Moments.{Moment, note, moments, moment, some, is_after}
 use Rattle.mq_rules.specs.Connections.{number, begun, fate, fate_under, accepts, is_binding}
 use Rattle.mq_rules.specs.Pasts.{breaks_C01, breaks_C02, breaks_C03, breaks_C04, breaks_C05, breaks_C06, breaks_C07, breaks_C08, breaks_C09, breaks_C10, breaks_C11, breaks_C12, breaks_C13, breaks_C14, breaks_C15, breaks_C16, breaks_C17, breaks_C18, breaks_C19, breaks_C20, breaks_C21, breaks_C22, breaks_C23}
@@ -23,7 +23,7 @@ use Rattle.mq_rules.specs.Rules.{binds}
 
 -- the bytes that the tested end sent break this packet rule
 unfoldable pub breaks_bytes : PacketRule → Moment → Bool
-breaks_bytes rule m = is_some_and (λ fault. sameb the_type rule fault.rule) (broken (note m))
+breaks_bytes rule m = is_some_and (λ fault. sameb the_type rule fault.rule) (sent_fault (note m))
 
 -- Where a statement is judged, and what makes it false there.
 pub data Statement : Type 0 where

@@ -1,7 +1,7 @@
 -- Subscriptions: what a server may send to whom (B01 to B04; MQTT 5.0, sections 3.3.2.1, 3.8 to 3.11 and 4.7). Each statement says when it is false at a moment k
 -- whose connection is accepted and has the fate f.
 use Rattle.std.specs.Prelude.{ℕ, ◌%◌, ◌==◌, nat_le, Bool, true, false, ◌&&◌, ◌||◌, not, cond, List, [], ◌∷◌, ◌++◌, length, take, codes, Option, Some, None, unwrap_or, option_map}
-use Rattle.std.specs.Option.{option_and_then}
+use Rattle.std.specs.Option.{option_and_then, option_or}
 use Rattle.std.specs.Str.{bytes_eq}
 use Rattle.std.specs.List.{list_any}
 use Rattle.mq_topic.specs.Matching.{matches}
@@ -10,7 +10,7 @@ use Rattle.mq_rules.specs.declared.fate.Fate.{Fate}
 use Rattle.mq_rules.specs.declared.note.Note.{Note}
 use Rattle.mq_rules.specs.declared.text.NotedFilter.{NotedFilter}
 use Rattle.mq_rules.specs.declared.packet_note.PublishNote.{PublishNote}
-use Rattle.mq_rules.specs.Words.{is_some_and, is_id, only, or_else}
+use Rattle.mq_rules.specs.Words.{is_some_and, is_id, only}
 use Rattle.mq_rules.specs.Notes.{sent_publish, received_subscription, sent_grant, received_unsubscription, sent_unsuback, refuses, qos_number}
 use Rattle.mq_rules.specs.Moments.{Moment, note, is_after, some, those, earliest}
 use Rattle.mq_rules.specs.Connections.{number, of_connection, connection}
@@ -65,7 +65,7 @@ topic_set alias n = only (is_id alias (set_alias n)) (option_map (λ p. p.topic)
 -- the one that was last set for the alias, among these
 abbrev pub last_set : ℕ → List Moment → Option (List ℕ)
 last_set alias [] = None
-last_set alias (m ∷ ms) = or_else (topic_set alias (note m)) (last_set alias ms)
+last_set alias (m ∷ ms) = option_or (topic_set alias (note m)) (last_set alias ms)
 
 -- The topic of a PUBLISH at k: its Topic Name, or if that is empty the one last set for its alias on the connection (MQTT 5.0, section 3.3.2.3.4).
 abbrev pub topic_of : Moment → PublishNote → Option (List ℕ)

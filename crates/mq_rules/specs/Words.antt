@@ -1,11 +1,6 @@
 -- Words on what may be absent.
 use Rattle.std.specs.Prelude.{ℕ, ◌==◌, Bool, true, false, Option, Some, None}
 
--- the first if there is one, else the second
-abbrev pub or_else : {A : Type 0} → Option A → Option A → Option A
-or_else (Some a) other = Some a
-or_else None other = other
-
 -- there is one, and it passes the test
 abbrev pub is_some_and : {A : Type 0} → (A → Bool) → Option A → Bool
 is_some_and test None = false

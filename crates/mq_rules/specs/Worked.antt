@@ -25,13 +25,13 @@ abbrev pub server : Tested
 server = record { role = Server; releases = true }
 
 -- a log with these events after it, each in a record of its own
-abbrev pub followed : List Seen → List Note → List Seen
-followed past [] = past
-followed past (n ∷ ns) = followed (record { place = record { position = length past + 1; record_no = length past + 1 }; note = n } ∷ past) ns
+abbrev pub with_events : List Seen → List Note → List Seen
+with_events past [] = past
+with_events past (n ∷ ns) = with_events (record { place = record { position = length past + 1; record_no = length past + 1 }; note = n } ∷ past) ns
 
 -- the log of these events, which are given in their order
 abbrev pub log_of : List Note → List Seen
-log_of ns = followed [] ns
+log_of ns = with_events [] ns
 
 -- the positions up to the last of these events at which the statement fails in the log, the latest first
 abbrev pub failing_at : Tested → Rule → List Seen → List Seen → List ℕ
@@ -78,18 +78,18 @@ gets_lost = notes.Recv items.Lost
 -- ---- packets
 
 -- with this Clean Start and Session Expiry Interval, and a Client Identifier
-abbrev pub connect : Bool → Option ℕ → ConnectNote
-connect clean expiry = record { clean_start = clean; is_unnamed = false; session_expiry = expiry; request_problem_information = None; request_response_information = None; receive_maximum = None; topic_alias_maximum = None; maximum_packet_size = None }
+abbrev pub connect_with : Bool → Option ℕ → ConnectNote
+connect_with clean expiry = record { clean_start = clean; is_unnamed = false; session_expiry = expiry; request_problem_information = None; request_response_information = None; receive_maximum = None; topic_alias_maximum = None; maximum_packet_size = None }
 
 -- a session that is begun and kept for a minute; one that is asked for again; one that ends with its connection
-abbrev pub kept : PacketFields
-kept = Connect (connect true (Some 60))
+abbrev pub lasting : PacketFields
+lasting = Connect (connect_with true (Some 60))
 
 abbrev pub again : PacketFields
-again = Connect (connect false (Some 60))
+again = Connect (connect_with false (Some 60))
 
 abbrev pub fleeting : PacketFields
-fleeting = Connect (connect true None)
+fleeting = Connect (connect_with true None)
 
 -- of a client without an identifier
 abbrev pub unnamed : PacketFields
@@ -100,18 +100,18 @@ abbrev pub asking : Option ℕ → Option ℕ → Option ℕ → Option ℕ → 
 asking problem response receive aliases size = Connect (record { clean_start = true; is_unnamed = false; session_expiry = Some 60; request_problem_information = problem; request_response_information = response; receive_maximum = receive; topic_alias_maximum = aliases; maximum_packet_size = size })
 
 -- with Session Present or not, and this Reason Code
-abbrev pub connack : Bool → ℕ → PacketFields
-connack present code = Connack (record { session_present = present; code = code; session_expiry = None; receive_maximum = None; topic_alias_maximum = None; maximum_qos = None; maximum_packet_size = None; has_assigned_identifier = false; has_response_information = false })
+abbrev pub connack_with : Bool → ℕ → PacketFields
+connack_with present code = Connack (record { session_present = present; code = code; session_expiry = None; receive_maximum = None; topic_alias_maximum = None; maximum_qos = None; maximum_packet_size = None; has_assigned_identifier = false; has_response_information = false })
 
-abbrev pub accepted : PacketFields
-accepted = connack false 0
+abbrev pub accepting : PacketFields
+accepting = connack_with false 0
 
-abbrev pub resumed : PacketFields
-resumed = connack true 0
+abbrev pub resuming : PacketFields
+resuming = connack_with true 0
 
 -- with the Reason Code Not authorized
-abbrev pub refused : PacketFields
-refused = connack false 135
+abbrev pub refusing : PacketFields
+refusing = connack_with false 135
 
 -- with these: Session Present, Receive Maximum, Topic Alias Maximum, Maximum QoS, Maximum Packet Size
 abbrev pub limiting : Bool → Option ℕ → Option ℕ → Option ℕ → Option ℕ → PacketFields
@@ -125,8 +125,8 @@ abbrev pub informing : PacketFields
 informing = Connack (record { session_present = false; code = 0; session_expiry = None; receive_maximum = None; topic_alias_maximum = None; maximum_qos = None; maximum_packet_size = None; has_assigned_identifier = false; has_response_information = true })
 
 -- a PUBLISH of QoS 0, 1 and 2 on the topic `a`; with DUP or not
-abbrev pub publish : PacketFields
-publish = Publish (record { identifier = None; qos = quality.AtMostOnce; duplicate = false; topic = 97 ∷ []; topic_alias = None; has_message_expiry = false; has_subscription_identifier = false })
+abbrev pub at_most_once : PacketFields
+at_most_once = Publish (record { identifier = None; qos = quality.AtMostOnce; duplicate = false; topic = 97 ∷ []; topic_alias = None; has_message_expiry = false; has_subscription_identifier = false })
 
 abbrev pub once : Bool → ℕ → PacketFields
 once dup i = Publish (record { identifier = Some i; qos = quality.AtLeastOnce; duplicate = dup; topic = 97 ∷ []; topic_alias = None; has_message_expiry = false; has_subscription_identifier = false })

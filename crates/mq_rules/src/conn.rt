@@ -77,7 +77,7 @@ impl Conn {
     /// Takes an event.
     fn take(&mut self, note: &Note) -> Result<(), Memory>
         ensures role { OnOk result (self.new.role ≡ self.old.role) }
-        ensures state { OnOk result (self.new.state ≡ told.after self.old.role self.old.state note.now) }
+        ensures state { OnOk result (self.new.state ≡ told.connection_after self.old.role self.old.state note.now) }
         ensures aliases { OnOk result ((alias : ℕ) → contains nat_cmp self.new.aliases alias ≡ ((not (opens note.now) && contains nat_cmp self.old.aliases alias) || is_id alias (sets note.now))) }
     {
         self.clear_aliases_if(note.is_open());
@@ -156,8 +156,8 @@ impl Conn {
         item: Option<&ItemNote>,
         faults: &mut Faults,
     ) -> Result<(), Memory>
-        ensures ok { OnOk result (Judges (is_among (told.item_verdicts self.now.role self.now.state (told.behind item.entry))) place faults.old faults.new) }
-        ensures memory { OnErr result (JudgesWithin (is_among (told.item_verdicts self.now.role self.now.state (told.behind item.entry))) place faults.old faults.new) }
+        ensures ok { OnOk result (Judges (is_among (told.item_verdicts self.now.role self.now.state (told.dereferenced item.entry))) place faults.old faults.new) }
+        ensures memory { OnErr result (JudgesWithin (is_among (told.item_verdicts self.now.role self.now.state (told.dereferenced item.entry))) place faults.old faults.new) }
     {
         let Some(item) = item else {
             return Ok(());
@@ -176,8 +176,8 @@ impl Conn {
         packet: Option<&PacketNote>,
         faults: &mut Faults,
     ) -> Result<(), Memory>
-        ensures ok { OnOk result (Judges (is_among (told.packet_verdicts self.now.role self.now.state (told.behind packet.entry))) place faults.old faults.new) }
-        ensures memory { OnErr result (JudgesWithin (is_among (told.packet_verdicts self.now.role self.now.state (told.behind packet.entry))) place faults.old faults.new) }
+        ensures ok { OnOk result (Judges (is_among (told.packet_verdicts self.now.role self.now.state (told.dereferenced packet.entry))) place faults.old faults.new) }
+        ensures memory { OnErr result (JudgesWithin (is_among (told.packet_verdicts self.now.role self.now.state (told.dereferenced packet.entry))) place faults.old faults.new) }
     {
         let Some(packet) = packet else {
             return Ok(());
@@ -196,8 +196,8 @@ impl Conn {
         publish: Option<&PublishNote>,
         faults: &mut Faults,
     ) -> Result<(), Memory>
-        ensures ok { OnOk result (Judges (is_among (told.publish_verdicts self.now.role self.now.state (contains nat_cmp self.now.aliases) (told.behind publish.entry))) place faults.old faults.new) }
-        ensures memory { OnErr result (JudgesWithin (is_among (told.publish_verdicts self.now.role self.now.state (contains nat_cmp self.now.aliases) (told.behind publish.entry))) place faults.old faults.new) }
+        ensures ok { OnOk result (Judges (is_among (told.publish_verdicts self.now.role self.now.state (contains nat_cmp self.now.aliases) (told.dereferenced publish.entry))) place faults.old faults.new) }
+        ensures memory { OnErr result (JudgesWithin (is_among (told.publish_verdicts self.now.role self.now.state (contains nat_cmp self.now.aliases) (told.dereferenced publish.entry))) place faults.old faults.new) }
     {
         let Some(publish) = publish else {
             return Ok(());
@@ -248,8 +248,8 @@ impl Conn {
         connack: Option<&ConnackNote>,
         faults: &mut Faults,
     ) -> Result<(), Memory>
-        ensures ok { OnOk result (Judges (is_among (told.connack_verdicts self.now.role self.now.state (told.behind connack.entry))) place faults.old faults.new) }
-        ensures memory { OnErr result (JudgesWithin (is_among (told.connack_verdicts self.now.role self.now.state (told.behind connack.entry))) place faults.old faults.new) }
+        ensures ok { OnOk result (Judges (is_among (told.connack_verdicts self.now.role self.now.state (told.dereferenced connack.entry))) place faults.old faults.new) }
+        ensures memory { OnErr result (JudgesWithin (is_among (told.connack_verdicts self.now.role self.now.state (told.dereferenced connack.entry))) place faults.old faults.new) }
     {
         let Some(connack) = connack else {
             return Ok(());

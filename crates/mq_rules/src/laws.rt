@@ -2,6 +2,7 @@
 ghost use Rattle.std.specs.Prelude.{◌≡◌, ◌↔◌, Contains, [], ◌∷◌, ◌++◌, ◌+◌, ◌≤◌, nat_le, ◌&&◌, ◌||◌, ℕ, Bool, List, length, cond, is_some, true, false, Option, Some, None};
 ghost use Rattle.std.specs.List.Sorted.{IsStrictlySortedBy};
 ghost use Rattle.std.specs.Map.{keys_of};
+ghost use Rattle.std.specs.Option.{option_or};
 ghost use Rattle.std.specs.FinMap as map;
 ghost use Rattle.mq_packet.specs.declared.rule.PacketRule.{PacketRule};
 ghost use Rattle.mq_rules.specs.declared.role.Role.{Role};
@@ -12,7 +13,7 @@ ghost use Rattle.mq_rules.specs.declared.note.Note.{Note};
 ghost use Rattle.mq_rules.specs.declared.note.Seen.{Seen};
 ghost use Rattle.mq_rules.specs.declared.fault.Fault.{Fault};
 ghost use Rattle.mq_rules.specs.declared.faults.Mark.{Mark};
-ghost use Rattle.mq_rules.specs.Words.{or_else, is_some_and};
+ghost use Rattle.mq_rules.specs.Words.{is_some_and};
 ghost use Rattle.mq_rules.specs.Notes.{is_open, decides, needs_session};
 ghost use Rattle.mq_rules.specs.Moments.{Moment, newest, note, moment, is_next};
 ghost use Rattle.mq_rules.specs.Connections.{begun, fate, latest_fate, accepts, IsInOrder};
@@ -20,7 +21,7 @@ ghost use Rattle.mq_rules.specs.Rules.{binds};
 ghost use Rattle.mq_rules.specs.Statements.{on_bytes, on_past, in_session, at_release, statement, breaks_bytes, fails, fails_under};
 ghost use Rattle.mq_rules.specs.Steps.{given, turns, JudgedAtOnce, IsLate};
 ghost use Rattle.mq_rules.specs.Exchanges.{breaks_E7R};
-ghost use Rattle.mq_rules.specs.Faults.{decided, reported, chosen_fault, fault_in, listed};
+ghost use Rattle.mq_rules.specs.Faults.{decided, reported, chosen_fault, fault_in, listed_faults};
 ghost use Rattle.mq_rules.specs.Marks.{mark_cmp, FaultMap, fault_at};
 
 /// What fails with one more event failed already, or turns out to fail with that event.
@@ -42,7 +43,7 @@ pub fn failing_is_decided()
 /// A log without events has no faults. With one more event each pair keeps the fault that it had; a pair that had none gets one exactly if it turns out to fail, decided at that event.
 pub fn faults_grow()
     ensures start { (tested : Tested) (k : ℕ) (rule : Rule) → fault_in tested [] k rule ≡ None }
-    ensures step { (tested : Tested) (e : Seen) (past : List Seen) (k : ℕ) (rule : Rule) → fault_in tested (e ∷ past) k rule ≡ or_else (fault_in tested past k rule) (cond (turns tested e past k rule) (Some (reported tested.role (moment (e ∷ past) k) rule (length past + 1))) None) }
+    ensures step { (tested : Tested) (e : Seen) (past : List Seen) (k : ℕ) (rule : Rule) → fault_in tested (e ∷ past) k rule ≡ option_or (fault_in tested past k rule) (cond (turns tested e past k rule) (Some (reported tested.role (moment (e ∷ past) k) rule (length past + 1))) None) }
 {}
 
 /// A statement on a packet's bytes, or on the past of a connection, turns out false at most at the newest event, and there exactly if its predicate is true.
@@ -59,7 +60,7 @@ pub fn decided_is_shortest()
 
 /// After an OPEN the latest connection is undecided. After any other event it has the fate that it had, or else the one that the event decides.
 pub fn latest_fate_goes_on()
-    ensures { (role : Role) (e : Seen) (past : List Seen) → latest_fate role (e ∷ past) ≡ cond (is_open e.note) None (or_else (latest_fate role past) (decides role e.note)) }
+    ensures { (role : Role) (e : Seen) (past : List Seen) → latest_fate role (e ∷ past) ≡ cond (is_open e.note) None (option_or (latest_fate role past) (decides role e.note)) }
 {}
 
 /// An event gives a fate only to the latest connection, if that is undecided before it, and gives the fate that it decides. An OPEN gives none.
@@ -102,11 +103,11 @@ pub fn fated_failing_turns()
 
 /// The list of a log's faults has exactly the faults of the statements that are judged, each under its position and statement. It ascends by position, and then by statement, with no pair twice.
 pub fn listed_is_failing()
-    ensures ordered { (chosen : Rule → Bool) (tested : Tested) (log : List Seen) → IsStrictlySortedBy mark_cmp (keys_of (listed chosen tested log)) }
-    ensures each { (chosen : Rule → Bool) (tested : Tested) (log : List Seen) (mark : Mark) (fault : Fault) → Contains (listed chosen tested log) (mark, fault) ↔ (chosen_fault chosen tested log mark.position mark.rule ≡ Some fault) }
+    ensures ordered { (chosen : Rule → Bool) (tested : Tested) (log : List Seen) → IsStrictlySortedBy mark_cmp (keys_of (listed_faults chosen tested log)) }
+    ensures each { (chosen : Rule → Bool) (tested : Tested) (log : List Seen) (mark : Mark) (fault : Fault) → Contains (listed_faults chosen tested log) (mark, fault) ↔ (chosen_fault chosen tested log mark.position mark.rule ≡ Some fault) }
 {}
 
 /// The finite map that has the fault of each pair has exactly the entries of the list, in its order.
 pub fn entries_are_listed()
-    ensures { (chosen : Rule → Bool) (tested : Tested) (log : List Seen) (faults : FaultMap) → ((k : ℕ) (rule : Rule) → fault_at faults k rule ≡ chosen_fault chosen tested log k rule) → map.entries faults ≡ listed chosen tested log }
+    ensures { (chosen : Rule → Bool) (tested : Tested) (log : List Seen) (faults : FaultMap) → ((k : ℕ) (rule : Rule) → fault_at faults k rule ≡ chosen_fault chosen tested log k rule) → map.entries faults ≡ listed_faults chosen tested log }
 {}

@@ -5,7 +5,7 @@ ghost use Rattle.std.specs.Str.{str_eq_ignore_ascii_case};
 ghost use Rattle.std.specs.List.{find};
 ghost use Rattle.mq_rules.specs.declared.rule.Rule.{Rule};
 ghost use Rattle.mq_rules.specs.Naming.{coded_line, coded_rule, found_sentence, saying_view, sayings_of, sentence_of, sentences};
-ghost use Rattle.mq_rules.specs.Rules.{Line, all_rules, code_of, line_view, lines_of, same_rule};
+ghost use Rattle.mq_rules.specs.Rules.{StatementLine, all_rules, code_of, line_view, lines_of, same_rule};
 
 use crate::rule::Rule;
 use crate::table::{Row, TABLE};

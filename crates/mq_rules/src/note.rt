@@ -722,7 +722,7 @@ impl Note {
     /// The rule that the bytes break which the tested end sent, and where in the packet.
     #[inline]
     pub fn broken(&self) -> Option<BodyFault>
-        ensures { result ≡ notes.broken self.now }
+        ensures { result ≡ notes.sent_fault self.now }
     {
         match self {
             Note::Sent(item) => item.broken(),

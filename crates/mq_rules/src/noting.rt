@@ -12,7 +12,7 @@ ghost use Rattle.mq_trace.specs.Events.{packet};
 ghost use Rattle.mq_trace.specs.Flows.{going};
 ghost use Rattle.mq_trace.specs.Hearing.{item_of, event_of};
 ghost use Rattle.mq_rules.specs.declared.packet_note.PacketFields.TheVariants as fields;
-ghost use Rattle.mq_rules.specs.Notes.{kept, is_sent_way, connect_note, connack_note, publish_note, packet_fields, properties_of, packet_note, item_note, note_of, request_fields, answer_fields, keeps_text, item_keeps_text, note_keeps_text};
+ghost use Rattle.mq_rules.specs.Notes.{only_list, is_sent_way, connect_note, connack_note, publish_note, packet_fields, properties_of, packet_note, item_note, note_of, request_fields, answer_fields, keeps_text, item_keeps_text, note_keeps_text};
 
 use crate::faults::Memory;
 use crate::note::{ItemNote, Note};
@@ -148,8 +148,8 @@ impl ConnackNote {
 /// The Topic Name, if its PUBLISH was sent; else it is empty.
 #[inline(always)]
 fn kept_topic(alloc: Global, way: Way, topic: &str) -> Result<Text, Memory>
-    ensures exact { IfOk result (λ text. text ≡ kept (is_sent_way way) topic.now) }
-    ensures needed { OnErr result (0 < length (kept (is_sent_way way) topic.now)) }
+    ensures exact { IfOk result (λ text. text ≡ only_list (is_sent_way way) topic.now) }
+    ensures needed { OnErr result (0 < length (only_list (is_sent_way way) topic.now)) }
 {
     match way {
         Way::Sent => Text::of(alloc, topic),
@@ -161,7 +161,7 @@ fn kept_topic(alloc: Global, way: Way, topic: &str) -> Result<Text, Memory>
 #[inline(always)]
 fn short_topic(way: Way, topic: &str) -> Text
     requires { length topic.now ≤ 30 }
-    ensures { result ≡ kept (is_sent_way way) topic.now }
+    ensures { result ≡ only_list (is_sent_way way) topic.now }
 {
     match way {
         Way::Sent => Text::short(topic),
@@ -187,7 +187,7 @@ impl PublishNote {
     /// What the statements look at in this PUBLISH, with this copy of its Topic Name.
     #[inline(always)]
     fn with_topic(topic: Text, publish: &Publish<'_>) -> PublishNote
-        ensures { (way : Way) → topic ≡ kept (is_sent_way way) publish.now.topic.now → result ≡ publish_note way (publish_view publish.now) }
+        ensures { (way : Way) → topic ≡ only_list (is_sent_way way) publish.now.topic.now → result ≡ publish_note way (publish_view publish.now) }
     {
         let properties = filled(&publish.properties);
         PublishNote {
@@ -416,7 +416,7 @@ impl Note {
     /// noted.
     #[inline(always)]
     fn with_topic(way: Way, size: u32, topic: Text, publish: &Publish<'_>) -> Note
-        ensures { topic ≡ kept (is_sent_way way) publish.now.topic.now → result ≡ note_of (going way (packet size (publish_entry (publish_view publish.now)))) }
+        ensures { topic ≡ only_list (is_sent_way way) publish.now.topic.now → result ≡ note_of (going way (packet size (publish_entry (publish_view publish.now)))) }
     {
         let properties = filled(&publish.properties);
         let note = ItemNote::Packet(PacketNote {

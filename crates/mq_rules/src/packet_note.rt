@@ -1,8 +1,8 @@
 //! What the statements look at in a packet.
 ghost use Rattle.std.specs.Prelude.{◌≡◌, option_map};
-ghost use Rattle.std.specs.Option.{option_and_then};
-ghost use Rattle.mq_rules.specs.Words.{only, or_else};
-ghost use Rattle.mq_rules.specs.Notes.{fate_by, resumed_by, refuses as is_refusing, delivery_in, opener_in, resend_in, is_at_least_once, is_exactly_once, type_of, connect_in, connack_in, publish_in, disconnect_in, puback_in, pubrec_in, accepting_pubrec_in, pubrel_in, pubcomp_in, subscribe_in, suback_in, unsubscribe_in, unsuback_in, settled_in, ended_in, unmatched_pubrec_in, success_pubcomp_in, is_pingreq as pings, is_pingresp as answers_ping, is_session_packet as needs_a_session, may_explain as explains};
+ghost use Rattle.std.specs.Option.{option_and_then, option_or};
+ghost use Rattle.mq_rules.specs.Words.{only};
+ghost use Rattle.mq_rules.specs.Notes.{fate_by, resumed_by, refuses as is_refusing, delivery_in, opener_in, resend_in, is_at_least_once, is_exactly_once, fields_type, connect_in, connack_in, publish_in, disconnect_in, puback_in, pubrec_in, accepting_pubrec_in, pubrel_in, pubcomp_in, subscribe_in, suback_in, unsubscribe_in, unsuback_in, settled_in, ended_in, unmatched_pubrec_in, success_pubcomp_in, is_pingreq as pings, is_pingresp as answers_ping, is_session_packet as needs_a_session, may_explain as explains};
 
 use crate::fate::Fate;
 use crate::text::{CodeList, FilterList, Text};
@@ -270,7 +270,7 @@ impl PacketFields {
     /// The packet's type (MQTT 5.0, section 2.1.2).
     #[inline]
     pub fn kind(&self) -> PacketType
-        ensures { result ≡ type_of self.now }
+        ensures { result ≡ fields_type self.now }
     {
         match self {
             PacketFields::Connect(_) => PacketType::Connect,
@@ -485,7 +485,7 @@ impl PacketFields {
     /// (MQTT 5.0, section 2.2.1).
     #[inline]
     pub(crate) fn client_takes(&self) -> Option<u16>
-        ensures { result ≡ or_else (option_and_then opener_in (publish_in self.now)) (or_else (subscribe_in self.now) (unsubscribe_in self.now)) }
+        ensures { result ≡ option_or (option_and_then opener_in (publish_in self.now)) (option_or (subscribe_in self.now) (unsubscribe_in self.now)) }
     {
         match self {
             PacketFields::Publish(publish) => publish.opener(),

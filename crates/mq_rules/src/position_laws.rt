@@ -4,13 +4,13 @@ ghost use Rattle.mq_rules.specs.declared.role.Role.{Role};
 ghost use Rattle.mq_rules.specs.declared.fate.Fate.{Fate};
 ghost use Rattle.mq_rules.specs.declared.note.Note.{Note};
 ghost use Rattle.mq_rules.specs.declared.note.Seen.{Seen};
-ghost use Rattle.mq_rules.specs.Moments.{Moment, position, note, moments, moment, some, since, those, latest, earliest, earliest_since, count, some_stretch, Among, IsBeginning, IsDescending, Stands, IsLatest, IsEarliest, IsEarliestSince, IsPlaced};
+ghost use Rattle.mq_rules.specs.Moments.{Moment, position, note, moments, moment, some, since, those, latest, earliest, earliest_since, count, some_stretch, Among, IsMomentAt, IsDescending, HoldsSince, IsLatest, IsEarliest, IsEarliestSince, IsPlaced};
 ghost use Rattle.mq_rules.specs.Connections.{connection, of_connection, session};
 
 /// The moment at a position of the log is the event there with all that comes before it; no other position has a moment. The moments of a log are those of
 /// its positions. If the places of the events have their positions, so has the place of a moment's event.
 pub fn moments_by_positions()
-    ensures beginning { (log : List Seen) (k : ℕ) (m : Moment) → (moment log k ≡ Some m) ↔ IsBeginning log k m }
+    ensures beginning { (log : List Seen) (k : ℕ) (m : Moment) → (moment log k ≡ Some m) ↔ IsMomentAt log k m }
     ensures among { (log : List Seen) (m : Moment) → Among m (moments log) ↔ (moment log (position m) ≡ Some m) }
     ensures placed { (log : List Seen) (k : ℕ) (m : Moment) → IsPlaced log → moment log k ≡ Some m → m.event.place.position ≡ k }
 {}
@@ -26,7 +26,7 @@ pub fn scopes_descend()
 
 /// `since`: some moment passes the first test, and none at a later position passes the second.
 pub fn since_by_positions()
-    ensures { (starts ends : Moment → Bool) (ms : List Moment) → IsDescending ms → (since starts ends ms ≡ true) ↔ Stands starts ends ms }
+    ensures { (starts ends : Moment → Bool) (ms : List Moment) → IsDescending ms → (since starts ends ms ≡ true) ↔ HoldsSince starts ends ms }
 {}
 
 /// `some`: some moment passes the test. `those`: the moments that pass it. `count`: how many those are.

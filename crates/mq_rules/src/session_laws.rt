@@ -1,10 +1,10 @@
 //! Laws of connections, fates, sessions and order, each proved as the contract of a function that does nothing.
 ghost use Rattle.std.specs.Prelude.{◌≡◌, ◌<◌, ◌==◌, ◌∷◌, ◌++◌, ◌↔◌, [], ℕ, List, Option, Some, None, cond, is_some, Bool, true, false, ◌&&◌, not};
+ghost use Rattle.std.specs.Option.{option_or};
 ghost use Rattle.mq_trace.specs.Refusals.{refused};
 ghost use Rattle.mq_rules.specs.declared.role.Role.{Role};
 ghost use Rattle.mq_rules.specs.declared.fate.Fate.{Fate};
 ghost use Rattle.mq_rules.specs.declared.note.Seen.{Seen};
-ghost use Rattle.mq_rules.specs.Words.{or_else};
 ghost use Rattle.mq_rules.specs.Notes.{is_open, decides, seen_in, tested_by};
 ghost use Rattle.mq_rules.specs.Moments.{Moment, newest, moments, some, since, latest, Among, IsPlaced};
 ghost use Rattle.mq_rules.specs.Connections.{begun, connection, fate, latest_fate, begins, has_session, session, fate_under, IsInSession, is_alive_after, IsAlive, IsInOrder};
@@ -23,8 +23,8 @@ pub fn fate_stays()
 
 /// One more event can decide only its own connection, if that is undecided. An OPEN begins an undecided one.
 pub fn event_decides_its_connection()
-    ensures any { (role : Role) (c : ℕ) (e : Seen) (past : List Seen) → fate role c (e ∷ past) ≡ or_else (fate role c past) (cond (begun (e ∷ past) == c) (decides role e.note) None) }
-    ensures latest { (role : Role) (e : Seen) (past : List Seen) → latest_fate role (e ∷ past) ≡ cond (is_open e.note) None (or_else (latest_fate role past) (decides role e.note)) }
+    ensures any { (role : Role) (c : ℕ) (e : Seen) (past : List Seen) → fate role c (e ∷ past) ≡ option_or (fate role c past) (cond (begun (e ∷ past) == c) (decides role e.note) None) }
+    ensures latest { (role : Role) (e : Seen) (past : List Seen) → latest_fate role (e ∷ past) ≡ cond (is_open e.note) None (option_or (latest_fate role past) (decides role e.note)) }
 {}
 
 /// `since`, `some` and `latest` are folds.

@@ -6,7 +6,7 @@ ghost use Rattle.mq_rules.specs.declared.note.Seen.{Seen};
 ghost use Rattle.mq_rules.specs.Words.{is_some_and};
 ghost use Rattle.mq_rules.specs.Moments.{Moment, moments, moment, is_after, some, those, count, some_stretch, Among};
 ghost use Rattle.mq_rules.specs.Connections.{connection, is_binding};
-ghost use Rattle.mq_rules.specs.Pasts.{receive_maximum};
+ghost use Rattle.mq_rules.specs.Pasts.{peer_receive_maximum};
 ghost use Rattle.mq_rules.specs.Identifiers.{is_delivery, is_closer, counts, passes, breaks_S07, is_used_up};
 ghost use Rattle.mq_rules.specs.Exchanges.{Exchange, shows_R};
 ghost use Rattle.mq_rules.specs.Statements.{at_rest, is_false};
@@ -21,11 +21,11 @@ pub fn in_flight_by_a_counter()
     ensures apart { (m : Moment) → is_delivery m ≡ true → is_closer m ≡ false }
     ensures more { (most : ℕ) (ms : List Moment) → passes most ms ≡ nat_lt most (in_flight ms) }
     ensures as_many { (most : ℕ) (ms : List Moment) → some_stretch (λ stretch. nat_le (most + count is_closer stretch) (count is_delivery stretch)) ms ≡ nat_le most (in_flight ms) }
-    ensures after { (role : Role) (k : Moment) → breaks_S07 role k ≡ (is_delivery k && (counts role k && nat_lt (receive_maximum role k) (in_flight (k ∷ those (counts role) (connection k.past))))) }
-    ensures before { (role : Role) (k : Moment) → breaks_S07 role k ≡ (is_delivery k && (counts role k && nat_le (receive_maximum role k) (in_flight_before role k))) }
+    ensures after { (role : Role) (k : Moment) → breaks_S07 role k ≡ (is_delivery k && (counts role k && nat_lt (peer_receive_maximum role k) (in_flight (k ∷ those (counts role) (connection k.past))))) }
+    ensures before { (role : Role) (k : Moment) → breaks_S07 role k ≡ (is_delivery k && (counts role k && nat_le (peer_receive_maximum role k) (in_flight_before role k))) }
     ensures left { (most : ℕ) (ms : List Moment) → keeps_quota most ms ≡ true → quota most ms + in_flight ms ≡ most }
     ensures first { (most : ℕ) (m : Moment) (ms : List Moment) → keeps_quota most ms ≡ true → passes most (m ∷ ms) ≡ (is_delivery m && (quota most ms == 0)) }
-    ensures used_up { (role : Role) (t : Moment) → is_used_up role t ≡ nat_le (receive_maximum role t) (in_flight_before role t) }
+    ensures used_up { (role : Role) (t : Moment) → is_used_up role t ≡ nat_le (peer_receive_maximum role t) (in_flight_before role t) }
 {}
 
 /// E1R to E6R, by the first REST that binds after a cause on the cause's connection (MQTT 5.0, sections 4.3, 3.8.4 and 3.10.4). What a later REST shows, each

@@ -5,330 +5,330 @@ ghost use Rattle.mq_packet.specs.declared.rule.PacketRule.TheVariants as packets
 ghost use Rattle.mq_rules.specs.declared.rule.Rule.TheVariants.{W01, W02, W03, W04, W05, W06, W07, W08, W09, W10, W11, W12, W13, W14, W15, W16, W17, W18, W19, W20, W21, C01, C02, C03, C04, C05, C06, C07, C08, C09, C10, C11, C12, C13, C14, C15, C16, C17, C18, C19, C20, C21, C22, C23, S01, S02, S03, S04, S05, S06, S07, E1A, E1R, E1O, E2A, E2R, E2O, E3A, E3R, E3O, E4A, E4R, E5A, E5R, E6A, E6R, E7R, L1, L2, L3, B01, B02, B03, B04};
 ghost use Rattle.mq_rules.specs.declared.note.Note.TheVariants.{Open, Close, Rest, Release};
 ghost use Rattle.mq_rules.specs.declared.packet_note.PacketFields.TheVariants.{Puback, Pubrec, Pubrel, Pubcomp, Suback, Unsubscribe, Unsuback, Pingreq, Pingresp, Disconnect, Auth};
-ghost use Rattle.mq_rules.specs.Worked.{client, server, failing, sends, gets, sends_sized, sends_explained, sends_bad, gets_bad, sends_lost, gets_lost, kept, again, fleeting, unnamed, asking, connack, accepted, resumed, refused, limiting, assigning, informing, publish, once, exactly, expiring, aliased, subscribed, asks_a, asks_b};
+ghost use Rattle.mq_rules.specs.Worked.{client, server, failing, sends, gets, sends_sized, sends_explained, sends_bad, gets_bad, sends_lost, gets_lost, lasting, again, fleeting, unnamed, asking, connack_with, accepting, resuming, refusing, limiting, assigning, informing, at_most_once, once, exactly, expiring, aliased, subscribed, asks_a, asks_b};
 
 /// Bytes of a client that break a rule, and those that it receives (W01 to W21).
 pub fn bytes_of_a_client()
-    ensures w01 { failing client W01 (Open ∷ sends kept ∷ gets accepted ∷ sends_bad 48 packets.W01 ∷ gets_bad 48 packets.W01 ∷ sends_bad 48 packets.W02 ∷ []) ≡ 4 ∷ [] }
-    ensures w02 { failing client W02 (Open ∷ sends kept ∷ gets accepted ∷ sends_bad 48 packets.W02 ∷ gets_bad 48 packets.W02 ∷ sends_bad 48 packets.W03 ∷ []) ≡ 4 ∷ [] }
-    ensures w03 { failing client W03 (Open ∷ sends kept ∷ gets accepted ∷ sends_bad 48 packets.W03 ∷ gets_bad 48 packets.W03 ∷ sends_bad 48 packets.W04 ∷ []) ≡ 4 ∷ [] }
-    ensures w04 { failing client W04 (Open ∷ sends kept ∷ gets accepted ∷ sends_bad 48 packets.W04 ∷ gets_bad 48 packets.W04 ∷ sends_bad 48 packets.W05 ∷ []) ≡ 4 ∷ [] }
-    ensures w05 { failing client W05 (Open ∷ sends kept ∷ gets accepted ∷ sends_bad 48 packets.W05 ∷ gets_bad 48 packets.W05 ∷ sends_bad 48 packets.W06 ∷ []) ≡ 4 ∷ [] }
-    ensures w06 { failing client W06 (Open ∷ sends kept ∷ gets accepted ∷ sends_bad 48 packets.W06 ∷ gets_bad 48 packets.W06 ∷ sends_bad 48 packets.W07 ∷ []) ≡ 4 ∷ [] }
-    ensures w07 { failing client W07 (Open ∷ sends kept ∷ gets accepted ∷ sends_bad 48 packets.W07 ∷ gets_bad 48 packets.W07 ∷ sends_bad 48 packets.W08 ∷ []) ≡ 4 ∷ [] }
-    ensures w08 { failing client W08 (Open ∷ sends kept ∷ gets accepted ∷ sends_bad 48 packets.W08 ∷ gets_bad 48 packets.W08 ∷ sends_bad 48 packets.W09 ∷ []) ≡ 4 ∷ [] }
-    ensures w09 { failing client W09 (Open ∷ sends kept ∷ gets accepted ∷ sends_bad 48 packets.W09 ∷ gets_bad 48 packets.W09 ∷ sends_bad 48 packets.W10 ∷ []) ≡ 4 ∷ [] }
-    ensures w10 { failing client W10 (Open ∷ sends kept ∷ gets accepted ∷ sends_bad 48 packets.W10 ∷ gets_bad 48 packets.W10 ∷ sends_bad 48 packets.W11 ∷ []) ≡ 4 ∷ [] }
-    ensures w11 { failing client W11 (Open ∷ sends kept ∷ gets accepted ∷ sends_bad 48 packets.W11 ∷ gets_bad 48 packets.W11 ∷ sends_bad 48 packets.W12 ∷ []) ≡ 4 ∷ [] }
-    ensures w12 { failing client W12 (Open ∷ sends kept ∷ gets accepted ∷ sends_bad 48 packets.W12 ∷ gets_bad 48 packets.W12 ∷ sends_bad 48 packets.W13 ∷ []) ≡ 4 ∷ [] }
-    ensures w13 { failing client W13 (Open ∷ sends kept ∷ gets accepted ∷ sends_bad 48 packets.W13 ∷ gets_bad 48 packets.W13 ∷ sends_bad 48 packets.W14 ∷ []) ≡ 4 ∷ [] }
-    ensures w14 { failing client W14 (Open ∷ sends kept ∷ gets accepted ∷ sends_bad 48 packets.W14 ∷ gets_bad 48 packets.W14 ∷ sends_bad 48 packets.W15 ∷ []) ≡ 4 ∷ [] }
-    ensures w15 { failing client W15 (Open ∷ sends kept ∷ gets accepted ∷ sends_bad 48 packets.W15 ∷ gets_bad 48 packets.W15 ∷ sends_bad 48 packets.W16 ∷ []) ≡ 4 ∷ [] }
-    ensures w16 { failing client W16 (Open ∷ sends kept ∷ gets accepted ∷ sends_bad 48 packets.W16 ∷ gets_bad 48 packets.W16 ∷ sends_bad 48 packets.W17 ∷ []) ≡ 4 ∷ [] }
-    ensures w17 { failing client W17 (Open ∷ sends kept ∷ gets accepted ∷ sends_bad 48 packets.W17 ∷ gets_bad 48 packets.W17 ∷ sends_bad 48 packets.W18 ∷ []) ≡ 4 ∷ [] }
-    ensures w18 { failing client W18 (Open ∷ sends kept ∷ gets accepted ∷ sends_bad 48 packets.W18 ∷ gets_bad 48 packets.W18 ∷ sends_bad 48 packets.W19 ∷ []) ≡ 4 ∷ [] }
-    ensures w19 { failing client W19 (Open ∷ sends kept ∷ gets accepted ∷ sends_bad 48 packets.W19 ∷ gets_bad 48 packets.W19 ∷ sends_bad 48 packets.W20 ∷ []) ≡ 4 ∷ [] }
-    ensures w20 { failing client W20 (Open ∷ sends kept ∷ gets accepted ∷ sends_bad 48 packets.W20 ∷ gets_bad 48 packets.W20 ∷ sends_bad 48 packets.W21 ∷ []) ≡ 4 ∷ [] }
-    ensures w21 { failing client W21 (Open ∷ sends kept ∷ gets accepted ∷ sends_bad 48 packets.W21 ∷ gets_bad 48 packets.W21 ∷ sends_bad 48 packets.W01 ∷ []) ≡ 4 ∷ [] }
-    ensures lost { failing client W03 (Open ∷ sends kept ∷ gets accepted ∷ sends_lost ∷ gets_lost ∷ []) ≡ 4 ∷ [] }
+    ensures w01 { failing client W01 (Open ∷ sends lasting ∷ gets accepting ∷ sends_bad 48 packets.W01 ∷ gets_bad 48 packets.W01 ∷ sends_bad 48 packets.W02 ∷ []) ≡ 4 ∷ [] }
+    ensures w02 { failing client W02 (Open ∷ sends lasting ∷ gets accepting ∷ sends_bad 48 packets.W02 ∷ gets_bad 48 packets.W02 ∷ sends_bad 48 packets.W03 ∷ []) ≡ 4 ∷ [] }
+    ensures w03 { failing client W03 (Open ∷ sends lasting ∷ gets accepting ∷ sends_bad 48 packets.W03 ∷ gets_bad 48 packets.W03 ∷ sends_bad 48 packets.W04 ∷ []) ≡ 4 ∷ [] }
+    ensures w04 { failing client W04 (Open ∷ sends lasting ∷ gets accepting ∷ sends_bad 48 packets.W04 ∷ gets_bad 48 packets.W04 ∷ sends_bad 48 packets.W05 ∷ []) ≡ 4 ∷ [] }
+    ensures w05 { failing client W05 (Open ∷ sends lasting ∷ gets accepting ∷ sends_bad 48 packets.W05 ∷ gets_bad 48 packets.W05 ∷ sends_bad 48 packets.W06 ∷ []) ≡ 4 ∷ [] }
+    ensures w06 { failing client W06 (Open ∷ sends lasting ∷ gets accepting ∷ sends_bad 48 packets.W06 ∷ gets_bad 48 packets.W06 ∷ sends_bad 48 packets.W07 ∷ []) ≡ 4 ∷ [] }
+    ensures w07 { failing client W07 (Open ∷ sends lasting ∷ gets accepting ∷ sends_bad 48 packets.W07 ∷ gets_bad 48 packets.W07 ∷ sends_bad 48 packets.W08 ∷ []) ≡ 4 ∷ [] }
+    ensures w08 { failing client W08 (Open ∷ sends lasting ∷ gets accepting ∷ sends_bad 48 packets.W08 ∷ gets_bad 48 packets.W08 ∷ sends_bad 48 packets.W09 ∷ []) ≡ 4 ∷ [] }
+    ensures w09 { failing client W09 (Open ∷ sends lasting ∷ gets accepting ∷ sends_bad 48 packets.W09 ∷ gets_bad 48 packets.W09 ∷ sends_bad 48 packets.W10 ∷ []) ≡ 4 ∷ [] }
+    ensures w10 { failing client W10 (Open ∷ sends lasting ∷ gets accepting ∷ sends_bad 48 packets.W10 ∷ gets_bad 48 packets.W10 ∷ sends_bad 48 packets.W11 ∷ []) ≡ 4 ∷ [] }
+    ensures w11 { failing client W11 (Open ∷ sends lasting ∷ gets accepting ∷ sends_bad 48 packets.W11 ∷ gets_bad 48 packets.W11 ∷ sends_bad 48 packets.W12 ∷ []) ≡ 4 ∷ [] }
+    ensures w12 { failing client W12 (Open ∷ sends lasting ∷ gets accepting ∷ sends_bad 48 packets.W12 ∷ gets_bad 48 packets.W12 ∷ sends_bad 48 packets.W13 ∷ []) ≡ 4 ∷ [] }
+    ensures w13 { failing client W13 (Open ∷ sends lasting ∷ gets accepting ∷ sends_bad 48 packets.W13 ∷ gets_bad 48 packets.W13 ∷ sends_bad 48 packets.W14 ∷ []) ≡ 4 ∷ [] }
+    ensures w14 { failing client W14 (Open ∷ sends lasting ∷ gets accepting ∷ sends_bad 48 packets.W14 ∷ gets_bad 48 packets.W14 ∷ sends_bad 48 packets.W15 ∷ []) ≡ 4 ∷ [] }
+    ensures w15 { failing client W15 (Open ∷ sends lasting ∷ gets accepting ∷ sends_bad 48 packets.W15 ∷ gets_bad 48 packets.W15 ∷ sends_bad 48 packets.W16 ∷ []) ≡ 4 ∷ [] }
+    ensures w16 { failing client W16 (Open ∷ sends lasting ∷ gets accepting ∷ sends_bad 48 packets.W16 ∷ gets_bad 48 packets.W16 ∷ sends_bad 48 packets.W17 ∷ []) ≡ 4 ∷ [] }
+    ensures w17 { failing client W17 (Open ∷ sends lasting ∷ gets accepting ∷ sends_bad 48 packets.W17 ∷ gets_bad 48 packets.W17 ∷ sends_bad 48 packets.W18 ∷ []) ≡ 4 ∷ [] }
+    ensures w18 { failing client W18 (Open ∷ sends lasting ∷ gets accepting ∷ sends_bad 48 packets.W18 ∷ gets_bad 48 packets.W18 ∷ sends_bad 48 packets.W19 ∷ []) ≡ 4 ∷ [] }
+    ensures w19 { failing client W19 (Open ∷ sends lasting ∷ gets accepting ∷ sends_bad 48 packets.W19 ∷ gets_bad 48 packets.W19 ∷ sends_bad 48 packets.W20 ∷ []) ≡ 4 ∷ [] }
+    ensures w20 { failing client W20 (Open ∷ sends lasting ∷ gets accepting ∷ sends_bad 48 packets.W20 ∷ gets_bad 48 packets.W20 ∷ sends_bad 48 packets.W21 ∷ []) ≡ 4 ∷ [] }
+    ensures w21 { failing client W21 (Open ∷ sends lasting ∷ gets accepting ∷ sends_bad 48 packets.W21 ∷ gets_bad 48 packets.W21 ∷ sends_bad 48 packets.W01 ∷ []) ≡ 4 ∷ [] }
+    ensures lost { failing client W03 (Open ∷ sends lasting ∷ gets accepting ∷ sends_lost ∷ gets_lost ∷ []) ≡ 4 ∷ [] }
 {}
 
 /// Bytes of a server that break a rule, and those that it receives (W01 to W21).
 pub fn bytes_of_a_server()
-    ensures w01 { failing server W01 (Open ∷ gets kept ∷ sends accepted ∷ sends_bad 48 packets.W01 ∷ gets_bad 48 packets.W01 ∷ sends_bad 48 packets.W02 ∷ []) ≡ 4 ∷ [] }
-    ensures w02 { failing server W02 (Open ∷ gets kept ∷ sends accepted ∷ sends_bad 48 packets.W02 ∷ gets_bad 48 packets.W02 ∷ sends_bad 48 packets.W03 ∷ []) ≡ 4 ∷ [] }
-    ensures w03 { failing server W03 (Open ∷ gets kept ∷ sends accepted ∷ sends_bad 48 packets.W03 ∷ gets_bad 48 packets.W03 ∷ sends_bad 48 packets.W04 ∷ []) ≡ 4 ∷ [] }
-    ensures w04 { failing server W04 (Open ∷ gets kept ∷ sends accepted ∷ sends_bad 48 packets.W04 ∷ gets_bad 48 packets.W04 ∷ sends_bad 48 packets.W05 ∷ []) ≡ 4 ∷ [] }
-    ensures w05 { failing server W05 (Open ∷ gets kept ∷ sends accepted ∷ sends_bad 48 packets.W05 ∷ gets_bad 48 packets.W05 ∷ sends_bad 48 packets.W06 ∷ []) ≡ 4 ∷ [] }
-    ensures w06 { failing server W06 (Open ∷ gets kept ∷ sends accepted ∷ sends_bad 48 packets.W06 ∷ gets_bad 48 packets.W06 ∷ sends_bad 48 packets.W07 ∷ []) ≡ 4 ∷ [] }
-    ensures w07 { failing server W07 (Open ∷ gets kept ∷ sends accepted ∷ sends_bad 48 packets.W07 ∷ gets_bad 48 packets.W07 ∷ sends_bad 48 packets.W08 ∷ []) ≡ 4 ∷ [] }
-    ensures w08 { failing server W08 (Open ∷ gets kept ∷ sends accepted ∷ sends_bad 48 packets.W08 ∷ gets_bad 48 packets.W08 ∷ sends_bad 48 packets.W09 ∷ []) ≡ 4 ∷ [] }
-    ensures w09 { failing server W09 (Open ∷ gets kept ∷ sends accepted ∷ sends_bad 48 packets.W09 ∷ gets_bad 48 packets.W09 ∷ sends_bad 48 packets.W10 ∷ []) ≡ 4 ∷ [] }
-    ensures w10 { failing server W10 (Open ∷ gets kept ∷ sends accepted ∷ sends_bad 48 packets.W10 ∷ gets_bad 48 packets.W10 ∷ sends_bad 48 packets.W11 ∷ []) ≡ 4 ∷ [] }
-    ensures w11 { failing server W11 (Open ∷ gets kept ∷ sends accepted ∷ sends_bad 48 packets.W11 ∷ gets_bad 48 packets.W11 ∷ sends_bad 48 packets.W12 ∷ []) ≡ 4 ∷ [] }
-    ensures w12 { failing server W12 (Open ∷ gets kept ∷ sends accepted ∷ sends_bad 48 packets.W12 ∷ gets_bad 48 packets.W12 ∷ sends_bad 48 packets.W13 ∷ []) ≡ 4 ∷ [] }
-    ensures w13 { failing server W13 (Open ∷ gets kept ∷ sends accepted ∷ sends_bad 48 packets.W13 ∷ gets_bad 48 packets.W13 ∷ sends_bad 48 packets.W14 ∷ []) ≡ 4 ∷ [] }
-    ensures w14 { failing server W14 (Open ∷ gets kept ∷ sends accepted ∷ sends_bad 48 packets.W14 ∷ gets_bad 48 packets.W14 ∷ sends_bad 48 packets.W15 ∷ []) ≡ 4 ∷ [] }
-    ensures w15 { failing server W15 (Open ∷ gets kept ∷ sends accepted ∷ sends_bad 48 packets.W15 ∷ gets_bad 48 packets.W15 ∷ sends_bad 48 packets.W16 ∷ []) ≡ 4 ∷ [] }
-    ensures w16 { failing server W16 (Open ∷ gets kept ∷ sends accepted ∷ sends_bad 48 packets.W16 ∷ gets_bad 48 packets.W16 ∷ sends_bad 48 packets.W17 ∷ []) ≡ 4 ∷ [] }
-    ensures w17 { failing server W17 (Open ∷ gets kept ∷ sends accepted ∷ sends_bad 48 packets.W17 ∷ gets_bad 48 packets.W17 ∷ sends_bad 48 packets.W18 ∷ []) ≡ 4 ∷ [] }
-    ensures w18 { failing server W18 (Open ∷ gets kept ∷ sends accepted ∷ sends_bad 48 packets.W18 ∷ gets_bad 48 packets.W18 ∷ sends_bad 48 packets.W19 ∷ []) ≡ 4 ∷ [] }
-    ensures w19 { failing server W19 (Open ∷ gets kept ∷ sends accepted ∷ sends_bad 48 packets.W19 ∷ gets_bad 48 packets.W19 ∷ sends_bad 48 packets.W20 ∷ []) ≡ 4 ∷ [] }
-    ensures w20 { failing server W20 (Open ∷ gets kept ∷ sends accepted ∷ sends_bad 48 packets.W20 ∷ gets_bad 48 packets.W20 ∷ sends_bad 48 packets.W21 ∷ []) ≡ 4 ∷ [] }
-    ensures w21 { failing server W21 (Open ∷ gets kept ∷ sends accepted ∷ sends_bad 48 packets.W21 ∷ gets_bad 48 packets.W21 ∷ sends_bad 48 packets.W01 ∷ []) ≡ 4 ∷ [] }
-    ensures lost { failing server W03 (Open ∷ gets kept ∷ sends accepted ∷ sends_lost ∷ gets_lost ∷ []) ≡ 4 ∷ [] }
+    ensures w01 { failing server W01 (Open ∷ gets lasting ∷ sends accepting ∷ sends_bad 48 packets.W01 ∷ gets_bad 48 packets.W01 ∷ sends_bad 48 packets.W02 ∷ []) ≡ 4 ∷ [] }
+    ensures w02 { failing server W02 (Open ∷ gets lasting ∷ sends accepting ∷ sends_bad 48 packets.W02 ∷ gets_bad 48 packets.W02 ∷ sends_bad 48 packets.W03 ∷ []) ≡ 4 ∷ [] }
+    ensures w03 { failing server W03 (Open ∷ gets lasting ∷ sends accepting ∷ sends_bad 48 packets.W03 ∷ gets_bad 48 packets.W03 ∷ sends_bad 48 packets.W04 ∷ []) ≡ 4 ∷ [] }
+    ensures w04 { failing server W04 (Open ∷ gets lasting ∷ sends accepting ∷ sends_bad 48 packets.W04 ∷ gets_bad 48 packets.W04 ∷ sends_bad 48 packets.W05 ∷ []) ≡ 4 ∷ [] }
+    ensures w05 { failing server W05 (Open ∷ gets lasting ∷ sends accepting ∷ sends_bad 48 packets.W05 ∷ gets_bad 48 packets.W05 ∷ sends_bad 48 packets.W06 ∷ []) ≡ 4 ∷ [] }
+    ensures w06 { failing server W06 (Open ∷ gets lasting ∷ sends accepting ∷ sends_bad 48 packets.W06 ∷ gets_bad 48 packets.W06 ∷ sends_bad 48 packets.W07 ∷ []) ≡ 4 ∷ [] }
+    ensures w07 { failing server W07 (Open ∷ gets lasting ∷ sends accepting ∷ sends_bad 48 packets.W07 ∷ gets_bad 48 packets.W07 ∷ sends_bad 48 packets.W08 ∷ []) ≡ 4 ∷ [] }
+    ensures w08 { failing server W08 (Open ∷ gets lasting ∷ sends accepting ∷ sends_bad 48 packets.W08 ∷ gets_bad 48 packets.W08 ∷ sends_bad 48 packets.W09 ∷ []) ≡ 4 ∷ [] }
+    ensures w09 { failing server W09 (Open ∷ gets lasting ∷ sends accepting ∷ sends_bad 48 packets.W09 ∷ gets_bad 48 packets.W09 ∷ sends_bad 48 packets.W10 ∷ []) ≡ 4 ∷ [] }
+    ensures w10 { failing server W10 (Open ∷ gets lasting ∷ sends accepting ∷ sends_bad 48 packets.W10 ∷ gets_bad 48 packets.W10 ∷ sends_bad 48 packets.W11 ∷ []) ≡ 4 ∷ [] }
+    ensures w11 { failing server W11 (Open ∷ gets lasting ∷ sends accepting ∷ sends_bad 48 packets.W11 ∷ gets_bad 48 packets.W11 ∷ sends_bad 48 packets.W12 ∷ []) ≡ 4 ∷ [] }
+    ensures w12 { failing server W12 (Open ∷ gets lasting ∷ sends accepting ∷ sends_bad 48 packets.W12 ∷ gets_bad 48 packets.W12 ∷ sends_bad 48 packets.W13 ∷ []) ≡ 4 ∷ [] }
+    ensures w13 { failing server W13 (Open ∷ gets lasting ∷ sends accepting ∷ sends_bad 48 packets.W13 ∷ gets_bad 48 packets.W13 ∷ sends_bad 48 packets.W14 ∷ []) ≡ 4 ∷ [] }
+    ensures w14 { failing server W14 (Open ∷ gets lasting ∷ sends accepting ∷ sends_bad 48 packets.W14 ∷ gets_bad 48 packets.W14 ∷ sends_bad 48 packets.W15 ∷ []) ≡ 4 ∷ [] }
+    ensures w15 { failing server W15 (Open ∷ gets lasting ∷ sends accepting ∷ sends_bad 48 packets.W15 ∷ gets_bad 48 packets.W15 ∷ sends_bad 48 packets.W16 ∷ []) ≡ 4 ∷ [] }
+    ensures w16 { failing server W16 (Open ∷ gets lasting ∷ sends accepting ∷ sends_bad 48 packets.W16 ∷ gets_bad 48 packets.W16 ∷ sends_bad 48 packets.W17 ∷ []) ≡ 4 ∷ [] }
+    ensures w17 { failing server W17 (Open ∷ gets lasting ∷ sends accepting ∷ sends_bad 48 packets.W17 ∷ gets_bad 48 packets.W17 ∷ sends_bad 48 packets.W18 ∷ []) ≡ 4 ∷ [] }
+    ensures w18 { failing server W18 (Open ∷ gets lasting ∷ sends accepting ∷ sends_bad 48 packets.W18 ∷ gets_bad 48 packets.W18 ∷ sends_bad 48 packets.W19 ∷ []) ≡ 4 ∷ [] }
+    ensures w19 { failing server W19 (Open ∷ gets lasting ∷ sends accepting ∷ sends_bad 48 packets.W19 ∷ gets_bad 48 packets.W19 ∷ sends_bad 48 packets.W20 ∷ []) ≡ 4 ∷ [] }
+    ensures w20 { failing server W20 (Open ∷ gets lasting ∷ sends accepting ∷ sends_bad 48 packets.W20 ∷ gets_bad 48 packets.W20 ∷ sends_bad 48 packets.W21 ∷ []) ≡ 4 ∷ [] }
+    ensures w21 { failing server W21 (Open ∷ gets lasting ∷ sends accepting ∷ sends_bad 48 packets.W21 ∷ gets_bad 48 packets.W21 ∷ sends_bad 48 packets.W01 ∷ []) ≡ 4 ∷ [] }
+    ensures lost { failing server W03 (Open ∷ gets lasting ∷ sends accepting ∷ sends_lost ∷ gets_lost ∷ []) ≡ 4 ∷ [] }
 {}
 
 /// An end sends what only the other end may send (C01).
 pub fn foreign_types()
-    ensures client_breaks { failing client C01 (Open ∷ sends kept ∷ gets accepted ∷ sends Pingresp ∷ []) ≡ 4 ∷ [] }
-    ensures client_keeps { failing client C01 (Open ∷ sends kept ∷ gets accepted ∷ sends Pingreq ∷ []) ≡ [] }
-    ensures client_breaks_by_bytes { failing client C01 (Open ∷ sends kept ∷ gets accepted ∷ sends_bad 144 packets.W09 ∷ []) ≡ 4 ∷ [] }
-    ensures server_breaks { failing server C01 (Open ∷ gets kept ∷ sends accepted ∷ sends Pingreq ∷ []) ≡ 4 ∷ [] }
-    ensures server_keeps { failing server C01 (Open ∷ gets kept ∷ sends accepted ∷ sends Pingresp ∷ []) ≡ [] }
+    ensures client_breaks { failing client C01 (Open ∷ sends lasting ∷ gets accepting ∷ sends Pingresp ∷ []) ≡ 4 ∷ [] }
+    ensures client_keeps { failing client C01 (Open ∷ sends lasting ∷ gets accepting ∷ sends Pingreq ∷ []) ≡ [] }
+    ensures client_breaks_by_bytes { failing client C01 (Open ∷ sends lasting ∷ gets accepting ∷ sends_bad 144 packets.W09 ∷ []) ≡ 4 ∷ [] }
+    ensures server_breaks { failing server C01 (Open ∷ gets lasting ∷ sends accepting ∷ sends Pingreq ∷ []) ≡ 4 ∷ [] }
+    ensures server_keeps { failing server C01 (Open ∷ gets lasting ∷ sends accepting ∷ sends Pingresp ∷ []) ≡ [] }
 {}
 
 /// A client begins a connection by one CONNECT (C02 and C03).
 pub fn connects()
-    ensures first_breaks { failing client C02 (Open ∷ sends Pingreq ∷ sends kept ∷ []) ≡ 2 ∷ [] }
-    ensures first_keeps { failing client C02 (Open ∷ sends kept ∷ sends Pingreq ∷ []) ≡ [] }
+    ensures first_breaks { failing client C02 (Open ∷ sends Pingreq ∷ sends lasting ∷ []) ≡ 2 ∷ [] }
+    ensures first_keeps { failing client C02 (Open ∷ sends lasting ∷ sends Pingreq ∷ []) ≡ [] }
     ensures first_keeps_by_bytes { failing client C02 (Open ∷ sends_bad 16 packets.W19 ∷ sends Pingreq ∷ []) ≡ [] }
-    ensures second_breaks { failing client C03 (Open ∷ sends kept ∷ gets accepted ∷ sends kept ∷ []) ≡ 4 ∷ [] }
-    ensures second_keeps { failing client C03 (Open ∷ sends kept ∷ gets accepted ∷ Close ∷ Open ∷ sends kept ∷ []) ≡ [] }
+    ensures second_breaks { failing client C03 (Open ∷ sends lasting ∷ gets accepting ∷ sends lasting ∷ []) ≡ 4 ∷ [] }
+    ensures second_keeps { failing client C03 (Open ∷ sends lasting ∷ gets accepting ∷ Close ∷ Open ∷ sends lasting ∷ []) ≡ [] }
 {}
 
 /// A server begins a connection by one CONNACK, after the CONNECT (C04 to C06).
 pub fn connacks()
-    ensures early_breaks { failing server C04 (Open ∷ sends accepted ∷ gets kept ∷ []) ≡ 2 ∷ [] }
-    ensures early_keeps { failing server C04 (Open ∷ gets kept ∷ sends accepted ∷ []) ≡ [] }
-    ensures first_breaks { failing server C05 (Open ∷ gets kept ∷ sends Pingresp ∷ sends accepted ∷ []) ≡ 3 ∷ [] }
-    ensures first_keeps { failing server C05 (Open ∷ gets kept ∷ sends Auth ∷ sends accepted ∷ sends Pingresp ∷ []) ≡ [] }
-    ensures second_breaks { failing server C06 (Open ∷ gets kept ∷ sends accepted ∷ sends accepted ∷ []) ≡ 4 ∷ [] }
-    ensures second_keeps { failing server C06 (Open ∷ gets kept ∷ sends accepted ∷ Close ∷ Open ∷ gets kept ∷ sends accepted ∷ []) ≡ [] }
+    ensures early_breaks { failing server C04 (Open ∷ sends accepting ∷ gets lasting ∷ []) ≡ 2 ∷ [] }
+    ensures early_keeps { failing server C04 (Open ∷ gets lasting ∷ sends accepting ∷ []) ≡ [] }
+    ensures first_breaks { failing server C05 (Open ∷ gets lasting ∷ sends Pingresp ∷ sends accepting ∷ []) ≡ 3 ∷ [] }
+    ensures first_keeps { failing server C05 (Open ∷ gets lasting ∷ sends Auth ∷ sends accepting ∷ sends Pingresp ∷ []) ≡ [] }
+    ensures second_breaks { failing server C06 (Open ∷ gets lasting ∷ sends accepting ∷ sends accepting ∷ []) ≡ 4 ∷ [] }
+    ensures second_keeps { failing server C06 (Open ∷ gets lasting ∷ sends accepting ∷ Close ∷ Open ∷ gets lasting ∷ sends accepting ∷ []) ≡ [] }
 {}
 
 /// A server resumes a session (C07 to C09).
 pub fn resumptions()
-    ensures clean_breaks { failing server C07 (Open ∷ gets kept ∷ sends accepted ∷ Close ∷ Open ∷ gets kept ∷ sends resumed ∷ []) ≡ 7 ∷ [] }
-    ensures clean_keeps { failing server C07 (Open ∷ gets kept ∷ sends accepted ∷ Close ∷ Open ∷ gets again ∷ sends resumed ∷ []) ≡ [] }
-    ensures alive_breaks { failing server C08 (Open ∷ gets fleeting ∷ sends accepted ∷ Close ∷ Open ∷ gets again ∷ sends resumed ∷ []) ≡ 7 ∷ [] }
-    ensures alive_keeps { failing server C08 (Open ∷ gets kept ∷ sends accepted ∷ Close ∷ Open ∷ gets again ∷ sends resumed ∷ []) ≡ [] }
-    ensures alive_keeps_unanswered { failing server C08 (Open ∷ gets kept ∷ Close ∷ Open ∷ gets again ∷ sends resumed ∷ []) ≡ [] }
-    ensures alive_breaks_refused { failing server C08 (Open ∷ gets kept ∷ sends refused ∷ Close ∷ Open ∷ gets again ∷ sends resumed ∷ []) ≡ 7 ∷ [] }
-    ensures alive_breaks_disconnected { failing server C08 (Open ∷ gets kept ∷ sends accepted ∷ gets (Disconnect (Some 0)) ∷ Close ∷ Open ∷ gets again ∷ sends resumed ∷ []) ≡ 8 ∷ [] }
-    ensures refusal_breaks { failing server C09 (Open ∷ gets again ∷ sends (connack true 135) ∷ []) ≡ 3 ∷ [] }
-    ensures refusal_keeps { failing server C09 (Open ∷ gets again ∷ sends refused ∷ []) ≡ [] }
+    ensures clean_breaks { failing server C07 (Open ∷ gets lasting ∷ sends accepting ∷ Close ∷ Open ∷ gets lasting ∷ sends resuming ∷ []) ≡ 7 ∷ [] }
+    ensures clean_keeps { failing server C07 (Open ∷ gets lasting ∷ sends accepting ∷ Close ∷ Open ∷ gets again ∷ sends resuming ∷ []) ≡ [] }
+    ensures alive_breaks { failing server C08 (Open ∷ gets fleeting ∷ sends accepting ∷ Close ∷ Open ∷ gets again ∷ sends resuming ∷ []) ≡ 7 ∷ [] }
+    ensures alive_keeps { failing server C08 (Open ∷ gets lasting ∷ sends accepting ∷ Close ∷ Open ∷ gets again ∷ sends resuming ∷ []) ≡ [] }
+    ensures alive_keeps_unanswered { failing server C08 (Open ∷ gets lasting ∷ Close ∷ Open ∷ gets again ∷ sends resuming ∷ []) ≡ [] }
+    ensures alive_breaks_refused { failing server C08 (Open ∷ gets lasting ∷ sends refusing ∷ Close ∷ Open ∷ gets again ∷ sends resuming ∷ []) ≡ 7 ∷ [] }
+    ensures alive_breaks_disconnected { failing server C08 (Open ∷ gets lasting ∷ sends accepting ∷ gets (Disconnect (Some 0)) ∷ Close ∷ Open ∷ gets again ∷ sends resuming ∷ []) ≡ 8 ∷ [] }
+    ensures refusal_breaks { failing server C09 (Open ∷ gets again ∷ sends (connack_with true 135) ∷ []) ≡ 3 ∷ [] }
+    ensures refusal_keeps { failing server C09 (Open ∷ gets again ∷ sends refusing ∷ []) ≡ [] }
 {}
 
 /// What a server puts into its CONNACK and explains (C10, C21 and C22).
 pub fn answers_to_connect()
-    ensures unnamed_breaks { failing server C10 (Open ∷ gets unnamed ∷ sends accepted ∷ []) ≡ 3 ∷ [] }
+    ensures unnamed_breaks { failing server C10 (Open ∷ gets unnamed ∷ sends accepting ∷ []) ≡ 3 ∷ [] }
     ensures unnamed_keeps { failing server C10 (Open ∷ gets unnamed ∷ sends assigning ∷ []) ≡ [] }
-    ensures explained_breaks { failing server C21 (Open ∷ gets (asking (Some 0) None None None None) ∷ sends accepted ∷ sends_explained Auth ∷ []) ≡ 4 ∷ [] }
-    ensures explained_keeps { failing server C21 (Open ∷ gets (asking (Some 1) None None None None) ∷ sends accepted ∷ sends_explained Auth ∷ []) ≡ [] }
-    ensures explained_keeps_disconnect { failing server C21 (Open ∷ gets (asking (Some 0) None None None None) ∷ sends_explained accepted ∷ sends_explained (Disconnect None) ∷ []) ≡ [] }
-    ensures informed_breaks { failing server C22 (Open ∷ gets kept ∷ sends informing ∷ []) ≡ 3 ∷ [] }
+    ensures explained_breaks { failing server C21 (Open ∷ gets (asking (Some 0) None None None None) ∷ sends accepting ∷ sends_explained Auth ∷ []) ≡ 4 ∷ [] }
+    ensures explained_keeps { failing server C21 (Open ∷ gets (asking (Some 1) None None None None) ∷ sends accepting ∷ sends_explained Auth ∷ []) ≡ [] }
+    ensures explained_keeps_disconnect { failing server C21 (Open ∷ gets (asking (Some 0) None None None None) ∷ sends_explained accepting ∷ sends_explained (Disconnect None) ∷ []) ≡ [] }
+    ensures informed_breaks { failing server C22 (Open ∷ gets lasting ∷ sends informing ∷ []) ≡ 3 ∷ [] }
     ensures informed_keeps { failing server C22 (Open ∷ gets (asking None (Some 1) None None None) ∷ sends informing ∷ []) ≡ [] }
 {}
 
 /// What an end does after its last packet (C11, C12 and C23).
 pub fn ended_connections()
-    ensures client_breaks { failing client C11 (Open ∷ sends kept ∷ gets accepted ∷ sends (Disconnect None) ∷ sends Pingreq ∷ []) ≡ 5 ∷ [] }
-    ensures client_keeps { failing client C11 (Open ∷ sends kept ∷ gets accepted ∷ sends Pingreq ∷ sends (Disconnect None) ∷ []) ≡ [] }
-    ensures client_keeps_received { failing client C11 (Open ∷ sends kept ∷ gets accepted ∷ gets (Disconnect None) ∷ sends Pingreq ∷ []) ≡ [] }
-    ensures server_breaks { failing server C11 (Open ∷ gets kept ∷ sends accepted ∷ sends (Disconnect None) ∷ sends Pingresp ∷ []) ≡ 5 ∷ [] }
-    ensures server_keeps { failing server C11 (Open ∷ gets kept ∷ sends accepted ∷ sends Pingresp ∷ sends (Disconnect None) ∷ []) ≡ [] }
-    ensures refused_breaks { failing server C12 (Open ∷ gets kept ∷ sends refused ∷ sends Pingresp ∷ []) ≡ 4 ∷ [] }
-    ensures refused_keeps { failing server C12 (Open ∷ gets kept ∷ sends accepted ∷ sends Pingresp ∷ []) ≡ [] }
-    ensures client_rests { failing client C23 (Open ∷ sends kept ∷ gets accepted ∷ sends (Disconnect None) ∷ Rest ∷ []) ≡ 5 ∷ [] }
-    ensures client_rests_before { failing client C23 (Open ∷ sends kept ∷ gets accepted ∷ Rest ∷ sends (Disconnect None) ∷ []) ≡ [] }
-    ensures server_rests { failing server C23 (Open ∷ gets kept ∷ sends refused ∷ Rest ∷ []) ≡ 4 ∷ [] }
-    ensures server_rests_before { failing server C23 (Open ∷ gets kept ∷ sends accepted ∷ Rest ∷ sends (Disconnect None) ∷ []) ≡ [] }
+    ensures client_breaks { failing client C11 (Open ∷ sends lasting ∷ gets accepting ∷ sends (Disconnect None) ∷ sends Pingreq ∷ []) ≡ 5 ∷ [] }
+    ensures client_keeps { failing client C11 (Open ∷ sends lasting ∷ gets accepting ∷ sends Pingreq ∷ sends (Disconnect None) ∷ []) ≡ [] }
+    ensures client_keeps_received { failing client C11 (Open ∷ sends lasting ∷ gets accepting ∷ gets (Disconnect None) ∷ sends Pingreq ∷ []) ≡ [] }
+    ensures server_breaks { failing server C11 (Open ∷ gets lasting ∷ sends accepting ∷ sends (Disconnect None) ∷ sends Pingresp ∷ []) ≡ 5 ∷ [] }
+    ensures server_keeps { failing server C11 (Open ∷ gets lasting ∷ sends accepting ∷ sends Pingresp ∷ sends (Disconnect None) ∷ []) ≡ [] }
+    ensures refused_breaks { failing server C12 (Open ∷ gets lasting ∷ sends refusing ∷ sends Pingresp ∷ []) ≡ 4 ∷ [] }
+    ensures refused_keeps { failing server C12 (Open ∷ gets lasting ∷ sends accepting ∷ sends Pingresp ∷ []) ≡ [] }
+    ensures client_rests { failing client C23 (Open ∷ sends lasting ∷ gets accepting ∷ sends (Disconnect None) ∷ Rest ∷ []) ≡ 5 ∷ [] }
+    ensures client_rests_before { failing client C23 (Open ∷ sends lasting ∷ gets accepting ∷ Rest ∷ sends (Disconnect None) ∷ []) ≡ [] }
+    ensures server_rests { failing server C23 (Open ∷ gets lasting ∷ sends refusing ∷ Rest ∷ []) ≡ 4 ∷ [] }
+    ensures server_rests_before { failing server C23 (Open ∷ gets lasting ∷ sends accepting ∷ Rest ∷ sends (Disconnect None) ∷ []) ≡ [] }
 {}
 
 /// A client continues a session that it doesn't have (C13).
 pub fn unknown_sessions()
-    ensures breaks { failing client C13 (Open ∷ sends kept ∷ gets resumed ∷ sends Pingreq ∷ []) ≡ 4 ∷ [] }
-    ensures keeps { failing client C13 (Open ∷ sends kept ∷ gets resumed ∷ sends (Disconnect None) ∷ []) ≡ [] }
-    ensures clean_breaks { failing client C13 (Open ∷ sends kept ∷ gets accepted ∷ Close ∷ Open ∷ sends kept ∷ gets resumed ∷ sends Pingreq ∷ []) ≡ 8 ∷ [] }
-    ensures keeps_alive { failing client C13 (Open ∷ sends kept ∷ gets accepted ∷ Close ∷ Open ∷ sends again ∷ gets resumed ∷ sends Pingreq ∷ []) ≡ [] }
-    ensures ended_breaks { failing client C13 (Open ∷ sends fleeting ∷ gets accepted ∷ Close ∷ Open ∷ sends again ∷ gets resumed ∷ sends Pingreq ∷ []) ≡ 8 ∷ [] }
-    ensures keeps_unanswered { failing client C13 (Open ∷ sends kept ∷ Close ∷ Open ∷ sends again ∷ gets resumed ∷ sends Pingreq ∷ []) ≡ [] }
+    ensures breaks { failing client C13 (Open ∷ sends lasting ∷ gets resuming ∷ sends Pingreq ∷ []) ≡ 4 ∷ [] }
+    ensures keeps { failing client C13 (Open ∷ sends lasting ∷ gets resuming ∷ sends (Disconnect None) ∷ []) ≡ [] }
+    ensures clean_breaks { failing client C13 (Open ∷ sends lasting ∷ gets accepting ∷ Close ∷ Open ∷ sends lasting ∷ gets resuming ∷ sends Pingreq ∷ []) ≡ 8 ∷ [] }
+    ensures keeps_alive { failing client C13 (Open ∷ sends lasting ∷ gets accepting ∷ Close ∷ Open ∷ sends again ∷ gets resuming ∷ sends Pingreq ∷ []) ≡ [] }
+    ensures ended_breaks { failing client C13 (Open ∷ sends fleeting ∷ gets accepting ∷ Close ∷ Open ∷ sends again ∷ gets resuming ∷ sends Pingreq ∷ []) ≡ 8 ∷ [] }
+    ensures keeps_unanswered { failing client C13 (Open ∷ sends lasting ∷ Close ∷ Open ∷ sends again ∷ gets resuming ∷ sends Pingreq ∷ []) ≡ [] }
 {}
 
 /// What the peer lets an end send (C14, C15 and C17).
 pub fn peer_limits()
-    ensures client_size_breaks { failing client C14 (Open ∷ sends kept ∷ gets (limiting false None None None (Some 10)) ∷ sends_sized 11 publish ∷ []) ≡ 4 ∷ [] }
-    ensures client_size_keeps { failing client C14 (Open ∷ sends kept ∷ gets (limiting false None None None (Some 10)) ∷ sends_sized 10 publish ∷ []) ≡ [] }
-    ensures server_size_breaks { failing server C14 (Open ∷ gets (asking None None None None (Some 10)) ∷ sends accepted ∷ sends_sized 11 publish ∷ []) ≡ 4 ∷ [] }
-    ensures server_size_keeps { failing server C14 (Open ∷ gets (asking None None None None (Some 10)) ∷ sends accepted ∷ sends_sized 10 publish ∷ []) ≡ [] }
-    ensures client_alias_breaks { failing client C15 (Open ∷ sends kept ∷ gets (limiting false None (Some 5) None None) ∷ sends (aliased (97 ∷ []) 6) ∷ []) ≡ 4 ∷ [] }
-    ensures client_alias_keeps { failing client C15 (Open ∷ sends kept ∷ gets (limiting false None (Some 5) None None) ∷ sends (aliased (97 ∷ []) 5) ∷ []) ≡ [] }
-    ensures server_alias_breaks { failing server C15 (Open ∷ gets (asking None None None (Some 5) None) ∷ sends accepted ∷ sends (aliased (97 ∷ []) 6) ∷ []) ≡ 4 ∷ [] }
-    ensures server_alias_keeps { failing server C15 (Open ∷ gets (asking None None None (Some 5) None) ∷ sends accepted ∷ sends (aliased (97 ∷ []) 5) ∷ []) ≡ [] }
-    ensures qos_breaks { failing client C17 (Open ∷ sends kept ∷ gets (limiting false None None (Some 1) None) ∷ sends (exactly false 1) ∷ []) ≡ 4 ∷ [] }
-    ensures qos_keeps { failing client C17 (Open ∷ sends kept ∷ gets (limiting false None None (Some 1) None) ∷ sends (once false 1) ∷ []) ≡ [] }
+    ensures client_size_breaks { failing client C14 (Open ∷ sends lasting ∷ gets (limiting false None None None (Some 10)) ∷ sends_sized 11 at_most_once ∷ []) ≡ 4 ∷ [] }
+    ensures client_size_keeps { failing client C14 (Open ∷ sends lasting ∷ gets (limiting false None None None (Some 10)) ∷ sends_sized 10 at_most_once ∷ []) ≡ [] }
+    ensures server_size_breaks { failing server C14 (Open ∷ gets (asking None None None None (Some 10)) ∷ sends accepting ∷ sends_sized 11 at_most_once ∷ []) ≡ 4 ∷ [] }
+    ensures server_size_keeps { failing server C14 (Open ∷ gets (asking None None None None (Some 10)) ∷ sends accepting ∷ sends_sized 10 at_most_once ∷ []) ≡ [] }
+    ensures client_alias_breaks { failing client C15 (Open ∷ sends lasting ∷ gets (limiting false None (Some 5) None None) ∷ sends (aliased (97 ∷ []) 6) ∷ []) ≡ 4 ∷ [] }
+    ensures client_alias_keeps { failing client C15 (Open ∷ sends lasting ∷ gets (limiting false None (Some 5) None None) ∷ sends (aliased (97 ∷ []) 5) ∷ []) ≡ [] }
+    ensures server_alias_breaks { failing server C15 (Open ∷ gets (asking None None None (Some 5) None) ∷ sends accepting ∷ sends (aliased (97 ∷ []) 6) ∷ []) ≡ 4 ∷ [] }
+    ensures server_alias_keeps { failing server C15 (Open ∷ gets (asking None None None (Some 5) None) ∷ sends accepting ∷ sends (aliased (97 ∷ []) 5) ∷ []) ≡ [] }
+    ensures qos_breaks { failing client C17 (Open ∷ sends lasting ∷ gets (limiting false None None (Some 1) None) ∷ sends (exactly false 1) ∷ []) ≡ 4 ∷ [] }
+    ensures qos_keeps { failing client C17 (Open ∷ sends lasting ∷ gets (limiting false None None (Some 1) None) ∷ sends (once false 1) ∷ []) ≡ [] }
 {}
 
 /// An end sends a Topic Alias that has no topic (C16).
 pub fn aliases()
-    ensures client_breaks { failing client C16 (Open ∷ sends kept ∷ gets accepted ∷ sends (aliased [] 1) ∷ []) ≡ 4 ∷ [] }
-    ensures client_keeps { failing client C16 (Open ∷ sends kept ∷ gets accepted ∷ sends (aliased (97 ∷ []) 1) ∷ sends (aliased [] 1) ∷ []) ≡ [] }
+    ensures client_breaks { failing client C16 (Open ∷ sends lasting ∷ gets accepting ∷ sends (aliased [] 1) ∷ []) ≡ 4 ∷ [] }
+    ensures client_keeps { failing client C16 (Open ∷ sends lasting ∷ gets accepting ∷ sends (aliased (97 ∷ []) 1) ∷ sends (aliased [] 1) ∷ []) ≡ [] }
     ensures client_breaks_anew { failing client C16 (Open ∷ sends (aliased (97 ∷ []) 1) ∷ Close ∷ Open ∷ sends (aliased [] 1) ∷ []) ≡ 5 ∷ [] }
-    ensures server_breaks { failing server C16 (Open ∷ gets kept ∷ sends accepted ∷ sends (aliased (97 ∷ []) 2) ∷ sends (aliased [] 1) ∷ []) ≡ 5 ∷ [] }
-    ensures server_keeps { failing server C16 (Open ∷ gets kept ∷ sends accepted ∷ sends (aliased (97 ∷ []) 1) ∷ sends (aliased [] 1) ∷ []) ≡ [] }
+    ensures server_breaks { failing server C16 (Open ∷ gets lasting ∷ sends accepting ∷ sends (aliased (97 ∷ []) 2) ∷ sends (aliased [] 1) ∷ []) ≡ 5 ∷ [] }
+    ensures server_keeps { failing server C16 (Open ∷ gets lasting ∷ sends accepting ∷ sends (aliased (97 ∷ []) 1) ∷ sends (aliased [] 1) ∷ []) ≡ [] }
 {}
 
 /// Properties that an end may not send (C18 to C20).
 pub fn properties()
-    ensures subscription_breaks { failing client C18 (Open ∷ sends kept ∷ gets accepted ∷ sends subscribed ∷ []) ≡ 4 ∷ [] }
-    ensures subscription_keeps { failing client C18 (Open ∷ sends kept ∷ gets accepted ∷ sends publish ∷ []) ≡ [] }
-    ensures server_expiry_breaks { failing server C19 (Open ∷ gets kept ∷ sends accepted ∷ sends (Disconnect (Some 0)) ∷ []) ≡ 4 ∷ [] }
-    ensures server_expiry_keeps { failing server C19 (Open ∷ gets kept ∷ sends accepted ∷ sends (Disconnect None) ∷ []) ≡ [] }
-    ensures client_expiry_breaks { failing client C20 (Open ∷ sends fleeting ∷ gets accepted ∷ sends (Disconnect (Some 60)) ∷ []) ≡ 4 ∷ [] }
-    ensures client_expiry_keeps { failing client C20 (Open ∷ sends kept ∷ gets accepted ∷ sends (Disconnect (Some 60)) ∷ []) ≡ [] }
-    ensures client_expiry_keeps_ending { failing client C20 (Open ∷ sends fleeting ∷ gets accepted ∷ sends (Disconnect (Some 0)) ∷ []) ≡ [] }
+    ensures subscription_breaks { failing client C18 (Open ∷ sends lasting ∷ gets accepting ∷ sends subscribed ∷ []) ≡ 4 ∷ [] }
+    ensures subscription_keeps { failing client C18 (Open ∷ sends lasting ∷ gets accepting ∷ sends at_most_once ∷ []) ≡ [] }
+    ensures server_expiry_breaks { failing server C19 (Open ∷ gets lasting ∷ sends accepting ∷ sends (Disconnect (Some 0)) ∷ []) ≡ 4 ∷ [] }
+    ensures server_expiry_keeps { failing server C19 (Open ∷ gets lasting ∷ sends accepting ∷ sends (Disconnect None) ∷ []) ≡ [] }
+    ensures client_expiry_breaks { failing client C20 (Open ∷ sends fleeting ∷ gets accepting ∷ sends (Disconnect (Some 60)) ∷ []) ≡ 4 ∷ [] }
+    ensures client_expiry_keeps { failing client C20 (Open ∷ sends lasting ∷ gets accepting ∷ sends (Disconnect (Some 60)) ∷ []) ≡ [] }
+    ensures client_expiry_keeps_ending { failing client C20 (Open ∷ sends fleeting ∷ gets accepting ∷ sends (Disconnect (Some 0)) ∷ []) ≡ [] }
 {}
 
 /// An end takes a Packet Identifier that is in use (S01).
 pub fn identifiers_in_use()
-    ensures client_breaks { failing client S01 (Open ∷ sends kept ∷ gets accepted ∷ sends (once false 1) ∷ sends (once false 1) ∷ []) ≡ 5 ∷ [] }
-    ensures client_keeps { failing client S01 (Open ∷ sends kept ∷ gets accepted ∷ sends (once false 1) ∷ gets (Puback 1 0) ∷ sends (once false 1) ∷ []) ≡ [] }
-    ensures client_breaks_pubrec { failing client S01 (Open ∷ sends kept ∷ gets accepted ∷ sends (exactly false 1) ∷ gets (Pubrec 1 0) ∷ sends (exactly false 1) ∷ []) ≡ 6 ∷ [] }
-    ensures client_keeps_refused { failing client S01 (Open ∷ sends kept ∷ gets accepted ∷ sends (exactly false 1) ∷ gets (Pubrec 1 128) ∷ sends (exactly false 1) ∷ []) ≡ [] }
-    ensures client_breaks_resumed { failing client S01 (Open ∷ sends kept ∷ gets accepted ∷ sends (once false 1) ∷ Close ∷ Open ∷ sends again ∷ gets resumed ∷ sends (once false 1) ∷ []) ≡ 9 ∷ [] }
-    ensures client_keeps_anew { failing client S01 (Open ∷ sends kept ∷ gets accepted ∷ sends (once false 1) ∷ Close ∷ Open ∷ sends again ∷ gets accepted ∷ sends (once false 1) ∷ []) ≡ [] }
-    ensures client_subscribes_breaks { failing client S01 (Open ∷ sends kept ∷ gets accepted ∷ sends (asks_a 1 0) ∷ sends (asks_a 1 0) ∷ []) ≡ 5 ∷ [] }
-    ensures client_subscribes_keeps { failing client S01 (Open ∷ sends kept ∷ gets accepted ∷ sends (asks_a 1 0) ∷ gets (Suback 1 []) ∷ sends (asks_a 1 0) ∷ []) ≡ [] }
-    ensures client_breaks_void_closer { failing client S01 (Open ∷ sends kept ∷ gets accepted ∷ sends (once false 1) ∷ Close ∷ Open ∷ sends again ∷ gets refused ∷ gets (Puback 1 0) ∷ Close ∷ Open ∷ sends again ∷ gets resumed ∷ sends (once false 1) ∷ []) ≡ 14 ∷ [] }
-    ensures server_breaks { failing server S01 (Open ∷ gets kept ∷ sends accepted ∷ sends (once false 1) ∷ sends (once false 1) ∷ []) ≡ 5 ∷ [] }
-    ensures server_keeps { failing server S01 (Open ∷ gets kept ∷ sends accepted ∷ sends (once false 1) ∷ gets (Puback 1 0) ∷ sends (once false 1) ∷ []) ≡ [] }
+    ensures client_breaks { failing client S01 (Open ∷ sends lasting ∷ gets accepting ∷ sends (once false 1) ∷ sends (once false 1) ∷ []) ≡ 5 ∷ [] }
+    ensures client_keeps { failing client S01 (Open ∷ sends lasting ∷ gets accepting ∷ sends (once false 1) ∷ gets (Puback 1 0) ∷ sends (once false 1) ∷ []) ≡ [] }
+    ensures client_breaks_pubrec { failing client S01 (Open ∷ sends lasting ∷ gets accepting ∷ sends (exactly false 1) ∷ gets (Pubrec 1 0) ∷ sends (exactly false 1) ∷ []) ≡ 6 ∷ [] }
+    ensures client_keeps_refused { failing client S01 (Open ∷ sends lasting ∷ gets accepting ∷ sends (exactly false 1) ∷ gets (Pubrec 1 128) ∷ sends (exactly false 1) ∷ []) ≡ [] }
+    ensures client_breaks_resumed { failing client S01 (Open ∷ sends lasting ∷ gets accepting ∷ sends (once false 1) ∷ Close ∷ Open ∷ sends again ∷ gets resuming ∷ sends (once false 1) ∷ []) ≡ 9 ∷ [] }
+    ensures client_keeps_anew { failing client S01 (Open ∷ sends lasting ∷ gets accepting ∷ sends (once false 1) ∷ Close ∷ Open ∷ sends again ∷ gets accepting ∷ sends (once false 1) ∷ []) ≡ [] }
+    ensures client_subscribes_breaks { failing client S01 (Open ∷ sends lasting ∷ gets accepting ∷ sends (asks_a 1 0) ∷ sends (asks_a 1 0) ∷ []) ≡ 5 ∷ [] }
+    ensures client_subscribes_keeps { failing client S01 (Open ∷ sends lasting ∷ gets accepting ∷ sends (asks_a 1 0) ∷ gets (Suback 1 []) ∷ sends (asks_a 1 0) ∷ []) ≡ [] }
+    ensures client_breaks_void_closer { failing client S01 (Open ∷ sends lasting ∷ gets accepting ∷ sends (once false 1) ∷ Close ∷ Open ∷ sends again ∷ gets refusing ∷ gets (Puback 1 0) ∷ Close ∷ Open ∷ sends again ∷ gets resuming ∷ sends (once false 1) ∷ []) ≡ 14 ∷ [] }
+    ensures server_breaks { failing server S01 (Open ∷ gets lasting ∷ sends accepting ∷ sends (once false 1) ∷ sends (once false 1) ∷ []) ≡ 5 ∷ [] }
+    ensures server_keeps { failing server S01 (Open ∷ gets lasting ∷ sends accepting ∷ sends (once false 1) ∷ gets (Puback 1 0) ∷ sends (once false 1) ∷ []) ≡ [] }
 {}
 
 /// What an end sends again (S02 to S05).
 pub fn resends()
-    ensures unknown_breaks { failing client S02 (Open ∷ sends kept ∷ gets accepted ∷ sends (once false 1) ∷ Close ∷ Open ∷ sends again ∷ gets accepted ∷ sends (once true 1) ∷ []) ≡ 9 ∷ [] }
-    ensures unknown_keeps { failing client S02 (Open ∷ sends kept ∷ gets accepted ∷ sends (once false 1) ∷ Close ∷ Open ∷ sends again ∷ gets resumed ∷ sends (once true 1) ∷ []) ≡ [] }
-    ensures void_keeps { failing client S02 (Open ∷ sends kept ∷ gets refused ∷ sends (once false 1) ∷ Close ∷ Open ∷ sends again ∷ gets accepted ∷ sends (once true 1) ∷ []) ≡ [] }
-    ensures server_unknown_breaks { failing server S02 (Open ∷ gets kept ∷ sends accepted ∷ sends (once true 1) ∷ []) ≡ 4 ∷ [] }
-    ensures server_unknown_keeps { failing server S02 (Open ∷ gets kept ∷ sends accepted ∷ sends (once false 1) ∷ Close ∷ Open ∷ gets again ∷ sends resumed ∷ sends (once true 1) ∷ []) ≡ [] }
-    ensures same_breaks { failing client S03 (Open ∷ sends kept ∷ gets accepted ∷ sends (once false 1) ∷ sends (once true 1) ∷ []) ≡ 5 ∷ [] }
-    ensures same_keeps { failing client S03 (Open ∷ sends kept ∷ gets accepted ∷ sends (once false 1) ∷ Close ∷ Open ∷ sends again ∷ gets resumed ∷ sends (once true 1) ∷ []) ≡ [] }
-    ensures server_same_breaks { failing server S03 (Open ∷ gets kept ∷ sends accepted ∷ sends (once false 1) ∷ sends (once true 1) ∷ []) ≡ 5 ∷ [] }
-    ensures server_same_keeps { failing server S03 (Open ∷ gets kept ∷ sends accepted ∷ sends (once false 1) ∷ Close ∷ Open ∷ gets again ∷ sends resumed ∷ sends (once true 1) ∷ []) ≡ [] }
-    ensures released_breaks { failing client S04 (Open ∷ sends kept ∷ gets accepted ∷ sends (exactly false 1) ∷ gets (Pubrec 1 0) ∷ sends (Pubrel 1 0) ∷ Close ∷ Open ∷ sends again ∷ gets resumed ∷ sends (exactly true 1) ∷ []) ≡ 11 ∷ [] }
-    ensures released_keeps { failing client S04 (Open ∷ sends kept ∷ gets accepted ∷ sends (exactly false 1) ∷ gets (Pubrec 1 0) ∷ Close ∷ Open ∷ sends again ∷ gets resumed ∷ sends (exactly true 1) ∷ []) ≡ [] }
-    ensures server_released_breaks { failing server S04 (Open ∷ gets kept ∷ sends accepted ∷ sends (exactly false 1) ∷ gets (Pubrec 1 0) ∷ sends (Pubrel 1 0) ∷ Close ∷ Open ∷ gets again ∷ sends resumed ∷ sends (exactly true 1) ∷ []) ≡ 11 ∷ [] }
-    ensures server_released_keeps { failing server S04 (Open ∷ gets kept ∷ sends accepted ∷ sends (exactly false 1) ∷ gets (Pubrec 1 0) ∷ Close ∷ Open ∷ gets again ∷ sends resumed ∷ sends (exactly true 1) ∷ []) ≡ [] }
-    ensures order_breaks { failing client S05 (Open ∷ sends kept ∷ gets accepted ∷ sends (once false 1) ∷ sends (once false 2) ∷ Close ∷ Open ∷ sends again ∷ gets resumed ∷ sends (once true 2) ∷ sends (once true 1) ∷ []) ≡ 11 ∷ [] }
-    ensures order_keeps { failing client S05 (Open ∷ sends kept ∷ gets accepted ∷ sends (once false 1) ∷ sends (once false 2) ∷ Close ∷ Open ∷ sends again ∷ gets resumed ∷ sends (once true 1) ∷ sends (once true 2) ∷ []) ≡ [] }
+    ensures unknown_breaks { failing client S02 (Open ∷ sends lasting ∷ gets accepting ∷ sends (once false 1) ∷ Close ∷ Open ∷ sends again ∷ gets accepting ∷ sends (once true 1) ∷ []) ≡ 9 ∷ [] }
+    ensures unknown_keeps { failing client S02 (Open ∷ sends lasting ∷ gets accepting ∷ sends (once false 1) ∷ Close ∷ Open ∷ sends again ∷ gets resuming ∷ sends (once true 1) ∷ []) ≡ [] }
+    ensures void_keeps { failing client S02 (Open ∷ sends lasting ∷ gets refusing ∷ sends (once false 1) ∷ Close ∷ Open ∷ sends again ∷ gets accepting ∷ sends (once true 1) ∷ []) ≡ [] }
+    ensures server_unknown_breaks { failing server S02 (Open ∷ gets lasting ∷ sends accepting ∷ sends (once true 1) ∷ []) ≡ 4 ∷ [] }
+    ensures server_unknown_keeps { failing server S02 (Open ∷ gets lasting ∷ sends accepting ∷ sends (once false 1) ∷ Close ∷ Open ∷ gets again ∷ sends resuming ∷ sends (once true 1) ∷ []) ≡ [] }
+    ensures same_breaks { failing client S03 (Open ∷ sends lasting ∷ gets accepting ∷ sends (once false 1) ∷ sends (once true 1) ∷ []) ≡ 5 ∷ [] }
+    ensures same_keeps { failing client S03 (Open ∷ sends lasting ∷ gets accepting ∷ sends (once false 1) ∷ Close ∷ Open ∷ sends again ∷ gets resuming ∷ sends (once true 1) ∷ []) ≡ [] }
+    ensures server_same_breaks { failing server S03 (Open ∷ gets lasting ∷ sends accepting ∷ sends (once false 1) ∷ sends (once true 1) ∷ []) ≡ 5 ∷ [] }
+    ensures server_same_keeps { failing server S03 (Open ∷ gets lasting ∷ sends accepting ∷ sends (once false 1) ∷ Close ∷ Open ∷ gets again ∷ sends resuming ∷ sends (once true 1) ∷ []) ≡ [] }
+    ensures released_breaks { failing client S04 (Open ∷ sends lasting ∷ gets accepting ∷ sends (exactly false 1) ∷ gets (Pubrec 1 0) ∷ sends (Pubrel 1 0) ∷ Close ∷ Open ∷ sends again ∷ gets resuming ∷ sends (exactly true 1) ∷ []) ≡ 11 ∷ [] }
+    ensures released_keeps { failing client S04 (Open ∷ sends lasting ∷ gets accepting ∷ sends (exactly false 1) ∷ gets (Pubrec 1 0) ∷ Close ∷ Open ∷ sends again ∷ gets resuming ∷ sends (exactly true 1) ∷ []) ≡ [] }
+    ensures server_released_breaks { failing server S04 (Open ∷ gets lasting ∷ sends accepting ∷ sends (exactly false 1) ∷ gets (Pubrec 1 0) ∷ sends (Pubrel 1 0) ∷ Close ∷ Open ∷ gets again ∷ sends resuming ∷ sends (exactly true 1) ∷ []) ≡ 11 ∷ [] }
+    ensures server_released_keeps { failing server S04 (Open ∷ gets lasting ∷ sends accepting ∷ sends (exactly false 1) ∷ gets (Pubrec 1 0) ∷ Close ∷ Open ∷ gets again ∷ sends resuming ∷ sends (exactly true 1) ∷ []) ≡ [] }
+    ensures order_breaks { failing client S05 (Open ∷ sends lasting ∷ gets accepting ∷ sends (once false 1) ∷ sends (once false 2) ∷ Close ∷ Open ∷ sends again ∷ gets resuming ∷ sends (once true 2) ∷ sends (once true 1) ∷ []) ≡ 11 ∷ [] }
+    ensures order_keeps { failing client S05 (Open ∷ sends lasting ∷ gets accepting ∷ sends (once false 1) ∷ sends (once false 2) ∷ Close ∷ Open ∷ sends again ∷ gets resuming ∷ sends (once true 1) ∷ sends (once true 2) ∷ []) ≡ [] }
 {}
 
 /// What an end owes a session that is resumed (S06).
 pub fn redelivery()
-    ensures breaks { failing client S06 (Open ∷ sends kept ∷ gets accepted ∷ sends (once false 1) ∷ Close ∷ Open ∷ sends again ∷ gets resumed ∷ Rest ∷ []) ≡ 4 ∷ [] }
-    ensures keeps { failing client S06 (Open ∷ sends kept ∷ gets accepted ∷ sends (once false 1) ∷ Close ∷ Open ∷ sends again ∷ gets resumed ∷ sends (once true 1) ∷ Rest ∷ []) ≡ [] }
-    ensures keeps_announced { failing client S06 (Open ∷ sends kept ∷ gets accepted ∷ sends (once false 1) ∷ Close ∷ Open ∷ sends again ∷ gets (limiting true None None (Some 1) None) ∷ Rest ∷ []) ≡ [] }
-    ensures server_breaks { failing server S06 (Open ∷ gets kept ∷ sends accepted ∷ sends (once false 1) ∷ Close ∷ Open ∷ gets again ∷ sends resumed ∷ Rest ∷ []) ≡ 4 ∷ [] }
-    ensures server_keeps { failing server S06 (Open ∷ gets kept ∷ sends accepted ∷ sends (once false 1) ∷ Close ∷ Open ∷ gets again ∷ sends resumed ∷ sends (once true 1) ∷ Rest ∷ []) ≡ [] }
+    ensures breaks { failing client S06 (Open ∷ sends lasting ∷ gets accepting ∷ sends (once false 1) ∷ Close ∷ Open ∷ sends again ∷ gets resuming ∷ Rest ∷ []) ≡ 4 ∷ [] }
+    ensures keeps { failing client S06 (Open ∷ sends lasting ∷ gets accepting ∷ sends (once false 1) ∷ Close ∷ Open ∷ sends again ∷ gets resuming ∷ sends (once true 1) ∷ Rest ∷ []) ≡ [] }
+    ensures keeps_announced { failing client S06 (Open ∷ sends lasting ∷ gets accepting ∷ sends (once false 1) ∷ Close ∷ Open ∷ sends again ∷ gets (limiting true None None (Some 1) None) ∷ Rest ∷ []) ≡ [] }
+    ensures server_breaks { failing server S06 (Open ∷ gets lasting ∷ sends accepting ∷ sends (once false 1) ∷ Close ∷ Open ∷ gets again ∷ sends resuming ∷ Rest ∷ []) ≡ 4 ∷ [] }
+    ensures server_keeps { failing server S06 (Open ∷ gets lasting ∷ sends accepting ∷ sends (once false 1) ∷ Close ∷ Open ∷ gets again ∷ sends resuming ∷ sends (once true 1) ∷ Rest ∷ []) ≡ [] }
 {}
 
 /// How many messages an end has unacknowledged (S07).
 pub fn quotas()
-    ensures breaks { failing client S07 (Open ∷ sends kept ∷ gets (limiting false (Some 1) None None None) ∷ sends (once false 1) ∷ sends (once false 2) ∷ []) ≡ 5 ∷ [] }
-    ensures keeps { failing client S07 (Open ∷ sends kept ∷ gets (limiting false (Some 1) None None None) ∷ sends (once false 1) ∷ gets (Puback 1 0) ∷ sends (once false 2) ∷ []) ≡ [] }
-    ensures cap_breaks { failing client S07 (Open ∷ sends kept ∷ gets (limiting false (Some 1) None None None) ∷ gets (Pubcomp 9 0) ∷ sends (once false 1) ∷ sends (once false 2) ∷ []) ≡ 6 ∷ [] }
-    ensures server_breaks { failing server S07 (Open ∷ gets (asking None None (Some 1) None None) ∷ sends accepted ∷ sends (once false 1) ∷ sends (once false 2) ∷ []) ≡ 5 ∷ [] }
-    ensures server_keeps { failing server S07 (Open ∷ gets (asking None None (Some 1) None None) ∷ sends accepted ∷ sends (once false 1) ∷ gets (Puback 1 0) ∷ sends (once false 2) ∷ []) ≡ [] }
+    ensures breaks { failing client S07 (Open ∷ sends lasting ∷ gets (limiting false (Some 1) None None None) ∷ sends (once false 1) ∷ sends (once false 2) ∷ []) ≡ 5 ∷ [] }
+    ensures keeps { failing client S07 (Open ∷ sends lasting ∷ gets (limiting false (Some 1) None None None) ∷ sends (once false 1) ∷ gets (Puback 1 0) ∷ sends (once false 2) ∷ []) ≡ [] }
+    ensures cap_breaks { failing client S07 (Open ∷ sends lasting ∷ gets (limiting false (Some 1) None None None) ∷ gets (Pubcomp 9 0) ∷ sends (once false 1) ∷ sends (once false 2) ∷ []) ≡ 6 ∷ [] }
+    ensures server_breaks { failing server S07 (Open ∷ gets (asking None None (Some 1) None None) ∷ sends accepting ∷ sends (once false 1) ∷ sends (once false 2) ∷ []) ≡ 5 ∷ [] }
+    ensures server_keeps { failing server S07 (Open ∷ gets (asking None None (Some 1) None None) ∷ sends accepting ∷ sends (once false 1) ∷ gets (Puback 1 0) ∷ sends (once false 2) ∷ []) ≡ [] }
 {}
 
 /// PUBACKs and what they answer (E1A, E1R and E1O).
 pub fn pubacks()
-    ensures client_answer_breaks { failing client E1A (Open ∷ sends kept ∷ gets accepted ∷ sends (Puback 1 0) ∷ []) ≡ 4 ∷ [] }
-    ensures client_answer_keeps { failing client E1A (Open ∷ sends kept ∷ gets accepted ∷ gets (once false 1) ∷ sends (Puback 1 0) ∷ []) ≡ [] }
-    ensures client_owes { failing client E1R (Open ∷ sends kept ∷ gets accepted ∷ gets (once false 1) ∷ Rest ∷ []) ≡ 4 ∷ [] }
-    ensures client_paid { failing client E1R (Open ∷ sends kept ∷ gets accepted ∷ gets (once false 1) ∷ sends (Puback 1 0) ∷ Rest ∷ []) ≡ [] }
-    ensures server_answer_breaks { failing server E1A (Open ∷ gets kept ∷ sends accepted ∷ sends (Puback 1 0) ∷ []) ≡ 4 ∷ [] }
-    ensures server_answer_keeps { failing server E1A (Open ∷ gets kept ∷ sends accepted ∷ gets (once false 1) ∷ sends (Puback 1 0) ∷ []) ≡ [] }
-    ensures server_owes { failing server E1R (Open ∷ gets kept ∷ sends accepted ∷ gets (once false 1) ∷ Rest ∷ []) ≡ 4 ∷ [] }
-    ensures server_paid { failing server E1R (Open ∷ gets kept ∷ sends accepted ∷ gets (once false 1) ∷ sends (Puback 1 0) ∷ Rest ∷ []) ≡ [] }
-    ensures order_breaks { failing client E1O (Open ∷ sends kept ∷ gets accepted ∷ gets (once false 1) ∷ gets (once false 2) ∷ sends (Puback 2 0) ∷ sends (Puback 1 0) ∷ []) ≡ 6 ∷ [] }
-    ensures order_keeps { failing client E1O (Open ∷ sends kept ∷ gets accepted ∷ gets (once false 1) ∷ gets (once false 2) ∷ sends (Puback 1 0) ∷ sends (Puback 2 0) ∷ []) ≡ [] }
+    ensures client_answer_breaks { failing client E1A (Open ∷ sends lasting ∷ gets accepting ∷ sends (Puback 1 0) ∷ []) ≡ 4 ∷ [] }
+    ensures client_answer_keeps { failing client E1A (Open ∷ sends lasting ∷ gets accepting ∷ gets (once false 1) ∷ sends (Puback 1 0) ∷ []) ≡ [] }
+    ensures client_owes { failing client E1R (Open ∷ sends lasting ∷ gets accepting ∷ gets (once false 1) ∷ Rest ∷ []) ≡ 4 ∷ [] }
+    ensures client_paid { failing client E1R (Open ∷ sends lasting ∷ gets accepting ∷ gets (once false 1) ∷ sends (Puback 1 0) ∷ Rest ∷ []) ≡ [] }
+    ensures server_answer_breaks { failing server E1A (Open ∷ gets lasting ∷ sends accepting ∷ sends (Puback 1 0) ∷ []) ≡ 4 ∷ [] }
+    ensures server_answer_keeps { failing server E1A (Open ∷ gets lasting ∷ sends accepting ∷ gets (once false 1) ∷ sends (Puback 1 0) ∷ []) ≡ [] }
+    ensures server_owes { failing server E1R (Open ∷ gets lasting ∷ sends accepting ∷ gets (once false 1) ∷ Rest ∷ []) ≡ 4 ∷ [] }
+    ensures server_paid { failing server E1R (Open ∷ gets lasting ∷ sends accepting ∷ gets (once false 1) ∷ sends (Puback 1 0) ∷ Rest ∷ []) ≡ [] }
+    ensures order_breaks { failing client E1O (Open ∷ sends lasting ∷ gets accepting ∷ gets (once false 1) ∷ gets (once false 2) ∷ sends (Puback 2 0) ∷ sends (Puback 1 0) ∷ []) ≡ 6 ∷ [] }
+    ensures order_keeps { failing client E1O (Open ∷ sends lasting ∷ gets accepting ∷ gets (once false 1) ∷ gets (once false 2) ∷ sends (Puback 1 0) ∷ sends (Puback 2 0) ∷ []) ≡ [] }
 {}
 
 /// PUBRECs and what they answer (E2A, E2R and E2O).
 pub fn pubrecs()
-    ensures client_answer_breaks { failing client E2A (Open ∷ sends kept ∷ gets accepted ∷ sends (Pubrec 1 0) ∷ []) ≡ 4 ∷ [] }
-    ensures client_answer_keeps { failing client E2A (Open ∷ sends kept ∷ gets accepted ∷ gets (exactly false 1) ∷ sends (Pubrec 1 0) ∷ []) ≡ [] }
-    ensures client_owes { failing client E2R (Open ∷ sends kept ∷ gets accepted ∷ gets (exactly false 1) ∷ Rest ∷ []) ≡ 4 ∷ [] }
-    ensures client_paid { failing client E2R (Open ∷ sends kept ∷ gets accepted ∷ gets (exactly false 1) ∷ sends (Pubrec 1 0) ∷ Rest ∷ []) ≡ [] }
-    ensures server_answer_breaks { failing server E2A (Open ∷ gets kept ∷ sends accepted ∷ sends (Pubrec 1 0) ∷ []) ≡ 4 ∷ [] }
-    ensures server_answer_keeps { failing server E2A (Open ∷ gets kept ∷ sends accepted ∷ gets (exactly false 1) ∷ sends (Pubrec 1 0) ∷ []) ≡ [] }
-    ensures server_owes { failing server E2R (Open ∷ gets kept ∷ sends accepted ∷ gets (exactly false 1) ∷ Rest ∷ []) ≡ 4 ∷ [] }
-    ensures server_paid { failing server E2R (Open ∷ gets kept ∷ sends accepted ∷ gets (exactly false 1) ∷ sends (Pubrec 1 0) ∷ Rest ∷ []) ≡ [] }
-    ensures order_breaks { failing client E2O (Open ∷ sends kept ∷ gets accepted ∷ gets (exactly false 1) ∷ gets (exactly false 2) ∷ sends (Pubrec 2 0) ∷ sends (Pubrec 1 0) ∷ []) ≡ 6 ∷ [] }
-    ensures order_keeps { failing client E2O (Open ∷ sends kept ∷ gets accepted ∷ gets (exactly false 1) ∷ gets (exactly false 2) ∷ sends (Pubrec 1 0) ∷ sends (Pubrec 2 0) ∷ []) ≡ [] }
+    ensures client_answer_breaks { failing client E2A (Open ∷ sends lasting ∷ gets accepting ∷ sends (Pubrec 1 0) ∷ []) ≡ 4 ∷ [] }
+    ensures client_answer_keeps { failing client E2A (Open ∷ sends lasting ∷ gets accepting ∷ gets (exactly false 1) ∷ sends (Pubrec 1 0) ∷ []) ≡ [] }
+    ensures client_owes { failing client E2R (Open ∷ sends lasting ∷ gets accepting ∷ gets (exactly false 1) ∷ Rest ∷ []) ≡ 4 ∷ [] }
+    ensures client_paid { failing client E2R (Open ∷ sends lasting ∷ gets accepting ∷ gets (exactly false 1) ∷ sends (Pubrec 1 0) ∷ Rest ∷ []) ≡ [] }
+    ensures server_answer_breaks { failing server E2A (Open ∷ gets lasting ∷ sends accepting ∷ sends (Pubrec 1 0) ∷ []) ≡ 4 ∷ [] }
+    ensures server_answer_keeps { failing server E2A (Open ∷ gets lasting ∷ sends accepting ∷ gets (exactly false 1) ∷ sends (Pubrec 1 0) ∷ []) ≡ [] }
+    ensures server_owes { failing server E2R (Open ∷ gets lasting ∷ sends accepting ∷ gets (exactly false 1) ∷ Rest ∷ []) ≡ 4 ∷ [] }
+    ensures server_paid { failing server E2R (Open ∷ gets lasting ∷ sends accepting ∷ gets (exactly false 1) ∷ sends (Pubrec 1 0) ∷ Rest ∷ []) ≡ [] }
+    ensures order_breaks { failing client E2O (Open ∷ sends lasting ∷ gets accepting ∷ gets (exactly false 1) ∷ gets (exactly false 2) ∷ sends (Pubrec 2 0) ∷ sends (Pubrec 1 0) ∷ []) ≡ 6 ∷ [] }
+    ensures order_keeps { failing client E2O (Open ∷ sends lasting ∷ gets accepting ∷ gets (exactly false 1) ∷ gets (exactly false 2) ∷ sends (Pubrec 1 0) ∷ sends (Pubrec 2 0) ∷ []) ≡ [] }
 {}
 
 /// PUBRELs and what they answer (E3A, E3R and E3O).
 pub fn pubrels()
-    ensures client_answer_breaks { failing client E3A (Open ∷ sends kept ∷ gets accepted ∷ sends (Pubrel 1 0) ∷ []) ≡ 4 ∷ [] }
-    ensures client_answer_keeps { failing client E3A (Open ∷ sends kept ∷ gets accepted ∷ gets (Pubrec 1 0) ∷ sends (Pubrel 1 0) ∷ []) ≡ [] }
-    ensures client_owes { failing client E3R (Open ∷ sends kept ∷ gets accepted ∷ gets (Pubrec 1 0) ∷ Rest ∷ []) ≡ 4 ∷ [] }
-    ensures client_paid { failing client E3R (Open ∷ sends kept ∷ gets accepted ∷ gets (Pubrec 1 0) ∷ sends (Pubrel 1 0) ∷ Rest ∷ []) ≡ [] }
-    ensures server_answer_breaks { failing server E3A (Open ∷ gets kept ∷ sends accepted ∷ sends (Pubrel 1 0) ∷ []) ≡ 4 ∷ [] }
-    ensures server_answer_keeps { failing server E3A (Open ∷ gets kept ∷ sends accepted ∷ gets (Pubrec 1 0) ∷ sends (Pubrel 1 0) ∷ []) ≡ [] }
-    ensures server_owes { failing server E3R (Open ∷ gets kept ∷ sends accepted ∷ gets (Pubrec 1 0) ∷ Rest ∷ []) ≡ 4 ∷ [] }
-    ensures server_paid { failing server E3R (Open ∷ gets kept ∷ sends accepted ∷ gets (Pubrec 1 0) ∷ sends (Pubrel 1 0) ∷ Rest ∷ []) ≡ [] }
-    ensures order_breaks { failing client E3O (Open ∷ sends kept ∷ gets accepted ∷ gets (Pubrec 1 0) ∷ gets (Pubrec 2 0) ∷ sends (Pubrel 2 0) ∷ sends (Pubrel 1 0) ∷ []) ≡ 6 ∷ [] }
-    ensures order_keeps { failing client E3O (Open ∷ sends kept ∷ gets accepted ∷ gets (Pubrec 1 0) ∷ gets (Pubrec 2 0) ∷ sends (Pubrel 1 0) ∷ sends (Pubrel 2 0) ∷ []) ≡ [] }
+    ensures client_answer_breaks { failing client E3A (Open ∷ sends lasting ∷ gets accepting ∷ sends (Pubrel 1 0) ∷ []) ≡ 4 ∷ [] }
+    ensures client_answer_keeps { failing client E3A (Open ∷ sends lasting ∷ gets accepting ∷ gets (Pubrec 1 0) ∷ sends (Pubrel 1 0) ∷ []) ≡ [] }
+    ensures client_owes { failing client E3R (Open ∷ sends lasting ∷ gets accepting ∷ gets (Pubrec 1 0) ∷ Rest ∷ []) ≡ 4 ∷ [] }
+    ensures client_paid { failing client E3R (Open ∷ sends lasting ∷ gets accepting ∷ gets (Pubrec 1 0) ∷ sends (Pubrel 1 0) ∷ Rest ∷ []) ≡ [] }
+    ensures server_answer_breaks { failing server E3A (Open ∷ gets lasting ∷ sends accepting ∷ sends (Pubrel 1 0) ∷ []) ≡ 4 ∷ [] }
+    ensures server_answer_keeps { failing server E3A (Open ∷ gets lasting ∷ sends accepting ∷ gets (Pubrec 1 0) ∷ sends (Pubrel 1 0) ∷ []) ≡ [] }
+    ensures server_owes { failing server E3R (Open ∷ gets lasting ∷ sends accepting ∷ gets (Pubrec 1 0) ∷ Rest ∷ []) ≡ 4 ∷ [] }
+    ensures server_paid { failing server E3R (Open ∷ gets lasting ∷ sends accepting ∷ gets (Pubrec 1 0) ∷ sends (Pubrel 1 0) ∷ Rest ∷ []) ≡ [] }
+    ensures order_breaks { failing client E3O (Open ∷ sends lasting ∷ gets accepting ∷ gets (Pubrec 1 0) ∷ gets (Pubrec 2 0) ∷ sends (Pubrel 2 0) ∷ sends (Pubrel 1 0) ∷ []) ≡ 6 ∷ [] }
+    ensures order_keeps { failing client E3O (Open ∷ sends lasting ∷ gets accepting ∷ gets (Pubrec 1 0) ∷ gets (Pubrec 2 0) ∷ sends (Pubrel 1 0) ∷ sends (Pubrel 2 0) ∷ []) ≡ [] }
 {}
 
 /// PUBCOMPs and what they answer (E4A, E4R).
 pub fn pubcomps()
-    ensures client_answer_breaks { failing client E4A (Open ∷ sends kept ∷ gets accepted ∷ sends (Pubcomp 1 0) ∷ []) ≡ 4 ∷ [] }
-    ensures client_answer_keeps { failing client E4A (Open ∷ sends kept ∷ gets accepted ∷ gets (Pubrel 1 0) ∷ sends (Pubcomp 1 0) ∷ []) ≡ [] }
-    ensures client_owes { failing client E4R (Open ∷ sends kept ∷ gets accepted ∷ gets (Pubrel 1 0) ∷ Rest ∷ []) ≡ 4 ∷ [] }
-    ensures client_paid { failing client E4R (Open ∷ sends kept ∷ gets accepted ∷ gets (Pubrel 1 0) ∷ sends (Pubcomp 1 0) ∷ Rest ∷ []) ≡ [] }
-    ensures server_answer_breaks { failing server E4A (Open ∷ gets kept ∷ sends accepted ∷ sends (Pubcomp 1 0) ∷ []) ≡ 4 ∷ [] }
-    ensures server_answer_keeps { failing server E4A (Open ∷ gets kept ∷ sends accepted ∷ gets (Pubrel 1 0) ∷ sends (Pubcomp 1 0) ∷ []) ≡ [] }
-    ensures server_owes { failing server E4R (Open ∷ gets kept ∷ sends accepted ∷ gets (Pubrel 1 0) ∷ Rest ∷ []) ≡ 4 ∷ [] }
-    ensures server_paid { failing server E4R (Open ∷ gets kept ∷ sends accepted ∷ gets (Pubrel 1 0) ∷ sends (Pubcomp 1 0) ∷ Rest ∷ []) ≡ [] }
+    ensures client_answer_breaks { failing client E4A (Open ∷ sends lasting ∷ gets accepting ∷ sends (Pubcomp 1 0) ∷ []) ≡ 4 ∷ [] }
+    ensures client_answer_keeps { failing client E4A (Open ∷ sends lasting ∷ gets accepting ∷ gets (Pubrel 1 0) ∷ sends (Pubcomp 1 0) ∷ []) ≡ [] }
+    ensures client_owes { failing client E4R (Open ∷ sends lasting ∷ gets accepting ∷ gets (Pubrel 1 0) ∷ Rest ∷ []) ≡ 4 ∷ [] }
+    ensures client_paid { failing client E4R (Open ∷ sends lasting ∷ gets accepting ∷ gets (Pubrel 1 0) ∷ sends (Pubcomp 1 0) ∷ Rest ∷ []) ≡ [] }
+    ensures server_answer_breaks { failing server E4A (Open ∷ gets lasting ∷ sends accepting ∷ sends (Pubcomp 1 0) ∷ []) ≡ 4 ∷ [] }
+    ensures server_answer_keeps { failing server E4A (Open ∷ gets lasting ∷ sends accepting ∷ gets (Pubrel 1 0) ∷ sends (Pubcomp 1 0) ∷ []) ≡ [] }
+    ensures server_owes { failing server E4R (Open ∷ gets lasting ∷ sends accepting ∷ gets (Pubrel 1 0) ∷ Rest ∷ []) ≡ 4 ∷ [] }
+    ensures server_paid { failing server E4R (Open ∷ gets lasting ∷ sends accepting ∷ gets (Pubrel 1 0) ∷ sends (Pubcomp 1 0) ∷ Rest ∷ []) ≡ [] }
 {}
 
 /// SUBACKs and what they answer (E5A, E5R).
 pub fn subacks()
-    ensures server_answer_breaks { failing server E5A (Open ∷ gets kept ∷ sends accepted ∷ sends (Suback 1 []) ∷ []) ≡ 4 ∷ [] }
-    ensures server_answer_keeps { failing server E5A (Open ∷ gets kept ∷ sends accepted ∷ gets (asks_a 1 0) ∷ sends (Suback 1 []) ∷ []) ≡ [] }
-    ensures server_owes { failing server E5R (Open ∷ gets kept ∷ sends accepted ∷ gets (asks_a 1 0) ∷ Rest ∷ []) ≡ 4 ∷ [] }
-    ensures server_paid { failing server E5R (Open ∷ gets kept ∷ sends accepted ∷ gets (asks_a 1 0) ∷ sends (Suback 1 []) ∷ Rest ∷ []) ≡ [] }
+    ensures server_answer_breaks { failing server E5A (Open ∷ gets lasting ∷ sends accepting ∷ sends (Suback 1 []) ∷ []) ≡ 4 ∷ [] }
+    ensures server_answer_keeps { failing server E5A (Open ∷ gets lasting ∷ sends accepting ∷ gets (asks_a 1 0) ∷ sends (Suback 1 []) ∷ []) ≡ [] }
+    ensures server_owes { failing server E5R (Open ∷ gets lasting ∷ sends accepting ∷ gets (asks_a 1 0) ∷ Rest ∷ []) ≡ 4 ∷ [] }
+    ensures server_paid { failing server E5R (Open ∷ gets lasting ∷ sends accepting ∷ gets (asks_a 1 0) ∷ sends (Suback 1 []) ∷ Rest ∷ []) ≡ [] }
 {}
 
 /// UNSUBACKs and what they answer (E6A, E6R).
 pub fn unsubacks()
-    ensures server_answer_breaks { failing server E6A (Open ∷ gets kept ∷ sends accepted ∷ sends (Unsuback 1 1) ∷ []) ≡ 4 ∷ [] }
-    ensures server_answer_keeps { failing server E6A (Open ∷ gets kept ∷ sends accepted ∷ gets (Unsubscribe 1 1) ∷ sends (Unsuback 1 1) ∷ []) ≡ [] }
-    ensures server_owes { failing server E6R (Open ∷ gets kept ∷ sends accepted ∷ gets (Unsubscribe 1 1) ∷ Rest ∷ []) ≡ 4 ∷ [] }
-    ensures server_paid { failing server E6R (Open ∷ gets kept ∷ sends accepted ∷ gets (Unsubscribe 1 1) ∷ sends (Unsuback 1 1) ∷ Rest ∷ []) ≡ [] }
+    ensures server_answer_breaks { failing server E6A (Open ∷ gets lasting ∷ sends accepting ∷ sends (Unsuback 1 1) ∷ []) ≡ 4 ∷ [] }
+    ensures server_answer_keeps { failing server E6A (Open ∷ gets lasting ∷ sends accepting ∷ gets (Unsubscribe 1 1) ∷ sends (Unsuback 1 1) ∷ []) ≡ [] }
+    ensures server_owes { failing server E6R (Open ∷ gets lasting ∷ sends accepting ∷ gets (Unsubscribe 1 1) ∷ Rest ∷ []) ≡ 4 ∷ [] }
+    ensures server_paid { failing server E6R (Open ∷ gets lasting ∷ sends accepting ∷ gets (Unsubscribe 1 1) ∷ sends (Unsuback 1 1) ∷ Rest ∷ []) ≡ [] }
 {}
 
 /// PINGRESPs and the PINGREQs that they answer (E7R).
 pub fn pingresps()
-    ensures breaks { failing server E7R (Open ∷ gets kept ∷ sends accepted ∷ gets Pingreq ∷ Rest ∷ []) ≡ 5 ∷ [] }
-    ensures keeps { failing server E7R (Open ∷ gets kept ∷ sends accepted ∷ gets Pingreq ∷ sends Pingresp ∷ Rest ∷ []) ≡ [] }
+    ensures breaks { failing server E7R (Open ∷ gets lasting ∷ sends accepting ∷ gets Pingreq ∷ Rest ∷ []) ≡ 5 ∷ [] }
+    ensures keeps { failing server E7R (Open ∷ gets lasting ∷ sends accepting ∷ gets Pingreq ∷ sends Pingresp ∷ Rest ∷ []) ≡ [] }
 {}
 
 /// QoS 2 messages that an end releases (L1 to L3).
 pub fn released_messages()
-    ensures nothing_breaks { failing client L1 (Open ∷ sends kept ∷ gets accepted ∷ Release 1 ∷ []) ≡ 4 ∷ [] }
-    ensures nothing_keeps { failing client L1 (Open ∷ sends kept ∷ gets accepted ∷ gets (exactly false 1) ∷ Release 1 ∷ []) ≡ [] }
-    ensures between_keeps { failing client L1 (Open ∷ sends kept ∷ gets accepted ∷ gets (exactly false 1) ∷ Close ∷ Release 1 ∷ []) ≡ [] }
+    ensures nothing_breaks { failing client L1 (Open ∷ sends lasting ∷ gets accepting ∷ Release 1 ∷ []) ≡ 4 ∷ [] }
+    ensures nothing_keeps { failing client L1 (Open ∷ sends lasting ∷ gets accepting ∷ gets (exactly false 1) ∷ Release 1 ∷ []) ≡ [] }
+    ensures between_keeps { failing client L1 (Open ∷ sends lasting ∷ gets accepting ∷ gets (exactly false 1) ∷ Close ∷ Release 1 ∷ []) ≡ [] }
     ensures before_breaks { failing client L1 (Release 1 ∷ Release 1 ∷ []) ≡ 2 ∷ 1 ∷ [] }
-    ensures server_nothing_breaks { failing server L1 (Open ∷ gets kept ∷ sends accepted ∷ Release 1 ∷ []) ≡ 4 ∷ [] }
-    ensures server_nothing_keeps { failing server L1 (Open ∷ gets kept ∷ sends accepted ∷ gets (exactly false 1) ∷ Release 1 ∷ []) ≡ [] }
-    ensures twice_breaks { failing client L2 (Open ∷ sends kept ∷ gets accepted ∷ gets (exactly false 1) ∷ Release 1 ∷ gets (exactly true 1) ∷ Release 1 ∷ []) ≡ 7 ∷ [] }
-    ensures twice_keeps { failing client L2 (Open ∷ sends kept ∷ gets accepted ∷ gets (exactly false 1) ∷ Release 1 ∷ gets (exactly true 1) ∷ []) ≡ [] }
+    ensures server_nothing_breaks { failing server L1 (Open ∷ gets lasting ∷ sends accepting ∷ Release 1 ∷ []) ≡ 4 ∷ [] }
+    ensures server_nothing_keeps { failing server L1 (Open ∷ gets lasting ∷ sends accepting ∷ gets (exactly false 1) ∷ Release 1 ∷ []) ≡ [] }
+    ensures twice_breaks { failing client L2 (Open ∷ sends lasting ∷ gets accepting ∷ gets (exactly false 1) ∷ Release 1 ∷ gets (exactly true 1) ∷ Release 1 ∷ []) ≡ 7 ∷ [] }
+    ensures twice_keeps { failing client L2 (Open ∷ sends lasting ∷ gets accepting ∷ gets (exactly false 1) ∷ Release 1 ∷ gets (exactly true 1) ∷ []) ≡ [] }
     ensures before_keeps { failing client L2 (Release 1 ∷ Release 1 ∷ []) ≡ [] }
-    ensures server_twice_breaks { failing server L2 (Open ∷ gets kept ∷ sends accepted ∷ gets (exactly false 1) ∷ Release 1 ∷ Release 1 ∷ []) ≡ 6 ∷ [] }
-    ensures server_twice_keeps { failing server L2 (Open ∷ gets kept ∷ sends accepted ∷ gets (exactly false 1) ∷ Release 1 ∷ []) ≡ [] }
-    ensures completed_breaks { failing client L3 (Open ∷ sends kept ∷ gets accepted ∷ gets (exactly false 1) ∷ gets (Pubrel 1 0) ∷ sends (Pubcomp 1 0) ∷ []) ≡ 6 ∷ [] }
-    ensures completed_keeps { failing client L3 (Open ∷ sends kept ∷ gets accepted ∷ gets (exactly false 1) ∷ Release 1 ∷ sends (Pubcomp 1 0) ∷ []) ≡ [] }
-    ensures expiring_keeps { failing client L3 (Open ∷ sends kept ∷ gets accepted ∷ gets (expiring 1) ∷ gets (Pubrel 1 0) ∷ sends (Pubcomp 1 0) ∷ []) ≡ [] }
-    ensures unmatched_keeps { failing client L3 (Open ∷ sends kept ∷ gets accepted ∷ gets (exactly false 1) ∷ sends (Pubrec 1 16) ∷ sends (Pubcomp 1 0) ∷ []) ≡ [] }
-    ensures server_completed_breaks { failing server L3 (Open ∷ gets kept ∷ sends accepted ∷ gets (exactly false 1) ∷ gets (Pubrel 1 0) ∷ sends (Pubcomp 1 0) ∷ []) ≡ 6 ∷ [] }
-    ensures server_completed_keeps { failing server L3 (Open ∷ gets kept ∷ sends accepted ∷ gets (exactly false 1) ∷ gets (Pubrel 1 0) ∷ Release 1 ∷ sends (Pubcomp 1 0) ∷ []) ≡ [] }
+    ensures server_twice_breaks { failing server L2 (Open ∷ gets lasting ∷ sends accepting ∷ gets (exactly false 1) ∷ Release 1 ∷ Release 1 ∷ []) ≡ 6 ∷ [] }
+    ensures server_twice_keeps { failing server L2 (Open ∷ gets lasting ∷ sends accepting ∷ gets (exactly false 1) ∷ Release 1 ∷ []) ≡ [] }
+    ensures completed_breaks { failing client L3 (Open ∷ sends lasting ∷ gets accepting ∷ gets (exactly false 1) ∷ gets (Pubrel 1 0) ∷ sends (Pubcomp 1 0) ∷ []) ≡ 6 ∷ [] }
+    ensures completed_keeps { failing client L3 (Open ∷ sends lasting ∷ gets accepting ∷ gets (exactly false 1) ∷ Release 1 ∷ sends (Pubcomp 1 0) ∷ []) ≡ [] }
+    ensures expiring_keeps { failing client L3 (Open ∷ sends lasting ∷ gets accepting ∷ gets (expiring 1) ∷ gets (Pubrel 1 0) ∷ sends (Pubcomp 1 0) ∷ []) ≡ [] }
+    ensures unmatched_keeps { failing client L3 (Open ∷ sends lasting ∷ gets accepting ∷ gets (exactly false 1) ∷ sends (Pubrec 1 16) ∷ sends (Pubcomp 1 0) ∷ []) ≡ [] }
+    ensures server_completed_breaks { failing server L3 (Open ∷ gets lasting ∷ sends accepting ∷ gets (exactly false 1) ∷ gets (Pubrel 1 0) ∷ sends (Pubcomp 1 0) ∷ []) ≡ 6 ∷ [] }
+    ensures server_completed_keeps { failing server L3 (Open ∷ gets lasting ∷ sends accepting ∷ gets (exactly false 1) ∷ gets (Pubrel 1 0) ∷ Release 1 ∷ sends (Pubcomp 1 0) ∷ []) ≡ [] }
 {}
 
 /// What a server sends to whom (B01 to B04).
 pub fn subscriptions()
-    ensures unasked_breaks { failing server B01 (Open ∷ gets kept ∷ sends accepted ∷ gets (asks_b 1 0) ∷ sends publish ∷ []) ≡ 5 ∷ [] }
-    ensures unasked_keeps { failing server B01 (Open ∷ gets kept ∷ sends accepted ∷ gets (asks_a 1 0) ∷ sends publish ∷ []) ≡ [] }
-    ensures refused_breaks { failing server B01 (Open ∷ gets kept ∷ sends accepted ∷ gets (asks_a 1 0) ∷ sends (Suback 1 (135 ∷ [])) ∷ sends publish ∷ []) ≡ 6 ∷ [] }
-    ensures qos_breaks { failing server B02 (Open ∷ gets kept ∷ sends accepted ∷ gets (asks_a 1 0) ∷ sends (once false 1) ∷ []) ≡ 5 ∷ [] }
-    ensures qos_keeps { failing server B02 (Open ∷ gets kept ∷ sends accepted ∷ gets (asks_a 1 1) ∷ sends (once false 1) ∷ []) ≡ [] }
-    ensures granted_breaks { failing server B02 (Open ∷ gets kept ∷ sends accepted ∷ gets (asks_a 1 1) ∷ sends (Suback 1 (0 ∷ [])) ∷ sends (once false 1) ∷ []) ≡ 6 ∷ [] }
-    ensures suback_breaks { failing server B03 (Open ∷ gets kept ∷ sends accepted ∷ gets (asks_a 1 0) ∷ sends (Suback 1 (0 ∷ 0 ∷ [])) ∷ []) ≡ 5 ∷ [] }
-    ensures suback_keeps { failing server B03 (Open ∷ gets kept ∷ sends accepted ∷ gets (asks_a 1 0) ∷ sends (Suback 1 (0 ∷ [])) ∷ []) ≡ [] }
-    ensures unsuback_breaks { failing server B04 (Open ∷ gets kept ∷ sends accepted ∷ gets (Unsubscribe 1 1) ∷ sends (Unsuback 1 2) ∷ []) ≡ 5 ∷ [] }
-    ensures unsuback_keeps { failing server B04 (Open ∷ gets kept ∷ sends accepted ∷ gets (Unsubscribe 1 1) ∷ sends (Unsuback 1 1) ∷ []) ≡ [] }
+    ensures unasked_breaks { failing server B01 (Open ∷ gets lasting ∷ sends accepting ∷ gets (asks_b 1 0) ∷ sends at_most_once ∷ []) ≡ 5 ∷ [] }
+    ensures unasked_keeps { failing server B01 (Open ∷ gets lasting ∷ sends accepting ∷ gets (asks_a 1 0) ∷ sends at_most_once ∷ []) ≡ [] }
+    ensures refused_breaks { failing server B01 (Open ∷ gets lasting ∷ sends accepting ∷ gets (asks_a 1 0) ∷ sends (Suback 1 (135 ∷ [])) ∷ sends at_most_once ∷ []) ≡ 6 ∷ [] }
+    ensures qos_breaks { failing server B02 (Open ∷ gets lasting ∷ sends accepting ∷ gets (asks_a 1 0) ∷ sends (once false 1) ∷ []) ≡ 5 ∷ [] }
+    ensures qos_keeps { failing server B02 (Open ∷ gets lasting ∷ sends accepting ∷ gets (asks_a 1 1) ∷ sends (once false 1) ∷ []) ≡ [] }
+    ensures granted_breaks { failing server B02 (Open ∷ gets lasting ∷ sends accepting ∷ gets (asks_a 1 1) ∷ sends (Suback 1 (0 ∷ [])) ∷ sends (once false 1) ∷ []) ≡ 6 ∷ [] }
+    ensures suback_breaks { failing server B03 (Open ∷ gets lasting ∷ sends accepting ∷ gets (asks_a 1 0) ∷ sends (Suback 1 (0 ∷ 0 ∷ [])) ∷ []) ≡ 5 ∷ [] }
+    ensures suback_keeps { failing server B03 (Open ∷ gets lasting ∷ sends accepting ∷ gets (asks_a 1 0) ∷ sends (Suback 1 (0 ∷ [])) ∷ []) ≡ [] }
+    ensures unsuback_breaks { failing server B04 (Open ∷ gets lasting ∷ sends accepting ∷ gets (Unsubscribe 1 1) ∷ sends (Unsuback 1 2) ∷ []) ≡ 5 ∷ [] }
+    ensures unsuback_keeps { failing server B04 (Open ∷ gets lasting ∷ sends accepting ∷ gets (Unsubscribe 1 1) ∷ sends (Unsuback 1 1) ∷ []) ≡ [] }
 {}

@@ -1,6 +1,7 @@
 -- Topic Names and Topic Filters as lists of levels (MQTT 5.0, 4.7). A text is its bytes: 35 is `#`, 43 is `+`, 47 is `/`.
 use Rattle.std.specs.Prelude.{ℕ, Bool, true, false, ◌&&◌, ◌||◌, not, List, [], ◌∷◌, length, Option, Some, None, ◌==◌, if◌then◌else◌}
 use Rattle.std.specs.List.{slice_split, list_any, list_all}
+use Rattle.std.specs.Option.{option_or}
 use Rattle.mq_topic.specs.declared.filter.FilterFault.{FilterFault}
 use Rattle.mq_topic.specs.declared.filter.FilterFault.TheVariants.{Empty, HashNotLast, HashNotAlone, PlusNotAlone}
 
@@ -24,16 +25,11 @@ level_fault level is_last =
     else if is_crowded 43 level then Some PlusNotAlone
     else None
 
--- the first fault, if there is one, else the second
-abbrev pub or_else : Option FilterFault → Option FilterFault → Option FilterFault
-or_else None other = other
-or_else (Some fault) other = Some fault
-
 -- the fault of the first invalid level from the left
 abbrev pub first_fault : List (List ℕ) → Option FilterFault
 first_fault [] = None
 first_fault (level ∷ []) = level_fault level true
-first_fault (level ∷ next ∷ levels) = or_else (level_fault level false) (first_fault (next ∷ levels))
+first_fault (level ∷ next ∷ levels) = option_or (level_fault level false) (first_fault (next ∷ levels))
 
 -- what is wrong with a filter, if anything
 abbrev pub filter_fault : List ℕ → Option FilterFault

@@ -3,43 +3,44 @@ use Rattle.std.proofs.Common.{◌≡◌, ℕ, ◌+◌, ◌-◌, ◌<◌, ◌≤�
 use Rattle.std.specs.Prelude.{◌==◌, if◌then◌else◌, slice_index}
 use Rattle.std.proofs.lemmas.List.{reverse-append, reverse-reverse, length-reverse, get_or_append_left, get_or_past, get_or-append_right}
 use Rattle.std.proofs.lemmas.Bool.{ltb-true, ltb-false, lt-ltb, eqb-true, eqb-false}
+use Rattle.std.specs.Option.{option_or}
 use Rattle.mq_trace.specs.declared.kind.Way.{Way}
 use Rattle.mq_trace.specs.declared.kind.Way.TheVariants as ways
 use Rattle.mq_trace.specs.declared.refusal.Refusal.{Refusal}
 use Rattle.mq_trace.specs.declared.header.Header.{Header}
 use Rattle.mq_trace.specs.Pieces.{Pieces}
-use Rattle.mq_trace.specs.Framing.{header_by, kind_of, way_of, begun, carried, records, record_size}
-use Rattle.mq_trace.specs.Events.{Event, Placed, newest, part_at, packet_at, packet_by, event_in, event_at, with_event, events_back, events}
-use Rattle.mq_trace.specs.Connections.{is_connected, is_answered}
-use Rattle.mq_trace.specs.Refusals.{Situation, situation, header_refusal, record_refusal, refusal_at, refused_back, refused, or_else}
+use Rattle.mq_trace.specs.Framing.{header_by, kind_of, way_of, begun_records, carried, records, record_size}
+use Rattle.mq_trace.specs.Events.{Event, Placed, newest_record, part_at, packet_at, packet_by, event_in, event_at, with_event, events_back, events}
+use Rattle.mq_trace.specs.Connections.{has_open_connection, is_answered}
+use Rattle.mq_trace.specs.Refusals.{Situation, situation, header_refusal, record_refusal, refusal_at, refused_back, refused}
 use Rattle.mq_trace.specs.Context.{Half, Context, fresh, half_of, half_then, so_far_by, so_far_for, context, situated, refusal_for, event_for, placed_with, placed_for, put, with_heard, after_header, after_part, after}
 use Rattle.mq_trace.proofs.FramingLaws.{records-header, begun-header, begun-grow, length-begun-grow, whole-grow, rest-grow}
 use Rattle.mq_trace.proofs.HalfLaws.{half-nothing, half-then, so_far-kept}
 
 -- the events with one byte more
-events-grow : (log : List ℕ) (byte : ℕ) → events (log ++ byte ∷ []) ≡ with_event (length (begun (log ++ byte ∷ []))) (event_at log byte) (events log)
+events-grow : (log : List ℕ) (byte : ℕ) → events (log ++ byte ∷ []) ≡ with_event (length (begun_records (log ++ byte ∷ []))) (event_at log byte) (events log)
 unfolding events events_back
 events-grow log byte =
     ap events_back (reverse-append log (byte ∷ []))
-    ∙ ap (λ earlier. with_event (length (begun (earlier ++ byte ∷ []))) (event_at earlier byte) (events_back (reverse log))) (reverse-reverse log)
+    ∙ ap (λ earlier. with_event (length (begun_records (earlier ++ byte ∷ []))) (event_at earlier byte) (events_back (reverse log))) (reverse-reverse log)
 
 -- the refusal with one byte more
-pub refused-grow : (limit : ℕ) (log : List ℕ) (byte : ℕ) → refused limit (log ++ byte ∷ []) ≡ or_else (refused limit log) (refusal_at limit log byte)
+pub refused-grow : (limit : ℕ) (log : List ℕ) (byte : ℕ) → refused limit (log ++ byte ∷ []) ≡ option_or (refused limit log) (refusal_at limit log byte)
 unfolding refused refused_back
 refused-grow limit log byte =
     ap (refused_back limit) (reverse-append log (byte ∷ []))
-    ∙ ap (λ earlier. or_else (refused_back limit (reverse log)) (refusal_at limit earlier byte)) (reverse-reverse log)
+    ∙ ap (λ earlier. option_or (refused_back limit (reverse log)) (refusal_at limit earlier byte)) (reverse-reverse log)
 
 -- the record and the packet of a byte after the header
 part-kept : (log : List ℕ) (byte : ℕ) → 8 ≤ length log → part_at log byte ≡ (records log).rest ++ byte ∷ []
 unfolding part_at
-part-kept log byte h = ap newest (begun-grow log byte h)
+part-kept log byte h = ap newest_record (begun-grow log byte h)
 
-pub so_far_kept_by : (carries : Option Way) (log : List ℕ) (byte : ℕ) → packet_by carries (begun log) byte ≡ so_far_by carries (context log) byte
+pub so_far_kept_by : (carries : Option Way) (log : List ℕ) (byte : ℕ) → packet_by carries (begun_records log) byte ≡ so_far_by carries (context log) byte
 unfolding context
 so_far_kept_by None log byte = refl
-so_far_kept_by (Some ways.Sent) log byte = so_far-kept (carried ways.Sent (begun log)) byte
-so_far_kept_by (Some ways.Recv) log byte = so_far-kept (carried ways.Recv (begun log)) byte
+so_far_kept_by (Some ways.Sent) log byte = so_far-kept (carried ways.Sent (begun_records log)) byte
+so_far_kept_by (Some ways.Recv) log byte = so_far-kept (carried ways.Recv (begun_records log)) byte
 
 pub part_context : (log : List ℕ) → (context log).part ≡ (records log).rest
 unfolding context
@@ -48,7 +49,7 @@ part_context log = refl
 pub packet-kept : (log : List ℕ) (byte : ℕ) → 8 ≤ length log → packet_at log byte ≡ so_far_for (context log) byte
 unfolding packet_at so_far_for
 packet-kept log byte h =
-    ap (λ part. cond (nat_lt 5 (length part)) (packet_by (way_of (kind_of part)) (begun log) byte) []) (part-kept log byte h ∙ ap (λ part. part ++ byte ∷ []) (sym (part_context log)))
+    ap (λ part. cond (nat_lt 5 (length part)) (packet_by (way_of (kind_of part)) (begun_records log) byte) []) (part-kept log byte h ∙ ap (λ part. part ++ byte ∷ []) (sym (part_context log)))
     ∙ ap (λ so_far. cond (nat_lt 5 (length ((context log).part ++ byte ∷ []))) so_far []) (so_far_kept_by (way_of (kind_of ((context log).part ++ byte ∷ []))) log byte)
 
 -- a byte of the header belongs to no packet
@@ -86,7 +87,7 @@ situated_with log part record_no so_far = record {
   record_no = record_no;
   so_far = so_far;
   events = length (events log);
-  connected = is_connected (events log);
+  connected = has_open_connection (events log);
   answered = is_answered (header_by log).server (events log);
 }
 
@@ -97,7 +98,7 @@ situated_context log byte = refl
 pub situation-kept : (log : List ℕ) (byte : ℕ) → 8 ≤ length log → situation log byte ≡ situated (context log) byte
 unfolding situation
 situation-kept log byte h =
-    ap (λ part. situated_with log part (length (begun (log ++ byte ∷ []))) (packet_at log byte)) (part-kept log byte h ∙ ap (λ part. part ++ byte ∷ []) (sym (part_context log)))
+    ap (λ part. situated_with log part (length (begun_records (log ++ byte ∷ []))) (packet_at log byte)) (part-kept log byte h ∙ ap (λ part. part ++ byte ∷ []) (sym (part_context log)))
     ∙ ap (λ n. situated_with log ((context log).part ++ byte ∷ []) n (packet_at log byte)) (length-begun-grow log byte h)
     ∙ ap (λ so_far. situated_with log ((context log).part ++ byte ∷ []) (length (records log).whole + 1) so_far) (packet-kept log byte h)
     ∙ situated_context log byte
@@ -115,9 +116,9 @@ refusal-kept limit log byte =
     ∙ ap (λ n. if nat_lt n 8 then header_refusal n byte else record_refusal limit (situated (context log) byte)) (sym (at_context log))
 
 -- the events with one byte more, from what is kept
-pub events-more : (log : List ℕ) (byte : ℕ) → events (log ++ byte ∷ []) ≡ with_event (length (begun (log ++ byte ∷ []))) (event_for (context log) byte) (events log)
+pub events-more : (log : List ℕ) (byte : ℕ) → events (log ++ byte ∷ []) ≡ with_event (length (begun_records (log ++ byte ∷ []))) (event_for (context log) byte) (events log)
 events-more log byte =
-    events-grow log byte ∙ ap (λ o. with_event (length (begun (log ++ byte ∷ []))) o (events log)) (event-kept log byte)
+    events-grow log byte ∙ ap (λ o. with_event (length (begun_records (log ++ byte ∷ []))) o (events log)) (event-kept log byte)
 
 -- a context from its parts, of which the last three are told by the events
 abbrev context_with : ℕ → Header → List ℕ → ℕ → Half → Half → List Placed → Context
@@ -129,12 +130,12 @@ context_with at header part whole sent recv log = record {
   sent = sent;
   recv = recv;
   events = length log;
-  connected = is_connected log;
+  connected = has_open_connection log;
   answered = is_answered header.server log;
 }
 
 pub context_is : (log : List ℕ) → context log ≡ context_with (length log) (header_by log) (records log).rest (length (records log).whole)
-    (half_of (carried ways.Sent (begun log))) (half_of (carried ways.Recv (begun log))) (events log)
+    (half_of (carried ways.Sent (begun_records log))) (half_of (carried ways.Recv (begun_records log))) (events log)
 unfolding context
 context_is log = refl
 
@@ -146,8 +147,8 @@ header-behind log byte h =
 noted : (log : List ℕ) (byte : ℕ) (o : Option Event)
     → context_with (length log + 1) (header_by log) (cond (is_some (record_size ((records log).rest ++ byte ∷ []))) [] ((records log).rest ++ byte ∷ []))
     (cond (is_some (record_size ((records log).rest ++ byte ∷ []))) (length (records log).whole + 1) (length (records log).whole))
-    (half_then ways.Sent (half_of (carried ways.Sent (begun log))) ((records log).rest ++ byte ∷ []) byte)
-    (half_then ways.Recv (half_of (carried ways.Recv (begun log))) ((records log).rest ++ byte ∷ []) byte)
+    (half_then ways.Sent (half_of (carried ways.Sent (begun_records log))) ((records log).rest ++ byte ∷ []) byte)
+    (half_then ways.Recv (half_of (carried ways.Recv (begun_records log))) ((records log).rest ++ byte ∷ []) byte)
     (with_event (length (records log).whole + 1) o (events log))
     ≡ with_heard (after_part (context log) ((records log).rest ++ byte ∷ []) byte) o
 unfolding context
@@ -156,8 +157,8 @@ noted log byte (Some event) =
     let part = (records log).rest ++ byte ∷ [] in
     let c = context_with (length log + 1) (header_by log) (cond (is_some (record_size part)) [] part)
     (cond (is_some (record_size part)) (length (records log).whole + 1) (length (records log).whole))
-    (half_then ways.Sent (half_of (carried ways.Sent (begun log))) part byte)
-    (half_then ways.Recv (half_of (carried ways.Recv (begun log))) part byte)
+    (half_then ways.Sent (half_of (carried ways.Sent (begun_records log))) part byte)
+    (half_then ways.Recv (half_of (carried ways.Recv (begun_records log))) part byte)
     (record { place = record { position = length (events log) + 1; record_no = length (records log).whole + 1 }; event = event } ∷ events log) in
     let one_more : length (record { place = record { position = length (events log) + 1; record_no = length (records log).whole + 1 }; event = event } ∷ events log) ≡ length (events log) + 1 = omega arith in
     ap (λ n. record c { events = n }) one_more
@@ -167,10 +168,10 @@ context-behind log byte h =
     let more = log ++ byte ∷ [] in
     let part = (records log).rest ++ byte ∷ [] in
     let b = is_some (record_size part) in
-    let sent = half_of (carried ways.Sent (begun more)) in
-    let recv = half_of (carried ways.Recv (begun more)) in
-    let sent' = half_then ways.Sent (half_of (carried ways.Sent (begun log))) part byte in
-    let recv' = half_then ways.Recv (half_of (carried ways.Recv (begun log))) part byte in
+    let sent = half_of (carried ways.Sent (begun_records more)) in
+    let recv = half_of (carried ways.Recv (begun_records more)) in
+    let sent' = half_then ways.Sent (half_of (carried ways.Sent (begun_records log))) part byte in
+    let recv' = half_then ways.Recv (half_of (carried ways.Recv (begun_records log))) part byte in
     let rest' = cond b [] part in
     let whole' = cond b (length (records log).whole + 1) (length (records log).whole) in
     let n' = length (records log).whole + 1 in
@@ -195,7 +196,7 @@ events_back-header [] h = refl
 events_back-header (byte ∷ earlier) h =
     let l = length-reverse earlier in
     let short : length (reverse earlier) < 8 = omega arith in
-    ap (λ o. with_event (length (begun (reverse earlier ++ byte ∷ []))) o (events_back earlier)) (no_event (reverse earlier) byte short) ∙ events_back-header earlier (omega arith)
+    ap (λ o. with_event (length (begun_records (reverse earlier ++ byte ∷ []))) o (events_back earlier)) (no_event (reverse earlier) byte short) ∙ events_back-header earlier (omega arith)
 
 pub events-header : (log : List ℕ) → length log ≤ 8 → events log ≡ []
 unfolding events
@@ -208,7 +209,7 @@ context-header log h =
     let none : List Placed = [] in
     let half : Half = record { unfinished = []; lost = false } in
     context_is log
-    ∙ ap (λ (p : Pieces). context_with (length log) (header_by log) p.rest (length p.whole) (half_of (carried ways.Sent (begun log))) (half_of (carried ways.Recv (begun log))) (events log)) (records-header log h)
+    ∙ ap (λ (p : Pieces). context_with (length log) (header_by log) p.rest (length p.whole) (half_of (carried ways.Sent (begun_records log))) (half_of (carried ways.Recv (begun_records log))) (events log)) (records-header log h)
     ∙ ap (λ b. context_with (length log) (header_by log) [] 0 (half_of (carried ways.Sent b)) (half_of (carried ways.Recv b)) (events log)) (begun-header log h)
     ∙ ap (λ half. context_with (length log) (header_by log) [] 0 half half (events log)) (nothing_carried)
     ∙ ap (context_with (length log) (header_by log) [] 0 half half) (events-header log h)
@@ -293,12 +294,12 @@ pub event-in-header : (log : List ℕ) (byte : ℕ) → nat_lt (length log) 8 �
 event-in-header log byte is = event_for-header log byte ∙ ap (λ b. if b then None else event_in ((context log).part ++ byte ∷ []) (so_far_for (context log) byte)) is
 
 placed_by_length : (log : List ℕ) (byte : ℕ) (b : Bool) → nat_lt (length log) 8 ≡ b
-    → with_event (length (begun (log ++ byte ∷ []))) (event_for (context log) byte) (events log) ≡ put (placed_with (context log) (event_for (context log) byte)) (events log)
+    → with_event (length (begun_records (log ++ byte ∷ []))) (event_for (context log) byte) (events log) ≡ put (placed_with (context log) (event_for (context log) byte)) (events log)
 placed_by_length log byte true is =
     let none = event-in-header log byte is in
-    ap (λ o. with_event (length (begun (log ++ byte ∷ []))) o (events log)) none ∙ sym (ap (λ o. put (placed_with (context log) o) (events log)) none)
+    ap (λ o. with_event (length (begun_records (log ++ byte ∷ []))) o (events log)) none ∙ sym (ap (λ o. put (placed_with (context log) o) (events log)) none)
 placed_by_length log byte false is =
-    placed_kept log byte (event_for (context log) byte) (length (begun (log ++ byte ∷ [])))
+    placed_kept log byte (event_for (context log) byte) (length (begun_records (log ++ byte ∷ [])))
     (length-begun-grow log byte (ltb-false (length log) 8 is) ∙ ap (λ n. n + 1) (sym (records_context log)))
 
 -- the events of a log with one byte more, from what is kept
@@ -311,7 +312,7 @@ refused_back-stays : (limit : ℕ) (more back : List ℕ) (r : Refusal) → refu
 unfolding refused_back
 refused_back-stays limit [] back r h = h
 refused_back-stays limit (byte ∷ more) back r h =
-    ap (λ o. or_else o (refusal_at limit (reverse (more ++ back)) byte)) (refused_back-stays limit more back r h)
+    ap (λ o. option_or o (refusal_at limit (reverse (more ++ back)) byte)) (refused_back-stays limit more back r h)
 
 pub refused-stays : (limit : ℕ) (log more : List ℕ) (r : Refusal) → refused limit log ≡ Some r → refused limit (log ++ more) ≡ Some r
 unfolding refused

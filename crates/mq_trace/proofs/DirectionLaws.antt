@@ -4,6 +4,7 @@ use Rattle.std.proofs.Common.{inl, inr, Result, Ok, Err}
 use Rattle.std.specs.Prelude.{◌==◌, ◌&&◌, option_map, ◌||◌, OnOk, IfErr, slice_index}
 use Rattle.std.proofs.lemmas.Bool.{le-ltb}
 use Rattle.std.proofs.lemmas.List.{take-append-drop}
+use Rattle.std.specs.Option.{option_or}
 use Rattle.mq_packet.specs.declared.header.FixedHeader.{FixedHeader}
 use Rattle.mq_packet.specs.declared.header.FixedHeader.TheVariants as headers
 use Rattle.mq_packet.specs.Stream.{fixed_header_of, frame_size}
@@ -15,7 +16,7 @@ use Rattle.mq_trace.specs.declared.refusal.Refusal.TheVariants as refusals
 use Rattle.mq_trace.specs.declared.connections.Connections.{Connections}
 use Rattle.mq_trace.specs.declared.direction.Bed.{Bed as BedInMemory}
 use Rattle.mq_trace.specs.Events.{Item, Event, Placed, item_read, read_frame}
-use Rattle.mq_trace.specs.Refusals.{or_else, is_too_large, is_other_version, first_standing}
+use Rattle.mq_trace.specs.Refusals.{is_too_large, is_other_version, first_standing}
 use Rattle.mq_trace.proofs.ItemLaws.{met_other}
 use Rattle.mq_trace.specs.Connections.{is_answer}
 use Rattle.mq_trace.specs.Context.{Half, so_far_in, put}
@@ -141,7 +142,7 @@ stops_over declines limit bed f byte sink open_yet over =
       is = refl;
       unrefused = refl;
       unheard = refl;
-      why = inl (ap (λ (o : Option Refusal). or_else o None) met, refl);
+      why = inl (ap (λ (o : Option Refusal). option_or o None) met, refl);
     })
 
 module _ {S : Type 0} (agrees : S → List Placed → Type 0) (declines : S → S → List Placed → Refusal → Type 0) (limit : ℕ) (bed : BedInMemory) (at last : ℕ) (c : Connections) (u bytes : List ℕ)

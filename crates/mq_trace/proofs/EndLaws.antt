@@ -13,7 +13,7 @@ use Rattle.mq_trace.specs.declared.connections.Connections.{Connections}
 use Rattle.mq_trace.specs.declared.reading.Reading.{Reading}
 use Rattle.mq_trace.specs.Framing.{kind_of, way_of, body_length}
 use Rattle.mq_trace.specs.Events.{Event, opened, closed, rested, released, event_of_head}
-use Rattle.mq_trace.specs.Refusals.{first_standing, allows}
+use Rattle.mq_trace.specs.Refusals.{first_standing, allows_length}
 use Rattle.mq_trace.specs.Context.{Context, refusal_for, event_for, placed_for, put, after, with_heard}
 use Rattle.mq_trace.specs.Telling.{met_by, next_placed}
 use Rattle.mq_trace.specs.Keeping.{half_in, spelled_from, IsAt, context_of, begun_in, IsUnfinished, IsSound, Advances}
@@ -56,7 +56,7 @@ fourth first (x ∷ y ∷ []) b e = absurd (omega arith)
 fourth first (x ∷ y ∷ z ∷ []) b e = fifth_length first x y z b ∙ (let same : from_be_bytes w32 (x ∷ y ∷ z ∷ b ∷ []) ≡ (((0 * 256 + x) * 256 + y) * 256 + z) * 256 + b = omega arith in same)
 fourth first (x ∷ y ∷ z ∷ w ∷ bytes) b e = absurd (omega arith)
 
-no_body : (kind : RecordKind) (event : Event) (number : ℕ) → event_of_head kind ≡ Some event → allows (Some kind) number ≡ true → number ≡ 0
+no_body : (kind : RecordKind) (event : Event) (number : ℕ) → event_of_head kind ≡ Some event → allows_length (Some kind) number ≡ true → number ≡ 0
 no_body kinds.Open event number e allowed = eqb-true number 0 allowed
 no_body kinds.Close event number e allowed = eqb-true number 0 allowed
 no_body kinds.Rest event number e allowed = eqb-true number 0 allowed
@@ -92,10 +92,10 @@ module _ (r : Reading) (kind : RecordKind) (number b : ℕ) (sound : IsSound r) 
   ended_kind part at = (head_is r kind 3 number sound staged part at).3
 
   ended_refusal : (part : List ℕ) → IsAt r.stage part → refusal_for r.limit (context_of r part) b
-      ≡ cond (not (allows (Some kind) told)) (Some (refusals.Length r.at)) (head_met kind r.at r.connections)
+      ≡ cond (not (allows_length (Some kind) told)) (Some (refusals.Length r.at)) (head_met kind r.at r.connections)
   ended_refusal part at =
       fifth_refusal r.limit (context_of r part) b kind (head_behind r kind 3 number sound staged) (ended_four part at) (ended_kind part at)
-      ∙ ap (λ m. cond (not (allows (Some kind) m)) (Some (refusals.Length r.at)) (head_met kind r.at r.connections)) (ended_length part at)
+      ∙ ap (λ m. cond (not (allows_length (Some kind) m)) (Some (refusals.Length r.at)) (head_met kind r.at r.connections)) (ended_length part at)
 
   ended_event : (part : List ℕ) → IsAt r.stage part → event_for (context_of r part) b ≡ event_of_head kind
   ended_event part at = fifth_event (context_of r part) b kind (head_behind r kind 3 number sound staged) (ended_four part at) (ended_kind part at)
@@ -112,17 +112,17 @@ module _ (r : Reading) (kind : RecordKind) (number b : ℕ) (sound : IsSound r) 
       ∙ ap (λ m. with_heard (kept m) (event_for c b)) (ended_length part at)
       ∙ ap (with_heard (kept told)) (ended_event part at)
 
-  allowed_refusal : allows (Some kind) told ≡ true → (part : List ℕ) → IsAt r.stage part → refusal_for r.limit (context_of r part) b ≡ head_met kind r.at r.connections
+  allowed_refusal : allows_length (Some kind) told ≡ true → (part : List ℕ) → IsAt r.stage part → refusal_for r.limit (context_of r part) b ≡ head_met kind r.at r.connections
   allowed_refusal allowed part at =
       ended_refusal part at ∙ ap (λ t. cond (not t) (Some (refusals.Length r.at)) (head_met kind r.at r.connections)) allowed
 
   -- A length that the kind doesn't allow.
-  pub length_refused : allows (Some kind) told ≡ false → (part : List ℕ) → IsAt r.stage part → refusal_for r.limit (context_of r part) b ≡ Some (refusals.Length r.at)
+  pub length_refused : allows_length (Some kind) told ≡ false → (part : List ℕ) → IsAt r.stage part → refusal_for r.limit (context_of r part) b ≡ Some (refusals.Length r.at)
   length_refused barred part at =
       ended_refusal part at ∙ ap (λ t. cond (not t) (Some (refusals.Length r.at)) (head_met kind r.at r.connections)) barred
 
   -- A record that is its head alone.
-  pub mark_tells : (event : Event) → event_of_head kind ≡ Some event → allows (Some kind) told ≡ true → Tells r b event
+  pub mark_tells : (event : Event) → event_of_head kind ≡ Some event → allows_length (Some kind) told ≡ true → Tells r b event
   mark_tells event is allowed part at =
       let c = context_of r part in
       let none = no_body kind event told is allowed in (
@@ -133,7 +133,7 @@ module _ (r : Reading) (kind : RecordKind) (number b : ℕ) (sound : IsSound r) 
             ∙ ap (with_heard (record c { at = r.at + 1; part = []; records = r.records + 1 })) is,
       )
 
-  quiet_refusal : event_of_head kind ≡ None → allows (Some kind) told ≡ true → (part : List ℕ) → IsAt r.stage part → refusal_for r.limit (context_of r part) b ≡ None
+  quiet_refusal : event_of_head kind ≡ None → allows_length (Some kind) told ≡ true → (part : List ℕ) → IsAt r.stage part → refusal_for r.limit (context_of r part) b ≡ None
   quiet_refusal is allowed part at =
       allowed_refusal allowed part at ∙ ap (λ (o : Option Event). first_standing ((is_some o && nat_le 4294967295 r.connections.events, refusals.TooLong r.at) ∷ [])) is
 
@@ -161,7 +161,7 @@ module _ (r : Reading) (kind : RecordKind) (number b : ℕ) (sound : IsSound r) 
       let body = ended_length part at in
       (kind, kind_longer part at, goes, omega arith, omega arith)
 
-  pub body_advances : (way : Way) → way_of (Some kind) ≡ Some way → event_of_head kind ≡ None → allows (Some kind) told ≡ true
+  pub body_advances : (way : Way) → way_of (Some kind) ≡ Some way → event_of_head kind ≡ None → allows_length (Some kind) told ≡ true
       → Advances r (leaving (record r { at = r.at + 1 }) way told) (b ∷ []) []
   body_advances way goes is allowed = one_step r (leaving (record r { at = r.at + 1 }) way told) b [] refl (λ part at. (
     cond (told == 0) [] (part ++ b ∷ []),
@@ -172,7 +172,7 @@ module _ (r : Reading) (kind : RecordKind) (number b : ℕ) (sound : IsSound r) 
   ))
 
   -- The head of a RELEASE.
-  pub release_advances : kind ≡ kinds.Release → event_of_head kind ≡ None → allows (Some kind) told ≡ true → told ≡ 2
+  pub release_advances : kind ≡ kinds.Release → event_of_head kind ≡ None → allows_length (Some kind) told ≡ true → told ≡ 2
       → Advances r (record r { at = r.at + 1; stage = stages.Release None }) (b ∷ []) []
   release_advances releases is allowed two = one_step r (record r { at = r.at + 1; stage = stages.Release None }) b [] refl (λ part at. (
     part ++ b ∷ [],

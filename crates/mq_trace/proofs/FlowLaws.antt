@@ -3,6 +3,7 @@ use Rattle.std.proofs.Common.{◌≡◌, ℕ, ◌+◌, ◌<◌, ◌≤◌, Bool,
 use Rattle.std.specs.Prelude.{◌==◌, is_some, nat_le, option_map, slice_index}
 use Rattle.std.proofs.lemmas.List.{append-nil}
 use Rattle.std.proofs.lemmas.Bool.{le-ltb, lt-ltb, ne_eqb, eq-eqb}
+use Rattle.std.specs.Option.{option_or}
 use Rattle.mq_packet.specs.declared.header.FixedHeader.{FixedHeader}
 use Rattle.mq_packet.specs.declared.header.FixedHeader.TheVariants as headers
 use Rattle.mq_packet.specs.Stream.{fixed_header_of, frame_size, is_lost}
@@ -12,7 +13,7 @@ use Rattle.mq_trace.specs.declared.kind.Way.TheVariants as ways
 use Rattle.mq_trace.specs.declared.refusal.Refusal.{Refusal}
 use Rattle.mq_trace.specs.declared.refusal.Refusal.TheVariants as refusals
 use Rattle.mq_trace.specs.Events.{lost, Item, Event, item_at, item_read, read_frame}
-use Rattle.mq_trace.specs.Refusals.{or_else, first_standing, is_too_large, is_other_version}
+use Rattle.mq_trace.specs.Refusals.{first_standing, is_too_large, is_other_version}
 use Rattle.mq_trace.specs.Context.{Half, so_far_in, half_after, put}
 use Rattle.mq_trace.specs.Flows.{Bed, Flow, going, comes_early, flow_event, flow_refusal, flow_placed, flow_placed_with, flow_with, flow_after, flow_behind, flow_refused, flow_heard}
 
@@ -21,15 +22,15 @@ pub behind-append : (bed : Bed) (f : Flow) (a b : List ℕ) → flow_behind bed 
 behind-append bed f [] b = refl
 behind-append bed f (byte ∷ a) b = behind-append bed (flow_after bed f byte) a b
 
-or_else_assoc : {A : Type 0} (a b c : Option A) → or_else a (or_else b c) ≡ or_else (or_else a b) c
-or_else_assoc (Some x) b c = refl
-or_else_assoc None b c = refl
+option_or_assoc : {A : Type 0} (a b c : Option A) → option_or a (option_or b c) ≡ option_or (option_or a b) c
+option_or_assoc (Some x) b c = refl
+option_or_assoc None b c = refl
 
-pub refused-append : (limit : ℕ) (bed : Bed) (f : Flow) (a b : List ℕ) → flow_refused limit bed f (a ++ b) ≡ or_else (flow_refused limit bed f a) (flow_refused limit bed (flow_behind bed f a) b)
+pub refused-append : (limit : ℕ) (bed : Bed) (f : Flow) (a b : List ℕ) → flow_refused limit bed f (a ++ b) ≡ option_or (flow_refused limit bed f a) (flow_refused limit bed (flow_behind bed f a) b)
 refused-append limit bed f [] b = refl
 refused-append limit bed f (byte ∷ a) b =
-    ap (or_else (flow_refusal limit bed f byte)) (refused-append limit bed (flow_after bed f byte) a b)
-    ∙ or_else_assoc (flow_refusal limit bed f byte) (flow_refused limit bed (flow_after bed f byte) a) (flow_refused limit bed (flow_behind bed (flow_after bed f byte) a) b)
+    ap (option_or (flow_refusal limit bed f byte)) (refused-append limit bed (flow_after bed f byte) a b)
+    ∙ option_or_assoc (flow_refusal limit bed f byte) (flow_refused limit bed (flow_after bed f byte) a) (flow_refused limit bed (flow_behind bed (flow_after bed f byte) a) b)
 
 pub heard-append : (bed : Bed) (f : Flow) (a b : List ℕ) → flow_heard bed f (a ++ b) ≡ flow_heard bed (flow_behind bed f a) b ++ flow_heard bed f a
 heard-append bed f [] b = sym (append-nil (flow_heard bed f b))
@@ -85,7 +86,7 @@ quiet_more : (limit : ℕ) (bed : Bed) (f : Flow) (byte : ℕ) (bytes : List ℕ
 quiet_more limit bed f byte bytes between half one more =
     let counted : f.at + 1 + length bytes ≡ f.at + length (byte ∷ bytes) = omega arith in
     record {
-      refused = ap (λ o. or_else o (flow_refused limit bed (flow_after bed f byte) bytes)) one.refused ∙ ap (λ g. flow_refused limit bed g bytes) one.behind ∙ more.refused;
+      refused = ap (λ o. option_or o (flow_refused limit bed (flow_after bed f byte) bytes)) one.refused ∙ ap (λ g. flow_refused limit bed g bytes) one.behind ∙ more.refused;
       heard = ap (λ g. flow_heard bed g bytes ++ put (flow_placed bed f byte) []) one.behind
           ∙ ap (λ placed. flow_heard bed (record f { at = f.at + 1; half = between }) bytes ++ put placed []) one.placed
           ∙ append-nil (flow_heard bed (record f { at = f.at + 1; half = between }) bytes) ∙ more.heard;
@@ -312,7 +313,7 @@ loses-placed bed f u byte e l = placed_is bed f byte (Some (going bed.way lost))
 pub refused-one : (limit : ℕ) (bed : Bed) (f : Flow) (byte : ℕ) → flow_refused limit bed f (byte ∷ []) ≡ flow_refusal limit bed f byte
 refused-one limit bed f byte = or_none (flow_refusal limit bed f byte)
   where
-    or_none : (o : Option Refusal) → or_else o None ≡ o
+    or_none : (o : Option Refusal) → option_or o None ≡ o
     or_none (Some refusal) = refl
     or_none None = refl
 
@@ -396,7 +397,7 @@ module _ (bed : Bed) (f : Flow) (u p : List ℕ) (byte : ℕ) (e : f.half ≡ go
   all_refused limit may =
       let quiet : IsQuiet limit bed f p (going_on (u ++ p)) = until_last limit may in
       refused-append limit bed f p (byte ∷ [])
-      ∙ ap (λ o. or_else o (flow_refused limit bed (flow_behind bed f p) (byte ∷ []))) quiet.refused
+      ∙ ap (λ o. option_or o (flow_refused limit bed (flow_behind bed f p) (byte ∷ []))) quiet.refused
       ∙ ap (λ g. flow_refused limit bed g (byte ∷ [])) quiet.behind
       ∙ refused-one limit bed before byte
       ∙ last_refusal bed before (u ++ p) byte refl last_whole limit header size known (still limit may)
@@ -520,7 +521,7 @@ complete-behind-frame bed f u bytes e whole some =
 
 -- A refusal of the first bytes stays, whatever follows; where there is none, what follows decides.
 pub refused-first : (limit : ℕ) (bed : Bed) (f : Flow) (a b : List ℕ) (refusal : Refusal) → flow_refused limit bed f a ≡ Some refusal → flow_refused limit bed f (a ++ b) ≡ Some refusal
-refused-first limit bed f a b refusal e = refused-append limit bed f a b ∙ ap (λ o. or_else o (flow_refused limit bed (flow_behind bed f a) b)) e
+refused-first limit bed f a b refusal e = refused-append limit bed f a b ∙ ap (λ o. option_or o (flow_refused limit bed (flow_behind bed f a) b)) e
 
 pub refused-later : (limit : ℕ) (bed : Bed) (f : Flow) (a b : List ℕ) → flow_refused limit bed f a ≡ None → flow_refused limit bed f (a ++ b) ≡ flow_refused limit bed (flow_behind bed f a) b
-refused-later limit bed f a b e = refused-append limit bed f a b ∙ ap (λ o. or_else o (flow_refused limit bed (flow_behind bed f a) b)) e
+refused-later limit bed f a b e = refused-append limit bed f a b ∙ ap (λ o. option_or o (flow_refused limit bed (flow_behind bed f a) b)) e

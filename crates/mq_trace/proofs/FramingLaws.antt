@@ -6,7 +6,7 @@ use Rattle.std.proofs.lemmas.Bool.{ltb-true, ltb-false, le-ltb, leb-true, le-leb
 use Rattle.mq_trace.specs.declared.kind.Way.{Way}
 use Rattle.mq_trace.specs.declared.kind.Way.TheVariants as ways
 use Rattle.mq_trace.specs.Pieces.{Pieces, pieces}
-use Rattle.mq_trace.specs.Framing.{kind_of, body_length, record_size, records, begun, begun_with, way_of, opens, if_way, carried}
+use Rattle.mq_trace.specs.Framing.{kind_of, body_length, record_size, records, begun_records, begun_with, way_of, opens, if_way, carried}
 use Rattle.mq_trace.proofs.PiecesLaws.{Settles, grown, rest_none, pieces-grow, nothing_cut}
 
 -- a record's length depends on no byte after its head
@@ -83,8 +83,8 @@ pub records-header : (log : List ℕ) → length log ≤ 8 → records log ≡ r
 unfolding records
 records-header log h = ap (pieces record_size) (drop_all 8 log h) ∙ nothing_cut record_size record_settles
 
-pub begun-header : (log : List ℕ) → length log ≤ 8 → begun log ≡ []
-unfolding begun
+pub begun-header : (log : List ℕ) → length log ≤ 8 → begun_records log ≡ []
+unfolding begun_records
 begun-header log h = rw (records-header log h) refl
 
 put_in_front : (rest : List ℕ) (byte : ℕ) (whole : List (List ℕ)) → begun_with (rest ++ byte ∷ []) whole ≡ (rest ++ byte ∷ []) ∷ whole
@@ -96,13 +96,13 @@ begun_grown None p byte = put_in_front p.rest byte (reverse p.whole)
 begun_grown (Some size) p byte = reverse-append p.whole ((p.rest ++ byte ∷ []) ∷ [])
 
 -- the record that a byte belongs to is in front of the whole ones
-pub begun-grow : (log : List ℕ) (byte : ℕ) → 8 ≤ length log → begun (log ++ byte ∷ []) ≡ ((records log).rest ++ byte ∷ []) ∷ reverse (records log).whole
-unfolding begun
+pub begun-grow : (log : List ℕ) (byte : ℕ) → 8 ≤ length log → begun_records (log ++ byte ∷ []) ≡ ((records log).rest ++ byte ∷ []) ∷ reverse (records log).whole
+unfolding begun_records
 begun-grow log byte h =
     ap (λ (p : Pieces). begun_with p.rest (reverse p.whole)) (records-grow log byte h)
     ∙ begun_grown (record_size ((records log).rest ++ byte ∷ [])) (records log) byte
 
-pub length-begun-grow : (log : List ℕ) (byte : ℕ) → 8 ≤ length log → length (begun (log ++ byte ∷ [])) ≡ length (records log).whole + 1
+pub length-begun-grow : (log : List ℕ) (byte : ℕ) → 8 ≤ length log → length (begun_records (log ++ byte ∷ [])) ≡ length (records log).whole + 1
 length-begun-grow log byte h = ap length (begun-grow log byte h) ∙ (let l = length-reverse (records log).whole in omega arith)
 
 -- how many whole records there are then
@@ -198,8 +198,8 @@ carried_grown way (r ∷ rest) byte whole =
 
 -- what a direction carried, with one byte of the log more
 pub carried-grow : (way : Way) (log : List ℕ) (byte : ℕ) → 8 ≤ length log
-    → carried way (begun (log ++ byte ∷ [])) ≡ carried_then way (carried way (begun log)) ((records log).rest ++ byte ∷ []) byte
-unfolding begun
+    → carried way (begun_records (log ++ byte ∷ [])) ≡ carried_then way (carried way (begun_records log)) ((records log).rest ++ byte ∷ []) byte
+unfolding begun_records
 carried-grow way log byte h =
     ap (carried way) (begun-grow log byte h) ∙ carried_grown way (records log).rest byte (reverse (records log).whole)
 

@@ -5,7 +5,7 @@ use Rattle.mq_trace.specs.declared.kind.Way.{Way}
 use Rattle.mq_trace.specs.declared.kind.Way.TheVariants as ways
 use Rattle.mq_trace.specs.Pieces.{Pieces, pieces}
 use Rattle.mq_packet.specs.Stream.{frame_size, is_lost}
-use Rattle.mq_trace.specs.Framing.{kind_of, way_of, opens, if_way, stream, begun, carried, records}
+use Rattle.mq_trace.specs.Framing.{kind_of, way_of, opens, if_way, stream, begun_records, carried, records}
 use Rattle.mq_trace.specs.Events.{packet_with}
 use Rattle.mq_trace.specs.Context.{half_with, half_of, half_after, half_by, half_then, so_far_in}
 use Rattle.mq_trace.proofs.PiecesLaws.{Settles, grown, pieces-grow, nothing_cut}
@@ -84,11 +84,11 @@ half_moved way h part byte false false = ap half_of (append-nil h)
 
 -- one byte more of the log
 pub half-then : (way : Way) (log : List ℕ) (byte : ℕ) → 8 ≤ length log
-    → half_of (carried way (begun (log ++ byte ∷ []))) ≡ half_then way (half_of (carried way (begun log))) ((records log).rest ++ byte ∷ []) byte
+    → half_of (carried way (begun_records (log ++ byte ∷ []))) ≡ half_then way (half_of (carried way (begun_records log))) ((records log).rest ++ byte ∷ []) byte
 unfolding half_then
 half-then way log byte h =
     let part = (records log).rest ++ byte ∷ [] in
-    ap half_of (carried-grow way log byte h) ∙ half_moved way (carried way (begun log)) part byte (opens (kind_of part)) (nat_lt 5 (length part))
+    ap half_of (carried-grow way log byte h) ∙ half_moved way (carried way (begun_records log)) part byte (opens (kind_of part)) (nat_lt 5 (length part))
 
 so_far_by_lost : (rest : List ℕ) (byte : ℕ) (b : Bool) → cond b [] (rest ++ byte ∷ []) ≡ cond b [] (cond b [] rest ++ byte ∷ [])
 so_far_by_lost rest byte true = refl

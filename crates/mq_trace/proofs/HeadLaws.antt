@@ -14,10 +14,10 @@ use Rattle.mq_trace.specs.declared.refusal.Refusal.TheVariants as refusals
 use Rattle.mq_trace.specs.declared.reading.Reading.{Reading}
 use Rattle.mq_trace.specs.Framing.{kind_named, way_of}
 use Rattle.mq_trace.specs.Events.{Event, Placed, event_of_head}
-use Rattle.mq_trace.specs.Refusals.{first_standing, allows}
+use Rattle.mq_trace.specs.Refusals.{first_standing, allows_length}
 use Rattle.mq_trace.specs.Hearing.{AreEvents}
 use Rattle.mq_trace.specs.Keeping.{half_in, begun_in, IsSound, Advances, Comes, StepStops}
-use Rattle.mq_trace.specs.Stepping.{met_by_kind, kind_for, IsBodyHead, Begins, in_head, leaving}
+use Rattle.mq_trace.specs.Stepping.{met_by_kind, kind_for, IsBodyHead, BeginsRecord, in_head, leaving}
 use Rattle.mq_trace.proofs.ReadingLaws.{advanced, comes_after, stops_after, five_of}
 use Rattle.mq_trace.proofs.StageLaws.{first_advances, first_sound, three_advance, three_sound}
 use Rattle.mq_trace.proofs.EndLaws.{body_advances, left_sound}
@@ -30,7 +30,7 @@ silent : (way : Way) → event_of_head (kind_for way) ≡ None
 silent ways.Sent = refl
 silent ways.Recv = refl
 
-allowed : (way : Way) (number : ℕ) → number ≤ 1048576 → allows (Some (kind_for way)) number ≡ true
+allowed : (way : Way) (number : ℕ) → number ≤ 1048576 → allows_length (Some (kind_for way)) number ≡ true
 allowed ways.Sent number few = le-leb number 1048576 few
 allowed ways.Recv number few = le-leb number 1048576 few
 
@@ -41,7 +41,7 @@ unmet : (r : Reading) (way : Way) → r.connections.connected ≡ true → r.rec
 unmet r ways.Sent connected room = standing (not r.connections.connected) (nat_lt 4294967295 (r.records + 1)) (refusals.NotOpen r.at) (refusals.TooLong r.at) (ap not connected) (le-ltb 4294967295 (r.records + 1) (omega arith))
 unmet r ways.Recv connected room = standing (not r.connections.connected) (nat_lt 4294967295 (r.records + 1)) (refusals.NotOpen r.at) (refusals.TooLong r.at) (ap not connected) (le-ltb 4294967295 (r.records + 1) (omega arith))
 
-begins_body : (r : Reading) (way : Way) → Begins r (in_head r (r.at + 1) (kind_for way) 0 0) (kind_for way)
+begins_body : (r : Reading) (way : Way) → BeginsRecord r (in_head r (r.at + 1) (kind_for way) 0 0) (kind_for way)
 begins_body r ways.Sent = record { is = refl; sent = refl; recv = refl }
 begins_body r ways.Recv = record { is = refl; sent = refl; recv = refl }
 

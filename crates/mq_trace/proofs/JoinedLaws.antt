@@ -11,11 +11,11 @@ use Rattle.mq_trace.specs.declared.kind.RecordKind.TheVariants as kinds
 use Rattle.mq_trace.specs.declared.kind.Way.{Way}
 use Rattle.mq_trace.specs.declared.kind.Way.TheVariants as ways
 use Rattle.mq_trace.specs.Pieces.{Pieces, pieces}
-use Rattle.mq_trace.specs.Framing.{kind_of, way_of, opens, if_way, record_size, records, begun, begun_with, carried, stream}
+use Rattle.mq_trace.specs.Framing.{kind_of, way_of, opens, if_way, record_size, records, begun_records, begun_with, carried, stream}
 use Rattle.mq_trace.specs.Events.{Item, Event, Placed, lost, opened, closed, rested, sent, received, released, item_at, item_read, read_frame, packet_with, event_by, event_in, events}
-use Rattle.mq_trace.specs.Connections.{begins}
+use Rattle.mq_trace.specs.Connections.{begins_connection}
 use Rattle.mq_trace.specs.Context.{Context, context, so_far_by, so_far_for, event_for, placed_with, placed_for, put}
-use Rattle.mq_trace.specs.Joined.{opened_records, joined, if_some, frame_item, frame_items, stream_items, opened_events, item_going, items_on}
+use Rattle.mq_trace.specs.Joined.{opened_records, joined, if_some, frame_item, frame_items, stream_items, opened_events, item_going, connection_items}
 use Rattle.mq_trace.proofs.PiecesLaws.{grown, pieces-grow, nothing_cut}
 use Rattle.mq_trace.proofs.FramingLaws.{body_byte, if_way-nothing, if_way-append, kind_of-append, begun-grow, begun-header, rest-grow, IsRecord, record_size-is}
 use Rattle.mq_trace.proofs.HalfLaws.{frame_settles, nothing_lost}
@@ -162,9 +162,9 @@ joined_grown number way (r ∷ rest) byte whole =
     ∙ ap (λ m. (joined number way whole ++ cond (m == number) before []) ++ cond (opened_records (part ∷ whole) == number) (body_byte way part byte) []) n
 
 joined_more : (number : ℕ) (way : Way) (log : List ℕ) (byte : ℕ) → 8 ≤ length log
-    → joined number way (begun (log ++ byte ∷ []))
-    ≡ joined number way (begun log) ++ cond (opened_records (begun (log ++ byte ∷ [])) == number) (body_byte way ((records log).rest ++ byte ∷ []) byte) []
-unfolding begun
+    → joined number way (begun_records (log ++ byte ∷ []))
+    ≡ joined number way (begun_records log) ++ cond (opened_records (begun_records (log ++ byte ∷ [])) == number) (body_byte way ((records log).rest ++ byte ∷ []) byte) []
+unfolding begun_records
 joined_more number way log byte h =
     ap (joined number way) (begun-grow log byte h)
     ∙ joined_grown number way (records log).rest byte (reverse (records log).whole)
@@ -178,7 +178,7 @@ opening (part ∷ before) = cond (opens (kind_of part) && nat_lt (length part) 5
 
 abbrev begins_some : Option Event → Bool
 begins_some None = false
-begins_some (Some event) = begins event
+begins_some (Some event) = begins_connection event
 
 begins_by : (kind : Option RecordKind) (part so_far : List ℕ) → begins_some (event_by kind part so_far) ≡ (opens kind && (length part == 5))
 begins_by None part so_far = refl
@@ -291,18 +291,18 @@ settled_by part whole (Some n) e some none =
     nothing false = refl
 
 record Opened (log : List ℕ) : Type 0 where
-  same : opened_events (events log) + opening (begun log) ≡ opened_records (begun log)
-  settled : (records log).rest ≡ [] → opening (begun log) ≡ 0
+  same : opened_events (events log) + opening (begun_records log) ≡ opened_records (begun_records log)
+  settled : (records log).rest ≡ [] → opening (begun_records log) ≡ 0
 
 opened_header : (log : List ℕ) → length log ≤ 8 → Opened log
 opened_header log h = record {
-  same = subst (λ (l : List Placed). opened_events l + opening (begun log) ≡ opened_records (begun log)) (sym (events-header log h))
+  same = subst (λ (l : List Placed). opened_events l + opening (begun_records log) ≡ opened_records (begun_records log)) (sym (events-header log h))
       (subst (λ (b : List (List ℕ)). 0 + opening b ≡ opened_records b) (sym (begun-header log h)) refl);
   settled = λ none. ap opening (begun-header log h);
 }
 
 opened_on : (log : List ℕ) (byte : ℕ) → Opened log → 8 ≤ length log → Opened (log ++ byte ∷ [])
-unfolding begun
+unfolding begun_records
 opened_on log byte before h =
     let rest : List ℕ = (records log).rest in
     let part : List ℕ = (records log).rest ++ byte ∷ [] in
@@ -378,19 +378,19 @@ nothing_put items true = append-nil items
 nothing_put items false = append-nil items
 
 items_put : (number : ℕ) (way : Way) (c : Context) (o : Option Event) (past : List Placed)
-    → items_on number way (put (placed_with c o) past) ≡ items_on number way past ++ cond (opened_events (put (placed_with c o) past) == number) (event_items way o) []
-items_put number way c None past = sym (nothing_put (items_on number way past) (opened_events past == number))
+    → connection_items number way (put (placed_with c o) past) ≡ connection_items number way past ++ cond (opened_events (put (placed_with c o) past) == number) (event_items way o) []
+items_put number way c None past = sym (nothing_put (connection_items number way past) (opened_events past == number))
 items_put number way c (Some event) past = refl
 
 items_more : (number : ℕ) (way : Way) (log : List ℕ) (byte : ℕ) → 8 ≤ length log
-    → items_on number way (events (log ++ byte ∷ []))
-    ≡ items_on number way (events log) ++ cond (opened_events (events (log ++ byte ∷ [])) == number)
+    → connection_items number way (events (log ++ byte ∷ []))
+    ≡ connection_items number way (events log) ++ cond (opened_events (events (log ++ byte ∷ [])) == number)
     (if_going way (way_of (kind_of ((records log).rest ++ byte ∷ []))) (if_some (item_at (so_far_for (context log) byte)))) []
 items_more number way log byte h =
     let part : List ℕ = (records log).rest ++ byte ∷ [] in
-    let before : List Item = items_on number way (events log) in
+    let before : List Item = connection_items number way (events log) in
     let o : Option Event = event_for (context log) byte in
-    ap (items_on number way) (events_more log byte)
+    ap (connection_items number way) (events_more log byte)
     ∙ items_put number way (context log) o (events log)
     ∙ ap (λ (l : List Placed). before ++ cond (opened_events l == number) (event_items way o) []) (sym (events_more log byte))
     ∙ ap (λ e. before ++ cond (opened_events (events (log ++ byte ∷ [])) == number) (event_items way e) []) (event_is log byte h)
@@ -402,13 +402,13 @@ module _ (number : ℕ) (way : Way) (log : List ℕ) (byte : ℕ) (behind : 8 �
   part = (records log).rest ++ byte ∷ []
 
   abbrev carried_so : List ℕ
-  carried_so = joined number way (begun log)
+  carried_so = joined number way (begun_records log)
 
   abbrev m : ℕ
   m = opened_events (events (log ++ byte ∷ []))
 
   abbrev n : ℕ
-  n = opened_records (begun (log ++ byte ∷ []))
+  n = opened_records (begun_records (log ++ byte ∷ []))
 
   abbrev item_so : Option Item
   item_so = item_at (so_far_for (context log) byte)
@@ -419,18 +419,18 @@ module _ (number : ℕ) (way : Way) (log : List ℕ) (byte : ℕ) (behind : 8 �
 
   same_number : opens (kind_of part) ≡ false → m ≡ n
   same_number is =
-      let both : m + opening (begun (log ++ byte ∷ [])) ≡ n = (opened_always (log ++ byte ∷ [])).same in
-      let none : opening (begun (log ++ byte ∷ [])) ≡ 0
+      let both : m + opening (begun_records (log ++ byte ∷ [])) ≡ n = (opened_always (log ++ byte ∷ [])).same in
+      let none : opening (begun_records (log ++ byte ∷ [])) ≡ 0
       = ap opening (begun-grow log byte behind) ∙ ap (λ t. cond (t && nat_lt (length part) 5) 1 0) is in
       omega (arith, both, none)
 
-  newest_carried : opens (kind_of part) ≡ false → n ≡ number → carried_so ≡ carried way (begun log)
-  unfolding begun
+  newest_carried : opens (kind_of part) ≡ false → n ≡ number → carried_so ≡ carried way (begun_records log)
+  unfolding begun_records
   newest_carried is same =
-      let kept : n ≡ opened_records (begun log) = ap opened_records (begun-grow log byte behind) ∙ opened_kept (records log).rest byte (reverse (records log).whole) is in
-      ap (λ k. joined k way (begun log)) (sym same ∙ kept) ∙ newest way (begun log)
+      let kept : n ≡ opened_records (begun_records log) = ap opened_records (begun-grow log byte behind) ∙ opened_kept (records log).rest byte (reverse (records log).whole) is in
+      ap (λ k. joined k way (begun_records log)) (sym same ∙ kept) ∙ newest way (begun_records log)
 
-  item_goes : nat_lt 5 (length part) ≡ true → way_of (kind_of part) ≡ Some way → carried_so ≡ carried way (begun log) → item_so ≡ item_at (packet_with carried_so byte)
+  item_goes : nat_lt 5 (length part) ≡ true → way_of (kind_of part) ≡ Some way → carried_so ≡ carried way (begun_records log) → item_so ≡ item_at (packet_with carried_so byte)
   item_goes g w is =
       ap item_at (so_far_is
       ∙ ap (λ t. cond t (so_far_by (way_of (kind_of part)) (context log) byte) []) g
@@ -483,7 +483,7 @@ module _ (number : ℕ) (way : Way) (log : List ℕ) (byte : ℕ) (behind : 8 �
   byte_goes true g ways.Sent same (Some ways.Sent) is = own_byte (n == number) refl g (is ∙ ap Some same)
   byte_goes true g ways.Recv same (Some ways.Recv) is = own_byte (n == number) refl g (is ∙ ap Some same)
 
-  byte_more : items_on number way (events log) ≡ stream_items (stream carried_so) → items_on number way (events (log ++ byte ∷ [])) ≡ stream_items (stream (joined number way (begun (log ++ byte ∷ []))))
+  byte_more : connection_items number way (events log) ≡ stream_items (stream carried_so) → connection_items number way (events (log ++ byte ∷ [])) ≡ stream_items (stream (joined number way (begun_records (log ++ byte ∷ []))))
   byte_more before =
       items_more number way log byte behind
       ∙ ap (λ items. items ++ cond (m == number) (if_going way (way_of (kind_of part)) (if_some item_so)) []) before
@@ -491,17 +491,17 @@ module _ (number : ℕ) (way : Way) (log : List ℕ) (byte : ℕ) (behind : 8 �
       ∙ ap (λ bytes. stream_items (stream bytes)) (sym (joined_more number way log byte behind))
 
 -- Nothing is on a connection in a header.
-header_items : (number : ℕ) (way : Way) (log : List ℕ) → length log ≤ 8 → items_on number way (events log) ≡ stream_items (stream (joined number way (begun log)))
+header_items : (number : ℕ) (way : Way) (log : List ℕ) → length log ≤ 8 → connection_items number way (events log) ≡ stream_items (stream (joined number way (begun_records log)))
 header_items number way log h =
-    ap (items_on number way) (events-header log h) ∙ sym (ap (λ parts. stream_items (stream (joined number way parts))) (begun-header log h) ∙ stream_nothing)
+    ap (connection_items number way) (events-header log h) ∙ sym (ap (λ parts. stream_items (stream (joined number way parts))) (begun-header log h) ∙ stream_nothing)
 
-pub items-are : (number : ℕ) (way : Way) (log : List ℕ) → items_on number way (events log) ≡ stream_items (stream (joined number way (begun log)))
+pub items-are : (number : ℕ) (way : Way) (log : List ℕ) → connection_items number way (events log) ≡ stream_items (stream (joined number way (begun_records log)))
 items-are number way log =
-    along (λ l. items_on number way (events l) ≡ stream_items (stream (joined number way (begun l)))) (header_items number way [] (omega arith))
+    along (λ l. connection_items number way (events l) ≡ stream_items (stream (joined number way (begun_records l)))) (header_items number way [] (omega arith))
     (λ l byte before. by_length l byte before (nat_lt (length l) 8) refl) log
   where
-    by_length : (l : List ℕ) (byte : ℕ) → items_on number way (events l) ≡ stream_items (stream (joined number way (begun l))) → (b : Bool) → nat_lt (length l) 8 ≡ b
-        → items_on number way (events (l ++ byte ∷ [])) ≡ stream_items (stream (joined number way (begun (l ++ byte ∷ []))))
+    by_length : (l : List ℕ) (byte : ℕ) → connection_items number way (events l) ≡ stream_items (stream (joined number way (begun_records l))) → (b : Bool) → nat_lt (length l) 8 ≡ b
+        → connection_items number way (events (l ++ byte ∷ [])) ≡ stream_items (stream (joined number way (begun_records (l ++ byte ∷ []))))
     by_length l byte before true is =
         let more = length-append l (byte ∷ []) in
         let short = ltb-true (length l) 8 is in

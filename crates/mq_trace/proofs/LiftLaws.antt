@@ -3,6 +3,7 @@ use Rattle.std.proofs.Common.{◌≡◌, ℕ, ◌+◌, ◌<◌, ◌≤◌, Bool,
 use Rattle.std.specs.Prelude.{◌==◌, ◌||◌, not, if◌then◌else◌, is_some, is_none, nat_lt, nat_le, option_map}
 use Rattle.std.proofs.lemmas.List.{append-nil}
 use Rattle.std.proofs.lemmas.Bool.{le-ltb, lt-ltb, le-leb, lt-leb, eqb-true, eqb-false, ne_eqb}
+use Rattle.std.specs.Option.{option_or}
 use Rattle.mq_packet.specs.Stream.{fixed_header_of, frame_size}
 use Rattle.mq_trace.specs.declared.kind.RecordKind.{RecordKind}
 use Rattle.mq_trace.specs.declared.kind.RecordKind.TheVariants as kinds
@@ -12,7 +13,7 @@ use Rattle.mq_trace.specs.declared.refusal.Refusal.{Refusal}
 use Rattle.mq_trace.specs.declared.refusal.Refusal.TheVariants as refusals
 use Rattle.mq_trace.specs.Framing.{kind_of, body_length, record_size, way_of, opens}
 use Rattle.mq_trace.specs.Events.{Item, Event, item_at, event_by, event_in, read_frame}
-use Rattle.mq_trace.specs.Refusals.{or_else, first_standing, allows, is_open_kind, needs_connection, is_release_kind, is_too_large, is_other_version, is_early, record_refusal, header_refusal}
+use Rattle.mq_trace.specs.Refusals.{first_standing, allows_length, is_open_kind, needs_connection, is_release_kind, is_too_large, is_other_version, is_early, record_refusal, header_refusal}
 use Rattle.mq_trace.specs.Context.{Half, Context, half_for, so_far_in, so_far_by, so_far_for, situated, half_after, half_by, half_then, with_heard, after_header, after_part, after, put, placed_with, placed_for, refusal_for, event_for}
 use Rattle.mq_trace.specs.Runs.{behind, refused_in, heard_in}
 use Rattle.mq_trace.specs.Flows.{Bed, Flow, going, comes_early, flow_event, flow_refusal, flow_placed, flow_placed_with, flow_with, flow_after, flow_behind, flow_refused, flow_heard, bed_in, flow_in, half_behind, flowed}
@@ -57,7 +58,7 @@ body_stays (k ∷ p ∷ q ∷ r ∷ s ∷ part) b h = refl
 abbrev lines : ℕ → Context → List ℕ → List ℕ → Bool → Bool → Bool → Option Event → Option Refusal
 lines limit c part so_far first head early event = first_standing (
     (first && is_none (kind_of part), refusals.Kind c.at)
-    ∷ (head && not (allows (kind_of part) (body_length part)), refusals.Length c.at)
+    ∷ (head && not (allows_length (kind_of part) (body_length part)), refusals.Length c.at)
     ∷ (first && (is_open_kind (kind_of part) && c.connected), refusals.Nested c.at)
     ∷ (first && (needs_connection (kind_of part) && not c.connected), refusals.NotOpen c.at)
     ∷ (first && (is_release_kind (kind_of part) && not c.header.releases), refusals.ReleaseUnrecorded c.at)
@@ -327,10 +328,10 @@ module _ (c : Context) (way : Way) (byte next : ℕ) (bytes : List ℕ) (behind_
 pub lifted-refused : (limit : ℕ) (c : Context) (way : Way) (bytes : List ℕ) → 8 ≤ c.at → way_of (kind_of c.part) ≡ Some way → 5 ≤ length c.part
     → length c.part + length bytes ≤ 5 + body_length c.part → refused_in limit c bytes ≡ flow_refused limit (bed_in c way) (flow_in c way) bytes
 lifted-refused limit c way [] behind_header goes there fits = refl
-lifted-refused limit c way (byte ∷ []) behind_header goes there fits = ap (λ o. or_else o None) (lifted-refusal limit c way byte behind_header goes there)
+lifted-refused limit c way (byte ∷ []) behind_header goes there fits = ap (λ o. option_or o None) (lifted-refusal limit c way byte behind_header goes there)
 lifted-refused limit c way (byte ∷ next ∷ bytes) behind_header goes there fits =
-    ap (λ o. or_else o (refused_in limit (after c byte) (next ∷ bytes))) (lifted-refusal limit c way byte behind_header goes there)
-    ∙ ap (or_else (flow_refusal limit (bed_in c way) (flow_in c way) byte))
+    ap (λ o. option_or o (refused_in limit (after c byte) (next ∷ bytes))) (lifted-refusal limit c way byte behind_header goes there)
+    ∙ ap (option_or (flow_refusal limit (bed_in c way) (flow_in c way) byte))
     (ap (λ k. refused_in limit k (next ∷ bytes)) (then_is c way byte next bytes behind_header goes there fits)
     ∙ lifted-refused limit (then_kept c way byte next bytes behind_header goes there fits) way (next ∷ bytes)
     (then_at c way byte next bytes behind_header goes there fits) (then_goes c way byte next bytes behind_header goes there fits)

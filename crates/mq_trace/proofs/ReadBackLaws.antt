@@ -4,7 +4,7 @@ use Rattle.std.specs.Prelude.{◌==◌, nat_le, if◌then◌else◌}
 use Rattle.std.proofs.lemmas.Bool.{le-ltb, le-leb}
 use Rattle.std.proofs.lemmas.Nat.{from_be_bytes-to_be_bytes_4}
 use Rattle.mq_trace.specs.Framing.{kind_of, body_length, record_size}
-use Rattle.mq_trace.specs.Writing.{Record, opened, closed, rested, sent, received, released, bit_byte, record_kind, record_body, record_bytes, framed}
+use Rattle.mq_trace.specs.Writing.{Record, open_record, close_record, rest_record, sent_record, received_record, release_record, bit_byte, record_kind, record_body, record_bytes, framed}
 
 -- a record of this size, told by the tests
 abbrev size_if : Bool → Bool → ℕ → Option ℕ
@@ -30,21 +30,21 @@ framed_size kind body rest fits =
     whole_record (framed kind body ++ rest) within ∙ ap Some same
 
 pub size_read_back : (entry : Record) (rest : List ℕ) → length (record_body entry) ≤ 1048576 → record_size (record_bytes entry ++ rest) ≡ Some (length (record_bytes entry))
-size_read_back opened rest fits = framed_size 1 [] rest (omega arith)
-size_read_back (sent body) rest fits = framed_size 2 body rest (omega arith)
-size_read_back (received body) rest fits = framed_size 3 body rest (omega arith)
-size_read_back closed rest fits = framed_size 4 [] rest (omega arith)
-size_read_back rested rest fits = framed_size 5 [] rest (omega arith)
-size_read_back (released identifier) rest fits = framed_size 6 (record_body (released identifier)) rest (omega arith)
+size_read_back open_record rest fits = framed_size 1 [] rest (omega arith)
+size_read_back (sent_record body) rest fits = framed_size 2 body rest (omega arith)
+size_read_back (received_record body) rest fits = framed_size 3 body rest (omega arith)
+size_read_back close_record rest fits = framed_size 4 [] rest (omega arith)
+size_read_back rest_record rest fits = framed_size 5 [] rest (omega arith)
+size_read_back (release_record identifier) rest fits = framed_size 6 (record_body (release_record identifier)) rest (omega arith)
 
 pub kind_read_back : (entry : Record) (rest : List ℕ) → kind_of (record_bytes entry ++ rest) ≡ Some (record_kind entry)
 unfolding kind_of
-kind_read_back opened rest = refl
-kind_read_back (sent body) rest = refl
-kind_read_back (received body) rest = refl
-kind_read_back closed rest = refl
-kind_read_back rested rest = refl
-kind_read_back (released identifier) rest = refl
+kind_read_back open_record rest = refl
+kind_read_back (sent_record body) rest = refl
+kind_read_back (received_record body) rest = refl
+kind_read_back close_record rest = refl
+kind_read_back rest_record rest = refl
+kind_read_back (release_record identifier) rest = refl
 
 pub bit_read_back : (bit : Bool) → (bit_byte bit == 1) ≡ bit
 bit_read_back true = refl

@@ -2,10 +2,10 @@
 use Rattle.std.proofs.Common.{◌≡◌, ℕ, ◌+◌, ◌≤◌, List, [], ◌∷◌, ◌++◌, length, Option, refl, sym, ◌∙◌, ap, subst, arith, take, drop, append_assoc, length-append}
 use Rattle.std.specs.Prelude.{slice_index}
 use Rattle.std.proofs.lemmas.List.{append-nil, take-append-drop}
+use Rattle.std.specs.Option.{option_or}
 use Rattle.mq_trace.specs.declared.refusal.Refusal.{Refusal}
 use Rattle.mq_trace.specs.declared.reading.Reading.{Reading}
 use Rattle.mq_trace.specs.Events.{Placed}
-use Rattle.mq_trace.specs.Refusals.{or_else}
 use Rattle.mq_trace.specs.Context.{so_far_for}
 use Rattle.mq_trace.specs.Runs.{behind, refused_in, heard_in}
 use Rattle.mq_trace.specs.Hearing.{AreEvents}
@@ -23,7 +23,7 @@ advanced r r1 r2 a b h k first second = record {
         g.0,
         g.1,
         refused_append r.limit (context_of r part) a b
-            ∙ ap (λ o. or_else o (refused_in r.limit (behind (context_of r part) a) b)) f.2
+            ∙ ap (λ o. option_or o (refused_in r.limit (behind (context_of r part) a) b)) f.2
             ∙ ap (λ c. refused_in r.limit c b) f.3
             ∙ ap (λ limit. refused_in limit (context_of r1 f.0) b) (sym first.limit)
             ∙ g.2,
@@ -73,7 +73,7 @@ stops_after declines r r1 a b old new refusal quiet moved stop = record {
       let c = context_of r part in
       let refused : (bytes : List ℕ) → refused_in r.limit c (a ++ bytes) ≡ refused_in r1.limit (context_of r1 f.0) bytes = λ bytes.
       refused_append r.limit c a bytes
-      ∙ ap (λ o. or_else o (refused_in r.limit (behind c a) bytes)) f.2
+      ∙ ap (λ o. option_or o (refused_in r.limit (behind c a) bytes)) f.2
       ∙ ap (λ d. refused_in r.limit d bytes) f.3
       ∙ ap (λ limit. refused_in limit (context_of r1 f.0) bytes) (sym quiet.limit) in
       let heard : (bytes : List ℕ) → heard_in c (a ++ bytes) ≡ heard_in (context_of r1 f.0) bytes = λ bytes.

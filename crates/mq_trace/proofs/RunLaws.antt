@@ -1,26 +1,27 @@
 -- What several bytes do is what the first of them do, and then the others.
 use Rattle.std.proofs.Common.{◌≡◌, ℕ, List, [], ◌∷◌, ◌++◌, Option, Some, None, refl, sym, ◌∙◌, ap, append_assoc}
 use Rattle.std.proofs.lemmas.List.{append-nil}
+use Rattle.std.specs.Option.{option_or}
 use Rattle.mq_trace.specs.declared.refusal.Refusal.{Refusal}
 use Rattle.mq_trace.specs.Events.{Placed, events}
-use Rattle.mq_trace.specs.Refusals.{or_else, refused}
+use Rattle.mq_trace.specs.Refusals.{refused}
 use Rattle.mq_trace.specs.Context.{Context, context, refusal_for, placed_for, put, after}
 use Rattle.mq_trace.specs.Runs.{behind, refused_in, heard_in}
 use Rattle.mq_trace.proofs.ContextLaws.{refused-grow, refusal-kept, events-kept, context-grow}
 
-pub or_else-assoc : {A : Type 0} (a b c : Option A) → or_else (or_else a b) c ≡ or_else a (or_else b c)
-or_else-assoc (Some x) b c = refl
-or_else-assoc None b c = refl
+pub option_or-assoc : {A : Type 0} (a b c : Option A) → option_or (option_or a b) c ≡ option_or a (option_or b c)
+option_or-assoc (Some x) b c = refl
+option_or-assoc None b c = refl
 
 pub behind_append : (c : Context) (a b : List ℕ) → behind c (a ++ b) ≡ behind (behind c a) b
 behind_append c [] b = refl
 behind_append c (byte ∷ a) b = behind_append (after c byte) a b
 
-pub refused_append : (limit : ℕ) (c : Context) (a b : List ℕ) → refused_in limit c (a ++ b) ≡ or_else (refused_in limit c a) (refused_in limit (behind c a) b)
+pub refused_append : (limit : ℕ) (c : Context) (a b : List ℕ) → refused_in limit c (a ++ b) ≡ option_or (refused_in limit c a) (refused_in limit (behind c a) b)
 refused_append limit c [] b = refl
 refused_append limit c (byte ∷ a) b =
-    ap (or_else (refusal_for limit c byte)) (refused_append limit (after c byte) a b)
-    ∙ sym (or_else-assoc (refusal_for limit c byte) (refused_in limit (after c byte) a) (refused_in limit (behind (after c byte) a) b))
+    ap (option_or (refusal_for limit c byte)) (refused_append limit (after c byte) a b)
+    ∙ sym (option_or-assoc (refusal_for limit c byte) (refused_in limit (after c byte) a) (refused_in limit (behind (after c byte) a) b))
 
 pub heard_append : (c : Context) (a b : List ℕ) → heard_in c (a ++ b) ≡ heard_in (behind c a) b ++ heard_in c a
 heard_append c [] b = sym (append-nil (heard_in c b))
@@ -39,18 +40,18 @@ context_run log (byte ∷ bytes) =
     ∙ context_run (log ++ byte ∷ []) bytes
     ∙ ap (λ c. behind c bytes) (context-grow log byte)
 
-or_else-none : {A : Type 0} (a : Option A) → a ≡ or_else a None
-or_else-none (Some x) = refl
-or_else-none None = refl
+option_or-none : {A : Type 0} (a : Option A) → a ≡ option_or a None
+option_or-none (Some x) = refl
+option_or-none None = refl
 
-pub refused_run : (limit : ℕ) (log bytes : List ℕ) → refused limit (log ++ bytes) ≡ or_else (refused limit log) (refused_in limit (context log) bytes)
-refused_run limit log [] = ap (refused limit) (append-nil log) ∙ or_else-none (refused limit log)
+pub refused_run : (limit : ℕ) (log bytes : List ℕ) → refused limit (log ++ bytes) ≡ option_or (refused limit log) (refused_in limit (context log) bytes)
+refused_run limit log [] = ap (refused limit) (append-nil log) ∙ option_or-none (refused limit log)
 refused_run limit log (byte ∷ bytes) =
     ap (refused limit) (more log byte bytes)
     ∙ refused_run limit (log ++ byte ∷ []) bytes
-    ∙ ap (λ c. or_else (refused limit (log ++ byte ∷ [])) (refused_in limit c bytes)) (context-grow log byte)
-    ∙ ap (λ o. or_else o (refused_in limit (after (context log) byte) bytes)) (refused-grow limit log byte ∙ ap (or_else (refused limit log)) (refusal-kept limit log byte))
-    ∙ or_else-assoc (refused limit log) (refusal_for limit (context log) byte) (refused_in limit (after (context log) byte) bytes)
+    ∙ ap (λ c. option_or (refused limit (log ++ byte ∷ [])) (refused_in limit c bytes)) (context-grow log byte)
+    ∙ ap (λ o. option_or o (refused_in limit (after (context log) byte) bytes)) (refused-grow limit log byte ∙ ap (option_or (refused limit log)) (refusal-kept limit log byte))
+    ∙ option_or-assoc (refused limit log) (refusal_for limit (context log) byte) (refused_in limit (after (context log) byte) bytes)
 
 put_front : (o : Option Placed) (log : List Placed) → put o log ≡ put o [] ++ log
 put_front None log = refl
@@ -68,9 +69,9 @@ events_run log (byte ∷ bytes) =
 -- Nothing is refused of a log whose bytes were not refused before, nor these ..
 pub passes : (limit : ℕ) (log bytes : List ℕ) → refused limit log ≡ None → refused_in limit (context log) bytes ≡ None → refused limit (log ++ bytes) ≡ None
 passes limit log bytes before none =
-    refused_run limit log bytes ∙ ap (λ o. or_else o (refused_in limit (context log) bytes)) before ∙ none
+    refused_run limit log bytes ∙ ap (λ o. option_or o (refused_in limit (context log) bytes)) before ∙ none
 
 -- .. and the first refusal of these is that of the log.
 pub stops : (limit : ℕ) (log bytes : List ℕ) (r : Refusal) → refused limit log ≡ None → refused_in limit (context log) bytes ≡ Some r → refused limit (log ++ bytes) ≡ Some r
 stops limit log bytes r before stands =
-    refused_run limit log bytes ∙ ap (λ o. or_else o (refused_in limit (context log) bytes)) before ∙ stands
+    refused_run limit log bytes ∙ ap (λ o. option_or o (refused_in limit (context log) bytes)) before ∙ stands

@@ -14,7 +14,7 @@ use Rattle.mq_trace.specs.Events.{Event, Placed, item_at, event_in, event_of_hea
 use Rattle.mq_trace.specs.Context.{Context, emptied, context, so_far_in, so_far_by, so_far_for, half_after, with_heard, after_header, after_part, after, put, placed_with, placed_for, event_for}
 use Rattle.mq_trace.specs.Runs.{behind, heard_in}
 use Rattle.mq_trace.specs.Flows.{Bed, Flow, going, flow_event, flow_placed, flow_placed_with, flow_with, flow_after, flow_behind, flow_heard, bed_in, flow_in, flowed}
-use Rattle.mq_trace.specs.Writing.{sent, received, record_bytes, framed}
+use Rattle.mq_trace.specs.Writing.{sent_record, received_record, record_bytes, framed}
 use Rattle.mq_trace.specs.Splitting.{but_record}
 use Rattle.mq_trace.proofs.ContextLaws.{part_context, at_context}
 use Rattle.mq_trace.proofs.FlowLaws.{behind-append, heard-append}
@@ -446,9 +446,9 @@ split_events way before later a b long whole fits =
     ∙ append_assoc before (framed (way_byte way) a) (framed (way_byte way) b ++ later)))
 
 pub split_sent : (before later a b : List ℕ) → 8 ≤ length before → (records before).rest ≡ [] → length (a ++ b) < 2 ^ 32
-    → map but_record (events (before ++ record_bytes (sent (a ++ b)) ++ later)) ≡ map but_record (events (before ++ record_bytes (sent a) ++ record_bytes (sent b) ++ later))
+    → map but_record (events (before ++ record_bytes (sent_record (a ++ b)) ++ later)) ≡ map but_record (events (before ++ record_bytes (sent_record a) ++ record_bytes (sent_record b) ++ later))
 split_sent before later a b long whole fits = split_events ways.Sent before later a b long whole fits
 
 pub split_received : (before later a b : List ℕ) → 8 ≤ length before → (records before).rest ≡ [] → length (a ++ b) < 2 ^ 32
-    → map but_record (events (before ++ record_bytes (received (a ++ b)) ++ later)) ≡ map but_record (events (before ++ record_bytes (received a) ++ record_bytes (received b) ++ later))
+    → map but_record (events (before ++ record_bytes (received_record (a ++ b)) ++ later)) ≡ map but_record (events (before ++ record_bytes (received_record a) ++ record_bytes (received_record b) ++ later))
 split_received before later a b long whole fits = split_events ways.Recv before later a b long whole fits

@@ -2,6 +2,7 @@
 use Rattle.std.proofs.Common.{◌≡◌, ℕ, ◌+◌, ◌*◌, ◌<◌, ◌≤◌, Bool, true, false, cond, nat_lt, List, [], ◌∷◌, ◌++◌, length, Option, Some, None, refl, sym, ◌∙◌, ap, subst, inl, inr, arith, zero, suc, length-append}
 use Rattle.std.specs.Prelude.{◌&&◌, not, is_none}
 use Rattle.std.specs.Int.{w32, from_be_bytes}
+use Rattle.std.specs.Option.{option_or}
 use Rattle.mq_packet.specs.Stream.{fixed_header_of}
 use Rattle.mq_trace.specs.declared.kind.RecordKind.{RecordKind}
 use Rattle.mq_trace.specs.declared.kind.RecordKind.TheVariants as kinds
@@ -11,13 +12,13 @@ use Rattle.mq_trace.specs.declared.refusal.Refusal.TheVariants as refusals
 use Rattle.mq_trace.specs.declared.reading.Reading.{Reading}
 use Rattle.mq_trace.specs.Framing.{kind_named, kind_of, opens}
 use Rattle.mq_trace.specs.Events.{Placed}
-use Rattle.mq_trace.specs.Refusals.{or_else, header_refusal, first_standing, is_open_kind, needs_connection, is_release_kind}
+use Rattle.mq_trace.specs.Refusals.{header_refusal, first_standing, is_open_kind, needs_connection, is_release_kind}
 use Rattle.mq_trace.specs.Context.{Half, Context, emptied, so_far_for, refusal_for, placed_for, put, after}
 use Rattle.mq_trace.specs.Runs.{behind, refused_in, heard_in}
 use Rattle.mq_trace.specs.Telling.{Untold, RefusedBySink}
 use Rattle.mq_trace.specs.Directing.{FlowWhy}
 use Rattle.mq_trace.specs.Keeping.{half_in, spelled_from, IsAt, context_of, begun_in, IsWithin, IsUnfinished, IsSound, Advances, StepStops}
-use Rattle.mq_trace.specs.Stepping.{behind_header, met_by_kind, refused_first, Begins, in_head}
+use Rattle.mq_trace.specs.Stepping.{behind_header, met_by_kind, refused_first, BeginsRecord, in_head}
 use Rattle.mq_trace.proofs.StepLaws.{header_refused, header_after, header_placed, first_refusal, first_event, first_after, middle_refusal, middle_event, middle_after, placed_none}
 use Rattle.mq_trace.proofs.FramingLaws.{kind_of-append}
 use Rattle.mq_trace.proofs.ReadingLaws.{advanced}
@@ -31,7 +32,7 @@ one_step r r' b heard same each = record {
   limit = same;
   each = λ part at. (
       let f = each part at in
-      (f.0, f.1, ap (λ o. or_else o None) f.2, f.3, f.4));
+      (f.0, f.1, ap (λ o. option_or o None) f.2, f.3, f.4));
 }
 
 -- One byte that is refused at once.
@@ -43,7 +44,7 @@ stops_refused declines r b sink refusal each = record {
   byte = b;
   later = [];
   is = refl;
-  each = λ part at. (refl, refl, inl (ap (λ o. or_else o None) (each part at), refl));
+  each = λ part at. (refl, refl, inl (ap (λ o. option_or o None) (each part at), refl));
 }
 
 -- One byte that completes an event that isn't told.
@@ -63,11 +64,11 @@ stops_untold {S} declines r b met e old new refusal each untold = record {
 
     why : (part : List ℕ) → IsAt r.stage part → Untold declines r.at met (e ∷ []) old new refusal
         → FlowWhy declines r.limit (r.at + length {A = ℕ} []) (so_far_for (context_of r part) b) (refused_in r.limit (context_of r part) (b ∷ [])) (heard_in (context_of r part) (b ∷ [])) old new refusal
-    why part at (inl told) = let f = each part at in inl (ap (λ o. or_else o None) (f.0 ∙ told.0), told.1)
+    why part at (inl told) = let f = each part at in inl (ap (λ o. option_or o None) (f.0 ∙ told.0), told.1)
     why part at (inr told) =
         let f = each part at in
         inr (inr (
-          ap (λ o. or_else o None) (f.0 ∙ told.0),
+          ap (λ o. option_or o None) (f.0 ∙ told.0),
           ap (λ o. length (put o [])) f.1,
           subst (λ n. RefusedBySink declines n (put (placed_for (context_of r part) b) []) old new refusal) place
               (subst (λ o. RefusedBySink declines r.at (put o []) old new refusal) (sym f.1) told.1),
@@ -142,7 +143,7 @@ first_refused r b None refusal behind between named met part at = unnamed_refuse
 first_refused r b (Some kind) refusal behind between named met part at = named_refused r b kind refusal behind between named met part at
 
 -- the reader after a record's first byte, apart from where its directions' bytes lie
-begun_context : (r r' : Reading) (b : ℕ) (kind : RecordKind) → kind_named b ≡ Some kind → Begins r r' kind
+begun_context : (r r' : Reading) (b : ℕ) (kind : RecordKind) → kind_named b ≡ Some kind → BeginsRecord r r' kind
     → record (context_of r []) { at = r.at + 1; part = b ∷ []; sent = cond (opens (kind_named b)) emptied (half_in r.sent); recv = cond (opens (kind_named b)) emptied (half_in r.recv) } ≡ context_of r' (b ∷ [])
 begun_context r r' b kind named begins =
     let c : Context = record (context_of r (b ∷ [])) { at = r.at + 1 } in
@@ -151,14 +152,14 @@ begun_context r r' b kind named begins =
     ∙ ap (λ half. record c { sent = half_in r'.sent; recv = half }) (sym begins.recv)
     ∙ sym (ap (λ (x : Reading). record (context_of x (b ∷ [])) { sent = half_in r'.sent; recv = half_in r'.recv }) begins.is)
 
-pub begins_at : (r r' : Reading) (kind : RecordKind) → Begins r r' kind → r'.at ≡ r.at + 1
+pub begins_at : (r r' : Reading) (kind : RecordKind) → BeginsRecord r r' kind → r'.at ≡ r.at + 1
 begins_at r r' kind begins = ap (λ (x : Reading). x.at) begins.is
 
 kind_first : (b : ℕ) → kind_of (b ∷ []) ≡ kind_named b
 unfolding kind_of
 kind_first b = refl
 
-pub first_advances : (r r' : Reading) (b : ℕ) (kind : RecordKind) → 8 ≤ r.at → r.stage ≡ stages.Between → kind_named b ≡ Some kind → met_by_kind r kind ≡ None → Begins r r' kind
+pub first_advances : (r r' : Reading) (b : ℕ) (kind : RecordKind) → 8 ≤ r.at → r.stage ≡ stages.Between → kind_named b ≡ Some kind → met_by_kind r kind ≡ None → BeginsRecord r r' kind
     → Advances r r' (b ∷ []) []
 first_advances r r' b kind behind between named met begins = one_step r r' b [] (ap (λ (x : Reading). x.limit) begins.is) (λ part at. (
     let c = context_of r part in
@@ -185,7 +186,7 @@ within_limit limit opening half half' unfinished is = subst (IsUnfinished limit)
 no_others : (kind : RecordKind) (m : Half) (half half' : Half) (count number : ℕ) → stages.Head kind 0 0 ≡ stages.Head kinds.Open count number → half' ≡ cond (opens (Some kind)) m half → half' ≡ m
 no_others kind m half half' count number e is = is ∙ ap (λ k. cond (opens (Some k)) m half) (let same : kind ≡ kinds.Open = cc in same)
 
-pub first_sound : (r r' : Reading) (kind : RecordKind) → IsSound r → 8 ≤ r.at → r.stage ≡ stages.Between → r.records < 4294967295 → Begins r r' kind → IsSound r'
+pub first_sound : (r r' : Reading) (kind : RecordKind) → IsSound r → 8 ≤ r.at → r.stage ≡ stages.Between → r.records < 4294967295 → BeginsRecord r r' kind → IsSound r'
 first_sound r r' kind sound behind between room begins =
     let staged : r'.stage ≡ stages.Head kind 0 0 = ap (λ (x : Reading). x.stage) begins.is in
     let placed : r'.at ≡ r.at + 1 = ap (λ (x : Reading). x.at) begins.is in

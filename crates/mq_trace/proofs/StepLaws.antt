@@ -4,6 +4,7 @@ use Rattle.std.specs.Prelude.{◌==◌, ◌||◌, nat_le, not, if◌then◌else�
 use Rattle.std.specs.Int.{w16, w32, from_be_bytes}
 use Rattle.std.proofs.lemmas.Bool.{le-ltb, lt-ltb, le-leb, lt-leb, eqb-true, eqb-false, eq-eqb, ne_eqb}
 use Rattle.std.proofs.lemmas.List.{drop_at}
+use Rattle.std.specs.Option.{option_or}
 use Rattle.mq_packet.specs.Stream.{fixed_header_of, frame_size, is_lost}
 use Rattle.mq_trace.specs.declared.kind.RecordKind.{RecordKind}
 use Rattle.mq_trace.specs.declared.kind.RecordKind.TheVariants as kinds
@@ -12,7 +13,7 @@ use Rattle.mq_trace.specs.declared.refusal.Refusal.{Refusal}
 use Rattle.mq_trace.specs.declared.refusal.Refusal.TheVariants as refusals
 use Rattle.mq_trace.specs.Framing.{kind_named, kind_of, body_length, record_size, opens, way_of}
 use Rattle.mq_trace.specs.Events.{Event, opened, closed, rested, released, sent, received, item_at, event_by, event_in, event_of_head}
-use Rattle.mq_trace.specs.Refusals.{Situation, or_else, header_refusal, record_refusal, first_standing, is_early, allows, is_open_kind, is_release_kind, needs_connection}
+use Rattle.mq_trace.specs.Refusals.{Situation, header_refusal, record_refusal, first_standing, is_early, allows_length, is_open_kind, is_release_kind, needs_connection}
 use Rattle.mq_trace.specs.Context.{Half, Context, emptied, so_far_by, so_far_for, situated, refusal_for, event_for, placed_with, placed_for, half_by, half_then, with_heard, after_header, after_part, after, put}
 use Rattle.mq_trace.specs.Runs.{behind, refused_in, heard_in}
 use Rattle.mq_trace.proofs.FramingLaws.{body_length-append, kind_of-append}
@@ -56,7 +57,7 @@ situation_with c part = record {
 abbrev lines_with : Context → List ℕ → (first ends : Bool) → Option RecordKind → Option Event → (long : Bool) → List (Bool × Refusal)
 lines_with c part first ends kind event long =
     (first && is_none kind, refusals.Kind c.at)
-    ∷ (ends && not (allows kind (body_length part)), refusals.Length c.at)
+    ∷ (ends && not (allows_length kind (body_length part)), refusals.Length c.at)
     ∷ (first && (is_open_kind kind && c.connected), refusals.Nested c.at)
     ∷ (first && (needs_connection kind && not c.connected), refusals.NotOpen c.at)
     ∷ (first && (is_release_kind kind && not c.header.releases), refusals.ReleaseUnrecorded c.at)
@@ -311,8 +312,8 @@ pub middle_behind : (c : Context) (k x y z : ℕ) → 8 ≤ c.at → c.part ≡ 
     → behind c (x ∷ y ∷ z ∷ []) ≡ record c { at = c.at + 3; part = k ∷ x ∷ y ∷ z ∷ [] }
 middle_behind c k x y z h is opening = ap (λ d. after d z) (step_twice c k x y h is opening) ∙ step_three c k x y z h is opening
 
-both_none : {A : Type 0} (a b : Option A) → a ≡ None → b ≡ None → or_else a b ≡ None
-both_none a b p q = ap (λ o. or_else o b) p ∙ q
+both_none : {A : Type 0} (a b : Option A) → a ≡ None → b ≡ None → option_or a b ≡ None
+both_none a b p q = ap (λ o. option_or o b) p ∙ q
 
 pub middle_refused : (limit : ℕ) (c : Context) (k x y z : ℕ) → 8 ≤ c.at → c.part ≡ k ∷ [] → (opens (kind_of c.part) ≡ true → (c.sent ≡ emptied) × (c.recv ≡ emptied))
     → refused_in limit c (x ∷ y ∷ z ∷ []) ≡ None
@@ -377,7 +378,7 @@ pub fifth_event : (c : Context) (b : ℕ) (kind : RecordKind) → 8 ≤ c.at →
 fifth_event c b kind h four is = event_with c b (c.part ++ b ∷ []) h refl (head_packet c b (omega arith)) ∙ fifth_in c b kind four is
 
 pub fifth_refusal : (limit : ℕ) (c : Context) (b : ℕ) (kind : RecordKind) → 8 ≤ c.at → length c.part ≡ 4 → kind_of c.part ≡ Some kind → refusal_for limit c b ≡ first_standing (
-    (not (allows (Some kind) (body_length (c.part ++ b ∷ []))), refusals.Length c.at)
+    (not (allows_length (Some kind) (body_length (c.part ++ b ∷ []))), refusals.Length c.at)
     ∷ (is_some (event_of_head kind) && nat_le 4294967295 c.events, refusals.TooLong c.at)
     ∷ [])
 fifth_refusal limit c b kind h four is =
@@ -387,7 +388,7 @@ fifth_refusal limit c b kind h four is =
     refusal_with limit c b part h refl (head_packet c b (omega arith))
     ∙ lines_told limit c part false true (Some kind) (event_of_head kind) long (ne_eqb (length part) 1 (λ e. omega arith)) (eq-eqb (length part) 5 (omega arith))
     (kind_more c b kind (omega arith) is) (fifth_in c b kind four is) refl
-    ∙ ap (λ t. first_standing ((not (allows (Some kind) (body_length part)), refusals.Length c.at) ∷ (t, refusals.Early c.at) ∷ (long, refusals.TooLong c.at) ∷ [])) (head_early (situation_with c part) kind)
+    ∙ ap (λ t. first_standing ((not (allows_length (Some kind) (body_length part)), refusals.Length c.at) ∷ (t, refusals.Early c.at) ∷ (long, refusals.TooLong c.at) ∷ [])) (head_early (situation_with c part) kind)
 
 some_if : (t : Bool) (n : ℕ) → is_some (if t then Some n else None) ≡ t
 some_if true n = refl

@@ -3,6 +3,7 @@ use Rattle.std.proofs.Common.{◌≡◌, ℕ, ◌+◌, ◌<◌, ◌≤◌, Bool,
 use Rattle.std.specs.Prelude.{◌==◌, ◌||◌, not, nat_lt}
 use Rattle.std.proofs.lemmas.Bool.{eqb-true, lt-ltb, ltb-true, ltb-false}
 use Rattle.std.proofs.lemmas.List.{append-nil, take-append-drop, length-drop, take_all, nil_from_length}
+use Rattle.std.specs.Option.{option_or}
 use Rattle.mq_trace.specs.declared.refusal.Refusal.{Refusal}
 use Rattle.mq_trace.specs.declared.refusal.Refusal.TheVariants as refusals
 use Rattle.mq_trace.specs.declared.stage.Stage.{Stage}
@@ -10,7 +11,7 @@ use Rattle.mq_trace.specs.declared.stage.Stage.TheVariants as stages
 use Rattle.mq_trace.specs.declared.reading.Reading.{Reading}
 use Rattle.mq_trace.specs.Framing.{header_by, records}
 use Rattle.mq_trace.specs.Events.{Event, Placed, events, event_at, packet_at}
-use Rattle.mq_trace.specs.Refusals.{refused, refusal_at, or_else, is_cut_short}
+use Rattle.mq_trace.specs.Refusals.{refused, refusal_at, is_cut_short}
 use Rattle.mq_trace.specs.Refusing.{moved}
 use Rattle.mq_trace.specs.Context.{Context, context, fresh, so_far_for, event_for, placed_for, placed_with, put}
 use Rattle.mq_trace.specs.Runs.{behind, refused_in, heard_in}
@@ -18,12 +19,12 @@ use Rattle.mq_trace.specs.Hearing.{AreEvents, Declines}
 use Rattle.mq_trace.specs.Telling.{RefusedBySink}
 use Rattle.mq_trace.specs.Directing.{NeedsMemory, FlowWhy}
 use Rattle.mq_trace.specs.Keeping.{IsAt, context_of, Advances, Comes, StepStops}
-use Rattle.mq_trace.specs.Tracing.{Keeps, HasHeard, IsRefused, LacksMemory, SinkRefuses, Why, Stops, is_between}
+use Rattle.mq_trace.specs.Tracing.{HasRead, HasHeard, IsRefused, LacksMemory, SinkRefuses, Why, Stops, is_between}
 use Rattle.mq_trace.proofs.ContextLaws.{at_context, part_context, context_is, context-nothing, refused-nothing, packet-kept, header-so_far, event-kept, refused-grow}
 use Rattle.mq_trace.proofs.RunLaws.{heard_append, context_run, events_run, passes, stops}
 
 -- A reader that keeps a log and comes on with some bytes keeps the log with these bytes after it.
-pub keeps_on : {S : Type 0} (agrees : S → List Placed → Type 0) (r r' : Reading) (log bytes : List ℕ) (old new : S) → Keeps r log → Comes agrees r r' bytes old new → Keeps r' (log ++ bytes)
+pub keeps_on : {S : Type 0} (agrees : S → List Placed → Type 0) (r r' : Reading) (log bytes : List ℕ) (old new : S) → HasRead r log → Comes agrees r r' bytes old new → HasRead r' (log ++ bytes)
 keeps_on agrees r r' log bytes old new keeps comes =
     (let step = comes.advances.each keeps.part keeps.stands in
     let unrefused : refused r.limit (log ++ bytes) ≡ None = passes r.limit log bytes keeps.unrefused (ap (λ (c : Context). refused_in r.limit c bytes) keeps.kept ∙ step.2) in
@@ -35,7 +36,7 @@ keeps_on agrees r r' log bytes old new keeps comes =
     })
 
 -- A sink that had received the events of the log has received those of the longer log then.
-pub hears_on : {S : Type 0} (agrees : S → List Placed → Type 0) (r r' : Reading) (log bytes : List ℕ) (old new : S) → Keeps r log → Comes agrees r r' bytes old new → HasHeard agrees log bytes old new
+pub hears_on : {S : Type 0} (agrees : S → List Placed → Type 0) (r r' : Reading) (log bytes : List ℕ) (old new : S) → HasRead r log → Comes agrees r r' bytes old new → HasHeard agrees log bytes old new
 hears_on agrees r r' log bytes old new keeps comes =
     (let step = comes.advances.each keeps.part keeps.stands in
     let longer : events (log ++ bytes) ≡ comes.heard ++ events log
@@ -65,7 +66,7 @@ packet_there limit log byte needs = by_length (nat_lt (length log) 8) refl
     by_length false is = subst (NeedsMemory limit) (sym (packet-kept log byte (ltb-false (length log) 8 is))) needs
 
 -- What stops a step stops the log.
-module _ {S : Type 0} (agrees : S → List Placed → Type 0) (refuses : S → List Placed → Refusal → Type 0) (r : Reading) (log : List ℕ) (keeps : Keeps r log) where
+module _ {S : Type 0} (agrees : S → List Placed → Type 0) (refuses : S → List Placed → Refusal → Type 0) (r : Reading) (log : List ℕ) (keeps : HasRead r log) where
   -- the byte after these bytes
   module _ (taken : List ℕ) (byte : ℕ) (unrefused : refused_in r.limit (context_of r keeps.part) taken ≡ None) (unheard : heard_in (context_of r keeps.part) taken ≡ []) where
     taken_in : refused r.limit (log ++ taken) ≡ None
@@ -85,7 +86,7 @@ module _ {S : Type 0} (agrees : S → List Placed → Type 0) (refuses : S → L
         (let all : refused r.limit ((log ++ taken) ++ byte ∷ []) ≡ Some refusal
         = ap (refused r.limit) (append_assoc log taken (byte ∷ []))
         ∙ stops r.limit log (taken ++ byte ∷ []) refusal keeps.unrefused (ap (λ (c : Context). refused_in r.limit c (taken ++ byte ∷ [])) keeps.kept ∙ met) in
-        ap (λ (o : Option Refusal). or_else o (refusal_at r.limit (log ++ taken) byte)) (sym taken_in) ∙ sym (refused-grow r.limit (log ++ taken) byte) ∙ all)
+        ap (λ (o : Option Refusal). option_or o (refusal_at r.limit (log ++ taken) byte)) (sym taken_in) ∙ sym (refused-grow r.limit (log ++ taken) byte) ∙ all)
 
     completed : length (heard_in (context_of r keeps.part) (taken ++ byte ∷ [])) ≡ 1 → is_some (event_at (log ++ taken) byte) ≡ true
     completed one =
@@ -101,7 +102,7 @@ module _ {S : Type 0} (agrees : S → List Placed → Type 0) (refuses : S → L
 
     unmet_here : refused_in r.limit (context_of r keeps.part) (taken ++ byte ∷ []) ≡ None → refusal_at r.limit (log ++ taken) byte ≡ None
     unmet_here none =
-        ap (λ (o : Option Refusal). or_else o (refusal_at r.limit (log ++ taken) byte)) (sym taken_in)
+        ap (λ (o : Option Refusal). option_or o (refusal_at r.limit (log ++ taken) byte)) (sym taken_in)
         ∙ sym (refused-grow r.limit (log ++ taken) byte)
         ∙ ap (refused r.limit) (append_assoc log taken (byte ∷ []))
         ∙ passes_here none
@@ -153,14 +154,14 @@ pub record Goes {S : Type 0} (agrees : S → List Placed → Type 0) (first now 
   pub done : List ℕ
   pub is : piece ≡ done ++ rest
   pub limit : now.limit ≡ first.limit
-  pub each : (log : List ℕ) → Keeps first log → Keeps now (log ++ done) × HasHeard agrees log done old new
+  pub each : (log : List ℕ) → HasRead first log → HasRead now (log ++ done) × HasHeard agrees log done old new
 
 pub begins : {S : Type 0} (agrees : S → List Placed → Type 0) (r : Reading) (piece : List ℕ) (sink : S) → Goes agrees r r piece piece sink sink
 begins agrees r piece sink = record {
   done = [];
   is = refl;
   limit = refl;
-  each = λ log keeps. (subst (Keeps r) (sym (append-nil log)) keeps, λ was. subst (λ (l : List ℕ). agrees sink (events l)) (sym (append-nil log)) was);
+  each = λ log keeps. (subst (HasRead r) (sym (append-nil log)) keeps, λ was. subst (λ (l : List ℕ). agrees sink (events l)) (sym (append-nil log)) was);
 }
 
 pub goes_on : {S : Type 0} (agrees : S → List Placed → Type 0) (first now next : Reading) (piece rest : List ℕ) (n : ℕ) (old mid new : S) → Goes agrees first now piece rest old mid
@@ -172,18 +173,18 @@ goes_on agrees first now next piece rest n old mid new goes comes = record {
   each = λ log keeps. (
       let before = goes.each log keeps in
       let assoc : (log ++ goes.done) ++ take n rest ≡ log ++ (goes.done ++ take n rest) = append_assoc log goes.done (take n rest) in (
-        subst (Keeps next) assoc (keeps_on agrees now next (log ++ goes.done) (take n rest) mid new before.0 comes),
+        subst (HasRead next) assoc (keeps_on agrees now next (log ++ goes.done) (take n rest) mid new before.0 comes),
         λ was. subst (λ (l : List ℕ). agrees new (events l)) assoc (hears_on agrees now next (log ++ goes.done) (take n rest) mid new before.0 comes (before.1 was)),
       ));
 }
 
 -- At its end the loop has taken in the whole piece.
 pub ends_kept : {S : Type 0} (agrees : S → List Placed → Type 0) (first now : Reading) (piece rest : List ℕ) (old new : S) → Goes agrees first now piece rest old new → rest ≡ []
-    → (log : List ℕ) → Keeps first log → Keeps now (log ++ piece) × HasHeard agrees log piece old new
+    → (log : List ℕ) → HasRead first log → HasRead now (log ++ piece) × HasHeard agrees log piece old new
 ends_kept agrees first now piece rest old new goes none log keeps =
     (let all : goes.done ≡ piece = sym (goes.is ∙ ap (λ (l : List ℕ). goes.done ++ l) none ∙ append-nil goes.done) in
     let here = goes.each log keeps in
-    (subst (λ (l : List ℕ). Keeps now (log ++ l)) all here.0, subst (λ (l : List ℕ). HasHeard agrees log l old new) all here.1))
+    (subst (λ (l : List ℕ). HasRead now (log ++ l)) all here.0, subst (λ (l : List ℕ). HasHeard agrees log l old new) all here.1))
 
 -- Why a byte isn't taken in after some bytes, seen from before them.
 why_joined : {S : Type 0} (agrees : S → List Placed → Type 0) (refuses : S → List Placed → Refusal → Type 0) (limit : ℕ) (log done taken : List ℕ) (byte : ℕ) (old mid new : S) (refusal : Refusal)
@@ -213,7 +214,7 @@ why_joined agrees refuses limit log done taken byte old mid new refusal before (
 
 -- What stops a step stops the piece.
 pub stops_piece : {S : Type 0} (agrees : S → List Placed → Type 0) (refuses : S → List Placed → Refusal → Type 0) (first now : Reading) (piece rest : List ℕ) (old mid new : S) (refusal : Refusal)
-    → Goes agrees first now piece rest old mid → StepStops (Declines agrees refuses) now rest mid new refusal → (log : List ℕ) → Keeps first log
+    → Goes agrees first now piece rest old mid → StepStops (Declines agrees refuses) now rest mid new refusal → (log : List ℕ) → HasRead first log
     → Stops agrees refuses first.limit log piece old new refusal
 stops_piece agrees refuses first now piece rest old mid new refusal goes stop log keeps =
     (let before = goes.each log keeps in
@@ -237,10 +238,10 @@ pub nothing_left : (rest : List ℕ) (empty : Bool) → empty ≡ (length rest =
 nothing_left rest empty told is = nil_from_length rest (eqb-true (length rest) 0 (sym told ∙ is))
 
 -- What a reader knows of the log that it keeps.
-pub kept_at : (r : Reading) (log : List ℕ) → Keeps r log → r.at ≡ length log
+pub kept_at : (r : Reading) (log : List ℕ) → HasRead r log → r.at ≡ length log
 kept_at r log keeps = ap (λ (c : Context). c.at) (sym keeps.kept) ∙ at_context log
 
-pub kept_header : (r : Reading) (log : List ℕ) → Keeps r log → r.header ≡ header_by log
+pub kept_header : (r : Reading) (log : List ℕ) → HasRead r log → r.header ≡ header_by log
 kept_header r log keeps = ap (λ (c : Context). c.header) (sym keeps.kept ∙ context_is log)
 
 -- a part of a record is there, or none is, as the stage says
@@ -252,7 +253,7 @@ part_there (stages.Release None) part at = lt-ltb 0 (length part) (omega (arith,
 part_there (stages.Release (Some high)) part at = lt-ltb 0 (length part) (omega (arith, at.1))
 
 -- Whether the log would be cut short, if it ended here.
-pub kept_cut : (r : Reading) (log : List ℕ) → Keeps r log → is_cut_short log ≡ (nat_lt r.at 8 || not (is_between r.stage))
+pub kept_cut : (r : Reading) (log : List ℕ) → HasRead r log → is_cut_short log ≡ (nat_lt r.at 8 || not (is_between r.stage))
 unfolding is_cut_short
 kept_cut r log keeps =
     (let part : (records log).rest ≡ keeps.part = sym (part_context log) ∙ ap (λ (c : Context). c.part) keeps.kept in
@@ -261,7 +262,7 @@ kept_cut r log keeps =
     ∙ ap (λ (b : Bool). nat_lt r.at 8 || b) (part_there r.stage keeps.part keeps.stands))
 
 -- a new reader keeps the log of no bytes
-pub keeps_nothing : (r : Reading) → r.stage ≡ stages.Between → context_of r [] ≡ fresh → Keeps r []
+pub keeps_nothing : (r : Reading) → r.stage ≡ stages.Between → context_of r [] ≡ fresh → HasRead r []
 keeps_nothing r between kept = record {
   unrefused = refused-nothing r.limit;
   part = [];

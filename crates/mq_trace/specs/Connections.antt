@@ -7,13 +7,13 @@ use Rattle.mq_packet.specs.Canonical.{type_of}
 use Rattle.mq_trace.specs.Events.{Item, Event, Placed, packet, bad, lost, opened, closed, rested, released, sent, received}
 
 -- a connection begins, and ends
-abbrev pub begins : Event → Bool
-begins opened = true
-begins _ = false
+abbrev pub begins_connection : Event → Bool
+begins_connection opened = true
+begins_connection _ = false
 
-abbrev pub ends : Event → Bool
-ends closed = true
-ends _ = false
+abbrev pub ends_connection : Event → Bool
+ends_connection closed = true
+ends_connection _ = false
 
 -- what a packet is by its type: a CONNACK (MQTT 5.0, section 3.2)
 abbrev pub is_connack_type : PacketType → Bool
@@ -41,8 +41,8 @@ is_session_type types.Auth = false
 abbrev pub is_connack : Entry → Bool
 is_connack entry = is_connack_type (type_of entry)
 
-abbrev pub needs_session : Entry → Bool
-needs_session entry = is_session_type (type_of entry)
+abbrev pub is_session_entry : Entry → Bool
+is_session_entry entry = is_session_type (type_of entry)
 
 -- the item is a packet that passes the test
 abbrev pub is_packet : (Entry → Bool) → Item → Bool
@@ -59,19 +59,19 @@ is_answer _ _ = false
 -- A session packet, of either direction, or a RELEASE: on a connection it must come after the CONNACK.
 abbrev pub needs_answer : Event → Bool
 needs_answer (released identifier) = true
-needs_answer (sent item) = is_packet needs_session item
-needs_answer (received item) = is_packet needs_session item
+needs_answer (sent item) = is_packet is_session_entry item
+needs_answer (received item) = is_packet is_session_entry item
 needs_answer _ = false
 
 -- some event passes the first test, and no event after it passes the second; the newest event comes first
-abbrev pub since : (Event → Bool) → (Event → Bool) → List Placed → Bool
-since starts stops [] = false
-since starts stops (e ∷ past) = starts e.event || (not (stops e.event) && since starts stops past)
+abbrev pub event_since : (Event → Bool) → (Event → Bool) → List Placed → Bool
+event_since starts stops [] = false
+event_since starts stops (e ∷ past) = starts e.event || (not (stops e.event) && event_since starts stops past)
 
 -- a connection is open
-abbrev pub is_connected : List Placed → Bool
-is_connected log = since begins ends log
+abbrev pub has_open_connection : List Placed → Bool
+has_open_connection log = event_since begins_connection ends_connection log
 
 -- The CONNACK of the latest connection has come; the flag says whether the tested end is a server.
 abbrev pub is_answered : Bool → List Placed → Bool
-is_answered server log = since (is_answer server) begins log
+is_answered server log = event_since (is_answer server) begins_connection log

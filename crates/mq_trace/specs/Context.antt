@@ -4,9 +4,9 @@ use Rattle.mq_trace.specs.declared.kind.Way.{Way}
 use Rattle.mq_trace.specs.declared.kind.Way.TheVariants as ways
 use Rattle.mq_trace.specs.declared.refusal.Refusal.{Refusal}
 use Rattle.mq_trace.specs.declared.header.Header.{Header}
-use Rattle.mq_trace.specs.Connections.{begins, ends, is_answer, is_connected, is_answered}
+use Rattle.mq_trace.specs.Connections.{begins_connection, ends_connection, is_answer, has_open_connection, is_answered}
 use Rattle.mq_packet.specs.Stream.{frame_size, is_lost}
-use Rattle.mq_trace.specs.Framing.{header_by, kind_of, way_of, opens, record_size, records, begun, carried, stream}
+use Rattle.mq_trace.specs.Framing.{header_by, kind_of, way_of, opens, record_size, records, begun_records, carried, stream}
 use Rattle.mq_trace.specs.Events.{Event, Placed, event_in, events}
 use Rattle.mq_trace.specs.Refusals.{Situation, header_refusal, record_refusal}
 
@@ -61,10 +61,10 @@ context log = record {
   header = header_by log;
   part = (records log).rest;
   records = length (records log).whole;
-  sent = half_of (carried ways.Sent (begun log));
-  recv = half_of (carried ways.Recv (begun log));
+  sent = half_of (carried ways.Sent (begun_records log));
+  recv = half_of (carried ways.Recv (begun_records log));
   events = length (events log);
-  connected = is_connected (events log);
+  connected = has_open_connection (events log);
   answered = is_answered (header_by log).server (events log);
 }
 
@@ -138,8 +138,8 @@ abbrev pub with_heard : Context → Option Event → Context
 with_heard c None = c
 with_heard c (Some event) = record c {
   events = c.events + 1;
-  connected = begins event || (not (ends event) && c.connected);
-  answered = is_answer c.header.server event || (not (begins event) && c.answered);
+  connected = begins_connection event || (not (ends_connection event) && c.connected);
+  answered = is_answer c.header.server event || (not (begins_connection event) && c.answered);
 }
 
 -- after one more byte of the header

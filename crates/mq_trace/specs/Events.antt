@@ -11,7 +11,7 @@ use Rattle.mq_trace.specs.declared.place.Place3.{Place3}
 use Rattle.mq_packet.specs.declared.header.FixedHeader.{FixedHeader}
 use Rattle.mq_packet.specs.declared.header.FixedHeader.TheVariants as headers
 use Rattle.mq_packet.specs.Stream.{fixed_header_of, frame_size, is_lost}
-use Rattle.mq_trace.specs.Framing.{kind_of, way_of, begun, carried, stream}
+use Rattle.mq_trace.specs.Framing.{kind_of, way_of, begun_records, carried, stream}
 use Rattle.mq_packet.specs.Entries.{Entry}
 use Rattle.mq_packet.specs.Decoding.{decoded}
 
@@ -39,14 +39,14 @@ item_read size first (Err (Broken fault)) = Some (bad first fault.rule fault.at)
 item_read size first (Err (OtherVersion version)) = None
 
 -- what follows a packet's fixed header
-abbrev pub behind_header : FixedHeader → List ℕ → List ℕ
-behind_header (headers.Whole header size) frame = drop header frame
-behind_header headers.Short frame = []
-behind_header headers.Lost frame = []
+abbrev pub after_fixed_header : FixedHeader → List ℕ → List ℕ
+after_fixed_header (headers.Whole header size) frame = drop header frame
+after_fixed_header headers.Short frame = []
+after_fixed_header headers.Lost frame = []
 
 -- what a frame says
 unfoldable pub read_frame : List ℕ → Result Entry DecodeFault
-read_frame frame = decoded (slice_index frame 0) (behind_header (fixed_header_of frame) frame)
+read_frame frame = decoded (slice_index frame 0) (after_fixed_header (fixed_header_of frame) frame)
 
 -- The item that the last of these bytes completes, if they are the bytes so far of one packet: the packet is whole, or its
 -- Remaining Length is invalid.
@@ -63,17 +63,17 @@ packet_by None parts byte = []
 packet_by (Some way) parts byte = packet_with (carried way parts) byte
 
 -- the newest record, as far as it has come
-abbrev pub newest : List (List ℕ) → List ℕ
-newest [] = []
-newest (part ∷ before) = part
+abbrev pub newest_record : List (List ℕ) → List ℕ
+newest_record [] = []
+newest_record (part ∷ before) = part
 
 -- the bytes so far of the record that the next byte of a log belongs to, that byte included
 unfoldable pub part_at : List ℕ → ℕ → List ℕ
-part_at before byte = newest (begun (before ++ byte ∷ []))
+part_at before byte = newest_record (begun_records (before ++ byte ∷ []))
 
 -- the bytes so far of the packet that the next byte of a log belongs to, that byte included; none if it belongs to no packet, or the direction was lost before it
 unfoldable pub packet_at : List ℕ → ℕ → List ℕ
-packet_at before byte = cond (nat_lt 5 (length (part_at before byte))) (packet_by (way_of (kind_of (part_at before byte))) (begun before) byte) []
+packet_at before byte = cond (nat_lt 5 (length (part_at before byte))) (packet_by (way_of (kind_of (part_at before byte))) (begun_records before) byte) []
 
 -- The event that the last byte of a part of a record completes, given its packet so far: OPEN, CLOSE and REST have no body, that of RELEASE is a
 -- Packet Identifier, and SENT and RECV give what their packets are.
@@ -110,7 +110,7 @@ with_event record_no (Some event) earlier = record { place = record { position =
 -- the events of a log whose bytes are given the newest first
 unfoldable pub events_back : List ℕ → List Placed
 events_back [] = []
-events_back (byte ∷ earlier) = with_event (length (begun (reverse earlier ++ byte ∷ []))) (event_at (reverse earlier) byte) (events_back earlier)
+events_back (byte ∷ earlier) = with_event (length (begun_records (reverse earlier ++ byte ∷ []))) (event_at (reverse earlier) byte) (events_back earlier)
 
 -- The events of a log, the newest first.
 unfoldable pub events : List ℕ → List Placed

@@ -1,5 +1,6 @@
 -- One direction while the body of a SENT or RECV record is read: what each byte of the body does.
 use Rattle.std.specs.Prelude.{ℕ, ◌+◌, nat_le, Bool, false, ◌&&◌, ◌||◌, not, cond, List, [], ◌∷◌, ◌++◌, Option, Some, None, option_map, is_some}
+use Rattle.std.specs.Option.{option_or}
 use Rattle.mq_trace.specs.declared.kind.Way.{Way}
 use Rattle.mq_trace.specs.declared.kind.Way.TheVariants as ways
 use Rattle.mq_trace.specs.declared.refusal.Refusal.{Refusal}
@@ -7,7 +8,7 @@ use Rattle.mq_trace.specs.declared.refusal.Refusal.TheVariants as refusals
 use Rattle.mq_packet.specs.Stream.{fixed_header_of, frame_size}
 use Rattle.mq_trace.specs.Events.{Item, Event, Placed, sent, received, read_frame, item_at}
 use Rattle.mq_trace.specs.Connections.{needs_answer, is_answer}
-use Rattle.mq_trace.specs.Refusals.{or_else, first_standing, is_too_large, is_other_version}
+use Rattle.mq_trace.specs.Refusals.{first_standing, is_too_large, is_other_version}
 use Rattle.mq_trace.specs.Context.{Half, Context, half_for, so_far_in, half_after, put}
 
 -- what stays the same within a body: the direction, whether the tested end is a server, and the number of the record
@@ -71,7 +72,7 @@ flow_behind bed f (byte ∷ bytes) = flow_behind bed (flow_after bed f byte) byt
 
 abbrev pub flow_refused : ℕ → Bed → Flow → List ℕ → Option Refusal
 flow_refused limit bed f [] = None
-flow_refused limit bed f (byte ∷ bytes) = or_else (flow_refusal limit bed f byte) (flow_refused limit bed (flow_after bed f byte) bytes)
+flow_refused limit bed f (byte ∷ bytes) = option_or (flow_refusal limit bed f byte) (flow_refused limit bed (flow_after bed f byte) bytes)
 
 abbrev pub flow_heard : Bed → Flow → List ℕ → List Placed
 flow_heard bed f [] = []

@@ -41,8 +41,8 @@ begun_with [] whole = whole
 begun_with (byte ∷ rest) whole = (byte ∷ rest) ∷ whole
 
 -- the records begun, the newest first
-unfoldable pub begun : List ℕ → List (List ℕ)
-begun bytes = begun_with (records bytes).rest (reverse (records bytes).whole)
+unfoldable pub begun_records : List ℕ → List (List ℕ)
+begun_records bytes = begun_with (records bytes).rest (reverse (records bytes).whole)
 
 -- the direction whose bytes a record of this kind carries
 abbrev pub way_of : Option RecordKind → Option Way

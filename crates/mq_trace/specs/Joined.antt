@@ -6,7 +6,7 @@ use Rattle.mq_packet.specs.Stream.{is_lost}
 use Rattle.mq_trace.specs.Pieces.{Pieces}
 use Rattle.mq_trace.specs.Framing.{kind_of, way_of, opens, if_way}
 use Rattle.mq_trace.specs.Events.{Item, Event, Placed, lost, sent, received, item_read, read_frame}
-use Rattle.mq_trace.specs.Connections.{begins}
+use Rattle.mq_trace.specs.Connections.{begins_connection}
 
 -- how many of these records are OPENs; that many connections have begun
 abbrev pub opened_records : List (List ℕ) → ℕ
@@ -41,7 +41,7 @@ stream_items cut = frame_items cut.whole ++ cond (is_lost cut.rest) (lost ∷ []
 -- how many of these events begin a connection
 abbrev pub opened_events : List Placed → ℕ
 opened_events [] = 0
-opened_events (e ∷ past) = cond (begins e.event) (opened_events past + 1) (opened_events past)
+opened_events (e ∷ past) = cond (begins_connection e.event) (opened_events past + 1) (opened_events past)
 
 -- the item of an event, if it is in this direction
 abbrev pub item_going : Way → Event → Option Item
@@ -50,6 +50,6 @@ item_going ways.Recv (received item) = Some item
 item_going _ _ = None
 
 -- the items of the events of one direction of the connection of this number, in order; the newest event comes first
-abbrev pub items_on : ℕ → Way → List Placed → List Item
-items_on number way [] = []
-items_on number way (e ∷ past) = items_on number way past ++ cond (opened_events (e ∷ past) == number) (if_some (item_going way e.event)) []
+abbrev pub connection_items : ℕ → Way → List Placed → List Item
+connection_items number way [] = []
+connection_items number way (e ∷ past) = connection_items number way past ++ cond (opened_events (e ∷ past) == number) (if_some (item_going way e.event)) []

@@ -1,5 +1,6 @@
 -- Which logs are refused: the earliest byte at which a condition applies decides, and at one byte the lowest number.
 use Rattle.std.specs.Prelude.{ℕ, ◌==◌, nat_lt, nat_le, Bool, true, false, ◌&&◌, ◌||◌, not, cond, if◌then◌else◌, List, [], ◌∷◌, ◌++◌, length, reverse, slice_index, Option, Some, None, is_some, is_none, Result, Ok, Err}
+use Rattle.std.specs.Option.{option_or}
 use Rattle.mq_packet.specs.declared.header.FixedHeader.{FixedHeader}
 use Rattle.mq_packet.specs.declared.header.FixedHeader.TheVariants as headers
 use Rattle.mq_packet.specs.declared.fault.DecodeFault.{DecodeFault}
@@ -9,9 +10,9 @@ use Rattle.mq_trace.specs.declared.kind.RecordKind.TheVariants as kinds
 use Rattle.mq_trace.specs.declared.refusal.Refusal.{Refusal}
 use Rattle.mq_trace.specs.declared.refusal.Refusal.TheVariants as refusals
 use Rattle.mq_trace.specs.declared.header.Header.{Header}
-use Rattle.mq_trace.specs.Connections.{needs_answer, is_connected, is_answered}
+use Rattle.mq_trace.specs.Connections.{needs_answer, has_open_connection, is_answered}
 use Rattle.mq_packet.specs.Stream.{fixed_header_of, frame_size}
-use Rattle.mq_trace.specs.Framing.{header_by, kind_of, body_length, records, begun}
+use Rattle.mq_trace.specs.Framing.{header_by, kind_of, body_length, records, begun_records}
 use Rattle.mq_trace.specs.Events.{Event, event_in, read_frame, part_at, packet_at, events}
 
 -- the first four bytes of a log, `MQTR`, and its version
@@ -27,11 +28,6 @@ header_refusal at byte =
     else (if at == 5 then (if nat_lt byte 2 then None else Some (refusals.Role at))
     else (if at == 6 then (if nat_lt byte 2 then None else Some (refusals.Flags at))
     else (if byte == 0 then None else Some (refusals.Flags at)))))
-
--- the first if there is one, else the second
-abbrev pub or_else : {A : Type 0} → Option A → Option A → Option A
-or_else (Some a) other = Some a
-or_else None other = other
 
 -- A byte after the header: where it is in its log, and what came before it.
 pub record Situation : Type 0 where
@@ -56,10 +52,10 @@ situation before byte = record {
   at = length before;
   header = header_by before;
   part = part_at before byte;
-  record_no = length (begun (before ++ byte ∷ []));
+  record_no = length (begun_records (before ++ byte ∷ []));
   so_far = packet_at before byte;
   events = length (events before);
-  connected = is_connected (events before);
+  connected = has_open_connection (events before);
   answered = is_answered (header_by before).server (events before);
 }
 
@@ -71,14 +67,14 @@ abbrev pub ends_head : Situation → Bool
 ends_head s = length s.part == 5
 
 -- a length that a record of this kind may have
-abbrev pub allows : Option RecordKind → ℕ → Bool
-allows None n = true
-allows (Some kinds.Sent) n = nat_le n 1048576
-allows (Some kinds.Recv) n = nat_le n 1048576
-allows (Some kinds.Release) n = n == 2
-allows (Some kinds.Open) n = n == 0
-allows (Some kinds.Close) n = n == 0
-allows (Some kinds.Rest) n = n == 0
+abbrev pub allows_length : Option RecordKind → ℕ → Bool
+allows_length None n = true
+allows_length (Some kinds.Sent) n = nat_le n 1048576
+allows_length (Some kinds.Recv) n = nat_le n 1048576
+allows_length (Some kinds.Release) n = n == 2
+allows_length (Some kinds.Open) n = n == 0
+allows_length (Some kinds.Close) n = n == 0
+allows_length (Some kinds.Rest) n = n == 0
 
 -- a record of this kind is allowed only on an open connection
 abbrev pub needs_connection : Option RecordKind → Bool
@@ -126,7 +122,7 @@ first_standing (line ∷ lines) = cond line.0 (Some line.1) (first_standing line
 abbrev pub conditions : ℕ → Situation → List (Bool × Refusal)
 conditions limit s =
     (is_first s && is_none (kind_of s.part), refusals.Kind s.at)
-    ∷ (ends_head s && not (allows (kind_of s.part) (body_length s.part)), refusals.Length s.at)
+    ∷ (ends_head s && not (allows_length (kind_of s.part) (body_length s.part)), refusals.Length s.at)
     ∷ (is_first s && (is_open_kind (kind_of s.part) && s.connected), refusals.Nested s.at)
     ∷ (is_first s && (needs_connection (kind_of s.part) && not s.connected), refusals.NotOpen s.at)
     ∷ (is_first s && (is_release_kind (kind_of s.part) && not s.header.releases), refusals.ReleaseUnrecorded s.at)
@@ -146,7 +142,7 @@ refusal_at limit before byte = if nat_lt (length before) 8 then header_refusal (
 -- the refusal of a log whose bytes are given the newest first
 unfoldable pub refused_back : ℕ → List ℕ → Option Refusal
 refused_back limit [] = None
-refused_back limit (byte ∷ earlier) = or_else (refused_back limit earlier) (refusal_at limit (reverse earlier) byte)
+refused_back limit (byte ∷ earlier) = option_or (refused_back limit earlier) (refusal_at limit (reverse earlier) byte)
 
 -- The refusal of a log, if a condition applies at one of its bytes.
 unfoldable pub refused : ℕ → List ℕ → Option Refusal

@@ -47,27 +47,27 @@ name_of (Read at) = codes "Read"
 name_of (Memory at) = codes "Memory"
 
 -- the offset in the log of the byte at which its condition first applies
-abbrev pub byte_of : Refusal → ℕ
-byte_of (Header at) = at
-byte_of (Version at) = at
-byte_of (Role at) = at
-byte_of (Flags at) = at
-byte_of (Kind at) = at
-byte_of (Length at) = at
-byte_of (Nested at) = at
-byte_of (NotOpen at) = at
-byte_of (ReleaseUnrecorded at) = at
-byte_of (Cut at) = at
-byte_of (TooLarge at) = at
-byte_of (OtherVersion at) = at
-byte_of (Early at) = at
-byte_of (TooLong at) = at
-byte_of (Read at) = at
-byte_of (Memory at) = at
+abbrev pub refusal_offset : Refusal → ℕ
+refusal_offset (Header at) = at
+refusal_offset (Version at) = at
+refusal_offset (Role at) = at
+refusal_offset (Flags at) = at
+refusal_offset (Kind at) = at
+refusal_offset (Length at) = at
+refusal_offset (Nested at) = at
+refusal_offset (NotOpen at) = at
+refusal_offset (ReleaseUnrecorded at) = at
+refusal_offset (Cut at) = at
+refusal_offset (TooLarge at) = at
+refusal_offset (OtherVersion at) = at
+refusal_offset (Early at) = at
+refusal_offset (TooLong at) = at
+refusal_offset (Read at) = at
+refusal_offset (Memory at) = at
 
 -- the line on a refusal: its number, its name and its byte
 abbrev pub refused_text : Refusal → List ℕ
-refused_text refusal = spaced (codes "refused" ∷ decimal (number_of refusal) ∷ name_of refusal ∷ codes "at" ∷ decimal (byte_of refusal) ∷ [])
+refused_text refusal = spaced (codes "refused" ∷ decimal (number_of refusal) ∷ name_of refusal ∷ codes "at" ∷ decimal (refusal_offset refusal) ∷ [])
 
 -- the same refusal at another byte
 abbrev pub moved : Refusal → ℕ → Refusal

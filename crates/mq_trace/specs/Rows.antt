@@ -10,13 +10,13 @@ abbrev pub silent_header : List ℕ
 silent_header = 77 ∷ 81 ∷ 84 ∷ 82 ∷ 1 ∷ 0 ∷ 0 ∷ 0 ∷ []
 
 -- an OPEN
-abbrev pub opened : List ℕ
-opened = 1 ∷ 0 ∷ 0 ∷ 0 ∷ 0 ∷ []
+abbrev pub open_bytes : List ℕ
+open_bytes = 1 ∷ 0 ∷ 0 ∷ 0 ∷ 0 ∷ []
 
 -- a CLOSE
-abbrev pub closed : List ℕ
-closed = 4 ∷ 0 ∷ 0 ∷ 0 ∷ 0 ∷ []
+abbrev pub close_bytes : List ℕ
+close_bytes = 4 ∷ 0 ∷ 0 ∷ 0 ∷ 0 ∷ []
 
 -- a RELEASE of identifier 1
-abbrev pub released : List ℕ
-released = 6 ∷ 0 ∷ 0 ∷ 0 ∷ 2 ∷ 0 ∷ 1 ∷ []
+abbrev pub release_bytes : List ℕ
+release_bytes = 6 ∷ 0 ∷ 0 ∷ 0 ∷ 2 ∷ 0 ∷ 1 ∷ []

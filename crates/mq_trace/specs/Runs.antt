@@ -1,8 +1,8 @@
 -- What the next bytes of a log do, as functions of what is kept of the log.
 use Rattle.std.specs.Prelude.{ℕ, List, [], ◌∷◌, ◌++◌, Option, Some, None}
+use Rattle.std.specs.Option.{option_or}
 use Rattle.mq_trace.specs.declared.refusal.Refusal.{Refusal}
 use Rattle.mq_trace.specs.Events.{Placed}
-use Rattle.mq_trace.specs.Refusals.{or_else}
 use Rattle.mq_trace.specs.Context.{Context, refusal_for, placed_for, put, after}
 
 -- what is kept after these bytes
@@ -13,7 +13,7 @@ behind c (byte ∷ bytes) = behind (after c byte) bytes
 -- the refusal that applies first at one of these bytes
 abbrev pub refused_in : ℕ → Context → List ℕ → Option Refusal
 refused_in limit c [] = None
-refused_in limit c (byte ∷ bytes) = or_else (refusal_for limit c byte) (refused_in limit (after c byte) bytes)
+refused_in limit c (byte ∷ bytes) = option_or (refusal_for limit c byte) (refused_in limit (after c byte) bytes)
 
 -- the events that these bytes complete, the newest first
 abbrev pub heard_in : Context → List ℕ → List Placed

@@ -45,7 +45,7 @@ met_by_kind r kind = first_standing (
     ∷ [])
 
 -- after the first byte of a record of this kind
-pub record Begins (r r' : Reading) (kind : RecordKind) : Type 0 where
+pub record BeginsRecord (r r' : Reading) (kind : RecordKind) : Type 0 where
   pub is : r' ≡ record r { at = r.at + 1; stage = stages.Head kind 0 0; sent = r'.sent; recv = r'.recv }
   pub sent : half_in r'.sent ≡ cond (opens (Some kind)) emptied (half_in r.sent)
   pub recv : half_in r'.recv ≡ cond (opens (Some kind)) emptied (half_in r.recv)

@@ -4,7 +4,7 @@ use Rattle.mq_trace.specs.declared.refusal.Refusal.{Refusal}
 use Rattle.mq_trace.specs.declared.refusal.Refusal.TheVariants as refusals
 use Rattle.mq_trace.specs.declared.connections.Connections.{Connections}
 use Rattle.mq_trace.specs.Events.{Event, Placed}
-use Rattle.mq_trace.specs.Connections.{begins, ends, is_answer, needs_answer}
+use Rattle.mq_trace.specs.Connections.{begins_connection, ends_connection, is_answer, needs_answer}
 use Rattle.mq_trace.specs.Refusals.{first_standing}
 use Rattle.mq_trace.specs.Refusing.{moved}
 
@@ -19,8 +19,8 @@ met_by at connections event = first_standing (
 abbrev pub connections_with : Bool → Connections → Event → Connections
 connections_with server connections event = record {
   events = connections.events + 1;
-  connected = begins event || (not (ends event) && connections.connected);
-  answered = is_answer server event || (not (begins event) && connections.answered);
+  connected = begins_connection event || (not (ends_connection event) && connections.connected);
+  answered = is_answer server event || (not (begins_connection event) && connections.answered);
 }
 
 -- the event at the next place

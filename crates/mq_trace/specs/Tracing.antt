@@ -18,16 +18,16 @@ pub record Traced : Type 0 where
   pub reading : Reading
 
 -- This is what is kept of the log, and the log isn't refused.
-pub record Keeps (r : Reading) (log : List ℕ) : Type 0 where
+pub record HasRead (r : Reading) (log : List ℕ) : Type 0 where
   pub unrefused : refused r.limit log ≡ None
   pub part : List ℕ
   pub stands : IsAt r.stage part
   pub kept : context log ≡ context_of r part
 
 -- The tracer has taken in this log, and refused none of it.
-pub record Follows (tracer : Traced) (log : List ℕ) : Type 0 where
+pub record IsTracedTo (tracer : Traced) (log : List ℕ) : Type 0 where
   pub open_yet : tracer.refusal ≡ None
-  pub keeps : Keeps tracer.reading log
+  pub keeps : HasRead tracer.reading log
 
 -- A sink that had received the events of the log has received those of the log with these bytes after it.
 abbrev pub HasHeard : {S : Type 0} → (S → List Placed → Type 0) → List ℕ → List ℕ → S → S → Type 0
@@ -71,9 +71,9 @@ pub record Stops {S : Type 0} (agrees : S → List Placed → Type 0) (refuses :
   pub why : Why agrees refuses limit log taken byte old new refusal
 
 -- What feeding a piece after a log returns.
-abbrev pub Takes : {S : Type 0} → (S → List Placed → Type 0) → (S → List Placed → Refusal → Type 0) → ℕ → List ℕ → List ℕ → S → S → Result (Unit {0}) Refusal → Type 0
-Takes agrees refuses limit log piece old new (Ok _) = (refused limit (log ++ piece) ≡ None) × HasHeard agrees log piece old new
-Takes agrees refuses limit log piece old new (Err refusal) = Stops agrees refuses limit log piece old new refusal
+abbrev pub TracesPiece : {S : Type 0} → (S → List Placed → Type 0) → (S → List Placed → Refusal → Type 0) → ℕ → List ℕ → List ℕ → S → S → Result (Unit {0}) Refusal → Type 0
+TracesPiece agrees refuses limit log piece old new (Ok _) = (refused limit (log ++ piece) ≡ None) × HasHeard agrees log piece old new
+TracesPiece agrees refuses limit log piece old new (Err refusal) = Stops agrees refuses limit log piece old new refusal
 
 -- What ending a log that wasn't refused returns.
 abbrev pub Ends : List ℕ → Result (Unit {0}) Refusal → Type 0

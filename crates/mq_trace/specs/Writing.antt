@@ -17,18 +17,18 @@ header_bytes header = codes "MQTR" ++ 1 ∷ bit_byte header.server ∷ bit_byte 
 
 -- a record, and what it carries: bytes, or a Packet Identifier
 pub data Record : Type 0 where
-  opened closed rested : Record
-  sent received : List ℕ → Record
-  released : ℕ → Record
+  open_record close_record rest_record : Record
+  sent_record received_record : List ℕ → Record
+  release_record : ℕ → Record
 
 -- its kind
 abbrev pub record_kind : Record → RecordKind
-record_kind opened = kinds.Open
-record_kind (sent body) = kinds.Sent
-record_kind (received body) = kinds.Recv
-record_kind closed = kinds.Close
-record_kind rested = kinds.Rest
-record_kind (released identifier) = kinds.Release
+record_kind open_record = kinds.Open
+record_kind (sent_record body) = kinds.Sent
+record_kind (received_record body) = kinds.Recv
+record_kind close_record = kinds.Close
+record_kind rest_record = kinds.Rest
+record_kind (release_record identifier) = kinds.Release
 
 -- the byte that names a kind
 abbrev pub kind_byte : RecordKind → ℕ
@@ -41,9 +41,9 @@ kind_byte kinds.Release = 6
 
 -- its body; an identifier has two bytes, the most significant first
 abbrev pub record_body : Record → List ℕ
-record_body (sent body) = body
-record_body (received body) = body
-record_body (released identifier) = to_be_bytes w16 identifier
+record_body (sent_record body) = body
+record_body (received_record body) = body
+record_body (release_record identifier) = to_be_bytes w16 identifier
 record_body _ = []
 
 -- the bytes of a record: the byte of its kind, the length of the body in four bytes, the most significant first, and the body

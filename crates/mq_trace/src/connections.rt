@@ -7,7 +7,7 @@ ghost use Rattle.mq_packet.specs.declared.packet.Packet.TheVariants as packets;
 ghost use Rattle.mq_trace.specs.Events.{Placed, packet};
 ghost use Rattle.mq_trace.specs.Flows.{going};
 ghost use Rattle.mq_trace.specs.declared.event.Item.TheVariants as items;
-ghost use Rattle.mq_trace.specs.Connections.{begins, ends, is_answer, needs_answer, is_packet, is_connack, needs_session};
+ghost use Rattle.mq_trace.specs.Connections.{begins_connection, ends_connection, is_answer, needs_answer, is_packet, is_connack, is_session_entry};
 ghost use Rattle.mq_trace.specs.Hearing.{AreEvents, Declines, event_of, item_of};
 ghost use Rattle.mq_trace.specs.Telling.{met_by, connections_with, next_placed, Untold, RefusedBySink};
 
@@ -206,7 +206,7 @@ fn connections_with(connections: Connections, server: bool, event: &Event<'_>) -
 
 /// Whether a connection begins.
 fn begins(event: &Event<'_>) -> bool
-    ensures { result ≡ begins (event_of event.now) }
+    ensures { result ≡ begins_connection (event_of event.now) }
 {
     match event {
         Event::Open => true,
@@ -216,7 +216,7 @@ fn begins(event: &Event<'_>) -> bool
 
 /// Whether the connection ends.
 fn ends(event: &Event<'_>) -> bool
-    ensures { result ≡ ends (event_of event.now) }
+    ensures { result ≡ ends_connection (event_of event.now) }
 {
     match event {
         Event::Close => true,
@@ -262,7 +262,7 @@ fn is_connack(item: &Item<'_>) -> bool
 /// Whether the item is a PUBLISH, a SUBSCRIBE, an UNSUBSCRIBE, or what acknowledges one (MQTT 5.0, section 4.1).
 #[inline(always)]
 fn needs_session(item: &Item<'_>) -> bool
-    ensures { result ≡ is_packet needs_session (item_of item.now) }
+    ensures { result ≡ is_packet is_session_entry (item_of item.now) }
 {
     match item {
         Item::Packet(packet) => match packet {

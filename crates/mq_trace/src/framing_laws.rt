@@ -8,7 +8,7 @@ ghost use Rattle.mq_trace.specs.Pieces.{Pieces, AreCut};
 ghost use Rattle.mq_trace.specs.Framing.{record_size, records, stream, kind_of, opens, carried};
 ghost use Rattle.mq_trace.specs.Events.{events};
 ghost use Rattle.mq_trace.specs.Refusals.{refused, is_cut_short};
-ghost use Rattle.mq_trace.specs.Rows.{client_header, silent_header, opened, closed, released};
+ghost use Rattle.mq_trace.specs.Rows.{client_header, silent_header, open_bytes, close_bytes, release_bytes};
 ghost use Rattle.mq_trace.specs.Context.{context, after, put, placed_for};
 
 /// After its header a log is its records, each a whole one, and a rest that doesn't begin with a record; there is only one such list of records.
@@ -44,12 +44,12 @@ pub fn one_byte_more()
 pub fn worked_logs()
     ensures empty { (events client_header ≡ []) × (refused 16777216 client_header ≡ None) × (is_cut_short client_header ≡ false) }
     ensures cut { is_cut_short (take 7 client_header) ≡ true }
-    ensures nested { refused 16777216 (client_header ++ opened ++ opened) ≡ Some (Nested 13) }
-    ensures second { refused 16777216 (client_header ++ opened ++ closed ++ opened) ≡ None }
-    ensures between { refused 16777216 (client_header ++ released) ≡ None }
-    ensures after_closed { refused 16777216 (client_header ++ opened ++ closed ++ released) ≡ None }
-    ensures early { refused 16777216 (client_header ++ opened ++ released) ≡ Some (Early 19) }
-    ensures unrecorded { refused 16777216 (silent_header ++ released) ≡ Some (ReleaseUnrecorded 8) }
-    ensures unopened { refused 16777216 (client_header ++ closed) ≡ Some (NotOpen 8) }
+    ensures nested { refused 16777216 (client_header ++ open_bytes ++ open_bytes) ≡ Some (Nested 13) }
+    ensures second { refused 16777216 (client_header ++ open_bytes ++ close_bytes ++ open_bytes) ≡ None }
+    ensures between { refused 16777216 (client_header ++ release_bytes) ≡ None }
+    ensures after_closed { refused 16777216 (client_header ++ open_bytes ++ close_bytes ++ release_bytes) ≡ None }
+    ensures early { refused 16777216 (client_header ++ open_bytes ++ release_bytes) ≡ Some (Early 19) }
+    ensures unrecorded { refused 16777216 (silent_header ++ release_bytes) ≡ Some (ReleaseUnrecorded 8) }
+    ensures unopened { refused 16777216 (client_header ++ close_bytes) ≡ Some (NotOpen 8) }
     ensures version { refused 16777216 (77 ∷ 81 ∷ 84 ∷ 82 ∷ 2 ∷ []) ≡ Some (Version 4) }
 {}

@@ -2,7 +2,7 @@
 
 ghost use Rattle.std.specs.Prelude.{◌≡◌, ◌&&◌, Some, List};
 ghost use Rattle.mq_trace.specs.Framing.{kind_named, way_of, opens};
-ghost use Rattle.mq_trace.specs.Refusals.{allows, needs_connection, is_open_kind, is_release_kind};
+ghost use Rattle.mq_trace.specs.Refusals.{allows_length, needs_connection, is_open_kind, is_release_kind};
 
 /// The kind of a record of the log, which its first byte names.
 #[derive(Clone, Copy, Debug, PartialEq, Eq)]
@@ -65,7 +65,7 @@ impl RecordKind {
 
     /// Whether a record of this kind may have a body of this length.
     pub fn allows(self, length: u32) -> bool
-        ensures { result ≡ allows (Some self) length }
+        ensures { result ≡ allows_length (Some self) length }
     {
         match self {
             RecordKind::Sent | RecordKind::Recv => length <= LONGEST_BODY,

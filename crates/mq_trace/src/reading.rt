@@ -2,7 +2,7 @@
 
 ghost use Rattle.std.specs.Prelude.{◌≡◌, ◌≢◌, ◌+◌, ◌*◌, ◌^◌, ◌<◌, ◌≤◌, ◌∷◌, ◌++◌, [], List, true, false, cond, Some, None, OnOk, IfOk, IfErr, IfSome, IsTrue, length, take};
 ghost use Rattle.mq_trace.specs.Keeping.{half_in, context_of, IsUnfinished, IsSound, Advances, Comes, StepStops};
-ghost use Rattle.mq_trace.specs.Refusals.{allows, header_refusal};
+ghost use Rattle.mq_trace.specs.Refusals.{allows_length, header_refusal};
 ghost use Rattle.std.specs.Int.{w16, w32, from_be_bytes};
 ghost use Rattle.mq_trace.specs.declared.kind.RecordKind.TheVariants as kinds;
 ghost use Rattle.mq_trace.specs.declared.stage.Stage.TheVariants as stages;
@@ -11,7 +11,7 @@ ghost use Rattle.mq_trace.specs.Events.{Placed};
 ghost use Rattle.mq_trace.specs.Hearing.{AreEvents, Declines, event_of};
 ghost use Rattle.mq_trace.specs.Telling.{met_by, next_placed, Untold};
 ghost use Rattle.mq_trace.specs.Context.{fresh};
-ghost use Rattle.mq_trace.specs.Stepping.{err_of, behind_header, met_by_kind, kind_for, IsBodyHead, Begins, refused_first, in_head, marked, leaving, bed_for, direction_for, flow_for, redirected};
+ghost use Rattle.mq_trace.specs.Stepping.{err_of, behind_header, met_by_kind, kind_for, IsBodyHead, BeginsRecord, refused_first, in_head, marked, leaving, bed_for, direction_for, flow_for, redirected};
 ghost use Rattle.mq_trace.specs.Flows.{flow_refused, flow_heard, flow_behind};
 ghost use Rattle.mq_trace.specs.Directing.{flow_of, FlowStops};
 
@@ -273,7 +273,7 @@ impl Reading {
         ensures named { IfOk result (λ kind. kind_named byte ≡ Some kind) }
         ensures met { IfOk result (λ kind. met_by_kind self.old kind ≡ None) }
         ensures room { OnOk result (self.old.records < 4294967295) }
-        ensures begins { IfOk result (λ kind. Begins self.old self.new kind) }
+        ensures begins { IfOk result (λ kind. BeginsRecord self.old self.new kind) }
         ensures refused { IfErr result (λ refusal. refused_first self.old (kind_named byte) ≡ Some refusal) }
     {
         let Some(kind) = RecordKind::named(byte) else {
@@ -413,7 +413,7 @@ impl Reading {
     ) -> Result<(), Refusal>
         requires sound { IsSound self.old }
         requires within { self.old.stage ≡ stages.Head kind 3 length }
-        requires allowed { allows (Some kind) (length * 256 + byte) ≡ true }
+        requires allowed { allows_length (Some kind) (length * 256 + byte) ≡ true }
         requires packetless { (kind ≢ kinds.Sent) × (kind ≢ kinds.Recv) }
         ensures sound { OnOk result (IsSound self.new) }
         ensures comes { OnOk result (Comes S.agrees self.old self.new (byte ∷ []) sink.old sink.new) }

@@ -1,6 +1,6 @@
 //! Why a log can't be judged.
 ghost use Rattle.std.specs.Prelude.{◌≡◌, Some};
-ghost use Rattle.mq_trace.specs.Refusing.{number_of, name_of, byte_of, refused_text, moved};
+ghost use Rattle.mq_trace.specs.Refusing.{number_of, name_of, refusal_offset, refused_text, moved};
 
 use std::fmt;
 
@@ -93,7 +93,7 @@ impl Refusal {
 
     /// The offset in the log of the byte at which its condition first applies, counted from 0.
     pub fn byte(self) -> u64
-        ensures { result ≡ byte_of self }
+        ensures { result ≡ refusal_offset self }
     {
         match self {
             Refusal::Header(at)

@@ -3,7 +3,7 @@
 ghost use Rattle.std.specs.Prelude.{◌≡◌, ℕ, ◌+◌, ◌*◌, ◌≤◌, List, [], ◌++◌, ◌||◌, not, nat_lt, length, Some, None, Err, IfErr, IfSome, OnOk, if◌then◌else◌};
 ghost use Rattle.mq_trace.specs.Framing.{header_by};
 ghost use Rattle.mq_trace.specs.Keeping.{IsSound};
-ghost use Rattle.mq_trace.specs.Tracing.{Follows, Takes, Ends, Keeps, HasHeard, Stops, is_between};
+ghost use Rattle.mq_trace.specs.Tracing.{IsTracedTo, TracesPiece, Ends, HasRead, HasHeard, Stops, is_between};
 
 use super::header::{HEADER_LENGTH, Header};
 use super::reading::Reading;
@@ -34,7 +34,7 @@ impl Model for Tracer {
 impl Tracer {
     /// A tracer that has been fed nothing, and reads packets of at most `limit` bytes: 5 to 268,435,460.
     pub fn new(alloc: Global, limit: u32) -> Self
-        ensures follows { Follows result [] }
+        ensures follows { IsTracedTo result [] }
         ensures limit { result.reading.limit ≡ limit }
     {
         Tracer {
@@ -45,7 +45,7 @@ impl Tracer {
 
     /// What the log's header says, once it is whole.
     pub fn header(&self) -> Option<Header>
-        ensures { (log : List ℕ) → Follows self.now log → result ≡ (if nat_lt (length log) 8 then None else Some (header_by log)) }
+        ensures { (log : List ℕ) → IsTracedTo self.now log → result ≡ (if nat_lt (length log) 8 then None else Some (header_by log)) }
     {
         if self.reading.at < HEADER_LENGTH {
             return None;
@@ -55,7 +55,7 @@ impl Tracer {
 
     /// How many bytes of the log were taken in.
     pub fn taken(&self) -> u64
-        ensures { (log : List ℕ) → Follows self.now log → result ≡ length log }
+        ensures { (log : List ℕ) → IsTracedTo self.now log → result ≡ length log }
     {
         self.reading.at
     }
@@ -71,8 +71,8 @@ impl Tracer {
     /// before it. `Memory` comes before the conditions for which the packet must be read: `OtherVersion`, `Early` and `TooLong`.
     /// From then on each call fails with the same refusal.
     pub fn feed<S: Sink>(&mut self, piece: &[u8], sink: &mut S) -> Result<(), Refusal>
-        ensures answers { (log : List ℕ) → Follows self.old log → Takes S.agrees S.refuses self.old.reading.limit log piece.now sink.old sink.new result }
-        ensures follows { (log : List ℕ) → Follows self.old log → OnOk result (Follows self.new (log ++ piece.now)) }
+        ensures answers { (log : List ℕ) → IsTracedTo self.old log → TracesPiece S.agrees S.refuses self.old.reading.limit log piece.now sink.old sink.new result }
+        ensures follows { (log : List ℕ) → IsTracedTo self.old log → OnOk result (IsTracedTo self.new (log ++ piece.now)) }
         ensures limit { OnOk result (self.new.reading.limit ≡ self.old.reading.limit) }
         ensures refuses { IfErr result (λ refusal. self.new.refusal ≡ Some refusal) }
         ensures for_ever { IfSome self.old.refusal (λ refusal. (result ≡ Err refusal) × (self.new ≡ self.old) × (sink.new ≡ sink.old)) }
@@ -93,7 +93,7 @@ impl Tracer {
     ///
     /// The refusal that an earlier call returned; `Cut`, at the log's length, if the log ends inside its header or a record.
     pub fn finish(&mut self) -> Result<(), Refusal>
-        ensures ends { (log : List ℕ) → Follows self.old log → Ends log result }
+        ensures ends { (log : List ℕ) → IsTracedTo self.old log → Ends log result }
         ensures same { OnOk result (self.new ≡ self.old) }
         ensures refuses { IfErr result (λ refusal. self.new.refusal ≡ Some refusal) }
         ensures for_ever { IfSome self.old.refusal (λ refusal. (result ≡ Err refusal) × (self.new ≡ self.old)) }
@@ -112,7 +112,7 @@ impl Tracer {
     /// How many bytes of unfinished packets are kept.
     pub fn pending(&self) -> usize
         ensures lengths { result ≡ length self.now.reading.sent.unfinished.items + length self.now.reading.recv.unfinished.items }
-        ensures bound { (log : List ℕ) → Follows self.now log → 5 ≤ self.now.reading.limit → result ≤ 2 * self.now.reading.limit }
+        ensures bound { (log : List ℕ) → IsTracedTo self.now log → 5 ≤ self.now.reading.limit → result ≤ 2 * self.now.reading.limit }
     {
         self.reading.sent.unfinished.len() + self.reading.recv.unfinished.len()
     }
@@ -130,9 +130,9 @@ fn take_in<S: Sink>(reading: &mut Reading, piece: &[u8], sink: &mut S) -> Result
     requires { IsSound reading.old }
     ensures sound { OnOk result (IsSound reading.new) }
     ensures limit { OnOk result (reading.new.limit ≡ reading.old.limit) }
-    ensures keeps { (log : List ℕ) → Keeps reading.old log → OnOk result (Keeps reading.new (log ++ piece.now)) }
-    ensures heard { (log : List ℕ) → Keeps reading.old log → OnOk result (HasHeard S.agrees log piece.now sink.old sink.new) }
-    ensures stops { (log : List ℕ) → Keeps reading.old log → IfErr result (λ refusal. Stops S.agrees S.refuses reading.old.limit log piece.now sink.old sink.new refusal) }
+    ensures keeps { (log : List ℕ) → HasRead reading.old log → OnOk result (HasRead reading.new (log ++ piece.now)) }
+    ensures heard { (log : List ℕ) → HasRead reading.old log → OnOk result (HasHeard S.agrees log piece.now sink.old sink.new) }
+    ensures stops { (log : List ℕ) → HasRead reading.old log → IfErr result (λ refusal. Stops S.agrees S.refuses reading.old.limit log piece.now sink.old sink.new refusal) }
 {
     let mut rest = piece;
     while !rest.is_empty() {

@@ -2,7 +2,7 @@
 ghost use Rattle.std.specs.Prelude.{◌≡◌, ◌≤◌, false, Some, ◌++◌, ◌∷◌, length, codes, OnOk, OnErr};
 ghost use Rattle.std.specs.Int.{w32, to_be_bytes};
 ghost use Rattle.std.specs.Io.KnownBytes.{Appends};
-ghost use Rattle.mq_trace.specs.Writing.{header_bytes, kind_byte, framed, opened, closed, rested, sent, received, released, record_bytes, AppendsBeginning, WritesAll, FailsToWrite};
+ghost use Rattle.mq_trace.specs.Writing.{header_bytes, kind_byte, framed, open_record, close_record, rest_record, sent_record, received_record, release_record, record_bytes, AppendsBeginning, WritesAll, FailsToWrite};
 
 mod laws;
 
@@ -83,8 +83,8 @@ impl<W: Write> TraceWriter<W> {
     ///
     /// `Write` if a write failed, in this call or in an earlier one.
     pub fn open(&mut self) -> Result<(), WriteFault>
-        ensures ok { OnOk result (WritesAll W.contents self.old self.new (record_bytes opened)) }
-        ensures write { OnErr result (FailsToWrite W.contents self.old self.new (record_bytes opened)) }
+        ensures ok { OnOk result (WritesAll W.contents self.old self.new (record_bytes open_record)) }
+        ensures write { OnErr result (FailsToWrite W.contents self.old self.new (record_bytes open_record)) }
     {
         self.record(RecordKind::Open, &[])
     }
@@ -96,8 +96,8 @@ impl<W: Write> TraceWriter<W> {
     /// `Write` if a write failed, in this call or in an earlier one.
     pub fn sent(&mut self, body: &[u8]) -> Result<(), WriteFault>
         requires { length body.now ≤ 1048576 }
-        ensures ok { OnOk result (WritesAll W.contents self.old self.new (record_bytes (sent body.now))) }
-        ensures write { OnErr result (FailsToWrite W.contents self.old self.new (record_bytes (sent body.now))) }
+        ensures ok { OnOk result (WritesAll W.contents self.old self.new (record_bytes (sent_record body.now))) }
+        ensures write { OnErr result (FailsToWrite W.contents self.old self.new (record_bytes (sent_record body.now))) }
     {
         self.record(RecordKind::Sent, body)
     }
@@ -109,8 +109,8 @@ impl<W: Write> TraceWriter<W> {
     /// `Write` if a write failed, in this call or in an earlier one.
     pub fn recv(&mut self, body: &[u8]) -> Result<(), WriteFault>
         requires { length body.now ≤ 1048576 }
-        ensures ok { OnOk result (WritesAll W.contents self.old self.new (record_bytes (received body.now))) }
-        ensures write { OnErr result (FailsToWrite W.contents self.old self.new (record_bytes (received body.now))) }
+        ensures ok { OnOk result (WritesAll W.contents self.old self.new (record_bytes (received_record body.now))) }
+        ensures write { OnErr result (FailsToWrite W.contents self.old self.new (record_bytes (received_record body.now))) }
     {
         self.record(RecordKind::Recv, body)
     }
@@ -121,8 +121,8 @@ impl<W: Write> TraceWriter<W> {
     ///
     /// `Write` if a write failed, in this call or in an earlier one.
     pub fn close(&mut self) -> Result<(), WriteFault>
-        ensures ok { OnOk result (WritesAll W.contents self.old self.new (record_bytes closed)) }
-        ensures write { OnErr result (FailsToWrite W.contents self.old self.new (record_bytes closed)) }
+        ensures ok { OnOk result (WritesAll W.contents self.old self.new (record_bytes close_record)) }
+        ensures write { OnErr result (FailsToWrite W.contents self.old self.new (record_bytes close_record)) }
     {
         self.record(RecordKind::Close, &[])
     }
@@ -133,8 +133,8 @@ impl<W: Write> TraceWriter<W> {
     ///
     /// `Write` if a write failed, in this call or in an earlier one.
     pub fn rest(&mut self) -> Result<(), WriteFault>
-        ensures ok { OnOk result (WritesAll W.contents self.old self.new (record_bytes rested)) }
-        ensures write { OnErr result (FailsToWrite W.contents self.old self.new (record_bytes rested)) }
+        ensures ok { OnOk result (WritesAll W.contents self.old self.new (record_bytes rest_record)) }
+        ensures write { OnErr result (FailsToWrite W.contents self.old self.new (record_bytes rest_record)) }
     {
         self.record(RecordKind::Rest, &[])
     }
@@ -145,8 +145,8 @@ impl<W: Write> TraceWriter<W> {
     ///
     /// `Write` if a write failed, in this call or in an earlier one.
     pub fn release(&mut self, identifier: u16) -> Result<(), WriteFault>
-        ensures ok { OnOk result (WritesAll W.contents self.old self.new (record_bytes (released identifier))) }
-        ensures write { OnErr result (FailsToWrite W.contents self.old self.new (record_bytes (released identifier))) }
+        ensures ok { OnOk result (WritesAll W.contents self.old self.new (record_bytes (release_record identifier))) }
+        ensures write { OnErr result (FailsToWrite W.contents self.old self.new (record_bytes (release_record identifier))) }
     {
         self.record(RecordKind::Release, &identifier.to_be_bytes())
     }

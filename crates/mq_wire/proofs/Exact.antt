@@ -8,7 +8,7 @@ use Rattle.std.proofs.lemmas.Nat.{be_bytes_2, be_bytes_4, from_be_bytes-to_be_by
 use Rattle.std.proofs.lemmas.Str.{IsUtf8-from_is_utf8}
 use Rattle.mq_wire.specs.declared.fault.Reason.{Reason}
 use Rattle.mq_wire.specs.declared.fault.Reason.TheVariants.{NotUtf8, Nul}
-use Rattle.mq_wire.specs.Fields.{◌>>=◌, byte_at, two_bytes_at, four_bytes_at, counted, binary_at, text_of, text_at, pair_at}
+use Rattle.mq_wire.specs.Fields.{◌>>=◌, byte_at, two_bytes_at, four_bytes_at, counted_bytes, binary_at, text_of, text_at, pair_at}
 use Rattle.mq_wire.specs.Spellings.{AreBytes, IsByte, byte_spelling, IsTwoBytes, two_bytes_spelling, IsFourBytes, four_bytes_spelling, IsBinary, binary_spelling, has_nul, IsText, text_spelling, IsPair, pair_spelling, Stands, IsExact}
 use Rattle.mq_wire.proofs.Bytes.{AreBytes-drop}
 use Rattle.mq_wire.proofs.Texts.{is_text}
@@ -109,7 +109,7 @@ binary_only (a ∷ b ∷ bytes) x fits e =
           subst (λ (y : List ℕ × ℕ). Stands IsBinary binary_spelling (a ∷ b ∷ bytes) y.0 y.1) (done_is (take n bytes, 2 + n) x (rw (le-ltb (length bytes) n enough) at e)) (counted_stands a b n bytes fits refl enough)
     ]
 
-counted_all : (text rest : List ℕ) → counted (length text) (text ++ rest) ≡ Ok (text, 2 + length text)
+counted_all : (text rest : List ℕ) → counted_bytes (length text) (text ++ rest) ≡ Ok (text, 2 + length text)
 counted_all text rest =
     let enough : length text ≤ length (text ++ rest) = omega (arith, length-append text rest) in
     rw (le-ltb (length (text ++ rest)) (length text) enough, take_at text rest (length text) refl) refl
@@ -118,7 +118,7 @@ binary_all : (x rest : List ℕ) → IsBinary x → binary_at (binary_spelling x
 unfolding binary_at
 binary_all x rest value =
     let two_more : 2 + length x ≡ suc (suc (length x)) = omega arith in
-    ap (λ (size : Result (ℕ × ℕ) Reason). size >>= λ n. counted n.0 (x ++ rest)) (two_bytes_all (length x) (x ++ rest) value) ∙ counted_all x rest ∙ ap (λ (n : ℕ). Ok (x, n)) two_more
+    ap (λ (size : Result (ℕ × ℕ) Reason). size >>= λ n. counted_bytes n.0 (x ++ rest)) (two_bytes_all (length x) (x ++ rest) value) ∙ counted_all x rest ∙ ap (λ (n : ℕ). Ok (x, n)) two_more
 
 pub binary_exact : IsExact binary_at IsBinary binary_spelling
 binary_exact = record { only = λ bytes x n fits e. binary_only bytes (x, n) fits e; all = binary_all }

@@ -5,7 +5,7 @@ use Rattle.std.proofs.lemmas.Bool.{cases_lt, lt-ltb, le-ltb, ne_eqb}
 use Rattle.mq_wire.specs.declared.fault.Reason.{Reason}
 use Rattle.mq_wire.specs.declared.fault.Reason.TheVariants.{Short, Overlong, NotUtf8, Nul}
 use Rattle.mq_wire.specs.Fields.{byte_at, two_bytes_at, four_bytes_at, ended_by, fourth_byte, third_byte, second_byte, varint_at, binary_at, text_at, pair_at}
-use Rattle.mq_wire.specs.FieldTypes.{FieldType, byte, two_byte_integer, four_byte_integer, variable_byte_integer, utf8_string, string_pair, binary_data, IsFieldValue, field_spelling}
+use Rattle.mq_wire.specs.FieldTypes.{FieldType, one_byte, two_byte_integer, four_byte_integer, variable_byte_integer, utf8_string, string_pair, binary_data, IsFieldValue, field_spelling}
 use Rattle.mq_wire.specs.Spellings.{AreBytes, IsExact}
 use Rattle.mq_wire.specs.Misspelled.{IsCutShort, NoneStands, AllContinue, HasShorterForm, RunsPastFour, MisspelledNumber, MisspelledString, MisspelledPair, Misspelled, RefusesMisspelled}
 use Rattle.mq_wire.proofs.Bytes.{AreBytes-drop}
@@ -29,7 +29,7 @@ short_only {X} {read} refuses bytes reason fits = (
   λ h. (refuses.short bytes fits).1 h.0 ∙ ap (λ (r : Reason). failed r) (sym h.1),
 )
 
-pub byte_misspelled : RefusesMisspelled byte_at byte
+pub byte_misspelled : RefusesMisspelled byte_at one_byte
 byte_misspelled = record { exactly = short_only byte_refused }
 
 pub two_bytes_misspelled : RefusesMisspelled two_bytes_at two_byte_integer
@@ -168,7 +168,7 @@ none_exactly {X} {read} {IsValue} {spelling} type exact refuses bytes fits = (no
     some never (Err reason) e = (reason, (refuses.exactly bytes reason fits).0 e)
 
 pub misspelled_none : (type : FieldType) (bytes : List ℕ) → AreBytes bytes → ((reason : Reason) × Misspelled type bytes reason) ↔ NoneStands (IsFieldValue type) (field_spelling type) bytes
-misspelled_none byte bytes fits = none_exactly byte byte_exact byte_misspelled bytes fits
+misspelled_none one_byte bytes fits = none_exactly one_byte byte_exact byte_misspelled bytes fits
 misspelled_none two_byte_integer bytes fits = none_exactly two_byte_integer two_bytes_exact two_bytes_misspelled bytes fits
 misspelled_none four_byte_integer bytes fits = none_exactly four_byte_integer four_bytes_exact four_bytes_misspelled bytes fits
 misspelled_none variable_byte_integer bytes fits = none_exactly variable_byte_integer varint_exact varint_misspelled bytes fits
@@ -180,7 +180,7 @@ one_of : {X : Type 0} {read : List ℕ → Result (X × ℕ) Reason} (type : Fie
 one_of {X} type refuses bytes reason other fits h k = failed_is {A = X × ℕ} reason other (sym ((refuses.exactly bytes reason fits).1 h) ∙ (refuses.exactly bytes other fits).1 k)
 
 pub misspelled_once : (type : FieldType) (bytes : List ℕ) (reason other : Reason) → AreBytes bytes → Misspelled type bytes reason → Misspelled type bytes other → reason ≡ other
-misspelled_once byte bytes reason other fits h k = one_of byte byte_misspelled bytes reason other fits h k
+misspelled_once one_byte bytes reason other fits h k = one_of one_byte byte_misspelled bytes reason other fits h k
 misspelled_once two_byte_integer bytes reason other fits h k = one_of two_byte_integer two_bytes_misspelled bytes reason other fits h k
 misspelled_once four_byte_integer bytes reason other fits h k = one_of four_byte_integer four_bytes_misspelled bytes reason other fits h k
 misspelled_once variable_byte_integer bytes reason other fits h k = one_of variable_byte_integer varint_misspelled bytes reason other fits h k

@@ -8,7 +8,7 @@ use Rattle.std.proofs.lemmas.List.{append-nil, length-append, length-replicate}
 use Rattle.std.proofs.lemmas.Str.{IsUtf8-from_is_utf8, is_utf8-from_IsUtf8}
 use Rattle.mq_wire.specs.declared.fault.Reason.{Reason}
 use Rattle.mq_wire.specs.declared.fault.Reason.TheVariants.{Short, Overlong, NotUtf8, Nul}
-use Rattle.mq_wire.specs.Fields.{◌>>=◌, byte_at, two_bytes_at, four_bytes_at, ended_by, fourth_byte, third_byte, second_byte, varint_at, counted, binary_at, text_of, text_at, pair_at}
+use Rattle.mq_wire.specs.Fields.{◌>>=◌, byte_at, two_bytes_at, four_bytes_at, ended_by, fourth_byte, third_byte, second_byte, varint_at, counted_bytes, binary_at, text_of, text_at, pair_at}
 use Rattle.mq_wire.specs.Spellings.{AreBytes, IsByte, byte_spelling, IsTwoBytes, two_bytes_spelling, IsFourBytes, four_bytes_spelling, IsVarint, varint_spelling, IsBinary, binary_spelling, has_nul, Stands, IsExact}
 use Rattle.mq_wire.specs.Misspelled.{IsCutShort, NoneStands, IsNotUtf8, HasNul}
 use Rattle.mq_wire.proofs.Bytes.{AreBytes-nil, AreBytes-cons}
@@ -262,7 +262,7 @@ varint_refused = record {
 
 -- ---- binary data
 
-counted_reason : (n : ℕ) (bytes : List ℕ) (reason : Reason) → counted n bytes ≡ Err reason → reason ≡ Short
+counted_reason : (n : ℕ) (bytes : List ℕ) (reason : Reason) → counted_bytes n bytes ≡ Err reason → reason ≡ Short
 counted_reason n bytes reason e =
     elim (cases_lt (length bytes) n) [
       | inl lt ↦ (let short = rw (lt-ltb (length bytes) n lt) at e in cc)

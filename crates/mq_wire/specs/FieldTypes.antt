@@ -3,11 +3,11 @@ use Rattle.std.specs.Prelude.{ℕ, List}
 use Rattle.mq_wire.specs.Spellings.{IsByte, byte_spelling, IsTwoBytes, two_bytes_spelling, IsFourBytes, four_bytes_spelling, IsVarint, varint_spelling, IsText, text_spelling, IsPair, pair_spelling, IsBinary, binary_spelling}
 
 pub data FieldType : Type 0 where
-  byte two_byte_integer four_byte_integer variable_byte_integer utf8_string string_pair binary_data : FieldType
+  one_byte two_byte_integer four_byte_integer variable_byte_integer utf8_string string_pair binary_data : FieldType
 
 -- What a value of the type is: a number, some bytes, or a name and a value.
 abbrev pub FieldValue : FieldType → Type 0
-FieldValue byte = ℕ
+FieldValue one_byte = ℕ
 FieldValue two_byte_integer = ℕ
 FieldValue four_byte_integer = ℕ
 FieldValue variable_byte_integer = ℕ
@@ -17,7 +17,7 @@ FieldValue binary_data = List ℕ
 
 -- The values of the type.
 abbrev pub IsFieldValue : (type : FieldType) → FieldValue type → Type 0
-IsFieldValue byte value = IsByte value
+IsFieldValue one_byte value = IsByte value
 IsFieldValue two_byte_integer value = IsTwoBytes value
 IsFieldValue four_byte_integer value = IsFourBytes value
 IsFieldValue variable_byte_integer value = IsVarint value
@@ -27,7 +27,7 @@ IsFieldValue binary_data value = IsBinary value
 
 -- The spelling of a value of the type.
 abbrev pub field_spelling : (type : FieldType) → FieldValue type → List ℕ
-field_spelling byte value = byte_spelling value
+field_spelling one_byte value = byte_spelling value
 field_spelling two_byte_integer value = two_bytes_spelling value
 field_spelling four_byte_integer value = four_bytes_spelling value
 field_spelling variable_byte_integer value = varint_spelling value

@@ -9,9 +9,9 @@ use Rattle.mq_wire.specs.Spellings.{has_nul}
 
 -- A step that is taken only if the one before it succeeded.
 infixl 10 ◌>>=◌
-abbrev pub ◌>>=◌ : {A B : Type 0} → Result A Reason → (A → Result B Reason) → Result B Reason
+abbrev pub ◌>>=◌ : {E A B : Type 0} → Result A E → (A → Result B E) → Result B E
 (Ok x) >>= f = f x
-(Err reason) >>= f = Err reason
+(Err error) >>= f = Err error
 
 -- A byte.
 abbrev pub byte_at : List ℕ → Result (ℕ × ℕ) Reason
@@ -58,14 +58,14 @@ varint_at [] = Err Short
 varint_at (a ∷ bytes) = if nat_lt a 128 then Ok (a, 1) else second_byte (a - 128) bytes
 
 -- The first n bytes after the two bytes of their length.
-abbrev pub counted : ℕ → List ℕ → Result (List ℕ × ℕ) Reason
-counted n bytes = if nat_lt (length bytes) n then Err Short else Ok (take n bytes, 2 + n)
+abbrev pub counted_bytes : ℕ → List ℕ → Result (List ℕ × ℕ) Reason
+counted_bytes n bytes = if nat_lt (length bytes) n then Err Short else Ok (take n bytes, 2 + n)
 
 -- Binary Data (1.5.6): a length of two bytes, and that many bytes.
 unfoldable pub binary_at : List ℕ → Result (List ℕ × ℕ) Reason
 binary_at bytes = do
   size ← two_bytes_at bytes
-  counted size.0 (drop 2 bytes)
+  counted_bytes size.0 (drop 2 bytes)
 
 -- The bytes, if they are the UTF-8 of characters other than U+0000.
 unfoldable pub text_of : List ℕ → Result (List ℕ) Reason

@@ -23,7 +23,7 @@ abbrev pub Took : {X Y : Type 0} → (X → Y) → Result X WireFault → Left �
 Took view (Ok x) old read new = read ≡ Ok (view x, new)
 Took view (Err fault) old read new = (read ≡ Err fault) × (new ≡ old)
 
--- The call returns this value, as `view` sees it, or this reason.
-abbrev pub Gives : {X Y : Type 0} → (X → Y) → Result X Reason → Result Y Reason → Type 0
+-- The call returns this value, as `view` sees it, or this error.
+abbrev pub Gives : {E X Y : Type 0} → (X → Y) → Result X E → Result Y E → Type 0
 Gives view (Ok x) read = read ≡ Ok (view x)
-Gives view (Err reason) read = read ≡ Err reason
+Gives view (Err error) read = read ≡ Err error

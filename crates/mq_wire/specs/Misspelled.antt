@@ -5,7 +5,7 @@ use Rattle.std.specs.List.{AllByRecursion}
 use Rattle.std.specs.Str.{IsUtf8}
 use Rattle.mq_wire.specs.declared.fault.Reason.{Reason}
 use Rattle.mq_wire.specs.declared.fault.Reason.TheVariants.{Short, Overlong, NotUtf8, Nul}
-use Rattle.mq_wire.specs.FieldTypes.{FieldType, byte, two_byte_integer, four_byte_integer, variable_byte_integer, utf8_string, string_pair, binary_data}
+use Rattle.mq_wire.specs.FieldTypes.{FieldType, one_byte, two_byte_integer, four_byte_integer, variable_byte_integer, utf8_string, string_pair, binary_data}
 use Rattle.mq_wire.specs.Spellings.{AreBytes, IsByte, byte_spelling, IsTwoBytes, two_bytes_spelling, IsFourBytes, four_bytes_spelling, IsVarint, varint_spelling, IsBinary, binary_spelling, IsText, text_spelling, has_nul, Stands}
 
 -- The bytes end before a field of the type does: with more bytes after them they would be a spelling.
@@ -73,7 +73,7 @@ MisspelledPair bytes reason =
 -- The bytes don't begin with a value of the type, for this reason. A byte, a Two or a Four Byte Integer (1.5.2, 1.5.3) and Binary
 -- Data (1.5.6) are misspelled only if the bytes end before they do.
 abbrev pub Misspelled : FieldType → List ℕ → Reason → Type 0
-Misspelled byte bytes reason = IsCutShort IsByte byte_spelling bytes × (reason ≡ Short)
+Misspelled one_byte bytes reason = IsCutShort IsByte byte_spelling bytes × (reason ≡ Short)
 Misspelled two_byte_integer bytes reason = IsCutShort IsTwoBytes two_bytes_spelling bytes × (reason ≡ Short)
 Misspelled four_byte_integer bytes reason = IsCutShort IsFourBytes four_bytes_spelling bytes × (reason ≡ Short)
 Misspelled variable_byte_integer bytes reason = MisspelledNumber bytes reason

@@ -3,7 +3,7 @@
 ghost use Rattle.std.specs.Prelude.{◌≡◌, ◌↔◌, ℕ, List};
 ghost use Rattle.mq_wire.specs.declared.fault.Reason.{Reason};
 ghost use Rattle.mq_wire.specs.Fields.{byte_at, two_bytes_at, four_bytes_at, varint_at, text_at, binary_at, pair_at};
-ghost use Rattle.mq_wire.specs.FieldTypes.{FieldType, byte, two_byte_integer, four_byte_integer, variable_byte_integer, utf8_string, string_pair, binary_data, IsFieldValue, field_spelling};
+ghost use Rattle.mq_wire.specs.FieldTypes.{FieldType, one_byte, two_byte_integer, four_byte_integer, variable_byte_integer, utf8_string, string_pair, binary_data, IsFieldValue, field_spelling};
 ghost use Rattle.mq_wire.specs.Misspelled.{NoneStands, Misspelled, RefusesMisspelled};
 ghost use Rattle.mq_wire.specs.Spellings.{AreBytes, IsExact, IsByte, byte_spelling, IsTwoBytes, two_bytes_spelling, IsFourBytes, four_bytes_spelling, IsVarint, varint_spelling, IsBinary, binary_spelling, IsText, text_spelling, IsPair, pair_spelling};
 
@@ -52,7 +52,7 @@ pub fn pair_is_exact()
 /// A byte: it is refused exactly if the bytes end before it, as `Short`.
 #[tactic(auto, using(crate::proofs::MisspelledLaws::byte_misspelled))]
 pub fn byte_is_refused()
-    ensures { RefusesMisspelled byte_at byte }
+    ensures { RefusesMisspelled byte_at one_byte }
 {}
 
 /// A Two Byte Integer: it is refused exactly if the bytes end before it does, as `Short` (MQTT 5.0,

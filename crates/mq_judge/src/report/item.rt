@@ -1,7 +1,8 @@
 //! The text of what is sent or received.
 ghost use Rattle.std.specs.Prelude.{◌≡◌, ◌<◌, ◌≤◌, ◌+◌, ◌++◌, Some, IfErr, OnOk, length};
 ghost use Rattle.mq_trace.specs.Hearing.{item_of};
-ghost use Rattle.mq_judge.specs.ItemText.{type_name, identifier_of, delivery_of, qos_number, flag_number, delivery_words, identifier_words, behind_spaces, packet_rule_code, packet_text, broken_text, item_text};
+ghost use Rattle.mq_rules.specs.Notes.{qos_number};
+ghost use Rattle.mq_judge.specs.ItemText.{type_name, identifier_of, qos_and_dup, flag_number, delivery_words, identifier_words, behind_spaces, packet_rule_code, packet_text, broken_text, item_text};
 
 use super::super::lines::Lines;
 use super::summary::PacketSummary;
@@ -155,7 +156,7 @@ fn identifier_of(packet: PacketSummary) -> Option<u16>
 
 // The QoS of a PUBLISH and its DUP flag, as numbers (MQTT 5.0, section 3.3.1).
 fn delivery_of(packet: PacketSummary) -> Option<(u8, u8)>
-    ensures { result ≡ delivery_of packet }
+    ensures { result ≡ qos_and_dup packet }
 {
     match packet {
         PacketSummary::Publish { qos, duplicate, .. } => {

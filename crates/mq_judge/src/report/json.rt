@@ -5,7 +5,7 @@ ghost use Rattle.std.specs.Io.KnownBytes.{Appends};
 ghost use Rattle.serde_json.specs.View.{view, items_view};
 ghost use Rattle.serde_json.specs.Written.{compact_text, has_float};
 ghost use Rattle.mq_judge.specs.declared.report.Form.TheVariants.{Json};
-ghost use Rattle.mq_judge.specs.Report.{line, fault_data, fault_items, verdict_word, report_data, refused_data, refused_report, report_on, FailsToWrite};
+ghost use Rattle.mq_judge.specs.Report.{line, fault_data, fault_items, verdict_word, report_data, refused_data, refused_report, report_on, FailsToReport};
 
 use super::RunFault;
 use super::line::write_bytes;
@@ -33,7 +33,7 @@ pub fn write_json<W: Write>(
 ) -> Result<(), RunFault>
     ensures ok { OnOk result (Appends (W.contents writer.old) (W.contents writer.new)
         (report_on Json role (map.entries verdict.now.faults) verdict.now.events)) }
-    ensures err { IfErr result (FailsToWrite Json (W.contents writer.old) (W.contents writer.new)
+    ensures err { IfErr result (FailsToReport Json (W.contents writer.old) (W.contents writer.new)
         (report_on Json role (map.entries verdict.now.faults) verdict.now.events)) }
 {
     match report_value(alloc, verdict, role) {
@@ -53,7 +53,7 @@ pub fn write_refusal<W: Write>(
     writer: &mut W,
 ) -> Result<(), RunFault>
     ensures ok { OnOk result (Appends (W.contents writer.old) (W.contents writer.new) (refused_report Json refusal)) }
-    ensures err { IfErr result (FailsToWrite Json (W.contents writer.old) (W.contents writer.new) (refused_report Json refusal)) }
+    ensures err { IfErr result (FailsToReport Json (W.contents writer.old) (W.contents writer.new) (refused_report Json refusal)) }
 {
     match refused_value(alloc, refusal) {
         Ok(value) => write_value(alloc, &value, writer),
@@ -125,7 +125,7 @@ fn fault_value(alloc: Global, role: Role, mark: Mark, fault: Fault) -> Result<Va
 fn write_value<W: Write>(alloc: Global, value: &Value, writer: &mut W) -> Result<(), RunFault>
     requires { has_float (view value.now) ≡ false }
     ensures ok { OnOk result (Appends (W.contents writer.old) (W.contents writer.new) (line (compact_text (view value.now)))) }
-    ensures err { IfErr result (FailsToWrite Json (W.contents writer.old) (W.contents writer.new) (line (compact_text (view value.now)))) }
+    ensures err { IfErr result (FailsToReport Json (W.contents writer.old) (W.contents writer.new) (line (compact_text (view value.now)))) }
 {
     match line_of(alloc, value) {
         Ok(text) => write_bytes(text.as_slice(), writer),

@@ -1,7 +1,8 @@
 //! Lines, each complete before it is written.
 ghost use Rattle.std.specs.Prelude.{◌≡◌, [], ◌∷◌, ◌++◌, IfSome, IfOk, IfErr, OnOk};
 ghost use Rattle.std.specs.Io.KnownBytes.{Appends};
-ghost use Rattle.mq_judge.specs.Report.{line, AppendsBeginning};
+ghost use Rattle.mq_trace.specs.Writing.{AppendsBeginning};
+ghost use Rattle.mq_judge.specs.Report.{line};
 
 use super::RunFault;
 use std::fmt;

@@ -2,9 +2,10 @@
 ghost use Rattle.std.specs.Prelude.{◌≡◌, length, Some, IfErr, OnOk};
 ghost use Rattle.std.specs.FinMap as map;
 ghost use Rattle.std.specs.Io.KnownBytes.{Appends};
+ghost use Rattle.mq_trace.specs.Writing.{AppendsBeginning};
 ghost use Rattle.mq_judge.specs.declared.report.Form.TheVariants.{Summary};
 ghost use Rattle.mq_judge.specs.declared.report.RunFault.TheVariants as run_faults;
-ghost use Rattle.mq_judge.specs.Report.{faults_of, first_of, rule_text, rule_line, rule_lines, report_on, AppendsBeginning};
+ghost use Rattle.mq_judge.specs.Report.{faults_of, first_fault_of, rule_text, rule_line, rule_lines, report_on};
 
 use super::line::write_line;
 use super::{Counts, RunFault};
@@ -125,7 +126,7 @@ fn write_rule<W: Write>(
 /// Counts the faults of a statement: all faults minus those of other statements.
 fn tally_of(rule: Rule, faults: &Faults) -> Tally
     ensures count { result.count ≡ length (faults_of rule (map.entries faults.now)) }
-    ensures first { result.first ≡ first_of (faults_of rule (map.entries faults.now)) }
+    ensures first { result.first ≡ first_fault_of (faults_of rule (map.entries faults.now)) }
 {
     let mut count = faults.len();
     let mut first = None;

@@ -4,7 +4,7 @@ ghost use Rattle.std.specs.Prelude.{◌≡◌};
 ghost use Rattle.mq_packet.specs.Entries.{connack};
 ghost use Rattle.mq_packet.specs.Formats.{byte, connack_flags_objection, connack_format};
 ghost use Rattle.mq_packet.specs.Decoding.{read, read_field};
-ghost use Rattle.mq_packet.specs.Reading.{Takes, Reads};
+ghost use Rattle.mq_packet.specs.Reading.{ReadsField, Reads};
 
 use super::fields::{property_list, reason_code, whole};
 use crate::codes::CONNACK_CODES;
@@ -41,7 +41,7 @@ pub fn read_connack<'a>(mut cursor: Cursor<'a>) -> Result<Connack<'a>, Stop>
 }
 
 fn connack_flags(cursor: &mut Cursor<'_>) -> Result<u8, Stop>
-    ensures { Takes (λ n. n) result (read_field byte connack_flags_objection cursor.old) cursor.new }
+    ensures { ReadsField (λ n. n) result (read_field byte connack_flags_objection cursor.old) cursor.new }
 {
     let at = cursor.at();
     let flags = cursor.u8()?;

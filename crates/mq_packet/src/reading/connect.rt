@@ -5,7 +5,7 @@ ghost use Rattle.std.specs.Option.{option_map};
 ghost use Rattle.mq_packet.specs.Entries.{connect};
 ghost use Rattle.mq_packet.specs.Formats.{byte, text, binary, connect_flags_objection, are_connect_flags, has_bits, qos_of, field_if, will_if, connect_format};
 ghost use Rattle.mq_packet.specs.Decoding.{read, read_field};
-ghost use Rattle.mq_packet.specs.Reading.{Takes, TakesPart, Reads, will_view, connect_view};
+ghost use Rattle.mq_packet.specs.Reading.{ReadsField, TakesPart, Reads, will_view, connect_view};
 
 use super::fields::{property_list, protocol_name, protocol_version, whole};
 use crate::packet::{Connect, Qos, Will};
@@ -27,7 +27,7 @@ fn are_flags(flags: u8) -> bool
 }
 
 fn connect_flags(cursor: &mut Cursor<'_>) -> Result<u8, Stop>
-    ensures { Takes (λ n. n) result (read_field byte connect_flags_objection cursor.old) cursor.new }
+    ensures { ReadsField (λ n. n) result (read_field byte connect_flags_objection cursor.old) cursor.new }
 {
     let at = cursor.at();
     let flags = cursor.u8()?;

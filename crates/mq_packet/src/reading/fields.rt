@@ -5,7 +5,7 @@ ghost use Rattle.mq_packet.specs.Entries.{Entry, listed};
 ghost use Rattle.mq_props.specs.Listed.{Listed};
 ghost use Rattle.mq_packet.specs.Formats.{last_properties, byte, two_bytes, text, binary, properties, any_value, name_objection, version_objection, code_objection, identifier_objection, topic_objection, filter_objection, is_filter};
 ghost use Rattle.mq_packet.specs.Decoding.{read, read_field, ended};
-ghost use Rattle.mq_packet.specs.Reading.{Takes, Reads};
+ghost use Rattle.mq_packet.specs.Reading.{ReadsField, Reads};
 
 use crate::codes::is_code;
 use crate::protocol::{PROTOCOL_NAME, PROTOCOL_VERSION};
@@ -42,7 +42,7 @@ pub fn whole<P: Drop>(cursor: Cursor<'_>, packet: P) -> Result<P, Stop>
 ///
 /// A rule of texts, and W18 if it is another name.
 pub fn protocol_name<'a>(cursor: &mut Cursor<'a>) -> Result<&'a str, Stop>
-    ensures { Takes (λ name. name.now) result (read_field text name_objection cursor.old) cursor.new }
+    ensures { ReadsField (λ name. name.now) result (read_field text name_objection cursor.old) cursor.new }
 {
     let at = cursor.at();
     let name = cursor.text()?;
@@ -61,7 +61,7 @@ pub fn protocol_name<'a>(cursor: &mut Cursor<'a>) -> Result<&'a str, Stop>
 ///
 /// W06 if no byte is left, and the version if it isn't 5.
 pub fn protocol_version(cursor: &mut Cursor<'_>) -> Result<u8, Stop>
-    ensures { Takes (λ n. n) result (read_field byte version_objection cursor.old) cursor.new }
+    ensures { ReadsField (λ n. n) result (read_field byte version_objection cursor.old) cursor.new }
 {
     let version = cursor.u8()?;
     if version != PROTOCOL_VERSION {
@@ -77,7 +77,7 @@ pub fn protocol_version(cursor: &mut Cursor<'_>) -> Result<u8, Stop>
 /// W06 if fewer than two bytes are left, and W09 if it is 0.
 #[inline(always)]
 pub fn packet_identifier(cursor: &mut Cursor<'_>) -> Result<u16, Stop>
-    ensures { Takes (λ n. n) result (read_field two_bytes identifier_objection cursor.old) cursor.new }
+    ensures { ReadsField (λ n. n) result (read_field two_bytes identifier_objection cursor.old) cursor.new }
 {
     let at = cursor.at();
     let identifier = cursor.u16()?;
@@ -96,7 +96,7 @@ pub fn packet_identifier(cursor: &mut Cursor<'_>) -> Result<u16, Stop>
 ///
 /// W06 if no byte is left, and W13 if it isn't in the table.
 pub fn reason_code(cursor: &mut Cursor<'_>, table: &[u8]) -> Result<u8, Stop>
-    ensures { Takes (λ n. n) result (read_field byte (code_objection table.now) cursor.old) cursor.new }
+    ensures { ReadsField (λ n. n) result (read_field byte (code_objection table.now) cursor.old) cursor.new }
 {
     let at = cursor.at();
     let code = cursor.u8()?;
@@ -116,7 +116,7 @@ pub fn reason_code(cursor: &mut Cursor<'_>, table: &[u8]) -> Result<u8, Stop>
 /// The rule that its first invalid field breaks, at that field: W03 to W06, W10 to W12, W14.
 #[inline(always)]
 pub fn property_list<'a>(cursor: &mut Cursor<'a>, place: Place) -> Result<Props<'a>, Stop>
-    ensures list { Takes (λ list. list.items) result (read_field (properties place) any_value cursor.old) cursor.new }
+    ensures list { ReadsField (λ list. list.items) result (read_field (properties place) any_value cursor.old) cursor.new }
     ensures place { IfOk result (λ list. list ≡ listed place list.items) }
 {
     let list = Props::read(cursor, place)?;
@@ -152,7 +152,7 @@ pub fn last_properties<'a>(mut cursor: Cursor<'a>, place: Place) -> Result<Props
 #[inline(always)]
 #[tactic(auto, using(crate::proofs::FieldLaws::plain_topic))]
 pub fn topic_name<'a>(cursor: &mut Cursor<'a>) -> Result<&'a str, Stop>
-    ensures { Takes (λ topic. topic.now) result (read_field text topic_objection cursor.old) cursor.new }
+    ensures { ReadsField (λ topic. topic.now) result (read_field text topic_objection cursor.old) cursor.new }
 {
     match cursor.plain_text() {
         Some(topic) => Ok(topic),
@@ -163,7 +163,7 @@ pub fn topic_name<'a>(cursor: &mut Cursor<'a>) -> Result<&'a str, Stop>
 // The same for any bytes. It is a function of its own, so that the call for a plain Topic Name, the usual case, is inlined.
 #[inline(never)]
 fn any_topic_name<'a>(cursor: &mut Cursor<'a>) -> Result<&'a str, Stop>
-    ensures { Takes (λ topic. topic.now) result (read_field text topic_objection cursor.old) cursor.new }
+    ensures { ReadsField (λ topic. topic.now) result (read_field text topic_objection cursor.old) cursor.new }
 {
     let at = cursor.at();
     let topic = cursor.text()?;
@@ -189,7 +189,7 @@ pub fn is_topic_filter(filter: &str) -> bool
 ///
 /// A rule of texts, and W15 if it is invalid.
 pub fn topic_filter<'a>(cursor: &mut Cursor<'a>) -> Result<&'a str, Stop>
-    ensures { Takes (λ filter. filter.now) result (read_field text filter_objection cursor.old) cursor.new }
+    ensures { ReadsField (λ filter. filter.now) result (read_field text filter_objection cursor.old) cursor.new }
 {
     let at = cursor.at();
     let filter = cursor.text()?;

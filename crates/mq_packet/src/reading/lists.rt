@@ -4,7 +4,7 @@ ghost use Rattle.std.specs.Prelude.{◌≡◌, Err, MatchResult};
 ghost use Rattle.mq_wire.specs.Spellings.{AreBytes};
 ghost use Rattle.mq_packet.specs.Formats.{byte, options_objection, are_options};
 ghost use Rattle.mq_packet.specs.Decoding.{read_field, codes_on, options_on, filter_on, filters_on};
-ghost use Rattle.mq_packet.specs.Reading.{Takes, Reads, fault_of};
+ghost use Rattle.mq_packet.specs.Reading.{ReadsField, Reads, decode_fault};
 ghost use Rattle.mq_packet.specs.Elements.{filter_view, AreRead};
 
 use crate::filters::{Filter, Filters};
@@ -24,7 +24,7 @@ fn are_subscription_options(options: u8) -> bool
 
 // The Subscription Options of a filter (MQTT 5.0, section 3.8.3.1).
 fn subscription_options(cursor: &mut Cursor<'_>) -> Result<u8, Stop>
-    ensures { Takes (λ n. n) result (read_field byte options_objection cursor.old) cursor.new }
+    ensures { ReadsField (λ n. n) result (read_field byte options_objection cursor.old) cursor.new }
 {
     let at = cursor.at();
     let options = cursor.u8()?;
@@ -39,7 +39,7 @@ fn subscription_options(cursor: &mut Cursor<'_>) -> Result<u8, Stop>
 
 // The Subscription Options of a filter, if they are asked for.
 fn asked_options(cursor: &mut Cursor<'_>, asks: bool) -> Result<Option<u8>, Stop>
-    ensures { Takes (λ o. o) result (options_on asks cursor.old) cursor.new }
+    ensures { ReadsField (λ o. o) result (options_on asks cursor.old) cursor.new }
 {
     if !asks {
         return Ok(None);
@@ -50,7 +50,7 @@ fn asked_options(cursor: &mut Cursor<'_>, asks: bool) -> Result<Option<u8>, Stop
 
 // A filter, with its Subscription Options if they are asked for (MQTT 5.0, sections 3.8.3 and 3.10.3).
 fn asked_filter<'a>(cursor: &mut Cursor<'a>, asks: bool) -> Result<Filter<'a>, Stop>
-    ensures { Takes filter_view result (filter_on asks cursor.old) cursor.new }
+    ensures { ReadsField filter_view result (filter_on asks cursor.old) cursor.new }
 {
     let filter = topic_filter(cursor)?;
     let options = asked_options(cursor, asks)?;
@@ -65,7 +65,7 @@ fn asked_filter<'a>(cursor: &mut Cursor<'a>, asks: bool) -> Result<Filter<'a>, S
 /// The first rule that a field breaks: one of texts, W06, W15, W17; and W16 if there is no filter.
 pub fn check_filters(mut cursor: Cursor<'_>, asks: bool) -> Result<(), Stop>
     requires { AreBytes cursor.rest }
-    ensures { MatchResult result (λ _. AreRead asks cursor.entry) (λ stop. filters_on asks cursor.entry ≡ Err (fault_of stop)) }
+    ensures { MatchResult result (λ _. AreRead asks cursor.entry) (λ stop. filters_on asks cursor.entry ≡ Err (decode_fault stop)) }
 {
     if cursor.is_empty() {
         return Err(Stop::Broken {

@@ -4,9 +4,9 @@ ghost use Rattle.std.specs.Prelude.{◌≡◌, IfOk, if◌then◌else◌};
 ghost use Rattle.mq_props.specs.declared.table.Place.TheVariants as places;
 ghost use Rattle.mq_packet.specs.declared.rule.PacketRule.TheVariants as rules;
 ghost use Rattle.mq_packet.specs.Entries.{publish, listed};
-ghost use Rattle.mq_packet.specs.Formats.{refused, properties, alias_objection, names_topic, has_bits, qos_of, publish_format, publish_unacknowledged, publish_acknowledged, publish_from};
+ghost use Rattle.mq_packet.specs.Formats.{bad_first_byte, properties, alias_objection, names_topic, has_bits, qos_of, publish_format, publish_unacknowledged, publish_acknowledged, publish_from};
 ghost use Rattle.mq_packet.specs.Decoding.{read, read_field};
-ghost use Rattle.mq_packet.specs.Reading.{Takes, Reads, publish_view};
+ghost use Rattle.mq_packet.specs.Reading.{ReadsField, Reads, publish_view};
 
 use super::fields::{packet_identifier, property_list, topic_name};
 use crate::packet::{Publish, Qos};
@@ -45,7 +45,7 @@ fn read_unacknowledged<'a>(
     duplicate: bool,
     retain: bool,
 ) -> Result<Publish<'a>, Stop>
-    ensures { Reads (λ p. publish (publish_view p)) result (read (if duplicate then refused rules.W08 else publish_unacknowledged retain) cursor.entry) }
+    ensures { Reads (λ p. publish (publish_view p)) result (read (if duplicate then bad_first_byte rules.W08 else publish_unacknowledged retain) cursor.entry) }
 {
     if duplicate {
         return Err(Stop::Broken {
@@ -107,7 +107,7 @@ pub fn names_topic(topic: &str, properties: &Props<'_>) -> bool
 // The property list of a PUBLISH on this topic.
 #[inline(always)]
 fn properties_for<'a>(cursor: &mut Cursor<'a>, topic: &str) -> Result<Props<'a>, Stop>
-    ensures list { Takes (λ list. list.items) result (read_field (properties places.Publish) (alias_objection topic.now) cursor.old) cursor.new }
+    ensures list { ReadsField (λ list. list.items) result (read_field (properties places.Publish) (alias_objection topic.now) cursor.old) cursor.new }
     ensures place { IfOk result (λ list. list ≡ listed places.Publish list.items) }
 {
     let at = cursor.at();

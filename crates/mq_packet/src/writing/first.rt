@@ -3,7 +3,7 @@
 ghost use Rattle.std.specs.Prelude.{◌≡◌, ◌≤◌, ◌+◌, ◌*◌, is_some};
 ghost use Rattle.std.specs.Option.{option_map};
 ghost use Rattle.mq_packet.specs.Reading.{view, will_view};
-ghost use Rattle.mq_packet.specs.Canonical.{bit, qos_bits, will_flags, first_byte};
+ghost use Rattle.mq_packet.specs.Canonical.{bit, qos_bits, will_flags, first_byte_of};
 
 use crate::first_bytes::{
     AUTH, CONNACK, CONNECT, DISCONNECT, PINGREQ, PINGRESP, PUBACK, PUBCOMP, PUBLISH, PUBREC,
@@ -68,7 +68,7 @@ pub fn connect_flags(packet: &Connect<'_>) -> u8
 }
 
 fn publish_first(packet: &Publish<'_>) -> u8
-    ensures { result ≡ first_byte (view (Packet.Publish packet.now)) }
+    ensures { result ≡ first_byte_of (view (Packet.Publish packet.now)) }
 {
     PUBLISH
         + (bit(DUP, packet.duplicate) + qos_bits(QOS_ONE, packet.qos) + bit(RETAIN, packet.retain))
@@ -76,7 +76,7 @@ fn publish_first(packet: &Publish<'_>) -> u8
 
 /// The first byte: the packet's type and its flags (MQTT 5.0, section 2.1.1).
 pub fn first_byte(packet: &Packet<'_>) -> u8
-    ensures { result ≡ first_byte (view packet.now) }
+    ensures { result ≡ first_byte_of (view packet.now) }
 {
     match packet {
         Packet::Connect(_) => CONNECT,

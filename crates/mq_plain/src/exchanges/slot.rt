@@ -1,6 +1,6 @@
 //! What is known of one Packet Identifier when looking back over events.
 ghost use Rattle.std.specs.Prelude.{◌≡◌, true};
-ghost use Rattle.mq_plain.specs.Unanswered.{asked_at, answered};
+ghost use Rattle.mq_plain.specs.Unanswered.{asking_at, answered};
 
 /// What the later events of a connection say of one Packet Identifier.
 #[derive(Clone, Copy)]
@@ -14,7 +14,7 @@ pub struct Slot {
 impl Slot {
     /// The same with an event before them, at this index, that is a cause.
     pub fn asked(self, index: usize) -> Slot
-        ensures { result ≡ asked_at true index self }
+        ensures { result ≡ asking_at true index self }
     {
         if self.is_answered {
             return self;

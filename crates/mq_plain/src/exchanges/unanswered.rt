@@ -4,7 +4,7 @@ ghost use Rattle.mq_rules.specs.Words.{is_id};
 ghost use Rattle.mq_rules.specs.Moments.{note, some};
 ghost use Rattle.mq_rules.specs.Connections.{connection};
 ghost use Rattle.mq_plain.specs.Tables.{at};
-ghost use Rattle.mq_plain.specs.Unanswered.{first_index, asked_at, answered, is_first_in};
+ghost use Rattle.mq_plain.specs.Unanswered.{first_index, asking_at, answered, is_first_in};
 
 use crate::exchanges::Exchange;
 use crate::exchanges::slot::Slot;
@@ -39,7 +39,7 @@ pub fn unanswered<X: Exchange>(alloc: Global, before: &[Seen]) -> Result<Table<S
 
 /// Takes in an event as a cause. It is at this index, before all that was taken in.
 fn take_cause<X: Exchange>(slots: &mut Table<Slot>, index: usize, note: &Note)
-    ensures { (i : ℕ) → at slots.new i ≡ asked_at (is_id i (X.exchange.cause note.now)) index (at slots.old i) }
+    ensures { (i : ℕ) → at slots.new i ≡ asking_at (is_id i (X.exchange.cause note.now)) index (at slots.old i) }
 {
     if let Some(identifier) = X::cause(note) {
         let slot = slots.get(identifier);

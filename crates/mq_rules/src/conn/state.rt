@@ -1,7 +1,7 @@
 //! What is kept of the latest connection.
 ghost use Rattle.std.specs.Prelude.{◌≡◌, ◌&&◌, [], false, None, is_some, is_none};
 ghost use Rattle.mq_rules.specs.declared.role.Role.{Role as TheRole};
-ghost use Rattle.mq_rules.specs.Keeping.{kept, begun_if, followed, after, is_ordinary as ordinary, is_ordinary_in, expiry, stays_alive as lives_on};
+ghost use Rattle.mq_rules.specs.Keeping.{kept, begun_if, followed, connection_after, is_ordinary as ordinary, is_ordinary_in, expiry, stays_alive as lives_on};
 ghost use Rattle.mq_rules.specs.Words.{is_some_and};
 ghost use Rattle.mq_rules.specs.Notes.{sent_fields, received_fields};
 ghost use Rattle.mq_rules.specs.Pasts.{is_sent_refusal};
@@ -73,7 +73,7 @@ impl ConnectionState {
     /// Takes in one more event.
     #[inline]
     pub fn take(&mut self, role: Role, note: &Note)
-        ensures { self.new ≡ after role self.old note.now }
+        ensures { self.new ≡ connection_after role self.old note.now }
     {
         if self.is_unchanged_by(note) {
             return;

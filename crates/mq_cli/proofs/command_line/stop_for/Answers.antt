@@ -1,11 +1,11 @@
 use Rattle.std.proofs.Common.{⊎_elim, ◌∙◌, subst}
-use Rattle.mq_cli.specs.CommandLine.{IsShown}
+use Rattle.mq_cli.specs.CommandLine.{IsHelpOrVersion}
 use Rattle.mq_cli.proofs.CommandLineLemmas.{StopsFor-misused, StopsFor-shown}
 use Rattle.mq_cli.proofs.command_line.stop_for.Goals as goal
 
 pub returns-in-DisplayHelp : goal.returns-in-DisplayHelp
 returns-in-DisplayHelp c =
-    StopsFor-shown c.args.error.now c.map_or.result c.to_string.result (subst IsShown c.kind.ensures c.in-DisplayHelp.is) c.map_or.ensures
+    StopsFor-shown c.args.error.now c.map_or.result c.to_string.result (subst IsHelpOrVersion c.kind.ensures c.in-DisplayHelp.is) c.map_or.ensures
 
 pub returns-in_default : goal.returns-in_default
 returns-in_default c =

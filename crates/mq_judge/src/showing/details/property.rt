@@ -4,7 +4,7 @@
 ghost use Rattle.std.specs.Prelude.{◌≡◌, ◌++◌};
 ghost use Rattle.mq_props.specs.Props.{prop_view};
 ghost use Rattle.mq_judge.specs.Detailing.{shown_words};
-ghost use Rattle.mq_judge.specs.Details.{begun_with, properties_after, property_name, value_words};
+ghost use Rattle.mq_judge.specs.Details.{with_prefix, properties_after, property_name, value_words};
 ghost use Rattle.mq_judge.specs.ItemText.{behind_spaces};
 ghost use Rattle.mq_judge.specs.Outgoing.{Puts};
 
@@ -25,7 +25,7 @@ pub fn put_properties<W: Write>(out: &mut Outgoing<'_, W>, prefix: &str, propert
 
 // The prefix, unless the name begins with it.
 fn missing_prefix<'a>(prefix: &'a str, name: &str) -> &'a str
-    ensures { result.now ++ name.now ≡ begun_with prefix.entry.now name.now }
+    ensures { result.now ++ name.now ≡ with_prefix prefix.entry.now name.now }
 {
     if name.as_bytes().starts_with(prefix.as_bytes()) {
         ""

@@ -7,7 +7,7 @@ use Rattle.mq_packet.specs.declared.fault.DecodeFault.{DecodeFault}
 use Rattle.mq_packet.specs.FirstBytes.{flags_in}
 use Rattle.mq_packet.specs.Formats.{Format, format_of, publish_format}
 use Rattle.mq_packet.specs.Decoding.{broken, read}
-use Rattle.mq_packet.specs.Reading.{fault_of}
+use Rattle.mq_packet.specs.Reading.{decode_fault}
 use Rattle.mq_packet.proofs.FirstByteLaws.{publish_format_of}
 use Rattle.mq_packet.proofs.Places.{place_fits}
 use Rattle.mq_packet.proofs.decoding.read_publish_body.Goals as goal
@@ -18,7 +18,7 @@ publish_only first from to left = ap (λ (f : Format). read f left) (publish_for
 pub fault_of-requires : goal.fault_of-requires
 fault_of-requires c = λ at rule is.
     let cursor : Left = c.starting_at-cursor.result in
-    let failed : Stop → Result Entry DecodeFault = λ stop. Err (fault_of stop) in
+    let failed : Stop → Result Entry DecodeFault = λ stop. Err (decode_fault stop) in
     let stops : read (format_of c.args.first) cursor ≡ Err (broken at rule) = publish_only c.args.first c.requires.from c.requires.to cursor ∙ ap (λ (flags : ℕ). read (publish_format flags) cursor) (sym c.flags.ensures) ∙ c.in-Err.ensures ∙ ap failed is in
     let first : cursor.at ≡ c.header_len.result = ap (λ (left : Left). left.at) c.starting_at-cursor.ensures in
     let rest : cursor.rest ≡ c.args.body.now = ap (λ (left : Left). left.rest) c.starting_at-cursor.ensures in

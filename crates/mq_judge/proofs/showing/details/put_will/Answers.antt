@@ -1,7 +1,8 @@
 use Rattle.std.proofs.Common.{◌≡◌, ◌∙◌, codes}
 use Rattle.mq_packet.specs.Reading.{will_view}
+use Rattle.mq_rules.specs.Notes.{qos_number}
 use Rattle.mq_judge.specs.Details.{properties_after}
-use Rattle.mq_judge.specs.ItemText.{behind_spaces, qos_number}
+use Rattle.mq_judge.specs.ItemText.{behind_spaces}
 use Rattle.mq_judge.specs.Outgoing.{Puts}
 use Rattle.mq_judge.proofs.DetailLaws.{puts_words, will_fields}
 use Rattle.mq_judge.proofs.showing.details.put_will.Goals as goal

@@ -1,6 +1,6 @@
 use Rattle.std.proofs.lemmas.Result.{err_from_is_err_and}
 use Rattle.std.proofs.Common.{rules}
-use Rattle.mq_packet.specs.Reading.{fault_of}
+use Rattle.mq_packet.specs.Reading.{decode_fault}
 use Rattle.mq_packet.specs.Elements.{filter_view}
 use Rattle.mq_packet.proofs.FilterLaws.{filters_none, begins, goes_on, fails, ends, filter_shorter}
 use Rattle.mq_packet.proofs.reading.lists.check_filters.Goals as goal
@@ -24,7 +24,7 @@ pub returns-in_err-asked_filter : goal.returns-in_err-asked_filter
 returns-in_err-asked_filter c =
     let p = err_from_is_err_and c.from_residual.result c.from_residual.ensures.1 in
     rw (p.1, p.2)
-    (fails c.args.asks c.args.cursor c.loop-cursor.cursor c.requires c.loop-cursor.invariant (fault_of c.in_err-asked_filter.field-0.0)
+    (fails c.args.asks c.args.cursor c.loop-cursor.cursor c.requires c.loop-cursor.invariant (decode_fault c.in_err-asked_filter.field-0.0)
     (λ none. let t = rw c.loop-cursor-test.true at (c.is_empty-in-loop-cursor.ensures.1 none) in cc)
     c.in_err-asked_filter.ensures)
 

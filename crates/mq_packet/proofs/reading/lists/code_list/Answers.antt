@@ -1,7 +1,7 @@
 use Rattle.std.proofs.Common.{◌≡◌, List, ℕ, Ok, rules, refl, ap, subst, ◌∙◌}
 use Rattle.std.proofs.lemmas.Result.{err_from_is_err_and}
 use Rattle.mq_wire.specs.Left.{Left}
-use Rattle.mq_packet.specs.Reading.{fault_of}
+use Rattle.mq_packet.specs.Reading.{decode_fault}
 use Rattle.mq_packet.proofs.CodeLaws.{Goes, begins, goes_on, fails, ends, code_shorter}
 use Rattle.mq_packet.proofs.reading.lists.code_list.Goals as goal
 
@@ -21,7 +21,7 @@ returns-in_err-reason_code c =
     let p = err_from_is_err_and c.from_residual.result c.from_residual.ensures.1 in
     let start : c.starting_at-rest.result ≡ c.args.cursor = rw (c.starting_at-rest.ensures, c.rest-bytes.ensures, c.at-at.ensures.place) refl in
     rw (p.1, p.2)
-    (fails c.args.table.now c.args.cursor c.loop-rest.rest (fault_of c.in_err-reason_code.field-0.0)
+    (fails c.args.table.now c.args.cursor c.loop-rest.rest (decode_fault c.in_err-reason_code.field-0.0)
     (subst (λ (l : Left). Goes c.args.table.now l c.loop-rest.rest) start c.loop-rest.invariant)
     (λ none. let t = rw c.loop-rest-test.true at (c.is_empty.ensures.1 none) in cc)
     c.in_err-reason_code.ensures)

@@ -7,7 +7,7 @@ use Rattle.mq_props.specs.Views.{Sees, item_view}
 use Rattle.mq_props.specs.Reading.{items_of}
 use Rattle.mq_props.specs.Listed.{Listed}
 use Rattle.mq_props.specs.Making.{Made}
-use Rattle.mq_props.specs.Pushing.{fault_of}
+use Rattle.mq_props.specs.Pushing.{push_fault_by_line}
 use Rattle.mq_props.proofs.Exact.{list_spelled}
 use Rattle.mq_props.proofs.Pushes.{writes, never_memory, sees_items, keeps_more, leaves, listed_after}
 use Rattle.mq_props.proofs.buf.PropsBuf.push.Goals as goal
@@ -17,8 +17,8 @@ returns-in-Some-clause-memory c = λ is.
     let item = item_view c.item_of-item.result in
     let list : Listed = record { place = c.self.inside.place; items = items_of c.self.inside.bytes.items } in
     let same : c.in-Some.fault ≡ Memory = cc in
-    let found : fault_of list item.value (row_of item.id) ≡ Some c.in-Some.fault = rw c.deref.ensures.value at (sym c.fault_in.ensures ∙ c.in-Some.is) in
-    absurd (never_memory list item.value (row_of item.id) (subst (λ (f : PushFault). fault_of list item.value (row_of item.id) ≡ Some f) same found))
+    let found : push_fault_by_line list item.value (row_of item.id) ≡ Some c.in-Some.fault = rw c.deref.ensures.value at (sym c.fault_in.ensures ∙ c.in-Some.is) in
+    absurd (never_memory list item.value (row_of item.id) (subst (λ (f : PushFault). push_fault_by_line list item.value (row_of item.id) ≡ Some f) same found))
 
 pub fault_in-requires-clause-sees : goal.fault_in-requires-clause-sees
 fault_in-requires-clause-sees c = rw c.deref.ensures.value (sees_items c.self.inside.place c.self.inside.seen c.self.inside.bytes.items c.self.invariant)
@@ -30,21 +30,21 @@ pub append-requires-clause-long : goal.append-requires-clause-long
 append-requires-clause-long c =
     let item = item_view c.item_of-item.result in
     let list : Listed = record { place = c.self.inside.place; items = items_of c.self.inside.bytes.items } in
-    let e : fault_of list item.value (row_of item.id) ≡ None = rw c.deref.ensures.value at (sym c.fault_in.ensures ∙ c.in_default.is) in
+    let e : push_fault_by_line list item.value (row_of item.id) ≡ None = rw c.deref.ensures.value at (sym c.fault_in.ensures ∙ c.in_default.is) in
     (writes list item e).short
 
 pub append-requires-clause-nul : goal.append-requires-clause-nul
 append-requires-clause-nul c =
     let item = item_view c.item_of-item.result in
     let list : Listed = record { place = c.self.inside.place; items = items_of c.self.inside.bytes.items } in
-    let e : fault_of list item.value (row_of item.id) ≡ None = rw c.deref.ensures.value at (sym c.fault_in.ensures ∙ c.in_default.is) in
+    let e : push_fault_by_line list item.value (row_of item.id) ≡ None = rw c.deref.ensures.value at (sym c.fault_in.ensures ∙ c.in_default.is) in
     (writes list item e).no_nul
 
 pub invariant_of-self-2 : goal.invariant_of-self-2
 invariant_of-self-2 c =
     let item = item_view c.item_of-item.result in
     let bytes = c.self.inside.bytes.items in
-    let e : fault_of (record { place = c.self.inside.place; items = items_of bytes }) item.value (row_of item.id) ≡ None = rw c.deref.ensures.value at (sym c.fault_in.ensures ∙ c.in_default.is) in
+    let e : push_fault_by_line (record { place = c.self.inside.place; items = items_of bytes }) item.value (row_of item.id) ≡ None = rw c.deref.ensures.value at (sym c.fault_in.ensures ∙ c.in_default.is) in
     let left = leaves c.self.inside.place bytes c.append.new.out.items c.args.prop.now item c.item_of-item.ensures c.self.invariant.is_list e c.in_ok-append.ensures.ok c.in_ok-append.ensures.valid in
     let seen = sees_items c.self.inside.place c.self.inside.seen bytes c.self.invariant in
     keeps_more c.self.inside.place c.add.new.self bytes c.append.new.out.items item left (c.add.ensures (items_of bytes) item seen refl)
@@ -53,6 +53,6 @@ pub returns-clause-ok : goal.returns-clause-ok
 returns-clause-ok c =
     let item = item_view c.item_of-item.result in
     let bytes = c.self.inside.bytes.items in
-    let e : fault_of (record { place = c.self.inside.place; items = items_of bytes }) item.value (row_of item.id) ≡ None = rw c.deref.ensures.value at (sym c.fault_in.ensures ∙ c.in_default.is) in
+    let e : push_fault_by_line (record { place = c.self.inside.place; items = items_of bytes }) item.value (row_of item.id) ≡ None = rw c.deref.ensures.value at (sym c.fault_in.ensures ∙ c.in_default.is) in
     let left = leaves c.self.inside.place bytes c.append.new.out.items c.args.prop.now item c.item_of-item.ensures c.self.invariant.is_list e c.in_ok-append.ensures.ok c.in_ok-append.ensures.valid in
     listed_after c.self.inside.place bytes c.append.new.out.items c.args.self.now.list item _ (ap (λ (made : Made). made.list) c.self.view_is) c.item_of-item.ensures left.items

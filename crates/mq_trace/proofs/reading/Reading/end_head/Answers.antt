@@ -6,7 +6,7 @@ use Rattle.mq_trace.specs.declared.kind.Way.TheVariants as ways
 use Rattle.mq_trace.specs.declared.refusal.Refusal.TheVariants as refusals
 use Rattle.mq_trace.specs.Framing.{way_of}
 use Rattle.mq_trace.specs.Events.{event_of_head}
-use Rattle.mq_trace.specs.Refusals.{allows}
+use Rattle.mq_trace.specs.Refusals.{allows_length}
 use Rattle.mq_trace.proofs.ReadingLaws.{comes_quietly}
 use Rattle.mq_trace.proofs.StageLaws.{stops_refused}
 use Rattle.mq_trace.proofs.EndLaws.{length_refused, body_advances}
@@ -16,13 +16,13 @@ use Rattle.mq_trace.proofs.reading.Reading.end_head.Goals as goal
 pub returns-then-not-allows-clause-stops : goal.returns-then-not-allows-clause-stops
 returns-then-not-allows-clause-stops g c =
     let r = c.args.self.now in
-    let barred : allows (Some c.args.kind) (c.args.length * 256 + c.args.byte) ≡ false = search rules in
+    let barred : allows_length (Some c.args.kind) (c.args.length * 256 + c.args.byte) ≡ false = search rules in
     stops_refused (Declines g.S.Sink.agrees g.S.Sink.refuses) r c.args.byte c.args.sink.now (refusals.Length r.at) (length_refused r c.args.kind c.args.length c.args.byte c.requires.sound c.requires.within barred)
 
 pub returns-in-Sent-clause-comes : goal.returns-in-Sent-clause-comes
 returns-in-Sent-clause-comes g c =
     let r = c.args.self.now in
-    let allowed : allows (Some c.args.kind) (c.args.length * 256 + c.args.byte) ≡ true = search rules in
+    let allowed : allows_length (Some c.args.kind) (c.args.length * 256 + c.args.byte) ≡ true = search rules in
     let is : c.begin_body.new.self ≡ leaving (record r { at = r.at + 1 }) ways.Sent (c.args.length * 256 + c.args.byte) = search rules in
     comes_quietly g.S.Sink.agrees r _ (c.args.byte ∷ []) c.args.sink.now (subst (λ (x : Reading). Advances r x (c.args.byte ∷ []) []) (sym is)
     (body_advances r c.args.kind c.args.length c.args.byte c.requires.sound c.requires.within ways.Sent (ap (λ k. way_of (Some k)) c.in-Sent.is) (ap event_of_head c.in-Sent.is) allowed))
@@ -30,7 +30,7 @@ returns-in-Sent-clause-comes g c =
 pub returns-in-Recv-clause-comes : goal.returns-in-Recv-clause-comes
 returns-in-Recv-clause-comes g c =
     let r = c.args.self.now in
-    let allowed : allows (Some c.args.kind) (c.args.length * 256 + c.args.byte) ≡ true = search rules in
+    let allowed : allows_length (Some c.args.kind) (c.args.length * 256 + c.args.byte) ≡ true = search rules in
     let is : c.begin_body-in-Recv.new.self ≡ leaving (record r { at = r.at + 1 }) ways.Recv (c.args.length * 256 + c.args.byte) = search rules in
     comes_quietly g.S.Sink.agrees r _ (c.args.byte ∷ []) c.args.sink.now (subst (λ (x : Reading). Advances r x (c.args.byte ∷ []) []) (sym is)
     (body_advances r c.args.kind c.args.length c.args.byte c.requires.sound c.requires.within ways.Recv (ap (λ k. way_of (Some k)) c.in-Recv.is) (ap event_of_head c.in-Recv.is) allowed))

@@ -3,7 +3,7 @@ use Rattle.std.proofs.lemmas.Bool.{eqb-true}
 use Rattle.mq_trace.specs.declared.kind.Way.TheVariants as ways
 use Rattle.mq_trace.specs.declared.refusal.Refusal.TheVariants as refusals
 use Rattle.mq_trace.specs.Events.{opened, closed, rested, event_of_head}
-use Rattle.mq_trace.specs.Refusals.{allows}
+use Rattle.mq_trace.specs.Refusals.{allows_length}
 use Rattle.mq_trace.proofs.ReadingLaws.{comes_quietly}
 use Rattle.mq_trace.proofs.EndLaws.{mark_tells, release_advances}
 use Rattle.mq_trace.proofs.TellingLaws.{told_comes, told_stops}
@@ -56,6 +56,6 @@ pub returns-in-Release-clause-comes : goal.returns-in-Release-clause-comes
 returns-in-Release-clause-comes g c =
     let r = c.args.self.now in
     let allowed = c.requires.allowed in
-    let two = eqb-true (c.args.length * 256 + c.args.byte) 2 (ap (λ k. allows (Some k) (c.args.length * 256 + c.args.byte)) (sym c.in-Release.is) ∙ allowed) in
+    let two = eqb-true (c.args.length * 256 + c.args.byte) 2 (ap (λ k. allows_length (Some k) (c.args.length * 256 + c.args.byte)) (sym c.in-Release.is) ∙ allowed) in
     comes_quietly g.S.Sink.agrees r _ (c.args.byte ∷ []) c.args.sink.now
     (release_advances r c.args.kind c.args.length c.args.byte c.requires.sound c.requires.within c.in-Release.is (ap event_of_head c.in-Release.is) allowed two)

@@ -2,16 +2,16 @@
 use Rattle.std.proofs.Common.{◌≡◌, ℕ, Bool, length, ap, ◌∙◌, sym, subst}
 use Rattle.mq_trace.specs.declared.refusal.Refusal.TheVariants.{Cut}
 use Rattle.mq_trace.specs.declared.reading.Reading.{Reading}
-use Rattle.mq_trace.specs.Tracing.{Traced, Keeps}
+use Rattle.mq_trace.specs.Tracing.{Traced, HasRead}
 use Rattle.mq_trace.proofs.TracingLaws.{kept_at, kept_cut}
 use Rattle.mq_trace.proofs.tracer.Tracer.finish.Goals as goal
 
 pub returns-then-is_cut_short-clause-ends : goal.returns-then-is_cut_short-clause-ends
 returns-then-is_cut_short-clause-ends c = λ log follows.
-    let keeps = subst (λ (r : Reading). Keeps r log) (sym (ap (λ (t : Traced). t.reading) c.self.view_is)) follows.keeps in
+    let keeps = subst (λ (r : Reading). HasRead r log) (sym (ap (λ (t : Traced). t.reading) c.self.view_is)) follows.keeps in
     (ap (λ (n : ℕ). Cut n) (kept_at c.self.inside.reading log keeps), kept_cut c.self.inside.reading log keeps ∙ sym c.is_cut_short.ensures ∙ c.if-is_cut_short.true)
 
 pub returns-clause-ends : goal.returns-clause-ends
 returns-clause-ends c = λ log follows.
-    let keeps = subst (λ (r : Reading). Keeps r log) (sym (ap (λ (t : Traced). t.reading) c.self.view_is)) follows.keeps in
+    let keeps = subst (λ (r : Reading). HasRead r log) (sym (ap (λ (t : Traced). t.reading) c.self.view_is)) follows.keeps in
     kept_cut c.self.inside.reading log keeps ∙ sym c.is_cut_short.ensures ∙ c.if-is_cut_short.false
