@@ -17,8 +17,8 @@ use Rattle.std.specs.Box.{box_value}
 use Rattle.clap.specs.declared.error.Error.{Error}
 use Rattle.clap.specs.declared.error.kind.ErrorKind.{ErrorKind}
 use Rattle.clap.specs.declared.error.kind.ErrorKind.TheVariants.{OutOfMemory}
-use Rattle.mq_cli.specs.declared.command_line.Stop.{Stop}
-use Rattle.mq_cli.specs.declared.command_line.Stop.TheVariants.{Help, Memory, Usage}
+use Rattle.mq_cli.specs.declared.command_line.EarlyExit.{EarlyExit}
+use Rattle.mq_cli.specs.declared.command_line.EarlyExit.TheVariants.{Help, Memory, Usage}
 use Rattle.clap.specs.Kinds.{FailsBy, HasKind, IsAmong, Kinds, or_else}
 use Rattle.clap.specs.Faults.{defaults_fault, turn_fault, walk_fault, word_fault, step_fault, entered_fault, settle_fault, check_fault, other_fault}
 use Rattle.mq_cli.specs.CommandLine.{IsHelpOrVersion, StopsFor, check_request, explain_request, word_faults, is_true, mqjudge, packet_request, request_in, request_of, rules_request, show_request}
@@ -286,14 +286,14 @@ among P (x ∷ xs) kind (inr rest) p = Any-cons (among P xs kind rest p)
     Any-cons h = (suc h.0, h.1, omega (arith, h.2), h.3, h.4)
 
 -- what to tell the caller, where the error's text may not be had for want of memory
-pub StopsFor-shown : {E : Type 0} (error : Error) (stop : Stop) (text : Result _ E) → IsHelpOrVersion (kind_of error)
+pub StopsFor-shown : {E : Type 0} (error : Error) (stop : EarlyExit) (text : Result _ E) → IsHelpOrVersion (kind_of error)
     → MatchResult text (λ t. stop ≡ Help t) (λ _. stop ≡ Memory) → (kinds : Kinds) → HasKind kinds error → StopsFor kinds stop
 StopsFor-shown error stop (Err e) shown is kinds h = subst (StopsFor kinds) (sym is) tt
 StopsFor-shown error stop (Ok t) (inl shown) is kinds (inl h) = cc
 StopsFor-shown error stop (Ok t) (inr shown) is kinds (inl h) = cc
 StopsFor-shown error stop (Ok t) shown is kinds (inr h) = subst (StopsFor kinds) (sym is) (among IsHelpOrVersion kinds (kind_of error) h shown)
 
-pub StopsFor-misused : {E : Type 0} (error : Error) (stop : Stop) (text : Result _ E) → ¬ IsHelpOrVersion (kind_of error) → (kind_of error ≡ OutOfMemory → ⊥)
+pub StopsFor-misused : {E : Type 0} (error : Error) (stop : EarlyExit) (text : Result _ E) → ¬ IsHelpOrVersion (kind_of error) → (kind_of error ≡ OutOfMemory → ⊥)
     → MatchResult text (λ t. stop ≡ Usage t) (λ _. stop ≡ Memory) → (kinds : Kinds) → HasKind kinds error → StopsFor kinds stop
 StopsFor-misused error stop (Err e) misused not_memory is kinds h = subst (StopsFor kinds) (sym is) tt
 StopsFor-misused error stop (Ok t) misused not_memory is kinds (inl h) = absurd (not_memory h)

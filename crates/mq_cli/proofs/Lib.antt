@@ -2,4 +2,4 @@ pub mod CommandLineLemmas
 pub mod ExplainingLemmas
 pub mod ProgramLemmas
 pub mod ReviewingLemmas
-pub mod ToldLemmas
+pub mod MessageLaws

@@ -7,22 +7,22 @@ use Rattle.std.specs.List.{list_all}
 use Rattle.std.specs.Result.{result_ok}
 use Rattle.std.specs.Str.Parse.{AllDigits, ParsesUnsigned, digits_value, without_leading_plus}
 use Rattle.mq_rules.specs.declared.role.Role.{Role}
-use Rattle.mq_rules.specs.Marks.{FaultMap}
+use Rattle.mq_rules.specs.FaultKeys.{FaultMap}
 use Rattle.mq_rules.proofs.Exports.{both_true}
 use Rattle.mq_trace.specs.Events.{Placed, events}
 use Rattle.mq_judge.specs.declared.Form.TheVariants.{Text, Json}
 use Rattle.mq_judge.specs.declared.Refusal.{Refusal}
 use Rattle.mq_judge.specs.declared.Refusal.TheVariants as refusals
 use Rattle.mq_judge.specs.Report.{refused_line, refused_report}
-use Rattle.mq_judge.specs.Running.{IsJudged, IsVerdictOn, default_limit}
-use Rattle.mq_judge.specs.Showing.{annotated}
+use Rattle.mq_judge.specs.Runner.{IsJudged, IsVerdictOn, default_limit}
+use Rattle.mq_judge.specs.Display.{annotated}
 use Rattle.mq_judge.specs.Stopping.{IsRefusedAt}
 use Rattle.mq_cli.specs.declared.failure.Failure.{Failure}
 use Rattle.mq_cli.specs.declared.failure.Failure.TheVariants as failures
 use Rattle.mq_cli.specs.Program.{Given, StopsFile}
 use Rattle.mq_cli.specs.Reviewing.{IfBoth, IsReviewed, Plan, RefusesPlan, StopsJudging, StopsPlan, count_of, is_count, reviewed}
-use Rattle.mq_cli.specs.Told.{BeginsRefusal, IsOfLog, LacksJsonMemory, RefusesCheck, RefusesShow, StopsShow, failure_of}
-use Rattle.mq_cli.proofs.ToldLemmas.{own_refusal, part-kept, refusal_is_told}
+use Rattle.mq_cli.specs.Messages.{BeginsRefusal, IsOfLog, LacksJsonMemory, RefusesCheck, RefusesShow, StopsShow, failure_of}
+use Rattle.mq_cli.proofs.MessageLaws.{own_refusal, part-kept, refusal_is_printed}
 
 -- ---- the number that a word is
 
@@ -129,7 +129,7 @@ judging_is_refused plan judged shown left old new refusal (Err e) stops own writ
 judging_is_refused {E} plan judged shown left old new refusal (Ok s) stops own written = λ is.
     let status_is : Result ℕ E = Ok s in
     for_first judged shown (λ log. RefusesCheck Text log old new) (λ first second. RefusesPlan plan first second old new) (λ first second h. inl h)
-    (refusal_is_told Text judged left old old new refusal status_is stops refl own written is)
+    (refusal_is_printed Text judged left old old new refusal status_is stops refl own written is)
 
 pub judging_stops : (plan : Plan) (judged shown left shown_left old new : Option (List ℕ)) (refusal : Refusal) (status : Result ℕ Failure)
     → IfSome judged (λ log. IsRefusedAt default_limit log left refusal)

@@ -11,8 +11,8 @@ use Rattle.mq_cli.specs.declared.command_line.Work.{Work}
 use Rattle.mq_cli.specs.declared.command_line.Work.TheVariants.{Once, Twice}
 use Rattle.mq_cli.specs.declared.command_line.Task.{Task}
 use Rattle.mq_cli.specs.declared.command_line.Task.TheVariants.{Check, Show, Packet, Rules, Explain}
-use Rattle.mq_cli.specs.declared.command_line.Stop.{Stop}
-use Rattle.mq_cli.specs.declared.command_line.Stop.TheVariants.{Help, Usage, Memory}
+use Rattle.mq_cli.specs.declared.command_line.EarlyExit.{EarlyExit}
+use Rattle.mq_cli.specs.declared.command_line.EarlyExit.TheVariants.{Help, Usage, Memory}
 
 -- a flag of this name: its value is `true` if it is given, and else `false`
 abbrev pub flag : Text → Rule
@@ -126,7 +126,7 @@ IsHelpOrVersion kind = (kind ≡ DisplayHelp) ⊎ (kind ≡ DisplayVersion)
 
 -- one of these kinds gives the stop: help and the version are shown, anything else is misuse, and
 -- memory may run out with any words
-abbrev pub StopsFor : Kinds → Stop → Type 0
+abbrev pub StopsFor : Kinds → EarlyExit → Type 0
 StopsFor kinds (Help text) = Any IsHelpOrVersion kinds
 StopsFor kinds (Usage text) = Any (λ kind. ¬ IsHelpOrVersion kind) kinds
 StopsFor kinds Memory = ⊤

@@ -1,6 +1,6 @@
 pub mod CommandLine
 pub mod Explaining
 pub mod Listing
-pub mod Told
+pub mod Messages
 pub mod Reviewing
 pub mod Program

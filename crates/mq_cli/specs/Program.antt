@@ -2,7 +2,7 @@
 use Rattle.std.specs.Prelude.{◌≡◌, ◌⊎◌, Option, Some, None, List, ℕ, IfSome, IsErrAnd, IsOkAnd}
 use Rattle.std.specs.Io.KnownBytes.{Appends, Keeps}
 use Rattle.clap.specs.Words.{Text}
-use Rattle.mq_cli.specs.declared.command_line.Stop.{Stop}
+use Rattle.mq_cli.specs.declared.command_line.EarlyExit.{EarlyExit}
 use Rattle.mq_cli.specs.declared.command_line.Review.{Review}
 use Rattle.mq_cli.specs.declared.command_line.Task.{Task}
 use Rattle.mq_cli.specs.declared.command_line.Work.{Work}
@@ -11,7 +11,7 @@ use Rattle.mq_cli.specs.declared.failure.Failure.{Failure}
 use Rattle.mq_cli.specs.declared.failure.Failure.TheVariants.{Memory}
 use Rattle.mq_cli.specs.CommandLine.{StopsFor, word_faults, path_of, request_by, request_of}
 use Rattle.mq_cli.specs.Reviewing.{IsReviewed, Plan, RefusesPlan, StopsPlan, plan_of}
-use Rattle.mq_cli.specs.Told.{AppendsPart, FailsMisnamed, FailsStop, FailsTask, HasFailed, HasPassed, IsMisnamed, IsRefusedOn, IsReportedOn, IsShownOn, IsToldOn, failure_line, misnamed_line}
+use Rattle.mq_cli.specs.Messages.{AppendsPart, FailsMisnamed, FailsStop, FailsTask, HasFailed, HasPassed, IsMisnamed, IsRefusedOn, IsReportedOn, IsShownOn, IsPrintedOn, failure_line, misnamed_line}
 
 -- What the program is given: the words of its command line, the bytes of the file at a path and those of standard input, each if
 -- known; and why the words couldn't be read, or the file at a path couldn't be opened.
@@ -38,7 +38,7 @@ pub record IsUnopened (given : Given) (task : Task) (old new error_old error_new
   pub failure : Failure
   pub refused : given.unopened path failure
   pub unwritten : Keeps old new
-  pub told : AppendsPart error_old error_new (failure_line failure)
+  pub printed : AppendsPart error_old error_new (failure_line failure)
 
 -- 4: the task failed; what its reader has left isn't specified
 abbrev pub FailsPerforming : Given → Task → (old new error_old error_new : Option (List ℕ)) → Type 0
@@ -73,12 +73,12 @@ StopsFile given plan failure old new = (given.unopened plan.path failure × Keep
 pub record FailsFile (given : Given) (plan : Plan) (old new error_old error_new : Option (List ℕ)) : Type 0 where
   pub failure : Failure
   pub stops : StopsFile given plan failure old new
-  pub told : AppendsPart error_old error_new (failure_line failure)
+  pub printed : AppendsPart error_old error_new (failure_line failure)
 
 -- 4: there is nothing to show, and the line that says so couldn't be written to the error stream, or memory ran out for it
 pub record FailsUnplanned (line : Text) (old new error_old error_new : Option (List ℕ)) : Type 0 where
   pub unwritten : Keeps old new
-  pub told : AppendsPart error_old error_new line ⊎ AppendsPart error_old error_new (failure_line Memory)
+  pub printed : AppendsPart error_old error_new line ⊎ AppendsPart error_old error_new (failure_line Memory)
 
 -- 4: showing failed, or there is nothing to show
 abbrev pub FailsReview : Given → Review → (old new error_old error_new : Option (List ℕ)) → Type 0
@@ -120,12 +120,12 @@ abbrev pub AsksFor : List Text → Work → Type 0
 AsksFor words work = request_of words ≡ Some (request_by work)
 
 -- they ask for no work, and this is why
-abbrev pub StopsAt : List Text → Stop → Type 0
+abbrev pub StopsAt : List Text → EarlyExit → Type 0
 StopsAt words stop = StopsFor (word_faults words) stop
 
 -- 0: they ask for help or the version, which was written; or for work that was done, and all of its output was written
 abbrev pub Passes : List Text → Given → Option (List ℕ) → Option (List ℕ) → Type 0
-Passes words given old new = ((stop : Stop) × StopsAt words stop × IsShownOn stop old new)
+Passes words given old new = ((stop : EarlyExit) × StopsAt words stop × IsShownOn stop old new)
     ⊎ ((work : Work) × AsksFor words work × PassesWork given work old new)
 
 -- 1: they ask for work that found faults, and all of its output was written
@@ -138,12 +138,12 @@ Refuses words given old new = (work : Work) × AsksFor words work × RefusesWork
 
 -- 3: they aren't a command line, or ask for what can't be done, and the text that says so was written to the error stream
 abbrev pub IsMisuse : List Text → Option (List ℕ) → Option (List ℕ) → Type 0
-IsMisuse words error_old error_new = ((stop : Stop) × StopsAt words stop × IsToldOn stop error_old error_new)
+IsMisuse words error_old error_new = ((stop : EarlyExit) × StopsAt words stop × IsPrintedOn stop error_old error_new)
     ⊎ ((work : Work) × AsksFor words work × MisusesWork work error_old error_new)
 
 -- 4: the text for words that ask for no work couldn't be written; or they ask for work that failed, or whose file couldn't be opened
 abbrev pub FailsWords : List Text → Given → Option (List ℕ) → Option (List ℕ) → Option (List ℕ) → Option (List ℕ) → Type 0
-FailsWords words given old new error_old error_new = ((stop : Stop) × StopsAt words stop × FailsStop stop old new error_old error_new)
+FailsWords words given old new error_old error_new = ((stop : EarlyExit) × StopsAt words stop × FailsStop stop old new error_old error_new)
     ⊎ ((work : Work) × AsksFor words work × FailsWork given work old new error_old error_new)
 
 -- 4: The words couldn't be read: nothing was written, and the reason is written to the error stream, as far as possible.
@@ -151,4 +151,4 @@ pub record WordsUnread (given : Given) (old new error_old error_new : Option (Li
   pub failure : Failure
   pub why : given.unread failure
   pub unwritten : Keeps old new
-  pub told : AppendsPart error_old error_new (failure_line failure)
+  pub printed : AppendsPart error_old error_new (failure_line failure)

@@ -9,8 +9,8 @@ use Rattle.mq_judge.specs.declared.Form.TheVariants as forms
 use Rattle.mq_judge.specs.declared.Refusal.{Refusal}
 use Rattle.mq_judge.specs.declared.Refusal.TheVariants as refusals
 use Rattle.mq_judge.specs.Report.{refused_line}
-use Rattle.mq_judge.specs.Running.{IsJudged, default_limit, found_in}
-use Rattle.mq_judge.specs.Showing.{annotated}
+use Rattle.mq_judge.specs.Runner.{IsJudged, default_limit, found_in}
+use Rattle.mq_judge.specs.Display.{annotated}
 use Rattle.mq_judge.specs.Stopping.{IsRefusedAt}
 use Rattle.mq_rules.specs.Notes.{tested_by}
 use Rattle.mq_trace.specs.Events.{Placed, events}
@@ -21,7 +21,7 @@ use Rattle.mq_cli.specs.declared.reviewing.Plan.{Plan as SourcePlan}
 use Rattle.mq_cli.specs.declared.failure.Failure.{Failure}
 use Rattle.mq_cli.specs.declared.failure.Failure.TheVariants as failures
 use Rattle.mq_cli.specs.CommandLine.{path_named}
-use Rattle.mq_cli.specs.Told.{AppendsPart, IsRefusedBy, RefusesCheck, RefusesShow, StopsShow}
+use Rattle.mq_cli.specs.Messages.{AppendsPart, IsRefusedBy, RefusesCheck, RefusesShow, StopsShow}
 
 -- ---- what the words ask for
 

@@ -131,7 +131,7 @@ pub fn path_named(file: &Option<String>) -> Option<&str>
 
 /// Why there is no task to do.
 #[derive(Debug, Drop)]
-pub enum Stop {
+pub enum EarlyExit {
     /// Help or the version was asked for: the text is for standard output, with status 0.
     Help(String),
     /// The words aren't a command line of the program: the text says why, and is for standard
@@ -144,9 +144,9 @@ pub enum Stop {
 /// Reads the words of a command line, `mqjudge check [--json] [--summary] [FILE]`,
 /// `mqjudge show [--long] [--faults] [--around N] [FILE]`,
 /// `mqjudge packet HEX`, `mqjudge rules [--role ROLE]` or `mqjudge explain CODE`, of which the
-/// first is the program's name. A request for help or the version is returned as a `Stop`, and so
+/// first is the program's name. A request for help or the version is returned as a `EarlyExit`, and so
 /// are words that aren't such a command line.
-pub fn parse<S: AsStr>(alloc: Global, words: &[S]) -> Result<Work, Stop>
+pub fn parse<S: AsStr>(alloc: Global, words: &[S]) -> Result<Work, EarlyExit>
     ensures taken { IfOk result (λ _. word_faults (map S.text words.now) ≡ []) }
     ensures work { IfOk result (λ work.
         request_of (map S.text words.now) ≡ Some (request_by work)) }
@@ -337,12 +337,17 @@ fn is_true(value: Option<&str>) -> bool
 }
 
 // The task of `check` on this operand and these flags.
-fn check_task(alloc: Global, file: Option<&str>, json: bool, summary: bool) -> Result<Work, Stop>
+fn check_task(
+    alloc: Global,
+    file: Option<&str>,
+    json: bool,
+    summary: bool,
+) -> Result<Work, EarlyExit>
     ensures work { IfOk result (λ work.
         request_by work ≡ check_request (option_map (λ path. path.now) file.entry) json summary) }
-    ensures stop { IfErr result (λ stop. stop ≡ Stop.Memory) }
+    ensures stop { IfErr result (λ stop. stop ≡ EarlyExit.Memory) }
 {
-    let file = copied(alloc, file)?;
+    let file = copy_word(alloc, file)?;
     Ok(Work::Once(Task::Check {
         file,
         json,
@@ -357,14 +362,14 @@ fn show_task(
     long: bool,
     faults: bool,
     around: Option<&str>,
-) -> Result<Work, Stop>
+) -> Result<Work, EarlyExit>
     ensures work { IfOk result (λ work.
         request_by work ≡ show_request (option_map (λ path. path.now) file.entry) long faults
         (option_map (λ number. number.now) around.entry)) }
-    ensures stop { IfErr result (λ stop. stop ≡ Stop.Memory) }
+    ensures stop { IfErr result (λ stop. stop ≡ EarlyExit.Memory) }
 {
-    let file = copied(alloc, file)?;
-    let around = copied(alloc, around)?;
+    let file = copy_word(alloc, file)?;
+    let around = copy_word(alloc, around)?;
     if !faults && around.is_none() {
         return Ok(Work::Once(Task::Show { file, long }));
     }
@@ -377,63 +382,67 @@ fn show_task(
 }
 
 // The task of `packet` on this operand; a missing operand counts as an empty one.
-fn packet_task(alloc: Global, hex: Option<&str>) -> Result<Work, Stop>
+fn packet_task(alloc: Global, hex: Option<&str>) -> Result<Work, EarlyExit>
     ensures work { IfOk result (λ work.
         request_by work ≡ packet_request (option_map (λ text. text.now) hex.entry)) }
-    ensures stop { IfErr result (λ stop. stop ≡ Stop.Memory) }
+    ensures stop { IfErr result (λ stop. stop ≡ EarlyExit.Memory) }
 {
     match String::from_str(alloc, hex.unwrap_or("")) {
         Ok(hex) => Ok(Work::Once(Task::Packet { hex })),
-        Err(_) => Err(Stop::Memory),
+        Err(_) => Err(EarlyExit::Memory),
     }
 }
 
 // The task of `rules` for this end.
-fn rules_task(alloc: Global, role: Option<&str>) -> Result<Work, Stop>
+fn rules_task(alloc: Global, role: Option<&str>) -> Result<Work, EarlyExit>
     ensures work { IfOk result (λ work.
         request_by work ≡ rules_request (option_map (λ word. word.now) role.entry)) }
-    ensures stop { IfErr result (λ stop. stop ≡ Stop.Memory) }
+    ensures stop { IfErr result (λ stop. stop ≡ EarlyExit.Memory) }
 {
-    let role = copied(alloc, role)?;
+    let role = copy_word(alloc, role)?;
     Ok(Work::Once(Task::Rules { role }))
 }
 
 // The task of `explain` on this operand; a missing operand counts as an empty one.
-fn explain_task(alloc: Global, code: Option<&str>) -> Result<Work, Stop>
+fn explain_task(alloc: Global, code: Option<&str>) -> Result<Work, EarlyExit>
     ensures work { IfOk result (λ work.
         request_by work ≡ explain_request (option_map (λ text. text.now) code.entry)) }
-    ensures stop { IfErr result (λ stop. stop ≡ Stop.Memory) }
+    ensures stop { IfErr result (λ stop. stop ≡ EarlyExit.Memory) }
 {
     match String::from_str(alloc, code.unwrap_or("")) {
         Ok(code) => Ok(Work::Once(Task::Explain { code })),
-        Err(_) => Err(Stop::Memory),
+        Err(_) => Err(EarlyExit::Memory),
     }
 }
 
 // A copy of a word, if there is one.
-fn copied(alloc: Global, word: Option<&str>) -> Result<Option<String>, Stop>
+fn copy_word(alloc: Global, word: Option<&str>) -> Result<Option<String>, EarlyExit>
     ensures copy { IfOk result (λ copy.
         option_map string_bytes copy ≡ option_map (λ text. text.now) word.entry) }
-    ensures stop { IfErr result (λ stop. stop ≡ Stop.Memory) }
+    ensures stop { IfErr result (λ stop. stop ≡ EarlyExit.Memory) }
 {
     match word {
         Some(word) => match String::from_str(alloc, word) {
             Ok(word) => Ok(Some(word)),
-            Err(_) => Err(Stop::Memory),
+            Err(_) => Err(EarlyExit::Memory),
         },
         None => Ok(None),
     }
 }
 
 // What the caller gets if the words give no task.
-fn stop_for(alloc: Global, error: &Error) -> Stop
+fn stop_for(alloc: Global, error: &Error) -> EarlyExit
     ensures { (kinds : Kinds) → HasKind kinds error.now → StopsFor kinds result }
 {
     match error.kind() {
-        ErrorKind::OutOfMemory => Stop::Memory,
+        ErrorKind::OutOfMemory => EarlyExit::Memory,
         ErrorKind::DisplayHelp | ErrorKind::DisplayVersion => {
-            error.to_string(alloc).map_or(Stop::Memory, Stop::Help)
+            error
+                .to_string(alloc)
+                .map_or(EarlyExit::Memory, EarlyExit::Help)
         }
-        _ => error.to_string(alloc).map_or(Stop::Memory, Stop::Usage),
+        _ => error
+            .to_string(alloc)
+            .map_or(EarlyExit::Memory, EarlyExit::Usage),
     }
 }

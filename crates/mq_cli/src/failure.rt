@@ -1,6 +1,6 @@
 //! What keeps the program from its task, and the statuses that it exits with.
 ghost use Rattle.std.specs.Prelude.{◌≡◌};
-ghost use Rattle.mq_cli.specs.Told.{AppendsPart, failure_line};
+ghost use Rattle.mq_cli.specs.Messages.{AppendsPart, failure_line};
 
 use crate::writing::write_out;
 use std::io::Write;
@@ -36,7 +36,7 @@ impl Failure {
     /// Writes to `error` what failed, as far as possible, and returns the status to exit with.
     pub fn report<E: Write>(self, error: &mut E) -> u8
         ensures status { result ≡ 4 }
-        ensures told { AppendsPart (E.contents error.old) (E.contents error.new) (failure_line self) }
+        ensures printed { AppendsPart (E.contents error.old) (E.contents error.new) (failure_line self) }
     {
         // Nothing more can be done if `error` fails too.
         let _ = write_out(self.line(), error);

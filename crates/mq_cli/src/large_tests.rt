@@ -1,4 +1,4 @@
-use crate::command_line::Stop;
+use crate::command_line::EarlyExit;
 use crate::tasks::perform;
 use crate::tests::task_of;
 use std::alloc::{AllocError, Global};
@@ -30,7 +30,7 @@ fn does(
     log: &[u8],
     status: u8,
     written: &[u8],
-) -> Result<bool, Stop> {
+) -> Result<bool, EarlyExit> {
     let task = task_of(alloc, words)?;
     let mut output = Vec::new(alloc);
     let mut error = Vec::new(alloc);

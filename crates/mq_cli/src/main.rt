@@ -10,6 +10,8 @@ mod large_tests;
 mod listing;
 #[cfg(test)]
 mod packet_tests;
+#[cfg(test)]
+mod printing_tests;
 mod program;
 #[cfg(test)]
 mod program_tests;
@@ -21,8 +23,6 @@ mod show_tests;
 #[cfg(test)]
 mod statement_tests;
 mod tasks;
-#[cfg(test)]
-mod telling_tests;
 #[cfg(test)]
 mod tests;
 mod writing;

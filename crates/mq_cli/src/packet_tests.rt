@@ -1,7 +1,7 @@
-use crate::command_line::{Stop, Task, parse};
+use crate::command_line::{EarlyExit, Task, parse};
 use crate::failure::{FAILED, FAULTY, MISUSED, PASSED};
 use crate::tasks::{perform, stop};
-use crate::tests::{Narrow, Told, is_failed_write, task_of};
+use crate::tests::{Narrow, Printed, is_failed_write, task_of};
 use std::alloc::Global;
 use std::io;
 use std::io::Cursor;
@@ -258,12 +258,12 @@ static ROWS: [Row; 48] = [
     },
 ];
 
-fn told_of_packet(alloc: Global, hex: &str) -> Result<Told, Stop> {
+fn printed_of_packet(alloc: Global, hex: &str) -> Result<Printed, EarlyExit> {
     let task = task_of(alloc, &["mqjudge", "packet", hex])?;
     let mut output = Vec::new(alloc);
     let mut error = Vec::new(alloc);
     let status = perform(alloc, &task, &mut io::empty(), &mut output, &mut error);
-    Ok(Told {
+    Ok(Printed {
         status,
         output,
         error,
@@ -273,8 +273,8 @@ fn told_of_packet(alloc: Global, hex: &str) -> Result<Told, Stop> {
 #[test]
 fn says_which_packet_bytes_are(rt: HostRuntime) -> Result<(), Fail> {
     for row in &ROWS {
-        let told = told_of_packet(rt.alloc(), row.hex)?;
-        assert!(rt; told.says(row.status, row.line), "{}", row.hex);
+        let printed = printed_of_packet(rt.alloc(), row.hex)?;
+        assert!(rt; printed.says(row.status, row.line), "{}", row.hex);
     }
     Ok(())
 }
@@ -282,16 +282,16 @@ fn says_which_packet_bytes_are(rt: HostRuntime) -> Result<(), Fail> {
 #[test]
 fn refuses_digits_that_are_none(rt: HostRuntime) -> Result<(), Fail> {
     for hex in ["4", "400", "4g", "40 02", "0x40", "é"] {
-        let told = told_of_packet(rt.alloc(), hex)?;
-        assert_eq!(rt; told.status, MISUSED);
-        assert_eq!(rt; told.error.as_slice(), &b"mqjudge: not hex\n"[..]);
-        assert!(rt; told.output.is_empty());
+        let printed = printed_of_packet(rt.alloc(), hex)?;
+        assert_eq!(rt; printed.status, MISUSED);
+        assert_eq!(rt; printed.error.as_slice(), &b"mqjudge: not hex\n"[..]);
+        assert!(rt; printed.output.is_empty());
     }
     Ok(())
 }
 
 #[test]
-fn tells_of_a_packet_line_that_fails(rt: HostRuntime) -> Result<(), Fail> {
+fn reports_a_packet_line_that_fails(rt: HostRuntime) -> Result<(), Fail> {
     let words = ["mqjudge", "packet", "40020001"];
     for (room, stays) in [(0, false), (18, false), (19, true)] {
         let failed = is_failed_write(rt.alloc(), &words, b"", Narrow { room, stays })?;
@@ -302,7 +302,7 @@ fn tells_of_a_packet_line_that_fails(rt: HostRuntime) -> Result<(), Fail> {
 
 // With each allocation failing in turn, the result is the packet's, or that memory ran out, and nothing else.
 #[test]
-fn tells_of_a_packet_without_memory(rt: HostRuntime) {
+fn reports_a_packet_without_memory(rt: HostRuntime) {
     let mut output = Cursor::new([0; 64]);
     let mut error = Cursor::new([0; 64]);
     let status = match task_of(rt.alloc(), &["mqjudge", "packet", "40020001"]) {
@@ -339,7 +339,7 @@ fn reads_the_words_of_a_packet(rt: HostRuntime) -> Result<(), Fail> {
         ),
     ];
     for (words, part) in misuses {
-        let Err(Stop::Usage(text)) = parse(rt.alloc(), words) else {
+        let Err(EarlyExit::Usage(text)) = parse(rt.alloc(), words) else {
             return Err("taken".into());
         };
         assert!(rt; text.as_str().contains(part), "{words:?} tells {text}");

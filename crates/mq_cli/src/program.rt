@@ -3,7 +3,7 @@ ghost use Rattle.std.specs.Prelude.{◌≡◌, ◌≤◌, ◌⊎◌, IfSome, map
 ghost use Rattle.std.specs.Io.KnownBytes.{Appends, Keeps};
 ghost use Rattle.mq_cli.specs.Program.{FailsWords, FailsRead, FailsWork, FindsFaults, FindsFaultsIn, IsMisuse, WordsUnread};
 ghost use Rattle.mq_cli.specs.Program.{MisusesWork, Passes, PassesWork, Refuses, RefusesWork, input_of};
-ghost use Rattle.mq_cli.specs.Told.{HasFailed, HasPassed, IsMisnamed, IsRefusedOn, IsReportedOn, misnamed_line};
+ghost use Rattle.mq_cli.specs.Messages.{HasFailed, HasPassed, IsMisnamed, IsRefusedOn, IsReportedOn, misnamed_line};
 
 use crate::command_line::{Task, Work, parse};
 use crate::host::Host;
@@ -24,7 +24,7 @@ pub fn run<H: Host, W: Write, E: Write>(
 ) -> u8
     ensures statuses { result ≤ 4 }
     ensures quiet { result ≤ 2 → Keeps (E.contents error.old) (E.contents error.new) }
-    ensures untold { result ≡ 3 → Keeps (W.contents output.old) (W.contents output.new) }
+    ensures unprinted { result ≡ 3 → Keeps (W.contents output.old) (W.contents output.new) }
     ensures passed { result ≡ 0 → IfSome (H.gives host.now).words (λ words.
         Passes words (H.gives host.now) (W.contents output.old) (W.contents output.new)) }
     ensures faulty { result ≡ 1 → IfSome (H.gives host.now).words (λ words.
@@ -54,7 +54,7 @@ fn respond<S: AsStr, H: Host, W: Write, E: Write>(
 ) -> u8
     ensures statuses { result ≤ 4 }
     ensures quiet { result ≤ 2 → Keeps (E.contents error.old) (E.contents error.new) }
-    ensures untold { result ≡ 3 → Keeps (W.contents output.old) (W.contents output.new) }
+    ensures unprinted { result ≡ 3 → Keeps (W.contents output.old) (W.contents output.new) }
     ensures passed { result ≡ 0 → Passes (map S.text words.now) (H.gives host.now)
         (W.contents output.old) (W.contents output.new) }
     ensures faulty { result ≡ 1 → FindsFaults (map S.text words.now) (H.gives host.now)
@@ -82,7 +82,7 @@ fn work_on<H: Host, W: Write, E: Write>(
 ) -> u8
     ensures statuses { result ≤ 4 }
     ensures quiet { result ≤ 2 → Keeps (E.contents error.old) (E.contents error.new) }
-    ensures untold { result ≡ 3 → Keeps (W.contents output.old) (W.contents output.new) }
+    ensures unprinted { result ≡ 3 → Keeps (W.contents output.old) (W.contents output.new) }
     ensures passed { result ≡ 0 → PassesWork (H.gives host.now) work.now (W.contents output.old) (W.contents output.new) }
     ensures faulty { result ≡ 1 → FindsFaultsIn (H.gives host.now) work.now (W.contents output.old) (W.contents output.new) }
     ensures refused { result ≡ 2 → RefusesWork (H.gives host.now) work.now (W.contents output.old) (W.contents output.new) }
@@ -106,7 +106,7 @@ fn read_and_perform<H: Host, W: Write, E: Write>(
 ) -> u8
     ensures statuses { result ≤ 4 }
     ensures quiet { result ≤ 2 → Keeps (E.contents error.old) (E.contents error.new) }
-    ensures untold { result ≡ 3 → Keeps (W.contents output.old) (W.contents output.new) }
+    ensures unprinted { result ≡ 3 → Keeps (W.contents output.old) (W.contents output.new) }
     ensures passed { result ≡ 0 → HasPassed task.now (input_of (H.gives host.now) task.now) }
     ensures faulty { result ≡ 1 → HasFailed task.now (input_of (H.gives host.now) task.now) }
     ensures reported { result ≤ 1 → IsReportedOn task.now (input_of (H.gives host.now) task.now)

@@ -374,7 +374,7 @@ static REVIEWS: [Row; 14] = [
 
 // Whether the program does this with the row's words, file and standard input; `failure` is why the host fails, if it does.
 fn does(alloc: Global, failure: Failure, row: &Row) -> bool {
-    let (words, [file, input], status, shown, told) = *row;
+    let (words, [file, input], status, shown, printed) = *row;
     let desk = Desk {
         alloc,
         words,
@@ -386,7 +386,7 @@ fn does(alloc: Global, failure: Failure, row: &Row) -> bool {
     let mut error = Vec::new(alloc);
     run(alloc, &desk, &mut output, &mut error) == status
         && output.as_slice() == shown.as_bytes()
-        && error.as_slice() == told.as_bytes()
+        && error.as_slice() == printed.as_bytes()
 }
 
 #[test]

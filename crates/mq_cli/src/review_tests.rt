@@ -148,20 +148,20 @@ fn shows_what_the_second_reading_gives(rt: HostRuntime) {
         (THREE_FAULTS, FAULTLESS, PASSED, from_the_second),
         (THREE_FAULTS, &FAULTLESS[..14], REFUSED, cut),
     ] {
-        let told = is_shown(
+        let printed = is_shown(
             rt.alloc(),
             plan(Some(2), false),
             [judged, shown],
             status,
             text,
         );
-        assert!(rt; told, "{text}");
+        assert!(rt; printed, "{text}");
     }
 }
 
 #[test]
-fn tells_of_a_failed_reading(rt: HostRuntime) {
-    for (judging, showing, written) in [
+fn reports_a_failed_reading(rt: HostRuntime) {
+    for (judging, display, written) in [
         (Some(20), None, ""),
         (None, Some(13), "1 record 1 OPEN\n"),
     ] {
@@ -170,7 +170,7 @@ fn tells_of_a_failed_reading(rt: HostRuntime) {
             rt.alloc(),
             plan(None, false),
             &mut trickle(THREE_FAULTS, judging),
-            &mut trickle(THREE_FAULTS, showing),
+            &mut trickle(THREE_FAULTS, display),
             &mut output,
         );
         assert_eq!(rt; given, Err(Failure::Read));
@@ -179,7 +179,7 @@ fn tells_of_a_failed_reading(rt: HostRuntime) {
 }
 
 #[test]
-fn tells_of_a_failed_write(rt: HostRuntime) {
+fn reports_a_failed_write(rt: HostRuntime) {
     for (log, room, stays) in [
         (THREE_FAULTS, 0, false),
         (THREE_FAULTS, 100, false),
@@ -199,7 +199,7 @@ fn tells_of_a_failed_write(rt: HostRuntime) {
 
 // With each allocation failing in turn, all is shown, or memory ran out, after what was shown up to there.
 #[test]
-fn tells_of_a_review_without_memory(rt: HostRuntime) {
+fn reports_a_review_without_memory(rt: HostRuntime) {
     let mut output = Cursor::new([0; 1024]);
     let given = show_twice(
         rt.alloc(),

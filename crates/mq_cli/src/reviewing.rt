@@ -3,7 +3,7 @@ ghost use Rattle.std.specs.Prelude.{◌≡◌, ◌≤◌, ◌⊎◌, Some, Ok, E
 ghost use Rattle.std.specs.Io.KnownBytes.{Appends, Keeps};
 ghost use Rattle.mq_cli.specs.Program.{FailsReview, MisusesReview, PassesReview, RefusesReview, StopsFile};
 ghost use Rattle.mq_cli.specs.Reviewing.{IfBoth, IsReviewed, RefusesPlan, StopsPlan, count_of, misuse_line, plan_of, plan_on, plan_view};
-ghost use Rattle.mq_cli.specs.Told.{AppendsPart, failure_line};
+ghost use Rattle.mq_cli.specs.Messages.{AppendsPart, failure_line};
 
 use crate::command_line::{Review, path_named};
 use crate::failure::{FAILED, Failure, MISUSED, PASSED, REFUSED};
@@ -57,14 +57,14 @@ pub fn review<H: Host, W: Write, E: Write>(
         (W.contents output.old) (W.contents output.new) (E.contents error.old) (E.contents error.new) }
     ensures statuses { (result ≡ PASSED) ⊎ ((result ≡ REFUSED) ⊎ ((result ≡ MISUSED) ⊎ (result ≡ FAILED))) }
     ensures quiet { result ≤ REFUSED → Keeps (E.contents error.old) (E.contents error.new) }
-    ensures untold { result ≡ MISUSED → Keeps (W.contents output.old) (W.contents output.new) }
+    ensures unprinted { result ≡ MISUSED → Keeps (W.contents output.old) (W.contents output.new) }
 {
     match plan_of(asked) {
         Ok(plan) => match show_file(alloc, host, plan, output) {
             Ok(status) => status,
             Err(failure) => failure.report(error),
         },
-        Err(why) => tell(alloc, why, error),
+        Err(why) => report_misuse(alloc, why, error),
     }
 }
 
@@ -116,8 +116,8 @@ fn count_of(word: &str) -> Option<u32>
 }
 
 // Writes to `error` why there is nothing to show, and returns the status.
-fn tell<E: Write>(alloc: Global, why: Misuse<'_>, error: &mut E) -> u8
-    ensures told { result ≡ MISUSED → Appends (E.contents error.old) (E.contents error.new) (misuse_line why.entry) }
+fn report_misuse<E: Write>(alloc: Global, why: Misuse<'_>, error: &mut E) -> u8
+    ensures printed { result ≡ MISUSED → Appends (E.contents error.old) (E.contents error.new) (misuse_line why.entry) }
     ensures failed { result ≡ FAILED → AppendsPart (E.contents error.old) (E.contents error.new) (misuse_line why.entry)
         ⊎ AppendsPart (E.contents error.old) (E.contents error.new) (failure_line Failure.Memory) }
     ensures statuses { (result ≡ MISUSED) ⊎ (result ≡ FAILED) }

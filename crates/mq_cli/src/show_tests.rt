@@ -1,7 +1,7 @@
-use crate::command_line::{Stop, Task, parse};
+use crate::command_line::{EarlyExit, Task, parse};
 use crate::failure::{FAILED, PASSED, REFUSED};
 use crate::tasks::{perform, stop};
-use crate::tests::{Narrow, Told, Trickle, is_failed_write, task_of};
+use crate::tests::{Narrow, Printed, Trickle, is_failed_write, task_of};
 use std::alloc::Global;
 use std::io::{Cursor, Read};
 use std::test::Fail;
@@ -96,16 +96,16 @@ const LONG_LINES: &str = "1 record 1 OPEN\n\
     6 record 6 REST\n\
     7 record 7 CLOSE\n";
 
-fn shown_of<R: Read>(alloc: Global, input: &mut R) -> Result<Told, Stop> {
+fn shown_of<R: Read>(alloc: Global, input: &mut R) -> Result<Printed, EarlyExit> {
     shown_by(alloc, &["mqjudge", "show"], input)
 }
 
-fn shown_by<R: Read>(alloc: Global, words: &[&str], input: &mut R) -> Result<Told, Stop> {
+fn shown_by<R: Read>(alloc: Global, words: &[&str], input: &mut R) -> Result<Printed, EarlyExit> {
     let task = task_of(alloc, words)?;
     let mut output = Vec::new(alloc);
     let mut error = Vec::new(alloc);
     let status = perform(alloc, &task, input, &mut output, &mut error);
-    Ok(Told {
+    Ok(Printed {
         status,
         output,
         error,
@@ -121,8 +121,8 @@ fn shows_logs_whole_and_byte_by_byte(rt: HostRuntime) -> Result<(), Fail> {
         };
         let whole = shown_of(rt.alloc(), &mut &log[..])?;
         let cut = shown_of(rt.alloc(), &mut trickle)?;
-        for told in [whole, cut] {
-            assert!(rt; told.says(status, lines), "{lines}");
+        for printed in [whole, cut] {
+            assert!(rt; printed.says(status, lines), "{lines}");
         }
     }
     Ok(())
@@ -130,35 +130,39 @@ fn shows_logs_whole_and_byte_by_byte(rt: HostRuntime) -> Result<(), Fail> {
 
 #[test]
 fn shows_long_lines(rt: HostRuntime) -> Result<(), Fail> {
-    let told = shown_by(
+    let printed = shown_by(
         rt.alloc(),
         &["mqjudge", "show", "--long"],
         &mut &WHOLE_LOG[..],
     )?;
-    assert!(rt; told.says(PASSED, LONG_LINES));
+    assert!(rt; printed.says(PASSED, LONG_LINES));
     Ok(())
 }
 
 // The events up to there are shown.
 #[test]
-fn tells_of_a_failed_read(rt: HostRuntime) -> Result<(), Fail> {
+fn reports_a_failed_read(rt: HostRuntime) -> Result<(), Fail> {
     for (fails_after, lines) in [(0, 0), (7, 0), (13, 1), (42, 2), (43, 3), (76, 7)] {
         let mut input = Trickle {
             bytes: WHOLE_LOG,
             fails_after: Some(fails_after),
         };
-        let told = shown_of(rt.alloc(), &mut input)?;
-        assert_eq!(rt; told.status, FAILED);
-        assert_eq!(rt; told.error.as_slice(), &b"mqjudge: read failed\n"[..]);
-        let ends = told.output.iter().filter(|byte| **byte == b'\n').count();
+        let printed = shown_of(rt.alloc(), &mut input)?;
+        assert_eq!(rt; printed.status, FAILED);
+        assert_eq!(rt; printed.error.as_slice(), &b"mqjudge: read failed\n"[..]);
+        let ends = printed.output.iter().filter(|byte| **byte == b'\n').count();
         assert_eq!(rt; ends, lines, "{fails_after} bytes");
-        assert!(rt; WHOLE_LINES.as_bytes().starts_with(told.output.as_slice()));
+        assert!(rt;
+            WHOLE_LINES
+                .as_bytes()
+                .starts_with(printed.output.as_slice())
+        );
     }
     Ok(())
 }
 
 #[test]
-fn tells_of_a_failed_write(rt: HostRuntime) -> Result<(), Fail> {
+fn reports_a_failed_write(rt: HostRuntime) -> Result<(), Fail> {
     let short = &WHOLE_LOG[..75];
     for (log, room, stays) in [
         (WHOLE_LOG, 0, false),
@@ -177,7 +181,7 @@ fn tells_of_a_failed_write(rt: HostRuntime) -> Result<(), Fail> {
 
 // With each allocation failing in turn, the result is the log's, or that memory ran out, after the lines up to there.
 #[test]
-fn tells_of_a_show_without_memory(rt: HostRuntime) {
+fn reports_a_show_without_memory(rt: HostRuntime) {
     let mut output = Cursor::new([0; 1024]);
     let mut error = Cursor::new([0; 64]);
     let status = match task_of(rt.alloc(), &["mqjudge", "show"]) {
@@ -219,7 +223,7 @@ fn reads_the_words_of_a_show(rt: HostRuntime) -> Result<(), Fail> {
     };
     let path = file.ok_or("no file")?;
     assert!(rt; path.as_str() == "a.log");
-    let Err(Stop::Usage(text)) = parse(rt.alloc(), &["mqjudge", "show", "a", "b"]) else {
+    let Err(EarlyExit::Usage(text)) = parse(rt.alloc(), &["mqjudge", "show", "a", "b"]) else {
         return Err("taken".into());
     };
     assert!(rt;

@@ -22,7 +22,7 @@ mod subscriptions;
 mod worked;
 
 use crate::failure::{FAULTY, PASSED, REFUSED};
-use crate::tests::is_told;
+use crate::tests::is_printed;
 use hex::decode;
 use packets::PACKETS;
 use std::alloc::{AllocError, Global};
@@ -114,7 +114,7 @@ fn report_of(alloc: Global, lines: &'static str) -> Result<String, AllocError> {
 fn is_judged_so(alloc: Global, words: &'static str, lines: &'static str) -> Result<bool, Fail> {
     let log = log_of(alloc, words)?;
     let report = report_of(alloc, lines)?;
-    Ok(is_told(alloc, &log, status_of(report.as_str()), report.as_str())?)
+    Ok(is_printed(alloc, &log, status_of(report.as_str()), report.as_str())?)
 }
 
 // Whether the log of a row is judged as the row says. A row has three parts.

@@ -4,18 +4,18 @@ ghost use Rattle.std.specs.Io.KnownBytes.{Appends, Keeps};
 ghost use Rattle.hex.specs.Hex.{decode_of};
 ghost use Rattle.mq_cli.specs.Explaining.{explained_for};
 ghost use Rattle.mq_cli.specs.Listing.{listed_for, statement_lines};
-ghost use Rattle.mq_cli.specs.Told.{AppendsLineOf, AppendsPart, BeginsRefusal, FailsMisnamed, FailsPacket, FailsTelling, LacksJsonMemory};
-ghost use Rattle.mq_cli.specs.Told.{FailsStop, FailsTask, HasFailed, HasPassed, IsMisnamed};
-ghost use Rattle.mq_cli.specs.Told.{IsOfLog, IsRefusedOn, IsReportedOn, IsShownOn, IsToldOn, RefusesCheck};
-ghost use Rattle.mq_cli.specs.Told.{RefusesShow, SpellsNoPacket, SpellsPacket, StopsCheck, StopsShow};
-ghost use Rattle.mq_cli.specs.Told.{Tells, text_in_view, failure_line, failure_of, form_of, misnamed_line, no_role_line, no_statement_line, not_hex_line};
+ghost use Rattle.mq_cli.specs.Messages.{AppendsLineOf, AppendsPart, BeginsRefusal, FailsMisnamed, FailsPacket, FailsPrinting, LacksJsonMemory};
+ghost use Rattle.mq_cli.specs.Messages.{FailsStop, FailsTask, HasFailed, HasPassed, IsMisnamed};
+ghost use Rattle.mq_cli.specs.Messages.{IsOfLog, IsRefusedOn, IsReportedOn, IsShownOn, IsPrintedOn, RefusesCheck};
+ghost use Rattle.mq_cli.specs.Messages.{RefusesShow, SpellsNoPacket, SpellsPacket, StopsCheck, StopsShow};
+ghost use Rattle.mq_cli.specs.Messages.{Prints, text_in_view, failure_line, failure_of, form_of, misnamed_line, no_role_line, no_statement_line, not_hex_line};
 ghost use Rattle.mq_judge.specs.OnePacket.{IsOnePacket, packet_report};
 ghost use Rattle.mq_judge.specs.Report.{refused_report, report};
-ghost use Rattle.mq_judge.specs.Running.{IsFaultless, IsJudged};
-ghost use Rattle.mq_judge.specs.Showing.{Shows};
+ghost use Rattle.mq_judge.specs.Runner.{IsFaultless, IsJudged};
+ghost use Rattle.mq_judge.specs.Display.{Shows};
 ghost use Rattle.mq_trace.specs.Events.{events};
 
-use crate::command_line::{Stop, Task};
+use crate::command_line::{EarlyExit, Task};
 use crate::explanations::explanation;
 use crate::failure::{FAILED, FAULTY, Failure, MISUSED, PASSED, REFUSED};
 use crate::listing::{listing, role_named};
@@ -84,7 +84,7 @@ pub fn perform<R: Read, W: Write, E: Write>(
 
     // Only what failed goes to `error`, and nothing goes to `output` if there is nothing to do.
     ensures quiet { result ≤ 2 → Keeps (E.contents error.old) (E.contents error.new) }
-    ensures untold { result ≡ 3 → Keeps (W.contents output.old) (W.contents output.new) }
+    ensures unprinted { result ≡ 3 → Keeps (W.contents output.old) (W.contents output.new) }
 {
     match task {
         Task::Check { json, summary, .. } => match check(
@@ -106,8 +106,8 @@ pub fn perform<R: Read, W: Write, E: Write>(
             Err(failure) => failure.report(error),
         },
         Task::Packet { hex } => packet(alloc, hex.as_str(), output, error),
-        Task::Rules { role: None } => tell_all(alloc, output, error),
-        Task::Rules { role: Some(word) } => tell_rules(alloc, word.as_str(), output, error),
+        Task::Rules { role: None } => print_all(alloc, output, error),
+        Task::Rules { role: Some(word) } => print_rules(alloc, word.as_str(), output, error),
         Task::Explain { code } => explain(alloc, code.as_str(), output, error),
     }
 }
@@ -243,10 +243,10 @@ fn packet<W: Write, E: Write>(alloc: Global, hex: &str, output: &mut W, error: &
         (W.contents output.old) (W.contents output.new) (E.contents error.old) (E.contents error.new) }
     ensures statuses { (result ≤ FAULTY) ⊎ ((result ≡ MISUSED) ⊎ (result ≡ FAILED)) }
     ensures quiet { result ≤ FAULTY → Keeps (E.contents error.old) (E.contents error.new) }
-    ensures untold { result ≡ MISUSED → Keeps (W.contents output.old) (W.contents output.new) }
+    ensures unprinted { result ≡ MISUSED → Keeps (W.contents output.old) (W.contents output.new) }
 {
     match decode(alloc, hex) {
-        Ok(bytes) => match tell_packet(bytes.as_slice(), output) {
+        Ok(bytes) => match print_packet(bytes.as_slice(), output) {
             Ok(status) => status,
             Err(failure) => failure.report(error),
         },
@@ -256,7 +256,7 @@ fn packet<W: Write, E: Write>(alloc: Global, hex: &str, output: &mut W, error: &
 }
 
 // Writes the line that says which packet these bytes are.
-fn tell_packet<W: Write>(bytes: &[u8], output: &mut W) -> Result<u8, Failure>
+fn print_packet<W: Write>(bytes: &[u8], output: &mut W) -> Result<u8, Failure>
     ensures passed { IfOk result (λ status. status ≡ PASSED → IsOnePacket bytes.now) }
     ensures faulty { IfOk result (λ status. status ≡ FAULTY → ¬ IsOnePacket bytes.now) }
     ensures statuses { IfOk result (λ status. status ≤ FAULTY) }
@@ -275,7 +275,7 @@ fn tell_packet<W: Write>(bytes: &[u8], output: &mut W) -> Result<u8, Failure>
 
 /// Writes to `error` what is wrong with the words, and returns the status.
 pub fn misuse<E: Write>(text: &str, error: &mut E) -> u8
-    ensures told { result ≡ MISUSED → Appends (E.contents error.old) (E.contents error.new) text.now }
+    ensures printed { result ≡ MISUSED → Appends (E.contents error.old) (E.contents error.new) text.now }
     ensures failed { result ≡ FAILED → AppendsPart (E.contents error.old) (E.contents error.new) text.now }
     ensures statuses { (result ≡ MISUSED) ⊎ (result ≡ FAILED) }
 {
@@ -286,10 +286,10 @@ pub fn misuse<E: Write>(text: &str, error: &mut E) -> u8
 }
 
 // Lists all statements.
-fn tell_all<W: Write, E: Write>(alloc: Global, output: &mut W, error: &mut E) -> u8
-    ensures told { result ≡ PASSED
+fn print_all<W: Write, E: Write>(alloc: Global, output: &mut W, error: &mut E) -> u8
+    ensures printed { result ≡ PASSED
         → Appends (W.contents output.old) (W.contents output.new) (statement_lines None) }
-    ensures failed { result ≡ FAILED → FailsTelling (Some (statement_lines None)) []
+    ensures failed { result ≡ FAILED → FailsPrinting (Some (statement_lines None)) []
         (W.contents output.old) (W.contents output.new) (E.contents error.old) (E.contents error.new) }
     ensures statuses { (result ≡ PASSED) ⊎ (result ≡ FAILED) }
     ensures quiet { result ≡ PASSED → Keeps (E.contents error.old) (E.contents error.new) }
@@ -298,16 +298,16 @@ fn tell_all<W: Write, E: Write>(alloc: Global, output: &mut W, error: &mut E) ->
 }
 
 // Lists the statements that bind the end that the word names.
-fn tell_rules<W: Write, E: Write>(alloc: Global, word: &str, output: &mut W, error: &mut E) -> u8
-    ensures told { result ≡ PASSED
-        → Tells (listed_for (Some word.now)) (W.contents output.old) (W.contents output.new) }
+fn print_rules<W: Write, E: Write>(alloc: Global, word: &str, output: &mut W, error: &mut E) -> u8
+    ensures printed { result ≡ PASSED
+        → Prints (listed_for (Some word.now)) (W.contents output.old) (W.contents output.new) }
     ensures misused { result ≡ MISUSED → (listed_for (Some word.now) ≡ None)
         × Appends (E.contents error.old) (E.contents error.new) (no_role_line word.now) }
-    ensures failed { result ≡ FAILED → FailsTelling (listed_for (Some word.now)) (no_role_line word.now)
+    ensures failed { result ≡ FAILED → FailsPrinting (listed_for (Some word.now)) (no_role_line word.now)
         (W.contents output.old) (W.contents output.new) (E.contents error.old) (E.contents error.new) }
     ensures statuses { (result ≡ PASSED) ⊎ ((result ≡ MISUSED) ⊎ (result ≡ FAILED)) }
     ensures quiet { result ≡ PASSED → Keeps (E.contents error.old) (E.contents error.new) }
-    ensures untold { result ≡ MISUSED → Keeps (W.contents output.old) (W.contents output.new) }
+    ensures unprinted { result ≡ MISUSED → Keeps (W.contents output.old) (W.contents output.new) }
 {
     match role_named(word) {
         Some(role) => list(alloc, Some(role), output, error),
@@ -317,40 +317,40 @@ fn tell_rules<W: Write, E: Write>(alloc: Global, word: &str, output: &mut W, err
 
 // Lists the statements, for one end or for both.
 fn list<W: Write, E: Write>(alloc: Global, role: Option<Role>, output: &mut W, error: &mut E) -> u8
-    ensures told { result ≡ PASSED
+    ensures printed { result ≡ PASSED
         → Appends (W.contents output.old) (W.contents output.new) (statement_lines role) }
-    ensures failed { result ≡ FAILED → FailsTelling (Some (statement_lines role)) []
+    ensures failed { result ≡ FAILED → FailsPrinting (Some (statement_lines role)) []
         (W.contents output.old) (W.contents output.new) (E.contents error.old) (E.contents error.new) }
     ensures statuses { (result ≡ PASSED) ⊎ (result ≡ FAILED) }
     ensures quiet { result ≡ PASSED → Keeps (E.contents error.old) (E.contents error.new) }
 {
     match listing(alloc, role) {
-        Ok(text) => tell(text.as_str(), output, error),
+        Ok(text) => print(text.as_str(), output, error),
         Err(_) => Failure::Memory.report(error),
     }
 }
 
 // Writes the explanation of the statement with this code.
 fn explain<W: Write, E: Write>(alloc: Global, code: &str, output: &mut W, error: &mut E) -> u8
-    ensures told { result ≡ PASSED
-        → Tells (explained_for code.now) (W.contents output.old) (W.contents output.new) }
+    ensures printed { result ≡ PASSED
+        → Prints (explained_for code.now) (W.contents output.old) (W.contents output.new) }
     ensures misused { result ≡ MISUSED → (explained_for code.now ≡ None)
         × Appends (E.contents error.old) (E.contents error.new) (no_statement_line code.now) }
-    ensures failed { result ≡ FAILED → FailsTelling (explained_for code.now) (no_statement_line code.now)
+    ensures failed { result ≡ FAILED → FailsPrinting (explained_for code.now) (no_statement_line code.now)
         (W.contents output.old) (W.contents output.new) (E.contents error.old) (E.contents error.new) }
     ensures statuses { (result ≡ PASSED) ⊎ ((result ≡ MISUSED) ⊎ (result ≡ FAILED)) }
     ensures quiet { result ≡ PASSED → Keeps (E.contents error.old) (E.contents error.new) }
-    ensures untold { result ≡ MISUSED → Keeps (W.contents output.old) (W.contents output.new) }
+    ensures unprinted { result ≡ MISUSED → Keeps (W.contents output.old) (W.contents output.new) }
 {
     match Rule::of_code(code) {
-        Some(rule) => tell(explanation(rule), output, error),
+        Some(rule) => print(explanation(rule), output, error),
         None => refuse_word(alloc, "mqjudge: no statement ", code, error),
     }
 }
 
 // Writes a text to the end, and returns the status.
-fn tell<W: Write, E: Write>(text: &str, output: &mut W, error: &mut E) -> u8
-    ensures told { result ≡ PASSED → Appends (W.contents output.old) (W.contents output.new) text.now }
+fn print<W: Write, E: Write>(text: &str, output: &mut W, error: &mut E) -> u8
+    ensures printed { result ≡ PASSED → Appends (W.contents output.old) (W.contents output.new) text.now }
     ensures part { result ≡ FAILED → AppendsPart (W.contents output.old) (W.contents output.new) text.now }
     ensures failed { result ≡ FAILED
         → AppendsPart (E.contents error.old) (E.contents error.new) (failure_line Failure.Write) }
@@ -365,7 +365,7 @@ fn tell<W: Write, E: Write>(text: &str, output: &mut W, error: &mut E) -> u8
 
 /// Writes that a word names nothing, in a line that begins with `start`, and returns the status.
 pub fn refuse_word<E: Write>(alloc: Global, start: &str, word: &str, error: &mut E) -> u8
-    ensures told { result ≡ MISUSED
+    ensures printed { result ≡ MISUSED
         → Appends (E.contents error.old) (E.contents error.new) (start.now ++ word.now ++ codes "\n") }
     ensures failed { result ≡ FAILED
         → AppendsPart (E.contents error.old) (E.contents error.new) (start.now ++ word.now ++ codes "\n")
@@ -401,26 +401,26 @@ fn see_out<W: Write>(status: u8, output: &mut W) -> Result<u8, Failure>
 
 /// Writes why there is no task, and returns the status to exit with: 0 for help or the version, 3
 /// for a misuse, and 4 if memory ran out or the text couldn't be written.
-pub fn stop<W: Write, E: Write>(stop: &Stop, output: &mut W, error: &mut E) -> u8
+pub fn stop<W: Write, E: Write>(stop: &EarlyExit, output: &mut W, error: &mut E) -> u8
     ensures shown { result ≡ 0 → IsShownOn stop.now (W.contents output.old) (W.contents output.new) }
-    ensures told { result ≡ 3 → IsToldOn stop.now (E.contents error.old) (E.contents error.new) }
+    ensures printed { result ≡ 3 → IsPrintedOn stop.now (E.contents error.old) (E.contents error.new) }
     ensures failed { result ≡ 4 → FailsStop stop.now
         (W.contents output.old) (W.contents output.new) (E.contents error.old) (E.contents error.new) }
     ensures statuses { (result ≡ 0) ⊎ ((result ≡ 3) ⊎ (result ≡ 4)) }
 
     // A text goes to only one of the two.
     ensures quiet { result ≡ 0 → Keeps (E.contents error.old) (E.contents error.new) }
-    ensures untold { result ≡ 3 → Keeps (W.contents output.old) (W.contents output.new) }
+    ensures unprinted { result ≡ 3 → Keeps (W.contents output.old) (W.contents output.new) }
 {
     match stop {
-        Stop::Help(text) => match write_out(text.as_str(), output) {
+        EarlyExit::Help(text) => match write_out(text.as_str(), output) {
             Ok(()) => PASSED,
             Err(failure) => failure.report(error),
         },
-        Stop::Usage(text) => match write_out(text.as_str(), error) {
+        EarlyExit::Usage(text) => match write_out(text.as_str(), error) {
             Ok(()) => MISUSED,
             Err(_) => FAILED,
         },
-        Stop::Memory => Failure::Memory.report(error),
+        EarlyExit::Memory => Failure::Memory.report(error),
     }
 }

@@ -1,4 +1,4 @@
-use crate::command_line::{Stop, Task, Work, parse};
+use crate::command_line::{EarlyExit, Task, Work, parse};
 use crate::failure::{FAILED, FAULTY, MISUSED, PASSED, REFUSED};
 use crate::tasks::{perform, stop};
 use mq_judge::{Judge, Options, Refusal};
@@ -181,13 +181,13 @@ fn joined(alloc: Global, parts: &[&[u8]]) -> Result<Vec<u8>, AllocError> {
 
 // The result of a check of this input.
 #[derive(Drop)]
-pub struct Told {
+pub struct Printed {
     pub status: u8,
     pub output: Vec<u8>,
     pub error: Vec<u8>,
 }
 
-impl Told {
+impl Printed {
     // Whether it ended with this status and output, and without a message.
     pub fn says(&self, status: u8, output: &str) -> bool {
         self.status == status
@@ -197,19 +197,19 @@ impl Told {
 }
 
 // The task that these words ask for, on one reading of a log or on none.
-pub fn task_of(alloc: Global, words: &[&str]) -> Result<Task, Stop> {
+pub fn task_of(alloc: Global, words: &[&str]) -> Result<Task, EarlyExit> {
     match parse(alloc, words)? {
         Work::Once(task) => Ok(task),
-        Work::Twice(_) => Err(Stop::Usage(String::new(alloc))),
+        Work::Twice(_) => Err(EarlyExit::Usage(String::new(alloc))),
     }
 }
 
-pub fn told_of<R: Read>(alloc: Global, input: &mut R) -> Result<Told, Stop> {
+pub fn printed_of<R: Read>(alloc: Global, input: &mut R) -> Result<Printed, EarlyExit> {
     let task = task_of(alloc, &["mqjudge", "check"])?;
     let mut output = Vec::new(alloc);
     let mut error = Vec::new(alloc);
     let status = perform(alloc, &task, input, &mut output, &mut error);
-    Ok(Told {
+    Ok(Printed {
         status,
         output,
         error,
@@ -217,13 +217,13 @@ pub fn told_of<R: Read>(alloc: Global, input: &mut R) -> Result<Told, Stop> {
 }
 
 // Whether a check of this log, read at once and then byte by byte, writes this and nothing else.
-pub fn is_told(alloc: Global, log: &[u8], status: u8, report: &str) -> Result<bool, Stop> {
+pub fn is_printed(alloc: Global, log: &[u8], status: u8, report: &str) -> Result<bool, EarlyExit> {
     let mut trickle = Trickle {
         bytes: log,
         fails_after: None,
     };
-    let whole = told_of(alloc, &mut &log[..])?;
-    let cut = told_of(alloc, &mut trickle)?;
+    let whole = printed_of(alloc, &mut &log[..])?;
+    let cut = printed_of(alloc, &mut trickle)?;
     Ok(whole.says(status, report) && cut.says(status, report))
 }
 
@@ -232,7 +232,7 @@ fn judges_logs_whole_and_byte_by_byte(rt: HostRuntime) -> Result<(), Fail> {
     for row in &ROWS {
         let log = joined(rt.alloc(), row.log)?;
         assert!(rt;
-            is_told(rt.alloc(), &log, row.status, row.report)?,
+            is_printed(rt.alloc(), &log, row.status, row.report)?,
             "{}",
             row.report
         );
@@ -267,16 +267,16 @@ fn reads_packets_up_to_the_limit(rt: HostRuntime) -> Result<(), Fail> {
 }
 
 #[test]
-fn tells_of_a_failed_read(rt: HostRuntime) -> Result<(), Fail> {
+fn reports_a_failed_read(rt: HostRuntime) -> Result<(), Fail> {
     for fails_after in [0, 3, 8] {
         let mut input = Trickle {
             bytes: HEADER,
             fails_after: Some(fails_after),
         };
-        let told = told_of(rt.alloc(), &mut input)?;
-        assert_eq!(rt; told.status, FAILED);
-        assert_eq!(rt; told.error.as_slice(), &b"mqjudge: read failed\n"[..]);
-        assert!(rt; told.output.is_empty());
+        let printed = printed_of(rt.alloc(), &mut input)?;
+        assert_eq!(rt; printed.status, FAILED);
+        assert_eq!(rt; printed.error.as_slice(), &b"mqjudge: read failed\n"[..]);
+        assert!(rt; printed.output.is_empty());
     }
     Ok(())
 }
@@ -287,7 +287,7 @@ pub fn is_failed_write(
     words: &[&str],
     log: &[u8],
     mut output: Narrow,
-) -> Result<bool, Stop> {
+) -> Result<bool, EarlyExit> {
     let task = task_of(alloc, words)?;
     let mut error = Vec::new(alloc);
     let status = perform(alloc, &task, &mut &log[..], &mut output, &mut error);
@@ -295,7 +295,7 @@ pub fn is_failed_write(
 }
 
 #[test]
-fn tells_of_a_failed_write(rt: HostRuntime) -> Result<(), Fail> {
+fn reports_a_failed_write(rt: HostRuntime) -> Result<(), Fail> {
     let short = &HEADER[..7];
     for (log, room, stays) in [
         (HEADER, 0, false),
@@ -313,7 +313,7 @@ fn tells_of_a_failed_write(rt: HostRuntime) -> Result<(), Fail> {
 
 // With each allocation failing in turn, the result is the log's, or that memory ran out, and nothing else.
 #[test]
-fn tells_of_want_of_memory(rt: HostRuntime) {
+fn reports_want_of_memory(rt: HostRuntime) {
     let mut output = Cursor::new([0; 128]);
     let mut error = Cursor::new([0; 64]);
     let status = match task_of(rt.alloc(), &["mqjudge", "check"]) {
@@ -347,7 +347,7 @@ fn is_check_of(
     words: &[&str],
     wanted: Option<&str>,
     flags: (bool, bool),
-) -> Result<bool, Stop> {
+) -> Result<bool, EarlyExit> {
     let Task::Check {
         file,
         json,
@@ -418,7 +418,7 @@ fn shows_help_and_the_version(rt: HostRuntime) -> Result<(), Fail> {
         (&["mqjudge", "-V"], VERSION),
     ];
     for (words, part) in requests {
-        let Err(Stop::Help(text)) = parse(rt.alloc(), words) else {
+        let Err(EarlyExit::Help(text)) = parse(rt.alloc(), words) else {
             return Err("no help".into());
         };
         assert!(rt; text.as_str().contains(part), "{words:?} shows {text}");
@@ -450,7 +450,7 @@ fn refuses_other_words(rt: HostRuntime) -> Result<(), Fail> {
         ),
     ];
     for (words, part) in misuses {
-        let Err(Stop::Usage(text)) = parse(rt.alloc(), words) else {
+        let Err(EarlyExit::Usage(text)) = parse(rt.alloc(), words) else {
             return Err("taken".into());
         };
         assert!(rt; text.as_str().contains(part), "{words:?} tells {text}");
@@ -459,23 +459,23 @@ fn refuses_other_words(rt: HostRuntime) -> Result<(), Fail> {
 }
 
 // Whether a stop ends with this status, this output and this message.
-fn is_stopped(alloc: Global, why: &Stop, status: u8, shown: &str, told: &str) -> bool {
+fn is_stopped(alloc: Global, why: &EarlyExit, status: u8, shown: &str, printed: &str) -> bool {
     let mut output = Vec::new(alloc);
     let mut error = Vec::new(alloc);
     stop(why, &mut output, &mut error) == status
         && output.as_slice() == shown.as_bytes()
-        && error.as_slice() == told.as_bytes()
+        && error.as_slice() == printed.as_bytes()
 }
 
 #[test]
-fn tells_why_there_is_no_task(rt: HostRuntime) -> Result<(), Fail> {
+fn reports_why_there_is_no_task(rt: HostRuntime) -> Result<(), Fail> {
     let text = "mqjudge 0.1.0\n";
-    let help = Stop::Help(String::from_str(rt.alloc(), text)?);
-    let usage = Stop::Usage(String::from_str(rt.alloc(), text)?);
+    let help = EarlyExit::Help(String::from_str(rt.alloc(), text)?);
+    let usage = EarlyExit::Usage(String::from_str(rt.alloc(), text)?);
     let memory = "mqjudge: out of memory\n";
     assert!(rt; is_stopped(rt.alloc(), &help, PASSED, text, ""));
     assert!(rt; is_stopped(rt.alloc(), &usage, MISUSED, "", text));
-    assert!(rt; is_stopped(rt.alloc(), &Stop::Memory, FAILED, "", memory));
+    assert!(rt; is_stopped(rt.alloc(), &EarlyExit::Memory, FAILED, "", memory));
     for (room, stays) in [(5, false), (100, true)] {
         let mut error = Vec::new(rt.alloc());
         let mut output = Narrow { room, stays };

@@ -6,7 +6,7 @@ use Rattle.mq_props.specs.Values.{Property}
 use Rattle.mq_packet.specs.Entries.{ConnectFields, WillFields}
 use Rattle.mq_rules.specs.Notes.{qos_number}
 use Rattle.mq_judge.specs.Details.{with_prefix, property_after, property_name, value_words, quoted, flag_text, size_text}
-use Rattle.mq_judge.specs.declared.showing.outgoing.Outgoing.{Outgoing}
+use Rattle.mq_judge.specs.declared.display.outgoing.Outgoing.{Outgoing}
 use Rattle.mq_judge.specs.ItemText.{behind_spaces}
 use Rattle.mq_judge.specs.Outgoing.{Puts}
 use Rattle.mq_judge.proofs.OutgoingLaws.{puts_nothing, puts_two}

@@ -20,7 +20,7 @@ use Rattle.mq_rules.specs.Moments.{IsPlaced}
 use Rattle.mq_rules.specs.Connections.{IsInOrder}
 use Rattle.mq_rules.specs.Faults.{chosen_fault}
 use Rattle.mq_judge.specs.Chosen.{is_judged}
-use Rattle.mq_rules.specs.Marks.{FaultMap, fault_at}
+use Rattle.mq_rules.specs.FaultKeys.{FaultMap, fault_at}
 use Rattle.mq_rules.specs.Notes.{tested_as, tested_by, seen, seen_in}
 use Rattle.mq_judge.specs.Judging.{Judged, Follows, HasRefused, RefusesIn, JudgesPiece, TakesEvents, AreFaultsOf, judge_of, tested_in}
 use Rattle.mq_judge.specs.Stopping.{IsRefusedByte}

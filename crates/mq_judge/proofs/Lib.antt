@@ -3,8 +3,8 @@ pub mod FeedingLaws
 pub mod JudgeLaws
 pub mod OnePacketLaws
 pub mod ReportLaws
-pub mod RunningLaws
-pub mod ShowingLaws
+pub mod RunnerLaws
+pub mod DisplayLaws
 pub mod Writes
 pub mod EvaluatingLaws
 pub mod CodeLaws

@@ -3,7 +3,7 @@ use Rattle.std.proofs.Common.{◌≡◌, ℕ, Bool, true, false, List, [], ◌++
 use Rattle.std.proofs.lemmas.List.{length-append}
 use Rattle.std.specs.Io.KnownBytes.{Appends}
 use Rattle.mq_trace.specs.Writing.{AppendsBeginning}
-use Rattle.mq_judge.specs.declared.showing.outgoing.Outgoing.{Outgoing}
+use Rattle.mq_judge.specs.declared.display.outgoing.Outgoing.{Outgoing}
 use Rattle.mq_judge.specs.Outgoing.{Sends, Carries, Puts}
 use Rattle.mq_judge.specs.Report.{LeavesToWrite, StopsWriting}
 use Rattle.mq_judge.proofs.Writes.{last-written, stopped-in-last}

@@ -1,8 +1,8 @@
 -- The words of details in memory.
 use Rattle.std.specs.Prelude.{ℕ, List, [], ◌∷◌, decimal}
-use Rattle.mq_judge.specs.declared.showing.details.detail.Shown.{Shown}
-use Rattle.mq_judge.specs.declared.showing.details.detail.Shown.TheVariants as shown
-use Rattle.mq_judge.specs.declared.showing.details.detail.Detail.{Detail}
+use Rattle.mq_judge.specs.declared.display.details.detail.Shown.{Shown}
+use Rattle.mq_judge.specs.declared.display.details.detail.Shown.TheVariants as shown
+use Rattle.mq_judge.specs.declared.display.details.detail.Detail.{Detail}
 use Rattle.mq_judge.specs.Details.{flag_text, size_text, reason_text, quoted}
 
 -- the words of a value

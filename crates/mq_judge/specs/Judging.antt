@@ -10,7 +10,7 @@ use Rattle.mq_rules.specs.declared.rule.Rule.{Rule}
 use Rattle.mq_rules.specs.Notes.{tested_by, seen_in}
 use Rattle.mq_rules.specs.Faults.{chosen_fault}
 use Rattle.mq_judge.specs.Chosen.{is_judged}
-use Rattle.mq_rules.specs.Marks.{FaultMap, fault_at}
+use Rattle.mq_rules.specs.FaultKeys.{FaultMap, fault_at}
 use Rattle.mq_judge.specs.Stopping.{StopsIn, IsRefusedEnd}
 
 -- a judge: its limit, the tested end, once that is known, the state of its tracer, and the events that were noted, the newest first

@@ -3,8 +3,8 @@ pub mod ItemText
 pub mod Judging
 pub mod OnePacket
 pub mod Report
-pub mod Running
-pub mod Showing
+pub mod Runner
+pub mod Display
 pub mod Stopping
 pub mod Tracing
 pub use Rattle.mq_trace.specs.Refusals

@@ -1,7 +1,7 @@
 -- Text on its way to a writer: what was written, and what waits.
 use Rattle.std.specs.Prelude.{◌≡◌, ℕ, Bool, true, false, List, ◌++◌, Option}
 use Rattle.mq_trace.specs.Writing.{AppendsBeginning}
-use Rattle.mq_judge.specs.declared.showing.outgoing.Outgoing.{Outgoing}
+use Rattle.mq_judge.specs.declared.display.outgoing.Outgoing.{Outgoing}
 use Rattle.mq_judge.specs.Report.{LeavesToWrite}
 
 -- By whether a write failed: if not, all of the whole text was written except the rest, which waits; else a beginning of it, but not all.

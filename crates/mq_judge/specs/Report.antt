@@ -16,7 +16,7 @@ use Rattle.mq_trace.specs.Writing.{AppendsBeginning}
 use Rattle.mq_rules.specs.declared.role.Role as roles
 use Rattle.mq_rules.specs.declared.rule.Rule.{Rule}
 use Rattle.mq_rules.specs.declared.fault.Fault.{Fault}
-use Rattle.mq_rules.specs.declared.faults.Mark.{Mark}
+use Rattle.mq_rules.specs.declared.faults.FaultKey.{FaultKey}
 use Rattle.mq_rules.specs.Notes.{tested_by, seen_in}
 use Rattle.mq_rules.specs.Faults.{listed_faults}
 use Rattle.mq_judge.specs.Chosen.{is_judged}
@@ -32,8 +32,8 @@ offset_text None = codes "-"
 offset_text (Some offset) = decimal offset
 
 -- a fault: its position and statement, the position that decided it, its position's record, and the offset
-abbrev pub fault_text : roles.Role → Mark → Fault → List ℕ
-fault_text role mark fault = spaced (codes "fault" ∷ decimal mark.position ∷ code_of mark.rule ∷ citation_of mark.rule role
+abbrev pub fault_text : roles.Role → FaultKey → Fault → List ℕ
+fault_text role key fault = spaced (codes "fault" ∷ decimal key.position ∷ code_of key.rule ∷ citation_of key.rule role
     ∷ codes "decided" ∷ decimal fault.decided ∷ codes "record" ∷ decimal fault.record_no ∷ codes "offset" ∷ offset_text fault.offset ∷ [])
 
 -- the verdict: how many faults there are, if any, and how many events
@@ -42,11 +42,11 @@ verdict_text faults events = if faults == 0 then spaced (codes "pass" ∷ decima
     else spaced (codes "fail" ∷ decimal faults ∷ codes "faults" ∷ decimal events ∷ codes "events" ∷ [])
 
 -- the lines of these faults
-abbrev pub fault_lines : roles.Role → List (Mark × Fault) → List ℕ
+abbrev pub fault_lines : roles.Role → List (FaultKey × Fault) → List ℕ
 fault_lines role faults = flat_map (λ found. line (fault_text role found.0 found.1)) faults
 
 -- the report as lines of words: a line for each fault, and then the verdict's
-unfoldable pub text_report : roles.Role → List (Mark × Fault) → ℕ → List ℕ
+unfoldable pub text_report : roles.Role → List (FaultKey × Fault) → ℕ → List ℕ
 text_report role faults events = fault_lines role faults ++ line (verdict_text (length faults) events)
 
 -- where in a packet a fault is, as JSON; null for a statement that isn't on a packet's bytes
@@ -55,16 +55,16 @@ offset_data None = null
 offset_data (Some offset) = number (unsigned offset)
 
 -- a fault as JSON
-abbrev pub fault_data : roles.Role → Mark → Fault → Data
-fault_data role mark fault = object (member (codes "citation") (string (citation_of mark.rule role))
-    (member (codes "code") (string (code_of mark.rule))
+abbrev pub fault_data : roles.Role → FaultKey → Fault → Data
+fault_data role key fault = object (member (codes "citation") (string (citation_of key.rule role))
+    (member (codes "code") (string (code_of key.rule))
     (member (codes "decided") (number (unsigned fault.decided))
     (member (codes "offset") (offset_data fault.offset)
-    (member (codes "position") (number (unsigned mark.position))
+    (member (codes "position") (number (unsigned key.position))
     (member (codes "record") (number (unsigned fault.record_no)) no_members))))))
 
 -- these faults as JSON, in their order
-abbrev pub fault_items : roles.Role → List (Mark × Fault) → Items
+abbrev pub fault_items : roles.Role → List (FaultKey × Fault) → Items
 fault_items role faults = items_of (map (λ found. fault_data role found.0 found.1) faults)
 
 -- the verdict in a word: whether there is a fault
@@ -72,44 +72,44 @@ abbrev pub verdict_word : ℕ → List ℕ
 verdict_word faults = if faults == 0 then codes "pass" else codes "fail"
 
 -- a report as JSON: how many events there are, the faults, and the verdict
-abbrev pub report_data : roles.Role → List (Mark × Fault) → ℕ → Data
+abbrev pub report_data : roles.Role → List (FaultKey × Fault) → ℕ → Data
 report_data role faults events = object (member (codes "events") (number (unsigned events))
     (member (codes "faults") (array (fault_items role faults))
     (member (codes "verdict") (string (verdict_word (length faults))) no_members)))
 
 -- the report as a line of JSON without spaces
-unfoldable pub json_report : roles.Role → List (Mark × Fault) → ℕ → List ℕ
+unfoldable pub json_report : roles.Role → List (FaultKey × Fault) → ℕ → List ℕ
 json_report role faults events = line (compact_text (report_data role faults events))
 
 -- the faults of a statement
-abbrev pub faults_of : Rule → List (Mark × Fault) → List (Mark × Fault)
+abbrev pub faults_of : Rule → List (FaultKey × Fault) → List (FaultKey × Fault)
 faults_of rule faults = filter (λ found. same_rule found.0.rule rule) faults
 
 -- the first of these faults, if there is one
-abbrev pub first_fault_of : List (Mark × Fault) → Option (Mark × Fault)
+abbrev pub first_fault_of : List (FaultKey × Fault) → Option (FaultKey × Fault)
 first_fault_of [] = None
 first_fault_of (first ∷ later) = Some first
 
 -- a statement that has faults: how many, and the first one's position and record
-abbrev pub rule_text : roles.Role → Rule → ℕ → Mark → Fault → List ℕ
-rule_text role rule count mark fault = spaced (code_of rule ∷ citation_of rule role ∷ codes "faults" ∷ decimal count
-    ∷ codes "first" ∷ decimal mark.position ∷ codes "record" ∷ decimal fault.record_no ∷ [])
+abbrev pub rule_text : roles.Role → Rule → ℕ → FaultKey → Fault → List ℕ
+rule_text role rule count key fault = spaced (code_of rule ∷ citation_of rule role ∷ codes "faults" ∷ decimal count
+    ∷ codes "first" ∷ decimal key.position ∷ codes "record" ∷ decimal fault.record_no ∷ [])
 
 -- the line of a statement that has these faults; no line if it has none
-abbrev pub rule_line : roles.Role → Rule → List (Mark × Fault) → List ℕ
+abbrev pub rule_line : roles.Role → Rule → List (FaultKey × Fault) → List ℕ
 rule_line role rule [] = []
 rule_line role rule (first ∷ later) = line (rule_text role rule (length (first ∷ later)) first.0 first.1)
 
 -- the lines of those of these statements that have faults, in their order
-abbrev pub rule_lines : roles.Role → List (Mark × Fault) → List Rule → List ℕ
+abbrev pub rule_lines : roles.Role → List (FaultKey × Fault) → List Rule → List ℕ
 rule_lines role faults rules = flat_map (λ rule. rule_line role rule (faults_of rule faults)) rules
 
 -- the report in short: a line for each statement that has faults, and then the verdict's
-unfoldable pub summary_report : roles.Role → List (Mark × Fault) → ℕ → List ℕ
+unfoldable pub summary_report : roles.Role → List (FaultKey × Fault) → ℕ → List ℕ
 summary_report role faults events = rule_lines role faults all_rules ++ line (verdict_text (length faults) events)
 
 -- a report in this form on these faults, of an end in this role, and this many events
-abbrev pub report_on : Form → roles.Role → List (Mark × Fault) → ℕ → List ℕ
+abbrev pub report_on : Form → roles.Role → List (FaultKey × Fault) → ℕ → List ℕ
 report_on forms.Text role faults events = text_report role faults events
 report_on forms.Json role faults events = json_report role faults events
 report_on forms.Summary role faults events = summary_report role faults events

@@ -2,7 +2,7 @@
 use Rattle.std.specs.Prelude.{◌≡◌, ℕ, true, false, List, [], ◌∷◌, ◌++◌, length, ◌⊎◌, Option, Some, None, is_some}
 use Rattle.mq_trace.specs.declared.refusal.Refusal.{Refusal}
 use Rattle.mq_trace.specs.declared.refusal.Refusal.TheVariants as refusals
-use Rattle.mq_trace.specs.Directing.{NeedsMemory}
+use Rattle.mq_trace.specs.Deframing.{NeedsMemory}
 use Rattle.mq_trace.specs.Events.{event_at, packet_at}
 use Rattle.mq_trace.specs.Refusals.{refused, refusal_at, is_cut_short}
 

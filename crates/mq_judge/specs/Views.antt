@@ -2,10 +2,10 @@
 use Rattle.std.specs.Prelude.{◌≡◌, ℕ, List, ⊤}
 use Rattle.std.specs.FinMap as map
 use Rattle.mq_trace.specs.Events.{Placed}
-use Rattle.mq_judge.specs.declared.showing.annotated.Annotated.{Annotated as AnnotatedView}
-use Rattle.mq_judge.specs.declared.showing.view.View.{View}
-use Rattle.mq_judge.specs.declared.showing.view.View.TheVariants.{Brief, Long, Annotated}
-use Rattle.mq_judge.specs.Showing.{Annotation, annotated, begins_gap, short_lines_of, long_lines_of}
+use Rattle.mq_judge.specs.declared.display.annotated.Annotated.{Annotated as AnnotatedView}
+use Rattle.mq_judge.specs.declared.display.view.View.{View}
+use Rattle.mq_judge.specs.declared.display.view.View.TheVariants.{Brief, Long, Annotated}
+use Rattle.mq_judge.specs.Display.{Annotation, annotated, begins_gap, short_lines_of, long_lines_of}
 
 -- what a view of faults shows
 abbrev pub annotation_of : AnnotatedView → Annotation

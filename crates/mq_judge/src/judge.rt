@@ -6,7 +6,7 @@ ghost use Rattle.mq_trace.specs.Tracing.{IsTracedTo};
 
 use super::evaluating::judge_all;
 use super::feeding::Feed;
-use super::noting::Notes;
+use super::notes::Notes;
 use mq_rules::{Faults, Role, Tested};
 use mq_trace::{Refusal, Tracer};
 use std::alloc::Global;
@@ -20,7 +20,7 @@ pub struct Options {
 }
 
 impl Default for Options {
-    ghost use Rattle.mq_judge.specs.Running.{default_limit};
+    ghost use Rattle.mq_judge.specs.Runner.{default_limit};
 
     ghost is_default = { λ options. options.limit ≡ default_limit };
 
@@ -96,7 +96,7 @@ impl Judge {
         ensures refuses { IfErr result (λ refusal. self.new.tracer.refusal ≡ Some refusal) }
         ensures for_ever { IfSome self.old.tracer.refusal (λ refusal. (result ≡ Err refusal) × (self.new ≡ self.old)) }
     {
-        take_in(&mut self.tested, &mut self.tracer, &mut self.notes, piece)
+        consume(&mut self.tested, &mut self.tracer, &mut self.notes, piece)
     }
 
     /// Ends the log, and returns the verdict on it.
@@ -111,7 +111,7 @@ impl Judge {
     {
         let mut tracer = self.tracer;
         tracer.finish()?;
-        let at = tracer.taken();
+        let at = tracer.byte_count();
         let Some(tested) = self.tested else {
             return Err(Refusal::Cut(at));
         };
@@ -140,7 +140,7 @@ impl Feed<()> for Judge {
 }
 
 /// Takes in a piece of a log: first what belongs to the header, which names the end that is judged, and then the rest.
-fn take_in(
+fn consume(
     tested: &mut Option<Tested>,
     tracer: &mut Tracer,
     notes: &mut Notes,
@@ -166,7 +166,7 @@ fn header_count(tracer: &Tracer, count: usize) -> usize
     ensures within { result ≤ count }
     ensures count { (log : List ℕ) → IsTracedTo tracer.now log → result ≡ min (8 - length log) count }
 {
-    let left = HEADER_LENGTH.saturating_sub(tracer.taken());
+    let left = HEADER_LENGTH.saturating_sub(tracer.byte_count());
     (left as usize).min(count)
 }
 

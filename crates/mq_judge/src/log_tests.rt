@@ -1,6 +1,6 @@
 //! Logs with the expected report on each, read at once and byte by byte.
 use super::report::{Form, Outcome, RunFault, write_refused};
-use super::running::run;
+use super::runner::run;
 use std::alloc::{AllocError, Global};
 use std::io;
 use std::io::Read;

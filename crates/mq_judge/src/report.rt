@@ -14,7 +14,7 @@ pub mod summing;
 use self::json::write_refusal;
 use self::line::write_line;
 use super::judge::Verdict;
-use mq_rules::{Fault, Mark, Role};
+use mq_rules::{Fault, FaultKey, Role};
 use mq_trace::Refusal;
 use std::alloc::Global;
 use std::fmt;
@@ -80,15 +80,15 @@ impl fmt::Display for Offset {
 #[derive(Clone, Copy)]
 struct Found {
     role: Role,
-    mark: Mark,
+    key: FaultKey,
     fault: Fault,
 }
 
 impl fmt::Display for Found {
-    ghost output = { λ found. Some (fault_text found.role found.mark found.fault) };
+    ghost output = { λ found. Some (fault_text found.role found.key found.fault) };
 
     fn fmt<W: fmt::Write>(&self, f: &mut fmt::Formatter<W>) -> fmt::Result {
-        let Mark { position, rule } = self.mark;
+        let FaultKey { position, rule } = self.key;
         let Fault {
             decided,
             record_no,
@@ -137,10 +137,10 @@ pub fn write_text<W: Write>(verdict: &Verdict, role: Role, writer: &mut W) -> Re
     ensures write { IfErr result (λ fault. (fault ≡ RunFault.Write) × AppendsBeginning (W.contents writer.old) (W.contents writer.new)
         (report_on Form.Text role (map.entries verdict.now.faults) verdict.now.events)) }
 {
-    for (mark, fault) in verdict.faults.iter() {
+    for (key, fault) in verdict.faults.iter() {
         let found = Found {
             role,
-            mark: *mark,
+            key: *key,
             fault: *fault,
         };
         write_line(found, writer)?;
@@ -184,8 +184,8 @@ mod tests {
     use std::io::ErrorKind;
     use std::process::Abort;
 
-    const S01_AT_5: (Mark, Fault) = (
-        Mark {
+    const S01_AT_5: (FaultKey, Fault) = (
+        FaultKey {
             position: 5,
             rule: Rule::S01,
         },
@@ -196,8 +196,8 @@ mod tests {
         },
     );
 
-    const W09_AT_5: (Mark, Fault) = (
-        Mark {
+    const W09_AT_5: (FaultKey, Fault) = (
+        FaultKey {
             position: 5,
             rule: Rule::W09,
         },
@@ -208,8 +208,8 @@ mod tests {
         },
     );
 
-    const W03_AT_4: (Mark, Fault) = (
-        Mark {
+    const W03_AT_4: (FaultKey, Fault) = (
+        FaultKey {
             position: 4,
             rule: Rule::W03,
         },
@@ -220,8 +220,8 @@ mod tests {
         },
     );
 
-    const W03_AT_7: (Mark, Fault) = (
-        Mark {
+    const W03_AT_7: (FaultKey, Fault) = (
+        FaultKey {
             position: 7,
             rule: Rule::W03,
         },
@@ -232,8 +232,8 @@ mod tests {
         },
     );
 
-    const E1R_AT_4: (Mark, Fault) = (
-        Mark {
+    const E1R_AT_4: (FaultKey, Fault) = (
+        FaultKey {
             position: 4,
             rule: Rule::E1R,
         },
@@ -252,11 +252,11 @@ mod tests {
     fn verdict_of(
         rt: &(impl Abort + AllocGlobal),
         events: u32,
-        found: &[(Mark, Fault)],
+        found: &[(FaultKey, Fault)],
     ) -> Verdict {
         let mut faults = Faults::new(rt.alloc());
-        for (mark, fault) in found {
-            assert!(rt; faults.add(*mark, *fault).is_ok());
+        for (key, fault) in found {
+            assert!(rt; faults.add(*key, *fault).is_ok());
         }
         Verdict { events, faults }
     }

@@ -1,7 +1,7 @@
 //! Logs that are longer than a buffer, a count or a number of turns at which something might stop.
+use super::display::show;
 use super::report::{Form, Outcome, RunFault};
-use super::running::{run, run_bounded};
-use super::showing::show;
+use super::runner::{run, run_bounded};
 use mq_trace::Refusal;
 use std::alloc::Global;
 use std::fmt::Write as _;

@@ -19,8 +19,8 @@ use Rattle.mq_packet.specs.declared.packet.PacketType.{PacketType}
 use Rattle.mq_packet.specs.declared.packet.PacketType.TheVariants as types
 use Rattle.mq_packet.specs.declared.packet.AcknowledgementKind.{AcknowledgementKind}
 use Rattle.mq_packet.specs.declared.packet.AcknowledgementKind.TheVariants as acknowledgements
-use Rattle.mq_packet.specs.declared.packet.EndingKind.{EndingKind}
-use Rattle.mq_packet.specs.declared.packet.EndingKind.TheVariants as endings
+use Rattle.mq_packet.specs.declared.packet.ReasonPacketKind.{ReasonPacketKind}
+use Rattle.mq_packet.specs.declared.packet.ReasonPacketKind.TheVariants as endings
 use Rattle.mq_packet.specs.declared.packet.RequestKind.{RequestKind}
 use Rattle.mq_packet.specs.declared.packet.RequestKind.TheVariants as requests
 use Rattle.mq_packet.specs.declared.rule.PacketRule.TheVariants as rules
@@ -28,7 +28,7 @@ use Rattle.mq_packet.specs.declared.fault.DecodeFault.{DecodeFault}
 use Rattle.mq_packet.specs.declared.header.FixedHeader.{FixedHeader}
 use Rattle.mq_packet.specs.declared.header.FixedHeader.TheVariants.{Whole}
 use Rattle.mq_packet.specs.Entries.{Entry, connect, connack, publish, acknowledgement, request, answer, pingreq, pingresp, disconnect, auth, WillFields, ConnectFields, PublishFields, AskedFilter, listed}
-use Rattle.mq_packet.specs.Formats.{Kind, text, binary, ValueOf, Format, done, rest, all_codes, all_filters, bad_first_byte, field, at_end, field_if, will_if, has_bits, qos_of, connect_format, connack_format, publish_from, publish_unacknowledged, publish_acknowledged, publish_format, acknowledgement_format, request_format, answer_format, ending_format, format_of, format_by_type}
+use Rattle.mq_packet.specs.Formats.{Kind, text, binary, ValueOf, Format, done, rest, all_codes, all_filters, bad_first_byte, field, at_end, field_if, will_if, has_bits, qos_of, connect_format, connack_format, publish_from, publish_unacknowledged, publish_acknowledged, publish_format, acknowledgement_format, request_format, answer_format, reason_packet_format, format_of, format_by_type}
 use Rattle.mq_packet.specs.Asking.{filters_spelling}
 use Rattle.mq_packet.specs.FirstBytes.{flags_in}
 use Rattle.mq_packet.specs.Canonical.{list_spelling, spelling_if, will_spelling, connect_body, connack_body, publish_body, request_body, answer_body}
@@ -161,9 +161,9 @@ answer_measured kind = λ identifier _ list _ reasons.
 acknowledgement_measured : (kind : AcknowledgementKind) → Measures (acknowledgement_format kind) 0
 acknowledgement_measured kind = λ identifier _. (tt, λ code _. (tt, λ list _. tt))
 
-ending_measured : (kind : EndingKind) → Measures (ending_format kind) 0
-ending_measured endings.Disconnect = (tt, λ code _. (tt, λ list _. tt))
-ending_measured endings.Auth = (tt, λ code _. (tt, λ list _. tt))
+reason_packet_measured : (kind : ReasonPacketKind) → Measures (reason_packet_format kind) 0
+reason_packet_measured endings.Disconnect = (tt, λ code _. (tt, λ list _. tt))
+reason_packet_measured endings.Auth = (tt, λ code _. (tt, λ list _. tt))
 
 -- ---- any first byte
 
@@ -181,8 +181,8 @@ type_measured types.Unsubscribe flags = request_measured requests.Unsubscribe
 type_measured types.Unsuback flags = answer_measured requests.Unsubscribe
 type_measured types.Pingreq flags = refl
 type_measured types.Pingresp flags = refl
-type_measured types.Disconnect flags = ending_measured endings.Disconnect
-type_measured types.Auth flags = ending_measured endings.Auth
+type_measured types.Disconnect flags = reason_packet_measured endings.Disconnect
+type_measured types.Auth flags = reason_packet_measured endings.Auth
 
 format_measured : (first : ℕ) → Measures (format_of first) 0
 format_measured first = each_first (λ format. Measures format 0) first tt tt (λ type _ _. type_measured type (flags_in first))

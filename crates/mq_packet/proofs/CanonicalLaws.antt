@@ -18,7 +18,7 @@ use Rattle.mq_packet.specs.declared.packet.Qos.{Qos}
 use Rattle.mq_packet.specs.declared.packet.Qos.TheVariants.{AtMostOnce, AtLeastOnce, ExactlyOnce}
 use Rattle.mq_packet.specs.declared.packet.AcknowledgementKind.{AcknowledgementKind}
 use Rattle.mq_packet.specs.declared.packet.AcknowledgementKind.TheVariants as acknowledgements
-use Rattle.mq_packet.specs.declared.packet.EndingKind.TheVariants as endings
+use Rattle.mq_packet.specs.declared.packet.ReasonPacketKind.TheVariants as endings
 use Rattle.mq_packet.specs.declared.packet.RequestKind.{RequestKind}
 use Rattle.mq_packet.specs.declared.packet.RequestKind.TheVariants as requests
 use Rattle.mq_packet.specs.declared.rule.PacketRule.TheVariants as rules
@@ -27,9 +27,9 @@ use Rattle.mq_packet.specs.Formats.{text, binary, properties, Format, done, fiel
 use Rattle.mq_packet.specs.Asking.{AreOptions, IsAsked, filters_spelling, AreAsked}
 use Rattle.mq_packet.specs.Spelled.{IsValueOf, Spells, IsSpelled}
 use Rattle.mq_packet.specs.Canonical.{bit, connect_flags, spelling_if, list_spelling, will_spelling, reason_spelling, first_byte_of, connect_body, connack_body, publish_body, acknowledgement_body, request_body, answer_body, disconnect_body, auth_body, canonical_body}
-use Rattle.mq_packet.specs.Valid.{is_text, is_binary, is_identifier, if_there, fits_qos, fits_request, valid_will, valid_connect, valid_connack, valid_publish, valid_acknowledgement, valid_filter, valid_filters, valid_request, valid_answer, valid_ending, valid, IsListed, IsWill, IsConnect, IsPublish, IsIdentified, IsAskedFilter, IsRequest, IsTyped}
+use Rattle.mq_packet.specs.Valid.{is_text, is_binary, is_identifier, if_there, fits_qos, fits_request, valid_will, valid_connect, valid_connack, valid_publish, valid_acknowledgement, valid_filter, valid_filters, valid_request, valid_answer, valid_reason_packet, valid, IsListed, IsWill, IsConnect, IsPublish, IsIdentified, IsAskedFilter, IsRequest, IsTyped}
 use Rattle.mq_packet.specs.ShortForms.{SpellsEnd}
-use Rattle.mq_packet.proofs.EndLaws.{acknowledgement_spells, ending_spells}
+use Rattle.mq_packet.proofs.EndLaws.{acknowledgement_spells, reason_packet_spells}
 use Rattle.mq_packet.proofs.ValueLaws.{listed_is, list_value, text_value, binary_value, code_value, unobjected, field_if_spelled, if_there_gives, ends_there}
 use Rattle.mq_packet.proofs.ConnectFlagLaws.{FlagsSay, flags_say}
 
@@ -108,12 +108,12 @@ acknowledgement_spelled acknowledgements.Pubrec identifier code list ok e = writ
 acknowledgement_spelled acknowledgements.Pubrel identifier code list ok e = written_spells acknowledgements.Pubrel identifier code list ok e
 acknowledgement_spelled acknowledgements.Pubcomp identifier code list ok e = written_spells acknowledgements.Pubcomp identifier code list ok e
 
-disconnect_spelled : (code : ℕ) (list : Listed) → IsListed list → valid_ending endings.Disconnect code list ≡ true → IsSpelled 224 (disconnect_body code list.items) (disconnect code list)
+disconnect_spelled : (code : ℕ) (list : Listed) → IsListed list → valid_reason_packet endings.Disconnect code list ≡ true → IsSpelled 224 (disconnect_body code list.items) (disconnect code list)
 unfolding disconnect_body
-disconnect_spelled code list ok e = ending_spells endings.Disconnect code list (reason_spelling code list.items) ok e (reason_ends code list.items)
+disconnect_spelled code list ok e = reason_packet_spells endings.Disconnect code list (reason_spelling code list.items) ok e (reason_ends code list.items)
 
-auth_spelled : (code : ℕ) (list : Listed) → IsListed list → valid_ending endings.Auth code list ≡ true → IsSpelled 240 (auth_body code list.items) (auth code list)
-auth_spelled code list ok e = ending_spells endings.Auth code list (auth_body code list.items) ok e (auth_ends code list.items)
+auth_spelled : (code : ℕ) (list : Listed) → IsListed list → valid_reason_packet endings.Auth code list ≡ true → IsSpelled 240 (auth_body code list.items) (auth code list)
+auth_spelled code list ok e = reason_packet_spells endings.Auth code list (auth_body code list.items) ok e (auth_ends code list.items)
 
 -- ---- PUBLISH
 

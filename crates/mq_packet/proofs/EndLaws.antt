@@ -11,14 +11,14 @@ use Rattle.mq_props.specs.Values.{Property, body as properties_spelling}
 use Rattle.mq_props.specs.Listed.{Listed}
 use Rattle.mq_packet.specs.declared.packet.AcknowledgementKind.{AcknowledgementKind}
 use Rattle.mq_packet.specs.declared.packet.AcknowledgementKind.TheVariants as acknowledgements
-use Rattle.mq_packet.specs.declared.packet.EndingKind.{EndingKind}
-use Rattle.mq_packet.specs.declared.packet.EndingKind.TheVariants as endings
+use Rattle.mq_packet.specs.declared.packet.ReasonPacketKind.{ReasonPacketKind}
+use Rattle.mq_packet.specs.declared.packet.ReasonPacketKind.TheVariants as endings
 use Rattle.mq_packet.specs.declared.rule.PacketRule.TheVariants as rules
-use Rattle.mq_packet.specs.Entries.{Entry, acknowledgement, listed, none_listed, acknowledgement_place, acknowledgement_codes, ending, ending_place, ending_codes}
-use Rattle.mq_packet.specs.Formats.{byte, properties, Format, done, field, at_end, any_value, code_objection, is_code, acknowledgement_format, ending_format}
+use Rattle.mq_packet.specs.Entries.{Entry, acknowledgement, listed, none_listed, acknowledgement_place, acknowledgement_codes, reason_packet, reason_packet_place, reason_packet_codes}
+use Rattle.mq_packet.specs.Formats.{byte, properties, Format, done, field, at_end, any_value, code_objection, is_code, acknowledgement_format, reason_packet_format}
 use Rattle.mq_packet.specs.Spelled.{IsValueOf, Spells}
 use Rattle.mq_packet.specs.Canonical.{list_spelling}
-use Rattle.mq_packet.specs.Valid.{is_identifier, valid_acknowledgement, valid_ending, IsListed, IsIdentified}
+use Rattle.mq_packet.specs.Valid.{is_identifier, valid_acknowledgement, valid_reason_packet, IsListed, IsIdentified}
 use Rattle.mq_packet.specs.ShortForms.{SpellsEnd, IsBodyOf}
 use Rattle.mq_packet.proofs.ValueLaws.{varint_some, listed_is, list_value, code_value, unobjected}
 
@@ -77,13 +77,13 @@ acknowledgement_spells kind identifier code list body ok e h =
       end_spells (acknowledgement_codes kind) (acknowledgement_bytes kind) (acknowledgement_place kind) (acknowledgement kind identifier) code list.items h.0 value known.1 h.2,
     ))
 
-ending_bytes : (kind : EndingKind) → AreCodes (ending_codes kind)
-ending_bytes endings.Disconnect = refl
-ending_bytes endings.Auth = refl
+reason_packet_bytes : (kind : ReasonPacketKind) → AreCodes (reason_packet_codes kind)
+reason_packet_bytes endings.Disconnect = refl
+reason_packet_bytes endings.Auth = refl
 
-pub ending_spells : (kind : EndingKind) (code : ℕ) (list : Listed) (body : List ℕ) → IsListed list → valid_ending kind code list ≡ true → SpellsEnd code list.items body → Spells (ending_format kind) body (ending kind code list)
-unfolding valid_ending
-ending_spells kind code list body ok e h =
-    (let parts : (same_place list.place (ending_place kind) ≡ true) × (is_code (ending_codes kind) code ≡ true) = and_parts _ _ e in
-    subst (λ (l : Listed). Spells (ending_format kind) body (ending kind code l)) (listed_is (ending_place kind) list parts.0)
-    (end_spells (ending_codes kind) (ending_bytes kind) (ending_place kind) (ending kind) code list.items body (list_value (ending_place kind) list ok parts.0) parts.1 h))
+pub reason_packet_spells : (kind : ReasonPacketKind) (code : ℕ) (list : Listed) (body : List ℕ) → IsListed list → valid_reason_packet kind code list ≡ true → SpellsEnd code list.items body → Spells (reason_packet_format kind) body (reason_packet kind code list)
+unfolding valid_reason_packet
+reason_packet_spells kind code list body ok e h =
+    (let parts : (same_place list.place (reason_packet_place kind) ≡ true) × (is_code (reason_packet_codes kind) code ≡ true) = and_parts _ _ e in
+    subst (λ (l : Listed). Spells (reason_packet_format kind) body (reason_packet kind code l)) (listed_is (reason_packet_place kind) list parts.0)
+    (end_spells (reason_packet_codes kind) (reason_packet_bytes kind) (reason_packet_place kind) (reason_packet kind) code list.items body (list_value (reason_packet_place kind) list ok parts.0) parts.1 h))

@@ -8,14 +8,14 @@ use Rattle.mq_props.specs.Values.{Property}
 use Rattle.mq_packet.specs.declared.fault.DecodeFault.{DecodeFault}
 use Rattle.mq_packet.specs.declared.packet.PacketType.TheVariants as types
 use Rattle.mq_packet.specs.declared.packet.AcknowledgementKind.TheVariants as acknowledgements
-use Rattle.mq_packet.specs.declared.packet.EndingKind.TheVariants as endings
+use Rattle.mq_packet.specs.declared.packet.ReasonPacketKind.TheVariants as endings
 use Rattle.mq_packet.specs.Entries.{Entry, connect, connack, publish, acknowledgement, request, answer, pingreq, pingresp, disconnect, auth}
 use Rattle.mq_packet.specs.Decoding.{body_start, decoded}
 use Rattle.mq_packet.specs.Spelled.{IsSpelled, DecodesTo}
 use Rattle.mq_packet.specs.Canonical.{type_of, list_spelling, reason_spelling, first_byte_of, acknowledgement_body, disconnect_body, auth_body, canonical_body, canonical}
 use Rattle.mq_packet.specs.Valid.{valid, IsTyped}
 use Rattle.mq_packet.specs.ShortForms.{SpellsEnd, IsBodyOf, IsSpelling, has_short_form, IsShortFor, BeginsWithPacket}
-use Rattle.mq_packet.proofs.EndLaws.{acknowledgement_spells, ending_spells}
+use Rattle.mq_packet.proofs.EndLaws.{acknowledgement_spells, reason_packet_spells}
 use Rattle.mq_packet.proofs.CanonicalLaws.{canonical_spelled}
 use Rattle.mq_packet.proofs.ValidLaws.{spelled_valid}
 use Rattle.mq_packet.proofs.WrittenLaws.{written_cut, written_decoded}
@@ -47,8 +47,8 @@ body_spelled (request kind identifier list filters) body typed e h = as_written 
 body_spelled (answer kind identifier list reasons) body typed e h = as_written (answer kind identifier list reasons) body typed e h
 body_spelled pingreq body typed e h = as_written pingreq body typed e h
 body_spelled pingresp body typed e h = as_written pingresp body typed e h
-body_spelled (disconnect code list) body typed e h = ending_spells endings.Disconnect code list body typed e h
-body_spelled (auth code list) body typed e h = ending_spells endings.Auth code list body typed e h
+body_spelled (disconnect code list) body typed e h = reason_packet_spells endings.Disconnect code list body typed e h
+body_spelled (auth code list) body typed e h = reason_packet_spells endings.Auth code list body typed e h
 
 pub spelling_spelled : (first : ℕ) (body : List ℕ) (entry : Entry) → IsSpelling first body entry → IsSpelled first body entry
 spelling_spelled first body entry h =

@@ -15,12 +15,12 @@ use Rattle.mq_packet.specs.declared.packet.PacketType.{PacketType}
 use Rattle.mq_packet.specs.declared.packet.PacketType.TheVariants as types
 use Rattle.mq_packet.specs.declared.packet.AcknowledgementKind.{AcknowledgementKind}
 use Rattle.mq_packet.specs.declared.packet.AcknowledgementKind.TheVariants as acknowledgements
-use Rattle.mq_packet.specs.declared.packet.EndingKind.TheVariants as endings
+use Rattle.mq_packet.specs.declared.packet.ReasonPacketKind.TheVariants as endings
 use Rattle.mq_packet.specs.declared.packet.RequestKind.{RequestKind}
 use Rattle.mq_packet.specs.declared.packet.RequestKind.TheVariants as requests
 use Rattle.mq_packet.specs.declared.rule.PacketRule.TheVariants as rules
 use Rattle.mq_packet.specs.Entries.{Entry, WillFields, ConnectFields, AskedFilter, listed, none_listed, acknowledgement_place, has_options}
-use Rattle.mq_packet.specs.Formats.{Kind, text, binary, ValueOf, other_version, version_objection, Format, done, rest, all_codes, all_filters, bad_first_byte, field, at_end, field_if, will_if, are_connect_flags, has_bits, qos_of, connect_format, connack_format, publish_from, publish_unacknowledged, publish_acknowledged, publish_format, acknowledgement_format, request_format, answer_format, ending_format, format_of, format_by_type}
+use Rattle.mq_packet.specs.Formats.{Kind, text, binary, ValueOf, other_version, version_objection, Format, done, rest, all_codes, all_filters, bad_first_byte, field, at_end, field_if, will_if, are_connect_flags, has_bits, qos_of, connect_format, connack_format, publish_from, publish_unacknowledged, publish_acknowledged, publish_format, acknowledgement_format, request_format, answer_format, reason_packet_format, format_of, format_by_type}
 use Rattle.mq_packet.specs.Asking.{filters_spelling, AreAsked}
 use Rattle.mq_packet.specs.Spelled.{IsValueOf, spelling, Spells, IsSpelled}
 use Rattle.mq_packet.specs.Canonical.{acknowledgement_type, request_type, answer_type, bit, qos_bits, will_flags, connect_flags, spelling_if, list_spelling, will_spelling, first_byte_of, connect_body, connack_body, publish_body, request_body, answer_body}
@@ -274,7 +274,7 @@ acknowledgement_writes first kind first_is = λ identifier is_identifier _. (
 whole_end : (code : ℕ) (items : List Property) → SpellsEnd code items (code ∷ (list_spelling items ++ []))
 whole_end code items = inl (ap (λ (l : List ℕ). code ∷ l) (append-nil (list_spelling items)))
 
-disconnect_writes : (first : ℕ) → first ≡ 224 → Writes (IsMade first) (ending_format endings.Disconnect) (λ left. left)
+disconnect_writes : (first : ℕ) → first ≡ 224 → Writes (IsMade first) (reason_packet_format endings.Disconnect) (λ left. left)
 disconnect_writes first first_is = (
   record { first_is = first_is; body_is = inr (inr (refl, refl, refl)); typed = nothing places.Disconnect },
   λ code is_code _. (
@@ -283,7 +283,7 @@ disconnect_writes first first_is = (
   ),
 )
 
-auth_writes : (first : ℕ) → first ≡ 240 → Writes (IsMade first) (ending_format endings.Auth) (λ left. left)
+auth_writes : (first : ℕ) → first ≡ 240 → Writes (IsMade first) (reason_packet_format endings.Auth) (λ left. left)
 auth_writes first first_is = (
   record { first_is = first_is; body_is = inr (inr (refl, refl, refl)); typed = nothing places.Auth },
   λ code is_code _. (

@@ -15,16 +15,16 @@ use Rattle.mq_packet.specs.declared.packet.PacketType.{PacketType}
 use Rattle.mq_packet.specs.declared.packet.PacketType.TheVariants as types
 use Rattle.mq_packet.specs.declared.packet.AcknowledgementKind.{AcknowledgementKind}
 use Rattle.mq_packet.specs.declared.packet.AcknowledgementKind.TheVariants as acknowledgements
-use Rattle.mq_packet.specs.declared.packet.EndingKind.TheVariants as endings
+use Rattle.mq_packet.specs.declared.packet.ReasonPacketKind.TheVariants as endings
 use Rattle.mq_packet.specs.declared.packet.RequestKind.{RequestKind}
 use Rattle.mq_packet.specs.declared.packet.RequestKind.TheVariants as requests
 use Rattle.mq_packet.specs.declared.rule.PacketRule.{PacketRule}
 use Rattle.mq_packet.specs.declared.rule.PacketRule.TheVariants as rules
 use Rattle.mq_packet.specs.Entries.{Entry, connect, connack, publish, acknowledgement, request, answer, pingreq, pingresp, disconnect, auth, WillFields, listed, acknowledgement_place, acknowledgement_codes, request_place, answer_place, has_options}
-use Rattle.mq_packet.specs.Formats.{byte, text, binary, properties, Format, done, bad_first_byte, field, at_end, field_if, will_if, is_code, names_topic, has_bits, qos_of, connect_from, connect_format, connack_format, publish_from, publish_unacknowledged, publish_acknowledged, publish_format, acknowledgement_format, request_format, answer_format, ending_format, any_value, code_objection, format_of, format_by_type}
+use Rattle.mq_packet.specs.Formats.{byte, text, binary, properties, Format, done, bad_first_byte, field, at_end, field_if, will_if, is_code, names_topic, has_bits, qos_of, connect_from, connect_format, connack_format, publish_from, publish_unacknowledged, publish_acknowledged, publish_format, acknowledgement_format, request_format, answer_format, reason_packet_format, any_value, code_objection, format_of, format_by_type}
 use Rattle.mq_packet.specs.FirstBytes.{flags_in}
 use Rattle.mq_packet.specs.Spelled.{Spells, IsSpelled}
-use Rattle.mq_packet.specs.Valid.{is_text, is_binary, is_identifier, if_there, fits_qos, valid_will, valid_connect, valid_connack, valid_publish, valid_acknowledgement, valid_filters, valid_request, valid_answer, valid_ending, valid, IsTyped}
+use Rattle.mq_packet.specs.Valid.{is_text, is_binary, is_identifier, if_there, fits_qos, valid_will, valid_connect, valid_connack, valid_publish, valid_acknowledgement, valid_filters, valid_request, valid_answer, valid_reason_packet, valid, IsTyped}
 use Rattle.mq_packet.specs.Canonical.{first_byte_of, canonical_body}
 use Rattle.mq_packet.proofs.CanonicalLaws.{canonical_spelled}
 use Rattle.mq_packet.proofs.RequestLaws.{filters_fit}
@@ -83,12 +83,12 @@ acknowledgement_sound kind bytes entry h =
     (λ code items e. and_from _ _ (same_as_itself (acknowledgement_place kind)) (and_from _ _ known e))
     (success_known kind) h.1 entry h.4)
 
-disconnect_sound : IsSound (ending_format endings.Disconnect)
-unfolding valid_ending
+disconnect_sound : IsSound (reason_packet_format endings.Disconnect)
+unfolding valid_reason_packet
 disconnect_sound = coded_sound disconnect_codes places.Disconnect (λ code items. disconnect code (listed places.Disconnect items)) (λ code items e. e) refl
 
-auth_sound : IsSound (ending_format endings.Auth)
-unfolding valid_ending
+auth_sound : IsSound (reason_packet_format endings.Auth)
+unfolding valid_reason_packet
 auth_sound = coded_sound auth_codes places.Auth (λ code items. auth code (listed places.Auth items)) (λ code items e. e) refl
 
 -- ---- PUBLISH

@@ -11,16 +11,16 @@ use Rattle.mq_packet.specs.declared.packet.PacketType.{PacketType}
 use Rattle.mq_packet.specs.declared.packet.PacketType.TheVariants as types
 use Rattle.mq_packet.specs.declared.packet.AcknowledgementKind.{AcknowledgementKind}
 use Rattle.mq_packet.specs.declared.packet.AcknowledgementKind.TheVariants as acknowledgements
-use Rattle.mq_packet.specs.declared.packet.EndingKind.{EndingKind}
-use Rattle.mq_packet.specs.declared.packet.EndingKind.TheVariants as endings
+use Rattle.mq_packet.specs.declared.packet.ReasonPacketKind.{ReasonPacketKind}
+use Rattle.mq_packet.specs.declared.packet.ReasonPacketKind.TheVariants as endings
 use Rattle.mq_packet.specs.declared.packet.RequestKind.{RequestKind}
 use Rattle.mq_packet.specs.declared.packet.RequestKind.TheVariants as requests
 use Rattle.mq_packet.specs.declared.rule.PacketRule.{PacketRule}
 use Rattle.mq_packet.specs.declared.rule.PacketRule.TheVariants as rules
 use Rattle.mq_packet.specs.declared.fault.DecodeFault.{DecodeFault}
 use Rattle.mq_packet.specs.declared.fault.DecodeFault.TheVariants.{OtherVersion}
-use Rattle.mq_packet.specs.Entries.{Entry, WillFields, acknowledgement_codes, pingreq, pingresp, ending_codes}
-use Rattle.mq_packet.specs.Formats.{Kind, byte, two_bytes, text, binary, properties, ValueOf, Objection, breaks, other_version, unless_broken, name_objection, version_objection, are_connect_flags, connect_flags_objection, is_code, names_topic, is_filter, are_options, filter_objection, options_objection, Format, done, rest, all_codes, all_filters, bad_first_byte, field, at_end, field_if, will_if, has_bits, connect_from, connect_format, connack_format, publish_from, publish_unacknowledged, publish_acknowledged, publish_format, acknowledgement_format, request_format, answer_format, ending_format, format_of, format_by_type}
+use Rattle.mq_packet.specs.Entries.{Entry, WillFields, acknowledgement_codes, pingreq, pingresp, reason_packet_codes}
+use Rattle.mq_packet.specs.Formats.{Kind, byte, two_bytes, text, binary, properties, ValueOf, Objection, breaks, other_version, unless_broken, name_objection, version_objection, are_connect_flags, connect_flags_objection, is_code, names_topic, is_filter, are_options, filter_objection, options_objection, Format, done, rest, all_codes, all_filters, bad_first_byte, field, at_end, field_if, will_if, has_bits, connect_from, connect_format, connack_format, publish_from, publish_unacknowledged, publish_acknowledged, publish_format, acknowledgement_format, request_format, answer_format, reason_packet_format, format_of, format_by_type}
 use Rattle.mq_packet.specs.FirstBytes.{reserved_flags, flags_in, are_flags, first_byte_with}
 use Rattle.mq_packet.specs.Decoding.{objected, body_start, decoded}
 use Rattle.mq_packet.specs.Misspellings.{MisspelledAs}
@@ -146,8 +146,8 @@ request_none kind = λ identifier. (broken_rule (is_identifier identifier) rules
 answer_none : (kind : RequestKind) → HasNoVersion (answer_format kind)
 answer_none kind = λ identifier. (broken_rule (is_identifier identifier) rules.W09, λ list. (tt, tt))
 
-ending_none : (kind : EndingKind) → HasNoVersion (ending_format kind)
-ending_none kind = (tt, λ code. (broken_rule (is_code (ending_codes kind) code) rules.W13, (tt, λ list. (tt, tt))))
+reason_packet_none : (kind : ReasonPacketKind) → HasNoVersion (reason_packet_format kind)
+reason_packet_none kind = (tt, λ code. (broken_rule (is_code (reason_packet_codes kind) code) rules.W13, (tt, λ list. (tt, tt))))
 
 -- ---- CONNECT
 
@@ -211,8 +211,8 @@ module _ (first at : ℕ) (body : List ℕ) (version : ℕ) where
   type_tells types.Unsuback flags is e = none_tells (answer_format requests.Unsubscribe) (answer_none requests.Unsubscribe)
   type_tells types.Pingreq flags is e = none_tells (done pingreq) tt
   type_tells types.Pingresp flags is e = none_tells (done pingresp) tt
-  type_tells types.Disconnect flags is e = none_tells (ending_format endings.Disconnect) (ending_none endings.Disconnect)
-  type_tells types.Auth flags is e = none_tells (ending_format endings.Auth) (ending_none endings.Auth)
+  type_tells types.Disconnect flags is e = none_tells (reason_packet_format endings.Disconnect) (reason_packet_none endings.Disconnect)
+  type_tells types.Auth flags is e = none_tells (reason_packet_format endings.Auth) (reason_packet_none endings.Auth)
 
   format_tells : Tells (format_of first)
   format_tells =

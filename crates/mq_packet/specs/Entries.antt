@@ -7,8 +7,8 @@ use Rattle.mq_props.specs.Listed.{Listed}
 use Rattle.mq_packet.specs.declared.packet.Qos.{Qos}
 use Rattle.mq_packet.specs.declared.packet.AcknowledgementKind.{AcknowledgementKind}
 use Rattle.mq_packet.specs.declared.packet.AcknowledgementKind.TheVariants as acknowledgements
-use Rattle.mq_packet.specs.declared.packet.EndingKind.{EndingKind}
-use Rattle.mq_packet.specs.declared.packet.EndingKind.TheVariants as endings
+use Rattle.mq_packet.specs.declared.packet.ReasonPacketKind.{ReasonPacketKind}
+use Rattle.mq_packet.specs.declared.packet.ReasonPacketKind.TheVariants as endings
 use Rattle.mq_packet.specs.declared.packet.RequestKind.{RequestKind}
 use Rattle.mq_packet.specs.declared.packet.RequestKind.TheVariants as requests
 use Rattle.mq_packet.specs.ReasonCodes.{puback_codes, pubrec_codes, pubrel_codes, pubcomp_codes, suback_codes, unsuback_codes, disconnect_codes, auth_codes}
@@ -103,14 +103,14 @@ has_options requests.Unsubscribe = false
 
 -- DISCONNECT and AUTH, which have the same fields, the places of their property lists, and their Reason Codes (3.14.2.1,
 -- 3.15.2.1).
-abbrev pub ending : EndingKind → ℕ → Listed → Entry
-ending endings.Disconnect code properties = disconnect code properties
-ending endings.Auth code properties = auth code properties
+abbrev pub reason_packet : ReasonPacketKind → ℕ → Listed → Entry
+reason_packet endings.Disconnect code properties = disconnect code properties
+reason_packet endings.Auth code properties = auth code properties
 
-abbrev pub ending_place : EndingKind → Place
-ending_place endings.Disconnect = places.Disconnect
-ending_place endings.Auth = places.Auth
+abbrev pub reason_packet_place : ReasonPacketKind → Place
+reason_packet_place endings.Disconnect = places.Disconnect
+reason_packet_place endings.Auth = places.Auth
 
-abbrev pub ending_codes : EndingKind → List ℕ
-ending_codes endings.Disconnect = disconnect_codes
-ending_codes endings.Auth = auth_codes
+abbrev pub reason_packet_codes : ReasonPacketKind → List ℕ
+reason_packet_codes endings.Disconnect = disconnect_codes
+reason_packet_codes endings.Auth = auth_codes

@@ -14,8 +14,8 @@ use Rattle.mq_packet.specs.declared.packet.Qos.{Qos}
 use Rattle.mq_packet.specs.declared.packet.Qos.TheVariants.{AtMostOnce, AtLeastOnce, ExactlyOnce}
 use Rattle.mq_packet.specs.declared.packet.AcknowledgementKind.{AcknowledgementKind}
 use Rattle.mq_packet.specs.declared.packet.AcknowledgementKind.TheVariants as acknowledgements
-use Rattle.mq_packet.specs.declared.packet.EndingKind.{EndingKind}
-use Rattle.mq_packet.specs.declared.packet.EndingKind.TheVariants as endings
+use Rattle.mq_packet.specs.declared.packet.ReasonPacketKind.{ReasonPacketKind}
+use Rattle.mq_packet.specs.declared.packet.ReasonPacketKind.TheVariants as endings
 use Rattle.mq_packet.specs.declared.packet.RequestKind.{RequestKind}
 use Rattle.mq_packet.specs.declared.packet.RequestKind.TheVariants as requests
 use Rattle.mq_packet.specs.declared.packet.PacketType.{PacketType}
@@ -23,7 +23,7 @@ use Rattle.mq_packet.specs.declared.packet.PacketType.TheVariants as types
 use Rattle.mq_packet.specs.declared.rule.PacketRule.{PacketRule}
 use Rattle.mq_packet.specs.declared.rule.PacketRule.TheVariants as rules
 use Rattle.mq_packet.specs.FirstBytes.{reserved_flags, type_in, flags_in, are_flags}
-use Rattle.mq_packet.specs.Entries.{Entry, connect, connack, publish, acknowledgement, request, answer, pingreq, pingresp, WillFields, AskedFilter, listed, none_listed, acknowledgement_place, acknowledgement_codes, request_place, answer_place, answer_codes, has_options, ending, ending_place, ending_codes}
+use Rattle.mq_packet.specs.Entries.{Entry, connect, connack, publish, acknowledgement, request, answer, pingreq, pingresp, WillFields, AskedFilter, listed, none_listed, acknowledgement_place, acknowledgement_codes, request_place, answer_place, answer_codes, has_options, reason_packet, reason_packet_place, reason_packet_codes}
 
 -- The kinds of field: a byte, a Two Byte Integer (1.5.2), a UTF-8 Encoded String (1.5.4), Binary Data (1.5.6), and the
 -- property list of a place (2.2.2).
@@ -236,11 +236,11 @@ answer_format kind =
     all_codes (answer_codes kind) (answer kind identifier (listed (answer_place kind) list))))
 
 -- DISCONNECT (3.14) and AUTH (3.15): an empty one has the Reason Code 0x00; if one ends after its code, it has no properties.
-abbrev pub ending_format : EndingKind → Format
-ending_format kind =
-    at_end (done (ending kind 0 (none_listed (ending_place kind))))
-    (field byte (code_objection (ending_codes kind)) (λ code.
-    last_properties (ending_place kind) (ending kind code)))
+abbrev pub reason_packet_format : ReasonPacketKind → Format
+reason_packet_format kind =
+    at_end (done (reason_packet kind 0 (none_listed (reason_packet_place kind))))
+    (field byte (code_objection (reason_packet_codes kind)) (λ code.
+    last_properties (reason_packet_place kind) (reason_packet kind code)))
 
 -- The format of a packet of this type with these flags (2.1.2, 2.1.3).
 abbrev pub format_by_type : PacketType → ℕ → Format
@@ -257,8 +257,8 @@ format_by_type types.Unsubscribe flags = request_format requests.Unsubscribe
 format_by_type types.Unsuback flags = answer_format requests.Unsubscribe
 format_by_type types.Pingreq flags = done pingreq
 format_by_type types.Pingresp flags = done pingresp
-format_by_type types.Disconnect flags = ending_format endings.Disconnect
-format_by_type types.Auth flags = ending_format endings.Auth
+format_by_type types.Disconnect flags = reason_packet_format endings.Disconnect
+format_by_type types.Auth flags = reason_packet_format endings.Auth
 
 -- The same, if there is such a type and it may have these flags; else the first byte breaks a rule.
 abbrev pub format_by : Option PacketType → ℕ → Format

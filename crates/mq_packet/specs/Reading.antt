@@ -13,8 +13,8 @@ use Rattle.mq_packet.specs.declared.packet.Connect.{Connect}
 use Rattle.mq_packet.specs.declared.packet.Publish.{Publish}
 use Rattle.mq_packet.specs.declared.packet.AcknowledgementKind.TheVariants as acknowledgements
 use Rattle.mq_packet.specs.declared.packet.RequestKind.TheVariants as requests
-use Rattle.mq_packet.specs.declared.stop.Stop.{Stop}
-use Rattle.mq_packet.specs.declared.stop.Stop.TheVariants as stops
+use Rattle.mq_packet.specs.declared.read_fault.ReadFault.{ReadFault}
+use Rattle.mq_packet.specs.declared.read_fault.ReadFault.TheVariants as stops
 use Rattle.mq_packet.specs.Entries.{Entry, WillFields, ConnectFields, PublishFields, connect, connack, publish, acknowledgement, request, answer, pingreq, pingresp, disconnect, auth}
 use Rattle.mq_packet.specs.Formats.{Format}
 use Rattle.mq_packet.specs.Decoding.{broken, rule_of, list_rule, read}
@@ -73,30 +73,30 @@ abbrev pub HasReadLen : ℕ → Packet → Type 0
 HasReadLen len packet = read_len_of packet ≡ kept_len len (view packet)
 
 -- Why a misspelled field stops the reading.
-abbrev pub misspelled : WireFault → Stop
+abbrev pub misspelled : WireFault → ReadFault
 misspelled fault = stops.Broken fault.at (rule_of fault.reason)
 
 -- Why an invalid field of a property list stops it.
-abbrev pub bad_list : PropFault → Stop
+abbrev pub bad_list : PropFault → ReadFault
 bad_list fault = stops.Broken fault.at (list_rule fault.reason)
 
 -- The fault of a packet whose reading stops.
-abbrev pub decode_fault : Stop → DecodeFault
+abbrev pub decode_fault : ReadFault → DecodeFault
 decode_fault (stops.Broken at rule) = broken at rule
 decode_fault (stops.OtherVersion version) = OtherVersion version
 
 -- A reader of a field returns what is read, with the cursor past it; or why the reading stops.
-abbrev pub ReadsField : {X Y : Type 0} → (X → Y) → Result X Stop → Result (Y × Left) DecodeFault → Left → Type 0
+abbrev pub ReadsField : {X Y : Type 0} → (X → Y) → Result X ReadFault → Result (Y × Left) DecodeFault → Left → Type 0
 ReadsField see (Ok x) read new = read ≡ Ok (see x, new)
 ReadsField see (Err stop) read new = read ≡ Err (decode_fault stop)
 
 -- A reader of a part of a format returns what the part is, with the cursor past it: what follows is read there, given what the
 -- part is. Or it returns why the reading stops, whatever follows.
-abbrev pub TakesPart : {X Y : Type 0} → (X → Y) → Result X Stop → ((Y → Format) → Format) → Left → Left → Type 0
+abbrev pub TakesPart : {X Y : Type 0} → (X → Y) → Result X ReadFault → ((Y → Format) → Format) → Left → Left → Type 0
 TakesPart {X} {Y} see (Ok x) part old new = (next : Y → Format) → read (part next) old ≡ read (next (see x)) new
 TakesPart {X} {Y} see (Err stop) part old new = (next : Y → Format) → read (part next) old ≡ Err (decode_fault stop)
 
 -- A reader of all that is left returns it as a packet or a list, or why the reading stops.
-abbrev pub Reads : {X Y : Type 0} → (X → Y) → Result X Stop → Result Y DecodeFault → Type 0
+abbrev pub Reads : {X Y : Type 0} → (X → Y) → Result X ReadFault → Result Y DecodeFault → Type 0
 Reads see (Ok x) read = read ≡ Ok (see x)
 Reads see (Err stop) read = read ≡ Err (decode_fault stop)

@@ -13,10 +13,10 @@ use Rattle.mq_packet.specs.ReasonCodes.{connack_codes}
 use Rattle.mq_packet.specs.declared.packet.Qos.{Qos}
 use Rattle.mq_packet.specs.declared.packet.Qos.TheVariants.{AtMostOnce, AtLeastOnce, ExactlyOnce}
 use Rattle.mq_packet.specs.declared.packet.AcknowledgementKind.{AcknowledgementKind}
-use Rattle.mq_packet.specs.declared.packet.EndingKind.{EndingKind}
-use Rattle.mq_packet.specs.declared.packet.EndingKind.TheVariants as endings
+use Rattle.mq_packet.specs.declared.packet.ReasonPacketKind.{ReasonPacketKind}
+use Rattle.mq_packet.specs.declared.packet.ReasonPacketKind.TheVariants as endings
 use Rattle.mq_packet.specs.declared.packet.RequestKind.{RequestKind}
-use Rattle.mq_packet.specs.Entries.{Entry, connect, connack, publish, acknowledgement, request, answer, pingreq, pingresp, disconnect, auth, WillFields, ConnectFields, PublishFields, AskedFilter, acknowledgement_place, acknowledgement_codes, request_place, answer_place, answer_codes, has_options, ending_place, ending_codes}
+use Rattle.mq_packet.specs.Entries.{Entry, connect, connack, publish, acknowledgement, request, answer, pingreq, pingresp, disconnect, auth, WillFields, ConnectFields, PublishFields, AskedFilter, acknowledgement_place, acknowledgement_codes, request_place, answer_place, answer_codes, has_options, reason_packet_place, reason_packet_codes}
 use Rattle.mq_packet.specs.Formats.{is_code, names_topic, is_filter, are_options}
 
 -- A text has at most 65,535 bytes, and no U+0000 (1.5.4).
@@ -94,8 +94,8 @@ valid_answer kind identifier list reasons =
     same_place list.place (answer_place kind) && (is_identifier identifier && list_all (is_code (answer_codes kind)) reasons)
 
 -- DISCONNECT (3.14) and AUTH (3.15).
-unfoldable pub valid_ending : EndingKind → ℕ → Listed → Bool
-valid_ending kind code list = same_place list.place (ending_place kind) && is_code (ending_codes kind) code
+unfoldable pub valid_reason_packet : ReasonPacketKind → ℕ → Listed → Bool
+valid_reason_packet kind code list = same_place list.place (reason_packet_place kind) && is_code (reason_packet_codes kind) code
 
 -- Some bytes spell the packet.
 abbrev pub valid : Entry → Bool
@@ -107,8 +107,8 @@ valid (request kind identifier list filters) = valid_request kind identifier lis
 valid (answer kind identifier list reasons) = valid_answer kind identifier list reasons
 valid pingreq = true
 valid pingresp = true
-valid (disconnect code list) = valid_ending endings.Disconnect code list
-valid (auth code list) = valid_ending endings.Auth code list
+valid (disconnect code list) = valid_reason_packet endings.Disconnect code list
+valid (auth code list) = valid_reason_packet endings.Auth code list
 
 -- What the types of the fields say of any packet, valid or not: a property list is valid in its own place and isn't longer than
 -- a length can say, a text is UTF-8, and a number has its width.

@@ -8,7 +8,7 @@ ghost use Rattle.mq_wire.specs.Left.{Gives};
 ghost use Rattle.mq_packet.specs.declared.fault.DecodeFault.{DecodeFault};
 ghost use Rattle.mq_packet.specs.declared.packet.Packet.TheVariants as packets;
 ghost use Rattle.mq_packet.specs.declared.rule.PacketRule.{PacketRule};
-ghost use Rattle.mq_packet.specs.declared.stop.Stop.TheVariants as stops;
+ghost use Rattle.mq_packet.specs.declared.read_fault.ReadFault.TheVariants as stops;
 ghost use Rattle.mq_packet.specs.Entries.{Entry};
 ghost use Rattle.mq_packet.specs.Decoding.{decoded};
 ghost use Rattle.mq_packet.specs.Spelled.{IsSpelled, HasFault, DecodesTo};
@@ -19,8 +19,8 @@ use crate::fault::{BodyFault, DecodeFault};
 use crate::first_bytes::flags;
 use crate::header::header_len;
 use crate::packet::{Packet, Publish};
+use crate::read_fault::ReadFault;
 use crate::reading::{read_packet, read_publish};
-use crate::stop::Stop;
 use mq_wire::Cursor;
 
 /// The packet that has this first byte, its type and flags, and this body, which is all that follows the Remaining Length
@@ -91,15 +91,15 @@ fn read_publish_body<'a>(first: u8, body: &'a [u8]) -> Result<Publish<'a>, Decod
 
 // The fault of a packet whose reading stops for this reason. No offset is past the end of the largest packet.
 #[inline(always)]
-fn fault_of(stop: Stop) -> DecodeFault
+fn fault_of(stop: ReadFault) -> DecodeFault
     requires { (at : ℕ) (rule : PacketRule) → stop ≡ stops.Broken at rule → at ≤ 268435460 }
     ensures { result ≡ decode_fault stop }
 {
     match stop {
-        Stop::Broken { at, rule } => DecodeFault::Broken(BodyFault {
+        ReadFault::Broken { at, rule } => DecodeFault::Broken(BodyFault {
             at: at as u32,
             rule,
         }),
-        Stop::OtherVersion(version) => DecodeFault::OtherVersion(version),
+        ReadFault::OtherVersion(version) => DecodeFault::OtherVersion(version),
     }
 }

@@ -62,7 +62,7 @@ impl<'a> Filters<'a> {
     }
 
     // The filters of bytes that are those of a body.
-    pub(crate) fn checked(bytes: &'a [u8], options: bool) -> Filters<'a>
+    pub(crate) fn from_checked(bytes: &'a [u8], options: bool) -> Filters<'a>
         requires { AreFilters options bytes.now }
         ensures { result ≡ filters_in options bytes.entry.now }
     {

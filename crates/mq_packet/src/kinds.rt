@@ -2,12 +2,12 @@
 //! and whether their filters have options.
 
 ghost use Rattle.std.specs.Prelude.{◌≡◌};
-ghost use Rattle.mq_packet.specs.Entries.{acknowledgement_place, acknowledgement_codes, request_place, has_options, answer_place, answer_codes, ending_place, ending_codes};
+ghost use Rattle.mq_packet.specs.Entries.{acknowledgement_place, acknowledgement_codes, request_place, has_options, answer_place, answer_codes, reason_packet_place, reason_packet_codes};
 
 use crate::codes::{
     AUTH_CODES, DISCONNECT_CODES, PUBACK_CODES, PUBREL_CODES, SUBACK_CODES, UNSUBACK_CODES,
 };
-use crate::packet::{AcknowledgementKind, EndingKind, RequestKind};
+use crate::packet::{AcknowledgementKind, ReasonPacketKind, RequestKind};
 use mq_props::Place;
 
 impl AcknowledgementKind {
@@ -78,24 +78,24 @@ impl RequestKind {
     }
 }
 
-impl EndingKind {
+impl ReasonPacketKind {
     /// The place of the property list.
     pub fn place(self) -> Place
-        ensures { result ≡ ending_place self }
+        ensures { result ≡ reason_packet_place self }
     {
         match self {
-            EndingKind::Disconnect => Place::Disconnect,
-            EndingKind::Auth => Place::Auth,
+            ReasonPacketKind::Disconnect => Place::Disconnect,
+            ReasonPacketKind::Auth => Place::Auth,
         }
     }
 
     /// The Reason Codes (MQTT 5.0, sections 3.14.2.1 and 3.15.2.1).
     pub fn codes(self) -> &'static [u8]
-        ensures { result.now ≡ ending_codes self }
+        ensures { result.now ≡ reason_packet_codes self }
     {
         match self {
-            EndingKind::Disconnect => &DISCONNECT_CODES,
-            EndingKind::Auth => &AUTH_CODES,
+            ReasonPacketKind::Disconnect => &DISCONNECT_CODES,
+            ReasonPacketKind::Auth => &AUTH_CODES,
         }
     }
 }

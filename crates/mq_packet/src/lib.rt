@@ -19,11 +19,11 @@ mod laws;
 mod outcome_laws;
 mod packet;
 mod protocol;
+mod read_fault;
 mod reading;
 mod reason_codes;
 mod rule;
 mod spelling_laws;
-mod stop;
 mod validity;
 mod writing;
 
@@ -37,8 +37,8 @@ pub use header::{FixedHeader, fixed_header};
 pub use laws::{each_body_comes_to_one_thing, the_front_of_a_stream_stays};
 pub use outcome_laws::{other_versions_are_named_first, packet_fault_or_other_version};
 pub use packet::{
-    Acknowledgement, Answer, Connack, Connect, Ending, Packet, PacketType, Publish, Qos, Request,
-    Will,
+    Acknowledgement, Answer, Connack, Connect, Packet, PacketType, Publish, Qos, ReasonPacket,
+    Request, Will,
 };
 pub use reason_codes::{Codes, CodesIter};
 pub use rule::PacketRule;

@@ -117,7 +117,7 @@ pub struct Answer<'a> {
 
 /// DISCONNECT or AUTH (MQTT 5.0, sections 3.14 and 3.15).
 #[derive(Debug, Drop)]
-pub struct Ending<'a> {
+pub struct ReasonPacket<'a> {
     /// The Reason Code: one of the packet's.
     pub code: u8,
     /// The properties.
@@ -156,9 +156,9 @@ pub enum Packet<'a> {
     /// The answer to a PINGREQ.
     Pingresp,
     /// The connection's end is announced.
-    Disconnect(Ending<'a>),
+    Disconnect(ReasonPacket<'a>),
     /// A step of authentication.
-    Auth(Ending<'a>),
+    Auth(ReasonPacket<'a>),
 }
 
 /// The type of a Control Packet, by its number (MQTT 5.0, section 2.1.2).
@@ -220,7 +220,7 @@ pub enum RequestKind {
 
 /// The two packets that have only a Reason Code and properties (MQTT 5.0, sections 3.14 and 3.15).
 #[derive(Clone, Copy, Debug, PartialEq, Eq)]
-pub enum EndingKind {
+pub enum ReasonPacketKind {
     /// DISCONNECT.
     Disconnect,
     /// AUTH.

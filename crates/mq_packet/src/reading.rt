@@ -4,10 +4,10 @@ mod acknowledgement;
 mod answer;
 mod connack;
 mod connect;
-mod ending;
 mod fields;
 mod lists;
 mod publish;
+mod reason_packet;
 mod request;
 
 ghost use Rattle.std.specs.Prelude.{◌≡◌, ◌≢◌, ◌<◌, ◌≤◌, ◌⊎◌, IfOk};
@@ -19,25 +19,25 @@ use crate::first_bytes::{
     AUTH, CONNACK, CONNECT, DISCONNECT, PINGREQ, PINGRESP, PUBACK, PUBCOMP, PUBLISH, PUBREC,
     PUBREL, SUBACK, SUBSCRIBE, UNSUBACK, UNSUBSCRIBE, flags,
 };
-use crate::packet::{AcknowledgementKind, EndingKind, Packet, RequestKind};
+use crate::packet::{AcknowledgementKind, Packet, ReasonPacketKind, RequestKind};
+use crate::read_fault::ReadFault;
 use crate::rule::PacketRule;
-use crate::stop::Stop;
 use acknowledgement::read_acknowledgement;
 pub use answer::read_answer;
 use connack::read_connack;
 use connect::read_connect;
-use ending::read_ending;
 use fields::whole;
 pub use lists::check_filters;
 use mq_wire::Cursor;
 pub use publish::{names_topic, read_publish};
+use reason_packet::read_reason_packet;
 pub use request::read_request;
 
 /// The packet with this first byte, whose body, of this size, is left in the cursor; or why reading it stops. Each type has one
 /// first byte, except PUBLISH, which has flags of its own (MQTT 5.0, sections 2.1.2 and 2.1.3). A packet that has several
 /// spellings keeps the size (MQTT 5.0, sections 3.4 to 3.7, 3.14 and 3.15).
 #[inline(always)]
-pub fn read_packet<'a>(first: u8, cursor: Cursor<'a>, size: usize) -> Result<Packet<'a>, Stop>
+pub fn read_packet<'a>(first: u8, cursor: Cursor<'a>, size: usize) -> Result<Packet<'a>, ReadFault>
     requires bound { size ≤ 268435455 }
     ensures read { Reads view result (read (format_of first) cursor.entry) }
     ensures read_len { IfOk result (λ packet. HasReadLen size packet) }
@@ -64,7 +64,7 @@ pub fn read_packet<'a>(first: u8, cursor: Cursor<'a>, size: usize) -> Result<Pac
 // The same for all packets except PUBLISH and its acknowledgements. It is a function of its own, so that reading those takes no
 // stack for its packets.
 #[inline(never)]
-fn read_other<'a>(first: u8, cursor: Cursor<'a>, size: usize) -> Result<Packet<'a>, Stop>
+fn read_other<'a>(first: u8, cursor: Cursor<'a>, size: usize) -> Result<Packet<'a>, ReadFault>
     requires bound { size ≤ 268435455 }
     requires publish { (first < 48) ⊎ (64 ≤ first) }
     requires acknowledgement { (first ≢ 64) × (first ≢ 80) × (first ≢ 98) × (first ≢ 112) }
@@ -80,16 +80,18 @@ fn read_other<'a>(first: u8, cursor: Cursor<'a>, size: usize) -> Result<Packet<'
         UNSUBACK => read_answer(cursor, RequestKind::Unsubscribe).map(Packet::Unsuback),
         PINGREQ => whole(cursor, Packet::Pingreq),
         PINGRESP => whole(cursor, Packet::Pingresp),
-        DISCONNECT => read_ending(cursor, EndingKind::Disconnect, size).map(Packet::Disconnect),
-        AUTH => read_ending(cursor, EndingKind::Auth, size).map(Packet::Auth),
-        0x00..CONNECT => Err(refused(PacketRule::W02)),
-        _ => Err(refused(PacketRule::W01)),
+        DISCONNECT => read_reason_packet(cursor, ReasonPacketKind::Disconnect, size).map(
+            Packet::Disconnect,
+        ),
+        AUTH => read_reason_packet(cursor, ReasonPacketKind::Auth, size).map(Packet::Auth),
+        0x00..CONNECT => Err(broken_first_byte(PacketRule::W02)),
+        _ => Err(broken_first_byte(PacketRule::W01)),
     }
 }
 
 // The first byte breaks the rule.
-fn refused(rule: PacketRule) -> Stop
-    ensures { result ≡ Stop.Broken 0 rule }
+fn broken_first_byte(rule: PacketRule) -> ReadFault
+    ensures { result ≡ ReadFault.Broken 0 rule }
 {
-    Stop::Broken { at: 0, rule }
+    ReadFault::Broken { at: 0, rule }
 }

@@ -7,14 +7,14 @@ ghost use Rattle.mq_props.specs.Table.{place_number, same_place};
 ghost use Rattle.mq_packet.specs.Spelled.{IsSpelled};
 ghost use Rattle.mq_packet.specs.Formats.{is_code};
 ghost use Rattle.mq_packet.specs.Reading.{view, will_view};
-ghost use Rattle.mq_packet.specs.Valid.{is_text, is_binary, if_there, fits_qos, valid_will, valid_acknowledgement, valid_filters, valid_request, valid_answer, valid_ending, valid};
+ghost use Rattle.mq_packet.specs.Valid.{is_text, is_binary, if_there, fits_qos, valid_will, valid_acknowledgement, valid_filters, valid_request, valid_answer, valid_reason_packet, valid};
 
 use crate::codes::{CONNACK_CODES, is_code};
 use crate::facts::packet_facts;
 use crate::filters::Filters;
 use crate::packet::{
-    Acknowledgement, AcknowledgementKind, Answer, Connack, Connect, Ending, EndingKind, Packet,
-    Publish, Qos, Request, RequestKind, Will,
+    Acknowledgement, AcknowledgementKind, Answer, Connack, Connect, Packet, Publish, Qos,
+    ReasonPacket, ReasonPacketKind, Request, RequestKind, Will,
 };
 use crate::reading::names_topic;
 use mq_props::{Place, Props};
@@ -126,9 +126,9 @@ fn is_publish(packet: &Publish<'_>) -> bool
         && names_topic(packet.topic, &packet.properties)
 }
 
-#[tactic(auto, unfolding(crate::specs::Valid::valid_ending))]
-fn is_ending(kind: EndingKind, packet: &Ending<'_>) -> bool
-    ensures { result ≡ valid_ending kind packet.now.code packet.now.properties }
+#[tactic(auto, unfolding(crate::specs::Valid::valid_reason_packet))]
+fn is_reason_packet(kind: ReasonPacketKind, packet: &ReasonPacket<'_>) -> bool
+    ensures { result ≡ valid_reason_packet kind packet.now.code packet.now.properties }
 {
     stands_in(&packet.properties, kind.place()) && is_code(kind.codes(), packet.code)
 }
@@ -184,8 +184,8 @@ fn passes(packet: &Packet<'_>) -> bool
         Packet::Unsubscribe(packet) => is_request(RequestKind::Unsubscribe, packet),
         Packet::Unsuback(packet) => is_answer(RequestKind::Unsubscribe, packet),
         Packet::Pingreq | Packet::Pingresp => true,
-        Packet::Disconnect(packet) => is_ending(EndingKind::Disconnect, packet),
-        Packet::Auth(packet) => is_ending(EndingKind::Auth, packet),
+        Packet::Disconnect(packet) => is_reason_packet(ReasonPacketKind::Disconnect, packet),
+        Packet::Auth(packet) => is_reason_packet(ReasonPacketKind::Auth, packet),
     }
 }
 

@@ -21,7 +21,7 @@ use Rattle.mq_rules.specs.Connections.{IsInOrder, latest_fate, accepts}
 use Rattle.mq_rules.specs.Rules.{binds, same_rule}
 use Rattle.mq_rules.specs.Statements.{statement, in_session, at_release}
 use Rattle.mq_rules.specs.Steps.{turns, JudgedAtOnce}
-use Rattle.mq_rules.specs.Marks.{FaultMap, fault_at, judged}
+use Rattle.mq_rules.specs.FaultKeys.{FaultMap, fault_at, judged}
 use Rattle.mq_rules.specs.Faults.{offset_of, reported}
 use Rattle.mq_rules.specs.Keeping.{news, GrowsBy, GrowsByWithin}
 use Rattle.mq_rules.proofs.Exports.{and_false, or-turn, option_or-none, fault_at-judged, latest_fate-next, in_order-turns, in_order-releases}
@@ -79,25 +79,25 @@ at_once : (tested : Tested) (rule r : Rule) (e : Seen) (past : List Seen) (broke
 at_once tested rule r e past broken old k placed at_newest plain =
     fault_at-judged old broken rule r e.place k ∙ ap (option_or (fault_at old k r)) (go (same_rule r rule) refl)
   where
-    told : ℕ → Fault
-    told n = record { decided = n; record_no = e.place.record_no; offset = None }
+    fault_shown : ℕ → Fault
+    fault_shown n = record { decided = n; record_no = e.place.record_no; offset = None }
 
-    none : (b : Bool) → ◌≡◌ {A = Option Fault} (cond (b && false) (Some (told k)) None) None
-    none b = ap (λ c. cond c (Some (told k)) None) (and_false b)
+    none : (b : Bool) → ◌≡◌ {A = Option Fault} (cond (b && false) (Some (fault_shown k)) None) None
+    none b = ap (λ c. cond c (Some (fault_shown k)) None) (and_false b)
 
-    same : (t b : Bool) → (k == length past + 1) ≡ t → cond (t && b) (Some (told k)) None ≡ cond (t && b) (Some (reported tested.role (cond t (Some (newest e past)) (moment past k)) rule (length past + 1))) None
+    same : (t b : Bool) → (k == length past + 1) ≡ t → cond (t && b) (Some (fault_shown k)) None ≡ cond (t && b) (Some (reported tested.role (cond t (Some (newest e past)) (moment past k)) rule (length past + 1))) None
     same false b at = refl
     same true false at = refl
     same true true at =
-        ap (λ n. Some (told n)) (eqb-true k (length past + 1) at)
+        ap (λ n. Some (fault_shown n)) (eqb-true k (length past + 1) at)
         ∙ ap (λ o. Some (record { decided = length past + 1; record_no = e.place.record_no; offset = o })) (sym (plain (Some (newest e past))))
 
     go : (s : Bool) → same_rule r rule ≡ s
-        → cond ((k == e.place.position) && (s && broken)) (Some (told k)) None
+        → cond ((k == e.place.position) && (s && broken)) (Some (fault_shown k)) None
         ≡ cond s (cond (turns tested e past k r) (Some (reported tested.role (moment (e ∷ past) k) r (length past + 1))) None) None
     go false is = none (k == e.place.position)
     go true is =
-        ap (λ p. cond ((k == p) && broken) (Some (told k)) None) placed
+        ap (λ p. cond ((k == p) && broken) (Some (fault_shown k)) None) placed
         ∙ same (k == length past + 1) broken refl
         ∙ ap (λ b. cond b (Some (reported tested.role (moment (e ∷ past) k) rule (length past + 1))) None) (sym (at_newest k))
         ∙ ap (λ r. cond (turns tested e past k r) (Some (reported tested.role (moment (e ∷ past) k) r (length past + 1))) None) (sym (same_true the_type tt r rule is))

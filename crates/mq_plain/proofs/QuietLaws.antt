@@ -30,7 +30,7 @@ use Rattle.mq_rules.specs.Identifiers.{taken_by, breaks_S01, breaks_S02, breaks_
 use Rattle.mq_rules.specs.Exchanges.{breaks_A, breaks_O, breaks_E7R, shows_R}
 use Rattle.mq_rules.specs.Releases.{breaks_L1, breaks_L2, breaks_L3}
 use Rattle.mq_rules.specs.Subscriptions.{breaks_B01, breaks_B02, breaks_B03, breaks_B04}
-use Rattle.mq_rules.specs.Marks.{FaultMap, fault_at}
+use Rattle.mq_rules.specs.FaultKeys.{FaultMap, fault_at}
 use Rattle.mq_rules.specs.Faults.{reported}
 use Rattle.mq_rules.specs.Keeping.{GrowsBy}
 use Rattle.mq_rules.proofs.Exports.{and_false, or_false, both_true, option_or-none, in_order-turns, in_order-releases}

@@ -18,7 +18,7 @@ use Rattle.mq_rules.specs.Connections.{is_binding}
 use Rattle.mq_rules.specs.Rules.{binds, same_rule}
 use Rattle.mq_rules.specs.Statements.{statement, at_rest}
 use Rattle.mq_rules.specs.Steps.{shows, turns}
-use Rattle.mq_rules.specs.Marks.{FaultMap, fault_at, with_fault}
+use Rattle.mq_rules.specs.FaultKeys.{FaultMap, fault_at, with_fault}
 use Rattle.mq_rules.specs.Faults.{record_of, offset_of, reported}
 use Rattle.mq_rules.specs.Keeping.{news, GrowsBy, GrowsByWithin}
 use Rattle.mq_rules.proofs.Exports.{and_false, option_or-none, same_test, fault_at-with_fault, moment-stays}
@@ -114,12 +114,12 @@ news-rest tested rule tells e past k r says = go (same_rule r rule) refl
     judged : Bool
     judged = binds rule tested && is_binding tested.role (newest e past)
 
-    told : (o : Option Moment) → moment past k ≡ o → (b : Bool)
+    fault_shown : (o : Option Moment) → moment past k ≡ o → (b : Bool)
         → cond (b && is_some_and test o) (Some (record { decided = length past + 1; record_no = record_of (moment (e ∷ past) k); offset = None })) None
         ≡ cond {A = Option Fault} (b && is_some_and test o) (Some (record { decided = length past + 1; record_no = record_of o; offset = None })) None
-    told None at true = refl
-    told None at false = refl
-    told (Some m) at b = ap (λ x. cond {A = Option Fault} (b && test m) (Some (record { decided = length past + 1; record_no = record_of x; offset = None })) None) (moment-stays e past k m at)
+    fault_shown None at true = refl
+    fault_shown None at false = refl
+    fault_shown (Some m) at b = ap (λ x. cond {A = Option Fault} (b && test m) (Some (record { decided = length past + 1; record_no = record_of x; offset = None })) None) (moment-stays e past k m at)
 
     go : (s : Bool) → same_rule r rule ≡ s
         → cond (s && turns tested e past k r) (Some (reported tested.role (moment (e ∷ past) k) r (length past + 1))) None ≡ cond s (shown_fault judged test past k) None
@@ -130,7 +130,7 @@ news-rest tested rule tells e past k r says = go (same_rule r rule) refl
         ∙ ap (λ s. cond {A = Option Fault} (binds rule tested && shows tested.role s e past k) (Some (record { decided = length past + 1; record_no = record_of (moment (e ∷ past) k); offset = offset_of s (moment (e ∷ past) k) })) None) says
         ∙ ap (λ t. cond {A = Option Fault} t (Some (record { decided = length past + 1; record_no = record_of (moment (e ∷ past) k); offset = None })) None)
         (and-last (binds rule tested) (is_binding tested.role (newest e past)) (is_some_and test (moment past k)))
-        ∙ told (moment past k) refl judged
+        ∙ fault_shown (moment past k) refl judged
 
 -- where it isn't judged, or the event is no REST that binds, nothing is added
 pub rest-none : (tested : Tested) (rule : Rule) (tells : Moment → Moment → Bool) (e : Seen) (past : List Seen) (faults : FaultMap) → statement tested.role rule ≡ at_rest tells

@@ -5,7 +5,7 @@ use Rattle.mq_trace.specs.declared.place.Place3.{Place3}
 use Rattle.mq_rules.specs.declared.rule.Rule.{Rule}
 use Rattle.mq_rules.specs.declared.fault.Fault.{Fault}
 use Rattle.mq_rules.specs.Rules.{same_rule}
-use Rattle.mq_rules.specs.Marks.{FaultMap, fault_at}
+use Rattle.mq_rules.specs.FaultKeys.{FaultMap, fault_at}
 
 -- the first of these places that has this position
 abbrev pub place_at : ℕ → List Place3 → Option Place3

@@ -155,7 +155,7 @@ fn is_busy_id(role: Role, fate: Fate, identifier: u16, before: &[Seen]) -> bool
 fn takes_busy(role: Role, fate: Fate, event: &Seen, before: &[Seen]) -> bool
     ensures { result ≡ breaks_S01 role fate (newest event.now (reverse before.now)) }
 {
-    match event.note.taken(role) {
+    match event.note.taken_identifier(role) {
         Some(identifier) => is_busy_id(role, fate, identifier, before),
         None => false,
     }

@@ -21,7 +21,7 @@ use mq_trace::Place3;
 use std::alloc::Global;
 
 /// Marks an identifier, if there is one.
-fn mark(marked: &mut Table<bool>, identifier: Option<u16>)
+fn key(marked: &mut Table<bool>, identifier: Option<u16>)
     ensures { (i : ℕ) → at marked.new i ≡ (is_id i identifier || at marked.old i) }
 {
     if let Some(identifier) = identifier {
@@ -40,8 +40,8 @@ fn sent_again(alloc: Global, before: &[Seen]) -> Result<Table<bool>, Memory>
     let mut again = Table::new(alloc, false)?;
     let mut earlier = before;
     while let Some((event, rest)) = earlier.split_last() {
-        mark(&mut again, event.note.delivery());
-        mark(&mut again, event.note.sent_pubrel());
+        key(&mut again, event.note.delivery());
+        key(&mut again, event.note.sent_pubrel());
         if event.note.is_open() {
             return Ok(again);
         }
@@ -61,18 +61,18 @@ fn only_if(is_in: bool, identifier: Option<u16>) -> Option<u16>
 }
 
 /// Marks the identifier that an event opens or closes, if it is in the session.
-fn mark_moved(moved: &mut Table<bool>, is_in: bool, note: &Note)
+fn key_moved(moved: &mut Table<bool>, is_in: bool, note: &Note)
     ensures { (i : ℕ) → at moved.new i ≡ ((is_in && moves i note.now) || at moved.old i) }
 {
-    mark(moved, only_if(is_in, note.opener()));
-    mark(moved, only_if(is_in, note.closer()));
+    key(moved, only_if(is_in, note.opener()));
+    key(moved, only_if(is_in, note.closer()));
 }
 
 /// Marks the identifier that an event confirms, if it is in the session.
-fn mark_confirmed(confirmed: &mut Table<bool>, is_in: bool, note: &Note)
+fn key_confirmed(confirmed: &mut Table<bool>, is_in: bool, note: &Note)
     ensures { (i : ℕ) → at confirmed.new i ≡ ((is_in && confirms i note.now) || at confirmed.old i) }
 {
-    mark(confirmed, only_if(is_in, note.received_accepting_pubrec()));
+    key(confirmed, only_if(is_in, note.received_accepting_pubrec()));
 }
 
 /// Whether an opener is owed, if the event is one, given the identifiers that were sent again, and those moved and confirmed after it.
@@ -133,8 +133,8 @@ fn owed_in_session(
         if begins_at(fate, &event.note) {
             return Ok(places);
         }
-        mark_moved(&mut moved, is_in, &event.note);
-        mark_confirmed(&mut confirmed, is_in, &event.note);
+        key_moved(&mut moved, is_in, &event.note);
+        key_confirmed(&mut confirmed, is_in, &event.note);
         fate = fate_before(role, fate, &event.note, rest);
         earlier = rest;
     }

@@ -41,7 +41,7 @@ impl NoteTest for Releases {
     ghost test = { λ t n. is_id t.0 (released_id n) };
 
     fn passes(&self, note: &Note) -> bool {
-        note.released() == Some(self.0)
+        note.released_identifier() == Some(self.0)
     }
 }
 
@@ -106,7 +106,7 @@ fn is_released(role: Role, fate: Fate, identifier: u16, before: &[Seen]) -> bool
 fn releases_nothing(role: Role, fate: Fate, event: &Seen, before: &[Seen]) -> bool
     ensures { result ≡ breaks_L1 role fate (newest event.now (reverse before.now)) }
 {
-    match event.note.released() {
+    match event.note.released_identifier() {
         Some(identifier) => !is_brought(role, fate, identifier, before),
         None => false,
     }
@@ -117,7 +117,7 @@ fn releases_nothing(role: Role, fate: Fate, event: &Seen, before: &[Seen]) -> bo
 fn releases_again(role: Role, fate: Fate, event: &Seen, before: &[Seen]) -> bool
     ensures { result ≡ breaks_L2 role fate (newest event.now (reverse before.now)) }
 {
-    match event.note.released() {
+    match event.note.released_identifier() {
         Some(identifier) => is_released(role, fate, identifier, before),
         None => false,
     }

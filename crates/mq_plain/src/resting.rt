@@ -6,7 +6,7 @@ ghost use Rattle.mq_plain.specs.Blames.{Blames, BlamesWithin};
 ghost use Rattle.mq_plain.specs.Events.{ComesNext};
 
 use crate::turn::Turn;
-use mq_rules::{Fault, Faults, Mark, Memory, Role, Rule, Seen};
+use mq_rules::{Fault, FaultKey, Faults, Memory, Role, Rule, Seen};
 use mq_trace::Place3;
 use std::alloc::Global;
 
@@ -79,7 +79,7 @@ fn blame(rule: Rule, decided: u32, places: &[Place3], faults: &mut Faults) -> Re
     ensures memory { OnErr result (BlamesWithin rule decided places.now faults.old faults.new) }
 {
     for place in places {
-        let mark = Mark {
+        let key = FaultKey {
             position: place.position,
             rule,
         };
@@ -88,7 +88,7 @@ fn blame(rule: Rule, decided: u32, places: &[Place3], faults: &mut Faults) -> Re
             record_no: place.record_no,
             offset: None,
         };
-        faults.add(mark, fault)?;
+        faults.add(key, fault)?;
     }
     Ok(())
 }

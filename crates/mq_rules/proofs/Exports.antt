@@ -4,7 +4,7 @@ pub use Rattle.mq_rules.proofs.ConnLaws.{connection-next as connection-newest, s
 pub use Rattle.mq_rules.proofs.FateLaws.{begun-least, begun-open, begun-same, connection-next, fate-elsewhere, latest_fate-next}
 pub use Rattle.mq_rules.proofs.GrowLaws.{grows-start}
 pub use Rattle.mq_rules.proofs.ListingLaws.{entries-listed}
-pub use Rattle.mq_rules.proofs.MarkLaws.{fault_at-judged, fault_at-with_fault, on_err}
+pub use Rattle.mq_rules.proofs.FaultKeyLaws.{fault_at-judged, fault_at-with_fault, on_err}
 pub use Rattle.mq_rules.proofs.OrderLaws.{orderly}
 pub use Rattle.mq_rules.proofs.PlainLaws.{grows-next, within-next}
 pub use Rattle.mq_rules.proofs.PositionLaws.{among-moment, among-some, among-within, earliest_since-is, earliest_since-there, moment-among, moment-beginning, moment-newest, moment-older, moment-placed, moments-descend, since-stands, some-among, stands-since, those-among, those-descend}

@@ -28,13 +28,13 @@ use Rattle.mq_rules.specs.Words.{is_id, is_some_and, only}
 use Rattle.mq_rules.specs.Notes.{is_open, fields_type, foreign_types, publish_in, resumed_by, may_explain, is_acknowledged, qos_number}
 use Rattle.mq_rules.specs.Pasts.{set_alias}
 use Rattle.mq_rules.specs.Statements.{is_on_past}
-use Rattle.mq_rules.specs.Marks.{FaultMap}
-use Rattle.mq_rules.specs.Keeping.{connection_after, is_ordinary_in, is_ordinary, size_limit, alias_limit, qos_limit, may_look, item_verdicts, packet_verdicts, publish_verdicts, connack_verdicts, disconnect_verdicts, rest_verdicts, is_among, is_any_broken, is_told, may_go_on, too_large, size_bound, is_harmless_in, is_harmless, Judges, GrowsBy, Agrees}
+use Rattle.mq_rules.specs.FaultKeys.{FaultMap}
+use Rattle.mq_rules.specs.Keeping.{connection_after, is_ordinary_in, is_ordinary, size_limit, alias_limit, qos_limit, may_look, item_verdicts, packet_verdicts, publish_verdicts, connack_verdicts, disconnect_verdicts, rest_verdicts, is_among, is_any_broken, is_found, may_go_on, too_large, size_bound, is_harmless_in, is_harmless, Judges, GrowsBy, Agrees}
 use Rattle.mq_rules.proofs.BoolLaws.{both_true, and_false, or_false}
 use Rattle.mq_rules.proofs.GrowLaws.{judges-none, judges-unbroken}
 use Rattle.mq_rules.proofs.JudgeLaws.{no_item, no_packet, no_publish, no_connack, no_disconnect, judged-all}
 use Rattle.mq_rules.proofs.IdleLaws.{no-connack, no-disconnect, not-connect, not-connack, unchanged}
-use Rattle.mq_rules.proofs.TellLaws.{agrees-next, step-grows}
+use Rattle.mq_rules.proofs.FindLaws.{agrees-next, step-grows}
 
 -- ---- what a harmless packet is not
 
@@ -162,7 +162,7 @@ rests-not : (role : Role) (s : ConnectionState) (place : Place3) (faults : Fault
 rests-not role s place faults = judges-none place faults
 
 sent-told : (role : Role) (s : ConnectionState) (aliases : ℕ → Bool) (p : PacketNote) (place : Place3) (faults : FaultMap) → is_harmless (size_bound role s) (notes.Sent (items.Packet p)) ≡ true
-    → Judges (is_told role s aliases (notes.Sent (items.Packet p))) place faults faults
+    → Judges (is_found role s aliases (notes.Sent (items.Packet p))) place faults faults
 sent-told role s aliases p place faults t =
     let first = both_true (nat_lt p.size (size_bound role s)) (not (p.has_reason_string || p.has_user_property) && is_harmless_in p.fields) t in
     let second = both_true (not (p.has_reason_string || p.has_user_property)) (is_harmless_in p.fields) first.1 in
@@ -175,13 +175,13 @@ sent-told role s aliases p place faults t =
     (subst (λ (o : Option (Option ℕ)). Judges (is_among (disconnect_verdicts role s o)) place faults faults) (sym (no-disconnect p.fields u)) (no_disconnect role s place faults))
     (rests-not role s place faults)
 
-received-told : (role : Role) (s : ConnectionState) (aliases : ℕ → Bool) (p : PacketNote) (place : Place3) (faults : FaultMap) → Judges (is_told role s aliases (notes.Recv (items.Packet p))) place faults faults
+received-told : (role : Role) (s : ConnectionState) (aliases : ℕ → Bool) (p : PacketNote) (place : Place3) (faults : FaultMap) → Judges (is_found role s aliases (notes.Recv (items.Packet p))) place faults faults
 received-told role s aliases p place faults =
     judged-all role s aliases (notes.Recv (items.Packet p)) place faults faults faults faults faults faults faults
     (no_item role s place faults) (no_packet role s place faults) (no_publish role s aliases place faults) (no_connack role s place faults) (no_disconnect role s place faults) (rests-not role s place faults)
 
 harmless-told : (role : Role) (s : ConnectionState) (aliases : ℕ → Bool) (n : Note) (place : Place3) (faults : FaultMap) → is_harmless (size_bound role s) n ≡ true
-    → Judges (is_told role s aliases n) place faults faults
+    → Judges (is_found role s aliases n) place faults faults
 harmless-told role s aliases (notes.Sent (items.Packet p)) place faults t = sent-told role s aliases p place faults t
 harmless-told role s aliases (notes.Recv (items.Packet p)) place faults t = received-told role s aliases p place faults
 harmless-told role s aliases _ place faults t = absurd (cc)

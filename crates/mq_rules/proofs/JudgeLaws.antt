@@ -10,8 +10,8 @@ use Rattle.mq_rules.specs.declared.packet_note.ConnackNote.{ConnackNote}
 use Rattle.mq_rules.specs.declared.conn.state.ConnectionState.{ConnectionState}
 use Rattle.mq_rules.specs.Notes.{is_rest, sent_item, sent_packet, sent_publish, sent_connack, sent_disconnect}
 use Rattle.mq_rules.specs.Rules.{same_rule}
-use Rattle.mq_rules.specs.Marks.{FaultMap}
-use Rattle.mq_rules.specs.Keeping.{item_verdicts, packet_verdicts, publish_verdicts, connack_verdicts, disconnect_verdicts, rest_verdicts, is_among, is_told, Judges, JudgesWithin}
+use Rattle.mq_rules.specs.FaultKeys.{FaultMap}
+use Rattle.mq_rules.specs.Keeping.{item_verdicts, packet_verdicts, publish_verdicts, connack_verdicts, disconnect_verdicts, rest_verdicts, is_among, is_found, Judges, JudgesWithin}
 use Rattle.mq_rules.proofs.GrowLaws.{judges-none, judges-same, judges-then, within-first, within-second}
 
 -- ---- nothing is told of what the event is not
@@ -66,42 +66,42 @@ from_item role s aliases n rule = is_among (item_verdicts role s (sent_item n)) 
 
 pub judged-all : (role : Role) (s : ConnectionState) (aliases : ℕ → Bool) (n : Note) (place : Place3) (f0 f1 f2 f3 f4 f5 f6 : FaultMap)
     → Judges (is_among (item_verdicts role s (sent_item n))) place f0 f1 → Judges (is_among (packet_verdicts role s (sent_packet n))) place f1 f2 → Judges (is_among (publish_verdicts role s aliases (sent_publish n))) place f2 f3 → Judges (is_among (connack_verdicts role s (sent_connack n))) place f3 f4 → Judges (is_among (disconnect_verdicts role s (sent_disconnect n))) place f4 f5 → Judges (is_among (rest_verdicts role s (is_rest n))) place f5 f6
-    → Judges (is_told role s aliases n) place f0 f6
+    → Judges (is_found role s aliases n) place f0 f6
 judged-all role s aliases n place f0 f1 f2 f3 f4 f5 f6 p1 p2 p3 p4 p5 p6 =
     judges-then (is_among (item_verdicts role s (sent_item n))) (from_packet role s aliases n) place f0 f1 f6 p1 (judges-then (is_among (packet_verdicts role s (sent_packet n))) (from_publish role s aliases n) place f1 f2 f6 p2 (judges-then (is_among (publish_verdicts role s aliases (sent_publish n))) (from_connack role s aliases n) place f2 f3 f6 p3 (judges-then (is_among (connack_verdicts role s (sent_connack n))) (from_disconnect role s aliases n) place f3 f4 f6 p4 (judges-then (is_among (disconnect_verdicts role s (sent_disconnect n))) (from_rest role s aliases n) place f4 f5 f6 p5 (judges-then (is_among (rest_verdicts role s (is_rest n))) (λ rule. false) place f5 f6 f6 p6 (judges-none place f6))))))
 
 pub refused-item : (role : Role) (s : ConnectionState) (aliases : ℕ → Bool) (n : Note) (place : Place3) (f0 f1 : FaultMap)
     → JudgesWithin (is_among (item_verdicts role s (sent_item n))) place f0 f1
-    → JudgesWithin (is_told role s aliases n) place f0 f1
+    → JudgesWithin (is_found role s aliases n) place f0 f1
 refused-item role s aliases n place f0 f1 p1 =
     within-first (is_among (item_verdicts role s (sent_item n))) (from_packet role s aliases n) place f0 f1 p1
 
 pub refused-packet : (role : Role) (s : ConnectionState) (aliases : ℕ → Bool) (n : Note) (place : Place3) (f0 f1 f2 : FaultMap)
     → Judges (is_among (item_verdicts role s (sent_item n))) place f0 f1 → JudgesWithin (is_among (packet_verdicts role s (sent_packet n))) place f1 f2
-    → JudgesWithin (is_told role s aliases n) place f0 f2
+    → JudgesWithin (is_found role s aliases n) place f0 f2
 refused-packet role s aliases n place f0 f1 f2 p1 p2 =
     within-second (is_among (item_verdicts role s (sent_item n))) (from_packet role s aliases n) place f0 f1 f2 p1 (within-first (is_among (packet_verdicts role s (sent_packet n))) (from_publish role s aliases n) place f1 f2 p2)
 
 pub refused-publish : (role : Role) (s : ConnectionState) (aliases : ℕ → Bool) (n : Note) (place : Place3) (f0 f1 f2 f3 : FaultMap)
     → Judges (is_among (item_verdicts role s (sent_item n))) place f0 f1 → Judges (is_among (packet_verdicts role s (sent_packet n))) place f1 f2 → JudgesWithin (is_among (publish_verdicts role s aliases (sent_publish n))) place f2 f3
-    → JudgesWithin (is_told role s aliases n) place f0 f3
+    → JudgesWithin (is_found role s aliases n) place f0 f3
 refused-publish role s aliases n place f0 f1 f2 f3 p1 p2 p3 =
     within-second (is_among (item_verdicts role s (sent_item n))) (from_packet role s aliases n) place f0 f1 f3 p1 (within-second (is_among (packet_verdicts role s (sent_packet n))) (from_publish role s aliases n) place f1 f2 f3 p2 (within-first (is_among (publish_verdicts role s aliases (sent_publish n))) (from_connack role s aliases n) place f2 f3 p3))
 
 pub refused-connack : (role : Role) (s : ConnectionState) (aliases : ℕ → Bool) (n : Note) (place : Place3) (f0 f1 f2 f3 f4 : FaultMap)
     → Judges (is_among (item_verdicts role s (sent_item n))) place f0 f1 → Judges (is_among (packet_verdicts role s (sent_packet n))) place f1 f2 → Judges (is_among (publish_verdicts role s aliases (sent_publish n))) place f2 f3 → JudgesWithin (is_among (connack_verdicts role s (sent_connack n))) place f3 f4
-    → JudgesWithin (is_told role s aliases n) place f0 f4
+    → JudgesWithin (is_found role s aliases n) place f0 f4
 refused-connack role s aliases n place f0 f1 f2 f3 f4 p1 p2 p3 p4 =
     within-second (is_among (item_verdicts role s (sent_item n))) (from_packet role s aliases n) place f0 f1 f4 p1 (within-second (is_among (packet_verdicts role s (sent_packet n))) (from_publish role s aliases n) place f1 f2 f4 p2 (within-second (is_among (publish_verdicts role s aliases (sent_publish n))) (from_connack role s aliases n) place f2 f3 f4 p3 (within-first (is_among (connack_verdicts role s (sent_connack n))) (from_disconnect role s aliases n) place f3 f4 p4)))
 
 pub refused-disconnect : (role : Role) (s : ConnectionState) (aliases : ℕ → Bool) (n : Note) (place : Place3) (f0 f1 f2 f3 f4 f5 : FaultMap)
     → Judges (is_among (item_verdicts role s (sent_item n))) place f0 f1 → Judges (is_among (packet_verdicts role s (sent_packet n))) place f1 f2 → Judges (is_among (publish_verdicts role s aliases (sent_publish n))) place f2 f3 → Judges (is_among (connack_verdicts role s (sent_connack n))) place f3 f4 → JudgesWithin (is_among (disconnect_verdicts role s (sent_disconnect n))) place f4 f5
-    → JudgesWithin (is_told role s aliases n) place f0 f5
+    → JudgesWithin (is_found role s aliases n) place f0 f5
 refused-disconnect role s aliases n place f0 f1 f2 f3 f4 f5 p1 p2 p3 p4 p5 =
     within-second (is_among (item_verdicts role s (sent_item n))) (from_packet role s aliases n) place f0 f1 f5 p1 (within-second (is_among (packet_verdicts role s (sent_packet n))) (from_publish role s aliases n) place f1 f2 f5 p2 (within-second (is_among (publish_verdicts role s aliases (sent_publish n))) (from_connack role s aliases n) place f2 f3 f5 p3 (within-second (is_among (connack_verdicts role s (sent_connack n))) (from_disconnect role s aliases n) place f3 f4 f5 p4 (within-first (is_among (disconnect_verdicts role s (sent_disconnect n))) (from_rest role s aliases n) place f4 f5 p5))))
 
 pub refused-rest : (role : Role) (s : ConnectionState) (aliases : ℕ → Bool) (n : Note) (place : Place3) (f0 f1 f2 f3 f4 f5 f6 : FaultMap)
     → Judges (is_among (item_verdicts role s (sent_item n))) place f0 f1 → Judges (is_among (packet_verdicts role s (sent_packet n))) place f1 f2 → Judges (is_among (publish_verdicts role s aliases (sent_publish n))) place f2 f3 → Judges (is_among (connack_verdicts role s (sent_connack n))) place f3 f4 → Judges (is_among (disconnect_verdicts role s (sent_disconnect n))) place f4 f5 → JudgesWithin (is_among (rest_verdicts role s (is_rest n))) place f5 f6
-    → JudgesWithin (is_told role s aliases n) place f0 f6
+    → JudgesWithin (is_found role s aliases n) place f0 f6
 refused-rest role s aliases n place f0 f1 f2 f3 f4 f5 f6 p1 p2 p3 p4 p5 p6 =
     within-second (is_among (item_verdicts role s (sent_item n))) (from_packet role s aliases n) place f0 f1 f6 p1 (within-second (is_among (packet_verdicts role s (sent_packet n))) (from_publish role s aliases n) place f1 f2 f6 p2 (within-second (is_among (publish_verdicts role s aliases (sent_publish n))) (from_connack role s aliases n) place f2 f3 f6 p3 (within-second (is_among (connack_verdicts role s (sent_connack n))) (from_disconnect role s aliases n) place f3 f4 f6 p4 (within-second (is_among (disconnect_verdicts role s (sent_disconnect n))) (from_rest role s aliases n) place f4 f5 f6 p5 (within-first (is_among (rest_verdicts role s (is_rest n))) (λ rule. false) place f5 f6 p6)))))

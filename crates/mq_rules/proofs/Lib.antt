@@ -1,4 +1,4 @@
-pub mod MarkLaws
+pub mod FaultKeyLaws
 pub mod WorkedLaws
 pub mod TableLaws
 pub mod ConnLaws
@@ -6,7 +6,7 @@ pub mod BoolLaws
 pub mod StepLaws
 pub mod DecidedLaws
 pub mod LateLaws
-pub mod TellLaws
+pub mod FindLaws
 pub mod GrowLaws
 pub mod JudgeLaws
 pub mod GivenLaws

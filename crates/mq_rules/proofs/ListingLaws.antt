@@ -21,13 +21,13 @@ use Rattle.mq_rules.specs.declared.role.Tested.{Tested}
 use Rattle.mq_rules.specs.declared.rule.Rule.{Rule}
 use Rattle.mq_rules.specs.declared.note.Seen.{Seen}
 use Rattle.mq_rules.specs.declared.fault.Fault.{Fault}
-use Rattle.mq_rules.specs.declared.faults.Mark.{Mark}
+use Rattle.mq_rules.specs.declared.faults.FaultKey.{FaultKey}
 use Rattle.mq_rules.specs.Moments.{newest, moment}
 use Rattle.mq_rules.specs.Rules.{same_rule, all_rules}
 use Rattle.mq_rules.specs.Faults.{fault_in, chosen_fault, listed_faults}
-use Rattle.mq_rules.specs.Marks.{mark_cmp, FaultMap, fault_at}
+use Rattle.mq_rules.specs.FaultKeys.{key_cmp, FaultMap, fault_at}
 use Rattle.mq_rules.proofs.BoolLaws.{differ, and_false, option_or-none}
-use Rattle.mq_rules.proofs.MarkLaws.{marks_total, exact_marks, ties, find-lookup, equal_of}
+use Rattle.mq_rules.proofs.FaultKeyLaws.{keys_total, exact_keys, ties, find-lookup, equal_of}
 use Rattle.mq_rules.proofs.StepLaws.{moment-beyond}
 use Rattle.mq_rules.proofs.DecidedLaws.{fault_in-nowhere}
 use Rattle.mq_rules.proofs.RowLaws.{rule_cmp, rises, all_rise, has, rows_rise, rows_have}
@@ -35,15 +35,15 @@ use Rattle.mq_rules.proofs.RowLaws.{rule_cmp, rises, all_rise, has, rows_rise, r
 abbrev Faulty : Type 0
 Faulty = ℕ → Rule → Option Fault
 
-abbrev mark : ℕ → Rule → Mark
-mark k r = record { position = k; rule = r }
+abbrev key : ℕ → Rule → FaultKey
+key k r = record { position = k; rule = r }
 
 -- the faults at a position, of these statements
-abbrev block : Faulty → ℕ → List Rule → List (Mark × Fault)
+abbrev block : Faulty → ℕ → List Rule → List (FaultKey × Fault)
 block g k rules = filter_map (λ rule. option_map (λ fault. (record { position = k; rule = rule }, fault)) (g k rule)) rules
 
 -- the faults at this many positions from one on
-abbrev blocks : Faulty → ℕ → ℕ → List (Mark × Fault)
+abbrev blocks : Faulty → ℕ → ℕ → List (FaultKey × Fault)
 blocks g j n = flat_map (λ k. block g k all_rules) (range_with_len j n)
 
 both : (a b : Bool) → T a → T b → T (a && b)
@@ -61,58 +61,58 @@ second : (a b : Bool) → T (a && b) → T b
 second true b h = h
 second false b h = absurd h
 
-below_later : (k j : ℕ) (r s : Rule) → k < j → T (is_lt (mark_cmp (mark k r) (mark j s)))
+below_later : (k j : ℕ) (r s : Rule) → k < j → T (is_lt (key_cmp (key k r) (key j s)))
 below_later k j r s h = subst (λ (o : Ordering). T (is_lt (ordering_then o (rule_cmp r s)))) (nat_cmp_is k j Less h) tt
 
-below_here : (k : ℕ) (r s : Rule) → T (is_lt (rule_cmp r s)) → T (is_lt (mark_cmp (mark k r) (mark k s)))
+below_here : (k : ℕ) (r s : Rule) → T (is_lt (rule_cmp r s)) → T (is_lt (key_cmp (key k r) (key k s)))
 below_here k r s h = subst (λ (o : Ordering). T (is_lt (ordering_then o (rule_cmp r s)))) (nat_cmp_is k k Equal refl) h
 
-below-append : (x : Mark) (xs ys : List (Mark × Fault)) → T (below_all mark_cmp x xs) → T (below_all mark_cmp x ys) → T (below_all mark_cmp x (xs ++ ys))
+below-append : (x : FaultKey) (xs ys : List (FaultKey × Fault)) → T (below_all key_cmp x xs) → T (below_all key_cmp x ys) → T (below_all key_cmp x (xs ++ ys))
 below-append x [] ys p q = q
 below-append x (e ∷ xs) ys p q = both _ _ (first _ _ p) (below-append x xs ys (second _ _ p) q)
 
 -- below a block of a later position
-below_block : (g : Faulty) (k j : ℕ) (r : Rule) (rules : List Rule) → k < j → T (below_all mark_cmp (mark k r) (block g j rules))
+below_block : (g : Faulty) (k j : ℕ) (r : Rule) (rules : List Rule) → k < j → T (below_all key_cmp (key k r) (block g j rules))
 below_block g k j r [] h = tt
 below_block g k j r (s ∷ ss) h = go (g j s) (below_block g k j r ss h)
   where
-    go : (o : Option Fault) → T (below_all mark_cmp (mark k r) (block g j ss)) → T (below_all mark_cmp (mark k r) (cons_option (option_map (λ fault. (mark j s, fault)) o) (block g j ss)))
+    go : (o : Option Fault) → T (below_all key_cmp (key k r) (block g j ss)) → T (below_all key_cmp (key k r) (cons_option (option_map (λ fault. (key j s, fault)) o) (block g j ss)))
     go None rest = rest
     go (Some f) rest = both _ _ (below_later k j r s h) rest
 
-below_blocks : (g : Faulty) (k j n : ℕ) (r : Rule) → k < j → T (below_all mark_cmp (mark k r) (blocks g j n))
+below_blocks : (g : Faulty) (k j n : ℕ) (r : Rule) → k < j → T (below_all key_cmp (key k r) (blocks g j n))
 below_blocks g k j zero r h = tt
-below_blocks g k j (suc n) r h = below-append (mark k r) (block g j all_rules) (blocks g (j + 1) n) (below_block g k j r all_rules h) (below_blocks g k (j + 1) n r (omega arith))
+below_blocks g k j (suc n) r h = below-append (key k r) (block g j all_rules) (blocks g (j + 1) n) (below_block g k j r all_rules h) (below_blocks g k (j + 1) n r (omega arith))
 
 -- below the rest of its own block
-below_rest : (g : Faulty) (k : ℕ) (r : Rule) (rules : List Rule) → T (rises r rules) → T (below_all mark_cmp (mark k r) (block g k rules))
+below_rest : (g : Faulty) (k : ℕ) (r : Rule) (rules : List Rule) → T (rises r rules) → T (below_all key_cmp (key k r) (block g k rules))
 below_rest g k r [] h = tt
 below_rest g k r (s ∷ ss) h = go (g k s) (below_rest g k r ss (second _ _ h))
   where
-    go : (o : Option Fault) → T (below_all mark_cmp (mark k r) (block g k ss)) → T (below_all mark_cmp (mark k r) (cons_option (option_map (λ fault. (mark k s, fault)) o) (block g k ss)))
+    go : (o : Option Fault) → T (below_all key_cmp (key k r) (block g k ss)) → T (below_all key_cmp (key k r) (cons_option (option_map (λ fault. (key k s, fault)) o) (block g k ss)))
     go None rest = rest
     go (Some f) rest = both _ _ (below_here k r s (first _ _ h)) rest
 
-sorted_block : (g : Faulty) (k : ℕ) (rules : List Rule) (ys : List (Mark × Fault)) → T (all_rise rules) → T (is_sorted mark_cmp ys) → ((r : Rule) → T (below_all mark_cmp (mark k r) ys)) → T (is_sorted mark_cmp (block g k rules ++ ys))
+sorted_block : (g : Faulty) (k : ℕ) (rules : List Rule) (ys : List (FaultKey × Fault)) → T (all_rise rules) → T (is_sorted key_cmp ys) → ((r : Rule) → T (below_all key_cmp (key k r) ys)) → T (is_sorted key_cmp (block g k rules ++ ys))
 sorted_block g k [] ys h s below = s
 sorted_block g k (r ∷ rules) ys h s below = go (g k r) (sorted_block g k rules ys (second _ _ h) s below)
   where
-    go : (o : Option Fault) → T (is_sorted mark_cmp (block g k rules ++ ys)) → T (is_sorted mark_cmp (cons_option (option_map (λ fault. (mark k r, fault)) o) (block g k rules) ++ ys))
+    go : (o : Option Fault) → T (is_sorted key_cmp (block g k rules ++ ys)) → T (is_sorted key_cmp (cons_option (option_map (λ fault. (key k r, fault)) o) (block g k rules) ++ ys))
     go None rest = rest
-    go (Some f) rest = both _ _ (below-append (mark k r) (block g k rules) ys (below_rest g k r rules (first _ _ h)) (below r)) rest
+    go (Some f) rest = both _ _ (below-append (key k r) (block g k rules) ys (below_rest g k r rules (first _ _ h)) (below r)) rest
 
-sorted_blocks : (g : Faulty) (j n : ℕ) → T (is_sorted mark_cmp (blocks g j n))
+sorted_blocks : (g : Faulty) (j n : ℕ) → T (is_sorted key_cmp (blocks g j n))
 sorted_blocks g j zero = tt
 sorted_blocks g j (suc n) = sorted_block g j all_rules (blocks g (j + 1) n) rows_rise (sorted_blocks g (j + 1) n) (λ r. below_blocks g j (j + 1) n r (omega arith))
 
 -- ---- what is found
 
-find-block : (g : Faulty) (k : ℕ) (q : Mark) (rules : List Rule) (ys : List (Mark × Fault)) → find mark_cmp q (block g k rules ++ ys) ≡ option_or (cond ((q.position == k) && has q.rule rules) (g k q.rule) None) (find mark_cmp q ys)
-find-block g k q [] ys = ap (λ b. option_or (cond b (g k q.rule) None) (find mark_cmp q ys)) (sym (and_false (q.position == k)))
+find-block : (g : Faulty) (k : ℕ) (q : FaultKey) (rules : List Rule) (ys : List (FaultKey × Fault)) → find key_cmp q (block g k rules ++ ys) ≡ option_or (cond ((q.position == k) && has q.rule rules) (g k q.rule) None) (find key_cmp q ys)
+find-block g k q [] ys = ap (λ b. option_or (cond b (g k q.rule) None) (find key_cmp q ys)) (sym (and_false (q.position == k)))
 find-block g k q (s ∷ ss) ys = go (g k s) refl (find-block g k q ss ys)
   where
     rest : Option Fault
-    rest = find mark_cmp q ys
+    rest = find key_cmp q ys
 
     none : (p t h : Bool) → g k s ≡ None → (t ≡ true → q.rule ≡ s) → option_or (cond (p && h) (g k q.rule) None) rest ≡ option_or (cond (p && (t || h)) (g k q.rule) None) rest
     none false t h e same = refl
@@ -125,28 +125,28 @@ find-block g k q (s ∷ ss) ys = go (g k s) refl (find-block g k q ss ys)
     some true false h f e same = refl
     some true true h f e same = ap (λ o. option_or o rest) (sym (ap (g k) (same refl) ∙ e))
 
-    go : (o : Option Fault) → g k s ≡ o → find mark_cmp q (block g k ss ++ ys) ≡ option_or (cond ((q.position == k) && has q.rule ss) (g k q.rule) None) rest
-        → find mark_cmp q (cons_option (option_map (λ fault. (mark k s, fault)) o) (block g k ss) ++ ys) ≡ option_or (cond ((q.position == k) && (same_rule q.rule s || has q.rule ss)) (g k q.rule) None) rest
+    go : (o : Option Fault) → g k s ≡ o → find key_cmp q (block g k ss ++ ys) ≡ option_or (cond ((q.position == k) && has q.rule ss) (g k q.rule) None) rest
+        → find key_cmp q (cons_option (option_map (λ fault. (key k s, fault)) o) (block g k ss) ++ ys) ≡ option_or (cond ((q.position == k) && (same_rule q.rule s || has q.rule ss)) (g k q.rule) None) rest
     go None e h = h ∙ none (q.position == k) (same_rule q.rule s) (has q.rule ss) e (same_true the_type tt q.rule s)
     go (Some f) e h =
-        ap (λ b. cond b (Some f) (find mark_cmp q (block g k ss ++ ys))) (sym (ties q (mark k s)))
+        ap (λ b. cond b (Some f) (find key_cmp q (block g k ss ++ ys))) (sym (ties q (key k s)))
         ∙ ap (cond ((q.position == k) && same_rule q.rule s) (Some f)) h
         ∙ some (q.position == k) (same_rule q.rule s) (has q.rule ss) f e (same_true the_type tt q.rule s)
 
-find-step : (g : Faulty) (j n : ℕ) (q : Mark) → find mark_cmp q (blocks g j (suc n)) ≡ option_or (cond (q.position == j) (g j q.rule) None) (find mark_cmp q (blocks g (j + 1) n))
-find-step g j n q = find-block g j q all_rules (blocks g (j + 1) n) ∙ ap (λ b. option_or (cond b (g j q.rule) None) (find mark_cmp q (blocks g (j + 1) n))) (ap (λ b. (q.position == j) && b) (rows_have q.rule) ∙ and-true (q.position == j))
+find-step : (g : Faulty) (j n : ℕ) (q : FaultKey) → find key_cmp q (blocks g j (suc n)) ≡ option_or (cond (q.position == j) (g j q.rule) None) (find key_cmp q (blocks g (j + 1) n))
+find-step g j n q = find-block g j q all_rules (blocks g (j + 1) n) ∙ ap (λ b. option_or (cond b (g j q.rule) None) (find key_cmp q (blocks g (j + 1) n))) (ap (λ b. (q.position == j) && b) (rows_have q.rule) ∙ and-true (q.position == j))
 
-find-early : (g : Faulty) (j n : ℕ) (q : Mark) → q.position < j → find mark_cmp q (blocks g j n) ≡ None
+find-early : (g : Faulty) (j n : ℕ) (q : FaultKey) → q.position < j → find key_cmp q (blocks g j n) ≡ None
 find-early g j zero q h = refl
 find-early g j (suc n) q h =
     let lt : q.position < j + 1 = omega arith in
-    find-step g j n q ∙ ap (λ b. option_or (cond b (g j q.rule) None) (find mark_cmp q (blocks g (j + 1) n))) (differ q.position j (λ e. omega arith)) ∙ find-early g (j + 1) n q lt
+    find-step g j n q ∙ ap (λ b. option_or (cond b (g j q.rule) None) (find key_cmp q (blocks g (j + 1) n))) (differ q.position j (λ e. omega arith)) ∙ find-early g (j + 1) n q lt
 
-find-blocks : (g : Faulty) (j n : ℕ) (q : Mark) → j ≤ q.position → (j + n ≤ q.position → g q.position q.rule ≡ None) → find mark_cmp q (blocks g j n) ≡ g q.position q.rule
+find-blocks : (g : Faulty) (j n : ℕ) (q : FaultKey) → j ≤ q.position → (j + n ≤ q.position → g q.position q.rule ≡ None) → find key_cmp q (blocks g j n) ≡ g q.position q.rule
 find-blocks g j zero q h past = sym (past (omega arith))
 find-blocks g j (suc n) q h past = find-step g j n q ∙ go (q.position == j) refl (λ le. find-blocks g (j + 1) n q le (λ l. past (omega arith)))
   where
-    go : (b : Bool) → (q.position == j) ≡ b → (j + 1 ≤ q.position → find mark_cmp q (blocks g (j + 1) n) ≡ g q.position q.rule) → option_or (cond b (g j q.rule) None) (find mark_cmp q (blocks g (j + 1) n)) ≡ g q.position q.rule
+    go : (b : Bool) → (q.position == j) ≡ b → (j + 1 ≤ q.position → find key_cmp q (blocks g (j + 1) n) ≡ g q.position q.rule) → option_or (cond b (g j q.rule) None) (find key_cmp q (blocks g (j + 1) n)) ≡ g q.position q.rule
     go true e rest =
         let at : q.position ≡ j = eqb-true q.position j e in
         let lt : q.position < j + 1 = omega arith in
@@ -170,15 +170,15 @@ nowhere chosen tested log k rule h = go (chosen rule) (fault_in-nowhere tested l
     go true none = none
     go false none = refl
 
-pub listed-sorted : (chosen : Rule → Bool) (tested : Tested) (log : List Seen) → T (is_sorted mark_cmp (listed_faults chosen tested log))
+pub listed-sorted : (chosen : Rule → Bool) (tested : Tested) (log : List Seen) → T (is_sorted key_cmp (listed_faults chosen tested log))
 unfolding listed_faults
 listed-sorted chosen tested log = sorted_blocks (chosen_fault chosen tested log) 1 (length log)
 
-pub find-listed : (chosen : Rule → Bool) (tested : Tested) (log : List Seen) (q : Mark) → find mark_cmp q (listed_faults chosen tested log) ≡ chosen_fault chosen tested log q.position q.rule
+pub find-listed : (chosen : Rule → Bool) (tested : Tested) (log : List Seen) (q : FaultKey) → find key_cmp q (listed_faults chosen tested log) ≡ chosen_fault chosen tested log q.position q.rule
 unfolding listed_faults
 find-listed chosen tested log q = go (q.position == 0) refl
   where
-    go : (b : Bool) → (q.position == 0) ≡ b → find mark_cmp q (listed_faults chosen tested log) ≡ chosen_fault chosen tested log q.position q.rule
+    go : (b : Bool) → (q.position == 0) ≡ b → find key_cmp q (listed_faults chosen tested log) ≡ chosen_fault chosen tested log q.position q.rule
     go true e =
         let at : q.position ≡ 0 = eqb-true q.position 0 e in
         find-early (chosen_fault chosen tested log) 1 (length log) q (omega arith) ∙ sym (ap (λ k. chosen_fault chosen tested log k q.rule) at ∙ nowhere chosen tested log 0 q.rule (moment-zero log))
@@ -189,32 +189,32 @@ find-listed chosen tested log q = go (q.position == 0) refl
 -- faults that are those of a log have its list
 pub entries-listed : (chosen : Rule → Bool) (tested : Tested) (log : List Seen) (faults : FaultMap) → ((k : ℕ) (rule : Rule) → fault_at faults k rule ≡ chosen_fault chosen tested log k rule) → entries faults ≡ listed_faults chosen tested log
 entries-listed chosen tested log faults h =
-    ap entries (same_map marks_total exact_marks faults (from_sorted (listed_faults chosen tested log)) (λ q. h q.position q.rule ∙ sym (get-from_sorted mark_cmp (listed_faults chosen tested log) q (listed-sorted chosen tested log) ∙ find-listed chosen tested log q)))
-    ∙ entries-from_sorted mark_cmp (listed_faults chosen tested log) (listed-sorted chosen tested log)
+    ap entries (same_map keys_total exact_keys faults (from_sorted (listed_faults chosen tested log)) (λ q. h q.position q.rule ∙ sym (get-from_sorted key_cmp (listed_faults chosen tested log) q (listed-sorted chosen tested log) ∙ find-listed chosen tested log q)))
+    ∙ entries-from_sorted key_cmp (listed_faults chosen tested log) (listed-sorted chosen tested log)
 
 less_of : (o : Ordering) → T (is_lt o) → o ≡ Less
 less_of Less h = refl
 less_of Equal h = absurd h
 less_of Greater h = absurd h
 
-each_below : (x : Mark) (es : List (Mark × Fault)) → T (below_all mark_cmp x es) → AllByRecursion (λ y. mark_cmp x y ≡ Less) (keys_of es)
+each_below : (x : FaultKey) (es : List (FaultKey × Fault)) → T (below_all key_cmp x es) → AllByRecursion (λ y. key_cmp x y ≡ Less) (keys_of es)
 each_below x [] h = tt
-each_below x (e ∷ es) h = (less_of (mark_cmp x e.0) (first _ _ h), each_below x es (second _ _ h))
+each_below x (e ∷ es) h = (less_of (key_cmp x e.0) (first _ _ h), each_below x es (second _ _ h))
 
-strictly : (es : List (Mark × Fault)) → T (is_sorted mark_cmp es) → IsStrictlySortedBy mark_cmp (keys_of es)
+strictly : (es : List (FaultKey × Fault)) → T (is_sorted key_cmp es) → IsStrictlySortedBy key_cmp (keys_of es)
 unfolding IsStrictlySortedBy
 strictly [] h = tt
 strictly (e ∷ es) h = (each_below e.0 es (first _ _ h), strictly es (second _ _ h))
 
-pub listed-ascends : (chosen : Rule → Bool) (tested : Tested) (log : List Seen) → IsStrictlySortedBy mark_cmp (keys_of (listed_faults chosen tested log))
+pub listed-ascends : (chosen : Rule → Bool) (tested : Tested) (log : List Seen) → IsStrictlySortedBy key_cmp (keys_of (listed_faults chosen tested log))
 listed-ascends chosen tested log = strictly (listed_faults chosen tested log) (listed-sorted chosen tested log)
 
-same_marks : (x y : Mark) → eq_by_cmp mark_cmp x y ≡ true → x ≡ y
-same_marks x y h = exact_marks x y (equal_of (mark_cmp x y) h)
+same_keys : (x y : FaultKey) → eq_by_cmp key_cmp x y ≡ true → x ≡ y
+same_keys x y h = exact_keys x y (equal_of (key_cmp x y) h)
 
 -- a fault is in the list exactly where it is the fault of its mark
-pub listed-there : (chosen : Rule → Bool) (tested : Tested) (log : List Seen) (m : Mark) (f : Fault) → Contains (listed_faults chosen tested log) (m, f) ↔ (chosen_fault chosen tested log m.position m.rule ≡ Some f)
+pub listed-there : (chosen : Rule → Bool) (tested : Tested) (log : List Seen) (m : FaultKey) (f : Fault) → Contains (listed_faults chosen tested log) (m, f) ↔ (chosen_fault chosen tested log m.position m.rule ≡ Some f)
 listed-there chosen tested log m f = (
-  (λ h. sym (sym (find-lookup mark_cmp m (listed_faults chosen tested log)) ∙ find-listed chosen tested log m) ∙ lookup-from_Contains (eq_by_cmp_equiv marks_total) m f (listed_faults chosen tested log) (IsDistinct-from_sorted mark_cmp (keys_of (listed_faults chosen tested log)) (listed-ascends chosen tested log)) h),
-  (λ h. Contains-from_lookup same_marks m f (listed_faults chosen tested log) (sym (find-lookup mark_cmp m (listed_faults chosen tested log)) ∙ find-listed chosen tested log m ∙ h)),
+  (λ h. sym (sym (find-lookup key_cmp m (listed_faults chosen tested log)) ∙ find-listed chosen tested log m) ∙ lookup-from_Contains (eq_by_cmp_equiv keys_total) m f (listed_faults chosen tested log) (IsDistinct-from_sorted key_cmp (keys_of (listed_faults chosen tested log)) (listed-ascends chosen tested log)) h),
+  (λ h. Contains-from_lookup same_keys m f (listed_faults chosen tested log) (sym (find-lookup key_cmp m (listed_faults chosen tested log)) ∙ find-listed chosen tested log m ∙ h)),
 )

@@ -8,13 +8,13 @@ use Rattle.mq_packet.specs.declared.packet.AcknowledgementKind.TheVariants as ac
 use Rattle.mq_packet.specs.declared.packet.RequestKind.TheVariants as requests
 use Rattle.mq_packet.specs.Entries.{Entry, connect, connack, publish, acknowledgement, request, answer, pingreq, pingresp, disconnect, auth}
 use Rattle.mq_packet.specs.Canonical.{type_of}
-use Rattle.mq_trace.specs.declared.kind.Way.{Way}
-use Rattle.mq_trace.specs.declared.kind.Way.TheVariants as ways
+use Rattle.mq_trace.specs.declared.kind.Direction.{Direction}
+use Rattle.mq_trace.specs.declared.kind.Direction.TheVariants as directions
 use Rattle.mq_trace.specs.declared.refusal.Refusal.{Refusal}
 use Rattle.mq_trace.specs.declared.header.Header.{Header}
 use Rattle.mq_trace.specs.Framing.{header_by}
 use Rattle.mq_trace.specs.Events.{Event, Placed, event_in, events, packet, bad, lost, opened, closed, sent, received}
-use Rattle.mq_trace.specs.Connections.{begins_connection, ends_connection, is_connack_type, is_session_type, is_answer, needs_answer, has_open_connection, is_answered as trace_answered}
+use Rattle.mq_trace.specs.Connections.{begins_connection, ends_connection, is_connack_type, is_session_type, is_answer, needs_answer, has_open_connection, is_connack_seen as trace_connack_seen}
 use Rattle.mq_trace.specs.Refusals.{Situation, first_standing, conditions, header_refusal, record_refusal, refusal_at, refused, is_early}
 use Rattle.mq_trace.specs.Context.{Context, context, situated, so_far_for, refusal_for, event_for, placed_with, placed_for, put}
 use Rattle.mq_trace.proofs.Exports.{refused-grow, refusal-kept, events-kept, events-header, header-behind, at_context}
@@ -33,22 +33,22 @@ use Rattle.mq_rules.proofs.FateLaws.{latest_fate-next, closed-decided, open-deci
 
 -- ---- what the log's reader knows of an event is what the statements look at of it
 
-type-noted : (way : Way) (entry : Entry) → type_of entry ≡ fields_type (packet_fields way entry)
-type-noted way (connect fields) = refl
-type-noted way (connack session_present code properties) = refl
-type-noted way (publish fields) = refl
-type-noted way (acknowledgement acknowledgements.Puback identifier code properties) = refl
-type-noted way (acknowledgement acknowledgements.Pubrec identifier code properties) = refl
-type-noted way (acknowledgement acknowledgements.Pubrel identifier code properties) = refl
-type-noted way (acknowledgement acknowledgements.Pubcomp identifier code properties) = refl
-type-noted way (request requests.Subscribe identifier properties filters) = refl
-type-noted way (request requests.Unsubscribe identifier properties filters) = refl
-type-noted way (answer requests.Subscribe identifier properties codes) = refl
-type-noted way (answer requests.Unsubscribe identifier properties codes) = refl
-type-noted way pingreq = refl
-type-noted way pingresp = refl
-type-noted way (disconnect code properties) = refl
-type-noted way (auth code properties) = refl
+type-noted : (direction : Direction) (entry : Entry) → type_of entry ≡ fields_type (packet_fields direction entry)
+type-noted direction (connect fields) = refl
+type-noted direction (connack session_present code properties) = refl
+type-noted direction (publish fields) = refl
+type-noted direction (acknowledgement acknowledgements.Puback identifier code properties) = refl
+type-noted direction (acknowledgement acknowledgements.Pubrec identifier code properties) = refl
+type-noted direction (acknowledgement acknowledgements.Pubrel identifier code properties) = refl
+type-noted direction (acknowledgement acknowledgements.Pubcomp identifier code properties) = refl
+type-noted direction (request requests.Subscribe identifier properties filters) = refl
+type-noted direction (request requests.Unsubscribe identifier properties filters) = refl
+type-noted direction (answer requests.Subscribe identifier properties codes) = refl
+type-noted direction (answer requests.Unsubscribe identifier properties codes) = refl
+type-noted direction pingreq = refl
+type-noted direction pingresp = refl
+type-noted direction (disconnect code properties) = refl
+type-noted direction (auth code properties) = refl
 
 connack-typed : (fields : PacketFields) → is_connack_type (fields_type fields) ≡ is_some (connack_in fields)
 connack-typed (Connack c) = refl
@@ -60,11 +60,11 @@ role_of header = (tested_as header).role
 
 -- a CONNACK from the server
 answer-noted : (server releases : Bool) (e : Event) → is_answer server e ≡ is_some (connack_of (role_of (record { server = server; releases = releases })) (note_of e))
-answer-noted true releases (sent (packet size entry)) = ap is_connack_type (type-noted ways.Sent entry) ∙ connack-typed (packet_fields ways.Sent entry)
+answer-noted true releases (sent (packet size entry)) = ap is_connack_type (type-noted directions.Sent entry) ∙ connack-typed (packet_fields directions.Sent entry)
 answer-noted true releases (sent (bad first rule at)) = refl
 answer-noted true releases (sent lost) = refl
 answer-noted true releases _ = refl
-answer-noted false releases (received (packet size entry)) = ap is_connack_type (type-noted ways.Recv entry) ∙ connack-typed (packet_fields ways.Recv entry)
+answer-noted false releases (received (packet size entry)) = ap is_connack_type (type-noted directions.Recv entry) ∙ connack-typed (packet_fields directions.Recv entry)
 answer-noted false releases (received (bad first rule at)) = refl
 answer-noted false releases (received lost) = refl
 answer-noted false releases _ = refl
@@ -75,10 +75,10 @@ or_false false = refl
 
 -- a session packet or a RELEASE
 needs-noted : (e : Event) → needs_answer e ≡ needs_session (note_of e)
-needs-noted (sent (packet size entry)) = ap is_session_type (type-noted ways.Sent entry) ∙ or_false (is_session_type (fields_type (packet_fields ways.Sent entry)))
+needs-noted (sent (packet size entry)) = ap is_session_type (type-noted directions.Sent entry) ∙ or_false (is_session_type (fields_type (packet_fields directions.Sent entry)))
 needs-noted (sent (bad first rule at)) = refl
 needs-noted (sent lost) = refl
-needs-noted (received (packet size entry)) = ap is_session_type (type-noted ways.Recv entry)
+needs-noted (received (packet size entry)) = ap is_session_type (type-noted directions.Recv entry)
 needs-noted (received (bad first rule at)) = refl
 needs-noted (received lost) = refl
 needs-noted _ = refl
@@ -100,15 +100,15 @@ connected-noted (e ∷ past) =
     ∙ ap (λ b. is_open (note_of e.event) || (not (is_close (note_of e.event)) && b)) (connected-noted past)
 
 -- The CONNACK of the latest connection has come.
-abbrev is_answered : Role → List Seen → Bool
-is_answered role log = since (λ m. is_some (connack_of role (note m))) (λ m. is_open (note m)) (moments log)
+abbrev is_connack_seen : Role → List Seen → Bool
+is_connack_seen role log = since (λ m. is_some (connack_of role (note m))) (λ m. is_open (note m)) (moments log)
 
-answered-noted : (header : Header) (log : List Placed) → trace_answered header.server log ≡ is_answered (role_of header) (map seen log)
-answered-noted header [] = refl
-answered-noted header (e ∷ past) =
-    ap (λ b. b || (not (begins_connection e.event) && trace_answered header.server past)) (answer-noted header.server header.releases e.event)
-    ∙ ap (λ b. is_some (connack_of (role_of header) (note_of e.event)) || (not b && trace_answered header.server past)) (begins-noted e.event)
-    ∙ ap (λ b. is_some (connack_of (role_of header) (note_of e.event)) || (not (is_open (note_of e.event)) && b)) (answered-noted header past)
+connack_seen-noted : (header : Header) (log : List Placed) → trace_connack_seen header.server log ≡ is_connack_seen (role_of header) (map seen log)
+connack_seen-noted header [] = refl
+connack_seen-noted header (e ∷ past) =
+    ap (λ b. b || (not (begins_connection e.event) && trace_connack_seen header.server past)) (answer-noted header.server header.releases e.event)
+    ∙ ap (λ b. is_some (connack_of (role_of header) (note_of e.event)) || (not b && trace_connack_seen header.server past)) (begins-noted e.event)
+    ∙ ap (λ b. is_some (connack_of (role_of header) (note_of e.event)) || (not (is_open (note_of e.event)) && b)) (connack_seen-noted header past)
 
 -- ---- what its CONNACK decides is decided
 
@@ -121,11 +121,11 @@ connack-decides role note h = go (is_close note) (connack_of role note) h
     go false None h = absurd (cc)
 
 -- the latest connection's CONNACK decides it
-answered-decided : (role : Role) (log : List Seen) → is_answered role log ≡ true → is_some (latest_fate role log) ≡ true
-answered-decided role [] h = absurd (cc)
-answered-decided role (e ∷ past) h =
+connack_seen-decided : (role : Role) (log : List Seen) → is_connack_seen role log ≡ true → is_some (latest_fate role log) ≡ true
+connack_seen-decided role [] h = absurd (cc)
+connack_seen-decided role (e ∷ past) h =
     ap is_some (latest_fate-next role e past)
-    ∙ go (is_open e.note) (is_some (connack_of role e.note)) (is_answered role past) h (open-decides role e.note) (connack-decides role e.note) (answered-decided role past)
+    ∙ go (is_open e.note) (is_some (connack_of role e.note)) (is_connack_seen role past) h (open-decides role e.note) (connack-decides role e.note) (connack_seen-decided role past)
   where
     go : (opens answers was : Bool) → (answers || (not opens && was)) ≡ true → (opens ≡ true → decides role e.note ≡ None) → (answers ≡ true → is_some (decides role e.note) ≡ true)
         → (was ≡ true → is_some (latest_fate role past) ≡ true) → is_some (cond opens None (option_or (latest_fate role past) (decides role e.note))) ≡ true
@@ -171,7 +171,7 @@ unrefused-grow limit log byte h = go (refused limit log) (refusal_at limit log b
 
 -- the event that the next byte completes is not early
 unrefused-event : (limit : ℕ) (c : Context) (byte : ℕ) (event : Event) → 8 ≤ c.at → refusal_for limit c byte ≡ None → event_for c byte ≡ Some event
-    → (needs_session (note_of event) && (c.connected && not c.answered)) ≡ false
+    → (needs_session (note_of event) && (c.connected && not c.connack_seen)) ≡ false
 unfolding refusal_for event_for situated
 unrefused-event limit c byte event long unrefused is =
     let after_header : nat_lt c.at 8 ≡ false = le-ltb c.at 8 long in
@@ -179,13 +179,13 @@ unrefused-event limit c byte event long unrefused is =
     sym (ap (λ b. if b then header_refusal c.at byte else record_refusal limit (situated c byte)) after_header) ∙ unrefused in
     let here : event_in (c.part ++ byte ∷ []) (so_far_for c byte) ≡ Some event =
     sym (ap (λ b. if b then None else event_in (c.part ++ byte ∷ []) (so_far_for c byte)) after_header) ∙ is in
-    ap (λ b. b && (c.connected && not c.answered)) (sym (needs-noted event)) ∙ ap (is_early (situated c byte)) (sym here) ∙ not-early limit (situated c byte) unrefused
+    ap (λ b. b && (c.connected && not c.connack_seen)) (sym (needs-noted event)) ∙ ap (is_early (situated c byte)) (sym here) ∙ not-early limit (situated c byte) unrefused
 
 -- ---- what is kept of a log
 
-answered_context : (log : List ℕ) → (context log).answered ≡ is_answered (tested_by log).role (seen_in log)
+connack_seen_context : (log : List ℕ) → (context log).connack_seen ≡ is_connack_seen (tested_by log).role (seen_in log)
 unfolding context seen_in
-answered_context log = answered-noted (header_by log) (events log)
+connack_seen_context log = connack_seen-noted (header_by log) (events log)
 
 connected_context : (log : List ℕ) → (context log).connected ≡ is_connected (seen_in log)
 unfolding context seen_in
@@ -222,12 +222,12 @@ orderly_nothing : (role : Role) (log : List Seen) → log ≡ [] → IsOrderly r
 orderly_nothing role log e = subst (IsOrderly role) (sym e) (record { placed = tt; in_order = tt })
 
 -- where the latest connection is closed or has its CONNACK, it is decided
-settle : (role : Role) (log : List Seen) (needs : Bool) → (needs && (is_connected log && not (is_answered role log))) ≡ false → needs ≡ true → is_some (latest_fate role log) ≡ true
-settle role log needs early h = go needs (is_connected log) (is_answered role log) early h (closed-decided role log) (answered-decided role log)
+settle : (role : Role) (log : List Seen) (needs : Bool) → (needs && (is_connected log && not (is_connack_seen role log))) ≡ false → needs ≡ true → is_some (latest_fate role log) ≡ true
+settle role log needs early h = go needs (is_connected log) (is_connack_seen role log) early h (closed-decided role log) (connack_seen-decided role log)
   where
-    go : (needs connected answered : Bool) → (needs && (connected && not answered)) ≡ false → needs ≡ true → (connected ≡ false → is_some (latest_fate role log) ≡ true)
-        → (answered ≡ true → is_some (latest_fate role log) ≡ true) → is_some (latest_fate role log) ≡ true
-    go needs false answered early h over came = over refl
+    go : (needs connected connack_seen : Bool) → (needs && (connected && not connack_seen)) ≡ false → needs ≡ true → (connected ≡ false → is_some (latest_fate role log) ≡ true)
+        → (connack_seen ≡ true → is_some (latest_fate role log) ≡ true) → is_some (latest_fate role log) ≡ true
+    go needs false connack_seen early h over came = over refl
     go needs true true early h over came = came refl
     go true true false early h over came = absurd (cc)
     go false true false early h over came = absurd (cc)
@@ -242,8 +242,8 @@ orderly_put limit log byte (Some event) long unrefused is before =
       placed = (ap (λ n. n + 1) (events_context log), before.placed);
       in_order = (
         settle (tested_by log).role (seen_in log) (needs_session (note_of event))
-            (ap (λ b. needs_session (note_of event) && (b && not (is_answered (tested_by log).role (seen_in log)))) (sym (connected_context log))
-            ∙ ap (λ b. needs_session (note_of event) && ((context log).connected && not b)) (sym (answered_context log))
+            (ap (λ b. needs_session (note_of event) && (b && not (is_connack_seen (tested_by log).role (seen_in log)))) (sym (connected_context log))
+            ∙ ap (λ b. needs_session (note_of event) && ((context log).connected && not b)) (sym (connack_seen_context log))
             ∙ fits),
         before.in_order,
       );

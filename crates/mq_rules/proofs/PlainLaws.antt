@@ -22,11 +22,11 @@ use Rattle.mq_rules.specs.Moments.{newest, moment, IsPlaced}
 use Rattle.mq_rules.specs.Rules.{same_rule, binds, found_line, lines, line_of}
 use Rattle.mq_rules.specs.Statements.{Statement, on_bytes, on_past, in_session, at_release, at_rest, statement, breaks_bytes, is_by_bytes, is_on_bytes}
 use Rattle.mq_rules.specs.Steps.{shows, turns}
-use Rattle.mq_rules.specs.Marks.{FaultMap, fault_at, with_fault}
+use Rattle.mq_rules.specs.FaultKeys.{FaultMap, fault_at, with_fault}
 use Rattle.mq_rules.specs.Faults.{record_of, offset_of, Grows, GrowsWithin}
 use Rattle.mq_rules.specs.Keeping.{GrowsBy, GrowsByWithin}
 use Rattle.mq_rules.proofs.BoolLaws.{and_false, option_or-none, same_test, not_true}
-use Rattle.mq_rules.proofs.MarkLaws.{fault_at-with_fault}
+use Rattle.mq_rules.proofs.FaultKeyLaws.{fault_at-with_fault}
 use Rattle.mq_rules.proofs.GrowLaws.{grows-step, within-later, grows-within, within-step}
 
 -- ---- a list that is read from its front

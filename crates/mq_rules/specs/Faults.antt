@@ -7,12 +7,12 @@ use Rattle.mq_rules.specs.declared.role.Tested.{Tested}
 use Rattle.mq_rules.specs.declared.rule.Rule.{Rule}
 use Rattle.mq_rules.specs.declared.note.Seen.{Seen}
 use Rattle.mq_rules.specs.declared.fault.Fault.{Fault}
-use Rattle.mq_rules.specs.declared.faults.Mark.{Mark}
+use Rattle.mq_rules.specs.declared.faults.FaultKey.{FaultKey}
 use Rattle.mq_rules.specs.Notes.{sent_fault}
 use Rattle.mq_rules.specs.Moments.{Moment, note, moment}
 use Rattle.mq_rules.specs.Rules.{all_rules}
 use Rattle.mq_rules.specs.Statements.{Statement, on_bytes, on_past, in_session, at_release, at_rest, statement, fails}
-use Rattle.mq_rules.specs.Marks.{FaultMap, fault_at}
+use Rattle.mq_rules.specs.FaultKeys.{FaultMap, fault_at}
 
 -- the length of the shortest beginning of the log in which the statement fails at position k
 abbrev pub decided : Tested → List Seen → ℕ → Rule → Option ℕ
@@ -45,11 +45,11 @@ abbrev pub chosen_fault : (Rule → Bool) → Tested → List Seen → ℕ → R
 chosen_fault chosen tested log k rule = cond (chosen rule) (fault_in tested log k rule) None
 
 -- the faults of a position, in the order of the statements
-abbrev pub listed_at : (Rule → Bool) → Tested → List Seen → ℕ → List (Mark × Fault)
+abbrev pub listed_at : (Rule → Bool) → Tested → List Seen → ℕ → List (FaultKey × Fault)
 listed_at chosen tested log k = filter_map (λ rule. option_map (λ fault. (record { position = k; rule = rule }, fault)) (chosen_fault chosen tested log k rule)) all_rules
 
 -- the faults of a log, in the order of reports: by position, and then in the order of the statements
-unfoldable pub listed_faults : (Rule → Bool) → Tested → List Seen → List (Mark × Fault)
+unfoldable pub listed_faults : (Rule → Bool) → Tested → List Seen → List (FaultKey × Fault)
 listed_faults chosen tested log = flat_map (listed_at chosen tested log) (range_with_len 1 (length log))
 
 -- Each pair of the chosen statements keeps the fault that it had, or else gets the one that it has in this log; the others are unchanged.

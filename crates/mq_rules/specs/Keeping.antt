@@ -34,7 +34,7 @@ use Rattle.mq_rules.specs.Connections.{begun, connection, first_connect, first_c
 use Rattle.mq_rules.specs.Pasts.{sends_typed, is_sent_disconnect, is_sent_refusal, set_alias}
 use Rattle.mq_rules.specs.Rules.{same_rule}
 use Rattle.mq_rules.specs.Steps.{turns}
-use Rattle.mq_rules.specs.Marks.{FaultMap, fault_at}
+use Rattle.mq_rules.specs.FaultKeys.{FaultMap, fault_at}
 use Rattle.mq_rules.specs.Faults.{reported}
 
 -- ---- what is kept after these events
@@ -141,85 +141,85 @@ abbrev pub is_type : PacketType → Option ItemNote → Bool
 is_type type item = is_some_and (is_of_type type) item
 
 -- of what is sent: a packet, or bytes that break a rule
-abbrev pub tells_C01 : Role → Option ItemNote → Bool
-tells_C01 role item = list_any (λ type. is_type type item) (foreign_types role)
+abbrev pub finds_C01 : Role → Option ItemNote → Bool
+finds_C01 role item = list_any (λ type. is_type type item) (foreign_types role)
 
-abbrev pub tells_C02 : ConnectionState → Option ItemNote → Bool
-tells_C02 s item = is_some_and is_typed item && (not (is_type types.Connect item) && not s.has_sent)
+abbrev pub finds_C02 : ConnectionState → Option ItemNote → Bool
+finds_C02 s item = is_some_and is_typed item && (not (is_type types.Connect item) && not s.has_sent)
 
-abbrev pub tells_C03 : ConnectionState → Option ItemNote → Bool
-tells_C03 s item = is_type types.Connect item && s.has_sent_connect
+abbrev pub finds_C03 : ConnectionState → Option ItemNote → Bool
+finds_C03 s item = is_type types.Connect item && s.has_sent_connect
 
-abbrev pub tells_C04 : ConnectionState → Option ItemNote → Bool
-tells_C04 s item = is_type types.Connack item && not s.has_received_connect
+abbrev pub finds_C04 : ConnectionState → Option ItemNote → Bool
+finds_C04 s item = is_type types.Connack item && not s.has_received_connect
 
-abbrev pub tells_C05 : ConnectionState → Option ItemNote → Bool
-tells_C05 s item = is_some_and is_typed item && (not (is_type types.Connack item || is_type types.Auth item) && not s.has_sent_connack)
+abbrev pub finds_C05 : ConnectionState → Option ItemNote → Bool
+finds_C05 s item = is_some_and is_typed item && (not (is_type types.Connack item || is_type types.Auth item) && not s.has_sent_connack)
 
-abbrev pub tells_C06 : ConnectionState → Option ItemNote → Bool
-tells_C06 s item = is_type types.Connack item && s.has_sent_connack
+abbrev pub finds_C06 : ConnectionState → Option ItemNote → Bool
+finds_C06 s item = is_type types.Connack item && s.has_sent_connack
 
-abbrev pub tells_C11 : ConnectionState → Option ItemNote → Bool
-tells_C11 s item = is_some_and is_typed item && s.has_sent_disconnect
+abbrev pub finds_C11 : ConnectionState → Option ItemNote → Bool
+finds_C11 s item = is_some_and is_typed item && s.has_sent_disconnect
 
-abbrev pub tells_C12 : ConnectionState → Option ItemNote → Bool
-tells_C12 s item = is_some_and is_typed item && s.has_sent_refusal
+abbrev pub finds_C12 : ConnectionState → Option ItemNote → Bool
+finds_C12 s item = is_some_and is_typed item && s.has_sent_refusal
 
 -- of a packet that is sent
-abbrev pub tells_C13 : ConnectionState → Option PacketNote → Bool
-tells_C13 s packet = is_some packet && (not (is_some (option_and_then disconnect_in (option_map (λ p. p.fields) packet)))
+abbrev pub finds_C13 : ConnectionState → Option PacketNote → Bool
+finds_C13 s packet = is_some packet && (not (is_some (option_and_then disconnect_in (option_map (λ p. p.fields) packet)))
     && (is_some_and resumed_by s.connack && (is_some_and (λ c. c.clean_start) s.connect || not s.was_alive)))
 
-abbrev pub tells_C14 : Role → ConnectionState → Option PacketNote → Bool
-tells_C14 role s packet = is_some_and (λ p. is_some_and (λ most. nat_lt most p.size) (size_limit role s)) packet
+abbrev pub finds_C14 : Role → ConnectionState → Option PacketNote → Bool
+finds_C14 role s packet = is_some_and (λ p. is_some_and (λ most. nat_lt most p.size) (size_limit role s)) packet
 
-abbrev pub tells_C21 : ConnectionState → Option PacketNote → Bool
-tells_C21 s packet = is_some_and (λ p. (p.has_reason_string || p.has_user_property) && not (may_explain p.fields)) packet
+abbrev pub finds_C21 : ConnectionState → Option PacketNote → Bool
+finds_C21 s packet = is_some_and (λ p. (p.has_reason_string || p.has_user_property) && not (may_explain p.fields)) packet
     && is_some_and (λ c. is_id 0 c.request_problem_information) s.connect
 
 -- of a PUBLISH that is sent; aliases are the Topic Aliases that are set
-abbrev pub tells_C15 : Role → ConnectionState → Option PublishNote → Bool
-tells_C15 role s publish = may_look role s && is_some_and (λ alias. nat_lt (alias_limit role s) alias) (option_and_then (λ p. p.topic_alias) publish)
+abbrev pub finds_C15 : Role → ConnectionState → Option PublishNote → Bool
+finds_C15 role s publish = may_look role s && is_some_and (λ alias. nat_lt (alias_limit role s) alias) (option_and_then (λ p. p.topic_alias) publish)
 
-abbrev pub tells_C16 : (ℕ → Bool) → Option PublishNote → Bool
-tells_C16 aliases publish = is_some_and (λ alias. not (aliases alias)) (option_and_then (λ p. only (length p.topic == 0) p.topic_alias) publish)
+abbrev pub finds_C16 : (ℕ → Bool) → Option PublishNote → Bool
+finds_C16 aliases publish = is_some_and (λ alias. not (aliases alias)) (option_and_then (λ p. only (length p.topic == 0) p.topic_alias) publish)
 
-abbrev pub tells_C17 : ConnectionState → Option PublishNote → Bool
-tells_C17 s publish = is_some_and (λ p. nat_lt (qos_limit s) (qos_number p.qos)) publish
+abbrev pub finds_C17 : ConnectionState → Option PublishNote → Bool
+finds_C17 s publish = is_some_and (λ p. nat_lt (qos_limit s) (qos_number p.qos)) publish
 
-abbrev pub tells_C18 : Option PublishNote → Bool
-tells_C18 publish = is_some_and (λ p. p.has_subscription_identifier) publish
+abbrev pub finds_C18 : Option PublishNote → Bool
+finds_C18 publish = is_some_and (λ p. p.has_subscription_identifier) publish
 
 -- of a CONNACK that is sent
-abbrev pub tells_C07 : ConnectionState → Option ConnackNote → Bool
-tells_C07 s connack = is_some_and (λ c. c.session_present) connack && is_some_and (λ c. c.clean_start) s.connect
+abbrev pub finds_C07 : ConnectionState → Option ConnackNote → Bool
+finds_C07 s connack = is_some_and (λ c. c.session_present) connack && is_some_and (λ c. c.clean_start) s.connect
 
-abbrev pub tells_C08 : ConnectionState → Option ConnackNote → Bool
-tells_C08 s connack = is_some_and (λ c. c.session_present) connack && (is_some_and (λ c. c.code == 0) connack && not s.was_alive)
+abbrev pub finds_C08 : ConnectionState → Option ConnackNote → Bool
+finds_C08 s connack = is_some_and (λ c. c.session_present) connack && (is_some_and (λ c. c.code == 0) connack && not s.was_alive)
 
-abbrev pub tells_C09 : Option ConnackNote → Bool
-tells_C09 connack = is_some_and (λ c. c.session_present) connack && not (is_some_and (λ c. c.code == 0) connack)
+abbrev pub finds_C09 : Option ConnackNote → Bool
+finds_C09 connack = is_some_and (λ c. c.session_present) connack && not (is_some_and (λ c. c.code == 0) connack)
 
-abbrev pub tells_C10 : ConnectionState → Option ConnackNote → Bool
-tells_C10 s connack = is_some_and (λ c. c.code == 0) connack && (not (is_some_and (λ c. c.has_assigned_identifier) connack) && is_some_and (λ c. c.is_unnamed) s.connect)
+abbrev pub finds_C10 : ConnectionState → Option ConnackNote → Bool
+finds_C10 s connack = is_some_and (λ c. c.code == 0) connack && (not (is_some_and (λ c. c.has_assigned_identifier) connack) && is_some_and (λ c. c.is_unnamed) s.connect)
 
-abbrev pub tells_C22 : ConnectionState → Option ConnackNote → Bool
-tells_C22 s connack = is_some_and (λ c. c.has_response_information) connack && is_some_and (λ c. not (is_id 1 c.request_response_information)) s.connect
+abbrev pub finds_C22 : ConnectionState → Option ConnackNote → Bool
+finds_C22 s connack = is_some_and (λ c. c.has_response_information) connack && is_some_and (λ c. not (is_id 1 c.request_response_information)) s.connect
 
 -- of a DISCONNECT that is sent
-abbrev pub tells_C19 : Option (Option ℕ) → Bool
-tells_C19 disconnect = is_some_and is_some disconnect
+abbrev pub finds_C19 : Option (Option ℕ) → Bool
+finds_C19 disconnect = is_some_and is_some disconnect
 
-abbrev pub tells_C20 : ConnectionState → Option (Option ℕ) → Bool
-tells_C20 s disconnect = is_some_and (λ d. is_some_and (λ seconds. not (seconds == 0)) d) disconnect && is_some_and (λ c. unwrap_or c.session_expiry 0 == 0) s.connect
+abbrev pub finds_C20 : ConnectionState → Option (Option ℕ) → Bool
+finds_C20 s disconnect = is_some_and (λ d. is_some_and (λ seconds. not (seconds == 0)) d) disconnect && is_some_and (λ c. unwrap_or c.session_expiry 0 == 0) s.connect
 
 -- of a REST
 abbrev pub has_left : Role → ConnectionState → Bool
 has_left Client s = s.has_sent_disconnect
 has_left Server s = s.has_sent_disconnect || s.has_sent_refusal
 
-abbrev pub tells_C23 : Role → ConnectionState → Bool → Bool
-tells_C23 role s is_rest = is_rest && has_left role s
+abbrev pub finds_C23 : Role → ConnectionState → Bool → Bool
+finds_C23 role s is_rest = is_rest && has_left role s
 
 -- ---- each statement that binds the end, with whether it is false at the event
 
@@ -228,27 +228,27 @@ abbrev pub dereferenced : {A : Type 0} → Option (Bor A) → Option A
 dereferenced r = option_map (λ b. b.now) r
 
 abbrev pub item_verdicts : Role → ConnectionState → Option ItemNote → List (Rule × Bool)
-item_verdicts Client s item = (C01, tells_C01 Client item) ∷ (C02, tells_C02 s item) ∷ (C03, tells_C03 s item) ∷ (C11, tells_C11 s item) ∷ []
-item_verdicts Server s item = (C01, tells_C01 Server item) ∷ (C04, tells_C04 s item) ∷ (C05, tells_C05 s item) ∷ (C06, tells_C06 s item) ∷ (C11, tells_C11 s item) ∷ (C12, tells_C12 s item) ∷ []
+item_verdicts Client s item = (C01, finds_C01 Client item) ∷ (C02, finds_C02 s item) ∷ (C03, finds_C03 s item) ∷ (C11, finds_C11 s item) ∷ []
+item_verdicts Server s item = (C01, finds_C01 Server item) ∷ (C04, finds_C04 s item) ∷ (C05, finds_C05 s item) ∷ (C06, finds_C06 s item) ∷ (C11, finds_C11 s item) ∷ (C12, finds_C12 s item) ∷ []
 
 abbrev pub packet_verdicts : Role → ConnectionState → Option PacketNote → List (Rule × Bool)
-packet_verdicts Client s packet = (C13, tells_C13 s packet) ∷ (C14, tells_C14 Client s packet) ∷ []
-packet_verdicts Server s packet = (C14, tells_C14 Server s packet) ∷ (C21, tells_C21 s packet) ∷ []
+packet_verdicts Client s packet = (C13, finds_C13 s packet) ∷ (C14, finds_C14 Client s packet) ∷ []
+packet_verdicts Server s packet = (C14, finds_C14 Server s packet) ∷ (C21, finds_C21 s packet) ∷ []
 
 abbrev pub publish_verdicts : Role → ConnectionState → (ℕ → Bool) → Option PublishNote → List (Rule × Bool)
-publish_verdicts Client s aliases publish = (C15, tells_C15 Client s publish) ∷ (C16, tells_C16 aliases publish) ∷ (C17, tells_C17 s publish) ∷ (C18, tells_C18 publish) ∷ []
-publish_verdicts Server s aliases publish = (C15, tells_C15 Server s publish) ∷ (C16, tells_C16 aliases publish) ∷ []
+publish_verdicts Client s aliases publish = (C15, finds_C15 Client s publish) ∷ (C16, finds_C16 aliases publish) ∷ (C17, finds_C17 s publish) ∷ (C18, finds_C18 publish) ∷ []
+publish_verdicts Server s aliases publish = (C15, finds_C15 Server s publish) ∷ (C16, finds_C16 aliases publish) ∷ []
 
 abbrev pub connack_verdicts : Role → ConnectionState → Option ConnackNote → List (Rule × Bool)
 connack_verdicts Client s connack = []
-connack_verdicts Server s connack = (C07, tells_C07 s connack) ∷ (C08, tells_C08 s connack) ∷ (C09, tells_C09 connack) ∷ (C10, tells_C10 s connack) ∷ (C22, tells_C22 s connack) ∷ []
+connack_verdicts Server s connack = (C07, finds_C07 s connack) ∷ (C08, finds_C08 s connack) ∷ (C09, finds_C09 connack) ∷ (C10, finds_C10 s connack) ∷ (C22, finds_C22 s connack) ∷ []
 
 abbrev pub disconnect_verdicts : Role → ConnectionState → Option (Option ℕ) → List (Rule × Bool)
-disconnect_verdicts Client s disconnect = (C20, tells_C20 s disconnect) ∷ []
-disconnect_verdicts Server s disconnect = (C19, tells_C19 disconnect) ∷ []
+disconnect_verdicts Client s disconnect = (C20, finds_C20 s disconnect) ∷ []
+disconnect_verdicts Server s disconnect = (C19, finds_C19 disconnect) ∷ []
 
 abbrev pub rest_verdicts : Role → ConnectionState → Bool → List (Rule × Bool)
-rest_verdicts role s is_rest = (C23, tells_C23 role s is_rest) ∷ []
+rest_verdicts role s is_rest = (C23, finds_C23 role s is_rest) ∷ []
 
 -- a statement is among these, and false
 abbrev pub is_among : List (Rule × Bool) → Rule → Bool
@@ -259,8 +259,8 @@ abbrev pub is_any_broken : List (Rule × Bool) → Bool
 is_any_broken verdicts = list_any (λ v. v.1) verdicts
 
 -- a statement is false at the event
-abbrev pub is_told : Role → ConnectionState → (ℕ → Bool) → Note → Rule → Bool
-is_told role s aliases n rule =
+abbrev pub is_found : Role → ConnectionState → (ℕ → Bool) → Note → Rule → Bool
+is_found role s aliases n rule =
     is_among (item_verdicts role s (sent_item n)) rule
     || (is_among (packet_verdicts role s (sent_packet n)) rule
     || (is_among (publish_verdicts role s aliases (sent_publish n)) rule

@@ -11,7 +11,7 @@ pub mod Subscriptions
 pub mod Rules
 pub mod Statements
 pub mod Steps
-pub mod Marks
+pub mod FaultKeys
 pub mod Faults
 pub mod Folds
 pub mod Keeping

@@ -17,8 +17,8 @@ use Rattle.mq_packet.specs.declared.rule.PacketRule.TheVariants as packet_rules
 use Rattle.mq_packet.specs.declared.fault.BodyFault.{BodyFault}
 use Rattle.mq_packet.specs.Entries.{Entry, AskedFilter, ConnectFields, PublishFields, connect, connack, publish, acknowledgement, request, answer, pingreq, pingresp, disconnect, auth}
 use Rattle.mq_trace.specs.declared.header.Header.{Header}
-use Rattle.mq_trace.specs.declared.kind.Way.{Way}
-use Rattle.mq_trace.specs.declared.kind.Way.TheVariants as ways
+use Rattle.mq_trace.specs.declared.kind.Direction.{Direction}
+use Rattle.mq_trace.specs.declared.kind.Direction.TheVariants as directions
 use Rattle.mq_trace.specs.Framing.{header_by}
 use Rattle.mq_trace.specs.Connections.{is_session_type}
 use Rattle.mq_trace.specs.Events.{Item, Event, Placed, packet, bad, lost, opened, closed, rested, released, sent, received, events}
@@ -56,9 +56,9 @@ abbrev pub only_list : {A : Type 0} → Bool → List A → List A
 only_list true texts = texts
 only_list false texts = []
 
-abbrev pub is_sent_way : Way → Bool
-is_sent_way ways.Sent = true
-is_sent_way ways.Recv = false
+abbrev pub is_sent_direction : Direction → Bool
+is_sent_direction directions.Sent = true
+is_sent_direction directions.Recv = false
 
 -- of a CONNECT (MQTT 5.0, section 3.1)
 abbrev pub connect_note : ConnectFields → ConnectNote
@@ -88,12 +88,12 @@ connack_note session_present code properties = record {
 }
 
 -- of a PUBLISH (MQTT 5.0, section 3.3)
-abbrev pub publish_note : Way → PublishFields → PublishNote
-publish_note way p = record {
+abbrev pub publish_note : Direction → PublishFields → PublishNote
+publish_note direction p = record {
   identifier = p.identifier;
   qos = p.qos;
   duplicate = p.duplicate;
-  topic = only_list (is_sent_way way) p.topic;
+  topic = only_list (is_sent_direction direction) p.topic;
   topic_alias = first_two_bytes 35 p.properties.items;
   has_message_expiry = is_some (first_four_bytes 2 p.properties.items);
   has_subscription_identifier = is_some (first_varint 11 p.properties.items);
@@ -111,27 +111,27 @@ abbrev pub filter_note : AskedFilter → NotedFilter
 filter_note f = record { filter = f.filter; options = unwrap_or f.options 0 }
 
 -- of SUBSCRIBE and UNSUBSCRIBE (MQTT 5.0, sections 3.8 and 3.10)
-abbrev pub request_fields : Way → RequestKind → ℕ → List AskedFilter → PacketFields
-request_fields way requests.Subscribe identifier filters = Subscribe identifier (only_list (not (is_sent_way way)) (map filter_note filters))
-request_fields way requests.Unsubscribe identifier filters = Unsubscribe identifier (length filters)
+abbrev pub request_fields : Direction → RequestKind → ℕ → List AskedFilter → PacketFields
+request_fields direction requests.Subscribe identifier filters = Subscribe identifier (only_list (not (is_sent_direction direction)) (map filter_note filters))
+request_fields direction requests.Unsubscribe identifier filters = Unsubscribe identifier (length filters)
 
 -- of SUBACK and UNSUBACK (MQTT 5.0, sections 3.9 and 3.11)
-abbrev pub answer_fields : Way → RequestKind → ℕ → List ℕ → PacketFields
-answer_fields way requests.Subscribe identifier codes = Suback identifier (only_list (is_sent_way way) codes)
-answer_fields way requests.Unsubscribe identifier codes = Unsuback identifier (length codes)
+abbrev pub answer_fields : Direction → RequestKind → ℕ → List ℕ → PacketFields
+answer_fields direction requests.Subscribe identifier codes = Suback identifier (only_list (is_sent_direction direction) codes)
+answer_fields direction requests.Unsubscribe identifier codes = Unsuback identifier (length codes)
 
 -- of any packet, by its type (MQTT 5.0, section 2.1.2)
-abbrev pub packet_fields : Way → Entry → PacketFields
-packet_fields way (connect fields) = Connect (connect_note fields)
-packet_fields way (connack session_present code properties) = Connack (connack_note session_present code properties.items)
-packet_fields way (publish fields) = Publish (publish_note way fields)
-packet_fields way (acknowledgement kind identifier code properties) = acknowledgement_fields kind identifier code
-packet_fields way (request kind identifier properties filters) = request_fields way kind identifier filters
-packet_fields way (answer kind identifier properties codes) = answer_fields way kind identifier codes
-packet_fields way pingreq = Pingreq
-packet_fields way pingresp = Pingresp
-packet_fields way (disconnect code properties) = Disconnect (first_four_bytes 17 properties.items)
-packet_fields way (auth code properties) = Auth
+abbrev pub packet_fields : Direction → Entry → PacketFields
+packet_fields direction (connect fields) = Connect (connect_note fields)
+packet_fields direction (connack session_present code properties) = Connack (connack_note session_present code properties.items)
+packet_fields direction (publish fields) = Publish (publish_note direction fields)
+packet_fields direction (acknowledgement kind identifier code properties) = acknowledgement_fields kind identifier code
+packet_fields direction (request kind identifier properties filters) = request_fields direction kind identifier filters
+packet_fields direction (answer kind identifier properties codes) = answer_fields direction kind identifier codes
+packet_fields direction pingreq = Pingreq
+packet_fields direction pingresp = Pingresp
+packet_fields direction (disconnect code properties) = Disconnect (first_four_bytes 17 properties.items)
+packet_fields direction (auth code properties) = Auth
 
 -- a packet's own property list, if it has one (MQTT 5.0, section 2.2.2)
 abbrev pub properties_of : Entry → List Property
@@ -146,27 +146,27 @@ properties_of pingresp = []
 properties_of (disconnect code properties) = properties.items
 properties_of (auth code properties) = properties.items
 
-abbrev pub packet_note : Way → ℕ → Entry → PacketNote
-packet_note way size entry = record {
+abbrev pub packet_note : Direction → ℕ → Entry → PacketNote
+packet_note direction size entry = record {
   size = size;
   has_reason_string = is_some (first_text 31 (properties_of entry));
   has_user_property = is_some (first_pair 38 (properties_of entry));
-  fields = packet_fields way entry;
+  fields = packet_fields direction entry;
 }
 
 -- of an item that went this way, and of an event
-abbrev pub item_note : Way → Item → ItemNote
-item_note way (packet size entry) = items.Packet (packet_note way size entry)
-item_note way (bad first rule at) = items.Bad first rule at
-item_note way lost = items.Lost
+abbrev pub item_note : Direction → Item → ItemNote
+item_note direction (packet size entry) = items.Packet (packet_note direction size entry)
+item_note direction (bad first rule at) = items.Bad first rule at
+item_note direction lost = items.Lost
 
 abbrev pub note_of : Event → Note
 note_of opened = notes.Open
 note_of closed = notes.Close
 note_of rested = notes.Rest
 note_of (released identifier) = notes.Release identifier
-note_of (sent item) = notes.Sent (item_note ways.Sent item)
-note_of (received item) = notes.Recv (item_note ways.Recv item)
+note_of (sent item) = notes.Sent (item_note directions.Sent item)
+note_of (received item) = notes.Recv (item_note directions.Recv item)
 
 abbrev pub seen : Placed → Seen
 seen placed = record { place = placed.place; note = note_of placed.event }

@@ -9,7 +9,7 @@ ghost use Rattle.mq_rules.specs.Words.{is_id, only};
 ghost use Rattle.mq_rules.specs.Notes.{is_open as opens};
 ghost use Rattle.mq_rules.specs.Pasts.{set_alias as sets};
 ghost use Rattle.mq_rules.specs.Statements.{is_on_past};
-ghost use Rattle.mq_rules.specs.Keeping as told;
+ghost use Rattle.mq_rules.specs.Keeping as keeping;
 ghost use Rattle.mq_rules.specs.Keeping.{Agrees, Judges, JudgesWithin, GrowsBy, GrowsByWithin, is_among};
 
 mod harmless;
@@ -62,27 +62,27 @@ impl Conn {
         ensures memory { OnErr result ((tested : TheTested) (past : List TheSeen) → Agrees self.old tested past → place.position ≡ length past + 1 → GrowsByWithin (is_on_past tested) tested (record { place = place; note = note.now }) past faults.old faults.new) }
     {
         self.judge(place, note, faults)?;
-        self.take(note)?;
+        self.consume(note)?;
         Ok(())
     }
 
     /// The bound on sizes by which `is_harmless` tells events that `step` needn't be called for.
     #[inline]
     pub fn size_bound(&self) -> u64
-        ensures { result ≡ told.size_bound self.now.role self.now.state }
+        ensures { result ≡ keeping.size_bound self.now.role self.now.state }
     {
         self.state.size_bound(self.role)
     }
 
     /// Takes an event.
-    fn take(&mut self, note: &Note) -> Result<(), Memory>
+    fn consume(&mut self, note: &Note) -> Result<(), Memory>
         ensures role { OnOk result (self.new.role ≡ self.old.role) }
-        ensures state { OnOk result (self.new.state ≡ told.connection_after self.old.role self.old.state note.now) }
+        ensures state { OnOk result (self.new.state ≡ keeping.connection_after self.old.role self.old.state note.now) }
         ensures aliases { OnOk result ((alias : ℕ) → contains nat_cmp self.new.aliases alias ≡ ((not (opens note.now) && contains nat_cmp self.old.aliases alias) || is_id alias (sets note.now))) }
     {
         self.clear_aliases_if(note.is_open());
         self.set_alias(alias_set_by(note))?;
-        self.state.take(self.role, note);
+        self.state.consume(self.role, note);
         Ok(())
     }
 
@@ -136,8 +136,8 @@ fn named_alias(publish: &PublishNote) -> Option<u16>
 impl Conn {
     /// Judges each statement that binds the end.
     fn judge(&self, place: Place3, note: &Note, faults: &mut Faults) -> Result<(), Memory>
-        ensures ok { OnOk result (Judges (told.is_told self.now.role self.now.state (contains nat_cmp self.now.aliases) note.now) place faults.old faults.new) }
-        ensures memory { OnErr result (JudgesWithin (told.is_told self.now.role self.now.state (contains nat_cmp self.now.aliases) note.now) place faults.old faults.new) }
+        ensures ok { OnOk result (Judges (keeping.is_found self.now.role self.now.state (contains nat_cmp self.now.aliases) note.now) place faults.old faults.new) }
+        ensures memory { OnErr result (JudgesWithin (keeping.is_found self.now.role self.now.state (contains nat_cmp self.now.aliases) note.now) place faults.old faults.new) }
     {
         self.judge_item(place, note.sent_item(), faults)?;
         self.judge_packet(place, note.sent_packet(), faults)?;
@@ -156,8 +156,8 @@ impl Conn {
         item: Option<&ItemNote>,
         faults: &mut Faults,
     ) -> Result<(), Memory>
-        ensures ok { OnOk result (Judges (is_among (told.item_verdicts self.now.role self.now.state (told.dereferenced item.entry))) place faults.old faults.new) }
-        ensures memory { OnErr result (JudgesWithin (is_among (told.item_verdicts self.now.role self.now.state (told.dereferenced item.entry))) place faults.old faults.new) }
+        ensures ok { OnOk result (Judges (is_among (keeping.item_verdicts self.now.role self.now.state (keeping.dereferenced item.entry))) place faults.old faults.new) }
+        ensures memory { OnErr result (JudgesWithin (is_among (keeping.item_verdicts self.now.role self.now.state (keeping.dereferenced item.entry))) place faults.old faults.new) }
     {
         let Some(item) = item else {
             return Ok(());
@@ -176,8 +176,8 @@ impl Conn {
         packet: Option<&PacketNote>,
         faults: &mut Faults,
     ) -> Result<(), Memory>
-        ensures ok { OnOk result (Judges (is_among (told.packet_verdicts self.now.role self.now.state (told.dereferenced packet.entry))) place faults.old faults.new) }
-        ensures memory { OnErr result (JudgesWithin (is_among (told.packet_verdicts self.now.role self.now.state (told.dereferenced packet.entry))) place faults.old faults.new) }
+        ensures ok { OnOk result (Judges (is_among (keeping.packet_verdicts self.now.role self.now.state (keeping.dereferenced packet.entry))) place faults.old faults.new) }
+        ensures memory { OnErr result (JudgesWithin (is_among (keeping.packet_verdicts self.now.role self.now.state (keeping.dereferenced packet.entry))) place faults.old faults.new) }
     {
         let Some(packet) = packet else {
             return Ok(());
@@ -196,8 +196,8 @@ impl Conn {
         publish: Option<&PublishNote>,
         faults: &mut Faults,
     ) -> Result<(), Memory>
-        ensures ok { OnOk result (Judges (is_among (told.publish_verdicts self.now.role self.now.state (contains nat_cmp self.now.aliases) (told.dereferenced publish.entry))) place faults.old faults.new) }
-        ensures memory { OnErr result (JudgesWithin (is_among (told.publish_verdicts self.now.role self.now.state (contains nat_cmp self.now.aliases) (told.dereferenced publish.entry))) place faults.old faults.new) }
+        ensures ok { OnOk result (Judges (is_among (keeping.publish_verdicts self.now.role self.now.state (contains nat_cmp self.now.aliases) (keeping.dereferenced publish.entry))) place faults.old faults.new) }
+        ensures memory { OnErr result (JudgesWithin (is_among (keeping.publish_verdicts self.now.role self.now.state (contains nat_cmp self.now.aliases) (keeping.dereferenced publish.entry))) place faults.old faults.new) }
     {
         let Some(publish) = publish else {
             return Ok(());
@@ -210,7 +210,7 @@ impl Conn {
 
     #[inline]
     fn client_publish(&self, publish: &PublishNote) -> [Verdict; 4]
-        ensures { result ≡ told.publish_verdicts roles.Client self.now.state (contains nat_cmp self.now.aliases) (Some publish.now) }
+        ensures { result ≡ keeping.publish_verdicts roles.Client self.now.state (contains nat_cmp self.now.aliases) (Some publish.now) }
     {
         [
             (Rule::C15, self.state.breaks_c15(Role::Client, publish)),
@@ -222,7 +222,7 @@ impl Conn {
 
     #[inline]
     fn server_publish(&self, publish: &PublishNote) -> [Verdict; 2]
-        ensures { result ≡ told.publish_verdicts roles.Server self.now.state (contains nat_cmp self.now.aliases) (Some publish.now) }
+        ensures { result ≡ keeping.publish_verdicts roles.Server self.now.state (contains nat_cmp self.now.aliases) (Some publish.now) }
     {
         [
             (Rule::C15, self.state.breaks_c15(Role::Server, publish)),
@@ -232,7 +232,7 @@ impl Conn {
 
     #[inline]
     fn breaks_c16(&self, publish: &PublishNote) -> bool
-        ensures { result ≡ told.tells_C16 (contains nat_cmp self.now.aliases) (Some publish.now) }
+        ensures { result ≡ keeping.finds_C16 (contains nat_cmp self.now.aliases) (Some publish.now) }
     {
         match used_alias(publish) {
             Some(alias) => !self.aliases.contains(&alias),
@@ -248,8 +248,8 @@ impl Conn {
         connack: Option<&ConnackNote>,
         faults: &mut Faults,
     ) -> Result<(), Memory>
-        ensures ok { OnOk result (Judges (is_among (told.connack_verdicts self.now.role self.now.state (told.dereferenced connack.entry))) place faults.old faults.new) }
-        ensures memory { OnErr result (JudgesWithin (is_among (told.connack_verdicts self.now.role self.now.state (told.dereferenced connack.entry))) place faults.old faults.new) }
+        ensures ok { OnOk result (Judges (is_among (keeping.connack_verdicts self.now.role self.now.state (keeping.dereferenced connack.entry))) place faults.old faults.new) }
+        ensures memory { OnErr result (JudgesWithin (is_among (keeping.connack_verdicts self.now.role self.now.state (keeping.dereferenced connack.entry))) place faults.old faults.new) }
     {
         let Some(connack) = connack else {
             return Ok(());
@@ -268,8 +268,8 @@ impl Conn {
         disconnect: Option<Option<u32>>,
         faults: &mut Faults,
     ) -> Result<(), Memory>
-        ensures ok { OnOk result (Judges (is_among (told.disconnect_verdicts self.now.role self.now.state disconnect)) place faults.old faults.new) }
-        ensures memory { OnErr result (JudgesWithin (is_among (told.disconnect_verdicts self.now.role self.now.state disconnect)) place faults.old faults.new) }
+        ensures ok { OnOk result (Judges (is_among (keeping.disconnect_verdicts self.now.role self.now.state disconnect)) place faults.old faults.new) }
+        ensures memory { OnErr result (JudgesWithin (is_among (keeping.disconnect_verdicts self.now.role self.now.state disconnect)) place faults.old faults.new) }
     {
         let Some(expiry) = disconnect else {
             return Ok(());
@@ -285,8 +285,8 @@ impl Conn {
     /// Judges C23; the flag says whether the event is a REST.
     #[inline]
     fn judge_rest(&self, place: Place3, is_rest: bool, faults: &mut Faults) -> Result<(), Memory>
-        ensures ok { OnOk result (Judges (is_among (told.rest_verdicts self.now.role self.now.state is_rest)) place faults.old faults.new) }
-        ensures memory { OnErr result (JudgesWithin (is_among (told.rest_verdicts self.now.role self.now.state is_rest)) place faults.old faults.new) }
+        ensures ok { OnOk result (Judges (is_among (keeping.rest_verdicts self.now.role self.now.state is_rest)) place faults.old faults.new) }
+        ensures memory { OnErr result (JudgesWithin (is_among (keeping.rest_verdicts self.now.role self.now.state is_rest)) place faults.old faults.new) }
     {
         judge_each(
             place,
@@ -324,7 +324,7 @@ fn judge_each(place: Place3, verdicts: &[Verdict], faults: &mut Faults) -> Resul
 /// Whether any of these statements is false.
 #[inline(always)]
 fn is_any_broken(verdicts: &[Verdict]) -> bool
-    ensures { result ≡ told.is_any_broken verdicts.now }
+    ensures { result ≡ keeping.is_any_broken verdicts.now }
 {
     verdicts.iter().any(|(_, broken)| *broken)
 }

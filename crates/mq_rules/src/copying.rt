@@ -10,7 +10,7 @@ use std::alloc::Global;
 
 /// A copy of the bytes. No bytes need no memory.
 #[inline]
-pub fn copied(alloc: Global, bytes: &[u8]) -> Result<Vec<u8>, Memory>
+pub fn copy_bytes(alloc: Global, bytes: &[u8]) -> Result<Vec<u8>, Memory>
     ensures exact { IfOk result (λ copy. copy.items ≡ bytes.now) }
     ensures needed { OnErr result (0 < length bytes.now) }
 {
@@ -21,7 +21,7 @@ pub fn copied(alloc: Global, bytes: &[u8]) -> Result<Vec<u8>, Memory>
 
 /// A copy of the text. An empty one needs no memory.
 #[inline]
-pub fn copied_text(alloc: Global, text: &str) -> Result<String, Memory>
+pub fn copy_text(alloc: Global, text: &str) -> Result<String, Memory>
     ensures exact { IfOk result (λ copy. string_bytes copy ≡ text.now) }
     ensures needed { OnErr result (0 < length text.now) }
 {
@@ -31,7 +31,7 @@ pub fn copied_text(alloc: Global, text: &str) -> Result<String, Memory>
 }
 
 /// What is noted of the filter: a copy, with its Subscription Options.
-fn noted_filter(alloc: Global, filter: Filter<'_>) -> Result<NotedFilter, Memory>
+fn note_filter_of(alloc: Global, filter: Filter<'_>) -> Result<NotedFilter, Memory>
     ensures { IfOk result (λ note. note ≡ filter_note (filter_view filter.entry)) }
 {
     let options = filter.options.unwrap_or(0);
@@ -40,13 +40,13 @@ fn noted_filter(alloc: Global, filter: Filter<'_>) -> Result<NotedFilter, Memory
 }
 
 /// What is noted of the filters, in order. No filters need no memory.
-pub fn noted(alloc: Global, filters: &Filters<'_>) -> Result<Vec<NotedFilter>, Memory>
+pub fn note_filters(alloc: Global, filters: &Filters<'_>) -> Result<Vec<NotedFilter>, Memory>
     ensures exact { IfOk result (λ notes. notes.items ≡ map filter_note filters.now) }
     ensures needed { OnErr result (0 < length filters.now) }
 {
     let mut notes = Vec::new(alloc);
     for filter in filters.iter() {
-        notes.push(noted_filter(alloc, filter)?)?;
+        notes.push(note_filter_of(alloc, filter)?)?;
     }
     Ok(notes)
 }

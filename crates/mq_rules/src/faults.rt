@@ -2,7 +2,7 @@
 ghost use Rattle.std.specs.Prelude.{◌≡◌, ◌==◌, OnOk, OnErr, Option, None, true, option_map};
 ghost use Rattle.std.specs.FinMap as map;
 ghost use Rattle.std.specs.Map.Iter.{ShowsInOrder, deref_pair};
-ghost use Rattle.mq_rules.specs.Marks.{fault_at, faults_at, first_from, with_fault, judged};
+ghost use Rattle.mq_rules.specs.FaultKeys.{fault_at, faults_at, first_from, with_fault, judged};
 
 use crate::fault::Fault;
 use crate::rule::Rule;
@@ -30,7 +30,7 @@ impl From<AllocError> for Memory {
 
 /// A pair of a position and a statement. Marks are ordered by position, and then by statement, as reports are.
 #[derive(Clone, Copy, Debug, PartialEq, Eq, PartialOrd, Ord)]
-pub struct Mark {
+pub struct FaultKey {
     /// The event's number among the events, counted from 1.
     pub position: u32,
     /// The statement that is false there.
@@ -40,19 +40,19 @@ pub struct Mark {
 /// The faults that were found, each under its mark.
 #[derive(Drop)]
 pub struct Faults {
-    found: BTreeMap<Mark, Fault>,
+    found: BTreeMap<FaultKey, Fault>,
 }
 
 impl Model for Faults {
     ghost use Rattle.std.specs.FinMap as map;
-    ghost use Rattle.mq_rules.specs.Marks.{mark_cmp};
+    ghost use Rattle.mq_rules.specs.FaultKeys.{key_cmp};
     ghost use Rattle.mq_rules.specs.declared.fault.Fault.{Fault};
-    ghost use Rattle.mq_rules.specs.contracts.faults.Mark as mark;
+    ghost use Rattle.mq_rules.specs.contracts.faults.FaultKey as key;
     ghost use Rattle.mq_rules.specs.contracts.fault.Fault as fault;
 
-    ghost Value = { map.FinMap mark_cmp Fault };
+    ghost Value = { map.FinMap key_cmp Fault };
 
-    ghost coded = { map.code mark.the_row.coded fault.the_row.coded };
+    ghost coded = { map.code key.the_row.coded fault.the_row.coded };
 
     ghost view = { λ a. map.from_entries a.found.entries };
 }
@@ -72,15 +72,15 @@ impl Faults {
     /// # Errors
     ///
     /// `Memory` if there is no memory for a new mark. The faults are then unchanged.
-    pub fn add(&mut self, mark: Mark, fault: Fault) -> Result<(), Memory>
-        ensures ok { OnOk result (self.new ≡ with_fault mark fault self.old) }
-        ensures absent { OnErr result (map.get self.old mark ≡ None) }
+    pub fn add(&mut self, key: FaultKey, fault: Fault) -> Result<(), Memory>
+        ensures ok { OnOk result (self.new ≡ with_fault key fault self.old) }
+        ensures absent { OnErr result (map.get self.old key ≡ None) }
         ensures unchanged { OnErr result (self.new ≡ self.old) }
     {
-        if self.found.contains_key(&mark) {
+        if self.found.contains_key(&key) {
             return Ok(());
         }
-        self.found.insert(mark, fault)?;
+        self.found.insert(key, fault)?;
         Ok(())
     }
 
@@ -98,19 +98,19 @@ impl Faults {
         if !broken {
             return Ok(());
         }
-        let mark = Mark {
+        let key = FaultKey {
             position: place.position,
             rule,
         };
-        self.add(mark, Fault::at_once(place, None))?;
+        self.add(key, Fault::at_once(place, None))?;
         Ok(())
     }
 
     /// The fault under a mark, if there is one.
-    pub fn get(&self, mark: Mark) -> Option<Fault>
-        ensures { result ≡ map.get self.now mark }
+    pub fn get(&self, key: FaultKey) -> Option<Fault>
+        ensures { result ≡ map.get self.now key }
     {
-        self.found.get(&mark).copied()
+        self.found.get(&key).copied()
     }
 
     /// How many faults there are.
@@ -128,23 +128,23 @@ impl Faults {
     }
 
     /// The faults with their marks, in ascending order: by position, and then in the order of the statements.
-    pub fn iter(&self) -> Iter<'_, Mark, Fault>
+    pub fn iter(&self) -> Iter<'_, FaultKey, Fault>
         ensures rest { result ≡ map.entries self.now }
-        ensures runs { ShowsInOrder (deref_pair {K = Mark} {X = Fault}) }
+        ensures runs { ShowsInOrder (deref_pair {K = FaultKey} {X = Fault}) }
     {
         self.found.iter()
     }
 
     /// The faults at a position with their marks, in the order of the statements.
-    pub fn at(&self, position: u32) -> Range<'_, Mark, Fault>
+    pub fn at(&self, position: u32) -> Range<'_, FaultKey, Fault>
         ensures rest { result ≡ faults_at position (map.entries self.now) }
-        ensures runs { ShowsInOrder (deref_pair {K = Mark} {X = Fault}) }
+        ensures runs { ShowsInOrder (deref_pair {K = FaultKey} {X = Fault}) }
     {
-        let first = Mark {
+        let first = FaultKey {
             position,
             rule: Rule::W01,
         };
-        let last = Mark {
+        let last = FaultKey {
             position,
             rule: Rule::B04,
         };
@@ -155,11 +155,11 @@ impl Faults {
     pub fn first_from(&self, position: u32) -> Option<u32>
         ensures { result ≡ first_from position (map.entries self.now) }
     {
-        let first = Mark {
+        let first = FaultKey {
             position,
             rule: Rule::W01,
         };
-        let (mark, _) = self.found.range(first..).next()?;
-        Some(mark.position)
+        let (key, _) = self.found.range(first..).next()?;
+        Some(key.position)
     }
 }

@@ -12,7 +12,7 @@ ghost use Rattle.mq_rules.specs.declared.rule.Rule.{Rule};
 ghost use Rattle.mq_rules.specs.declared.note.Note.{Note};
 ghost use Rattle.mq_rules.specs.declared.note.Seen.{Seen};
 ghost use Rattle.mq_rules.specs.declared.fault.Fault.{Fault};
-ghost use Rattle.mq_rules.specs.declared.faults.Mark.{Mark};
+ghost use Rattle.mq_rules.specs.declared.faults.FaultKey.{FaultKey};
 ghost use Rattle.mq_rules.specs.Words.{is_some_and};
 ghost use Rattle.mq_rules.specs.Notes.{is_open, decides, needs_session};
 ghost use Rattle.mq_rules.specs.Moments.{Moment, newest, note, moment, is_next};
@@ -22,7 +22,7 @@ ghost use Rattle.mq_rules.specs.Statements.{on_bytes, on_past, in_session, at_re
 ghost use Rattle.mq_rules.specs.Steps.{given, turns, JudgedAtOnce, IsLate};
 ghost use Rattle.mq_rules.specs.Exchanges.{breaks_E7R};
 ghost use Rattle.mq_rules.specs.Faults.{decided, reported, chosen_fault, fault_in, listed_faults};
-ghost use Rattle.mq_rules.specs.Marks.{mark_cmp, FaultMap, fault_at};
+ghost use Rattle.mq_rules.specs.FaultKeys.{key_cmp, FaultMap, fault_at};
 
 /// What fails with one more event failed already, or turns out to fail with that event.
 pub fn failing_turns()
@@ -103,8 +103,8 @@ pub fn fated_failing_turns()
 
 /// The list of a log's faults has exactly the faults of the statements that are judged, each under its position and statement. It ascends by position, and then by statement, with no pair twice.
 pub fn listed_is_failing()
-    ensures ordered { (chosen : Rule → Bool) (tested : Tested) (log : List Seen) → IsStrictlySortedBy mark_cmp (keys_of (listed_faults chosen tested log)) }
-    ensures each { (chosen : Rule → Bool) (tested : Tested) (log : List Seen) (mark : Mark) (fault : Fault) → Contains (listed_faults chosen tested log) (mark, fault) ↔ (chosen_fault chosen tested log mark.position mark.rule ≡ Some fault) }
+    ensures ordered { (chosen : Rule → Bool) (tested : Tested) (log : List Seen) → IsStrictlySortedBy key_cmp (keys_of (listed_faults chosen tested log)) }
+    ensures each { (chosen : Rule → Bool) (tested : Tested) (log : List Seen) (key : FaultKey) (fault : Fault) → Contains (listed_faults chosen tested log) (key, fault) ↔ (chosen_fault chosen tested log key.position key.rule ≡ Some fault) }
 {}
 
 /// The finite map that has the fault of each pair has exactly the entries of the list, in its order.

@@ -6,6 +6,7 @@
 #![tactic(auto)]
 
 mod conn;
+mod conversion;
 mod copying;
 mod fate;
 mod fault;
@@ -13,7 +14,6 @@ mod faults;
 mod laws;
 mod naming;
 mod note;
-mod noting;
 mod packet_note;
 mod plain;
 mod position_laws;
@@ -29,7 +29,7 @@ mod worked;
 
 pub use fate::Fate;
 pub use fault::Fault;
-pub use faults::{Faults, Mark, Memory};
+pub use faults::{FaultKey, Faults, Memory};
 pub use laws::{
     decided_is_shortest, entries_are_listed, failing_is_decided, failing_stays, failing_turns,
     fated_failing_turns, faults_grow, given_fate_is_decided, late_is_judged_at_once,

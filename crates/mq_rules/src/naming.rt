@@ -225,7 +225,7 @@ fn find_saying(rule: Rule) -> Option<Saying>
 }
 
 /// The first row with this code, in capitals or not.
-fn coded(table: &[Row], code: &str) -> Option<Row>
+fn row_with_code(table: &[Row], code: &str) -> Option<Row>
     ensures { result ≡ find (λ row. str_eq_ignore_ascii_case row.1.now code.now) table.now }
 {
     table
@@ -235,11 +235,11 @@ fn coded(table: &[Row], code: &str) -> Option<Row>
 }
 
 /// The same, as contracts see rows.
-fn coded_in(table: &[Row], code: &str) -> Option<Row>
+fn row_with_code_in(table: &[Row], code: &str) -> Option<Row>
     ensures { option_map line_view result
         ≡ find (λ line. str_eq_ignore_ascii_case line.code code.now) (lines_of table.now) }
 {
-    coded(table, code)
+    row_with_code(table, code)
 }
 
 /// The row with this code, if there is one.
@@ -247,7 +247,7 @@ fn coded_in(table: &[Row], code: &str) -> Option<Row>
 fn find_coded(code: &str) -> Option<Row>
     ensures { option_map line_view result ≡ coded_line code.now }
 {
-    coded_in(&TABLE, code)
+    row_with_code_in(&TABLE, code)
 }
 
 impl Rule {

@@ -132,7 +132,7 @@ impl ItemNote {
     /// The rule that these bytes break, and where in the packet. If the direction is lost, its Remaining Length breaks W03, at the
     /// packet's second byte.
     #[inline]
-    pub fn broken(&self) -> Option<BodyFault>
+    pub fn body_fault(&self) -> Option<BodyFault>
         ensures { result ≡ notes.broken_in self.now }
     {
         match self {
@@ -184,7 +184,7 @@ impl Note {
 
     /// The Packet Identifier of the QoS 2 message that the tested end released (MQTT 5.0, section 4.3.3).
     #[inline]
-    pub fn released(&self) -> Option<u16>
+    pub fn released_identifier(&self) -> Option<u16>
         ensures { result ≡ notes.released_id self.now }
     {
         match self {
@@ -445,7 +445,7 @@ impl Note {
         ensures { result ≡ notes.closer_of self.now }
     {
         match self {
-            Note::Recv(ItemNote::Packet(packet)) => packet.fields.settled(),
+            Note::Recv(ItemNote::Packet(packet)) => packet.fields.settled_identifier(),
             _ => None,
         }
     }
@@ -453,7 +453,7 @@ impl Note {
     /// The Packet Identifier that the event takes: it opens it, or a client sends a SUBSCRIBE or UNSUBSCRIBE under it (MQTT 5.0,
     /// section 2.2.1).
     #[inline]
-    pub fn taken(&self, role: Role) -> Option<u16>
+    pub fn taken_identifier(&self, role: Role) -> Option<u16>
         ensures { result ≡ taken_by role self.now }
     {
         match role {
@@ -656,7 +656,7 @@ impl Note {
         ensures { result ≡ notes.sent_as notes.ended_in self.now }
     {
         match self {
-            Note::Sent(ItemNote::Packet(packet)) => packet.fields.ended(),
+            Note::Sent(ItemNote::Packet(packet)) => packet.fields.ended_identifier(),
             _ => None,
         }
     }
@@ -721,11 +721,11 @@ impl Note {
 
     /// The rule that the bytes break which the tested end sent, and where in the packet.
     #[inline]
-    pub fn broken(&self) -> Option<BodyFault>
+    pub fn body_fault(&self) -> Option<BodyFault>
         ensures { result ≡ notes.sent_fault self.now }
     {
         match self {
-            Note::Sent(item) => item.broken(),
+            Note::Sent(item) => item.body_fault(),
             _ => None,
         }
     }

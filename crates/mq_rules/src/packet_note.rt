@@ -458,7 +458,7 @@ impl PacketFields {
 
     /// The Packet Identifier that a PUBACK, a PUBCOMP or a refusing PUBREC sets free (MQTT 5.0, sections 4.3.2 and 4.3.3).
     #[inline]
-    pub fn settled(&self) -> Option<u16>
+    pub fn settled_identifier(&self) -> Option<u16>
         ensures { result ≡ settled_in self.now }
     {
         match self {
@@ -471,7 +471,7 @@ impl PacketFields {
 
     /// The Packet Identifier of the received QoS 2 PUBLISH whose exchange a PUBCOMP or a refusing PUBREC ends (MQTT 5.0, section 4.3.3).
     #[inline]
-    pub fn ended(&self) -> Option<u16>
+    pub fn ended_identifier(&self) -> Option<u16>
         ensures { result ≡ ended_in self.now }
     {
         match self {

@@ -9,7 +9,7 @@ ghost use Rattle.mq_rules.specs.Keeping.{GrowsBy};
 
 use crate::conn::{Conn, is_harmless};
 use crate::fault::Fault;
-use crate::faults::{Faults, Mark, Memory};
+use crate::faults::{FaultKey, Faults, Memory};
 use crate::note::Seen;
 use crate::role::Tested;
 use crate::rule::Rule;
@@ -73,13 +73,13 @@ fn judge_bytes(event: &Seen, faults: &mut Faults) -> Result<(), Memory>
     ensures ok { OnOk result ((tested : TheTested) (past : List TheSeen) → event.now.place.position ≡ length past + 1 → GrowsBy (is_on_bytes tested) tested event.now past faults.old faults.new) }
     ensures unchanged { OnErr result (faults.new ≡ faults.old) }
 {
-    let Some(broken) = event.note.broken() else {
+    let Some(broken) = event.note.body_fault() else {
         return Ok(());
     };
-    let mark = Mark {
+    let key = FaultKey {
         position: event.place.position,
         rule: Rule::of(broken.rule),
     };
-    faults.add(mark, Fault::at_once(event.place, Some(broken.at)))?;
+    faults.add(key, Fault::at_once(event.place, Some(broken.at)))?;
     Ok(())
 }

@@ -2,7 +2,7 @@
 //!
 //! A short text is stored in the value itself, and an empty list takes no memory, so making either can't fail.
 
-use crate::copying::{copied, copied_text, noted};
+use crate::copying::{copy_bytes, copy_text, note_filters};
 use crate::faults::Memory;
 use crate::short_text::{ROOM, ShortText};
 use mq_packet::{Codes, Filters};
@@ -87,7 +87,7 @@ impl Text {
     fn long(alloc: Global, text: &str) -> Result<Text, Memory>
         ensures { IfOk result (λ copy. copy ≡ text.now) }
     {
-        let text = copied_text(alloc, text)?;
+        let text = copy_text(alloc, text)?;
         Ok(Text {
             form: Form::Long(text),
         })
@@ -171,7 +171,7 @@ impl FilterList {
         ensures exact { IfOk result (λ copies. copies ≡ map filter_note filters.now) }
         ensures needed { OnErr result (0 < length filters.now) }
     {
-        let filters = noted(alloc, filters)?;
+        let filters = note_filters(alloc, filters)?;
         Ok(FilterList { filters })
     }
 
@@ -236,7 +236,7 @@ impl CodeList {
         ensures exact { IfOk result (λ copies. copies ≡ codes.now) }
         ensures needed { OnErr result (0 < length codes.now) }
     {
-        let codes = copied(alloc, codes.as_bytes())?;
+        let codes = copy_bytes(alloc, codes.as_bytes())?;
         Ok(CodeList { codes })
     }
 

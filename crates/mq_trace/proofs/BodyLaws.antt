@@ -3,68 +3,68 @@ use Rattle.std.proofs.Common.{◌≡◌, ℕ, ◌+◌, ◌-◌, ◌*◌, ◌<◌
 use Rattle.std.specs.Prelude.{◌==◌, if◌then◌else◌}
 use Rattle.std.proofs.lemmas.Bool.{eqb-true, eqb-false, eq-eqb, ne_eqb}
 use Rattle.std.proofs.lemmas.List.{take-append-le, length-take-le}
-use Rattle.mq_trace.specs.declared.kind.Way.{Way}
-use Rattle.mq_trace.specs.declared.kind.Way.TheVariants as ways
+use Rattle.mq_trace.specs.declared.kind.Direction.{Direction}
+use Rattle.mq_trace.specs.declared.kind.Direction.TheVariants as directions
 use Rattle.mq_trace.specs.declared.stage.Stage.TheVariants as stages
 use Rattle.mq_trace.specs.declared.refusal.Refusal.{Refusal}
 use Rattle.mq_trace.specs.declared.connections.Connections.{Connections}
-use Rattle.mq_trace.specs.declared.direction.Direction.{Direction}
+use Rattle.mq_trace.specs.declared.deframer.Deframer.{Deframer}
 use Rattle.mq_trace.specs.declared.reading.Reading.{Reading}
-use Rattle.mq_trace.specs.Framing.{kind_of, way_of, body_length}
+use Rattle.mq_trace.specs.Framing.{kind_of, direction_of, body_length}
 use Rattle.mq_trace.specs.Events.{Event, Placed}
 use Rattle.mq_trace.specs.Context.{so_far_in, so_far_for}
 use Rattle.mq_trace.specs.Runs.{behind, refused_in, heard_in}
-use Rattle.mq_trace.specs.Flows.{Bed, Flow, flow_event, flow_with, flow_after, flow_behind, flow_refused, flow_heard, bed_in, flow_in, flowed}
+use Rattle.mq_trace.specs.Flows.{BodyContext, Flow, flow_event, flow_with, flow_after, flow_behind, flow_refused, flow_heard, context_in, flow_in, flowed}
 use Rattle.mq_trace.specs.Hearing.{AreEvents}
-use Rattle.mq_trace.specs.Directing.{flow_of, FlowWhy, FlowStops}
-use Rattle.mq_trace.specs.Keeping.{half_in, IsAt, context_of, begun_in, IsWithin, IsUnfinished, IsSound, Advances, Comes, StepStops}
-use Rattle.mq_trace.specs.Stepping.{bed_for, direction_for, flow_for, redirected, leaving, carried_on}
+use Rattle.mq_trace.specs.Deframing.{flow_of, FlowWhy, FlowStops}
+use Rattle.mq_trace.specs.Keeping.{state_in, IsAt, context_of, begun_in, IsWithin, IsUnfinished, IsSound, Advances, Comes, StepStops}
+use Rattle.mq_trace.specs.Stepping.{context_for, deframer_for, flow_for, redirected, leaving, carried_on}
 use Rattle.mq_trace.proofs.FramingLaws.{body_length-append, kind_of-append}
 use Rattle.mq_trace.proofs.EndLaws.{left_sound}
-use Rattle.mq_trace.proofs.LiftLaws.{lifted-so_far, half_flowed, lifted-refused, lifted-heard, lifted-behind}
+use Rattle.mq_trace.proofs.LiftLaws.{lifted-so_far, state_flowed, lifted-refused, lifted-heard, lifted-behind}
 
-bed_same : (r : Reading) (way : Way) (part : List ℕ) → bed_in (context_of r part) way ≡ bed_for r way
-bed_same r way part = refl
+context_same : (r : Reading) (direction : Direction) (part : List ℕ) → context_in (context_of r part) direction ≡ context_for r direction
+context_same r direction part = refl
 
-flow_same : (r : Reading) (way : Way) (part : List ℕ) → flow_in (context_of r part) way ≡ flow_for r way
-flow_same r ways.Sent part = refl
-flow_same r ways.Recv part = refl
+flow_same : (r : Reading) (direction : Direction) (part : List ℕ) → flow_in (context_of r part) direction ≡ flow_for r direction
+flow_same r directions.Sent part = refl
+flow_same r directions.Recv part = refl
 
 -- No byte of a body opens or ends a connection.
-connected_with : (bed : Bed) (f : Flow) (event : Option Event) → (flow_with bed f event).connected ≡ f.connected
-connected_with bed f None = refl
-connected_with bed f (Some event) = refl
+connected_with : (context : BodyContext) (f : Flow) (event : Option Event) → (flow_with context f event).connected ≡ f.connected
+connected_with context f None = refl
+connected_with context f (Some event) = refl
 
-connected_after : (bed : Bed) (f : Flow) (byte : ℕ) → (flow_after bed f byte).connected ≡ f.connected
+connected_after : (context : BodyContext) (f : Flow) (byte : ℕ) → (flow_after context f byte).connected ≡ f.connected
 unfolding flow_after
-connected_after bed f byte = connected_with bed _ (flow_event bed f byte)
+connected_after context f byte = connected_with context _ (flow_event context f byte)
 
-connected_behind : (bed : Bed) (f : Flow) (bytes : List ℕ) → (flow_behind bed f bytes).connected ≡ f.connected
-connected_behind bed f [] = refl
-connected_behind bed f (byte ∷ bytes) = connected_behind bed (flow_after bed f byte) bytes ∙ connected_after bed f byte
+connected_behind : (context : BodyContext) (f : Flow) (bytes : List ℕ) → (flow_behind context f bytes).connected ≡ f.connected
+connected_behind context f [] = refl
+connected_behind context f (byte ∷ bytes) = connected_behind context (flow_after context f byte) bytes ∙ connected_after context f byte
 
-limit_same : (r : Reading) (way : Way) (d : Direction) → (redirected r way d).limit ≡ r.limit
-limit_same r ways.Sent d = refl
-limit_same r ways.Recv d = refl
+limit_same : (r : Reading) (direction : Direction) (d : Deframer) → (redirected r direction d).limit ≡ r.limit
+limit_same r directions.Sent d = refl
+limit_same r directions.Recv d = refl
 
-place_same : (r : Reading) (way : Way) (d : Direction) → (redirected r way d).at ≡ r.at
-place_same r ways.Sent d = refl
-place_same r ways.Recv d = refl
+place_same : (r : Reading) (direction : Direction) (d : Deframer) → (redirected r direction d).at ≡ r.at
+place_same r directions.Sent d = refl
+place_same r directions.Recv d = refl
 
-flowed_context : (r : Reading) (way : Way) (part bytes : List ℕ) (d : Direction) (connections : Connections) (at left : ℕ) → connections.connected ≡ r.connections.connected
-    → flowed (context_of r part) way (left == 0) (flow_of at (half_in d) connections) bytes ≡ context_of (carried_on r way at d connections left) (cond (left == 0) [] (part ++ bytes))
-flowed_context r ways.Sent part bytes d connections at left same =
-    ap (λ b. record (context_of (carried_on r ways.Sent at d connections left) (cond (left == 0) [] (part ++ bytes))) { connected = b }) (sym same)
-flowed_context r ways.Recv part bytes d connections at left same =
-    ap (λ b. record (context_of (carried_on r ways.Recv at d connections left) (cond (left == 0) [] (part ++ bytes))) { connected = b }) (sym same)
+flowed_context : (r : Reading) (direction : Direction) (part bytes : List ℕ) (d : Deframer) (connections : Connections) (at left : ℕ) → connections.connected ≡ r.connections.connected
+    → flowed (context_of r part) direction (left == 0) (flow_of at (state_in d) connections) bytes ≡ context_of (carried_on r direction at d connections left) (cond (left == 0) [] (part ++ bytes))
+flowed_context r directions.Sent part bytes d connections at left same =
+    ap (λ b. record (context_of (carried_on r directions.Sent at d connections left) (cond (left == 0) [] (part ++ bytes))) { connected = b }) (sym same)
+flowed_context r directions.Recv part bytes d connections at left same =
+    ap (λ b. record (context_of (carried_on r directions.Recv at d connections left) (cond (left == 0) [] (part ++ bytes))) { connected = b }) (sym same)
 
-redirected_sound : (r : Reading) (way : Way) (d : Direction) (connections : Connections) (at left : ℕ) → at ≤ 8 + 1048581 * r.records + (1048581 - left) → left ≤ 1048576 → 8 ≤ at → r.records < 4294967295
-    → IsUnfinished r.limit (half_in r.sent) → IsUnfinished r.limit (half_in r.recv) → IsUnfinished r.limit (half_in d) → IsSound (carried_on r way at d connections left)
-redirected_sound r ways.Sent d connections at left counted short behind room sent recv own = left_sound (record r { sent = d; at = at; connections = connections }) ways.Sent left counted short behind room own recv
-redirected_sound r ways.Recv d connections at left counted short behind room sent recv own = left_sound (record r { recv = d; at = at; connections = connections }) ways.Recv left counted short behind room sent own
+redirected_sound : (r : Reading) (direction : Direction) (d : Deframer) (connections : Connections) (at left : ℕ) → at ≤ 8 + 1048581 * r.records + (1048581 - left) → left ≤ 1048576 → 8 ≤ at → r.records < 4294967295
+    → IsUnfinished r.limit (state_in r.sent) → IsUnfinished r.limit (state_in r.recv) → IsUnfinished r.limit (state_in d) → IsSound (carried_on r direction at d connections left)
+redirected_sound r directions.Sent d connections at left counted short behind room sent recv own = left_sound (record r { sent = d; at = at; connections = connections }) directions.Sent left counted short behind room own recv
+redirected_sound r directions.Recv d connections at left counted short behind room sent recv own = left_sound (record r { recv = d; at = at; connections = connections }) directions.Recv left counted short behind room sent own
 
 -- within a body of which so many bytes are still to come
-module _ (r : Reading) (way : Way) (left : ℕ) (sound : IsSound r) (staged : r.stage ≡ stages.Body way left) where
+module _ (r : Reading) (direction : Direction) (left : ℕ) (sound : IsSound r) (staged : r.stage ≡ stages.Body direction left) where
   body_within : (1 ≤ left) × (left ≤ 1048576)
   body_within = subst IsWithin staged sound.within
 
@@ -77,24 +77,24 @@ module _ (r : Reading) (way : Way) (left : ℕ) (sound : IsSound r) (staged : r.
   pub body_counted : r.at ≤ 8 + 1048581 * r.records + (1048581 - left)
   body_counted = let some : begun_in r.stage ≡ 1048581 - left = ap begun_in staged in omega (arith, sound.counted)
 
-  body_is : (part : List ℕ) → IsAt r.stage part → IsAt (stages.Body way left) part
+  body_is : (part : List ℕ) → IsAt r.stage part → IsAt (stages.Body direction left) part
   body_is part at = subst (λ s. IsAt s part) staged at
 
-  body_goes : (part : List ℕ) → IsAt r.stage part → way_of (kind_of part) ≡ Some way
-  body_goes part at = let h = body_is part at in ap way_of h.1 ∙ h.2
+  body_goes : (part : List ℕ) → IsAt r.stage part → direction_of (kind_of part) ≡ Some direction
+  body_goes part at = let h = body_is part at in ap direction_of h.1 ∙ h.2
 
   body_fits : (part bytes : List ℕ) → IsAt r.stage part → length bytes ≤ left → length part + length bytes ≤ 5 + body_length part
   body_fits part bytes at short = let h = body_is part at in let there : 5 ≤ length part = h.3 in let size : length part + left ≡ 5 + body_length part = h.4 in omega arith
 
-  pub body_refused : (part bytes : List ℕ) → IsAt r.stage part → length bytes ≤ left → refused_in r.limit (context_of r part) bytes ≡ flow_refused r.limit (bed_for r way) (flow_for r way) bytes
+  pub body_refused : (part bytes : List ℕ) → IsAt r.stage part → length bytes ≤ left → refused_in r.limit (context_of r part) bytes ≡ flow_refused r.limit (context_for r direction) (flow_for r direction) bytes
   body_refused part bytes at short =
-      lifted-refused r.limit (context_of r part) way bytes body_behind (body_goes part at) (body_is part at).3 (body_fits part bytes at short)
-      ∙ ap (λ f. flow_refused r.limit (bed_for r way) f bytes) (flow_same r way part)
+      lifted-refused r.limit (context_of r part) direction bytes body_behind (body_goes part at) (body_is part at).3 (body_fits part bytes at short)
+      ∙ ap (λ f. flow_refused r.limit (context_for r direction) f bytes) (flow_same r direction part)
 
-  pub body_heard : (part bytes : List ℕ) → IsAt r.stage part → length bytes ≤ left → heard_in (context_of r part) bytes ≡ flow_heard (bed_for r way) (flow_for r way) bytes
+  pub body_heard : (part bytes : List ℕ) → IsAt r.stage part → length bytes ≤ left → heard_in (context_of r part) bytes ≡ flow_heard (context_for r direction) (flow_for r direction) bytes
   body_heard part bytes at short =
-      lifted-heard (context_of r part) way bytes body_behind (body_goes part at) (body_is part at).3 (body_fits part bytes at short)
-      ∙ ap (λ f. flow_heard (bed_for r way) f bytes) (flow_same r way part)
+      lifted-heard (context_of r part) direction bytes body_behind (body_goes part at) (body_is part at).3 (body_fits part bytes at short)
+      ∙ ap (λ f. flow_heard (context_for r direction) f bytes) (flow_same r direction part)
 
   same_end : (n n' m m' : ℕ) → n + m ≡ n' + m' → (n == n') ≡ (m == m')
   same_end n n' m m' e = by_cases (m == m') refl
@@ -110,34 +110,34 @@ module _ (r : Reading) (way : Way) (left : ℕ) (sound : IsSound r) (staged : r.
       same_end (length part + length bytes) (5 + body_length part) (left - length bytes) 0 (omega arith)
 
   pub body_kept : (part bytes : List ℕ) → IsAt r.stage part → length bytes ≤ left
-      → behind (context_of r part) bytes ≡ flowed (context_of r part) way (left - length bytes == 0) (flow_behind (bed_for r way) (flow_for r way) bytes) bytes
+      → behind (context_of r part) bytes ≡ flowed (context_of r part) direction (left - length bytes == 0) (flow_behind (context_for r direction) (flow_for r direction) bytes) bytes
   body_kept part bytes at short =
       let h = body_is part at in
       let size : length part + left ≡ 5 + body_length part = h.4 in
       let some : 1 ≤ left = body_within.0 in
-      lifted-behind (context_of r part) way bytes body_behind (body_goes part at) h.3 (omega arith) (body_fits part bytes at short)
-      ∙ ap (λ f. flowed (context_of r part) way (length part + length bytes == 5 + body_length part) (flow_behind (bed_for r way) f bytes) bytes) (flow_same r way part)
-      ∙ ap (λ t. flowed (context_of r part) way t (flow_behind (bed_for r way) (flow_for r way) bytes) bytes) (left_whole part bytes at short)
+      lifted-behind (context_of r part) direction bytes body_behind (body_goes part at) h.3 (omega arith) (body_fits part bytes at short)
+      ∙ ap (λ f. flowed (context_of r part) direction (length part + length bytes == 5 + body_length part) (flow_behind (context_for r direction) f bytes) bytes) (flow_same r direction part)
+      ∙ ap (λ t. flowed (context_of r part) direction t (flow_behind (context_for r direction) (flow_for r direction) bytes) bytes) (left_whole part bytes at short)
 
   -- The packet of a byte after them is the direction's.
   pub body_so_far : (part bytes : List ℕ) (byte : ℕ) → IsAt r.stage part → length bytes < left
-      → so_far_for (behind (context_of r part) bytes) byte ≡ so_far_in (flow_behind (bed_for r way) (flow_for r way) bytes).half byte
+      → so_far_for (behind (context_of r part) bytes) byte ≡ so_far_in (flow_behind (context_for r direction) (flow_for r direction) bytes).state byte
   body_so_far part bytes byte at short =
       let h = body_is part at in
       let there : 5 ≤ length part = h.3 in
       let some : 0 < left - length bytes = omega arith in
       let goes_on : (left - length bytes == 0) ≡ false = ne_eqb (left - length bytes) 0 (λ same. (omega arith)) in
-      let f : Flow = flow_behind (bed_for r way) (flow_for r way) bytes in
+      let f : Flow = flow_behind (context_for r direction) (flow_for r direction) bytes in
       let l = length-append part bytes in
-      let kept : behind (context_of r part) bytes ≡ flowed (context_of r part) way false f bytes
-      = body_kept part bytes at (omega arith) ∙ ap (λ t. flowed (context_of r part) way t f bytes) goes_on in
+      let kept : behind (context_of r part) bytes ≡ flowed (context_of r part) direction false f bytes
+      = body_kept part bytes at (omega arith) ∙ ap (λ t. flowed (context_of r part) direction t f bytes) goes_on in
       ap (λ c. so_far_for c byte) kept
-      ∙ lifted-so_far (flowed (context_of r part) way false f bytes) way byte (ap way_of (kind_of-append part bytes (omega arith)) ∙ body_goes part at) (omega arith)
-      ∙ ap (λ half. so_far_in half byte) (half_flowed (context_of r part) way f bytes)
+      ∙ lifted-so_far (flowed (context_of r part) direction false f bytes) direction byte (ap direction_of (kind_of-append part bytes (omega arith)) ∙ body_goes part at) (omega arith)
+      ∙ ap (λ state. so_far_in state byte) (state_flowed (context_of r part) direction f bytes)
 
   -- where the part is after them
   left_at : (part bytes : List ℕ) → IsAt r.stage part → length bytes ≤ left → (t : Bool) → (left - length bytes == 0) ≡ t
-      → IsAt (if t then stages.Between else stages.Body way (left - length bytes)) (cond t [] (part ++ bytes))
+      → IsAt (if t then stages.Between else stages.Body direction (left - length bytes)) (cond t [] (part ++ bytes))
   left_at part bytes at short true is = refl
   left_at part bytes at short false is =
       let h = body_is part at in
@@ -148,26 +148,26 @@ module _ (r : Reading) (way : Way) (left : ℕ) (sound : IsSound r) (staged : r.
       (h.0, kind_of-append part bytes (omega arith) ∙ h.1, h.2, omega arith, omega arith)
 
   -- Bytes of one body that are taken in.
-  pub body_steps : (bytes : List ℕ) (d : Direction) (connections : Connections) (at : ℕ) → length bytes ≤ left
-      → flow_refused r.limit (bed_for r way) (flow_for r way) bytes ≡ None
-      → flow_behind (bed_for r way) (flow_for r way) bytes ≡ flow_of at (half_in d) connections
-      → Advances r (carried_on r way at d connections (left - length bytes)) bytes (flow_heard (bed_for r way) (flow_for r way) bytes)
+  pub body_steps : (bytes : List ℕ) (d : Deframer) (connections : Connections) (at : ℕ) → length bytes ≤ left
+      → flow_refused r.limit (context_for r direction) (flow_for r direction) bytes ≡ None
+      → flow_behind (context_for r direction) (flow_for r direction) bytes ≡ flow_of at (state_in d) connections
+      → Advances r (carried_on r direction at d connections (left - length bytes)) bytes (flow_heard (context_for r direction) (flow_for r direction) bytes)
   body_steps bytes d connections at short none kept = record {
-    limit = limit_same r way d;
+    limit = limit_same r direction d;
     each = λ part is. (
       cond (left - length bytes == 0) [] (part ++ bytes),
       left_at part bytes is short (left - length bytes == 0) refl,
       body_refused part bytes is short ∙ none,
       body_kept part bytes is short
-          ∙ ap (λ f. flowed (context_of r part) way (left - length bytes == 0) f bytes) kept
-          ∙ flowed_context r way part bytes d connections at (left - length bytes) (sym (ap (λ (f : Flow). f.connected) kept) ∙ connected_behind (bed_for r way) (flow_for r way) bytes),
+          ∙ ap (λ f. flowed (context_of r part) direction (left - length bytes == 0) f bytes) kept
+          ∙ flowed_context r direction part bytes d connections at (left - length bytes) (sym (ap (λ (f : Flow). f.connected) kept) ∙ connected_behind (context_for r direction) (flow_for r direction) bytes),
       body_heard part bytes is short,
     );
   }
 
   -- Bytes of one body that aren't.
   pub body_stops : {S : Type 0} (declines : S → S → List Placed → Refusal → Type 0) (bytes : List ℕ) (old new : S) (refusal : Refusal) → length bytes ≤ left
-      → FlowStops declines r.limit (bed_for r way) (flow_for r way) bytes old new refusal → StepStops declines r bytes old new refusal
+      → FlowStops declines r.limit (context_for r direction) (flow_for r direction) bytes old new refusal → StepStops declines r bytes old new refusal
   body_stops declines bytes old new refusal short stop =
       let l : length bytes ≡ length (stop.taken ++ stop.byte ∷ stop.later) = ap length stop.is in
       let m = length-append stop.taken (stop.byte ∷ stop.later) in
@@ -185,42 +185,42 @@ module _ (r : Reading) (way : Way) (left : ℕ) (sound : IsSound r) (staged : r.
           body_heard part stop.taken at few ∙ stop.unheard,
           (let so_far : List ℕ = so_far_for (behind (context_of r part) stop.taken) stop.byte in
               subst (λ o. FlowWhy declines r.limit (r.at + length stop.taken) so_far o (heard_in (context_of r part) (stop.taken ++ stop.byte ∷ [])) old new refusal) (sym (body_refused part (stop.taken ++ stop.byte ∷ []) at last))
-              (subst (λ h. FlowWhy declines r.limit (r.at + length stop.taken) so_far (flow_refused r.limit (bed_for r way) (flow_for r way) (stop.taken ++ stop.byte ∷ [])) h old new refusal)
+              (subst (λ h. FlowWhy declines r.limit (r.at + length stop.taken) so_far (flow_refused r.limit (context_for r direction) (flow_for r direction) (stop.taken ++ stop.byte ∷ [])) h old new refusal)
               (sym (body_heard part (stop.taken ++ stop.byte ∷ []) at last))
-              (subst (λ t. FlowWhy declines r.limit (r.at + length stop.taken) t (flow_refused r.limit (bed_for r way) (flow_for r way) (stop.taken ++ stop.byte ∷ [])) (flow_heard (bed_for r way) (flow_for r way) (stop.taken ++ stop.byte ∷ [])) old new refusal)
+              (subst (λ t. FlowWhy declines r.limit (r.at + length stop.taken) t (flow_refused r.limit (context_for r direction) (flow_for r direction) (stop.taken ++ stop.byte ∷ [])) (flow_heard (context_for r direction) (flow_for r direction) (stop.taken ++ stop.byte ∷ [])) old new refusal)
               (sym (body_so_far part stop.taken stop.byte at (omega arith))) stop.why))),
         );
       }
 
-  pub body_sound : (count : ℕ) (d : Direction) (connections : Connections) → count ≤ left → IsUnfinished r.limit (half_in d) → IsSound (carried_on r way (r.at + count) d connections (left - count))
+  pub body_sound : (count : ℕ) (d : Deframer) (connections : Connections) → count ≤ left → IsUnfinished r.limit (state_in d) → IsSound (carried_on r direction (r.at + count) d connections (left - count))
   body_sound count d connections few unfinished =
       let behind = body_behind in
       let counted = body_counted in
       let short : left ≤ 1048576 = body_within.1 in
-      redirected_sound r way d connections (r.at + count) (left - count) (omega arith) (omega arith) (omega arith) body_room sound.sent sound.recv unfinished
+      redirected_sound r direction d connections (r.at + count) (left - count) (omega arith) (omega arith) (omega arith) body_room sound.sent sound.recv unfinished
 
   -- The step that passes bytes of one body on.
   pub body_comes : {S : Type 0} (agrees : S → List Placed → Type 0) (bytes body rest : List ℕ) (n : ℕ) (r1 r2 : Reading) (old new : S) → bytes ≡ body ++ rest → n ≤ length body → length body ≤ left
-      → r1 ≡ record (redirected r way (direction_for r1 way)) { connections = r1.connections } → r2 ≡ leaving (record r1 { at = r1.at + n }) way (left - n)
-      → flow_refused r.limit (bed_for r way) (flow_for r way) (take n body) ≡ None
-      → flow_behind (bed_for r way) (flow_for r way) (take n body) ≡ flow_of (r.at + n) (half_in (direction_for r1 way)) r1.connections
-      → ((earlier : List Placed) → agrees old earlier → AreEvents (flow_heard (bed_for r way) (flow_for r way) (take n body) ++ earlier) → agrees new (flow_heard (bed_for r way) (flow_for r way) (take n body) ++ earlier))
+      → r1 ≡ record (redirected r direction (deframer_for r1 direction)) { connections = r1.connections } → r2 ≡ leaving (record r1 { at = r1.at + n }) direction (left - n)
+      → flow_refused r.limit (context_for r direction) (flow_for r direction) (take n body) ≡ None
+      → flow_behind (context_for r direction) (flow_for r direction) (take n body) ≡ flow_of (r.at + n) (state_in (deframer_for r1 direction)) r1.connections
+      → ((earlier : List Placed) → agrees old earlier → AreEvents (flow_heard (context_for r direction) (flow_for r direction) (take n body) ++ earlier) → agrees new (flow_heard (context_for r direction) (flow_for r direction) (take n body) ++ earlier))
       → Comes agrees r r2 (take n bytes) old new
-  body_comes agrees bytes body rest n r1 r2 old new is within short passed went none kept told =
-      let d = direction_for r1 way in
+  body_comes agrees bytes body rest n r1 r2 old new is within short passed went none kept emitted =
+      let d = deframer_for r1 direction in
       let taken = length-take-le n body within in
       let few : length (take n body) ≤ left = omega arith in
-      let steps : Advances r (carried_on r way (r.at + n) d r1.connections (left - length (take n body))) (take n body) (flow_heard (bed_for r way) (flow_for r way) (take n body)) =
+      let steps : Advances r (carried_on r direction (r.at + n) d r1.connections (left - length (take n body))) (take n body) (flow_heard (context_for r direction) (flow_for r direction) (take n body)) =
       body_steps (take n body) d r1.connections (r.at + n) few none kept in
-      let counted : Advances r (carried_on r way (r.at + n) d r1.connections (left - n)) (take n body) (flow_heard (bed_for r way) (flow_for r way) (take n body)) =
-      subst (λ m. Advances r (carried_on r way (r.at + n) d r1.connections (left - m)) (take n body) (flow_heard (bed_for r way) (flow_for r way) (take n body))) taken steps in
-      let ends : r2 ≡ carried_on r way (r.at + n) d r1.connections (left - n) =
+      let counted : Advances r (carried_on r direction (r.at + n) d r1.connections (left - n)) (take n body) (flow_heard (context_for r direction) (flow_for r direction) (take n body)) =
+      subst (λ m. Advances r (carried_on r direction (r.at + n) d r1.connections (left - m)) (take n body) (flow_heard (context_for r direction) (flow_for r direction) (take n body))) taken steps in
+      let ends : r2 ≡ carried_on r direction (r.at + n) d r1.connections (left - n) =
       went
-      ∙ ap (λ m. leaving (record r1 { at = m + n }) way (left - n)) (ap (λ (x : Reading). x.at) passed ∙ place_same r way d)
-      ∙ ap (λ (x : Reading). leaving (record x { at = r.at + n }) way (left - n)) passed in
+      ∙ ap (λ m. leaving (record r1 { at = m + n }) direction (left - n)) (ap (λ (x : Reading). x.at) passed ∙ place_same r direction d)
+      ∙ ap (λ (x : Reading). leaving (record x { at = r.at + n }) direction (left - n)) passed in
       let front : take n body ≡ take n bytes = sym (take-append-le n body rest within) ∙ ap (take n) (sym is) in
       subst (λ (l : List ℕ). Comes agrees r r2 l old new) front (record {
-        heard = flow_heard (bed_for r way) (flow_for r way) (take n body);
-        advances = subst (λ (x : Reading). Advances r x (take n body) (flow_heard (bed_for r way) (flow_for r way) (take n body))) (sym ends) counted;
-        told = told;
+        heard = flow_heard (context_for r direction) (flow_for r direction) (take n body);
+        advances = subst (λ (x : Reading). Advances r x (take n body) (flow_heard (context_for r direction) (flow_for r direction) (take n body))) (sym ends) counted;
+        emitted = emitted;
       })

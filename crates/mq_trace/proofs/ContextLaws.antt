@@ -4,18 +4,18 @@ use Rattle.std.specs.Prelude.{◌==◌, if◌then◌else◌, slice_index}
 use Rattle.std.proofs.lemmas.List.{reverse-append, reverse-reverse, length-reverse, get_or_append_left, get_or_past, get_or-append_right}
 use Rattle.std.proofs.lemmas.Bool.{ltb-true, ltb-false, lt-ltb, eqb-true, eqb-false}
 use Rattle.std.specs.Option.{option_or}
-use Rattle.mq_trace.specs.declared.kind.Way.{Way}
-use Rattle.mq_trace.specs.declared.kind.Way.TheVariants as ways
+use Rattle.mq_trace.specs.declared.kind.Direction.{Direction}
+use Rattle.mq_trace.specs.declared.kind.Direction.TheVariants as directions
 use Rattle.mq_trace.specs.declared.refusal.Refusal.{Refusal}
 use Rattle.mq_trace.specs.declared.header.Header.{Header}
 use Rattle.mq_trace.specs.Pieces.{Pieces}
-use Rattle.mq_trace.specs.Framing.{header_by, kind_of, way_of, begun_records, carried, records, record_size}
+use Rattle.mq_trace.specs.Framing.{header_by, kind_of, direction_of, begun_records, carried, records, record_size}
 use Rattle.mq_trace.specs.Events.{Event, Placed, newest_record, part_at, packet_at, packet_by, event_in, event_at, with_event, events_back, events}
-use Rattle.mq_trace.specs.Connections.{has_open_connection, is_answered}
+use Rattle.mq_trace.specs.Connections.{has_open_connection, is_connack_seen}
 use Rattle.mq_trace.specs.Refusals.{Situation, situation, header_refusal, record_refusal, refusal_at, refused_back, refused}
-use Rattle.mq_trace.specs.Context.{Half, Context, fresh, half_of, half_then, so_far_by, so_far_for, context, situated, refusal_for, event_for, placed_with, placed_for, put, with_heard, after_header, after_part, after}
+use Rattle.mq_trace.specs.Context.{StreamState, Context, fresh, state_of, state_then, so_far_by, so_far_for, context, situated, refusal_for, event_for, placed_with, placed_for, put, with_heard, after_header, after_part, after}
 use Rattle.mq_trace.proofs.FramingLaws.{records-header, begun-header, begun-grow, length-begun-grow, whole-grow, rest-grow}
-use Rattle.mq_trace.proofs.HalfLaws.{half-nothing, half-then, so_far-kept}
+use Rattle.mq_trace.proofs.StreamStateLaws.{state-nothing, state-then, so_far-kept}
 
 -- the events with one byte more
 events-grow : (log : List ℕ) (byte : ℕ) → events (log ++ byte ∷ []) ≡ with_event (length (begun_records (log ++ byte ∷ []))) (event_at log byte) (events log)
@@ -36,11 +36,11 @@ part-kept : (log : List ℕ) (byte : ℕ) → 8 ≤ length log → part_at log b
 unfolding part_at
 part-kept log byte h = ap newest_record (begun-grow log byte h)
 
-pub so_far_kept_by : (carries : Option Way) (log : List ℕ) (byte : ℕ) → packet_by carries (begun_records log) byte ≡ so_far_by carries (context log) byte
+pub so_far_kept_by : (carries : Option Direction) (log : List ℕ) (byte : ℕ) → packet_by carries (begun_records log) byte ≡ so_far_by carries (context log) byte
 unfolding context
 so_far_kept_by None log byte = refl
-so_far_kept_by (Some ways.Sent) log byte = so_far-kept (carried ways.Sent (begun_records log)) byte
-so_far_kept_by (Some ways.Recv) log byte = so_far-kept (carried ways.Recv (begun_records log)) byte
+so_far_kept_by (Some directions.Sent) log byte = so_far-kept (carried directions.Sent (begun_records log)) byte
+so_far_kept_by (Some directions.Recv) log byte = so_far-kept (carried directions.Recv (begun_records log)) byte
 
 pub part_context : (log : List ℕ) → (context log).part ≡ (records log).rest
 unfolding context
@@ -49,15 +49,15 @@ part_context log = refl
 pub packet-kept : (log : List ℕ) (byte : ℕ) → 8 ≤ length log → packet_at log byte ≡ so_far_for (context log) byte
 unfolding packet_at so_far_for
 packet-kept log byte h =
-    ap (λ part. cond (nat_lt 5 (length part)) (packet_by (way_of (kind_of part)) (begun_records log) byte) []) (part-kept log byte h ∙ ap (λ part. part ++ byte ∷ []) (sym (part_context log)))
-    ∙ ap (λ so_far. cond (nat_lt 5 (length ((context log).part ++ byte ∷ []))) so_far []) (so_far_kept_by (way_of (kind_of ((context log).part ++ byte ∷ []))) log byte)
+    ap (λ part. cond (nat_lt 5 (length part)) (packet_by (direction_of (kind_of part)) (begun_records log) byte) []) (part-kept log byte h ∙ ap (λ part. part ++ byte ∷ []) (sym (part_context log)))
+    ∙ ap (λ so_far. cond (nat_lt 5 (length ((context log).part ++ byte ∷ []))) so_far []) (so_far_kept_by (direction_of (kind_of ((context log).part ++ byte ∷ []))) log byte)
 
 -- a byte of the header belongs to no packet
 pub header-so_far : (log : List ℕ) (byte : ℕ) → length log < 8 → so_far_for (context log) byte ≡ []
 unfolding so_far_for
 header-so_far log byte h =
     let none : (context log).part ≡ [] = part_context log ∙ ap (λ (p : Pieces). p.rest) (records-header log (omega arith)) in
-    ap (λ part. cond (nat_lt 5 (length (part ++ byte ∷ []))) (so_far_by (way_of (kind_of (part ++ byte ∷ []))) (context log) byte) []) none
+    ap (λ part. cond (nat_lt 5 (length (part ++ byte ∷ []))) (so_far_by (direction_of (kind_of (part ++ byte ∷ []))) (context log) byte) []) none
 
 pub at_context : (log : List ℕ) → (context log).at ≡ length log
 unfolding context
@@ -88,7 +88,7 @@ situated_with log part record_no so_far = record {
   so_far = so_far;
   events = length (events log);
   connected = has_open_connection (events log);
-  answered = is_answered (header_by log).server (events log);
+  connack_seen = is_connack_seen (header_by log).server (events log);
 }
 
 situated_context : (log : List ℕ) (byte : ℕ) → situated_with log ((context log).part ++ byte ∷ []) (length (records log).whole + 1) (so_far_for (context log) byte) ≡ situated (context log) byte
@@ -121,7 +121,7 @@ events-more log byte =
     events-grow log byte ∙ ap (λ o. with_event (length (begun_records (log ++ byte ∷ []))) o (events log)) (event-kept log byte)
 
 -- a context from its parts, of which the last three are told by the events
-abbrev context_with : ℕ → Header → List ℕ → ℕ → Half → Half → List Placed → Context
+abbrev context_with : ℕ → Header → List ℕ → ℕ → StreamState → StreamState → List Placed → Context
 context_with at header part whole sent recv log = record {
   at = at;
   header = header;
@@ -131,11 +131,11 @@ context_with at header part whole sent recv log = record {
   recv = recv;
   events = length log;
   connected = has_open_connection log;
-  answered = is_answered header.server log;
+  connack_seen = is_connack_seen header.server log;
 }
 
 pub context_is : (log : List ℕ) → context log ≡ context_with (length log) (header_by log) (records log).rest (length (records log).whole)
-    (half_of (carried ways.Sent (begun_records log))) (half_of (carried ways.Recv (begun_records log))) (events log)
+    (state_of (carried directions.Sent (begun_records log))) (state_of (carried directions.Recv (begun_records log))) (events log)
 unfolding context
 context_is log = refl
 
@@ -147,8 +147,8 @@ header-behind log byte h =
 noted : (log : List ℕ) (byte : ℕ) (o : Option Event)
     → context_with (length log + 1) (header_by log) (cond (is_some (record_size ((records log).rest ++ byte ∷ []))) [] ((records log).rest ++ byte ∷ []))
     (cond (is_some (record_size ((records log).rest ++ byte ∷ []))) (length (records log).whole + 1) (length (records log).whole))
-    (half_then ways.Sent (half_of (carried ways.Sent (begun_records log))) ((records log).rest ++ byte ∷ []) byte)
-    (half_then ways.Recv (half_of (carried ways.Recv (begun_records log))) ((records log).rest ++ byte ∷ []) byte)
+    (state_then directions.Sent (state_of (carried directions.Sent (begun_records log))) ((records log).rest ++ byte ∷ []) byte)
+    (state_then directions.Recv (state_of (carried directions.Recv (begun_records log))) ((records log).rest ++ byte ∷ []) byte)
     (with_event (length (records log).whole + 1) o (events log))
     ≡ with_heard (after_part (context log) ((records log).rest ++ byte ∷ []) byte) o
 unfolding context
@@ -157,8 +157,8 @@ noted log byte (Some event) =
     let part = (records log).rest ++ byte ∷ [] in
     let c = context_with (length log + 1) (header_by log) (cond (is_some (record_size part)) [] part)
     (cond (is_some (record_size part)) (length (records log).whole + 1) (length (records log).whole))
-    (half_then ways.Sent (half_of (carried ways.Sent (begun_records log))) part byte)
-    (half_then ways.Recv (half_of (carried ways.Recv (begun_records log))) part byte)
+    (state_then directions.Sent (state_of (carried directions.Sent (begun_records log))) part byte)
+    (state_then directions.Recv (state_of (carried directions.Recv (begun_records log))) part byte)
     (record { place = record { position = length (events log) + 1; record_no = length (records log).whole + 1 }; event = event } ∷ events log) in
     let one_more : length (record { place = record { position = length (events log) + 1; record_no = length (records log).whole + 1 }; event = event } ∷ events log) ≡ length (events log) + 1 = omega arith in
     ap (λ n. record c { events = n }) one_more
@@ -168,10 +168,10 @@ context-behind log byte h =
     let more = log ++ byte ∷ [] in
     let part = (records log).rest ++ byte ∷ [] in
     let b = is_some (record_size part) in
-    let sent = half_of (carried ways.Sent (begun_records more)) in
-    let recv = half_of (carried ways.Recv (begun_records more)) in
-    let sent' = half_then ways.Sent (half_of (carried ways.Sent (begun_records log))) part byte in
-    let recv' = half_then ways.Recv (half_of (carried ways.Recv (begun_records log))) part byte in
+    let sent = state_of (carried directions.Sent (begun_records more)) in
+    let recv = state_of (carried directions.Recv (begun_records more)) in
+    let sent' = state_then directions.Sent (state_of (carried directions.Sent (begun_records log))) part byte in
+    let recv' = state_then directions.Recv (state_of (carried directions.Recv (begun_records log))) part byte in
     let rest' = cond b [] part in
     let whole' = cond b (length (records log).whole + 1) (length (records log).whole) in
     let n' = length (records log).whole + 1 in
@@ -180,8 +180,8 @@ context-behind log byte h =
     ∙ ap (λ t. context_with (length log + 1) t (records more).rest (length (records more).whole) sent recv (events more)) (header-behind log byte h)
     ∙ ap (λ r. context_with (length log + 1) (header_by log) r (length (records more).whole) sent recv (events more)) (rest-grow log byte h)
     ∙ ap (λ n. context_with (length log + 1) (header_by log) rest' n sent recv (events more)) (whole-grow log byte h)
-    ∙ ap (λ x. context_with (length log + 1) (header_by log) rest' whole' x recv (events more)) (half-then ways.Sent log byte h)
-    ∙ ap (λ x. context_with (length log + 1) (header_by log) rest' whole' sent' x (events more)) (half-then ways.Recv log byte h)
+    ∙ ap (λ x. context_with (length log + 1) (header_by log) rest' whole' x recv (events more)) (state-then directions.Sent log byte h)
+    ∙ ap (λ x. context_with (length log + 1) (header_by log) rest' whole' sent' x (events more)) (state-then directions.Recv log byte h)
     ∙ ap (context_with (length log + 1) (header_by log) rest' whole' sent' recv') (events-more log byte ∙ ap (λ n. with_event n (event_for (context log) byte) (events log)) (length-begun-grow log byte h))
     ∙ noted log byte (event_for (context log) byte)
 
@@ -207,15 +207,15 @@ context-header : (log : List ℕ) → length log ≤ 8 → context log ≡ recor
 unfolding carried
 context-header log h =
     let none : List Placed = [] in
-    let half : Half = record { unfinished = []; lost = false } in
+    let state : StreamState = record { unfinished = []; lost = false } in
     context_is log
-    ∙ ap (λ (p : Pieces). context_with (length log) (header_by log) p.rest (length p.whole) (half_of (carried ways.Sent (begun_records log))) (half_of (carried ways.Recv (begun_records log))) (events log)) (records-header log h)
-    ∙ ap (λ b. context_with (length log) (header_by log) [] 0 (half_of (carried ways.Sent b)) (half_of (carried ways.Recv b)) (events log)) (begun-header log h)
-    ∙ ap (λ half. context_with (length log) (header_by log) [] 0 half half (events log)) (nothing_carried)
-    ∙ ap (context_with (length log) (header_by log) [] 0 half half) (events-header log h)
+    ∙ ap (λ (p : Pieces). context_with (length log) (header_by log) p.rest (length p.whole) (state_of (carried directions.Sent (begun_records log))) (state_of (carried directions.Recv (begun_records log))) (events log)) (records-header log h)
+    ∙ ap (λ b. context_with (length log) (header_by log) [] 0 (state_of (carried directions.Sent b)) (state_of (carried directions.Recv b)) (events log)) (begun-header log h)
+    ∙ ap (λ state. context_with (length log) (header_by log) [] 0 state state (events log)) (nothing_carried)
+    ∙ ap (context_with (length log) (header_by log) [] 0 state state) (events-header log h)
   where
-    nothing_carried : half_of [] ≡ record { unfinished = []; lost = false }
-    nothing_carried = half-nothing
+    nothing_carried : state_of [] ≡ record { unfinished = []; lost = false }
+    nothing_carried = state-nothing
 
 -- the byte at an offset of a log, with one byte more
 byte-grow : (i : ℕ) (log : List ℕ) (byte : ℕ) (b : Bool) → (length log == i) ≡ b → slice_index (log ++ byte ∷ []) i ≡ (if b then byte else slice_index log i)

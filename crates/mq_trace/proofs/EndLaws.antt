@@ -5,18 +5,18 @@ use Rattle.std.specs.Int.{w16, w32, from_be_bytes}
 use Rattle.std.proofs.lemmas.Bool.{eqb-true, eqb-false}
 use Rattle.mq_trace.specs.declared.kind.RecordKind.{RecordKind}
 use Rattle.mq_trace.specs.declared.kind.RecordKind.TheVariants as kinds
-use Rattle.mq_trace.specs.declared.kind.Way.{Way}
+use Rattle.mq_trace.specs.declared.kind.Direction.{Direction}
 use Rattle.mq_trace.specs.declared.stage.Stage.TheVariants as stages
 use Rattle.mq_trace.specs.declared.refusal.Refusal.{Refusal}
 use Rattle.mq_trace.specs.declared.refusal.Refusal.TheVariants as refusals
 use Rattle.mq_trace.specs.declared.connections.Connections.{Connections}
 use Rattle.mq_trace.specs.declared.reading.Reading.{Reading}
-use Rattle.mq_trace.specs.Framing.{kind_of, way_of, body_length}
+use Rattle.mq_trace.specs.Framing.{kind_of, direction_of, body_length}
 use Rattle.mq_trace.specs.Events.{Event, opened, closed, rested, released, event_of_head}
 use Rattle.mq_trace.specs.Refusals.{first_standing, allows_length}
 use Rattle.mq_trace.specs.Context.{Context, refusal_for, event_for, placed_for, put, after, with_heard}
-use Rattle.mq_trace.specs.Telling.{met_by, next_placed}
-use Rattle.mq_trace.specs.Keeping.{half_in, spelled_from, IsAt, context_of, begun_in, IsUnfinished, IsSound, Advances}
+use Rattle.mq_trace.specs.Emission.{event_refusal, next_placed}
+use Rattle.mq_trace.specs.Keeping.{state_in, spelled_from, IsAt, context_of, begun_in, IsUnfinished, IsSound, Advances}
 use Rattle.mq_trace.specs.Stepping.{marked, leaving}
 use Rattle.mq_trace.proofs.StepLaws.{placed_none, placed_some, fifth_length, fifth_event, fifth_refusal, fifth_after, release_high_refusal, release_high_event, release_high_after, release_low_refusal, release_low_event, release_low_after}
 use Rattle.mq_trace.proofs.FramingLaws.{body_length-append, kind_of-append}
@@ -24,15 +24,15 @@ use Rattle.mq_trace.proofs.StageLaws.{one_step, begun_some, head_behind, head_ro
 
 -- What a step that completes an event does with each part: what it meets, what is received, and what is kept.
 abbrev pub Tells : Reading → ℕ → Event → Type 0
-Tells r b event = (part : List ℕ) → IsAt r.stage part → (refusal_for r.limit (context_of r part) b ≡ met_by r.at r.connections event)
+Tells r b event = (part : List ℕ) → IsAt r.stage part → (refusal_for r.limit (context_of r part) b ≡ event_refusal r.at r.connections event)
     × (placed_for (context_of r part) b ≡ Some (next_placed r.connections (r.records + 1) event))
     × (after (context_of r part) b ≡ context_of (marked r event) [])
 
-pub tells_advances : (r : Reading) (b : ℕ) (event : Event) → Tells r b event → met_by r.at r.connections event ≡ None
+pub emits_advances : (r : Reading) (b : ℕ) (event : Event) → Tells r b event → event_refusal r.at r.connections event ≡ None
     → Advances r (marked r event) (b ∷ []) (next_placed r.connections (r.records + 1) event ∷ [])
-tells_advances r b event tells met = one_step r (marked r event) b (next_placed r.connections (r.records + 1) event ∷ []) refl (λ part at. (
-    let told = tells part at in
-    ([], refl, told.0 ∙ met, told.2, ap (λ o. put o []) told.1)))
+emits_advances r b event emits met = one_step r (marked r event) b (next_placed r.connections (r.records + 1) event ∷ []) refl (λ part at. (
+    let emitted = emits part at in
+    ([], refl, emitted.0 ∙ met, emitted.2, ap (λ o. put o []) emitted.1)))
 
 pub marked_sound : (r : Reading) (event : Event) → IsSound r → 0 < begun_in r.stage → begun_in r.stage ≤ 6 → IsSound (marked r event)
 marked_sound r event sound some few =
@@ -64,23 +64,23 @@ no_body kinds.Release event number e allowed = absurd (cc)
 no_body kinds.Sent event number e allowed = absurd (cc)
 no_body kinds.Recv event number e allowed = absurd (cc)
 
-abbrev head_met : RecordKind → ℕ → Connections → Option Refusal
-head_met kind at c = first_standing ((is_some (event_of_head kind) && nat_le 4294967295 c.events, refusals.TooLong at) ∷ [])
+abbrev head_refusal : RecordKind → ℕ → Connections → Option Refusal
+head_refusal kind at c = first_standing ((is_some (event_of_head kind) && nat_le 4294967295 c.events, refusals.TooLong at) ∷ [])
 
-head_meets : (kind : RecordKind) (event : Event) (at : ℕ) (c : Connections) → event_of_head kind ≡ Some event → head_met kind at c ≡ met_by at c event
-head_meets kinds.Open event at c e = ap (met_by at c) (let same : opened ≡ event = cc in same)
-head_meets kinds.Close event at c e = ap (met_by at c) (let same : closed ≡ event = cc in same)
-head_meets kinds.Rest event at c e = ap (met_by at c) (let same : rested ≡ event = cc in same)
+head_meets : (kind : RecordKind) (event : Event) (at : ℕ) (c : Connections) → event_of_head kind ≡ Some event → head_refusal kind at c ≡ event_refusal at c event
+head_meets kinds.Open event at c e = ap (event_refusal at c) (let same : opened ≡ event = cc in same)
+head_meets kinds.Close event at c e = ap (event_refusal at c) (let same : closed ≡ event = cc in same)
+head_meets kinds.Rest event at c e = ap (event_refusal at c) (let same : rested ≡ event = cc in same)
 head_meets kinds.Release event at c e = absurd (cc)
 head_meets kinds.Sent event at c e = absurd (cc)
 head_meets kinds.Recv event at c e = absurd (cc)
 
 -- the last byte of a record's head
 module _ (r : Reading) (kind : RecordKind) (number b : ℕ) (sound : IsSound r) (staged : r.stage ≡ stages.Head kind 3 number) where
-  abbrev told : ℕ
-  told = number * 256 + b
+  abbrev emitted : ℕ
+  emitted = number * 256 + b
 
-  ended_length : (part : List ℕ) → IsAt r.stage part → body_length (part ++ b ∷ []) ≡ told
+  ended_length : (part : List ℕ) → IsAt r.stage part → body_length (part ++ b ∷ []) ≡ emitted
   ended_length part at =
       let h = head_is r kind 3 number sound staged part at in
       ap (λ p. body_length (p ++ b ∷ [])) h.2 ∙ fourth h.0 h.1 b h.4 ∙ ap (λ m. m * 256 + b) (sym h.5)
@@ -92,40 +92,40 @@ module _ (r : Reading) (kind : RecordKind) (number b : ℕ) (sound : IsSound r) 
   ended_kind part at = (head_is r kind 3 number sound staged part at).3
 
   ended_refusal : (part : List ℕ) → IsAt r.stage part → refusal_for r.limit (context_of r part) b
-      ≡ cond (not (allows_length (Some kind) told)) (Some (refusals.Length r.at)) (head_met kind r.at r.connections)
+      ≡ cond (not (allows_length (Some kind) emitted)) (Some (refusals.Length r.at)) (head_refusal kind r.at r.connections)
   ended_refusal part at =
       fifth_refusal r.limit (context_of r part) b kind (head_behind r kind 3 number sound staged) (ended_four part at) (ended_kind part at)
-      ∙ ap (λ m. cond (not (allows_length (Some kind) m)) (Some (refusals.Length r.at)) (head_met kind r.at r.connections)) (ended_length part at)
+      ∙ ap (λ m. cond (not (allows_length (Some kind) m)) (Some (refusals.Length r.at)) (head_refusal kind r.at r.connections)) (ended_length part at)
 
   ended_event : (part : List ℕ) → IsAt r.stage part → event_for (context_of r part) b ≡ event_of_head kind
   ended_event part at = fifth_event (context_of r part) b kind (head_behind r kind 3 number sound staged) (ended_four part at) (ended_kind part at)
 
   ended_after : (part : List ℕ) → IsAt r.stage part → after (context_of r part) b ≡ with_heard (record (context_of r part) {
     at = r.at + 1;
-    part = cond (told == 0) [] (part ++ b ∷ []);
-    records = cond (told == 0) (r.records + 1) r.records;
+    part = cond (emitted == 0) [] (part ++ b ∷ []);
+    records = cond (emitted == 0) (r.records + 1) r.records;
   }) (event_of_head kind)
   ended_after part at =
       let c = context_of r part in
       let kept : ℕ → Context = λ m. record c { at = r.at + 1; part = cond (m == 0) [] (part ++ b ∷ []); records = cond (m == 0) (r.records + 1) r.records } in
       fifth_after c b (head_behind r kind 3 number sound staged) (ended_four part at) (head_opens r kind 3 number sound staged part at)
       ∙ ap (λ m. with_heard (kept m) (event_for c b)) (ended_length part at)
-      ∙ ap (with_heard (kept told)) (ended_event part at)
+      ∙ ap (with_heard (kept emitted)) (ended_event part at)
 
-  allowed_refusal : allows_length (Some kind) told ≡ true → (part : List ℕ) → IsAt r.stage part → refusal_for r.limit (context_of r part) b ≡ head_met kind r.at r.connections
+  allowed_refusal : allows_length (Some kind) emitted ≡ true → (part : List ℕ) → IsAt r.stage part → refusal_for r.limit (context_of r part) b ≡ head_refusal kind r.at r.connections
   allowed_refusal allowed part at =
-      ended_refusal part at ∙ ap (λ t. cond (not t) (Some (refusals.Length r.at)) (head_met kind r.at r.connections)) allowed
+      ended_refusal part at ∙ ap (λ t. cond (not t) (Some (refusals.Length r.at)) (head_refusal kind r.at r.connections)) allowed
 
   -- A length that the kind doesn't allow.
-  pub length_refused : allows_length (Some kind) told ≡ false → (part : List ℕ) → IsAt r.stage part → refusal_for r.limit (context_of r part) b ≡ Some (refusals.Length r.at)
+  pub length_refused : allows_length (Some kind) emitted ≡ false → (part : List ℕ) → IsAt r.stage part → refusal_for r.limit (context_of r part) b ≡ Some (refusals.Length r.at)
   length_refused barred part at =
-      ended_refusal part at ∙ ap (λ t. cond (not t) (Some (refusals.Length r.at)) (head_met kind r.at r.connections)) barred
+      ended_refusal part at ∙ ap (λ t. cond (not t) (Some (refusals.Length r.at)) (head_refusal kind r.at r.connections)) barred
 
   -- A record that is its head alone.
-  pub mark_tells : (event : Event) → event_of_head kind ≡ Some event → allows_length (Some kind) told ≡ true → Tells r b event
-  mark_tells event is allowed part at =
+  pub mark_emits : (event : Event) → event_of_head kind ≡ Some event → allows_length (Some kind) emitted ≡ true → Tells r b event
+  mark_emits event is allowed part at =
       let c = context_of r part in
-      let none = no_body kind event told is allowed in (
+      let none = no_body kind event emitted is allowed in (
         allowed_refusal allowed part at ∙ head_meets kind event r.at r.connections is,
         placed_some c b event (ended_event part at ∙ is),
         ended_after part at
@@ -133,18 +133,18 @@ module _ (r : Reading) (kind : RecordKind) (number b : ℕ) (sound : IsSound r) 
             ∙ ap (with_heard (record c { at = r.at + 1; part = []; records = r.records + 1 })) is,
       )
 
-  quiet_refusal : event_of_head kind ≡ None → allows_length (Some kind) told ≡ true → (part : List ℕ) → IsAt r.stage part → refusal_for r.limit (context_of r part) b ≡ None
+  quiet_refusal : event_of_head kind ≡ None → allows_length (Some kind) emitted ≡ true → (part : List ℕ) → IsAt r.stage part → refusal_for r.limit (context_of r part) b ≡ None
   quiet_refusal is allowed part at =
       allowed_refusal allowed part at ∙ ap (λ (o : Option Event). first_standing ((is_some o && nat_le 4294967295 r.connections.events, refusals.TooLong r.at) ∷ [])) is
 
   quiet_after : event_of_head kind ≡ None → (part : List ℕ) → IsAt r.stage part → after (context_of r part) b ≡ record (context_of r part) {
     at = r.at + 1;
-    part = cond (told == 0) [] (part ++ b ∷ []);
-    records = cond (told == 0) (r.records + 1) r.records;
+    part = cond (emitted == 0) [] (part ++ b ∷ []);
+    records = cond (emitted == 0) (r.records + 1) r.records;
   }
   quiet_after is part at =
       ended_after part at
-      ∙ ap (with_heard (record (context_of r part) { at = r.at + 1; part = cond (told == 0) [] (part ++ b ∷ []); records = cond (told == 0) (r.records + 1) r.records })) is
+      ∙ ap (with_heard (record (context_of r part) { at = r.at + 1; part = cond (emitted == 0) [] (part ++ b ∷ []); records = cond (emitted == 0) (r.records + 1) r.records })) is
 
   longer : (part : List ℕ) → IsAt r.stage part → length (part ++ b ∷ []) ≡ 5
   longer part at = let l = length-append part (b ∷ []) in let four = ended_four part at in omega arith
@@ -153,26 +153,26 @@ module _ (r : Reading) (kind : RecordKind) (number b : ℕ) (sound : IsSound r) 
   kind_longer part at = let four = ended_four part at in kind_of-append part (b ∷ []) (omega arith) ∙ ended_kind part at
 
   -- The head of a record that carries packets.
-  body_at : (way : Way) → way_of (Some kind) ≡ Some way → (part : List ℕ) → IsAt r.stage part
-      → (t : Bool) → (told == 0) ≡ t → IsAt (if t then stages.Between else stages.Body way told) (cond t [] (part ++ b ∷ []))
-  body_at way goes part at true is = refl
-  body_at way goes part at false is =
+  body_at : (direction : Direction) → direction_of (Some kind) ≡ Some direction → (part : List ℕ) → IsAt r.stage part
+      → (t : Bool) → (emitted == 0) ≡ t → IsAt (if t then stages.Between else stages.Body direction emitted) (cond t [] (part ++ b ∷ []))
+  body_at direction goes part at true is = refl
+  body_at direction goes part at false is =
       let five = longer part at in
       let body = ended_length part at in
       (kind, kind_longer part at, goes, omega arith, omega arith)
 
-  pub body_advances : (way : Way) → way_of (Some kind) ≡ Some way → event_of_head kind ≡ None → allows_length (Some kind) told ≡ true
-      → Advances r (leaving (record r { at = r.at + 1 }) way told) (b ∷ []) []
-  body_advances way goes is allowed = one_step r (leaving (record r { at = r.at + 1 }) way told) b [] refl (λ part at. (
-    cond (told == 0) [] (part ++ b ∷ []),
-    body_at way goes part at (told == 0) refl,
+  pub body_advances : (direction : Direction) → direction_of (Some kind) ≡ Some direction → event_of_head kind ≡ None → allows_length (Some kind) emitted ≡ true
+      → Advances r (leaving (record r { at = r.at + 1 }) direction emitted) (b ∷ []) []
+  body_advances direction goes is allowed = one_step r (leaving (record r { at = r.at + 1 }) direction emitted) b [] refl (λ part at. (
+    cond (emitted == 0) [] (part ++ b ∷ []),
+    body_at direction goes part at (emitted == 0) refl,
     quiet_refusal is allowed part at,
     quiet_after is part at,
     ap (λ o. put o []) (placed_none (context_of r part) b (ended_event part at ∙ is)),
   ))
 
   -- The head of a RELEASE.
-  pub release_advances : kind ≡ kinds.Release → event_of_head kind ≡ None → allows_length (Some kind) told ≡ true → told ≡ 2
+  pub release_advances : kind ≡ kinds.Release → event_of_head kind ≡ None → allows_length (Some kind) emitted ≡ true → emitted ≡ 2
       → Advances r (record r { at = r.at + 1; stage = stages.Release None }) (b ∷ []) []
   release_advances releases is allowed two = one_step r (record r { at = r.at + 1; stage = stages.Release None }) b [] refl (λ part at. (
     part ++ b ∷ [],
@@ -199,11 +199,11 @@ module _ (r : Reading) (kind : RecordKind) (number b : ℕ) (sound : IsSound r) 
       }
 
 -- Where so many bytes of a body are still to come.
-pub left_sound : (r : Reading) (way : Way) (left : ℕ) → r.at ≤ 8 + 1048581 * r.records + (1048581 - left) → left ≤ 1048576 → 8 ≤ r.at → r.records < 4294967295
-    → IsUnfinished r.limit (half_in r.sent) → IsUnfinished r.limit (half_in r.recv) → IsSound (leaving r way left)
-left_sound r way left counted short behind room sent recv = by_end (left == 0) refl
+pub left_sound : (r : Reading) (direction : Direction) (left : ℕ) → r.at ≤ 8 + 1048581 * r.records + (1048581 - left) → left ≤ 1048576 → 8 ≤ r.at → r.records < 4294967295
+    → IsUnfinished r.limit (state_in r.sent) → IsUnfinished r.limit (state_in r.recv) → IsSound (leaving r direction left)
+left_sound r direction left counted short behind room sent recv = by_end (left == 0) refl
   where
-    by_end : (t : Bool) → (left == 0) ≡ t → IsSound (record r { records = if t then r.records + 1 else r.records; stage = if t then stages.Between else stages.Body way left })
+    by_end : (t : Bool) → (left == 0) ≡ t → IsSound (record r { records = if t then r.records + 1 else r.records; stage = if t then stages.Between else stages.Body direction left })
     by_end true is = record {
       counted = omega arith;
       begun = λ none. absurd (omega arith);
@@ -277,8 +277,8 @@ split_six (p ∷ q ∷ s ∷ t ∷ u ∷ []) e = absurd (omega arith)
 split_six (p ∷ q ∷ s ∷ t ∷ u ∷ v ∷ []) e = (p ∷ q ∷ s ∷ t ∷ u ∷ [], v, refl, refl, refl)
 split_six (p ∷ q ∷ s ∷ t ∷ u ∷ v ∷ w ∷ part) e = absurd (omega arith)
 
-pub release_tells : (r : Reading) (high b : ℕ) → IsSound r → r.stage ≡ stages.Release (Some high) → Tells r b (released (from_be_bytes w16 (high ∷ b ∷ [])))
-release_tells r high b sound staged part at =
+pub release_emits : (r : Reading) (high b : ℕ) → IsSound r → r.stage ≡ stages.Release (Some high) → Tells r b (released (from_be_bytes w16 (high ∷ b ∷ [])))
+release_emits r high b sound staged part at =
     let c = context_of r part in
     let some : begun_in r.stage ≡ 6 = ap begun_in staged in
     let behind : 8 ≤ r.at = sound.behind_header (omega arith) in

@@ -8,35 +8,35 @@ use Rattle.mq_packet.specs.declared.header.FixedHeader.{FixedHeader}
 use Rattle.mq_packet.specs.declared.header.FixedHeader.TheVariants as headers
 use Rattle.mq_packet.specs.Stream.{fixed_header_of, frame_size, is_lost}
 use Rattle.mq_packet.proofs.Exports.{whole_stays, lost_stays, short_before, lost_header, lost_no_frame, short_no_frame, no_frame_yet, frame_from_header, header_from_frame, frame_stood}
-use Rattle.mq_trace.specs.declared.kind.Way.{Way}
-use Rattle.mq_trace.specs.declared.kind.Way.TheVariants as ways
+use Rattle.mq_trace.specs.declared.kind.Direction.{Direction}
+use Rattle.mq_trace.specs.declared.kind.Direction.TheVariants as directions
 use Rattle.mq_trace.specs.declared.refusal.Refusal.{Refusal}
 use Rattle.mq_trace.specs.declared.refusal.Refusal.TheVariants as refusals
 use Rattle.mq_trace.specs.Events.{lost, Item, Event, item_at, item_read, read_frame}
 use Rattle.mq_trace.specs.Refusals.{first_standing, is_too_large, is_other_version}
-use Rattle.mq_trace.specs.Context.{Half, so_far_in, half_after, put}
-use Rattle.mq_trace.specs.Flows.{Bed, Flow, going, comes_early, flow_event, flow_refusal, flow_placed, flow_placed_with, flow_with, flow_after, flow_behind, flow_refused, flow_heard}
+use Rattle.mq_trace.specs.Context.{StreamState, so_far_in, state_after, put}
+use Rattle.mq_trace.specs.Flows.{BodyContext, Flow, going, comes_early, flow_event, flow_refusal, flow_placed, flow_placed_with, flow_with, flow_after, flow_behind, flow_refused, flow_heard}
 
 -- What bytes leave after them, refuse and complete is told by any two parts of them.
-pub behind-append : (bed : Bed) (f : Flow) (a b : List ℕ) → flow_behind bed f (a ++ b) ≡ flow_behind bed (flow_behind bed f a) b
-behind-append bed f [] b = refl
-behind-append bed f (byte ∷ a) b = behind-append bed (flow_after bed f byte) a b
+pub behind-append : (context : BodyContext) (f : Flow) (a b : List ℕ) → flow_behind context f (a ++ b) ≡ flow_behind context (flow_behind context f a) b
+behind-append context f [] b = refl
+behind-append context f (byte ∷ a) b = behind-append context (flow_after context f byte) a b
 
 option_or_assoc : {A : Type 0} (a b c : Option A) → option_or a (option_or b c) ≡ option_or (option_or a b) c
 option_or_assoc (Some x) b c = refl
 option_or_assoc None b c = refl
 
-pub refused-append : (limit : ℕ) (bed : Bed) (f : Flow) (a b : List ℕ) → flow_refused limit bed f (a ++ b) ≡ option_or (flow_refused limit bed f a) (flow_refused limit bed (flow_behind bed f a) b)
-refused-append limit bed f [] b = refl
-refused-append limit bed f (byte ∷ a) b =
-    ap (option_or (flow_refusal limit bed f byte)) (refused-append limit bed (flow_after bed f byte) a b)
-    ∙ option_or_assoc (flow_refusal limit bed f byte) (flow_refused limit bed (flow_after bed f byte) a) (flow_refused limit bed (flow_behind bed (flow_after bed f byte) a) b)
+pub refused-append : (limit : ℕ) (context : BodyContext) (f : Flow) (a b : List ℕ) → flow_refused limit context f (a ++ b) ≡ option_or (flow_refused limit context f a) (flow_refused limit context (flow_behind context f a) b)
+refused-append limit context f [] b = refl
+refused-append limit context f (byte ∷ a) b =
+    ap (option_or (flow_refusal limit context f byte)) (refused-append limit context (flow_after context f byte) a b)
+    ∙ option_or_assoc (flow_refusal limit context f byte) (flow_refused limit context (flow_after context f byte) a) (flow_refused limit context (flow_behind context (flow_after context f byte) a) b)
 
-pub heard-append : (bed : Bed) (f : Flow) (a b : List ℕ) → flow_heard bed f (a ++ b) ≡ flow_heard bed (flow_behind bed f a) b ++ flow_heard bed f a
-heard-append bed f [] b = sym (append-nil (flow_heard bed f b))
-heard-append bed f (byte ∷ a) b =
-    ap (λ heard. heard ++ put (flow_placed bed f byte) []) (heard-append bed (flow_after bed f byte) a b)
-    ∙ append_assoc (flow_heard bed (flow_behind bed (flow_after bed f byte) a) b) (flow_heard bed (flow_after bed f byte) a) (put (flow_placed bed f byte) [])
+pub heard-append : (context : BodyContext) (f : Flow) (a b : List ℕ) → flow_heard context f (a ++ b) ≡ flow_heard context (flow_behind context f a) b ++ flow_heard context f a
+heard-append context f [] b = sym (append-nil (flow_heard context f b))
+heard-append context f (byte ∷ a) b =
+    ap (λ heard. heard ++ put (flow_placed context f byte) []) (heard-append context (flow_after context f byte) a b)
+    ∙ append_assoc (flow_heard context (flow_behind context (flow_after context f byte) a) b) (flow_heard context (flow_after context f byte) a) (put (flow_placed context f byte) [])
 
 -- the refusal of a byte, from its packet so far and its event
 abbrev refusal_with : ℕ → Flow → List ℕ → Option Event → Option Refusal
@@ -47,50 +47,50 @@ refusal_with limit f so_far event = first_standing (
     ∷ (is_some event && nat_le 4294967295 f.events, refusals.TooLong f.at)
     ∷ [])
 
-event_is : (bed : Bed) (f : Flow) (byte : ℕ) (so_far : List ℕ) (item : Option Item) → so_far_in f.half byte ≡ so_far → item_at so_far ≡ item → flow_event bed f byte ≡ option_map (going bed.way) item
+event_is : (context : BodyContext) (f : Flow) (byte : ℕ) (so_far : List ℕ) (item : Option Item) → so_far_in f.state byte ≡ so_far → item_at so_far ≡ item → flow_event context f byte ≡ option_map (going context.direction) item
 unfolding flow_event
-event_is bed f byte so_far item e i = ap (λ t. option_map (going bed.way) (item_at t)) e ∙ ap (option_map (going bed.way)) i
+event_is context f byte so_far item e i = ap (λ t. option_map (going context.direction) (item_at t)) e ∙ ap (option_map (going context.direction)) i
 
-refusal_is : (limit : ℕ) (bed : Bed) (f : Flow) (byte : ℕ) (so_far : List ℕ) (event : Option Event) → so_far_in f.half byte ≡ so_far → flow_event bed f byte ≡ event
-    → flow_refusal limit bed f byte ≡ refusal_with limit f so_far event
+refusal_is : (limit : ℕ) (context : BodyContext) (f : Flow) (byte : ℕ) (so_far : List ℕ) (event : Option Event) → so_far_in f.state byte ≡ so_far → flow_event context f byte ≡ event
+    → flow_refusal limit context f byte ≡ refusal_with limit f so_far event
 unfolding flow_refusal
-refusal_is limit bed f byte so_far event e i = ap (λ t. refusal_with limit f t (flow_event bed f byte)) e ∙ ap (refusal_with limit f so_far) i
+refusal_is limit context f byte so_far event e i = ap (λ t. refusal_with limit f t (flow_event context f byte)) e ∙ ap (refusal_with limit f so_far) i
 
-after_is : (bed : Bed) (f : Flow) (byte : ℕ) (half : Half) (event : Option Event) → half_after f.half byte ≡ half → flow_event bed f byte ≡ event
-    → flow_after bed f byte ≡ flow_with bed (record f { at = f.at + 1; half = half }) event
+after_is : (context : BodyContext) (f : Flow) (byte : ℕ) (state : StreamState) (event : Option Event) → state_after f.state byte ≡ state → flow_event context f byte ≡ event
+    → flow_after context f byte ≡ flow_with context (record f { at = f.at + 1; state = state }) event
 unfolding flow_after
-after_is bed f byte half event h i =
-    ap (λ x. flow_with bed (record f { at = f.at + 1; half = x }) (flow_event bed f byte)) h ∙ ap (flow_with bed (record f { at = f.at + 1; half = half })) i
+after_is context f byte state event h i =
+    ap (λ x. flow_with context (record f { at = f.at + 1; state = x }) (flow_event context f byte)) h ∙ ap (flow_with context (record f { at = f.at + 1; state = state })) i
 
-placed_is : (bed : Bed) (f : Flow) (byte : ℕ) (event : Option Event) → flow_event bed f byte ≡ event → flow_placed bed f byte ≡ flow_placed_with bed f event
+placed_is : (context : BodyContext) (f : Flow) (byte : ℕ) (event : Option Event) → flow_event context f byte ≡ event → flow_placed context f byte ≡ flow_placed_with context f event
 unfolding flow_placed
-placed_is bed f byte event i = ap (flow_placed_with bed f) i
+placed_is context f byte event i = ap (flow_placed_with context f) i
 
 -- What bytes do that complete nothing and aren't refused.
-pub record IsQuiet (limit : ℕ) (bed : Bed) (f : Flow) (bytes : List ℕ) (half : Half) : Type 0 where
-  pub refused : flow_refused limit bed f bytes ≡ None
-  pub heard : flow_heard bed f bytes ≡ []
-  pub behind : flow_behind bed f bytes ≡ record f { at = f.at + length bytes; half = half }
+pub record IsQuiet (limit : ℕ) (context : BodyContext) (f : Flow) (bytes : List ℕ) (state : StreamState) : Type 0 where
+  pub refused : flow_refused limit context f bytes ≡ None
+  pub heard : flow_heard context f bytes ≡ []
+  pub behind : flow_behind context f bytes ≡ record f { at = f.at + length bytes; state = state }
 
 -- the same of one byte
-record IsQuietByte (limit : ℕ) (bed : Bed) (f : Flow) (byte : ℕ) (half : Half) : Type 0 where
-  refused : flow_refusal limit bed f byte ≡ None
-  placed : flow_placed bed f byte ≡ None
-  behind : flow_after bed f byte ≡ record f { at = f.at + 1; half = half }
+record IsQuietByte (limit : ℕ) (context : BodyContext) (f : Flow) (byte : ℕ) (state : StreamState) : Type 0 where
+  refused : flow_refusal limit context f byte ≡ None
+  placed : flow_placed context f byte ≡ None
+  behind : flow_after context f byte ≡ record f { at = f.at + 1; state = state }
 
-quiet_none : (limit : ℕ) (bed : Bed) (f : Flow) (half : Half) → f.half ≡ half → IsQuiet limit bed f [] half
-quiet_none limit bed f half e = record { refused = refl; heard = refl; behind = ap (λ x. record f { half = x }) e ∙ ap (λ n. record f { at = n; half = half }) (let same : f.at ≡ f.at + length {A = ℕ} [] = omega arith in same) }
+quiet_none : (limit : ℕ) (context : BodyContext) (f : Flow) (state : StreamState) → f.state ≡ state → IsQuiet limit context f [] state
+quiet_none limit context f state e = record { refused = refl; heard = refl; behind = ap (λ x. record f { state = x }) e ∙ ap (λ n. record f { at = n; state = state }) (let same : f.at ≡ f.at + length {A = ℕ} [] = omega arith in same) }
 
-quiet_more : (limit : ℕ) (bed : Bed) (f : Flow) (byte : ℕ) (bytes : List ℕ) (between half : Half)
-    → IsQuietByte limit bed f byte between → IsQuiet limit bed (record f { at = f.at + 1; half = between }) bytes half → IsQuiet limit bed f (byte ∷ bytes) half
-quiet_more limit bed f byte bytes between half one more =
+quiet_more : (limit : ℕ) (context : BodyContext) (f : Flow) (byte : ℕ) (bytes : List ℕ) (between state : StreamState)
+    → IsQuietByte limit context f byte between → IsQuiet limit context (record f { at = f.at + 1; state = between }) bytes state → IsQuiet limit context f (byte ∷ bytes) state
+quiet_more limit context f byte bytes between state one more =
     let counted : f.at + 1 + length bytes ≡ f.at + length (byte ∷ bytes) = omega arith in
     record {
-      refused = ap (λ o. option_or o (flow_refused limit bed (flow_after bed f byte) bytes)) one.refused ∙ ap (λ g. flow_refused limit bed g bytes) one.behind ∙ more.refused;
-      heard = ap (λ g. flow_heard bed g bytes ++ put (flow_placed bed f byte) []) one.behind
-          ∙ ap (λ placed. flow_heard bed (record f { at = f.at + 1; half = between }) bytes ++ put placed []) one.placed
-          ∙ append-nil (flow_heard bed (record f { at = f.at + 1; half = between }) bytes) ∙ more.heard;
-      behind = ap (λ g. flow_behind bed g bytes) one.behind ∙ more.behind ∙ ap (λ n. record f { at = n; half = half }) counted;
+      refused = ap (λ o. option_or o (flow_refused limit context (flow_after context f byte) bytes)) one.refused ∙ ap (λ g. flow_refused limit context g bytes) one.behind ∙ more.refused;
+      heard = ap (λ g. flow_heard context g bytes ++ put (flow_placed context f byte) []) one.behind
+          ∙ ap (λ placed. flow_heard context (record f { at = f.at + 1; state = between }) bytes ++ put placed []) one.placed
+          ∙ append-nil (flow_heard context (record f { at = f.at + 1; state = between }) bytes) ∙ more.heard;
+      behind = ap (λ g. flow_behind context g bytes) one.behind ∙ more.behind ∙ ap (λ n. record f { at = n; state = state }) counted;
     }
 
 pub nothing_item : item_at [] ≡ None
@@ -101,37 +101,37 @@ nothing_refused : (limit : ℕ) (f : Flow) → refusal_with limit f [] None ≡ 
 unfolding fixed_header_of frame_size
 nothing_refused limit f = refl
 
-lost_after : (half : Half) (byte : ℕ) → half.lost ≡ true → half_after half byte ≡ half
-unfolding half_after
-lost_after half byte e = ap (λ lost. cond lost half (cond (is_lost (half.unfinished ++ byte ∷ [])) (record { unfinished = []; lost = true })
-    (cond (is_some (frame_size (half.unfinished ++ byte ∷ []))) (record { unfinished = []; lost = false }) (record { unfinished = half.unfinished ++ byte ∷ []; lost = false })))) e
+lost_after : (state : StreamState) (byte : ℕ) → state.lost ≡ true → state_after state byte ≡ state
+unfolding state_after
+lost_after state byte e = ap (λ lost. cond lost state (cond (is_lost (state.unfinished ++ byte ∷ [])) (record { unfinished = []; lost = true })
+    (cond (is_some (frame_size (state.unfinished ++ byte ∷ []))) (record { unfinished = []; lost = false }) (record { unfinished = state.unfinished ++ byte ∷ []; lost = false })))) e
 
-lost_byte : (limit : ℕ) (bed : Bed) (f : Flow) (byte : ℕ) → f.half.lost ≡ true → IsQuietByte limit bed f byte f.half
-lost_byte limit bed f byte e =
-    let nothing : so_far_in f.half byte ≡ [] = ap (λ lost. cond lost [] (f.half.unfinished ++ byte ∷ [])) e in
-    let none : flow_event bed f byte ≡ None = event_is bed f byte [] None nothing nothing_item in
+lost_byte : (limit : ℕ) (context : BodyContext) (f : Flow) (byte : ℕ) → f.state.lost ≡ true → IsQuietByte limit context f byte f.state
+lost_byte limit context f byte e =
+    let nothing : so_far_in f.state byte ≡ [] = ap (λ lost. cond lost [] (f.state.unfinished ++ byte ∷ [])) e in
+    let none : flow_event context f byte ≡ None = event_is context f byte [] None nothing nothing_item in
     record {
-      refused = refusal_is limit bed f byte [] None nothing none ∙ nothing_refused limit f;
-      placed = placed_is bed f byte None none;
-      behind = after_is bed f byte f.half None (lost_after f.half byte e) none;
+      refused = refusal_is limit context f byte [] None nothing none ∙ nothing_refused limit f;
+      placed = placed_is context f byte None none;
+      behind = after_is context f byte f.state None (lost_after f.state byte e) none;
     }
 
-lost_quiet : (limit : ℕ) (bed : Bed) (f : Flow) (bytes : List ℕ) → f.half.lost ≡ true → IsQuiet limit bed f bytes f.half
-lost_quiet limit bed f [] e = quiet_none limit bed f f.half refl
-lost_quiet limit bed f (byte ∷ bytes) e = quiet_more limit bed f byte bytes f.half f.half (lost_byte limit bed f byte e) (lost_quiet limit bed (record f { at = f.at + 1 }) bytes e)
+lost_quiet : (limit : ℕ) (context : BodyContext) (f : Flow) (bytes : List ℕ) → f.state.lost ≡ true → IsQuiet limit context f bytes f.state
+lost_quiet limit context f [] e = quiet_none limit context f f.state refl
+lost_quiet limit context f (byte ∷ bytes) e = quiet_more limit context f byte bytes f.state f.state (lost_byte limit context f byte e) (lost_quiet limit context (record f { at = f.at + 1 }) bytes e)
 
 -- Bytes of a direction that is lost do nothing.
-pub lost-refused : (limit : ℕ) (bed : Bed) (f : Flow) (bytes : List ℕ) → f.half.lost ≡ true → flow_refused limit bed f bytes ≡ None
-lost-refused limit bed f bytes e = (lost_quiet limit bed f bytes e).refused
+pub lost-refused : (limit : ℕ) (context : BodyContext) (f : Flow) (bytes : List ℕ) → f.state.lost ≡ true → flow_refused limit context f bytes ≡ None
+lost-refused limit context f bytes e = (lost_quiet limit context f bytes e).refused
 
-pub lost-heard : (bed : Bed) (f : Flow) (bytes : List ℕ) → f.half.lost ≡ true → flow_heard bed f bytes ≡ []
-lost-heard bed f bytes e = (lost_quiet 0 bed f bytes e).heard
+pub lost-heard : (context : BodyContext) (f : Flow) (bytes : List ℕ) → f.state.lost ≡ true → flow_heard context f bytes ≡ []
+lost-heard context f bytes e = (lost_quiet 0 context f bytes e).heard
 
-pub lost-behind : (bed : Bed) (f : Flow) (bytes : List ℕ) → f.half.lost ≡ true → flow_behind bed f bytes ≡ record f { at = f.at + length bytes }
-lost-behind bed f bytes e = (lost_quiet 0 bed f bytes e).behind
+pub lost-behind : (context : BodyContext) (f : Flow) (bytes : List ℕ) → f.state.lost ≡ true → flow_behind context f bytes ≡ record f { at = f.at + length bytes }
+lost-behind context f bytes e = (lost_quiet 0 context f bytes e).behind
 
 -- a direction that isn't lost, with these bytes of an unfinished packet
-abbrev going_on : List ℕ → Half
+abbrev going_on : List ℕ → StreamState
 going_on unfinished = record { unfinished = unfinished; lost = false }
 
 -- what the bytes so far of a packet complete, and what they leave of their direction, by what stands at their front
@@ -142,26 +142,26 @@ item_by so_far l size e s =
     ap (λ b. cond b (Some lost) (cond (is_some (frame_size so_far)) (item_read (length so_far) (slice_index so_far 0) (read_frame so_far)) None)) e
     ∙ ap (λ o. cond l (Some lost) (cond (is_some o) (item_read (length so_far) (slice_index so_far 0) (read_frame so_far)) None)) s
 
-half_by_front : (u : List ℕ) (byte : ℕ) (l : Bool) (size : Option ℕ) → is_lost (u ++ byte ∷ []) ≡ l → frame_size (u ++ byte ∷ []) ≡ size
-    → half_after (going_on u) byte ≡ cond l (record { unfinished = []; lost = true }) (cond (is_some size) (going_on []) (going_on (u ++ byte ∷ [])))
-unfolding half_after
-half_by_front u byte l size e s =
-    ap (λ b. cond {A = Half} b (record { unfinished = []; lost = true }) (cond (is_some (frame_size (u ++ byte ∷ []))) (going_on []) (going_on (u ++ byte ∷ [])))) e
-    ∙ ap (λ o. cond {A = Half} l (record { unfinished = []; lost = true }) (cond (is_some o) (going_on []) (going_on (u ++ byte ∷ [])))) s
+state_by_front : (u : List ℕ) (byte : ℕ) (l : Bool) (size : Option ℕ) → is_lost (u ++ byte ∷ []) ≡ l → frame_size (u ++ byte ∷ []) ≡ size
+    → state_after (going_on u) byte ≡ cond l (record { unfinished = []; lost = true }) (cond (is_some size) (going_on []) (going_on (u ++ byte ∷ [])))
+unfolding state_after
+state_by_front u byte l size e s =
+    ap (λ b. cond {A = StreamState} b (record { unfinished = []; lost = true }) (cond (is_some (frame_size (u ++ byte ∷ []))) (going_on []) (going_on (u ++ byte ∷ [])))) e
+    ∙ ap (λ o. cond {A = StreamState} l (record { unfinished = []; lost = true }) (cond (is_some o) (going_on []) (going_on (u ++ byte ∷ [])))) s
 
 open_refused : (limit : ℕ) (f : Flow) (so_far : List ℕ) → frame_size so_far ≡ None → is_too_large limit so_far (fixed_header_of so_far) ≡ false → refusal_with limit f so_far None ≡ None
 open_refused limit f so_far s large = rw (s, large) refl
 
-open_byte : (limit : ℕ) (bed : Bed) (f : Flow) (u : List ℕ) (byte : ℕ) → f.half ≡ going_on u
+open_byte : (limit : ℕ) (context : BodyContext) (f : Flow) (u : List ℕ) (byte : ℕ) → f.state ≡ going_on u
     → is_lost (u ++ byte ∷ []) ≡ false → frame_size (u ++ byte ∷ []) ≡ None → is_too_large limit (u ++ byte ∷ []) (fixed_header_of (u ++ byte ∷ [])) ≡ false
-    → IsQuietByte limit bed f byte (going_on (u ++ byte ∷ []))
-open_byte limit bed f u byte e l s large =
-    let so_far : so_far_in f.half byte ≡ u ++ byte ∷ [] = ap (λ half. so_far_in half byte) e in
-    let none : flow_event bed f byte ≡ None = event_is bed f byte (u ++ byte ∷ []) None so_far (item_by (u ++ byte ∷ []) false None l s) in
+    → IsQuietByte limit context f byte (going_on (u ++ byte ∷ []))
+open_byte limit context f u byte e l s large =
+    let so_far : so_far_in f.state byte ≡ u ++ byte ∷ [] = ap (λ state. so_far_in state byte) e in
+    let none : flow_event context f byte ≡ None = event_is context f byte (u ++ byte ∷ []) None so_far (item_by (u ++ byte ∷ []) false None l s) in
     record {
-      refused = refusal_is limit bed f byte (u ++ byte ∷ []) None so_far none ∙ open_refused limit f (u ++ byte ∷ []) s large;
-      placed = placed_is bed f byte None none;
-      behind = after_is bed f byte (going_on (u ++ byte ∷ [])) None (ap (λ half. half_after half byte) e ∙ half_by_front u byte false None l s) none;
+      refused = refusal_is limit context f byte (u ++ byte ∷ []) None so_far none ∙ open_refused limit f (u ++ byte ∷ []) s large;
+      placed = placed_is context f byte None none;
+      behind = after_is context f byte (going_on (u ++ byte ∷ [])) None (ap (λ state. state_after state byte) e ∙ state_by_front u byte false None l s) none;
     }
 
 not_lost : (a : List ℕ) (header : FixedHeader) → fixed_header_of a ≡ header → (header ≡ headers.Lost → ⊥) → is_lost a ≡ false
@@ -171,10 +171,10 @@ not_lost a header e other =
       | false ↦ λ l. refl
     ] refl
 
-short_byte : (limit : ℕ) (bed : Bed) (f : Flow) (u : List ℕ) (byte : ℕ) → f.half ≡ going_on u → fixed_header_of (u ++ byte ∷ []) ≡ headers.Short
-    → IsQuietByte limit bed f byte (going_on (u ++ byte ∷ []))
-short_byte limit bed f u byte e short =
-    open_byte limit bed f u byte e (not_lost (u ++ byte ∷ []) headers.Short short (λ same. (cc))) (short_no_frame (u ++ byte ∷ []) short) (ap (is_too_large limit (u ++ byte ∷ [])) short)
+short_byte : (limit : ℕ) (context : BodyContext) (f : Flow) (u : List ℕ) (byte : ℕ) → f.state ≡ going_on u → fixed_header_of (u ++ byte ∷ []) ≡ headers.Short
+    → IsQuietByte limit context f byte (going_on (u ++ byte ∷ []))
+short_byte limit context f u byte e short =
+    open_byte limit context f u byte e (not_lost (u ++ byte ∷ []) headers.Short short (λ same. (cc))) (short_no_frame (u ++ byte ∷ []) short) (ap (is_too_large limit (u ++ byte ∷ [])) short)
 
 -- The header ended before these bytes, or the size is within the limit.
 small : (limit : ℕ) (u : List ℕ) (byte header size : ℕ) → (size ≤ limit) ⊎ (header ≤ length u) → is_too_large limit (u ++ byte ∷ []) (headers.Whole header size) ≡ false
@@ -187,131 +187,131 @@ small limit u byte header size (inr before) =
     let more : length (u ++ byte ∷ []) ≡ length u + 1 = length-append u (byte ∷ []) in
     rw (ne_eqb header (length (u ++ byte ∷ [])) (λ same. (omega arith))) refl
 
-header_byte : (limit : ℕ) (bed : Bed) (f : Flow) (u : List ℕ) (byte header size : ℕ) → f.half ≡ going_on u → fixed_header_of (u ++ byte ∷ []) ≡ headers.Whole header size
-    → length (u ++ byte ∷ []) < size → (size ≤ limit) ⊎ (header ≤ length u) → IsQuietByte limit bed f byte (going_on (u ++ byte ∷ []))
-header_byte limit bed f u byte header size e whole less may =
-    open_byte limit bed f u byte e
+header_byte : (limit : ℕ) (context : BodyContext) (f : Flow) (u : List ℕ) (byte header size : ℕ) → f.state ≡ going_on u → fixed_header_of (u ++ byte ∷ []) ≡ headers.Whole header size
+    → length (u ++ byte ∷ []) < size → (size ≤ limit) ⊎ (header ≤ length u) → IsQuietByte limit context f byte (going_on (u ++ byte ∷ []))
+header_byte limit context f u byte header size e whole less may =
+    open_byte limit context f u byte e
     (not_lost (u ++ byte ∷ []) (headers.Whole header size) whole (λ same. (cc)))
     (no_frame_yet (u ++ byte ∷ []) header size whole less)
     (ap (is_too_large limit (u ++ byte ∷ [])) whole ∙ small limit u byte header size may)
 
 -- a byte of a packet whose header may be whole, where more bytes are after it
-unfinished_byte : (limit : ℕ) (bed : Bed) (f : Flow) (u : List ℕ) (byte : ℕ) (more : List ℕ) (header size : ℕ) → f.half ≡ going_on u
+unfinished_byte : (limit : ℕ) (context : BodyContext) (f : Flow) (u : List ℕ) (byte : ℕ) (more : List ℕ) (header size : ℕ) → f.state ≡ going_on u
     → fixed_header_of ((u ++ byte ∷ []) ++ more) ≡ headers.Whole header size → length ((u ++ byte ∷ []) ++ more) < size → (size ≤ limit) ⊎ (header ≤ length u)
-    → IsQuietByte limit bed f byte (going_on (u ++ byte ∷ []))
-unfinished_byte limit bed f u byte more header size e whole less may = told (fixed_header_of (u ++ byte ∷ [])) refl
+    → IsQuietByte limit context f byte (going_on (u ++ byte ∷ []))
+unfinished_byte limit context f u byte more header size e whole less may = emitted (fixed_header_of (u ++ byte ∷ [])) refl
   where
-    told : (front : FixedHeader) → fixed_header_of (u ++ byte ∷ []) ≡ front → IsQuietByte limit bed f byte (going_on (u ++ byte ∷ []))
-    told headers.Short short = short_byte limit bed f u byte e short
-    told headers.Lost gone = let stays : fixed_header_of ((u ++ byte ∷ []) ++ more) ≡ headers.Lost = lost_stays (u ++ byte ∷ []) more gone in absurd (cc)
-    told (headers.Whole header' size') known =
+    emitted : (front : FixedHeader) → fixed_header_of (u ++ byte ∷ []) ≡ front → IsQuietByte limit context f byte (going_on (u ++ byte ∷ []))
+    emitted headers.Short short = short_byte limit context f u byte e short
+    emitted headers.Lost gone = let stays : fixed_header_of ((u ++ byte ∷ []) ++ more) ≡ headers.Lost = lost_stays (u ++ byte ∷ []) more gone in absurd (cc)
+    emitted (headers.Whole header' size') known =
         let stays : fixed_header_of ((u ++ byte ∷ []) ++ more) ≡ headers.Whole header' size' = whole_stays (u ++ byte ∷ []) more header' size' known in
         let same : headers.Whole header' size' ≡ headers.Whole header size = sym stays ∙ whole in
         let longer : length ((u ++ byte ∷ []) ++ more) ≡ length (u ++ byte ∷ []) + length more = length-append (u ++ byte ∷ []) more in
-        header_byte limit bed f u byte header size e (known ∙ same) (omega arith) may
+        header_byte limit context f u byte header size e (known ∙ same) (omega arith) may
 
-at_end : (f : Flow) (u : List ℕ) → f.half ≡ going_on u → f.half ≡ going_on (u ++ [])
+at_end : (f : Flow) (u : List ℕ) → f.state ≡ going_on u → f.state ≡ going_on (u ++ [])
 at_end f u e = e ∙ ap going_on (sym (append-nil u))
 
-moved : (limit : ℕ) (bed : Bed) (f : Flow) (u : List ℕ) (byte : ℕ) (bytes : List ℕ) → IsQuiet limit bed f (byte ∷ bytes) (going_on ((u ++ byte ∷ []) ++ bytes)) → IsQuiet limit bed f (byte ∷ bytes) (going_on (u ++ byte ∷ bytes))
-moved limit bed f u byte bytes quiet = subst (λ t. IsQuiet limit bed f (byte ∷ bytes) (going_on t)) (append_assoc u (byte ∷ []) bytes) quiet
+moved : (limit : ℕ) (context : BodyContext) (f : Flow) (u : List ℕ) (byte : ℕ) (bytes : List ℕ) → IsQuiet limit context f (byte ∷ bytes) (going_on ((u ++ byte ∷ []) ++ bytes)) → IsQuiet limit context f (byte ∷ bytes) (going_on (u ++ byte ∷ bytes))
+moved limit context f u byte bytes quiet = subst (λ t. IsQuiet limit context f (byte ∷ bytes) (going_on t)) (append_assoc u (byte ∷ []) bytes) quiet
 
 weaker : (limit size header : ℕ) (u : List ℕ) (byte : ℕ) → (size ≤ limit) ⊎ (header ≤ length u) → (size ≤ limit) ⊎ (header ≤ length (u ++ byte ∷ []))
 weaker limit size header u byte (inl within) = inl within
 weaker limit size header u byte (inr before) = inr (let more : length (u ++ byte ∷ []) ≡ length u + 1 = length-append u (byte ∷ []) in omega arith)
 
-unfinished_quiet : (limit : ℕ) (bed : Bed) (f : Flow) (u bytes : List ℕ) (header size : ℕ) → f.half ≡ going_on u
+unfinished_quiet : (limit : ℕ) (context : BodyContext) (f : Flow) (u bytes : List ℕ) (header size : ℕ) → f.state ≡ going_on u
     → fixed_header_of (u ++ bytes) ≡ headers.Whole header size → length (u ++ bytes) < size → (size ≤ limit) ⊎ (header ≤ length u)
-    → IsQuiet limit bed f bytes (going_on (u ++ bytes))
-unfinished_quiet limit bed f u [] header size e whole less may = quiet_none limit bed f (going_on (u ++ [])) (at_end f u e)
-unfinished_quiet limit bed f u (byte ∷ bytes) header size e whole less may =
+    → IsQuiet limit context f bytes (going_on (u ++ bytes))
+unfinished_quiet limit context f u [] header size e whole less may = quiet_none limit context f (going_on (u ++ [])) (at_end f u e)
+unfinished_quiet limit context f u (byte ∷ bytes) header size e whole less may =
     let joined : (u ++ byte ∷ []) ++ bytes ≡ u ++ byte ∷ bytes = append_assoc u (byte ∷ []) bytes in
     let whole' : fixed_header_of ((u ++ byte ∷ []) ++ bytes) ≡ headers.Whole header size = ap fixed_header_of joined ∙ whole in
     let counted : length ((u ++ byte ∷ []) ++ bytes) ≡ length (u ++ byte ∷ bytes) = ap length joined in
     let less' : length ((u ++ byte ∷ []) ++ bytes) < size = omega arith in
-    moved limit bed f u byte bytes
-    (quiet_more limit bed f byte bytes (going_on (u ++ byte ∷ [])) (going_on ((u ++ byte ∷ []) ++ bytes))
-    (unfinished_byte limit bed f u byte bytes header size e whole' less' may)
-    (unfinished_quiet limit bed (record f { at = f.at + 1; half = going_on (u ++ byte ∷ []) }) (u ++ byte ∷ []) bytes header size refl whole' less' (weaker limit size header u byte may)))
+    moved limit context f u byte bytes
+    (quiet_more limit context f byte bytes (going_on (u ++ byte ∷ [])) (going_on ((u ++ byte ∷ []) ++ bytes))
+    (unfinished_byte limit context f u byte bytes header size e whole' less' may)
+    (unfinished_quiet limit context (record f { at = f.at + 1; state = going_on (u ++ byte ∷ []) }) (u ++ byte ∷ []) bytes header size refl whole' less' (weaker limit size header u byte may)))
 
-short_quiet : (limit : ℕ) (bed : Bed) (f : Flow) (u bytes : List ℕ) → f.half ≡ going_on u → fixed_header_of (u ++ bytes) ≡ headers.Short → IsQuiet limit bed f bytes (going_on (u ++ bytes))
-short_quiet limit bed f u [] e short = quiet_none limit bed f (going_on (u ++ [])) (at_end f u e)
-short_quiet limit bed f u (byte ∷ bytes) e short =
+short_quiet : (limit : ℕ) (context : BodyContext) (f : Flow) (u bytes : List ℕ) → f.state ≡ going_on u → fixed_header_of (u ++ bytes) ≡ headers.Short → IsQuiet limit context f bytes (going_on (u ++ bytes))
+short_quiet limit context f u [] e short = quiet_none limit context f (going_on (u ++ [])) (at_end f u e)
+short_quiet limit context f u (byte ∷ bytes) e short =
     let short' : fixed_header_of ((u ++ byte ∷ []) ++ bytes) ≡ headers.Short = ap fixed_header_of (append_assoc u (byte ∷ []) bytes) ∙ short in
-    moved limit bed f u byte bytes
-    (quiet_more limit bed f byte bytes (going_on (u ++ byte ∷ [])) (going_on ((u ++ byte ∷ []) ++ bytes))
-    (short_byte limit bed f u byte e (short_before (u ++ byte ∷ []) bytes short'))
-    (short_quiet limit bed (record f { at = f.at + 1; half = going_on (u ++ byte ∷ []) }) (u ++ byte ∷ []) bytes refl short'))
+    moved limit context f u byte bytes
+    (quiet_more limit context f byte bytes (going_on (u ++ byte ∷ [])) (going_on ((u ++ byte ∷ []) ++ bytes))
+    (short_byte limit context f u byte e (short_before (u ++ byte ∷ []) bytes short'))
+    (short_quiet limit context (record f { at = f.at + 1; state = going_on (u ++ byte ∷ []) }) (u ++ byte ∷ []) bytes refl short'))
 
 -- Bytes of a packet that isn't whole with them do nothing but stay, unless its size, told by one of them, is over the limit.
-pub quiet-refused : (limit : ℕ) (bed : Bed) (f : Flow) (u bytes : List ℕ) (header size : ℕ) → f.half ≡ record { unfinished = u; lost = false }
+pub quiet-refused : (limit : ℕ) (context : BodyContext) (f : Flow) (u bytes : List ℕ) (header size : ℕ) → f.state ≡ record { unfinished = u; lost = false }
     → fixed_header_of (u ++ bytes) ≡ headers.Whole header size → length (u ++ bytes) < size → (size ≤ limit) ⊎ (header ≤ length u)
-    → flow_refused limit bed f bytes ≡ None
-quiet-refused limit bed f u bytes header size e whole less may = (unfinished_quiet limit bed f u bytes header size e whole less may).refused
+    → flow_refused limit context f bytes ≡ None
+quiet-refused limit context f u bytes header size e whole less may = (unfinished_quiet limit context f u bytes header size e whole less may).refused
 
-pub quiet-heard : (bed : Bed) (f : Flow) (u bytes : List ℕ) (header size : ℕ) → f.half ≡ record { unfinished = u; lost = false }
+pub quiet-heard : (context : BodyContext) (f : Flow) (u bytes : List ℕ) (header size : ℕ) → f.state ≡ record { unfinished = u; lost = false }
     → fixed_header_of (u ++ bytes) ≡ headers.Whole header size → length (u ++ bytes) < size
-    → flow_heard bed f bytes ≡ []
-quiet-heard bed f u bytes header size e whole less = (unfinished_quiet size bed f u bytes header size e whole less (inl (omega arith))).heard
+    → flow_heard context f bytes ≡ []
+quiet-heard context f u bytes header size e whole less = (unfinished_quiet size context f u bytes header size e whole less (inl (omega arith))).heard
 
-pub quiet-behind : (bed : Bed) (f : Flow) (u bytes : List ℕ) (header size : ℕ) → f.half ≡ record { unfinished = u; lost = false }
+pub quiet-behind : (context : BodyContext) (f : Flow) (u bytes : List ℕ) (header size : ℕ) → f.state ≡ record { unfinished = u; lost = false }
     → fixed_header_of (u ++ bytes) ≡ headers.Whole header size → length (u ++ bytes) < size
-    → flow_behind bed f bytes ≡ record f { at = f.at + length bytes; half = record { unfinished = u ++ bytes; lost = false } }
-quiet-behind bed f u bytes header size e whole less = (unfinished_quiet size bed f u bytes header size e whole less (inl (omega arith))).behind
+    → flow_behind context f bytes ≡ record f { at = f.at + length bytes; state = record { unfinished = u ++ bytes; lost = false } }
+quiet-behind context f u bytes header size e whole less = (unfinished_quiet size context f u bytes header size e whole less (inl (omega arith))).behind
 
 -- The same where they don't tell its size.
-pub short-refused : (limit : ℕ) (bed : Bed) (f : Flow) (u bytes : List ℕ) → f.half ≡ record { unfinished = u; lost = false } → fixed_header_of (u ++ bytes) ≡ headers.Short
-    → flow_refused limit bed f bytes ≡ None
-short-refused limit bed f u bytes e short = (short_quiet limit bed f u bytes e short).refused
+pub short-refused : (limit : ℕ) (context : BodyContext) (f : Flow) (u bytes : List ℕ) → f.state ≡ record { unfinished = u; lost = false } → fixed_header_of (u ++ bytes) ≡ headers.Short
+    → flow_refused limit context f bytes ≡ None
+short-refused limit context f u bytes e short = (short_quiet limit context f u bytes e short).refused
 
-pub short-heard : (bed : Bed) (f : Flow) (u bytes : List ℕ) → f.half ≡ record { unfinished = u; lost = false } → fixed_header_of (u ++ bytes) ≡ headers.Short
-    → flow_heard bed f bytes ≡ []
-short-heard bed f u bytes e short = (short_quiet 0 bed f u bytes e short).heard
+pub short-heard : (context : BodyContext) (f : Flow) (u bytes : List ℕ) → f.state ≡ record { unfinished = u; lost = false } → fixed_header_of (u ++ bytes) ≡ headers.Short
+    → flow_heard context f bytes ≡ []
+short-heard context f u bytes e short = (short_quiet 0 context f u bytes e short).heard
 
-pub short-behind : (bed : Bed) (f : Flow) (u bytes : List ℕ) → f.half ≡ record { unfinished = u; lost = false } → fixed_header_of (u ++ bytes) ≡ headers.Short
-    → flow_behind bed f bytes ≡ record f { at = f.at + length bytes; half = record { unfinished = u ++ bytes; lost = false } }
-short-behind bed f u bytes e short = (short_quiet 0 bed f u bytes e short).behind
+pub short-behind : (context : BodyContext) (f : Flow) (u bytes : List ℕ) → f.state ≡ record { unfinished = u; lost = false } → fixed_header_of (u ++ bytes) ≡ headers.Short
+    → flow_behind context f bytes ≡ record f { at = f.at + length bytes; state = record { unfinished = u ++ bytes; lost = false } }
+short-behind context f u bytes e short = (short_quiet 0 context f u bytes e short).behind
 
-lost_event : (bed : Bed) (f : Flow) (u : List ℕ) (byte : ℕ) → f.half ≡ going_on u → is_lost (u ++ byte ∷ []) ≡ true → flow_event bed f byte ≡ Some (going bed.way lost)
-lost_event bed f u byte e l =
-    event_is bed f byte (u ++ byte ∷ []) (Some lost) (ap (λ half. so_far_in half byte) e) (item_by (u ++ byte ∷ []) true None l (lost_no_frame (u ++ byte ∷ []) l))
+lost_event : (context : BodyContext) (f : Flow) (u : List ℕ) (byte : ℕ) → f.state ≡ going_on u → is_lost (u ++ byte ∷ []) ≡ true → flow_event context f byte ≡ Some (going context.direction lost)
+lost_event context f u byte e l =
+    event_is context f byte (u ++ byte ∷ []) (Some lost) (ap (λ state. so_far_in state byte) e) (item_by (u ++ byte ∷ []) true None l (lost_no_frame (u ++ byte ∷ []) l))
 
-lost_in_time : (way : Way) (f : Flow) → comes_early f (Some (going way lost)) ≡ false
-lost_in_time ways.Sent f = refl
-lost_in_time ways.Recv f = refl
+lost_in_time : (direction : Direction) (f : Flow) → comes_early f (Some (going direction lost)) ≡ false
+lost_in_time directions.Sent f = refl
+lost_in_time directions.Recv f = refl
 
 -- Where it turns out with a byte that its packet has no size, the direction is lost.
-pub loses-event : (bed : Bed) (f : Flow) (u : List ℕ) (byte : ℕ) → f.half ≡ record { unfinished = u; lost = false } → is_lost (u ++ byte ∷ []) ≡ true
-    → flow_event bed f byte ≡ Some (going bed.way lost)
-loses-event bed f u byte e l = lost_event bed f u byte e l
+pub loses-event : (context : BodyContext) (f : Flow) (u : List ℕ) (byte : ℕ) → f.state ≡ record { unfinished = u; lost = false } → is_lost (u ++ byte ∷ []) ≡ true
+    → flow_event context f byte ≡ Some (going context.direction lost)
+loses-event context f u byte e l = lost_event context f u byte e l
 
-pub loses-refusal : (limit : ℕ) (bed : Bed) (f : Flow) (u : List ℕ) (byte : ℕ) → f.half ≡ record { unfinished = u; lost = false } → is_lost (u ++ byte ∷ []) ≡ true
-    → flow_refusal limit bed f byte ≡ first_standing ((nat_le 4294967295 f.events, refusals.TooLong f.at) ∷ [])
-loses-refusal limit bed f u byte e l =
-    refusal_is limit bed f byte (u ++ byte ∷ []) (Some (going bed.way lost)) (ap (λ half. so_far_in half byte) e) (lost_event bed f u byte e l)
-    ∙ rw (lost_header (u ++ byte ∷ []) l, lost_no_frame (u ++ byte ∷ []) l, lost_in_time bed.way f) refl
+pub loses-refusal : (limit : ℕ) (context : BodyContext) (f : Flow) (u : List ℕ) (byte : ℕ) → f.state ≡ record { unfinished = u; lost = false } → is_lost (u ++ byte ∷ []) ≡ true
+    → flow_refusal limit context f byte ≡ first_standing ((nat_le 4294967295 f.events, refusals.TooLong f.at) ∷ [])
+loses-refusal limit context f u byte e l =
+    refusal_is limit context f byte (u ++ byte ∷ []) (Some (going context.direction lost)) (ap (λ state. so_far_in state byte) e) (lost_event context f u byte e l)
+    ∙ rw (lost_header (u ++ byte ∷ []) l, lost_no_frame (u ++ byte ∷ []) l, lost_in_time context.direction f) refl
 
-pub loses-after : (bed : Bed) (f : Flow) (u : List ℕ) (byte : ℕ) → f.half ≡ record { unfinished = u; lost = false } → is_lost (u ++ byte ∷ []) ≡ true
-    → flow_after bed f byte ≡ flow_with bed (record f { at = f.at + 1; half = record { unfinished = []; lost = true } }) (Some (going bed.way lost))
-loses-after bed f u byte e l =
-    after_is bed f byte (record { unfinished = []; lost = true }) (Some (going bed.way lost))
-    (ap (λ half. half_after half byte) e ∙ half_by_front u byte true None l (lost_no_frame (u ++ byte ∷ []) l)) (lost_event bed f u byte e l)
+pub loses-after : (context : BodyContext) (f : Flow) (u : List ℕ) (byte : ℕ) → f.state ≡ record { unfinished = u; lost = false } → is_lost (u ++ byte ∷ []) ≡ true
+    → flow_after context f byte ≡ flow_with context (record f { at = f.at + 1; state = record { unfinished = []; lost = true } }) (Some (going context.direction lost))
+loses-after context f u byte e l =
+    after_is context f byte (record { unfinished = []; lost = true }) (Some (going context.direction lost))
+    (ap (λ state. state_after state byte) e ∙ state_by_front u byte true None l (lost_no_frame (u ++ byte ∷ []) l)) (lost_event context f u byte e l)
 
 -- The byte that tells a size over the limit is refused.
-pub large-refusal : (limit : ℕ) (bed : Bed) (f : Flow) (u : List ℕ) (byte header size : ℕ) → f.half ≡ record { unfinished = u; lost = false }
+pub large-refusal : (limit : ℕ) (context : BodyContext) (f : Flow) (u : List ℕ) (byte header size : ℕ) → f.state ≡ record { unfinished = u; lost = false }
     → fixed_header_of (u ++ byte ∷ []) ≡ headers.Whole header size → header ≡ length (u ++ byte ∷ []) → limit < size
-    → flow_refusal limit bed f byte ≡ Some (refusals.TooLarge f.at)
-large-refusal limit bed f u byte header size e whole ends over =
-    refusal_is limit bed f byte (u ++ byte ∷ []) (flow_event bed f byte) (ap (λ half. so_far_in half byte) e) refl
+    → flow_refusal limit context f byte ≡ Some (refusals.TooLarge f.at)
+large-refusal limit context f u byte header size e whole ends over =
+    refusal_is limit context f byte (u ++ byte ∷ []) (flow_event context f byte) (ap (λ state. so_far_in state byte) e) refl
     ∙ rw (whole, eq-eqb header (length (u ++ byte ∷ [])) ends, lt-ltb limit size over) refl
 
-pub loses-placed : (bed : Bed) (f : Flow) (u : List ℕ) (byte : ℕ) → f.half ≡ record { unfinished = u; lost = false } → is_lost (u ++ byte ∷ []) ≡ true
-    → flow_placed bed f byte ≡ flow_placed_with bed f (Some (going bed.way lost))
-loses-placed bed f u byte e l = placed_is bed f byte (Some (going bed.way lost)) (lost_event bed f u byte e l)
+pub loses-placed : (context : BodyContext) (f : Flow) (u : List ℕ) (byte : ℕ) → f.state ≡ record { unfinished = u; lost = false } → is_lost (u ++ byte ∷ []) ≡ true
+    → flow_placed context f byte ≡ flow_placed_with context f (Some (going context.direction lost))
+loses-placed context f u byte e l = placed_is context f byte (Some (going context.direction lost)) (lost_event context f u byte e l)
 
 -- One byte is refused as the only one of its list.
-pub refused-one : (limit : ℕ) (bed : Bed) (f : Flow) (byte : ℕ) → flow_refused limit bed f (byte ∷ []) ≡ flow_refusal limit bed f byte
-refused-one limit bed f byte = or_none (flow_refusal limit bed f byte)
+pub refused-one : (limit : ℕ) (context : BodyContext) (f : Flow) (byte : ℕ) → flow_refused limit context f (byte ∷ []) ≡ flow_refusal limit context f byte
+refused-one limit context f byte = or_none (flow_refusal limit context f byte)
   where
     or_none : (o : Option Refusal) → option_or o None ≡ o
     or_none (Some refusal) = refl
@@ -327,8 +327,8 @@ header_stood a c header size e fit =
     found.1 ∙ sym stays ∙ e
 
 -- the event that a whole frame is
-abbrev frame_event : Bed → List ℕ → Option Event
-frame_event bed frame = option_map (going bed.way) (item_read (length frame) (slice_index frame 0) (read_frame frame))
+abbrev frame_event : BodyContext → List ℕ → Option Event
+frame_event context frame = option_map (going context.direction) (item_read (length frame) (slice_index frame 0) (read_frame frame))
 
 -- the lines for a byte that completes a packet
 abbrev frame_lines : Flow → List ℕ → Option Event → ℕ → Option Refusal
@@ -339,7 +339,7 @@ frame_lines f frame event at = first_standing (
     ∷ [])
 
 -- the last byte of a packet, of which these bytes came before it
-module _ (bed : Bed) (f : Flow) (t : List ℕ) (byte : ℕ) (e : f.half ≡ going_on t) (whole : frame_size (t ++ byte ∷ []) ≡ Some (length (t ++ byte ∷ []))) where
+module _ (context : BodyContext) (f : Flow) (t : List ℕ) (byte : ℕ) (e : f.state ≡ going_on t) (whole : frame_size (t ++ byte ∷ []) ≡ Some (length (t ++ byte ∷ []))) where
   last_lost : is_lost (t ++ byte ∷ []) ≡ false
   last_lost =
       elim (is_lost (t ++ byte ∷ [])) as (λ l. is_lost (t ++ byte ∷ []) ≡ l → l ≡ false) [
@@ -347,39 +347,39 @@ module _ (bed : Bed) (f : Flow) (t : List ℕ) (byte : ℕ) (e : f.half ≡ goin
         | false ↦ λ l. refl
       ] refl
 
-  last_event : flow_event bed f byte ≡ frame_event bed (t ++ byte ∷ [])
+  last_event : flow_event context f byte ≡ frame_event context (t ++ byte ∷ [])
   last_event =
-      event_is bed f byte (t ++ byte ∷ []) (item_read (length (t ++ byte ∷ [])) (slice_index (t ++ byte ∷ []) 0) (read_frame (t ++ byte ∷ [])))
-      (ap (λ half. so_far_in half byte) e) (item_by (t ++ byte ∷ []) false (Some (length (t ++ byte ∷ []))) last_lost whole)
+      event_is context f byte (t ++ byte ∷ []) (item_read (length (t ++ byte ∷ [])) (slice_index (t ++ byte ∷ []) 0) (read_frame (t ++ byte ∷ [])))
+      (ap (λ state. so_far_in state byte) e) (item_by (t ++ byte ∷ []) false (Some (length (t ++ byte ∷ []))) last_lost whole)
 
-  last_after : flow_after bed f byte ≡ flow_with bed (record f { at = f.at + 1; half = going_on [] }) (frame_event bed (t ++ byte ∷ []))
+  last_after : flow_after context f byte ≡ flow_with context (record f { at = f.at + 1; state = going_on [] }) (frame_event context (t ++ byte ∷ []))
   last_after =
-      after_is bed f byte (going_on []) (frame_event bed (t ++ byte ∷ []))
-      (ap (λ half. half_after half byte) e ∙ half_by_front t byte false (Some (length (t ++ byte ∷ []))) last_lost whole) last_event
+      after_is context f byte (going_on []) (frame_event context (t ++ byte ∷ []))
+      (ap (λ state. state_after state byte) e ∙ state_by_front t byte false (Some (length (t ++ byte ∷ []))) last_lost whole) last_event
 
   last_refusal : (limit header size : ℕ) → fixed_header_of (t ++ byte ∷ []) ≡ headers.Whole header size → (size ≤ limit) ⊎ (header ≤ length t)
-      → flow_refusal limit bed f byte ≡ frame_lines f (t ++ byte ∷ []) (frame_event bed (t ++ byte ∷ [])) f.at
+      → flow_refusal limit context f byte ≡ frame_lines f (t ++ byte ∷ []) (frame_event context (t ++ byte ∷ [])) f.at
   last_refusal limit header size known may =
       let fits : is_too_large limit (t ++ byte ∷ []) (fixed_header_of (t ++ byte ∷ [])) ≡ false = ap (is_too_large limit (t ++ byte ∷ [])) known ∙ small limit t byte header size may in
-      refusal_is limit bed f byte (t ++ byte ∷ []) (frame_event bed (t ++ byte ∷ [])) (ap (λ half. so_far_in half byte) e) last_event
+      refusal_is limit context f byte (t ++ byte ∷ []) (frame_event context (t ++ byte ∷ [])) (ap (λ state. so_far_in state byte) e) last_event
       ∙ rw (fits, whole) refl
 
 -- Bytes up to a packet's last one do nothing.
-module _ (bed : Bed) (f : Flow) (u p : List ℕ) (byte : ℕ) (e : f.half ≡ going_on u) (header size : ℕ) (known : fixed_header_of ((u ++ p) ++ byte ∷ []) ≡ headers.Whole header size)
+module _ (context : BodyContext) (f : Flow) (u p : List ℕ) (byte : ℕ) (e : f.state ≡ going_on u) (header size : ℕ) (known : fixed_header_of ((u ++ p) ++ byte ∷ []) ≡ headers.Whole header size)
     (all : size ≡ length ((u ++ p) ++ byte ∷ [])) where
   abbrev before : Flow
-  before = record f { at = f.at + length p; half = going_on (u ++ p) }
+  before = record f { at = f.at + length p; state = going_on (u ++ p) }
 
-  pub until_last : (limit : ℕ) → (size ≤ limit) ⊎ (header ≤ length u) → IsQuiet limit bed f p (going_on (u ++ p))
-  until_last limit may = told (fixed_header_of (u ++ p)) refl
+  pub until_last : (limit : ℕ) → (size ≤ limit) ⊎ (header ≤ length u) → IsQuiet limit context f p (going_on (u ++ p))
+  until_last limit may = emitted (fixed_header_of (u ++ p)) refl
     where
-      told : (front : FixedHeader) → fixed_header_of (u ++ p) ≡ front → IsQuiet limit bed f p (going_on (u ++ p))
-      told headers.Short short = short_quiet limit bed f u p e short
-      told headers.Lost gone = let stays : fixed_header_of ((u ++ p) ++ byte ∷ []) ≡ headers.Lost = lost_stays (u ++ p) (byte ∷ []) gone in absurd (cc)
-      told (headers.Whole header' size') there =
+      emitted : (front : FixedHeader) → fixed_header_of (u ++ p) ≡ front → IsQuiet limit context f p (going_on (u ++ p))
+      emitted headers.Short short = short_quiet limit context f u p e short
+      emitted headers.Lost gone = let stays : fixed_header_of ((u ++ p) ++ byte ∷ []) ≡ headers.Lost = lost_stays (u ++ p) (byte ∷ []) gone in absurd (cc)
+      emitted (headers.Whole header' size') there =
           let stays : fixed_header_of ((u ++ p) ++ byte ∷ []) ≡ headers.Whole header' size' = whole_stays (u ++ p) (byte ∷ []) header' size' there in
           let longer : length ((u ++ p) ++ byte ∷ []) ≡ length (u ++ p) + 1 = length-append (u ++ p) (byte ∷ []) in
-          unfinished_quiet limit bed f u p header size e (there ∙ sym stays ∙ known) (omega arith) may
+          unfinished_quiet limit context f u p header size e (there ∙ sym stays ∙ known) (omega arith) may
 
   last_whole : frame_size ((u ++ p) ++ byte ∷ []) ≡ Some (length ((u ++ p) ++ byte ∷ []))
   last_whole = frame_from_header ((u ++ p) ++ byte ∷ []) header size known (omega arith) ∙ ap Some all
@@ -393,47 +393,47 @@ module _ (bed : Bed) (f : Flow) (u p : List ℕ) (byte : ℕ) (e : f.half ≡ go
   same_early (Some event) = refl
 
   all_refused : (limit : ℕ) → (size ≤ limit) ⊎ (header ≤ length u)
-      → flow_refused limit bed f (p ++ byte ∷ []) ≡ frame_lines f ((u ++ p) ++ byte ∷ []) (frame_event bed ((u ++ p) ++ byte ∷ [])) (f.at + length p)
+      → flow_refused limit context f (p ++ byte ∷ []) ≡ frame_lines f ((u ++ p) ++ byte ∷ []) (frame_event context ((u ++ p) ++ byte ∷ [])) (f.at + length p)
   all_refused limit may =
-      let quiet : IsQuiet limit bed f p (going_on (u ++ p)) = until_last limit may in
-      refused-append limit bed f p (byte ∷ [])
-      ∙ ap (λ o. option_or o (flow_refused limit bed (flow_behind bed f p) (byte ∷ []))) quiet.refused
-      ∙ ap (λ g. flow_refused limit bed g (byte ∷ [])) quiet.behind
-      ∙ refused-one limit bed before byte
-      ∙ last_refusal bed before (u ++ p) byte refl last_whole limit header size known (still limit may)
+      let quiet : IsQuiet limit context f p (going_on (u ++ p)) = until_last limit may in
+      refused-append limit context f p (byte ∷ [])
+      ∙ ap (λ o. option_or o (flow_refused limit context (flow_behind context f p) (byte ∷ []))) quiet.refused
+      ∙ ap (λ g. flow_refused limit context g (byte ∷ [])) quiet.behind
+      ∙ refused-one limit context before byte
+      ∙ last_refusal context before (u ++ p) byte refl last_whole limit header size known (still limit may)
       ∙ ap (λ early. first_standing (
       (is_other_version (read_frame ((u ++ p) ++ byte ∷ [])), refusals.OtherVersion (f.at + length p))
       ∷ (early, refusals.Early (f.at + length p))
-      ∷ (is_some (frame_event bed ((u ++ p) ++ byte ∷ [])) && nat_le 4294967295 f.events, refusals.TooLong (f.at + length p))
-      ∷ [])) (same_early (frame_event bed ((u ++ p) ++ byte ∷ [])))
+      ∷ (is_some (frame_event context ((u ++ p) ++ byte ∷ [])) && nat_le 4294967295 f.events, refusals.TooLong (f.at + length p))
+      ∷ [])) (same_early (frame_event context ((u ++ p) ++ byte ∷ [])))
 
-  same_place : (event : Option Event) → flow_placed_with bed before event ≡ flow_placed_with bed f event
+  same_place : (event : Option Event) → flow_placed_with context before event ≡ flow_placed_with context f event
   same_place None = refl
   same_place (Some event) = refl
 
-  all_heard : flow_heard bed f (p ++ byte ∷ []) ≡ put (flow_placed_with bed f (frame_event bed ((u ++ p) ++ byte ∷ []))) []
+  all_heard : flow_heard context f (p ++ byte ∷ []) ≡ put (flow_placed_with context f (frame_event context ((u ++ p) ++ byte ∷ []))) []
   all_heard =
-      let quiet : IsQuiet size bed f p (going_on (u ++ p)) = until_last size (inl (omega arith)) in
-      heard-append bed f p (byte ∷ [])
-      ∙ ap (λ heard. flow_heard bed (flow_behind bed f p) (byte ∷ []) ++ heard) quiet.heard
-      ∙ append-nil (flow_heard bed (flow_behind bed f p) (byte ∷ []))
-      ∙ ap (λ g. flow_heard bed g (byte ∷ [])) quiet.behind
-      ∙ ap (λ placed. put placed []) (placed_is bed before byte (frame_event bed ((u ++ p) ++ byte ∷ [])) (last_event bed before (u ++ p) byte refl last_whole)
-      ∙ same_place (frame_event bed ((u ++ p) ++ byte ∷ [])))
+      let quiet : IsQuiet size context f p (going_on (u ++ p)) = until_last size (inl (omega arith)) in
+      heard-append context f p (byte ∷ [])
+      ∙ ap (λ heard. flow_heard context (flow_behind context f p) (byte ∷ []) ++ heard) quiet.heard
+      ∙ append-nil (flow_heard context (flow_behind context f p) (byte ∷ []))
+      ∙ ap (λ g. flow_heard context g (byte ∷ [])) quiet.behind
+      ∙ ap (λ placed. put placed []) (placed_is context before byte (frame_event context ((u ++ p) ++ byte ∷ [])) (last_event context before (u ++ p) byte refl last_whole)
+      ∙ same_place (frame_event context ((u ++ p) ++ byte ∷ [])))
 
-  all_behind : flow_behind bed f (p ++ byte ∷ []) ≡ flow_with bed (record f { at = f.at + length (p ++ byte ∷ []); half = going_on [] }) (frame_event bed ((u ++ p) ++ byte ∷ []))
+  all_behind : flow_behind context f (p ++ byte ∷ []) ≡ flow_with context (record f { at = f.at + length (p ++ byte ∷ []); state = going_on [] }) (frame_event context ((u ++ p) ++ byte ∷ []))
   all_behind =
-      let quiet : IsQuiet size bed f p (going_on (u ++ p)) = until_last size (inl (omega arith)) in
+      let quiet : IsQuiet size context f p (going_on (u ++ p)) = until_last size (inl (omega arith)) in
       let longer : length (p ++ byte ∷ []) ≡ length p + 1 = length-append p (byte ∷ []) in
       let counted : f.at + length p + 1 ≡ f.at + length (p ++ byte ∷ []) = omega arith in
-      behind-append bed f p (byte ∷ [])
-      ∙ ap (λ g. flow_behind bed g (byte ∷ [])) quiet.behind
-      ∙ last_after bed before (u ++ p) byte refl last_whole
-      ∙ moved_on (frame_event bed ((u ++ p) ++ byte ∷ [])) counted
+      behind-append context f p (byte ∷ [])
+      ∙ ap (λ g. flow_behind context g (byte ∷ [])) quiet.behind
+      ∙ last_after context before (u ++ p) byte refl last_whole
+      ∙ moved_on (frame_event context ((u ++ p) ++ byte ∷ [])) counted
     where
       moved_on : (event : Option Event) → f.at + length p + 1 ≡ f.at + length (p ++ byte ∷ [])
-          → flow_with bed (record f { at = f.at + length p + 1; half = going_on [] }) event ≡ flow_with bed (record f { at = f.at + length (p ++ byte ∷ []); half = going_on [] }) event
-      moved_on event same = ap (λ n. flow_with bed (record f { at = n; half = going_on [] }) event) same
+          → flow_with context (record f { at = f.at + length p + 1; state = going_on [] }) event ≡ flow_with context (record f { at = f.at + length (p ++ byte ∷ []); state = going_on [] }) event
+      moved_on event same = ap (λ n. flow_with context (record f { at = n; state = going_on [] }) event) same
 
 -- bytes that aren't none have a last one
 pub record HasLast (bytes : List ℕ) : Type 0 where
@@ -453,75 +453,75 @@ rejoined : (u bytes p : List ℕ) (byte : ℕ) → bytes ≡ p ++ byte ∷ [] �
 rejoined u bytes p byte e = append_assoc u p (byte ∷ []) ∙ ap (λ t. u ++ t) (sym e)
 
 -- Bytes that complete a packet, and go on after it with none: only its last one completes anything, and is refused for that alone.
-pub complete-refused : (limit : ℕ) (bed : Bed) (f : Flow) (u bytes : List ℕ) (header size at : ℕ) → f.half ≡ record { unfinished = u; lost = false }
+pub complete-refused : (limit : ℕ) (context : BodyContext) (f : Flow) (u bytes : List ℕ) (header size at : ℕ) → f.state ≡ record { unfinished = u; lost = false }
     → fixed_header_of (u ++ bytes) ≡ headers.Whole header size → size ≡ length (u ++ bytes) → 0 < length bytes → at + 1 ≡ f.at + length bytes → (size ≤ limit) ⊎ (header ≤ length u)
-    → flow_refused limit bed f bytes ≡ first_standing (
+    → flow_refused limit context f bytes ≡ first_standing (
     (is_other_version (read_frame (u ++ bytes)), refusals.OtherVersion at)
-    ∷ (comes_early f (option_map (going bed.way) (item_read (length (u ++ bytes)) (slice_index (u ++ bytes) 0) (read_frame (u ++ bytes)))), refusals.Early at)
-    ∷ (is_some (option_map (going bed.way) (item_read (length (u ++ bytes)) (slice_index (u ++ bytes) 0) (read_frame (u ++ bytes)))) && nat_le 4294967295 f.events, refusals.TooLong at)
+    ∷ (comes_early f (option_map (going context.direction) (item_read (length (u ++ bytes)) (slice_index (u ++ bytes) 0) (read_frame (u ++ bytes)))), refusals.Early at)
+    ∷ (is_some (option_map (going context.direction) (item_read (length (u ++ bytes)) (slice_index (u ++ bytes) 0) (read_frame (u ++ bytes)))) && nat_le 4294967295 f.events, refusals.TooLong at)
     ∷ [])
-complete-refused limit bed f u bytes header size at e known all some last may =
+complete-refused limit context f u bytes header size at e known all some last may =
     let cut : HasLast bytes = has_last bytes some in
     let frame : (u ++ cut.before) ++ cut.byte ∷ [] ≡ u ++ bytes = rejoined u bytes cut.before cut.byte cut.joined in
     let longer : length bytes ≡ length cut.before + 1 = ap length cut.joined ∙ length-append cut.before (cut.byte ∷ []) in
     let place : f.at + length cut.before ≡ at = omega arith in
-    ap (flow_refused limit bed f) cut.joined
-    ∙ all_refused bed f u cut.before cut.byte e header size (ap fixed_header_of frame ∙ known) (all ∙ ap length (sym frame)) limit may
-    ∙ ap (λ t. frame_lines f t (frame_event bed t) (f.at + length cut.before)) frame
-    ∙ ap (frame_lines f (u ++ bytes) (frame_event bed (u ++ bytes))) place
+    ap (flow_refused limit context f) cut.joined
+    ∙ all_refused context f u cut.before cut.byte e header size (ap fixed_header_of frame ∙ known) (all ∙ ap length (sym frame)) limit may
+    ∙ ap (λ t. frame_lines f t (frame_event context t) (f.at + length cut.before)) frame
+    ∙ ap (frame_lines f (u ++ bytes) (frame_event context (u ++ bytes))) place
 
-pub complete-heard : (bed : Bed) (f : Flow) (u bytes : List ℕ) (header size : ℕ) → f.half ≡ record { unfinished = u; lost = false }
+pub complete-heard : (context : BodyContext) (f : Flow) (u bytes : List ℕ) (header size : ℕ) → f.state ≡ record { unfinished = u; lost = false }
     → fixed_header_of (u ++ bytes) ≡ headers.Whole header size → size ≡ length (u ++ bytes) → 0 < length bytes
-    → flow_heard bed f bytes ≡ put (flow_placed_with bed f (option_map (going bed.way) (item_read (length (u ++ bytes)) (slice_index (u ++ bytes) 0) (read_frame (u ++ bytes))))) []
-complete-heard bed f u bytes header size e known all some =
+    → flow_heard context f bytes ≡ put (flow_placed_with context f (option_map (going context.direction) (item_read (length (u ++ bytes)) (slice_index (u ++ bytes) 0) (read_frame (u ++ bytes))))) []
+complete-heard context f u bytes header size e known all some =
     let cut : HasLast bytes = has_last bytes some in
     let frame : (u ++ cut.before) ++ cut.byte ∷ [] ≡ u ++ bytes = rejoined u bytes cut.before cut.byte cut.joined in
-    ap (flow_heard bed f) cut.joined
-    ∙ all_heard bed f u cut.before cut.byte e header size (ap fixed_header_of frame ∙ known) (all ∙ ap length (sym frame))
-    ∙ ap (λ t. put (flow_placed_with bed f (frame_event bed t)) []) frame
+    ap (flow_heard context f) cut.joined
+    ∙ all_heard context f u cut.before cut.byte e header size (ap fixed_header_of frame ∙ known) (all ∙ ap length (sym frame))
+    ∙ ap (λ t. put (flow_placed_with context f (frame_event context t)) []) frame
 
-pub complete-behind : (bed : Bed) (f : Flow) (u bytes : List ℕ) (header size : ℕ) → f.half ≡ record { unfinished = u; lost = false }
+pub complete-behind : (context : BodyContext) (f : Flow) (u bytes : List ℕ) (header size : ℕ) → f.state ≡ record { unfinished = u; lost = false }
     → fixed_header_of (u ++ bytes) ≡ headers.Whole header size → size ≡ length (u ++ bytes) → 0 < length bytes
-    → flow_behind bed f bytes ≡ flow_with bed (record f { at = f.at + length bytes; half = record { unfinished = []; lost = false } })
-    (option_map (going bed.way) (item_read (length (u ++ bytes)) (slice_index (u ++ bytes) 0) (read_frame (u ++ bytes))))
-complete-behind bed f u bytes header size e known all some =
+    → flow_behind context f bytes ≡ flow_with context (record f { at = f.at + length bytes; state = record { unfinished = []; lost = false } })
+    (option_map (going context.direction) (item_read (length (u ++ bytes)) (slice_index (u ++ bytes) 0) (read_frame (u ++ bytes))))
+complete-behind context f u bytes header size e known all some =
     let cut : HasLast bytes = has_last bytes some in
     let frame : (u ++ cut.before) ++ cut.byte ∷ [] ≡ u ++ bytes = rejoined u bytes cut.before cut.byte cut.joined in
-    ap (flow_behind bed f) cut.joined
-    ∙ all_behind bed f u cut.before cut.byte e header size (ap fixed_header_of frame ∙ known) (all ∙ ap length (sym frame))
-    ∙ ap (λ t. flow_with bed (record f { at = f.at + length (cut.before ++ cut.byte ∷ []); half = going_on [] }) (frame_event bed t)) frame
-    ∙ ap (λ t. flow_with bed (record f { at = f.at + length t; half = going_on [] }) (frame_event bed (u ++ bytes))) (sym cut.joined)
+    ap (flow_behind context f) cut.joined
+    ∙ all_behind context f u cut.before cut.byte e header size (ap fixed_header_of frame ∙ known) (all ∙ ap length (sym frame))
+    ∙ ap (λ t. flow_with context (record f { at = f.at + length (cut.before ++ cut.byte ∷ []); state = going_on [] }) (frame_event context t)) frame
+    ∙ ap (λ t. flow_with context (record f { at = f.at + length t; state = going_on [] }) (frame_event context (u ++ bytes))) (sym cut.joined)
 
 -- where the frame alone is known, and not its header
-pub complete-refused-within : (limit : ℕ) (bed : Bed) (f : Flow) (u bytes : List ℕ) (at : ℕ) → f.half ≡ record { unfinished = u; lost = false }
+pub complete-refused-within : (limit : ℕ) (context : BodyContext) (f : Flow) (u bytes : List ℕ) (at : ℕ) → f.state ≡ record { unfinished = u; lost = false }
     → frame_size (u ++ bytes) ≡ Some (length (u ++ bytes)) → 0 < length bytes → at + 1 ≡ f.at + length bytes → length (u ++ bytes) ≤ limit
-    → flow_refused limit bed f bytes ≡ first_standing (
+    → flow_refused limit context f bytes ≡ first_standing (
     (is_other_version (read_frame (u ++ bytes)), refusals.OtherVersion at)
-    ∷ (comes_early f (option_map (going bed.way) (item_read (length (u ++ bytes)) (slice_index (u ++ bytes) 0) (read_frame (u ++ bytes)))), refusals.Early at)
-    ∷ (is_some (option_map (going bed.way) (item_read (length (u ++ bytes)) (slice_index (u ++ bytes) 0) (read_frame (u ++ bytes)))) && nat_le 4294967295 f.events, refusals.TooLong at)
+    ∷ (comes_early f (option_map (going context.direction) (item_read (length (u ++ bytes)) (slice_index (u ++ bytes) 0) (read_frame (u ++ bytes)))), refusals.Early at)
+    ∷ (is_some (option_map (going context.direction) (item_read (length (u ++ bytes)) (slice_index (u ++ bytes) 0) (read_frame (u ++ bytes)))) && nat_le 4294967295 f.events, refusals.TooLong at)
     ∷ [])
-complete-refused-within limit bed f u bytes at e whole some last within =
+complete-refused-within limit context f u bytes at e whole some last within =
     let found : (header : ℕ) × (fixed_header_of (u ++ bytes) ≡ headers.Whole header (length (u ++ bytes))) × (length (u ++ bytes) ≤ length (u ++ bytes)) = header_from_frame (u ++ bytes) (length (u ++ bytes)) whole in
-    complete-refused limit bed f u bytes found.0 (length (u ++ bytes)) at e found.1 refl some last (inl within)
+    complete-refused limit context f u bytes found.0 (length (u ++ bytes)) at e found.1 refl some last (inl within)
 
-pub complete-heard-frame : (bed : Bed) (f : Flow) (u bytes : List ℕ) → f.half ≡ record { unfinished = u; lost = false }
+pub complete-heard-frame : (context : BodyContext) (f : Flow) (u bytes : List ℕ) → f.state ≡ record { unfinished = u; lost = false }
     → frame_size (u ++ bytes) ≡ Some (length (u ++ bytes)) → 0 < length bytes
-    → flow_heard bed f bytes ≡ put (flow_placed_with bed f (option_map (going bed.way) (item_read (length (u ++ bytes)) (slice_index (u ++ bytes) 0) (read_frame (u ++ bytes))))) []
-complete-heard-frame bed f u bytes e whole some =
+    → flow_heard context f bytes ≡ put (flow_placed_with context f (option_map (going context.direction) (item_read (length (u ++ bytes)) (slice_index (u ++ bytes) 0) (read_frame (u ++ bytes))))) []
+complete-heard-frame context f u bytes e whole some =
     let found : (header : ℕ) × (fixed_header_of (u ++ bytes) ≡ headers.Whole header (length (u ++ bytes))) × (length (u ++ bytes) ≤ length (u ++ bytes)) = header_from_frame (u ++ bytes) (length (u ++ bytes)) whole in
-    complete-heard bed f u bytes found.0 (length (u ++ bytes)) e found.1 refl some
+    complete-heard context f u bytes found.0 (length (u ++ bytes)) e found.1 refl some
 
-pub complete-behind-frame : (bed : Bed) (f : Flow) (u bytes : List ℕ) → f.half ≡ record { unfinished = u; lost = false }
+pub complete-behind-frame : (context : BodyContext) (f : Flow) (u bytes : List ℕ) → f.state ≡ record { unfinished = u; lost = false }
     → frame_size (u ++ bytes) ≡ Some (length (u ++ bytes)) → 0 < length bytes
-    → flow_behind bed f bytes ≡ flow_with bed (record f { at = f.at + length bytes; half = record { unfinished = []; lost = false } })
-    (option_map (going bed.way) (item_read (length (u ++ bytes)) (slice_index (u ++ bytes) 0) (read_frame (u ++ bytes))))
-complete-behind-frame bed f u bytes e whole some =
+    → flow_behind context f bytes ≡ flow_with context (record f { at = f.at + length bytes; state = record { unfinished = []; lost = false } })
+    (option_map (going context.direction) (item_read (length (u ++ bytes)) (slice_index (u ++ bytes) 0) (read_frame (u ++ bytes))))
+complete-behind-frame context f u bytes e whole some =
     let found : (header : ℕ) × (fixed_header_of (u ++ bytes) ≡ headers.Whole header (length (u ++ bytes))) × (length (u ++ bytes) ≤ length (u ++ bytes)) = header_from_frame (u ++ bytes) (length (u ++ bytes)) whole in
-    complete-behind bed f u bytes found.0 (length (u ++ bytes)) e found.1 refl some
+    complete-behind context f u bytes found.0 (length (u ++ bytes)) e found.1 refl some
 
 -- A refusal of the first bytes stays, whatever follows; where there is none, what follows decides.
-pub refused-first : (limit : ℕ) (bed : Bed) (f : Flow) (a b : List ℕ) (refusal : Refusal) → flow_refused limit bed f a ≡ Some refusal → flow_refused limit bed f (a ++ b) ≡ Some refusal
-refused-first limit bed f a b refusal e = refused-append limit bed f a b ∙ ap (λ o. option_or o (flow_refused limit bed (flow_behind bed f a) b)) e
+pub refused-first : (limit : ℕ) (context : BodyContext) (f : Flow) (a b : List ℕ) (refusal : Refusal) → flow_refused limit context f a ≡ Some refusal → flow_refused limit context f (a ++ b) ≡ Some refusal
+refused-first limit context f a b refusal e = refused-append limit context f a b ∙ ap (λ o. option_or o (flow_refused limit context (flow_behind context f a) b)) e
 
-pub refused-later : (limit : ℕ) (bed : Bed) (f : Flow) (a b : List ℕ) → flow_refused limit bed f a ≡ None → flow_refused limit bed f (a ++ b) ≡ flow_refused limit bed (flow_behind bed f a) b
-refused-later limit bed f a b e = refused-append limit bed f a b ∙ ap (λ o. option_or o (flow_refused limit bed (flow_behind bed f a) b)) e
+pub refused-later : (limit : ℕ) (context : BodyContext) (f : Flow) (a b : List ℕ) → flow_refused limit context f a ≡ None → flow_refused limit context f (a ++ b) ≡ flow_refused limit context (flow_behind context f a) b
+refused-later limit context f a b e = refused-append limit context f a b ∙ ap (λ o. option_or o (flow_refused limit context (flow_behind context f a) b)) e

@@ -3,10 +3,10 @@ use Rattle.std.proofs.Common.{◌≡◌, ℕ, ◌+◌, ◌<◌, ◌≤◌, Bool,
 use Rattle.std.specs.Prelude.{nat_le, if◌then◌else◌}
 use Rattle.std.proofs.lemmas.List.{take-append-le, drop-append-le, reverse-append, length-reverse, drop_all}
 use Rattle.std.proofs.lemmas.Bool.{ltb-true, ltb-false, le-ltb, leb-true, le-leb}
-use Rattle.mq_trace.specs.declared.kind.Way.{Way}
-use Rattle.mq_trace.specs.declared.kind.Way.TheVariants as ways
+use Rattle.mq_trace.specs.declared.kind.Direction.{Direction}
+use Rattle.mq_trace.specs.declared.kind.Direction.TheVariants as directions
 use Rattle.mq_trace.specs.Pieces.{Pieces, pieces}
-use Rattle.mq_trace.specs.Framing.{kind_of, body_length, record_size, records, begun_records, begun_with, way_of, opens, if_way, carried}
+use Rattle.mq_trace.specs.Framing.{kind_of, body_length, record_size, records, begun_records, begun_with, direction_of, opens, if_direction, carried}
 use Rattle.mq_trace.proofs.PiecesLaws.{Settles, grown, rest_none, pieces-grow, nothing_cut}
 
 -- a record's length depends on no byte after its head
@@ -128,42 +128,42 @@ unfolding kind_of
 kind_of-append [] c h = absurd (omega arith)
 kind_of-append (byte ∷ a) c h = refl
 
-pub if_way-nothing : (way : Way) (carries : Option Way) → if_way way carries [] ≡ []
-if_way-nothing ways.Sent None = refl
-if_way-nothing ways.Sent (Some ways.Sent) = refl
-if_way-nothing ways.Sent (Some ways.Recv) = refl
-if_way-nothing ways.Recv None = refl
-if_way-nothing ways.Recv (Some ways.Sent) = refl
-if_way-nothing ways.Recv (Some ways.Recv) = refl
+pub if_direction-nothing : (direction : Direction) (carries : Option Direction) → if_direction direction carries [] ≡ []
+if_direction-nothing directions.Sent None = refl
+if_direction-nothing directions.Sent (Some directions.Sent) = refl
+if_direction-nothing directions.Sent (Some directions.Recv) = refl
+if_direction-nothing directions.Recv None = refl
+if_direction-nothing directions.Recv (Some directions.Sent) = refl
+if_direction-nothing directions.Recv (Some directions.Recv) = refl
 
-pub if_way-append : (way : Way) (carries : Option Way) (a c : List ℕ) → if_way way carries (a ++ c) ≡ if_way way carries a ++ if_way way carries c
-if_way-append ways.Sent None a c = refl
-if_way-append ways.Sent (Some ways.Sent) a c = refl
-if_way-append ways.Sent (Some ways.Recv) a c = refl
-if_way-append ways.Recv None a c = refl
-if_way-append ways.Recv (Some ways.Sent) a c = refl
-if_way-append ways.Recv (Some ways.Recv) a c = refl
+pub if_direction-append : (direction : Direction) (carries : Option Direction) (a c : List ℕ) → if_direction direction carries (a ++ c) ≡ if_direction direction carries a ++ if_direction direction carries c
+if_direction-append directions.Sent None a c = refl
+if_direction-append directions.Sent (Some directions.Sent) a c = refl
+if_direction-append directions.Sent (Some directions.Recv) a c = refl
+if_direction-append directions.Recv None a c = refl
+if_direction-append directions.Recv (Some directions.Sent) a c = refl
+if_direction-append directions.Recv (Some directions.Recv) a c = refl
 
 -- the body byte of a record, if it goes this way
-abbrev pub body_byte : Way → List ℕ → ℕ → List ℕ
-body_byte way part byte = cond (nat_lt 5 (length part)) (if_way way (way_of (kind_of part)) (byte ∷ [])) []
+abbrev pub body_byte : Direction → List ℕ → ℕ → List ℕ
+body_byte direction part byte = cond (nat_lt 5 (length part)) (if_direction direction (direction_of (kind_of part)) (byte ∷ [])) []
 
 -- what one direction carried, with one byte more
-abbrev pub carried_then : Way → List ℕ → List ℕ → ℕ → List ℕ
-carried_then way carried_before part byte = cond (opens (kind_of part)) [] (carried_before ++ body_byte way part byte)
+abbrev pub carried_then : Direction → List ℕ → List ℕ → ℕ → List ℕ
+carried_then direction carried_before part byte = cond (opens (kind_of part)) [] (carried_before ++ body_byte direction part byte)
 
 -- One record in front of the whole ones: what a direction carried, with the record's bytes so far and one more.
-carried_grown : (way : Way) (rest : List ℕ) (byte : ℕ) (whole : List (List ℕ))
-    → carried way ((rest ++ byte ∷ []) ∷ whole) ≡ carried_then way (carried way (begun_with rest whole)) (rest ++ byte ∷ []) byte
+carried_grown : (direction : Direction) (rest : List ℕ) (byte : ℕ) (whole : List (List ℕ))
+    → carried direction ((rest ++ byte ∷ []) ∷ whole) ≡ carried_then direction (carried direction (begun_with rest whole)) (rest ++ byte ∷ []) byte
 unfolding carried
-carried_grown way [] byte whole =
-    ap (λ bytes. cond (opens (kind_of (byte ∷ []))) [] (carried way whole ++ bytes)) (if_way-nothing way (way_of (kind_of (byte ∷ []))))
-carried_grown way (r ∷ rest) byte whole =
+carried_grown direction [] byte whole =
+    ap (λ bytes. cond (opens (kind_of (byte ∷ []))) [] (carried direction whole ++ bytes)) (if_direction-nothing direction (direction_of (kind_of (byte ∷ []))))
+carried_grown direction (r ∷ rest) byte whole =
     let part = (r ∷ rest) ++ byte ∷ [] in
     let some : 0 < length (r ∷ rest) = omega arith in
     let kind = kind_of-append (r ∷ rest) (byte ∷ []) some in
-    let c = carried way whole in
-    let way_before = way_of (kind_of (r ∷ rest)) in
+    let c = carried direction whole in
+    let direction_before = direction_of (kind_of (r ∷ rest)) in
     go (nat_lt 5 (length part)) refl (opens (kind_of part)) refl
   where
     -- the body so far, with the byte if it is a body byte
@@ -177,37 +177,37 @@ carried_grown way (r ∷ rest) byte whole =
         let short = ltb-false 5 (length ((r ∷ rest) ++ byte ∷ [])) is in
         drop_all 5 ((r ∷ rest) ++ byte ∷ []) short ∙ sym (ap (λ bytes. bytes ++ []) (drop_all 5 (r ∷ rest) (omega arith)))
 
-    sent_on : (carries : Option Way) (b : Bool) → if_way way carries (cond b (byte ∷ []) []) ≡ cond b (if_way way carries (byte ∷ [])) []
+    sent_on : (carries : Option Direction) (b : Bool) → if_direction direction carries (cond b (byte ∷ []) []) ≡ cond b (if_direction direction carries (byte ∷ [])) []
     sent_on carries true = refl
-    sent_on carries false = if_way-nothing way carries
+    sent_on carries false = if_direction-nothing direction carries
 
     go : (b : Bool) → nat_lt 5 (length ((r ∷ rest) ++ byte ∷ [])) ≡ b → (o : Bool) → opens (kind_of ((r ∷ rest) ++ byte ∷ [])) ≡ o
-        → cond o [] (carried way whole ++ if_way way (way_of (kind_of ((r ∷ rest) ++ byte ∷ []))) (drop 5 ((r ∷ rest) ++ byte ∷ [])))
-        ≡ cond o [] (cond (opens (kind_of (r ∷ rest))) [] (carried way whole ++ if_way way (way_of (kind_of (r ∷ rest))) (drop 5 (r ∷ rest)))
-        ++ cond b (if_way way (way_of (kind_of ((r ∷ rest) ++ byte ∷ []))) (byte ∷ [])) [])
+        → cond o [] (carried direction whole ++ if_direction direction (direction_of (kind_of ((r ∷ rest) ++ byte ∷ []))) (drop 5 ((r ∷ rest) ++ byte ∷ [])))
+        ≡ cond o [] (cond (opens (kind_of (r ∷ rest))) [] (carried direction whole ++ if_direction direction (direction_of (kind_of (r ∷ rest))) (drop 5 (r ∷ rest)))
+        ++ cond b (if_direction direction (direction_of (kind_of ((r ∷ rest) ++ byte ∷ []))) (byte ∷ [])) [])
     go b is true opened = refl
     go b is false opened =
         let same = kind_of-append (r ∷ rest) (byte ∷ []) (omega arith) in
         let k = kind_of ((r ∷ rest) ++ byte ∷ []) in
         let closed : opens (kind_of (r ∷ rest)) ≡ false = ap opens (sym same) ∙ opened in
-        ap (λ bytes. carried way whole ++ if_way way (way_of k) bytes) (body b is)
-        ∙ ap (λ bytes. carried way whole ++ bytes) (if_way-append way (way_of k) (drop 5 (r ∷ rest)) (cond b (byte ∷ []) []) ∙ ap (λ bytes. if_way way (way_of k) (drop 5 (r ∷ rest)) ++ bytes) (sent_on (way_of k) b))
-        ∙ sym (append_assoc (carried way whole) (if_way way (way_of k) (drop 5 (r ∷ rest))) (cond b (if_way way (way_of k) (byte ∷ [])) []))
-        ∙ ap (λ kind. (carried way whole ++ if_way way (way_of kind) (drop 5 (r ∷ rest))) ++ cond b (if_way way (way_of k) (byte ∷ [])) []) same
-        ∙ ap (λ o. cond o [] (carried way whole ++ if_way way (way_of (kind_of (r ∷ rest))) (drop 5 (r ∷ rest))) ++ cond b (if_way way (way_of k) (byte ∷ [])) []) (sym closed)
+        ap (λ bytes. carried direction whole ++ if_direction direction (direction_of k) bytes) (body b is)
+        ∙ ap (λ bytes. carried direction whole ++ bytes) (if_direction-append direction (direction_of k) (drop 5 (r ∷ rest)) (cond b (byte ∷ []) []) ∙ ap (λ bytes. if_direction direction (direction_of k) (drop 5 (r ∷ rest)) ++ bytes) (sent_on (direction_of k) b))
+        ∙ sym (append_assoc (carried direction whole) (if_direction direction (direction_of k) (drop 5 (r ∷ rest))) (cond b (if_direction direction (direction_of k) (byte ∷ [])) []))
+        ∙ ap (λ kind. (carried direction whole ++ if_direction direction (direction_of kind) (drop 5 (r ∷ rest))) ++ cond b (if_direction direction (direction_of k) (byte ∷ [])) []) same
+        ∙ ap (λ o. cond o [] (carried direction whole ++ if_direction direction (direction_of (kind_of (r ∷ rest))) (drop 5 (r ∷ rest))) ++ cond b (if_direction direction (direction_of k) (byte ∷ [])) []) (sym closed)
 
 -- what a direction carried, with one byte of the log more
-pub carried-grow : (way : Way) (log : List ℕ) (byte : ℕ) → 8 ≤ length log
-    → carried way (begun_records (log ++ byte ∷ [])) ≡ carried_then way (carried way (begun_records log)) ((records log).rest ++ byte ∷ []) byte
+pub carried-grow : (direction : Direction) (log : List ℕ) (byte : ℕ) → 8 ≤ length log
+    → carried direction (begun_records (log ++ byte ∷ [])) ≡ carried_then direction (carried direction (begun_records log)) ((records log).rest ++ byte ∷ []) byte
 unfolding begun_records
-carried-grow way log byte h =
-    ap (carried way) (begun-grow log byte h) ∙ carried_grown way (records log).rest byte (reverse (records log).whole)
+carried-grow direction log byte h =
+    ap (carried direction) (begun-grow log byte h) ∙ carried_grown direction (records log).rest byte (reverse (records log).whole)
 
 -- what a direction carried doesn't depend on what stands before an OPEN
-pub carried-own : (way : Way) (later before : List (List ℕ)) (first : List ℕ) → opens (kind_of first) ≡ true → carried way (later ++ first ∷ before) ≡ carried way (later ++ first ∷ [])
+pub carried-own : (direction : Direction) (later before : List (List ℕ)) (first : List ℕ) → opens (kind_of first) ≡ true → carried direction (later ++ first ∷ before) ≡ carried direction (later ++ first ∷ [])
 unfolding carried
-carried-own way [] before first h =
-    ap (λ o. cond o [] (carried way before ++ if_way way (way_of (kind_of first)) (drop 5 first))) h
-    ∙ sym (ap (λ o. cond o [] (carried way [] ++ if_way way (way_of (kind_of first)) (drop 5 first))) h)
-carried-own way (part ∷ later) before first h =
-    ap (λ bytes. cond (opens (kind_of part)) [] (bytes ++ if_way way (way_of (kind_of part)) (drop 5 part))) (carried-own way later before first h)
+carried-own direction [] before first h =
+    ap (λ o. cond o [] (carried direction before ++ if_direction direction (direction_of (kind_of first)) (drop 5 first))) h
+    ∙ sym (ap (λ o. cond o [] (carried direction [] ++ if_direction direction (direction_of (kind_of first)) (drop 5 first))) h)
+carried-own direction (part ∷ later) before first h =
+    ap (λ bytes. cond (opens (kind_of part)) [] (bytes ++ if_direction direction (direction_of (kind_of part)) (drop 5 part))) (carried-own direction later before first h)

@@ -6,76 +6,76 @@ use Rattle.std.proofs.lemmas.Bool.{le-leb, le-ltb}
 use Rattle.std.proofs.lemmas.List.{take-append-drop, length-take-le}
 use Rattle.mq_trace.specs.declared.kind.RecordKind.{RecordKind}
 use Rattle.mq_trace.specs.declared.kind.RecordKind.TheVariants as kinds
-use Rattle.mq_trace.specs.declared.kind.Way.{Way}
-use Rattle.mq_trace.specs.declared.kind.Way.TheVariants as ways
+use Rattle.mq_trace.specs.declared.kind.Direction.{Direction}
+use Rattle.mq_trace.specs.declared.kind.Direction.TheVariants as directions
 use Rattle.mq_trace.specs.declared.stage.Stage.TheVariants as stages
 use Rattle.mq_trace.specs.declared.refusal.Refusal.{Refusal}
 use Rattle.mq_trace.specs.declared.refusal.Refusal.TheVariants as refusals
 use Rattle.mq_trace.specs.declared.reading.Reading.{Reading}
-use Rattle.mq_trace.specs.Framing.{kind_named, way_of}
+use Rattle.mq_trace.specs.Framing.{kind_named, direction_of}
 use Rattle.mq_trace.specs.Events.{Event, Placed, event_of_head}
 use Rattle.mq_trace.specs.Refusals.{first_standing, allows_length}
 use Rattle.mq_trace.specs.Hearing.{AreEvents}
-use Rattle.mq_trace.specs.Keeping.{half_in, begun_in, IsSound, Advances, Comes, StepStops}
-use Rattle.mq_trace.specs.Stepping.{met_by_kind, kind_for, IsBodyHead, BeginsRecord, in_head, leaving}
+use Rattle.mq_trace.specs.Keeping.{state_in, begun_in, IsSound, Advances, Comes, StepStops}
+use Rattle.mq_trace.specs.Stepping.{kind_refusal, kind_for, IsBodyHead, BeginsRecord, in_head, leaving}
 use Rattle.mq_trace.proofs.ReadingLaws.{advanced, comes_after, stops_after, five_of}
 use Rattle.mq_trace.proofs.StageLaws.{first_advances, first_sound, three_advance, three_sound}
 use Rattle.mq_trace.proofs.EndLaws.{body_advances, left_sound}
 
-goes : (way : Way) → way_of (Some (kind_for way)) ≡ Some way
-goes ways.Sent = refl
-goes ways.Recv = refl
+goes : (direction : Direction) → direction_of (Some (kind_for direction)) ≡ Some direction
+goes directions.Sent = refl
+goes directions.Recv = refl
 
-silent : (way : Way) → event_of_head (kind_for way) ≡ None
-silent ways.Sent = refl
-silent ways.Recv = refl
+silent : (direction : Direction) → event_of_head (kind_for direction) ≡ None
+silent directions.Sent = refl
+silent directions.Recv = refl
 
-allowed : (way : Way) (number : ℕ) → number ≤ 1048576 → allows_length (Some (kind_for way)) number ≡ true
-allowed ways.Sent number few = le-leb number 1048576 few
-allowed ways.Recv number few = le-leb number 1048576 few
+allowed : (direction : Direction) (number : ℕ) → number ≤ 1048576 → allows_length (Some (kind_for direction)) number ≡ true
+allowed directions.Sent number few = le-leb number 1048576 few
+allowed directions.Recv number few = le-leb number 1048576 few
 
 standing : (a b : Bool) (x y : Refusal) → a ≡ false → b ≡ false → first_standing ((a, x) ∷ (b, y) ∷ []) ≡ None
 standing a b x y p q = λ i. first_standing ((p i, x) ∷ (q i, y) ∷ [])
 
-unmet : (r : Reading) (way : Way) → r.connections.connected ≡ true → r.records < 4294967295 → met_by_kind r (kind_for way) ≡ None
-unmet r ways.Sent connected room = standing (not r.connections.connected) (nat_lt 4294967295 (r.records + 1)) (refusals.NotOpen r.at) (refusals.TooLong r.at) (ap not connected) (le-ltb 4294967295 (r.records + 1) (omega arith))
-unmet r ways.Recv connected room = standing (not r.connections.connected) (nat_lt 4294967295 (r.records + 1)) (refusals.NotOpen r.at) (refusals.TooLong r.at) (ap not connected) (le-ltb 4294967295 (r.records + 1) (omega arith))
+unmet : (r : Reading) (direction : Direction) → r.connections.connected ≡ true → r.records < 4294967295 → kind_refusal r (kind_for direction) ≡ None
+unmet r directions.Sent connected room = standing (not r.connections.connected) (nat_lt 4294967295 (r.records + 1)) (refusals.NotOpen r.at) (refusals.TooLong r.at) (ap not connected) (le-ltb 4294967295 (r.records + 1) (omega arith))
+unmet r directions.Recv connected room = standing (not r.connections.connected) (nat_lt 4294967295 (r.records + 1)) (refusals.NotOpen r.at) (refusals.TooLong r.at) (ap not connected) (le-ltb 4294967295 (r.records + 1) (omega arith))
 
-begins_body : (r : Reading) (way : Way) → BeginsRecord r (in_head r (r.at + 1) (kind_for way) 0 0) (kind_for way)
-begins_body r ways.Sent = record { is = refl; sent = refl; recv = refl }
-begins_body r ways.Recv = record { is = refl; sent = refl; recv = refl }
+begins_body : (r : Reading) (direction : Direction) → BeginsRecord r (in_head r (r.at + 1) (kind_for direction) 0 0) (kind_for direction)
+begins_body r directions.Sent = record { is = refl; sent = refl; recv = refl }
+begins_body r directions.Recv = record { is = refl; sent = refl; recv = refl }
 
 four : (x y z b : ℕ) → from_be_bytes w32 (0 ∷ x ∷ y ∷ z ∷ []) * 256 + b ≡ from_be_bytes w32 (x ∷ y ∷ z ∷ b ∷ [])
 four x y z b = omega arith
 
 -- The head's bytes are taken in one after another: the first one, the next three, and the last.
-heads : (r : Reading) (way : Way) (k x y z b number : ℕ) (bytes : List ℕ) → IsSound r → IsBodyHead r bytes way number → x < 256 → y < 256 → z < 256
+heads : (r : Reading) (direction : Direction) (k x y z b number : ℕ) (bytes : List ℕ) → IsSound r → IsBodyHead r bytes direction number → x < 256 → y < 256 → z < 256
     → slice_index bytes 0 ≡ k → number ≡ from_be_bytes w32 (x ∷ y ∷ z ∷ b ∷ [])
-    → Advances r (leaving (record r { at = r.at + 5 }) way number) (k ∷ x ∷ y ∷ z ∷ b ∷ []) []
-heads r way k x y z b number bytes sound head x_byte y_byte z_byte first is =
-    let kind = kind_for way in
+    → Advances r (leaving (record r { at = r.at + 5 }) direction number) (k ∷ x ∷ y ∷ z ∷ b ∷ []) []
+heads r direction k x y z b number bytes sound head x_byte y_byte z_byte first is =
+    let kind = kind_for direction in
     let three = from_be_bytes w32 (0 ∷ x ∷ y ∷ z ∷ []) in
     let r1 : Reading = in_head r (r.at + 1) kind 0 0 in
     let r2 : Reading = in_head r1 (r1.at + 3) kind 3 three in
-    let r3 : Reading = leaving (record r2 { at = r2.at + 1 }) way (three * 256 + b) in
-    let begins = begins_body r way in
+    let r3 : Reading = leaving (record r2 { at = r2.at + 1 }) direction (three * 256 + b) in
+    let begins = begins_body r direction in
     let sound1 : IsSound r1 = first_sound r r1 kind sound head.behind head.between head.room begins in
     let sound2 : IsSound r2 = three_sound r1 kind x y z sound1 refl x_byte y_byte z_byte in
-    let told : three * 256 + b ≡ number = four x y z b ∙ sym is in
-    let short : three * 256 + b ≤ 1048576 = omega (arith, told, head.allowed) in
-    let step1 : Advances r r1 (k ∷ []) [] = first_advances r r1 k kind head.behind head.between (subst (λ n. kind_named n ≡ Some kind) first head.named) (unmet r way head.connected head.room) begins in
+    let emitted : three * 256 + b ≡ number = four x y z b ∙ sym is in
+    let short : three * 256 + b ≤ 1048576 = omega (arith, emitted, head.allowed) in
+    let step1 : Advances r r1 (k ∷ []) [] = first_advances r r1 k kind head.behind head.between (subst (λ n. kind_named n ≡ Some kind) first head.named) (unmet r direction head.connected head.room) begins in
     let step2 : Advances r1 r2 (x ∷ y ∷ z ∷ []) [] = three_advance r1 kind x y z sound1 refl x_byte y_byte in
-    let step3 : Advances r2 r3 (b ∷ []) [] = body_advances r2 kind three b sound2 refl way (goes way) (silent way) (allowed way (three * 256 + b) short) in
+    let step3 : Advances r2 r3 (b ∷ []) [] = body_advances r2 kind three b sound2 refl direction (goes direction) (silent direction) (allowed direction (three * 256 + b) short) in
     let steps : Advances r r3 (k ∷ x ∷ y ∷ z ∷ b ∷ []) [] = advanced r r1 r3 (k ∷ []) (x ∷ y ∷ z ∷ b ∷ []) [] [] step1 (advanced r1 r2 r3 (x ∷ y ∷ z ∷ []) (b ∷ []) [] [] step2 step3) in
     let placed : ((r.at + 1) + 3) + 1 ≡ r.at + 5 = omega arith in
-    subst (λ n. Advances r (leaving (record r { at = n }) way number) (k ∷ x ∷ y ∷ z ∷ b ∷ []) []) placed
-    (subst (λ m. Advances r (leaving (record r { at = ((r.at + 1) + 3) + 1 }) way m) (k ∷ x ∷ y ∷ z ∷ b ∷ []) []) told steps)
+    subst (λ n. Advances r (leaving (record r { at = n }) direction number) (k ∷ x ∷ y ∷ z ∷ b ∷ []) []) placed
+    (subst (λ m. Advances r (leaving (record r { at = ((r.at + 1) + 3) + 1 }) direction m) (k ∷ x ∷ y ∷ z ∷ b ∷ []) []) emitted steps)
 
-pub head_advances : (r : Reading) (way : Way) (number : ℕ) (bytes : List ℕ) → IsSound r → IsBodyHead r bytes way number → ((i : ℕ) → slice_index bytes i < 256)
-    → Advances r (leaving (record r { at = r.at + 5 }) way number) (take 5 bytes) []
-head_advances r way number bytes sound head byte =
-    subst (λ (l : List ℕ). Advances r (leaving (record r { at = r.at + 5 }) way number) l []) (five_of bytes head.whole)
-    (heads r way (slice_index bytes 0) (slice_index bytes 1) (slice_index bytes 2) (slice_index bytes 3) (slice_index bytes 4) number bytes sound head (byte 1) (byte 2) (byte 3) refl head.spelled)
+pub head_advances : (r : Reading) (direction : Direction) (number : ℕ) (bytes : List ℕ) → IsSound r → IsBodyHead r bytes direction number → ((i : ℕ) → slice_index bytes i < 256)
+    → Advances r (leaving (record r { at = r.at + 5 }) direction number) (take 5 bytes) []
+head_advances r direction number bytes sound head byte =
+    subst (λ (l : List ℕ). Advances r (leaving (record r { at = r.at + 5 }) direction number) l []) (five_of bytes head.whole)
+    (heads r direction (slice_index bytes 0) (slice_index bytes 1) (slice_index bytes 2) (slice_index bytes 3) (slice_index bytes 4) number bytes sound head (byte 1) (byte 2) (byte 3) refl head.spelled)
 
 -- ---- a head that was taken in at once, and what comes after it
 

@@ -15,15 +15,15 @@ use Rattle.mq_packet.specs.Decoding.{decoded}
 use Rattle.mq_packet.proofs.Exports.{header_from_frame, frame_from_header, size_above, size_of_frame}
 use Rattle.mq_trace.specs.declared.refusal.Refusal.{Refusal}
 use Rattle.mq_trace.specs.declared.refusal.Refusal.TheVariants as refusals
-use Rattle.mq_trace.specs.declared.kind.Way.{Way}
+use Rattle.mq_trace.specs.declared.kind.Direction.{Direction}
 use Rattle.mq_trace.specs.declared.connections.Connections.{Connections}
 use Rattle.mq_trace.specs.Events.{Item, Event, Placed, packet, bad, lost, item_read, read_frame}
 use Rattle.mq_trace.specs.Refusals.{is_other_version}
-use Rattle.mq_trace.specs.Context.{Half, put}
-use Rattle.mq_trace.specs.Flows.{Bed, going, flow_placed_with}
+use Rattle.mq_trace.specs.Context.{StreamState, put}
+use Rattle.mq_trace.specs.Flows.{BodyContext, going, flow_placed_with}
 use Rattle.mq_trace.specs.Hearing.{AreEvents}
-use Rattle.mq_trace.specs.Telling.{met_by, connections_with, next_placed, Untold}
-use Rattle.mq_trace.specs.Directing.{flow_of, frame_event, frame_met, connections_then}
+use Rattle.mq_trace.specs.Emission.{event_refusal, connections_with, next_placed, NotEmitted}
+use Rattle.mq_trace.specs.Deframing.{flow_of, frame_event, frame_refusal, connections_then}
 
 -- What is known of a frame.
 pub framed : (frame : List ℕ) (header size : ℕ) → frame_size frame ≡ Some (length frame) → Whole header size ≡ fixed_header_of frame → (length frame ≡ size) × (1 ≤ header) × (header ≤ size)
@@ -80,28 +80,28 @@ pub fault_item : (frame : List ℕ) (header : ℕ) (fault : DecodeFault) → Who
 fault_item frame header fault e read = ap (item_read (length frame) (slice_index frame 0)) (read_by_body frame header (length frame) e ∙ read)
 
 -- A frame that is an item meets what its event meets, and what is kept and received is the event's.
-met_read : (at n b : ℕ) (half : Half) (c : Connections) (way : Way) (item : Item) (read : Result Entry DecodeFault) → item_read n b read ≡ Some item → is_other_version read ≡ false
-met_read at n b half c way item (Ok entry) e = refl
-met_read at n b half c way item (Err (Broken fault)) e = refl
-met_read at n b half c way item (Err (OtherVersion version)) e = absurd (cc)
+met_read : (at n b : ℕ) (state : StreamState) (c : Connections) (direction : Direction) (item : Item) (read : Result Entry DecodeFault) → item_read n b read ≡ Some item → is_other_version read ≡ false
+met_read at n b state c direction item (Ok entry) e = refl
+met_read at n b state c direction item (Err (Broken fault)) e = refl
+met_read at n b state c direction item (Err (OtherVersion version)) e = absurd (cc)
 
-frame_event_is : (way : Way) (frame : List ℕ) (item : Item) → item_read (length frame) (slice_index frame 0) (read_frame frame) ≡ Some item → frame_event way frame ≡ Some (going way item)
-frame_event_is way frame item e = ap (option_map (going way)) e
+frame_event_is : (direction : Direction) (frame : List ℕ) (item : Item) → item_read (length frame) (slice_index frame 0) (read_frame frame) ≡ Some item → frame_event direction frame ≡ Some (going direction item)
+frame_event_is direction frame item e = ap (option_map (going direction)) e
 
-pub met_item : (at : ℕ) (half : Half) (c : Connections) (way : Way) (frame : List ℕ) (item : Item) → item_read (length frame) (slice_index frame 0) (read_frame frame) ≡ Some item
-    → frame_met at (flow_of at half c) way frame ≡ met_by at c (going way item)
-met_item at half c way frame item e =
-    (let other : is_other_version (read_frame frame) ≡ false = met_read at (length frame) (slice_index frame 0) half c way item (read_frame frame) e in
-    let event : frame_event way frame ≡ Some (going way item) = frame_event_is way frame item e in
+pub met_item : (at : ℕ) (state : StreamState) (c : Connections) (direction : Direction) (frame : List ℕ) (item : Item) → item_read (length frame) (slice_index frame 0) (read_frame frame) ≡ Some item
+    → frame_refusal at (flow_of at state c) direction frame ≡ event_refusal at c (going direction item)
+met_item at state c direction frame item e =
+    (let other : is_other_version (read_frame frame) ≡ false = met_read at (length frame) (slice_index frame 0) state c direction item (read_frame frame) e in
+    let event : frame_event direction frame ≡ Some (going direction item) = frame_event_is direction frame item e in
     rw (other, event) refl)
 
-pub kept_item : (server : Bool) (c : Connections) (way : Way) (frame : List ℕ) (item : Item) → item_read (length frame) (slice_index frame 0) (read_frame frame) ≡ Some item
-    → connections_then server c (frame_event way frame) ≡ connections_with server c (going way item)
-kept_item server c way frame item e = ap (connections_then server c) (frame_event_is way frame item e)
+pub kept_item : (server : Bool) (c : Connections) (direction : Direction) (frame : List ℕ) (item : Item) → item_read (length frame) (slice_index frame 0) (read_frame frame) ≡ Some item
+    → connections_then server c (frame_event direction frame) ≡ connections_with server c (going direction item)
+kept_item server c direction frame item e = ap (connections_then server c) (frame_event_is direction frame item e)
 
-pub placed_item : (at : ℕ) (bed : Bed) (half : Half) (c : Connections) (frame : List ℕ) (item : Item) → item_read (length frame) (slice_index frame 0) (read_frame frame) ≡ Some item
-    → flow_placed_with bed (flow_of at half c) (frame_event bed.way frame) ≡ Some (next_placed c bed.record_no (going bed.way item))
-placed_item at bed half c frame item e = ap (flow_placed_with bed (flow_of at half c)) (frame_event_is bed.way frame item e)
+pub placed_item : (at : ℕ) (context : BodyContext) (state : StreamState) (c : Connections) (frame : List ℕ) (item : Item) → item_read (length frame) (slice_index frame 0) (read_frame frame) ≡ Some item
+    → flow_placed_with context (flow_of at state c) (frame_event context.direction frame) ≡ Some (next_placed c context.record_no (going context.direction item))
+placed_item at context state c frame item e = ap (flow_placed_with context (flow_of at state c)) (frame_event_is context.direction frame item e)
 
 -- A frame that is no item is of another protocol version.
 other_read : (n b : ℕ) (read : Result Entry DecodeFault) → item_read n b read ≡ None → is_other_version read ≡ true
@@ -113,26 +113,26 @@ pub met_other : (frame : List ℕ) → item_read (length frame) (slice_index fra
 met_other frame e = other_read (length frame) (slice_index frame 0) (read_frame frame) e
 
 -- Who was told of an item was told of the frame that is it.
-module _ {S : Type 0} (agrees : S → List Placed → Type 0) (declines : S → S → List Placed → Refusal → Type 0) {A : Type 0} (r : Result A Refusal) (at : ℕ) (half : Half) (c : Connections) (bed : Bed) (frame : List ℕ) (item : Item)
+module _ {S : Type 0} (agrees : S → List Placed → Type 0) (declines : S → S → List Placed → Refusal → Type 0) {A : Type 0} (r : Result A Refusal) (at : ℕ) (state : StreamState) (c : Connections) (context : BodyContext) (frame : List ℕ) (item : Item)
     (e : item_read (length frame) (slice_index frame 0) (read_frame frame) ≡ Some item) where
-  pub told_met : OnOk r (met_by at c (going bed.way item) ≡ None) → OnOk r (frame_met at (flow_of at half c) bed.way frame ≡ None)
-  told_met = subst (λ (m : Option Refusal). OnOk r (m ≡ None)) (sym (met_item at half c bed.way frame item e))
+  pub emitted_met : OnOk r (event_refusal at c (going context.direction item) ≡ None) → OnOk r (frame_refusal at (flow_of at state c) context.direction frame ≡ None)
+  emitted_met = subst (λ (m : Option Refusal). OnOk r (m ≡ None)) (sym (met_item at state c context.direction frame item e))
 
-  pub told_kept : (c' : Connections) → OnOk r (c' ≡ connections_with bed.server c (going bed.way item)) → OnOk r (c' ≡ connections_then bed.server c (frame_event bed.way frame))
-  told_kept c' = subst (λ (then' : Connections). OnOk r (c' ≡ then')) (sym (kept_item bed.server c bed.way frame item e))
+  pub emitted_kept : (c' : Connections) → OnOk r (c' ≡ connections_with context.server c (going context.direction item)) → OnOk r (c' ≡ connections_then context.server c (frame_event context.direction frame))
+  emitted_kept c' = subst (λ (then' : Connections). OnOk r (c' ≡ then')) (sym (kept_item context.server c context.direction frame item e))
 
-  pub told_heard : (old new : S) → ((earlier : List Placed) → agrees old earlier → AreEvents (next_placed c bed.record_no (going bed.way item) ∷ earlier) → OnOk r (agrees new (next_placed c bed.record_no (going bed.way item) ∷ earlier)))
-      → (earlier : List Placed) → agrees old earlier → AreEvents (put (flow_placed_with bed (flow_of at half c) (frame_event bed.way frame)) earlier)
-      → OnOk r (agrees new (put (flow_placed_with bed (flow_of at half c) (frame_event bed.way frame)) earlier))
-  told_heard old new = subst (λ (o : Option Placed). (earlier : List Placed) → agrees old earlier → AreEvents (put o earlier) → OnOk r (agrees new (put o earlier))) (sym (placed_item at bed half c frame item e))
+  pub emitted_heard : (old new : S) → ((earlier : List Placed) → agrees old earlier → AreEvents (next_placed c context.record_no (going context.direction item) ∷ earlier) → OnOk r (agrees new (next_placed c context.record_no (going context.direction item) ∷ earlier)))
+      → (earlier : List Placed) → agrees old earlier → AreEvents (put (flow_placed_with context (flow_of at state c) (frame_event context.direction frame)) earlier)
+      → OnOk r (agrees new (put (flow_placed_with context (flow_of at state c) (frame_event context.direction frame)) earlier))
+  emitted_heard old new = subst (λ (o : Option Placed). (earlier : List Placed) → agrees old earlier → AreEvents (put o earlier) → OnOk r (agrees new (put o earlier))) (sym (placed_item at context state c frame item e))
 
-  pub told_err : (old new : S) → IfErr r (λ refusal. Untold declines at (met_by at c (going bed.way item)) (next_placed c bed.record_no (going bed.way item) ∷ []) old new refusal)
-      → IfErr r (λ refusal. Untold declines at (frame_met at (flow_of at half c) bed.way frame) (put (flow_placed_with bed (flow_of at half c) (frame_event bed.way frame)) []) old new refusal)
-  told_err old new untold =
-      subst (λ (o : Option Placed). IfErr r (λ refusal. Untold declines at (frame_met at (flow_of at half c) bed.way frame) (put o []) old new refusal)) (sym (placed_item at bed half c frame item e))
-      (subst (λ (m : Option Refusal). IfErr r (λ refusal. Untold declines at m (next_placed c bed.record_no (going bed.way item) ∷ []) old new refusal)) (sym (met_item at half c bed.way frame item e)) untold)
+  pub emitted_err : (old new : S) → IfErr r (λ refusal. NotEmitted declines at (event_refusal at c (going context.direction item)) (next_placed c context.record_no (going context.direction item) ∷ []) old new refusal)
+      → IfErr r (λ refusal. NotEmitted declines at (frame_refusal at (flow_of at state c) context.direction frame) (put (flow_placed_with context (flow_of at state c) (frame_event context.direction frame)) []) old new refusal)
+  emitted_err old new unemitted =
+      subst (λ (o : Option Placed). IfErr r (λ refusal. NotEmitted declines at (frame_refusal at (flow_of at state c) context.direction frame) (put o []) old new refusal)) (sym (placed_item at context state c frame item e))
+      (subst (λ (m : Option Refusal). IfErr r (λ refusal. NotEmitted declines at m (next_placed c context.record_no (going context.direction item) ∷ []) old new refusal)) (sym (met_item at state c context.direction frame item e)) unemitted)
 
 -- A frame of another version is refused as that.
-pub other_met : {S : Type 0} (declines : S → S → List Placed → Refusal → Type 0) {completed : List Placed} (at : ℕ) (half : Half) (c : Connections) (way : Way) (frame : List ℕ) (sink : S) → item_read (length frame) (slice_index frame 0) (read_frame frame) ≡ None
-    → Untold declines at (frame_met at (flow_of at half c) way frame) completed sink sink (refusals.OtherVersion at)
-other_met declines at half c way frame sink e = inl (rw (met_other frame e) refl, refl)
+pub other_met : {S : Type 0} (declines : S → S → List Placed → Refusal → Type 0) {completed : List Placed} (at : ℕ) (state : StreamState) (c : Connections) (direction : Direction) (frame : List ℕ) (sink : S) → item_read (length frame) (slice_index frame 0) (read_frame frame) ≡ None
+    → NotEmitted declines at (frame_refusal at (flow_of at state c) direction frame) completed sink sink (refusals.OtherVersion at)
+other_met declines at state c direction frame sink e = inl (rw (met_other frame e) refl, refl)

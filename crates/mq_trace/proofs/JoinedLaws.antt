@@ -8,17 +8,17 @@ use Rattle.mq_packet.specs.Stream.{frame_size, is_lost}
 use Rattle.mq_packet.proofs.Exports.{is_lost_stays, lost_no_frame}
 use Rattle.mq_trace.specs.declared.kind.RecordKind.{RecordKind}
 use Rattle.mq_trace.specs.declared.kind.RecordKind.TheVariants as kinds
-use Rattle.mq_trace.specs.declared.kind.Way.{Way}
-use Rattle.mq_trace.specs.declared.kind.Way.TheVariants as ways
+use Rattle.mq_trace.specs.declared.kind.Direction.{Direction}
+use Rattle.mq_trace.specs.declared.kind.Direction.TheVariants as directions
 use Rattle.mq_trace.specs.Pieces.{Pieces, pieces}
-use Rattle.mq_trace.specs.Framing.{kind_of, way_of, opens, if_way, record_size, records, begun_records, begun_with, carried, stream}
+use Rattle.mq_trace.specs.Framing.{kind_of, direction_of, opens, if_direction, record_size, records, begun_records, begun_with, carried, stream}
 use Rattle.mq_trace.specs.Events.{Item, Event, Placed, lost, opened, closed, rested, sent, received, released, item_at, item_read, read_frame, packet_with, event_by, event_in, events}
 use Rattle.mq_trace.specs.Connections.{begins_connection}
 use Rattle.mq_trace.specs.Context.{Context, context, so_far_by, so_far_for, event_for, placed_with, placed_for, put}
 use Rattle.mq_trace.specs.Joined.{opened_records, joined, if_some, frame_item, frame_items, stream_items, opened_events, item_going, connection_items}
 use Rattle.mq_trace.proofs.PiecesLaws.{grown, pieces-grow, nothing_cut}
-use Rattle.mq_trace.proofs.FramingLaws.{body_byte, if_way-nothing, if_way-append, kind_of-append, begun-grow, begun-header, rest-grow, IsRecord, record_size-is}
-use Rattle.mq_trace.proofs.HalfLaws.{frame_settles, nothing_lost}
+use Rattle.mq_trace.proofs.FramingLaws.{body_byte, if_direction-nothing, if_direction-append, kind_of-append, begun-grow, begun-header, rest-grow, IsRecord, record_size-is}
+use Rattle.mq_trace.proofs.StreamStateLaws.{frame_settles, nothing_lost}
 use Rattle.mq_trace.proofs.ContextLaws.{part_context, at_context, so_far_kept_by, events-kept, events-header}
 use Rattle.mq_trace.proofs.FlowLaws.{nothing_item, item_by}
 use Rattle.mq_trace.proofs.LiftLaws.{opens_none}
@@ -81,40 +81,40 @@ opened_more part before = by (opens (kind_of part))
     by true = omega arith
     by false = omega arith
 
-unbegun : (number : ℕ) (way : Way) (parts : List (List ℕ)) → opened_records parts < number → joined number way parts ≡ []
-unbegun number way [] less = refl
-unbegun number way (part ∷ before) less =
+unbegun : (number : ℕ) (direction : Direction) (parts : List (List ℕ)) → opened_records parts < number → joined number direction parts ≡ []
+unbegun number direction [] less = refl
+unbegun number direction (part ∷ before) less =
     let more = opened_more part before in
     let other : (opened_records (part ∷ before) == number) ≡ false = ne_eqb (opened_records (part ∷ before)) number (λ same. (omega arith)) in
-    ap (λ l. l ++ cond (opened_records (part ∷ before) == number) (if_way way (way_of (kind_of part)) (drop 5 part)) []) (unbegun number way before (omega arith))
-    ∙ ap (λ t. cond t (if_way way (way_of (kind_of part)) (drop 5 part)) []) other
+    ap (λ l. l ++ cond (opened_records (part ∷ before) == number) (if_direction direction (direction_of (kind_of part)) (drop 5 part)) []) (unbegun number direction before (omega arith))
+    ∙ ap (λ t. cond t (if_direction direction (direction_of (kind_of part)) (drop 5 part)) []) other
 
-opening_carries_none : (kind : Option RecordKind) (way : Way) (bytes : List ℕ) → opens kind ≡ true → if_way way (way_of kind) bytes ≡ []
-opening_carries_none (Some kinds.Open) ways.Sent bytes is = refl
-opening_carries_none (Some kinds.Open) ways.Recv bytes is = refl
-opening_carries_none None way bytes is = absurd (cc)
-opening_carries_none (Some kinds.Sent) way bytes is = absurd (cc)
-opening_carries_none (Some kinds.Recv) way bytes is = absurd (cc)
-opening_carries_none (Some kinds.Close) way bytes is = absurd (cc)
-opening_carries_none (Some kinds.Rest) way bytes is = absurd (cc)
-opening_carries_none (Some kinds.Release) way bytes is = absurd (cc)
+opening_carries_none : (kind : Option RecordKind) (direction : Direction) (bytes : List ℕ) → opens kind ≡ true → if_direction direction (direction_of kind) bytes ≡ []
+opening_carries_none (Some kinds.Open) directions.Sent bytes is = refl
+opening_carries_none (Some kinds.Open) directions.Recv bytes is = refl
+opening_carries_none None direction bytes is = absurd (cc)
+opening_carries_none (Some kinds.Sent) direction bytes is = absurd (cc)
+opening_carries_none (Some kinds.Recv) direction bytes is = absurd (cc)
+opening_carries_none (Some kinds.Close) direction bytes is = absurd (cc)
+opening_carries_none (Some kinds.Rest) direction bytes is = absurd (cc)
+opening_carries_none (Some kinds.Release) direction bytes is = absurd (cc)
 
-newest_by : (way : Way) (part : List ℕ) (before : List (List ℕ)) (o : Bool) → opens (kind_of part) ≡ o → joined (opened_records before) way before ≡ carried way before
-    → joined (cond o (opened_records before + 1) (opened_records before)) way before ++ if_way way (way_of (kind_of part)) (drop 5 part)
-    ≡ cond o [] (carried way before ++ if_way way (way_of (kind_of part)) (drop 5 part))
-newest_by way part before true is same =
-    ap (λ l. l ++ if_way way (way_of (kind_of part)) (drop 5 part)) (unbegun (opened_records before + 1) way before (omega arith))
-    ∙ opening_carries_none (kind_of part) way (drop 5 part) is
-newest_by way part before false is same = ap (λ l. l ++ if_way way (way_of (kind_of part)) (drop 5 part)) same
+newest_by : (direction : Direction) (part : List ℕ) (before : List (List ℕ)) (o : Bool) → opens (kind_of part) ≡ o → joined (opened_records before) direction before ≡ carried direction before
+    → joined (cond o (opened_records before + 1) (opened_records before)) direction before ++ if_direction direction (direction_of (kind_of part)) (drop 5 part)
+    ≡ cond o [] (carried direction before ++ if_direction direction (direction_of (kind_of part)) (drop 5 part))
+newest_by direction part before true is same =
+    ap (λ l. l ++ if_direction direction (direction_of (kind_of part)) (drop 5 part)) (unbegun (opened_records before + 1) direction before (omega arith))
+    ∙ opening_carries_none (kind_of part) direction (drop 5 part) is
+newest_by direction part before false is same = ap (λ l. l ++ if_direction direction (direction_of (kind_of part)) (drop 5 part)) same
 
-newest : (way : Way) (parts : List (List ℕ)) → joined (opened_records parts) way parts ≡ carried way parts
+newest : (direction : Direction) (parts : List (List ℕ)) → joined (opened_records parts) direction parts ≡ carried direction parts
 unfolding carried
-newest way [] = refl
-newest way (part ∷ before) =
+newest direction [] = refl
+newest direction (part ∷ before) =
     let n : ℕ = opened_records (part ∷ before) in
-    let body : List ℕ = if_way way (way_of (kind_of part)) (drop 5 part) in
-    ap (λ t. joined n way before ++ cond t body []) (eq-eqb n n refl)
-    ∙ newest_by way part before (opens (kind_of part)) refl (newest way before)
+    let body : List ℕ = if_direction direction (direction_of (kind_of part)) (drop 5 part) in
+    ap (λ t. joined n direction before ++ cond t body []) (eq-eqb n n refl)
+    ∙ newest_by direction part before (opens (kind_of part)) refl (newest direction before)
 
 -- What a direction of a connection carried, with one byte of the log more.
 body_more : (r : ℕ) (rest : List ℕ) (byte : ℕ) (b : Bool) → nat_lt 5 (length ((r ∷ rest) ++ byte ∷ [])) ≡ b → drop 5 ((r ∷ rest) ++ byte ∷ []) ≡ drop 5 (r ∷ rest) ++ cond b (byte ∷ []) []
@@ -127,48 +127,48 @@ body_more r rest byte false is =
     let short = ltb-false 5 (length ((r ∷ rest) ++ byte ∷ [])) is in
     drop_all 5 ((r ∷ rest) ++ byte ∷ []) short ∙ sym (ap (λ bytes. bytes ++ []) (drop_all 5 (r ∷ rest) (omega arith)))
 
-sent_on : (way : Way) (carries : Option Way) (byte : ℕ) (b : Bool) → if_way way carries (cond b (byte ∷ []) []) ≡ cond b (if_way way carries (byte ∷ [])) []
-sent_on way carries byte true = refl
-sent_on way carries byte false = if_way-nothing way carries
+sent_on : (direction : Direction) (carries : Option Direction) (byte : ℕ) (b : Bool) → if_direction direction carries (cond b (byte ∷ []) []) ≡ cond b (if_direction direction carries (byte ∷ [])) []
+sent_on direction carries byte true = refl
+sent_on direction carries byte false = if_direction-nothing direction carries
 
-body_grown : (way : Way) (r : ℕ) (rest : List ℕ) (byte : ℕ)
-    → if_way way (way_of (kind_of ((r ∷ rest) ++ byte ∷ []))) (drop 5 ((r ∷ rest) ++ byte ∷ [])) ≡ if_way way (way_of (kind_of (r ∷ rest))) (drop 5 (r ∷ rest)) ++ body_byte way ((r ∷ rest) ++ byte ∷ []) byte
-body_grown way r rest byte =
+body_grown : (direction : Direction) (r : ℕ) (rest : List ℕ) (byte : ℕ)
+    → if_direction direction (direction_of (kind_of ((r ∷ rest) ++ byte ∷ []))) (drop 5 ((r ∷ rest) ++ byte ∷ [])) ≡ if_direction direction (direction_of (kind_of (r ∷ rest))) (drop 5 (r ∷ rest)) ++ body_byte direction ((r ∷ rest) ++ byte ∷ []) byte
+body_grown direction r rest byte =
     let part : List ℕ = (r ∷ rest) ++ byte ∷ [] in
-    let carries : Option Way = way_of (kind_of part) in
+    let carries : Option Direction = direction_of (kind_of part) in
     let b : Bool = nat_lt 5 (length part) in
-    ap (if_way way carries) (body_more r rest byte b refl)
-    ∙ if_way-append way carries (drop 5 (r ∷ rest)) (cond b (byte ∷ []) [])
-    ∙ ap (λ l. if_way way carries (drop 5 (r ∷ rest)) ++ l) (sent_on way carries byte b)
-    ∙ ap (λ k. if_way way (way_of k) (drop 5 (r ∷ rest)) ++ cond b (if_way way carries (byte ∷ [])) []) (kind_of-append (r ∷ rest) (byte ∷ []) (omega arith))
+    ap (if_direction direction carries) (body_more r rest byte b refl)
+    ∙ if_direction-append direction carries (drop 5 (r ∷ rest)) (cond b (byte ∷ []) [])
+    ∙ ap (λ l. if_direction direction carries (drop 5 (r ∷ rest)) ++ l) (sent_on direction carries byte b)
+    ∙ ap (λ k. if_direction direction (direction_of k) (drop 5 (r ∷ rest)) ++ cond b (if_direction direction carries (byte ∷ [])) []) (kind_of-append (r ∷ rest) (byte ∷ []) (omega arith))
 
 split_by : (t : Bool) (j a b : List ℕ) → j ++ cond t (a ++ b) [] ≡ (j ++ cond t a []) ++ cond t b []
 split_by true j a b = sym (append_assoc j a b)
 split_by false j a b = sym (append-nil (j ++ []))
 
-joined_grown : (number : ℕ) (way : Way) (rest : List ℕ) (byte : ℕ) (whole : List (List ℕ))
-    → joined number way ((rest ++ byte ∷ []) ∷ whole)
-    ≡ joined number way (begun_with rest whole) ++ cond (opened_records ((rest ++ byte ∷ []) ∷ whole) == number) (body_byte way (rest ++ byte ∷ []) byte) []
-joined_grown number way [] byte whole =
-    ap (λ bytes. joined number way whole ++ cond (opened_records ((byte ∷ []) ∷ whole) == number) bytes []) (if_way-nothing way (way_of (kind_of (byte ∷ []))))
-joined_grown number way (r ∷ rest) byte whole =
+joined_grown : (number : ℕ) (direction : Direction) (rest : List ℕ) (byte : ℕ) (whole : List (List ℕ))
+    → joined number direction ((rest ++ byte ∷ []) ∷ whole)
+    ≡ joined number direction (begun_with rest whole) ++ cond (opened_records ((rest ++ byte ∷ []) ∷ whole) == number) (body_byte direction (rest ++ byte ∷ []) byte) []
+joined_grown number direction [] byte whole =
+    ap (λ bytes. joined number direction whole ++ cond (opened_records ((byte ∷ []) ∷ whole) == number) bytes []) (if_direction-nothing direction (direction_of (kind_of (byte ∷ []))))
+joined_grown number direction (r ∷ rest) byte whole =
     let old : List ℕ = r ∷ rest in
     let part : List ℕ = (r ∷ rest) ++ byte ∷ [] in
     let n : opened_records (part ∷ whole) ≡ opened_records (old ∷ whole)
     = ap (λ k. cond (opens k) (opened_records whole + 1) (opened_records whole)) (kind_of-append (r ∷ rest) (byte ∷ []) (omega arith)) in
-    let before : List ℕ = if_way way (way_of (kind_of old)) (drop 5 old) in
-    ap (λ bytes. joined number way whole ++ cond (opened_records (part ∷ whole) == number) bytes []) (body_grown way r rest byte)
-    ∙ split_by (opened_records (part ∷ whole) == number) (joined number way whole) before (body_byte way part byte)
-    ∙ ap (λ m. (joined number way whole ++ cond (m == number) before []) ++ cond (opened_records (part ∷ whole) == number) (body_byte way part byte) []) n
+    let before : List ℕ = if_direction direction (direction_of (kind_of old)) (drop 5 old) in
+    ap (λ bytes. joined number direction whole ++ cond (opened_records (part ∷ whole) == number) bytes []) (body_grown direction r rest byte)
+    ∙ split_by (opened_records (part ∷ whole) == number) (joined number direction whole) before (body_byte direction part byte)
+    ∙ ap (λ m. (joined number direction whole ++ cond (m == number) before []) ++ cond (opened_records (part ∷ whole) == number) (body_byte direction part byte) []) n
 
-joined_more : (number : ℕ) (way : Way) (log : List ℕ) (byte : ℕ) → 8 ≤ length log
-    → joined number way (begun_records (log ++ byte ∷ []))
-    ≡ joined number way (begun_records log) ++ cond (opened_records (begun_records (log ++ byte ∷ [])) == number) (body_byte way ((records log).rest ++ byte ∷ []) byte) []
+joined_more : (number : ℕ) (direction : Direction) (log : List ℕ) (byte : ℕ) → 8 ≤ length log
+    → joined number direction (begun_records (log ++ byte ∷ []))
+    ≡ joined number direction (begun_records log) ++ cond (opened_records (begun_records (log ++ byte ∷ [])) == number) (body_byte direction ((records log).rest ++ byte ∷ []) byte) []
 unfolding begun_records
-joined_more number way log byte h =
-    ap (joined number way) (begun-grow log byte h)
-    ∙ joined_grown number way (records log).rest byte (reverse (records log).whole)
-    ∙ ap (λ parts. joined number way (begun_with (records log).rest (reverse (records log).whole)) ++ cond (opened_records parts == number) (body_byte way ((records log).rest ++ byte ∷ []) byte) [])
+joined_more number direction log byte h =
+    ap (joined number direction) (begun-grow log byte h)
+    ∙ joined_grown number direction (records log).rest byte (reverse (records log).whole)
+    ∙ ap (λ parts. joined number direction (begun_with (records log).rest (reverse (records log).whole)) ++ cond (opened_records parts == number) (body_byte direction ((records log).rest ++ byte ∷ []) byte) [])
     (sym (begun-grow log byte h))
 
 -- As many events as records begin a connection, but for an OPEN whose head isn't whole.
@@ -332,77 +332,77 @@ opened_kept [] byte whole is = ap (λ t. cond t (opened_records whole + 1) (open
 opened_kept (r ∷ rest) byte whole is = ap (λ k. cond (opens k) (opened_records whole + 1) (opened_records whole)) (kind_of-append (r ∷ rest) (byte ∷ []) (omega arith))
 
 -- the items of an event that go this way
-abbrev event_items : Way → Option Event → List Item
-event_items way None = []
-event_items way (Some event) = if_some (item_going way event)
+abbrev event_items : Direction → Option Event → List Item
+event_items direction None = []
+event_items direction (Some event) = if_some (item_going direction event)
 
-abbrev if_going : Way → Option Way → List Item → List Item
-if_going ways.Sent (Some ways.Sent) items = items
-if_going ways.Recv (Some ways.Recv) items = items
+abbrev if_going : Direction → Option Direction → List Item → List Item
+if_going directions.Sent (Some directions.Sent) items = items
+if_going directions.Recv (Some directions.Recv) items = items
 if_going _ _ items = []
 
-marks_nothing : (way : Way) (event : Event) (items : List Item) (t : Bool) → item_going way event ≡ None → event_items way (if t then Some event else None) ≡ if_going way None items
-marks_nothing ways.Sent event items true none = ap if_some none
-marks_nothing ways.Recv event items true none = ap if_some none
-marks_nothing ways.Sent event items false none = refl
-marks_nothing ways.Recv event items false none = refl
+marks_nothing : (direction : Direction) (event : Event) (items : List Item) (t : Bool) → item_going direction event ≡ None → event_items direction (if t then Some event else None) ≡ if_going direction None items
+marks_nothing directions.Sent event items true none = ap if_some none
+marks_nothing directions.Recv event items true none = ap if_some none
+marks_nothing directions.Sent event items false none = refl
+marks_nothing directions.Recv event items false none = refl
 
-event_items_by : (kind : Option RecordKind) (way : Way) (part so_far : List ℕ) → event_items way (event_by kind part so_far) ≡ if_going way (way_of kind) (if_some (item_at so_far))
-event_items_by None ways.Sent part so_far = refl
-event_items_by None ways.Recv part so_far = refl
-event_items_by (Some kinds.Open) ways.Sent part so_far = marks_nothing ways.Sent opened (if_some (item_at so_far)) (length part == 5) refl
-event_items_by (Some kinds.Open) ways.Recv part so_far = marks_nothing ways.Recv opened (if_some (item_at so_far)) (length part == 5) refl
-event_items_by (Some kinds.Close) ways.Sent part so_far = marks_nothing ways.Sent closed (if_some (item_at so_far)) (length part == 5) refl
-event_items_by (Some kinds.Close) ways.Recv part so_far = marks_nothing ways.Recv closed (if_some (item_at so_far)) (length part == 5) refl
-event_items_by (Some kinds.Rest) ways.Sent part so_far = marks_nothing ways.Sent rested (if_some (item_at so_far)) (length part == 5) refl
-event_items_by (Some kinds.Rest) ways.Recv part so_far = marks_nothing ways.Recv rested (if_some (item_at so_far)) (length part == 5) refl
-event_items_by (Some kinds.Release) ways.Sent part so_far = marks_nothing ways.Sent (released (from_be_bytes w16 (drop 5 part))) (if_some (item_at so_far)) (length part == 7) refl
-event_items_by (Some kinds.Release) ways.Recv part so_far = marks_nothing ways.Recv (released (from_be_bytes w16 (drop 5 part))) (if_some (item_at so_far)) (length part == 7) refl
-event_items_by (Some kinds.Sent) way part so_far = by way (item_at so_far)
+event_items_by : (kind : Option RecordKind) (direction : Direction) (part so_far : List ℕ) → event_items direction (event_by kind part so_far) ≡ if_going direction (direction_of kind) (if_some (item_at so_far))
+event_items_by None directions.Sent part so_far = refl
+event_items_by None directions.Recv part so_far = refl
+event_items_by (Some kinds.Open) directions.Sent part so_far = marks_nothing directions.Sent opened (if_some (item_at so_far)) (length part == 5) refl
+event_items_by (Some kinds.Open) directions.Recv part so_far = marks_nothing directions.Recv opened (if_some (item_at so_far)) (length part == 5) refl
+event_items_by (Some kinds.Close) directions.Sent part so_far = marks_nothing directions.Sent closed (if_some (item_at so_far)) (length part == 5) refl
+event_items_by (Some kinds.Close) directions.Recv part so_far = marks_nothing directions.Recv closed (if_some (item_at so_far)) (length part == 5) refl
+event_items_by (Some kinds.Rest) directions.Sent part so_far = marks_nothing directions.Sent rested (if_some (item_at so_far)) (length part == 5) refl
+event_items_by (Some kinds.Rest) directions.Recv part so_far = marks_nothing directions.Recv rested (if_some (item_at so_far)) (length part == 5) refl
+event_items_by (Some kinds.Release) directions.Sent part so_far = marks_nothing directions.Sent (released (from_be_bytes w16 (drop 5 part))) (if_some (item_at so_far)) (length part == 7) refl
+event_items_by (Some kinds.Release) directions.Recv part so_far = marks_nothing directions.Recv (released (from_be_bytes w16 (drop 5 part))) (if_some (item_at so_far)) (length part == 7) refl
+event_items_by (Some kinds.Sent) direction part so_far = by direction (item_at so_far)
   where
-    by : (way : Way) (item : Option Item) → event_items way (option_map sent item) ≡ if_going way (Some ways.Sent) (if_some item)
-    by ways.Sent None = refl
-    by ways.Sent (Some item) = refl
-    by ways.Recv None = refl
-    by ways.Recv (Some item) = refl
-event_items_by (Some kinds.Recv) way part so_far = by way (item_at so_far)
+    by : (direction : Direction) (item : Option Item) → event_items direction (option_map sent item) ≡ if_going direction (Some directions.Sent) (if_some item)
+    by directions.Sent None = refl
+    by directions.Sent (Some item) = refl
+    by directions.Recv None = refl
+    by directions.Recv (Some item) = refl
+event_items_by (Some kinds.Recv) direction part so_far = by direction (item_at so_far)
   where
-    by : (way : Way) (item : Option Item) → event_items way (option_map received item) ≡ if_going way (Some ways.Recv) (if_some item)
-    by ways.Sent None = refl
-    by ways.Sent (Some item) = refl
-    by ways.Recv None = refl
-    by ways.Recv (Some item) = refl
+    by : (direction : Direction) (item : Option Item) → event_items direction (option_map received item) ≡ if_going direction (Some directions.Recv) (if_some item)
+    by directions.Sent None = refl
+    by directions.Sent (Some item) = refl
+    by directions.Recv None = refl
+    by directions.Recv (Some item) = refl
 
 nothing_put : {A : Type 0} (items : List A) (t : Bool) → items ++ cond t [] [] ≡ items
 nothing_put items true = append-nil items
 nothing_put items false = append-nil items
 
-items_put : (number : ℕ) (way : Way) (c : Context) (o : Option Event) (past : List Placed)
-    → connection_items number way (put (placed_with c o) past) ≡ connection_items number way past ++ cond (opened_events (put (placed_with c o) past) == number) (event_items way o) []
-items_put number way c None past = sym (nothing_put (connection_items number way past) (opened_events past == number))
-items_put number way c (Some event) past = refl
+items_put : (number : ℕ) (direction : Direction) (c : Context) (o : Option Event) (past : List Placed)
+    → connection_items number direction (put (placed_with c o) past) ≡ connection_items number direction past ++ cond (opened_events (put (placed_with c o) past) == number) (event_items direction o) []
+items_put number direction c None past = sym (nothing_put (connection_items number direction past) (opened_events past == number))
+items_put number direction c (Some event) past = refl
 
-items_more : (number : ℕ) (way : Way) (log : List ℕ) (byte : ℕ) → 8 ≤ length log
-    → connection_items number way (events (log ++ byte ∷ []))
-    ≡ connection_items number way (events log) ++ cond (opened_events (events (log ++ byte ∷ [])) == number)
-    (if_going way (way_of (kind_of ((records log).rest ++ byte ∷ []))) (if_some (item_at (so_far_for (context log) byte)))) []
-items_more number way log byte h =
+items_more : (number : ℕ) (direction : Direction) (log : List ℕ) (byte : ℕ) → 8 ≤ length log
+    → connection_items number direction (events (log ++ byte ∷ []))
+    ≡ connection_items number direction (events log) ++ cond (opened_events (events (log ++ byte ∷ [])) == number)
+    (if_going direction (direction_of (kind_of ((records log).rest ++ byte ∷ []))) (if_some (item_at (so_far_for (context log) byte)))) []
+items_more number direction log byte h =
     let part : List ℕ = (records log).rest ++ byte ∷ [] in
-    let before : List Item = connection_items number way (events log) in
+    let before : List Item = connection_items number direction (events log) in
     let o : Option Event = event_for (context log) byte in
-    ap (connection_items number way) (events_more log byte)
-    ∙ items_put number way (context log) o (events log)
-    ∙ ap (λ (l : List Placed). before ++ cond (opened_events l == number) (event_items way o) []) (sym (events_more log byte))
-    ∙ ap (λ e. before ++ cond (opened_events (events (log ++ byte ∷ [])) == number) (event_items way e) []) (event_is log byte h)
-    ∙ ap (λ items. before ++ cond (opened_events (events (log ++ byte ∷ [])) == number) items []) (event_items_by (kind_of part) way part (so_far_for (context log) byte))
+    ap (connection_items number direction) (events_more log byte)
+    ∙ items_put number direction (context log) o (events log)
+    ∙ ap (λ (l : List Placed). before ++ cond (opened_events l == number) (event_items direction o) []) (sym (events_more log byte))
+    ∙ ap (λ e. before ++ cond (opened_events (events (log ++ byte ∷ [])) == number) (event_items direction e) []) (event_is log byte h)
+    ∙ ap (λ items. before ++ cond (opened_events (events (log ++ byte ∷ [])) == number) items []) (event_items_by (kind_of part) direction part (so_far_for (context log) byte))
 
 -- a byte of a record, by whether it is one of its body, and which way that goes
-module _ (number : ℕ) (way : Way) (log : List ℕ) (byte : ℕ) (behind : 8 ≤ length log) where
+module _ (number : ℕ) (direction : Direction) (log : List ℕ) (byte : ℕ) (behind : 8 ≤ length log) where
   abbrev part : List ℕ
   part = (records log).rest ++ byte ∷ []
 
   abbrev carried_so : List ℕ
-  carried_so = joined number way (begun_records log)
+  carried_so = joined number direction (begun_records log)
 
   abbrev m : ℕ
   m = opened_events (events (log ++ byte ∷ []))
@@ -413,9 +413,9 @@ module _ (number : ℕ) (way : Way) (log : List ℕ) (byte : ℕ) (behind : 8 �
   abbrev item_so : Option Item
   item_so = item_at (so_far_for (context log) byte)
 
-  so_far_is : so_far_for (context log) byte ≡ cond (nat_lt 5 (length part)) (so_far_by (way_of (kind_of part)) (context log) byte) []
+  so_far_is : so_far_for (context log) byte ≡ cond (nat_lt 5 (length part)) (so_far_by (direction_of (kind_of part)) (context log) byte) []
   unfolding so_far_for
-  so_far_is = ap (λ p. cond (nat_lt 5 (length (p ++ byte ∷ []))) (so_far_by (way_of (kind_of (p ++ byte ∷ []))) (context log) byte) []) (part_context log)
+  so_far_is = ap (λ p. cond (nat_lt 5 (length (p ++ byte ∷ []))) (so_far_by (direction_of (kind_of (p ++ byte ∷ []))) (context log) byte) []) (part_context log)
 
   same_number : opens (kind_of part) ≡ false → m ≡ n
   same_number is =
@@ -424,25 +424,25 @@ module _ (number : ℕ) (way : Way) (log : List ℕ) (byte : ℕ) (behind : 8 �
       = ap opening (begun-grow log byte behind) ∙ ap (λ t. cond (t && nat_lt (length part) 5) 1 0) is in
       omega (arith, both, none)
 
-  newest_carried : opens (kind_of part) ≡ false → n ≡ number → carried_so ≡ carried way (begun_records log)
+  newest_carried : opens (kind_of part) ≡ false → n ≡ number → carried_so ≡ carried direction (begun_records log)
   unfolding begun_records
   newest_carried is same =
       let kept : n ≡ opened_records (begun_records log) = ap opened_records (begun-grow log byte behind) ∙ opened_kept (records log).rest byte (reverse (records log).whole) is in
-      ap (λ k. joined k way (begun_records log)) (sym same ∙ kept) ∙ newest way (begun_records log)
+      ap (λ k. joined k direction (begun_records log)) (sym same ∙ kept) ∙ newest direction (begun_records log)
 
-  item_goes : nat_lt 5 (length part) ≡ true → way_of (kind_of part) ≡ Some way → carried_so ≡ carried way (begun_records log) → item_so ≡ item_at (packet_with carried_so byte)
+  item_goes : nat_lt 5 (length part) ≡ true → direction_of (kind_of part) ≡ Some direction → carried_so ≡ carried direction (begun_records log) → item_so ≡ item_at (packet_with carried_so byte)
   item_goes g w is =
       ap item_at (so_far_is
-      ∙ ap (λ t. cond t (so_far_by (way_of (kind_of part)) (context log) byte) []) g
+      ∙ ap (λ t. cond t (so_far_by (direction_of (kind_of part)) (context log) byte) []) g
       ∙ ap (λ o. so_far_by o (context log) byte) w
-      ∙ sym (so_far_kept_by (Some way) log byte)
+      ∙ sym (so_far_kept_by (Some direction) log byte)
       ∙ ap (λ bytes. packet_with bytes byte) (sym is))
 
   -- a byte of this direction, on some connection
-  own_byte : (t : Bool) → (n == number) ≡ t → nat_lt 5 (length part) ≡ true → way_of (kind_of part) ≡ Some way
+  own_byte : (t : Bool) → (n == number) ≡ t → nat_lt 5 (length part) ≡ true → direction_of (kind_of part) ≡ Some direction
       → stream_items (stream carried_so) ++ cond (m == number) (if_some item_so) [] ≡ stream_items (stream (carried_so ++ cond (n == number) (byte ∷ []) []))
   own_byte true is g w =
-      let opens_nothing = opens_none (kind_of part) way w in
+      let opens_nothing = opens_none (kind_of part) direction w in
       let carried_is = newest_carried opens_nothing (eqb-true n number is) in
       ap (λ k. stream_items (stream carried_so) ++ cond (k == number) (if_some item_so) []) (same_number opens_nothing)
       ∙ ap (λ t. stream_items (stream carried_so) ++ cond t (if_some item_so) []) is
@@ -450,7 +450,7 @@ module _ (number : ℕ) (way : Way) (log : List ℕ) (byte : ℕ) (behind : 8 �
       ∙ sym (stream_more carried_so byte)
       ∙ ap (λ t. stream_items (stream (carried_so ++ cond t (byte ∷ []) []))) (sym is)
   own_byte false is g w =
-      let opens_nothing = opens_none (kind_of part) way w in
+      let opens_nothing = opens_none (kind_of part) direction w in
       ap (λ k. stream_items (stream carried_so) ++ cond (k == number) (if_some item_so) []) (same_number opens_nothing)
       ∙ ap (λ t. stream_items (stream carried_so) ++ cond t (if_some item_so) []) is
       ∙ append-nil (stream_items (stream carried_so))
@@ -461,49 +461,49 @@ module _ (number : ℕ) (way : Way) (log : List ℕ) (byte : ℕ) (behind : 8 �
   other_byte : stream_items (stream carried_so) ++ cond (m == number) [] [] ≡ stream_items (stream (carried_so ++ cond (n == number) [] []))
   other_byte = nothing_put (stream_items (stream carried_so)) (m == number) ∙ ap (λ bytes. stream_items (stream bytes)) (sym (nothing_put carried_so (n == number)))
 
-  byte_goes : (g : Bool) → nat_lt 5 (length part) ≡ g → (each : Way) → each ≡ way → (w : Option Way) → way_of (kind_of part) ≡ w
-      → stream_items (stream carried_so) ++ cond (m == number) (if_going each w (if_some item_so)) [] ≡ stream_items (stream (carried_so ++ cond (n == number) (cond g (if_way each w (byte ∷ [])) []) []))
+  byte_goes : (g : Bool) → nat_lt 5 (length part) ≡ g → (each : Direction) → each ≡ direction → (w : Option Direction) → direction_of (kind_of part) ≡ w
+      → stream_items (stream carried_so) ++ cond (m == number) (if_going each w (if_some item_so)) [] ≡ stream_items (stream (carried_so ++ cond (n == number) (cond g (if_direction each w (byte ∷ [])) []) []))
   byte_goes false g each same w is =
-      let none : item_so ≡ None = ap item_at (so_far_is ∙ ap (λ t. cond t (so_far_by (way_of (kind_of part)) (context log) byte) []) g) ∙ nothing_item in
+      let none : item_so ≡ None = ap item_at (so_far_is ∙ ap (λ t. cond t (so_far_by (direction_of (kind_of part)) (context log) byte) []) g) ∙ nothing_item in
       ap (λ o. stream_items (stream carried_so) ++ cond (m == number) (if_going each w (if_some o)) []) none
       ∙ ap (λ items. stream_items (stream carried_so) ++ cond (m == number) items []) (going_nothing each w)
       ∙ other_byte
     where
-      going_nothing : (each : Way) (w : Option Way) → if_going each w [] ≡ []
-      going_nothing ways.Sent None = refl
-      going_nothing ways.Sent (Some ways.Sent) = refl
-      going_nothing ways.Sent (Some ways.Recv) = refl
-      going_nothing ways.Recv None = refl
-      going_nothing ways.Recv (Some ways.Sent) = refl
-      going_nothing ways.Recv (Some ways.Recv) = refl
-  byte_goes true g ways.Sent same None is = other_byte
-  byte_goes true g ways.Sent same (Some ways.Recv) is = other_byte
-  byte_goes true g ways.Recv same None is = other_byte
-  byte_goes true g ways.Recv same (Some ways.Sent) is = other_byte
-  byte_goes true g ways.Sent same (Some ways.Sent) is = own_byte (n == number) refl g (is ∙ ap Some same)
-  byte_goes true g ways.Recv same (Some ways.Recv) is = own_byte (n == number) refl g (is ∙ ap Some same)
+      going_nothing : (each : Direction) (w : Option Direction) → if_going each w [] ≡ []
+      going_nothing directions.Sent None = refl
+      going_nothing directions.Sent (Some directions.Sent) = refl
+      going_nothing directions.Sent (Some directions.Recv) = refl
+      going_nothing directions.Recv None = refl
+      going_nothing directions.Recv (Some directions.Sent) = refl
+      going_nothing directions.Recv (Some directions.Recv) = refl
+  byte_goes true g directions.Sent same None is = other_byte
+  byte_goes true g directions.Sent same (Some directions.Recv) is = other_byte
+  byte_goes true g directions.Recv same None is = other_byte
+  byte_goes true g directions.Recv same (Some directions.Sent) is = other_byte
+  byte_goes true g directions.Sent same (Some directions.Sent) is = own_byte (n == number) refl g (is ∙ ap Some same)
+  byte_goes true g directions.Recv same (Some directions.Recv) is = own_byte (n == number) refl g (is ∙ ap Some same)
 
-  byte_more : connection_items number way (events log) ≡ stream_items (stream carried_so) → connection_items number way (events (log ++ byte ∷ [])) ≡ stream_items (stream (joined number way (begun_records (log ++ byte ∷ []))))
+  byte_more : connection_items number direction (events log) ≡ stream_items (stream carried_so) → connection_items number direction (events (log ++ byte ∷ [])) ≡ stream_items (stream (joined number direction (begun_records (log ++ byte ∷ []))))
   byte_more before =
-      items_more number way log byte behind
-      ∙ ap (λ items. items ++ cond (m == number) (if_going way (way_of (kind_of part)) (if_some item_so)) []) before
-      ∙ byte_goes (nat_lt 5 (length part)) refl way refl (way_of (kind_of part)) refl
-      ∙ ap (λ bytes. stream_items (stream bytes)) (sym (joined_more number way log byte behind))
+      items_more number direction log byte behind
+      ∙ ap (λ items. items ++ cond (m == number) (if_going direction (direction_of (kind_of part)) (if_some item_so)) []) before
+      ∙ byte_goes (nat_lt 5 (length part)) refl direction refl (direction_of (kind_of part)) refl
+      ∙ ap (λ bytes. stream_items (stream bytes)) (sym (joined_more number direction log byte behind))
 
 -- Nothing is on a connection in a header.
-header_items : (number : ℕ) (way : Way) (log : List ℕ) → length log ≤ 8 → connection_items number way (events log) ≡ stream_items (stream (joined number way (begun_records log)))
-header_items number way log h =
-    ap (connection_items number way) (events-header log h) ∙ sym (ap (λ parts. stream_items (stream (joined number way parts))) (begun-header log h) ∙ stream_nothing)
+header_items : (number : ℕ) (direction : Direction) (log : List ℕ) → length log ≤ 8 → connection_items number direction (events log) ≡ stream_items (stream (joined number direction (begun_records log)))
+header_items number direction log h =
+    ap (connection_items number direction) (events-header log h) ∙ sym (ap (λ parts. stream_items (stream (joined number direction parts))) (begun-header log h) ∙ stream_nothing)
 
-pub items-are : (number : ℕ) (way : Way) (log : List ℕ) → connection_items number way (events log) ≡ stream_items (stream (joined number way (begun_records log)))
-items-are number way log =
-    along (λ l. connection_items number way (events l) ≡ stream_items (stream (joined number way (begun_records l)))) (header_items number way [] (omega arith))
+pub items-are : (number : ℕ) (direction : Direction) (log : List ℕ) → connection_items number direction (events log) ≡ stream_items (stream (joined number direction (begun_records log)))
+items-are number direction log =
+    along (λ l. connection_items number direction (events l) ≡ stream_items (stream (joined number direction (begun_records l)))) (header_items number direction [] (omega arith))
     (λ l byte before. by_length l byte before (nat_lt (length l) 8) refl) log
   where
-    by_length : (l : List ℕ) (byte : ℕ) → connection_items number way (events l) ≡ stream_items (stream (joined number way (begun_records l))) → (b : Bool) → nat_lt (length l) 8 ≡ b
-        → connection_items number way (events (l ++ byte ∷ [])) ≡ stream_items (stream (joined number way (begun_records (l ++ byte ∷ []))))
+    by_length : (l : List ℕ) (byte : ℕ) → connection_items number direction (events l) ≡ stream_items (stream (joined number direction (begun_records l))) → (b : Bool) → nat_lt (length l) 8 ≡ b
+        → connection_items number direction (events (l ++ byte ∷ [])) ≡ stream_items (stream (joined number direction (begun_records (l ++ byte ∷ []))))
     by_length l byte before true is =
         let more = length-append l (byte ∷ []) in
         let short = ltb-true (length l) 8 is in
-        header_items number way (l ++ byte ∷ []) (omega arith)
-    by_length l byte before false is = byte_more number way l byte (ltb-false (length l) 8 is) before
+        header_items number direction (l ++ byte ∷ []) (omega arith)
+    by_length l byte before false is = byte_more number direction l byte (ltb-false (length l) 8 is) before

@@ -1,11 +1,11 @@
 pub mod BodyLaws
 pub mod ByteLaws
 pub mod ContextLaws
-pub mod DirectionLaws
+pub mod DeframerLaws
 pub mod EndLaws
 pub mod FlowLaws
 pub mod FramingLaws
-pub mod HalfLaws
+pub mod StreamStateLaws
 pub mod ItemLaws
 pub mod JoinedLaws
 pub mod LiftLaws
@@ -16,7 +16,7 @@ pub mod RunLaws
 pub mod StageLaws
 pub mod SplitLaws
 pub mod StepLaws
-pub mod TellingLaws
+pub mod EmissionLaws
 pub mod TracingLaws
 pub mod WritingLaws
 pub mod Exports

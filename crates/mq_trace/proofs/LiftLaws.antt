@@ -7,37 +7,37 @@ use Rattle.std.specs.Option.{option_or}
 use Rattle.mq_packet.specs.Stream.{fixed_header_of, frame_size}
 use Rattle.mq_trace.specs.declared.kind.RecordKind.{RecordKind}
 use Rattle.mq_trace.specs.declared.kind.RecordKind.TheVariants as kinds
-use Rattle.mq_trace.specs.declared.kind.Way.{Way}
-use Rattle.mq_trace.specs.declared.kind.Way.TheVariants as ways
+use Rattle.mq_trace.specs.declared.kind.Direction.{Direction}
+use Rattle.mq_trace.specs.declared.kind.Direction.TheVariants as directions
 use Rattle.mq_trace.specs.declared.refusal.Refusal.{Refusal}
 use Rattle.mq_trace.specs.declared.refusal.Refusal.TheVariants as refusals
-use Rattle.mq_trace.specs.Framing.{kind_of, body_length, record_size, way_of, opens}
+use Rattle.mq_trace.specs.Framing.{kind_of, body_length, record_size, direction_of, opens}
 use Rattle.mq_trace.specs.Events.{Item, Event, item_at, event_by, event_in, read_frame}
 use Rattle.mq_trace.specs.Refusals.{first_standing, allows_length, is_open_kind, needs_connection, is_release_kind, is_too_large, is_other_version, is_early, record_refusal, header_refusal}
-use Rattle.mq_trace.specs.Context.{Half, Context, half_for, so_far_in, so_far_by, so_far_for, situated, half_after, half_by, half_then, with_heard, after_header, after_part, after, put, placed_with, placed_for, refusal_for, event_for}
+use Rattle.mq_trace.specs.Context.{StreamState, Context, state_for, so_far_in, so_far_by, so_far_for, situated, state_after, state_by, state_then, with_heard, after_header, after_part, after, put, placed_with, placed_for, refusal_for, event_for}
 use Rattle.mq_trace.specs.Runs.{behind, refused_in, heard_in}
-use Rattle.mq_trace.specs.Flows.{Bed, Flow, going, comes_early, flow_event, flow_refusal, flow_placed, flow_placed_with, flow_with, flow_after, flow_behind, flow_refused, flow_heard, bed_in, flow_in, half_behind, flowed}
+use Rattle.mq_trace.specs.Flows.{BodyContext, Flow, going, comes_early, flow_event, flow_refusal, flow_placed, flow_placed_with, flow_with, flow_after, flow_behind, flow_refused, flow_heard, context_in, flow_in, state_behind, flowed}
 
 -- A record that carries packets opens no connection, and its events are what its packets are.
-pub opens_none : (kind : Option RecordKind) (way : Way) → way_of kind ≡ Some way → opens kind ≡ false
-opens_none None way e = refl
-opens_none (Some kinds.Open) way e = absurd (cc)
-opens_none (Some kinds.Sent) way e = refl
-opens_none (Some kinds.Recv) way e = refl
-opens_none (Some kinds.Close) way e = refl
-opens_none (Some kinds.Rest) way e = refl
-opens_none (Some kinds.Release) way e = refl
+pub opens_none : (kind : Option RecordKind) (direction : Direction) → direction_of kind ≡ Some direction → opens kind ≡ false
+opens_none None direction e = refl
+opens_none (Some kinds.Open) direction e = absurd (cc)
+opens_none (Some kinds.Sent) direction e = refl
+opens_none (Some kinds.Recv) direction e = refl
+opens_none (Some kinds.Close) direction e = refl
+opens_none (Some kinds.Rest) direction e = refl
+opens_none (Some kinds.Release) direction e = refl
 
-event_going : (kind : Option RecordKind) (way : Way) (part so_far : List ℕ) → way_of kind ≡ Some way → event_by kind part so_far ≡ option_map (going way) (item_at so_far)
-event_going None way part so_far e = absurd (cc)
-event_going (Some kinds.Open) way part so_far e = absurd (cc)
-event_going (Some kinds.Sent) ways.Sent part so_far e = refl
-event_going (Some kinds.Sent) ways.Recv part so_far e = absurd (cc)
-event_going (Some kinds.Recv) ways.Sent part so_far e = absurd (cc)
-event_going (Some kinds.Recv) ways.Recv part so_far e = refl
-event_going (Some kinds.Close) way part so_far e = absurd (cc)
-event_going (Some kinds.Rest) way part so_far e = absurd (cc)
-event_going (Some kinds.Release) way part so_far e = absurd (cc)
+event_going : (kind : Option RecordKind) (direction : Direction) (part so_far : List ℕ) → direction_of kind ≡ Some direction → event_by kind part so_far ≡ option_map (going direction) (item_at so_far)
+event_going None direction part so_far e = absurd (cc)
+event_going (Some kinds.Open) direction part so_far e = absurd (cc)
+event_going (Some kinds.Sent) directions.Sent part so_far e = refl
+event_going (Some kinds.Sent) directions.Recv part so_far e = absurd (cc)
+event_going (Some kinds.Recv) directions.Sent part so_far e = absurd (cc)
+event_going (Some kinds.Recv) directions.Recv part so_far e = refl
+event_going (Some kinds.Close) direction part so_far e = absurd (cc)
+event_going (Some kinds.Rest) direction part so_far e = absurd (cc)
+event_going (Some kinds.Release) direction part so_far e = absurd (cc)
 
 -- the head of a record stays, whatever follows
 kind_stays : (part more : List ℕ) → 5 ≤ length part → kind_of (part ++ more) ≡ kind_of part
@@ -68,10 +68,10 @@ lines limit c part so_far first head early event = first_standing (
     ∷ ((first && nat_lt 4294967295 (c.records + 1)) || (is_some event && nat_le 4294967295 c.events), refusals.TooLong c.at)
     ∷ [])
 
-early_same : (c : Context) (way : Way) (byte : ℕ) (event : Option Event) → is_early (situated c byte) event ≡ comes_early (flow_in c way) event
+early_same : (c : Context) (direction : Direction) (byte : ℕ) (event : Option Event) → is_early (situated c byte) event ≡ comes_early (flow_in c direction) event
 unfolding situated
-early_same c way byte None = refl
-early_same c way byte (Some event) = refl
+early_same c direction byte None = refl
+early_same c direction byte (Some event) = refl
 
 -- A record is whole where all of its body is there.
 whole_by : (part : List ℕ) → 5 ≤ length part → is_some (record_size part) ≡ nat_le (5 + body_length part) (length part)
@@ -92,14 +92,14 @@ just_whole n size less =
     apart : (n + 1 ≡ size → ⊥) → n + 1 < size
     apart other = omega (arith, other)
 
-half_same : (each way : Way) (c : Context) (byte : ℕ) → half_by each (Some way) (half_for c each) byte ≡ half_behind each way (half_after (half_for c way) byte) (half_for c each)
-half_same ways.Sent ways.Sent c byte = refl
-half_same ways.Sent ways.Recv c byte = refl
-half_same ways.Recv ways.Sent c byte = refl
-half_same ways.Recv ways.Recv c byte = refl
+state_same : (each direction : Direction) (c : Context) (byte : ℕ) → state_by each (Some direction) (state_for c each) byte ≡ state_behind each direction (state_after (state_for c direction) byte) (state_for c each)
+state_same directions.Sent directions.Sent c byte = refl
+state_same directions.Sent directions.Recv c byte = refl
+state_same directions.Recv directions.Sent c byte = refl
+state_same directions.Recv directions.Recv c byte = refl
 
 -- what is kept after a byte of a record, from what it makes of each part
-abbrev kept : Context → List ℕ → Bool → Half → Half → Option Event → Context
+abbrev kept : Context → List ℕ → Bool → StreamState → StreamState → Option Event → Context
 kept c part whole sent recv event = with_heard (record c {
   at = c.at + 1;
   part = cond whole [] part;
@@ -108,29 +108,29 @@ kept c part whole sent recv event = with_heard (record c {
   recv = recv;
 }) event
 
-kept_flowed : (c : Context) (way : Way) (byte : ℕ) (whole : Bool) (item : Option Item)
-    → kept c (c.part ++ byte ∷ []) whole (half_behind ways.Sent way (half_after (half_for c way) byte) c.sent) (half_behind ways.Recv way (half_after (half_for c way) byte) c.recv) (option_map (going way) item)
-    ≡ flowed c way whole (flow_with (bed_in c way) (record (flow_in c way) { at = c.at + 1; half = half_after (half_for c way) byte }) (option_map (going way) item)) (byte ∷ [])
-kept_flowed c way byte whole None = refl
-kept_flowed c ways.Sent byte whole (Some item) = refl
-kept_flowed c ways.Recv byte whole (Some item) = refl
+kept_flowed : (c : Context) (direction : Direction) (byte : ℕ) (whole : Bool) (item : Option Item)
+    → kept c (c.part ++ byte ∷ []) whole (state_behind directions.Sent direction (state_after (state_for c direction) byte) c.sent) (state_behind directions.Recv direction (state_after (state_for c direction) byte) c.recv) (option_map (going direction) item)
+    ≡ flowed c direction whole (flow_with (context_in c direction) (record (flow_in c direction) { at = c.at + 1; state = state_after (state_for c direction) byte }) (option_map (going direction) item)) (byte ∷ [])
+kept_flowed c direction byte whole None = refl
+kept_flowed c directions.Sent byte whole (Some item) = refl
+kept_flowed c directions.Recv byte whole (Some item) = refl
 
 -- one byte of a body
-module _ (c : Context) (way : Way) (byte : ℕ) (behind_header : 8 ≤ c.at) (goes : way_of (kind_of c.part) ≡ Some way) (there : 5 ≤ length c.part) where
+module _ (c : Context) (direction : Direction) (byte : ℕ) (behind_header : 8 ≤ c.at) (goes : direction_of (kind_of c.part) ≡ Some direction) (there : 5 ≤ length c.part) where
   abbrev part : List ℕ
   part = c.part ++ byte ∷ []
 
-  abbrev bed : Bed
-  bed = bed_in c way
+  abbrev context : BodyContext
+  context = context_in c direction
 
   abbrev flow : Flow
-  flow = flow_in c way
+  flow = flow_in c direction
 
   longer : length part ≡ length c.part + 1
   longer = length-append c.part (byte ∷ [])
 
-  goes_on : way_of (kind_of part) ≡ Some way
-  goes_on = ap way_of (kind_stays c.part (byte ∷ []) there) ∙ goes
+  goes_on : direction_of (kind_of part) ≡ Some direction
+  goes_on = ap direction_of (kind_stays c.part (byte ∷ []) there) ∙ goes
 
   in_body : nat_lt 5 (length part) ≡ true
   in_body = let l = longer in lt-ltb 5 (length part) (omega arith)
@@ -141,32 +141,32 @@ module _ (c : Context) (way : Way) (byte : ℕ) (behind_header : 8 ≤ c.at) (go
   not_head : (length part == 5) ≡ false
   not_head = let l = longer in ne_eqb (length part) 5 (λ same. (omega arith))
 
-  so_far_is : so_far_for c byte ≡ so_far_in (half_for c way) byte
+  so_far_is : so_far_for c byte ≡ so_far_in (state_for c direction) byte
   unfolding so_far_for
-  so_far_is = ap (λ b. cond b (so_far_by (way_of (kind_of part)) c byte) []) in_body ∙ ap (λ w. so_far_by w c byte) goes_on
+  so_far_is = ap (λ b. cond b (so_far_by (direction_of (kind_of part)) c byte) []) in_body ∙ ap (λ w. so_far_by w c byte) goes_on
 
-  event_is : event_for c byte ≡ flow_event bed flow byte
+  event_is : event_for c byte ≡ flow_event context flow byte
   unfolding event_for event_in flow_event
   event_is =
       ap (λ b. if b then None else event_by (kind_of part) part (so_far_for c byte)) (le-ltb c.at 8 behind_header)
-      ∙ event_going (kind_of part) way part (so_far_for c byte) goes_on
-      ∙ ap (λ t. option_map (going way) (item_at t)) so_far_is
+      ∙ event_going (kind_of part) direction part (so_far_for c byte) goes_on
+      ∙ ap (λ t. option_map (going direction) (item_at t)) so_far_is
 
-  event_within : event_in part (so_far_for c byte) ≡ flow_event bed flow byte
+  event_within : event_in part (so_far_for c byte) ≡ flow_event context flow byte
   unfolding event_in flow_event
-  event_within = event_going (kind_of part) way part (so_far_for c byte) goes_on ∙ ap (λ t. option_map (going way) (item_at t)) so_far_is
+  event_within = event_going (kind_of part) direction part (so_far_for c byte) goes_on ∙ ap (λ t. option_map (going direction) (item_at t)) so_far_is
 
   by_lines : (limit : ℕ) → record_refusal limit (situated c byte)
       ≡ lines limit c part (so_far_for c byte) (length part == 1) (length part == 5) (is_early (situated c byte) (event_in part (so_far_for c byte))) (event_in part (so_far_for c byte))
   unfolding record_refusal situated
   by_lines limit = refl
 
-  by_flow : (limit : ℕ) → lines limit c part (so_far_in (half_for c way) byte) false false (comes_early flow (flow_event bed flow byte)) (flow_event bed flow byte) ≡ flow_refusal limit bed flow byte
+  by_flow : (limit : ℕ) → lines limit c part (so_far_in (state_for c direction) byte) false false (comes_early flow (flow_event context flow byte)) (flow_event context flow byte) ≡ flow_refusal limit context flow byte
   unfolding flow_refusal
   by_flow limit = refl
 
   -- The byte is refused as in its flow.
-  refusal_lifted : (limit : ℕ) → refusal_for limit c byte ≡ flow_refusal limit bed flow byte
+  refusal_lifted : (limit : ℕ) → refusal_for limit c byte ≡ flow_refusal limit context flow byte
   unfolding refusal_for
   refusal_lifted limit =
       ap (λ b. if b then header_refusal c.at byte else record_refusal limit (situated c byte)) (le-ltb c.at 8 behind_header)
@@ -174,26 +174,26 @@ module _ (c : Context) (way : Way) (byte : ℕ) (behind_header : 8 ≤ c.at) (go
       ∙ ap (λ b. lines limit c part (so_far_for c byte) b (length part == 5) (is_early (situated c byte) (event_in part (so_far_for c byte))) (event_in part (so_far_for c byte))) not_first
       ∙ ap (λ b. lines limit c part (so_far_for c byte) false b (is_early (situated c byte) (event_in part (so_far_for c byte))) (event_in part (so_far_for c byte))) not_head
       ∙ ap (λ e. lines limit c part (so_far_for c byte) false false (is_early (situated c byte) e) e) event_within
-      ∙ ap (λ b. lines limit c part (so_far_for c byte) false false b (flow_event bed flow byte)) (early_same c way byte (flow_event bed flow byte))
-      ∙ ap (λ t. lines limit c part t false false (comes_early flow (flow_event bed flow byte)) (flow_event bed flow byte)) so_far_is
+      ∙ ap (λ b. lines limit c part (so_far_for c byte) false false b (flow_event context flow byte)) (early_same c direction byte (flow_event context flow byte))
+      ∙ ap (λ t. lines limit c part t false false (comes_early flow (flow_event context flow byte)) (flow_event context flow byte)) so_far_is
       ∙ by_flow limit
 
-  place_same : (event : Option Event) → placed_with c event ≡ flow_placed_with bed flow event
+  place_same : (event : Option Event) → placed_with c event ≡ flow_placed_with context flow event
   place_same None = refl
   place_same (Some event) = refl
 
   -- So is its event.
-  placed_lifted : placed_for c byte ≡ flow_placed bed flow byte
+  placed_lifted : placed_for c byte ≡ flow_placed context flow byte
   unfolding placed_for flow_placed
-  placed_lifted = ap (placed_with c) event_is ∙ place_same (flow_event bed flow byte)
+  placed_lifted = ap (placed_with c) event_is ∙ place_same (flow_event context flow byte)
 
-  half_is : (each : Way) → half_then each (half_for c each) part byte ≡ half_behind each way (half_after (half_for c way) byte) (half_for c each)
-  unfolding half_then
-  half_is each =
-      ap (λ b. cond b (record { unfinished = []; lost = false }) (cond (nat_lt 5 (length part)) (half_by each (way_of (kind_of part)) (half_for c each) byte) (half_for c each))) (opens_none (kind_of part) way goes_on)
-      ∙ ap (λ b. cond b (half_by each (way_of (kind_of part)) (half_for c each) byte) (half_for c each)) in_body
-      ∙ ap (λ w. half_by each w (half_for c each) byte) goes_on
-      ∙ half_same each way c byte
+  state_is : (each : Direction) → state_then each (state_for c each) part byte ≡ state_behind each direction (state_after (state_for c direction) byte) (state_for c each)
+  unfolding state_then
+  state_is each =
+      ap (λ b. cond b (record { unfinished = []; lost = false }) (cond (nat_lt 5 (length part)) (state_by each (direction_of (kind_of part)) (state_for c each) byte) (state_for c each))) (opens_none (kind_of part) direction goes_on)
+      ∙ ap (λ b. cond b (state_by each (direction_of (kind_of part)) (state_for c each) byte) (state_for c each)) in_body
+      ∙ ap (λ w. state_by each w (state_for c each) byte) goes_on
+      ∙ state_same each direction c byte
 
   whole_is : length c.part < 5 + body_length c.part → is_some (record_size part) ≡ (length c.part + 1 == 5 + body_length c.part)
   whole_is less =
@@ -203,105 +203,105 @@ module _ (c : Context) (way : Way) (byte : ℕ) (behind_header : 8 ≤ c.at) (go
       ∙ ap (nat_le (5 + body_length c.part)) l
       ∙ just_whole (length c.part) (5 + body_length c.part) less
 
-  flow_after_is : flow_after bed flow byte ≡ flow_with bed (record flow { at = c.at + 1; half = half_after (half_for c way) byte }) (option_map (going way) (item_at (so_far_in (half_for c way) byte)))
+  flow_after_is : flow_after context flow byte ≡ flow_with context (record flow { at = c.at + 1; state = state_after (state_for c direction) byte }) (option_map (going direction) (item_at (so_far_in (state_for c direction) byte)))
   unfolding flow_after flow_event
   flow_after_is = refl
 
-  flow_event_is : flow_event bed flow byte ≡ option_map (going way) (item_at (so_far_in (half_for c way) byte))
+  flow_event_is : flow_event context flow byte ≡ option_map (going direction) (item_at (so_far_in (state_for c direction) byte))
   unfolding flow_event
   flow_event_is = refl
 
   -- What is kept after the byte is what the flow keeps.
-  after_lifted : length c.part < 5 + body_length c.part → after c byte ≡ flowed c way (length c.part + 1 == 5 + body_length c.part) (flow_after bed flow byte) (byte ∷ [])
+  after_lifted : length c.part < 5 + body_length c.part → after c byte ≡ flowed c direction (length c.part + 1 == 5 + body_length c.part) (flow_after context flow byte) (byte ∷ [])
   unfolding after
   after_lifted less =
       ap (λ b. if b then after_header c byte else with_heard (after_part c part byte) (event_for c byte)) (le-ltb c.at 8 behind_header)
-      ∙ ap (λ h. kept c part (is_some (record_size part)) h (half_then ways.Recv c.recv part byte) (event_for c byte)) (half_is ways.Sent)
-      ∙ ap (λ h. kept c part (is_some (record_size part)) (half_behind ways.Sent way (half_after (half_for c way) byte) c.sent) h (event_for c byte)) (half_is ways.Recv)
-      ∙ ap (λ b. kept c part b (half_behind ways.Sent way (half_after (half_for c way) byte) c.sent) (half_behind ways.Recv way (half_after (half_for c way) byte) c.recv) (event_for c byte)) (whole_is less)
-      ∙ ap (kept c part (length c.part + 1 == 5 + body_length c.part) (half_behind ways.Sent way (half_after (half_for c way) byte) c.sent) (half_behind ways.Recv way (half_after (half_for c way) byte) c.recv)) (event_is ∙ flow_event_is)
-      ∙ kept_flowed c way byte (length c.part + 1 == 5 + body_length c.part) (item_at (so_far_in (half_for c way) byte))
-      ∙ ap (λ g. flowed c way (length c.part + 1 == 5 + body_length c.part) g (byte ∷ [])) (sym flow_after_is)
+      ∙ ap (λ h. kept c part (is_some (record_size part)) h (state_then directions.Recv c.recv part byte) (event_for c byte)) (state_is directions.Sent)
+      ∙ ap (λ h. kept c part (is_some (record_size part)) (state_behind directions.Sent direction (state_after (state_for c direction) byte) c.sent) h (event_for c byte)) (state_is directions.Recv)
+      ∙ ap (λ b. kept c part b (state_behind directions.Sent direction (state_after (state_for c direction) byte) c.sent) (state_behind directions.Recv direction (state_after (state_for c direction) byte) c.recv) (event_for c byte)) (whole_is less)
+      ∙ ap (kept c part (length c.part + 1 == 5 + body_length c.part) (state_behind directions.Sent direction (state_after (state_for c direction) byte) c.sent) (state_behind directions.Recv direction (state_after (state_for c direction) byte) c.recv)) (event_is ∙ flow_event_is)
+      ∙ kept_flowed c direction byte (length c.part + 1 == 5 + body_length c.part) (item_at (so_far_in (state_for c direction) byte))
+      ∙ ap (λ g. flowed c direction (length c.part + 1 == 5 + body_length c.part) g (byte ∷ [])) (sym flow_after_is)
 
 -- The byte is refused as in its flow ..
-pub lifted-refusal : (limit : ℕ) (c : Context) (way : Way) (byte : ℕ) → 8 ≤ c.at → way_of (kind_of c.part) ≡ Some way → 5 ≤ length c.part
-    → refusal_for limit c byte ≡ flow_refusal limit (bed_in c way) (flow_in c way) byte
-lifted-refusal limit c way byte behind_header goes there = refusal_lifted c way byte behind_header goes there limit
+pub lifted-refusal : (limit : ℕ) (c : Context) (direction : Direction) (byte : ℕ) → 8 ≤ c.at → direction_of (kind_of c.part) ≡ Some direction → 5 ≤ length c.part
+    → refusal_for limit c byte ≡ flow_refusal limit (context_in c direction) (flow_in c direction) byte
+lifted-refusal limit c direction byte behind_header goes there = refusal_lifted c direction byte behind_header goes there limit
 
 -- .. completes what it does there ..
-pub lifted-placed : (c : Context) (way : Way) (byte : ℕ) → 8 ≤ c.at → way_of (kind_of c.part) ≡ Some way → 5 ≤ length c.part
-    → placed_for c byte ≡ flow_placed (bed_in c way) (flow_in c way) byte
-lifted-placed c way byte behind_header goes there = placed_lifted c way byte behind_header goes there
+pub lifted-placed : (c : Context) (direction : Direction) (byte : ℕ) → 8 ≤ c.at → direction_of (kind_of c.part) ≡ Some direction → 5 ≤ length c.part
+    → placed_for c byte ≡ flow_placed (context_in c direction) (flow_in c direction) byte
+lifted-placed c direction byte behind_header goes there = placed_lifted c direction byte behind_header goes there
 
 -- .. and leaves what it leaves there.
-pub lifted-after : (c : Context) (way : Way) (byte : ℕ) → 8 ≤ c.at → way_of (kind_of c.part) ≡ Some way → 5 ≤ length c.part → length c.part < 5 + body_length c.part
-    → after c byte ≡ flowed c way (length c.part + 1 == 5 + body_length c.part) (flow_after (bed_in c way) (flow_in c way) byte) (byte ∷ [])
-lifted-after c way byte behind_header goes there less = after_lifted c way byte behind_header goes there less
+pub lifted-after : (c : Context) (direction : Direction) (byte : ℕ) → 8 ≤ c.at → direction_of (kind_of c.part) ≡ Some direction → 5 ≤ length c.part → length c.part < 5 + body_length c.part
+    → after c byte ≡ flowed c direction (length c.part + 1 == 5 + body_length c.part) (flow_after (context_in c direction) (flow_in c direction) byte) (byte ∷ [])
+lifted-after c direction byte behind_header goes there less = after_lifted c direction byte behind_header goes there less
 
 -- The packet so far of a byte of a body is its direction's.
-pub lifted-so_far : (c : Context) (way : Way) (byte : ℕ) → way_of (kind_of c.part) ≡ Some way → 5 ≤ length c.part → so_far_for c byte ≡ so_far_in (half_for c way) byte
+pub lifted-so_far : (c : Context) (direction : Direction) (byte : ℕ) → direction_of (kind_of c.part) ≡ Some direction → 5 ≤ length c.part → so_far_for c byte ≡ so_far_in (state_for c direction) byte
 unfolding so_far_for
-lifted-so_far c way byte goes there =
+lifted-so_far c direction byte goes there =
     let longer : length (c.part ++ byte ∷ []) ≡ length c.part + 1 = length-append c.part (byte ∷ []) in
-    ap (λ b. cond b (so_far_by (way_of (kind_of (c.part ++ byte ∷ []))) c byte) []) (lt-ltb 5 (length (c.part ++ byte ∷ [])) (omega arith))
-    ∙ ap (λ w. so_far_by w c byte) (ap way_of (kind_stays c.part (byte ∷ []) there) ∙ goes)
+    ap (λ b. cond b (so_far_by (direction_of (kind_of (c.part ++ byte ∷ []))) c byte) []) (lt-ltb 5 (length (c.part ++ byte ∷ [])) (omega arith))
+    ∙ ap (λ w. so_far_by w c byte) (ap direction_of (kind_stays c.part (byte ∷ []) there) ∙ goes)
 
 -- the direction that a flow keeps, in what is kept of the log
-pub half_flowed : (c : Context) (way : Way) (f : Flow) (bytes : List ℕ) → half_for (flowed c way false f bytes) way ≡ f.half
-half_flowed c ways.Sent f bytes = refl
-half_flowed c ways.Recv f bytes = refl
+pub state_flowed : (c : Context) (direction : Direction) (f : Flow) (bytes : List ℕ) → state_for (flowed c direction false f bytes) direction ≡ f.state
+state_flowed c directions.Sent f bytes = refl
+state_flowed c directions.Recv f bytes = refl
 
-flow_with_at : (bed : Bed) (f : Flow) (event : Option Event) → (flow_with bed f event).at ≡ f.at
+flow_with_at : (context : BodyContext) (f : Flow) (event : Option Event) → (flow_with context f event).at ≡ f.at
 flow_with_at _ f None = refl
 flow_with_at _ f (Some event) = refl
 
-flow_with_connected : (bed : Bed) (f : Flow) (event : Option Event) → (flow_with bed f event).connected ≡ f.connected
+flow_with_connected : (context : BodyContext) (f : Flow) (event : Option Event) → (flow_with context f event).connected ≡ f.connected
 flow_with_connected _ f None = refl
 flow_with_connected _ f (Some event) = refl
 
-after_at : (bed : Bed) (f : Flow) (byte : ℕ) → (flow_after bed f byte).at ≡ f.at + 1
+after_at : (context : BodyContext) (f : Flow) (byte : ℕ) → (flow_after context f byte).at ≡ f.at + 1
 unfolding flow_after
-after_at bed f byte = flow_with_at bed (record f { at = f.at + 1; half = half_after f.half byte }) (flow_event bed f byte)
+after_at context f byte = flow_with_at context (record f { at = f.at + 1; state = state_after f.state byte }) (flow_event context f byte)
 
-after_connected : (bed : Bed) (f : Flow) (byte : ℕ) → (flow_after bed f byte).connected ≡ f.connected
+after_connected : (context : BodyContext) (f : Flow) (byte : ℕ) → (flow_after context f byte).connected ≡ f.connected
 unfolding flow_after
-after_connected bed f byte = flow_with_connected bed (record f { at = f.at + 1; half = half_after f.half byte }) (flow_event bed f byte)
+after_connected context f byte = flow_with_connected context (record f { at = f.at + 1; state = state_after f.state byte }) (flow_event context f byte)
 
 -- A flow is found again in what is kept after it.
-flow_again : (c : Context) (way : Way) (g : Flow) (bytes : List ℕ) → g.connected ≡ c.connected → flow_in (flowed c way false g bytes) way ≡ g
-flow_again c ways.Sent g bytes e = ap (λ b. record g { connected = b }) (sym e)
-flow_again c ways.Recv g bytes e = ap (λ b. record g { connected = b }) (sym e)
+flow_again : (c : Context) (direction : Direction) (g : Flow) (bytes : List ℕ) → g.connected ≡ c.connected → flow_in (flowed c direction false g bytes) direction ≡ g
+flow_again c directions.Sent g bytes e = ap (λ b. record g { connected = b }) (sym e)
+flow_again c directions.Recv g bytes e = ap (λ b. record g { connected = b }) (sym e)
 
-flowed_twice : (c : Context) (way : Way) (whole : Bool) (g h : Flow) (bytes more : List ℕ) → flowed (flowed c way false g bytes) way whole h more ≡ flowed c way whole h (bytes ++ more)
-flowed_twice c ways.Sent whole g h bytes more = ap (λ t. record (flowed c ways.Sent whole h (bytes ++ more)) { part = cond whole [] t }) (append_assoc c.part bytes more)
-flowed_twice c ways.Recv whole g h bytes more = ap (λ t. record (flowed c ways.Recv whole h (bytes ++ more)) { part = cond whole [] t }) (append_assoc c.part bytes more)
+flowed_twice : (c : Context) (direction : Direction) (whole : Bool) (g h : Flow) (bytes more : List ℕ) → flowed (flowed c direction false g bytes) direction whole h more ≡ flowed c direction whole h (bytes ++ more)
+flowed_twice c directions.Sent whole g h bytes more = ap (λ t. record (flowed c directions.Sent whole h (bytes ++ more)) { part = cond whole [] t }) (append_assoc c.part bytes more)
+flowed_twice c directions.Recv whole g h bytes more = ap (λ t. record (flowed c directions.Recv whole h (bytes ++ more)) { part = cond whole [] t }) (append_assoc c.part bytes more)
 
-flowed_none : (c : Context) (way : Way) → flowed c way false (flow_in c way) [] ≡ c
-flowed_none c ways.Sent = ap (λ t. record c { part = t }) (append-nil c.part)
-flowed_none c ways.Recv = ap (λ t. record c { part = t }) (append-nil c.part)
+flowed_none : (c : Context) (direction : Direction) → flowed c direction false (flow_in c direction) [] ≡ c
+flowed_none c directions.Sent = ap (λ t. record c { part = t }) (append-nil c.part)
+flowed_none c directions.Recv = ap (λ t. record c { part = t }) (append-nil c.part)
 
 -- a byte of a body after which more of the body stands
-module _ (c : Context) (way : Way) (byte next : ℕ) (bytes : List ℕ) (behind_header : 8 ≤ c.at) (goes : way_of (kind_of c.part) ≡ Some way) (there : 5 ≤ length c.part)
+module _ (c : Context) (direction : Direction) (byte next : ℕ) (bytes : List ℕ) (behind_header : 8 ≤ c.at) (goes : direction_of (kind_of c.part) ≡ Some direction) (there : 5 ≤ length c.part)
     (fits : length c.part + length (byte ∷ next ∷ bytes) ≤ 5 + body_length c.part) where
   abbrev then_flow : Flow
-  then_flow = flow_after (bed_in c way) (flow_in c way) byte
+  then_flow = flow_after (context_in c direction) (flow_in c direction) byte
 
   abbrev then_kept : Context
-  then_kept = flowed c way false then_flow (byte ∷ [])
+  then_kept = flowed c direction false then_flow (byte ∷ [])
 
   then_longer : length (c.part ++ byte ∷ []) ≡ length c.part + 1
   then_longer = length-append c.part (byte ∷ [])
 
   then_is : after c byte ≡ then_kept
   then_is =
-      lifted-after c way byte behind_header goes there (omega arith)
-      ∙ ap (λ b. flowed c way b then_flow (byte ∷ [])) (ne_eqb (length c.part + 1) (5 + body_length c.part) (λ same. (omega arith)))
+      lifted-after c direction byte behind_header goes there (omega arith)
+      ∙ ap (λ b. flowed c direction b then_flow (byte ∷ [])) (ne_eqb (length c.part + 1) (5 + body_length c.part) (λ same. (omega arith)))
 
   then_at : 8 ≤ then_kept.at
-  then_at = let same : then_flow.at ≡ c.at + 1 = after_at (bed_in c way) (flow_in c way) byte in omega arith
+  then_at = let same : then_flow.at ≡ c.at + 1 = after_at (context_in c direction) (flow_in c direction) byte in omega arith
 
-  then_goes : way_of (kind_of then_kept.part) ≡ Some way
-  then_goes = ap way_of (kind_stays c.part (byte ∷ []) there) ∙ goes
+  then_goes : direction_of (kind_of then_kept.part) ≡ Some direction
+  then_goes = ap direction_of (kind_stays c.part (byte ∷ []) there) ∙ goes
 
   then_there : 5 ≤ length then_kept.part
   then_there = let l = then_longer in omega arith
@@ -315,8 +315,8 @@ module _ (c : Context) (way : Way) (byte next : ℕ) (bytes : List ℕ) (behind_
   then_less : length then_kept.part < 5 + body_length then_kept.part
   then_less = let l = then_longer in let b = then_body in omega arith
 
-  then_flows : flow_in then_kept way ≡ then_flow
-  then_flows = flow_again c way then_flow (byte ∷ []) (after_connected (bed_in c way) (flow_in c way) byte)
+  then_flows : flow_in then_kept direction ≡ then_flow
+  then_flows = flow_again c direction then_flow (byte ∷ []) (after_connected (context_in c direction) (flow_in c direction) byte)
 
   then_whole : (length then_kept.part + length (next ∷ bytes) == 5 + body_length then_kept.part) ≡ (length c.part + length (byte ∷ next ∷ bytes) == 5 + body_length c.part)
   then_whole =
@@ -325,51 +325,51 @@ module _ (c : Context) (way : Way) (byte next : ℕ) (bytes : List ℕ) (behind_
       ap (λ n. n == 5 + body_length then_kept.part) counted ∙ ap (λ n. length c.part + length (byte ∷ next ∷ bytes) == 5 + n) then_body
 
 -- Bytes of one body are refused as in their flow ..
-pub lifted-refused : (limit : ℕ) (c : Context) (way : Way) (bytes : List ℕ) → 8 ≤ c.at → way_of (kind_of c.part) ≡ Some way → 5 ≤ length c.part
-    → length c.part + length bytes ≤ 5 + body_length c.part → refused_in limit c bytes ≡ flow_refused limit (bed_in c way) (flow_in c way) bytes
-lifted-refused limit c way [] behind_header goes there fits = refl
-lifted-refused limit c way (byte ∷ []) behind_header goes there fits = ap (λ o. option_or o None) (lifted-refusal limit c way byte behind_header goes there)
-lifted-refused limit c way (byte ∷ next ∷ bytes) behind_header goes there fits =
-    ap (λ o. option_or o (refused_in limit (after c byte) (next ∷ bytes))) (lifted-refusal limit c way byte behind_header goes there)
-    ∙ ap (option_or (flow_refusal limit (bed_in c way) (flow_in c way) byte))
-    (ap (λ k. refused_in limit k (next ∷ bytes)) (then_is c way byte next bytes behind_header goes there fits)
-    ∙ lifted-refused limit (then_kept c way byte next bytes behind_header goes there fits) way (next ∷ bytes)
-    (then_at c way byte next bytes behind_header goes there fits) (then_goes c way byte next bytes behind_header goes there fits)
-    (then_there c way byte next bytes behind_header goes there fits) (then_fits c way byte next bytes behind_header goes there fits)
-    ∙ ap (λ g. flow_refused limit (bed_in c way) g (next ∷ bytes)) (then_flows c way byte next bytes behind_header goes there fits))
+pub lifted-refused : (limit : ℕ) (c : Context) (direction : Direction) (bytes : List ℕ) → 8 ≤ c.at → direction_of (kind_of c.part) ≡ Some direction → 5 ≤ length c.part
+    → length c.part + length bytes ≤ 5 + body_length c.part → refused_in limit c bytes ≡ flow_refused limit (context_in c direction) (flow_in c direction) bytes
+lifted-refused limit c direction [] behind_header goes there fits = refl
+lifted-refused limit c direction (byte ∷ []) behind_header goes there fits = ap (λ o. option_or o None) (lifted-refusal limit c direction byte behind_header goes there)
+lifted-refused limit c direction (byte ∷ next ∷ bytes) behind_header goes there fits =
+    ap (λ o. option_or o (refused_in limit (after c byte) (next ∷ bytes))) (lifted-refusal limit c direction byte behind_header goes there)
+    ∙ ap (option_or (flow_refusal limit (context_in c direction) (flow_in c direction) byte))
+    (ap (λ k. refused_in limit k (next ∷ bytes)) (then_is c direction byte next bytes behind_header goes there fits)
+    ∙ lifted-refused limit (then_kept c direction byte next bytes behind_header goes there fits) direction (next ∷ bytes)
+    (then_at c direction byte next bytes behind_header goes there fits) (then_goes c direction byte next bytes behind_header goes there fits)
+    (then_there c direction byte next bytes behind_header goes there fits) (then_fits c direction byte next bytes behind_header goes there fits)
+    ∙ ap (λ g. flow_refused limit (context_in c direction) g (next ∷ bytes)) (then_flows c direction byte next bytes behind_header goes there fits))
 
 -- .. complete what they do there ..
-pub lifted-heard : (c : Context) (way : Way) (bytes : List ℕ) → 8 ≤ c.at → way_of (kind_of c.part) ≡ Some way → 5 ≤ length c.part
-    → length c.part + length bytes ≤ 5 + body_length c.part → heard_in c bytes ≡ flow_heard (bed_in c way) (flow_in c way) bytes
-lifted-heard c way [] behind_header goes there fits = refl
-lifted-heard c way (byte ∷ []) behind_header goes there fits = ap (λ placed. put placed []) (lifted-placed c way byte behind_header goes there)
-lifted-heard c way (byte ∷ next ∷ bytes) behind_header goes there fits =
-    ap (λ placed. heard_in (after c byte) (next ∷ bytes) ++ put placed []) (lifted-placed c way byte behind_header goes there)
-    ∙ ap (λ heard. heard ++ put (flow_placed (bed_in c way) (flow_in c way) byte) [])
-    (ap (λ k. heard_in k (next ∷ bytes)) (then_is c way byte next bytes behind_header goes there fits)
-    ∙ lifted-heard (then_kept c way byte next bytes behind_header goes there fits) way (next ∷ bytes)
-    (then_at c way byte next bytes behind_header goes there fits) (then_goes c way byte next bytes behind_header goes there fits)
-    (then_there c way byte next bytes behind_header goes there fits) (then_fits c way byte next bytes behind_header goes there fits)
-    ∙ ap (λ g. flow_heard (bed_in c way) g (next ∷ bytes)) (then_flows c way byte next bytes behind_header goes there fits))
+pub lifted-heard : (c : Context) (direction : Direction) (bytes : List ℕ) → 8 ≤ c.at → direction_of (kind_of c.part) ≡ Some direction → 5 ≤ length c.part
+    → length c.part + length bytes ≤ 5 + body_length c.part → heard_in c bytes ≡ flow_heard (context_in c direction) (flow_in c direction) bytes
+lifted-heard c direction [] behind_header goes there fits = refl
+lifted-heard c direction (byte ∷ []) behind_header goes there fits = ap (λ placed. put placed []) (lifted-placed c direction byte behind_header goes there)
+lifted-heard c direction (byte ∷ next ∷ bytes) behind_header goes there fits =
+    ap (λ placed. heard_in (after c byte) (next ∷ bytes) ++ put placed []) (lifted-placed c direction byte behind_header goes there)
+    ∙ ap (λ heard. heard ++ put (flow_placed (context_in c direction) (flow_in c direction) byte) [])
+    (ap (λ k. heard_in k (next ∷ bytes)) (then_is c direction byte next bytes behind_header goes there fits)
+    ∙ lifted-heard (then_kept c direction byte next bytes behind_header goes there fits) direction (next ∷ bytes)
+    (then_at c direction byte next bytes behind_header goes there fits) (then_goes c direction byte next bytes behind_header goes there fits)
+    (then_there c direction byte next bytes behind_header goes there fits) (then_fits c direction byte next bytes behind_header goes there fits)
+    ∙ ap (λ g. flow_heard (context_in c direction) g (next ∷ bytes)) (then_flows c direction byte next bytes behind_header goes there fits))
 
 -- .. and leave what they leave there.
-pub lifted-behind : (c : Context) (way : Way) (bytes : List ℕ) → 8 ≤ c.at → way_of (kind_of c.part) ≡ Some way → 5 ≤ length c.part
+pub lifted-behind : (c : Context) (direction : Direction) (bytes : List ℕ) → 8 ≤ c.at → direction_of (kind_of c.part) ≡ Some direction → 5 ≤ length c.part
     → length c.part < 5 + body_length c.part → length c.part + length bytes ≤ 5 + body_length c.part
-    → behind c bytes ≡ flowed c way (length c.part + length bytes == 5 + body_length c.part) (flow_behind (bed_in c way) (flow_in c way) bytes) bytes
-lifted-behind c way [] behind_header goes there less fits =
-    sym (ap (λ b. flowed c way b (flow_in c way) []) (ne_eqb (length c.part + length {A = ℕ} []) (5 + body_length c.part) (λ same. (omega arith))) ∙ flowed_none c way)
-lifted-behind c way (byte ∷ []) behind_header goes there less fits =
+    → behind c bytes ≡ flowed c direction (length c.part + length bytes == 5 + body_length c.part) (flow_behind (context_in c direction) (flow_in c direction) bytes) bytes
+lifted-behind c direction [] behind_header goes there less fits =
+    sym (ap (λ b. flowed c direction b (flow_in c direction) []) (ne_eqb (length c.part + length {A = ℕ} []) (5 + body_length c.part) (λ same. (omega arith))) ∙ flowed_none c direction)
+lifted-behind c direction (byte ∷ []) behind_header goes there less fits =
     let one : length c.part + 1 ≡ length c.part + length (byte ∷ []) = omega arith in
-    lifted-after c way byte behind_header goes there less
-    ∙ ap (λ n. flowed c way (n == 5 + body_length c.part) (flow_after (bed_in c way) (flow_in c way) byte) (byte ∷ [])) one
-lifted-behind c way (byte ∷ next ∷ bytes) behind_header goes there less fits =
-    let c' : Context = then_kept c way byte next bytes behind_header goes there fits in
-    ap (λ k. behind k (next ∷ bytes)) (then_is c way byte next bytes behind_header goes there fits)
-    ∙ lifted-behind (then_kept c way byte next bytes behind_header goes there fits) way (next ∷ bytes)
-    (then_at c way byte next bytes behind_header goes there fits) (then_goes c way byte next bytes behind_header goes there fits)
-    (then_there c way byte next bytes behind_header goes there fits) (then_less c way byte next bytes behind_header goes there fits)
-    (then_fits c way byte next bytes behind_header goes there fits)
-    ∙ ap (λ b. flowed c' way b (flow_behind (bed_in c way) (flow_in c' way) (next ∷ bytes)) (next ∷ bytes)) (then_whole c way byte next bytes behind_header goes there fits)
-    ∙ ap (λ g. flowed c' way (length c.part + length (byte ∷ next ∷ bytes) == 5 + body_length c.part) (flow_behind (bed_in c way) g (next ∷ bytes)) (next ∷ bytes)) (then_flows c way byte next bytes behind_header goes there fits)
-    ∙ flowed_twice c way (length c.part + length (byte ∷ next ∷ bytes) == 5 + body_length c.part) (flow_after (bed_in c way) (flow_in c way) byte)
-    (flow_behind (bed_in c way) (flow_after (bed_in c way) (flow_in c way) byte) (next ∷ bytes)) (byte ∷ []) (next ∷ bytes)
+    lifted-after c direction byte behind_header goes there less
+    ∙ ap (λ n. flowed c direction (n == 5 + body_length c.part) (flow_after (context_in c direction) (flow_in c direction) byte) (byte ∷ [])) one
+lifted-behind c direction (byte ∷ next ∷ bytes) behind_header goes there less fits =
+    let c' : Context = then_kept c direction byte next bytes behind_header goes there fits in
+    ap (λ k. behind k (next ∷ bytes)) (then_is c direction byte next bytes behind_header goes there fits)
+    ∙ lifted-behind (then_kept c direction byte next bytes behind_header goes there fits) direction (next ∷ bytes)
+    (then_at c direction byte next bytes behind_header goes there fits) (then_goes c direction byte next bytes behind_header goes there fits)
+    (then_there c direction byte next bytes behind_header goes there fits) (then_less c direction byte next bytes behind_header goes there fits)
+    (then_fits c direction byte next bytes behind_header goes there fits)
+    ∙ ap (λ b. flowed c' direction b (flow_behind (context_in c direction) (flow_in c' direction) (next ∷ bytes)) (next ∷ bytes)) (then_whole c direction byte next bytes behind_header goes there fits)
+    ∙ ap (λ g. flowed c' direction (length c.part + length (byte ∷ next ∷ bytes) == 5 + body_length c.part) (flow_behind (context_in c direction) g (next ∷ bytes)) (next ∷ bytes)) (then_flows c direction byte next bytes behind_header goes there fits)
+    ∙ flowed_twice c direction (length c.part + length (byte ∷ next ∷ bytes) == 5 + body_length c.part) (flow_after (context_in c direction) (flow_in c direction) byte)
+    (flow_behind (context_in c direction) (flow_after (context_in c direction) (flow_in c direction) byte) (next ∷ bytes)) (byte ∷ []) (next ∷ bytes)

@@ -23,10 +23,10 @@ framed_length kind body rest fits = from_be_bytes-to_be_bytes_4 (length body) fi
 
 framed_size : (kind : ℕ) (body rest : List ℕ) → length body < 2 ^ 32 → record_size (framed kind body ++ rest) ≡ Some (length (framed kind body))
 framed_size kind body rest fits =
-    let told = framed_length kind body rest fits in
+    let emitted = framed_length kind body rest fits in
     let all = length-append body rest in
-    let within : 5 + body_length (framed kind body ++ rest) ≤ length (framed kind body ++ rest) = omega (arith, told, all) in
-    let same : 5 + body_length (framed kind body ++ rest) ≡ length (framed kind body) = omega (arith, told) in
+    let within : 5 + body_length (framed kind body ++ rest) ≤ length (framed kind body ++ rest) = omega (arith, emitted, all) in
+    let same : 5 + body_length (framed kind body ++ rest) ≡ length (framed kind body) = omega (arith, emitted) in
     whole_record (framed kind body ++ rest) within ∙ ap Some same
 
 pub size_read_back : (entry : Record) (rest : List ℕ) → length (record_body entry) ≤ 1048576 → record_size (record_bytes entry ++ rest) ≡ Some (length (record_bytes entry))

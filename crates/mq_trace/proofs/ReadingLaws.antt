@@ -9,7 +9,7 @@ use Rattle.mq_trace.specs.Events.{Placed}
 use Rattle.mq_trace.specs.Context.{so_far_for}
 use Rattle.mq_trace.specs.Runs.{behind, refused_in, heard_in}
 use Rattle.mq_trace.specs.Hearing.{AreEvents}
-use Rattle.mq_trace.specs.Directing.{FlowWhy}
+use Rattle.mq_trace.specs.Deframing.{FlowWhy}
 use Rattle.mq_trace.specs.Keeping.{context_of, Advances, Comes, StepStops}
 use Rattle.mq_trace.proofs.RunLaws.{behind_append, refused_append, heard_append}
 
@@ -38,7 +38,7 @@ pub comes_after : {S : Type 0} (agrees : S → List Placed → Type 0) (r r1 r2 
 comes_after agrees r r1 r2 a b old new quiet comes = record {
   heard = comes.heard;
   advances = (let both = advanced r r1 r2 a b [] comes.heard quiet comes.advances in rw append-nil at both);
-  told = comes.told;
+  emitted = comes.emitted;
 }
 
 -- A quiet step by itself.
@@ -47,16 +47,16 @@ pub comes_quietly : {S : Type 0} (agrees : S → List Placed → Type 0) (r r1 :
 comes_quietly agrees r r1 a sink quiet = record {
   heard = [];
   advances = quiet;
-  told = λ earlier agree are. agree;
+  emitted = λ earlier agree are. agree;
 }
 
 -- A step that tells one event.
-pub comes_telling : {S : Type 0} (agrees : S → List Placed → Type 0) (r r1 : Reading) (a : List ℕ) (old new : S) (e : Placed)
+pub comes_emission : {S : Type 0} (agrees : S → List Placed → Type 0) (r r1 : Reading) (a : List ℕ) (old new : S) (e : Placed)
     → Advances r r1 a (e ∷ []) → ((earlier : List Placed) → agrees old earlier → AreEvents (e ∷ earlier) → agrees new (e ∷ earlier)) → Comes agrees r r1 a old new
-comes_telling agrees r r1 a old new e step told = record {
+comes_emission agrees r r1 a old new e step emitted = record {
   heard = e ∷ [];
   advances = step;
-  told = told;
+  emitted = emitted;
 }
 
 -- A quiet step, and one that stops.

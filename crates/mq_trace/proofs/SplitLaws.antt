@@ -7,13 +7,13 @@ use Rattle.std.proofs.lemmas.Bool.{le-ltb, eq-eqb, ne_eqb}
 use Rattle.std.proofs.lemmas.Nat.{from_be_bytes-to_be_bytes_4}
 use Rattle.mq_trace.specs.declared.kind.RecordKind.{RecordKind}
 use Rattle.mq_trace.specs.declared.kind.RecordKind.TheVariants as kinds
-use Rattle.mq_trace.specs.declared.kind.Way.{Way}
-use Rattle.mq_trace.specs.declared.kind.Way.TheVariants as ways
-use Rattle.mq_trace.specs.Framing.{kind_named, kind_of, body_length, record_size, way_of, opens, records}
+use Rattle.mq_trace.specs.declared.kind.Direction.{Direction}
+use Rattle.mq_trace.specs.declared.kind.Direction.TheVariants as directions
+use Rattle.mq_trace.specs.Framing.{kind_named, kind_of, body_length, record_size, direction_of, opens, records}
 use Rattle.mq_trace.specs.Events.{Event, Placed, item_at, event_in, event_of_head, events}
-use Rattle.mq_trace.specs.Context.{Context, emptied, context, so_far_in, so_far_by, so_far_for, half_after, with_heard, after_header, after_part, after, put, placed_with, placed_for, event_for}
+use Rattle.mq_trace.specs.Context.{Context, emptied, context, so_far_in, so_far_by, so_far_for, state_after, with_heard, after_header, after_part, after, put, placed_with, placed_for, event_for}
 use Rattle.mq_trace.specs.Runs.{behind, heard_in}
-use Rattle.mq_trace.specs.Flows.{Bed, Flow, going, flow_event, flow_placed, flow_placed_with, flow_with, flow_after, flow_behind, flow_heard, bed_in, flow_in, flowed}
+use Rattle.mq_trace.specs.Flows.{BodyContext, Flow, going, flow_event, flow_placed, flow_placed_with, flow_with, flow_after, flow_behind, flow_heard, context_in, flow_in, flowed}
 use Rattle.mq_trace.specs.Writing.{sent_record, received_record, record_bytes, framed}
 use Rattle.mq_trace.specs.Splitting.{but_record}
 use Rattle.mq_trace.proofs.ContextLaws.{part_context, at_context}
@@ -30,15 +30,15 @@ behind_head at = at + 1 + 3 + 1
 abbrev counted : Context → ℕ → ℕ → Context
 counted c at count = record c { at = at; records = count }
 
-so_far_same : (way : Option Way) (c : Context) (at count byte : ℕ) → so_far_by way (counted c at count) byte ≡ so_far_by way c byte
+so_far_same : (direction : Option Direction) (c : Context) (at count byte : ℕ) → so_far_by direction (counted c at count) byte ≡ so_far_by direction c byte
 so_far_same None c at count byte = refl
-so_far_same (Some ways.Sent) c at count byte = refl
-so_far_same (Some ways.Recv) c at count byte = refl
+so_far_same (Some directions.Sent) c at count byte = refl
+so_far_same (Some directions.Recv) c at count byte = refl
 
 so_far_counted : (c : Context) (at count byte : ℕ) → so_far_for (counted c at count) byte ≡ so_far_for c byte
 unfolding so_far_for
 so_far_counted c at count byte =
-    ap (λ t. cond (nat_lt 5 (length (c.part ++ byte ∷ []))) t []) (so_far_same (way_of (kind_of (c.part ++ byte ∷ []))) c at count byte)
+    ap (λ t. cond (nat_lt 5 (length (c.part ++ byte ∷ []))) t []) (so_far_same (direction_of (kind_of (c.part ++ byte ∷ []))) c at count byte)
 
 -- The next byte's event doesn't depend on those numbers, ..
 event_known : (c : Context) (byte : ℕ) → 8 ≤ c.at → event_for c byte ≡ event_in (c.part ++ byte ∷ []) (so_far_for c byte)
@@ -107,40 +107,40 @@ heard_counted c at count (byte ∷ bytes) h h' =
     (placed_counted c at count byte h h')
 
 -- the same within a body: the number of the record, and how many bytes of the log came
-abbrev numbered : Bed → ℕ → Bed
-numbered bed count = record bed { record_no = count }
+abbrev numbered : BodyContext → ℕ → BodyContext
+numbered around count = record around { record_no = count }
 
 abbrev moved : Flow → ℕ → Flow
 moved f at = record f { at = at }
 
-flow_with_moved : (bed : Bed) (f : Flow) (count at : ℕ) (event : Option Event) → flow_with (numbered bed count) (moved f at) event ≡ moved (flow_with bed f event) at
-flow_with_moved bed f count at None = refl
-flow_with_moved bed f count at (Some event) = refl
+flow_with_moved : (around : BodyContext) (f : Flow) (count at : ℕ) (event : Option Event) → flow_with (numbered around count) (moved f at) event ≡ moved (flow_with around f event) at
+flow_with_moved around f count at None = refl
+flow_with_moved around f count at (Some event) = refl
 
-flow_after_moved : (bed : Bed) (f : Flow) (count at byte : ℕ) → flow_after (numbered bed count) (moved f at) byte ≡ moved (flow_after bed f byte) (at + 1)
+flow_after_moved : (around : BodyContext) (f : Flow) (count at byte : ℕ) → flow_after (numbered around count) (moved f at) byte ≡ moved (flow_after around f byte) (at + 1)
 unfolding flow_after flow_event
-flow_after_moved bed f count at byte =
-    flow_with_moved bed (record f { at = f.at + 1; half = half_after f.half byte }) count (at + 1) (option_map (going bed.way) (item_at (so_far_in f.half byte)))
+flow_after_moved around f count at byte =
+    flow_with_moved around (record f { at = f.at + 1; state = state_after f.state byte }) count (at + 1) (option_map (going around.direction) (item_at (so_far_in f.state byte)))
 
-flow_placed_same : (bed : Bed) (f : Flow) (count at : ℕ) (event : Option Event)
-    → map but_record (put (flow_placed_with (numbered bed count) (moved f at) event) []) ≡ map but_record (put (flow_placed_with bed f event) [])
-flow_placed_same bed f count at None = refl
-flow_placed_same bed f count at (Some event) = refl
+flow_placed_same : (around : BodyContext) (f : Flow) (count at : ℕ) (event : Option Event)
+    → map but_record (put (flow_placed_with (numbered around count) (moved f at) event) []) ≡ map but_record (put (flow_placed_with around f event) [])
+flow_placed_same around f count at None = refl
+flow_placed_same around f count at (Some event) = refl
 
-flow_placed_moved : (bed : Bed) (f : Flow) (count at byte : ℕ)
-    → map but_record (put (flow_placed (numbered bed count) (moved f at) byte) []) ≡ map but_record (put (flow_placed bed f byte) [])
+flow_placed_moved : (around : BodyContext) (f : Flow) (count at byte : ℕ)
+    → map but_record (put (flow_placed (numbered around count) (moved f at) byte) []) ≡ map but_record (put (flow_placed around f byte) [])
 unfolding flow_placed flow_event
-flow_placed_moved bed f count at byte = flow_placed_same bed f count at (option_map (going bed.way) (item_at (so_far_in f.half byte)))
+flow_placed_moved around f count at byte = flow_placed_same around f count at (option_map (going around.direction) (item_at (so_far_in f.state byte)))
 
-flow_heard_moved : (bed : Bed) (f : Flow) (count at : ℕ) (bytes : List ℕ)
-    → map but_record (flow_heard (numbered bed count) (moved f at) bytes) ≡ map but_record (flow_heard bed f bytes)
-flow_heard_moved bed f count at [] = refl
-flow_heard_moved bed f count at (byte ∷ bytes) =
-    both_same (flow_heard (numbered bed count) (flow_after (numbered bed count) (moved f at) byte) bytes) (flow_heard bed (flow_after bed f byte) bytes)
-    (put (flow_placed (numbered bed count) (moved f at) byte) []) (put (flow_placed bed f byte) [])
-    (ap (λ g. map but_record (flow_heard (numbered bed count) g bytes)) (flow_after_moved bed f count at byte)
-    ∙ flow_heard_moved bed (flow_after bed f byte) count (at + 1) bytes)
-    (flow_placed_moved bed f count at byte)
+flow_heard_moved : (around : BodyContext) (f : Flow) (count at : ℕ) (bytes : List ℕ)
+    → map but_record (flow_heard (numbered around count) (moved f at) bytes) ≡ map but_record (flow_heard around f bytes)
+flow_heard_moved around f count at [] = refl
+flow_heard_moved around f count at (byte ∷ bytes) =
+    both_same (flow_heard (numbered around count) (flow_after (numbered around count) (moved f at) byte) bytes) (flow_heard around (flow_after around f byte) bytes)
+    (put (flow_placed (numbered around count) (moved f at) byte) []) (put (flow_placed around f byte) [])
+    (ap (λ g. map but_record (flow_heard (numbered around count) g bytes)) (flow_after_moved around f count at byte)
+    ∙ flow_heard_moved around (flow_after around f byte) count (at + 1) bytes)
+    (flow_placed_moved around f count at byte)
 
 -- after these bytes the flow stands at this place, where it began at that one
 abbrev place_behind : ℕ → List ℕ → ℕ
@@ -151,100 +151,100 @@ place_grows : (at : ℕ) (bytes : List ℕ) → at ≤ place_behind at bytes
 place_grows at [] = omega arith
 place_grows at (byte ∷ bytes) = let later = place_grows (at + 1) bytes in omega arith
 
-flow_behind_moved : (bed : Bed) (f : Flow) (count at : ℕ) (bytes : List ℕ)
-    → flow_behind (numbered bed count) (moved f at) bytes ≡ moved (flow_behind bed f bytes) (place_behind at bytes)
-flow_behind_moved bed f count at [] = refl
-flow_behind_moved bed f count at (byte ∷ bytes) =
-    ap (λ g. flow_behind (numbered bed count) g bytes) (flow_after_moved bed f count at byte)
-    ∙ flow_behind_moved bed (flow_after bed f byte) count (at + 1) bytes
+flow_behind_moved : (around : BodyContext) (f : Flow) (count at : ℕ) (bytes : List ℕ)
+    → flow_behind (numbered around count) (moved f at) bytes ≡ moved (flow_behind around f bytes) (place_behind at bytes)
+flow_behind_moved around f count at [] = refl
+flow_behind_moved around f count at (byte ∷ bytes) =
+    ap (λ g. flow_behind (numbered around count) g bytes) (flow_after_moved around f count at byte)
+    ∙ flow_behind_moved around (flow_after around f byte) count (at + 1) bytes
 
-flow_with_connected : (bed : Bed) (f : Flow) (event : Option Event) → (flow_with bed f event).connected ≡ f.connected
-flow_with_connected bed f None = refl
-flow_with_connected bed f (Some event) = refl
+flow_with_connected : (around : BodyContext) (f : Flow) (event : Option Event) → (flow_with around f event).connected ≡ f.connected
+flow_with_connected around f None = refl
+flow_with_connected around f (Some event) = refl
 
-flow_with_at : (bed : Bed) (f : Flow) (event : Option Event) → (flow_with bed f event).at ≡ f.at
-flow_with_at bed f None = refl
-flow_with_at bed f (Some event) = refl
+flow_with_at : (around : BodyContext) (f : Flow) (event : Option Event) → (flow_with around f event).at ≡ f.at
+flow_with_at around f None = refl
+flow_with_at around f (Some event) = refl
 
-flow_connected : (bed : Bed) (f : Flow) (bytes : List ℕ) → (flow_behind bed f bytes).connected ≡ f.connected
+flow_connected : (around : BodyContext) (f : Flow) (bytes : List ℕ) → (flow_behind around f bytes).connected ≡ f.connected
 unfolding flow_after
-flow_connected bed f [] = refl
-flow_connected bed f (byte ∷ bytes) =
-    flow_connected bed (flow_after bed f byte) bytes
-    ∙ flow_with_connected bed (record f { at = f.at + 1; half = half_after f.half byte }) (flow_event bed f byte)
+flow_connected around f [] = refl
+flow_connected around f (byte ∷ bytes) =
+    flow_connected around (flow_after around f byte) bytes
+    ∙ flow_with_connected around (record f { at = f.at + 1; state = state_after f.state byte }) (flow_event around f byte)
 
-flow_at : (bed : Bed) (f : Flow) (bytes : List ℕ) → (flow_behind bed f bytes).at ≡ place_behind f.at bytes
+flow_at : (around : BodyContext) (f : Flow) (bytes : List ℕ) → (flow_behind around f bytes).at ≡ place_behind f.at bytes
 unfolding flow_after
-flow_at bed f [] = refl
-flow_at bed f (byte ∷ bytes) =
-    flow_at bed (flow_after bed f byte) bytes
-    ∙ ap (λ n. place_behind n bytes) (flow_with_at bed (record f { at = f.at + 1; half = half_after f.half byte }) (flow_event bed f byte))
+flow_at around f [] = refl
+flow_at around f (byte ∷ bytes) =
+    flow_at around (flow_after around f byte) bytes
+    ∙ ap (λ n. place_behind n bytes) (flow_with_at around (record f { at = f.at + 1; state = state_after f.state byte }) (flow_event around f byte))
 
 -- the kind of the records that carry one direction, and the byte that names it
-abbrev way_kind : Way → RecordKind
-way_kind ways.Sent = kinds.Sent
-way_kind ways.Recv = kinds.Recv
+abbrev direction_kind : Direction → RecordKind
+direction_kind directions.Sent = kinds.Sent
+direction_kind directions.Recv = kinds.Recv
 
-abbrev way_byte : Way → ℕ
-way_byte ways.Sent = 2
-way_byte ways.Recv = 3
+abbrev direction_byte : Direction → ℕ
+direction_byte directions.Sent = 2
+direction_byte directions.Recv = 3
 
-way_opens_none : (way : Way) → opens (kind_named (way_byte way)) ≡ false
-way_opens_none ways.Sent = refl
-way_opens_none ways.Recv = refl
+direction_opens_none : (direction : Direction) → opens (kind_named (direction_byte direction)) ≡ false
+direction_opens_none directions.Sent = refl
+direction_opens_none directions.Recv = refl
 
-way_kind_opens_none : (way : Way) → opens (Some (way_kind way)) ≡ false
-way_kind_opens_none ways.Sent = refl
-way_kind_opens_none ways.Recv = refl
+direction_kind_opens_none : (direction : Direction) → opens (Some (direction_kind direction)) ≡ false
+direction_kind_opens_none directions.Sent = refl
+direction_kind_opens_none directions.Recv = refl
 
-way_head_none : (way : Way) → event_of_head (way_kind way) ≡ None
-way_head_none ways.Sent = refl
-way_head_none ways.Recv = refl
+direction_head_none : (direction : Direction) → event_of_head (direction_kind direction) ≡ None
+direction_head_none directions.Sent = refl
+direction_head_none directions.Recv = refl
 
-way_goes : (way : Way) → way_of (Some (way_kind way)) ≡ Some way
-way_goes ways.Sent = refl
-way_goes ways.Recv = refl
+direction_goes : (direction : Direction) → direction_of (Some (direction_kind direction)) ≡ Some direction
+direction_goes directions.Sent = refl
+direction_goes directions.Recv = refl
 
-way_kind_of : (way : Way) (bytes : List ℕ) → kind_of (way_byte way ∷ bytes) ≡ Some (way_kind way)
+direction_kind_of : (direction : Direction) (bytes : List ℕ) → kind_of (direction_byte direction ∷ bytes) ≡ Some (direction_kind direction)
 unfolding kind_of
-way_kind_of ways.Sent bytes = refl
-way_kind_of ways.Recv bytes = refl
+direction_kind_of directions.Sent bytes = refl
+direction_kind_of directions.Recv bytes = refl
 
 -- such a record begins count connection
-unopened : {X : Type 0} (way : Way) (bytes : List ℕ) → opens (kind_of (way_byte way ∷ bytes)) ≡ true → X
-unopened way bytes e =
-    let is : opens (kind_of (way_byte way ∷ bytes)) ≡ false = ap opens (way_kind_of way bytes) ∙ way_kind_opens_none way in
+unopened : {X : Type 0} (direction : Direction) (bytes : List ℕ) → opens (kind_of (direction_byte direction ∷ bytes)) ≡ true → X
+unopened direction bytes e =
+    let is : opens (kind_of (direction_byte direction ∷ bytes)) ≡ false = ap opens (direction_kind_of direction bytes) ∙ direction_kind_opens_none direction in
     absurd (cc)
 
 -- The head of a record that carries one direction leaves all as it is, but for the numbers and the bytes of the record so far.
-module _ (c : Context) (way : Way) (x y z w : ℕ) (h : 8 ≤ c.at) (none : c.part ≡ []) where
+module _ (c : Context) (direction : Direction) (x y z w : ℕ) (h : 8 ≤ c.at) (none : c.part ≡ []) where
   abbrev head : List ℕ
-  head = way_byte way ∷ x ∷ y ∷ z ∷ w ∷ []
+  head = direction_byte direction ∷ x ∷ y ∷ z ∷ w ∷ []
 
   abbrev begun_one : Context
-  begun_one = record c { at = c.at + 1; part = way_byte way ∷ [] }
+  begun_one = record c { at = c.at + 1; part = direction_byte direction ∷ [] }
 
   abbrev begun_four : Context
-  begun_four = record c { at = c.at + 1 + 3; part = way_byte way ∷ x ∷ y ∷ z ∷ [] }
+  begun_four = record c { at = c.at + 1 + 3; part = direction_byte direction ∷ x ∷ y ∷ z ∷ [] }
 
   abbrev headed : Bool → Context
   headed whole = record c { at = behind_head c.at; part = cond whole [] head; records = cond whole (c.records + 1) c.records }
 
-  first_is : after c (way_byte way) ≡ begun_one
+  first_is : after c (direction_byte direction) ≡ begun_one
   first_is =
-      first_after c (way_byte way) h none
-      ∙ ap (λ t. record c { at = c.at + 1; part = way_byte way ∷ []; sent = cond t emptied c.sent; recv = cond t emptied c.recv }) (way_opens_none way)
+      first_after c (direction_byte direction) h none
+      ∙ ap (λ t. record c { at = c.at + 1; part = direction_byte direction ∷ []; sent = cond t emptied c.sent; recv = cond t emptied c.recv }) (direction_opens_none direction)
 
-  four_is : behind (after c (way_byte way)) (x ∷ y ∷ z ∷ []) ≡ begun_four
-  four_is = ap (λ d. behind d (x ∷ y ∷ z ∷ [])) first_is ∙ middle_behind begun_one (way_byte way) x y z (omega arith) refl (unopened way [])
+  four_is : behind (after c (direction_byte direction)) (x ∷ y ∷ z ∷ []) ≡ begun_four
+  four_is = ap (λ d. behind d (x ∷ y ∷ z ∷ [])) first_is ∙ middle_behind begun_one (direction_byte direction) x y z (omega arith) refl (unopened direction [])
 
   five_event : event_for begun_four w ≡ None
-  five_event = fifth_event begun_four w (way_kind way) (omega arith) refl (way_kind_of way (x ∷ y ∷ z ∷ [])) ∙ way_head_none way
+  five_event = fifth_event begun_four w (direction_kind direction) (omega arith) refl (direction_kind_of direction (x ∷ y ∷ z ∷ [])) ∙ direction_head_none direction
 
   head_behind : behind c head ≡ headed (body_length head == 0)
   head_behind =
       ap (λ d. after d w) four_is
-      ∙ fifth_after begun_four w (omega arith) refl (unopened way (x ∷ y ∷ z ∷ []))
+      ∙ fifth_after begun_four w (omega arith) refl (unopened direction (x ∷ y ∷ z ∷ []))
       ∙ ap (with_heard (headed (body_length head == 0))) five_event
 
   placed_none : (d : Context) (b : ℕ) → event_for d b ≡ None → put (placed_for d b) [] ≡ []
@@ -253,87 +253,87 @@ module _ (c : Context) (way : Way) (x y z w : ℕ) (h : 8 ≤ c.at) (none : c.pa
 
   head_heard : heard_in c head ≡ []
   head_heard =
-      ap (λ t. t ++ put (placed_for c (way_byte way)) [])
-      (heard_append (after c (way_byte way)) (x ∷ y ∷ z ∷ []) (w ∷ [])
-      ∙ ap (λ d. heard_in d (w ∷ []) ++ heard_in (after c (way_byte way)) (x ∷ y ∷ z ∷ [])) four_is
-      ∙ ap (λ t. t ++ heard_in (after c (way_byte way)) (x ∷ y ∷ z ∷ [])) (placed_none begun_four w five_event)
+      ap (λ t. t ++ put (placed_for c (direction_byte direction)) [])
+      (heard_append (after c (direction_byte direction)) (x ∷ y ∷ z ∷ []) (w ∷ [])
+      ∙ ap (λ d. heard_in d (w ∷ []) ++ heard_in (after c (direction_byte direction)) (x ∷ y ∷ z ∷ [])) four_is
+      ∙ ap (λ t. t ++ heard_in (after c (direction_byte direction)) (x ∷ y ∷ z ∷ [])) (placed_none begun_four w five_event)
       ∙ ap (λ d. heard_in d (x ∷ y ∷ z ∷ [])) first_is
-      ∙ middle_heard begun_one (way_byte way) x y z (omega arith) refl (unopened way []))
-      ∙ placed_none c (way_byte way) (first_event c (way_byte way) h none)
+      ∙ middle_heard begun_one (direction_byte direction) x y z (omega arith) refl (unopened direction []))
+      ∙ placed_none c (direction_byte direction) (first_event c (direction_byte direction) h none)
 
 -- the direction after the head of a record
-abbrev entered : Context → Way → Flow
-entered c way = record (flow_in c way) { at = behind_head c.at }
+abbrev entered : Context → Direction → Flow
+entered c direction = record (flow_in c direction) { at = behind_head c.at }
 
 -- what is kept after a whole record, from what the flow keeps after its body
-abbrev whole_behind : Context → Way → Flow → Context
-whole_behind c way f = flowed c way true f []
+abbrev whole_behind : Context → Direction → Flow → Context
+whole_behind c direction f = flowed c direction true f []
 
-empty_body : (c : Context) (way : Way) (x y z w : ℕ) (h : 8 ≤ c.at) (none : c.part ≡ []) → headed c way x y z w h none true ≡ whole_behind c way (entered c way)
-empty_body c ways.Sent x y z w h none = refl
-empty_body c ways.Recv x y z w h none = refl
+empty_body : (c : Context) (direction : Direction) (x y z w : ℕ) (h : 8 ≤ c.at) (none : c.part ≡ []) → headed c direction x y z w h none true ≡ whole_behind c direction (entered c direction)
+empty_body c directions.Sent x y z w h none = refl
+empty_body c directions.Recv x y z w h none = refl
 
-entered_same : (c : Context) (way : Way) (x y z w : ℕ) (h : 8 ≤ c.at) (none : c.part ≡ []) → flow_in (headed c way x y z w h none false) way ≡ entered c way
-entered_same c ways.Sent x y z w h none = refl
-entered_same c ways.Recv x y z w h none = refl
+entered_same : (c : Context) (direction : Direction) (x y z w : ℕ) (h : 8 ≤ c.at) (none : c.part ≡ []) → flow_in (headed c direction x y z w h none false) direction ≡ entered c direction
+entered_same c directions.Sent x y z w h none = refl
+entered_same c directions.Recv x y z w h none = refl
 
 -- A whole record does what its body does in its direction.
-record_behind : (c : Context) (way : Way) (x y z w : ℕ) (body : List ℕ) → 8 ≤ c.at → c.part ≡ [] → from_be_bytes w32 (x ∷ y ∷ z ∷ w ∷ []) ≡ length body
-    → behind c (way_byte way ∷ x ∷ y ∷ z ∷ w ∷ body) ≡ whole_behind c way (flow_behind (bed_in c way) (entered c way) body)
-record_behind c way x y z w [] h none told =
-    let long : body_length (head c way x y z w h none) ≡ 0 = fifth_length (way_byte way) x y z w ∙ told in
-    head_behind c way x y z w h none
-    ∙ ap (headed c way x y z w h none) (eq-eqb (body_length (head c way x y z w h none)) 0 long)
-    ∙ empty_body c way x y z w h none
-record_behind c way x y z w (byte ∷ bytes) h none told =
-    let long : body_length (way_byte way ∷ x ∷ y ∷ z ∷ w ∷ []) ≡ length (byte ∷ bytes) = fifth_length (way_byte way) x y z w ∙ told in
-    behind_append c (head c way x y z w h none) (byte ∷ bytes)
-    ∙ ap (λ k. behind k (byte ∷ bytes)) (head_behind c way x y z w h none
-    ∙ ap (headed c way x y z w h none) (ne_eqb (body_length (head c way x y z w h none)) 0 (λ e. omega arith)))
-    ∙ lifted-behind (headed c way x y z w h none false) way (byte ∷ bytes) (omega arith) (ap way_of (way_kind_of way (x ∷ y ∷ z ∷ w ∷ [])) ∙ way_goes way) (omega arith) (omega arith) (omega arith)
-    ∙ ap (λ t. flowed (headed c way x y z w h none false) way t (flow_behind (bed_in c way) (flow_in (headed c way x y z w h none false) way) (byte ∷ bytes)) (byte ∷ bytes))
-    (eq-eqb (5 + length (byte ∷ bytes)) (5 + body_length (head c way x y z w h none)) (omega arith))
-    ∙ ap (λ f. whole_behind c way (flow_behind (bed_in c way) f (byte ∷ bytes))) (entered_same c way x y z w h none)
+record_behind : (c : Context) (direction : Direction) (x y z w : ℕ) (body : List ℕ) → 8 ≤ c.at → c.part ≡ [] → from_be_bytes w32 (x ∷ y ∷ z ∷ w ∷ []) ≡ length body
+    → behind c (direction_byte direction ∷ x ∷ y ∷ z ∷ w ∷ body) ≡ whole_behind c direction (flow_behind (context_in c direction) (entered c direction) body)
+record_behind c direction x y z w [] h none emitted =
+    let long : body_length (head c direction x y z w h none) ≡ 0 = fifth_length (direction_byte direction) x y z w ∙ emitted in
+    head_behind c direction x y z w h none
+    ∙ ap (headed c direction x y z w h none) (eq-eqb (body_length (head c direction x y z w h none)) 0 long)
+    ∙ empty_body c direction x y z w h none
+record_behind c direction x y z w (byte ∷ bytes) h none emitted =
+    let long : body_length (direction_byte direction ∷ x ∷ y ∷ z ∷ w ∷ []) ≡ length (byte ∷ bytes) = fifth_length (direction_byte direction) x y z w ∙ emitted in
+    behind_append c (head c direction x y z w h none) (byte ∷ bytes)
+    ∙ ap (λ k. behind k (byte ∷ bytes)) (head_behind c direction x y z w h none
+    ∙ ap (headed c direction x y z w h none) (ne_eqb (body_length (head c direction x y z w h none)) 0 (λ e. omega arith)))
+    ∙ lifted-behind (headed c direction x y z w h none false) direction (byte ∷ bytes) (omega arith) (ap direction_of (direction_kind_of direction (x ∷ y ∷ z ∷ w ∷ [])) ∙ direction_goes direction) (omega arith) (omega arith) (omega arith)
+    ∙ ap (λ t. flowed (headed c direction x y z w h none false) direction t (flow_behind (context_in c direction) (flow_in (headed c direction x y z w h none false) direction) (byte ∷ bytes)) (byte ∷ bytes))
+    (eq-eqb (5 + length (byte ∷ bytes)) (5 + body_length (head c direction x y z w h none)) (omega arith))
+    ∙ ap (λ f. whole_behind c direction (flow_behind (context_in c direction) f (byte ∷ bytes))) (entered_same c direction x y z w h none)
 
-record_heard : (c : Context) (way : Way) (x y z w : ℕ) (body : List ℕ) → 8 ≤ c.at → c.part ≡ [] → from_be_bytes w32 (x ∷ y ∷ z ∷ w ∷ []) ≡ length body
-    → heard_in c (way_byte way ∷ x ∷ y ∷ z ∷ w ∷ body) ≡ flow_heard (bed_in c way) (entered c way) body
-record_heard c way x y z w [] h none told = head_heard c way x y z w h none
-record_heard c way x y z w (byte ∷ bytes) h none told =
-    let long : body_length (way_byte way ∷ x ∷ y ∷ z ∷ w ∷ []) ≡ length (byte ∷ bytes) = fifth_length (way_byte way) x y z w ∙ told in
-    heard_append c (head c way x y z w h none) (byte ∷ bytes)
-    ∙ ap (λ t. heard_in (behind c (head c way x y z w h none)) (byte ∷ bytes) ++ t) (head_heard c way x y z w h none)
-    ∙ append-nil (heard_in (behind c (head c way x y z w h none)) (byte ∷ bytes))
-    ∙ ap (λ k. heard_in k (byte ∷ bytes)) (head_behind c way x y z w h none
-    ∙ ap (headed c way x y z w h none) (ne_eqb (body_length (head c way x y z w h none)) 0 (λ e. omega arith)))
-    ∙ lifted-heard (headed c way x y z w h none false) way (byte ∷ bytes) (omega arith) (ap way_of (way_kind_of way (x ∷ y ∷ z ∷ w ∷ [])) ∙ way_goes way) (omega arith) (omega arith)
-    ∙ ap (λ f. flow_heard (bed_in c way) f (byte ∷ bytes)) (entered_same c way x y z w h none)
+record_heard : (c : Context) (direction : Direction) (x y z w : ℕ) (body : List ℕ) → 8 ≤ c.at → c.part ≡ [] → from_be_bytes w32 (x ∷ y ∷ z ∷ w ∷ []) ≡ length body
+    → heard_in c (direction_byte direction ∷ x ∷ y ∷ z ∷ w ∷ body) ≡ flow_heard (context_in c direction) (entered c direction) body
+record_heard c direction x y z w [] h none emitted = head_heard c direction x y z w h none
+record_heard c direction x y z w (byte ∷ bytes) h none emitted =
+    let long : body_length (direction_byte direction ∷ x ∷ y ∷ z ∷ w ∷ []) ≡ length (byte ∷ bytes) = fifth_length (direction_byte direction) x y z w ∙ emitted in
+    heard_append c (head c direction x y z w h none) (byte ∷ bytes)
+    ∙ ap (λ t. heard_in (behind c (head c direction x y z w h none)) (byte ∷ bytes) ++ t) (head_heard c direction x y z w h none)
+    ∙ append-nil (heard_in (behind c (head c direction x y z w h none)) (byte ∷ bytes))
+    ∙ ap (λ k. heard_in k (byte ∷ bytes)) (head_behind c direction x y z w h none
+    ∙ ap (headed c direction x y z w h none) (ne_eqb (body_length (head c direction x y z w h none)) 0 (λ e. omega arith)))
+    ∙ lifted-heard (headed c direction x y z w h none false) direction (byte ∷ bytes) (omega arith) (ap direction_of (direction_kind_of direction (x ∷ y ∷ z ∷ w ∷ [])) ∙ direction_goes direction) (omega arith) (omega arith)
+    ∙ ap (λ f. flow_heard (context_in c direction) f (byte ∷ bytes)) (entered_same c direction x y z w h none)
 
 -- the same of the bytes of a record
-abbrev told_in : ℕ → ℕ → ℕ
-told_in n i = slice_index (to_be_bytes w32 n) i
+abbrev emitted_in : ℕ → ℕ → ℕ
+emitted_in n i = slice_index (to_be_bytes w32 n) i
 
-framed_behind : (c : Context) (way : Way) (body : List ℕ) → 8 ≤ c.at → c.part ≡ [] → length body < 2 ^ 32
-    → behind c (framed (way_byte way) body) ≡ whole_behind c way (flow_behind (bed_in c way) (entered c way) body)
-framed_behind c way body h none fits =
-    record_behind c way (told_in (length body) 0) (told_in (length body) 1) (told_in (length body) 2) (told_in (length body) 3) body h none (from_be_bytes-to_be_bytes_4 (length body) fits)
+framed_behind : (c : Context) (direction : Direction) (body : List ℕ) → 8 ≤ c.at → c.part ≡ [] → length body < 2 ^ 32
+    → behind c (framed (direction_byte direction) body) ≡ whole_behind c direction (flow_behind (context_in c direction) (entered c direction) body)
+framed_behind c direction body h none fits =
+    record_behind c direction (emitted_in (length body) 0) (emitted_in (length body) 1) (emitted_in (length body) 2) (emitted_in (length body) 3) body h none (from_be_bytes-to_be_bytes_4 (length body) fits)
 
-framed_heard : (c : Context) (way : Way) (body : List ℕ) → 8 ≤ c.at → c.part ≡ [] → length body < 2 ^ 32
-    → heard_in c (framed (way_byte way) body) ≡ flow_heard (bed_in c way) (entered c way) body
-framed_heard c way body h none fits =
-    record_heard c way (told_in (length body) 0) (told_in (length body) 1) (told_in (length body) 2) (told_in (length body) 3) body h none (from_be_bytes-to_be_bytes_4 (length body) fits)
+framed_heard : (c : Context) (direction : Direction) (body : List ℕ) → 8 ≤ c.at → c.part ≡ [] → length body < 2 ^ 32
+    → heard_in c (framed (direction_byte direction) body) ≡ flow_heard (context_in c direction) (entered c direction) body
+framed_heard c direction body h none fits =
+    record_heard c direction (emitted_in (length body) 0) (emitted_in (length body) 1) (emitted_in (length body) 2) (emitted_in (length body) 3) body h none (from_be_bytes-to_be_bytes_4 (length body) fits)
 
 -- A second record of the same direction goes on where the first one ended ..
-entered_again : (c : Context) (way : Way) (g : Flow) → g.connected ≡ c.connected → entered (whole_behind c way g) way ≡ moved g (behind_head g.at)
-entered_again c ways.Sent g e = ap (λ t. record g { at = behind_head g.at; connected = t }) (sym e)
-entered_again c ways.Recv g e = ap (λ t. record g { at = behind_head g.at; connected = t }) (sym e)
+entered_again : (c : Context) (direction : Direction) (g : Flow) → g.connected ≡ c.connected → entered (whole_behind c direction g) direction ≡ moved g (behind_head g.at)
+entered_again c directions.Sent g e = ap (λ t. record g { at = behind_head g.at; connected = t }) (sym e)
+entered_again c directions.Recv g e = ap (λ t. record g { at = behind_head g.at; connected = t }) (sym e)
 
 -- .. and leaves what one record of both bodies does, but for the numbers.
-behind_again : (c : Context) (way : Way) (g f : Flow) (at : ℕ) → whole_behind (whole_behind c way g) way (moved f at) ≡ counted (whole_behind c way f) at (c.records + 1 + 1)
-behind_again c ways.Sent g f at = refl
-behind_again c ways.Recv g f at = refl
+behind_again : (c : Context) (direction : Direction) (g f : Flow) (at : ℕ) → whole_behind (whole_behind c direction g) direction (moved f at) ≡ counted (whole_behind c direction f) at (c.records + 1 + 1)
+behind_again c directions.Sent g f at = refl
+behind_again c directions.Recv g f at = refl
 
 -- one record of both bodies, or two
-module _ (c : Context) (way : Way) (a b : List ℕ) (h : 8 ≤ c.at) (none : c.part ≡ []) (fits : length (a ++ b) < 2 ^ 32) where
+module _ (c : Context) (direction : Direction) (a b : List ℕ) (h : 8 ≤ c.at) (none : c.part ≡ []) (fits : length (a ++ b) < 2 ^ 32) where
   both_long : length (a ++ b) ≡ length a + length b
   both_long = length-append a b
 
@@ -343,112 +343,112 @@ module _ (c : Context) (way : Way) (a b : List ℕ) (h : 8 ≤ c.at) (none : c.p
   second_fits : length b < 2 ^ 32
   second_fits = let l = both_long in omega arith
 
-  abbrev bed : Bed
-  bed = bed_in c way
+  abbrev around : BodyContext
+  around = context_in c direction
 
   abbrev amid : Flow
-  amid = flow_behind bed (entered c way) a
+  amid = flow_behind around (entered c direction) a
 
   abbrev ended : Flow
-  ended = flow_behind bed amid b
+  ended = flow_behind around amid b
 
   amid_place : behind_head c.at ≤ amid.at
-  amid_place = let is : amid.at ≡ place_behind (behind_head c.at) a = flow_at bed (entered c way) a in let grows = place_grows (behind_head c.at) a in omega arith
+  amid_place = let is : amid.at ≡ place_behind (behind_head c.at) a = flow_at around (entered c direction) a in let grows = place_grows (behind_head c.at) a in omega arith
 
   ended_place : behind_head c.at ≤ ended.at
-  ended_place = let is : ended.at ≡ place_behind amid.at b = flow_at bed amid b in let grows = place_grows amid.at b in let start = amid_place in omega arith
+  ended_place = let is : ended.at ≡ place_behind amid.at b = flow_at around amid b in let grows = place_grows amid.at b in let start = amid_place in omega arith
 
   abbrev end_place : ℕ
   end_place = place_behind (behind_head amid.at) b
 
-  entered_amid : entered (whole_behind c way amid) way ≡ moved amid (behind_head amid.at)
-  entered_amid = entered_again c way amid (flow_connected bed (entered c way) a)
+  entered_amid : entered (whole_behind c direction amid) direction ≡ moved amid (behind_head amid.at)
+  entered_amid = entered_again c direction amid (flow_connected around (entered c direction) a)
 
-  one_behind : behind c (framed (way_byte way) (a ++ b)) ≡ whole_behind c way ended
-  one_behind = framed_behind c way (a ++ b) h none fits ∙ ap (whole_behind c way) (behind-append bed (entered c way) a b)
+  one_behind : behind c (framed (direction_byte direction) (a ++ b)) ≡ whole_behind c direction ended
+  one_behind = framed_behind c direction (a ++ b) h none fits ∙ ap (whole_behind c direction) (behind-append around (entered c direction) a b)
 
-  first_behind : behind c (framed (way_byte way) a) ≡ whole_behind c way amid
-  first_behind = framed_behind c way a h none first_fits
+  first_behind : behind c (framed (direction_byte direction) a) ≡ whole_behind c direction amid
+  first_behind = framed_behind c direction a h none first_fits
 
-  amid_at : 8 ≤ (whole_behind c way amid).at
+  amid_at : 8 ≤ (whole_behind c direction amid).at
   amid_at = let start = amid_place in omega arith
 
-  second_behind : behind (whole_behind c way amid) (framed (way_byte way) b) ≡ counted (whole_behind c way ended) end_place (c.records + 1 + 1)
+  second_behind : behind (whole_behind c direction amid) (framed (direction_byte direction) b) ≡ counted (whole_behind c direction ended) end_place (c.records + 1 + 1)
   second_behind =
-      framed_behind (whole_behind c way amid) way b amid_at refl second_fits
-      ∙ ap (λ f. whole_behind (whole_behind c way amid) way (flow_behind (numbered bed (c.records + 1 + 1)) f b)) entered_amid
-      ∙ ap (whole_behind (whole_behind c way amid) way) (flow_behind_moved bed amid (c.records + 1 + 1) (behind_head amid.at) b)
-      ∙ behind_again c way amid ended end_place
+      framed_behind (whole_behind c direction amid) direction b amid_at refl second_fits
+      ∙ ap (λ f. whole_behind (whole_behind c direction amid) direction (flow_behind (numbered around (c.records + 1 + 1)) f b)) entered_amid
+      ∙ ap (whole_behind (whole_behind c direction amid) direction) (flow_behind_moved around amid (c.records + 1 + 1) (behind_head amid.at) b)
+      ∙ behind_again c direction amid ended end_place
 
-  second_heard : map but_record (heard_in (whole_behind c way amid) (framed (way_byte way) b)) ≡ map but_record (flow_heard bed amid b)
+  second_heard : map but_record (heard_in (whole_behind c direction amid) (framed (direction_byte direction) b)) ≡ map but_record (flow_heard around amid b)
   second_heard =
-      ap (map but_record) (framed_heard (whole_behind c way amid) way b amid_at refl second_fits
-      ∙ ap (λ f. flow_heard (numbered bed (c.records + 1 + 1)) f b) entered_amid)
-      ∙ flow_heard_moved bed amid (c.records + 1 + 1) (behind_head amid.at) b
+      ap (map but_record) (framed_heard (whole_behind c direction amid) direction b amid_at refl second_fits
+      ∙ ap (λ f. flow_heard (numbered around (c.records + 1 + 1)) f b) entered_amid)
+      ∙ flow_heard_moved around amid (c.records + 1 + 1) (behind_head amid.at) b
 
-  one_heard : heard_in c (framed (way_byte way) (a ++ b)) ≡ flow_heard bed amid b ++ flow_heard bed (entered c way) a
-  one_heard = framed_heard c way (a ++ b) h none fits ∙ heard-append bed (entered c way) a b
+  one_heard : heard_in c (framed (direction_byte direction) (a ++ b)) ≡ flow_heard around amid b ++ flow_heard around (entered c direction) a
+  one_heard = framed_heard c direction (a ++ b) h none fits ∙ heard-append around (entered c direction) a b
 
-  two_heard : (later : List ℕ) → heard_in c (framed (way_byte way) a ++ (framed (way_byte way) b ++ later))
-      ≡ (heard_in (counted (whole_behind c way ended) end_place (c.records + 1 + 1)) later ++ heard_in (whole_behind c way amid) (framed (way_byte way) b)) ++ flow_heard bed (entered c way) a
+  two_heard : (later : List ℕ) → heard_in c (framed (direction_byte direction) a ++ (framed (direction_byte direction) b ++ later))
+      ≡ (heard_in (counted (whole_behind c direction ended) end_place (c.records + 1 + 1)) later ++ heard_in (whole_behind c direction amid) (framed (direction_byte direction) b)) ++ flow_heard around (entered c direction) a
   two_heard later =
-      heard_append c (framed (way_byte way) a) (framed (way_byte way) b ++ later)
-      ∙ ap (λ d. heard_in d (framed (way_byte way) b ++ later) ++ heard_in c (framed (way_byte way) a)) first_behind
-      ∙ ap (λ t. t ++ heard_in c (framed (way_byte way) a)) (heard_append (whole_behind c way amid) (framed (way_byte way) b) later
-      ∙ ap (λ d. heard_in d later ++ heard_in (whole_behind c way amid) (framed (way_byte way) b)) second_behind)
-      ∙ ap (λ t. (heard_in (counted (whole_behind c way ended) end_place (c.records + 1 + 1)) later ++ heard_in (whole_behind c way amid) (framed (way_byte way) b)) ++ t)
-      (framed_heard c way a h none first_fits)
+      heard_append c (framed (direction_byte direction) a) (framed (direction_byte direction) b ++ later)
+      ∙ ap (λ d. heard_in d (framed (direction_byte direction) b ++ later) ++ heard_in c (framed (direction_byte direction) a)) first_behind
+      ∙ ap (λ t. t ++ heard_in c (framed (direction_byte direction) a)) (heard_append (whole_behind c direction amid) (framed (direction_byte direction) b) later
+      ∙ ap (λ d. heard_in d later ++ heard_in (whole_behind c direction amid) (framed (direction_byte direction) b)) second_behind)
+      ∙ ap (λ t. (heard_in (counted (whole_behind c direction ended) end_place (c.records + 1 + 1)) later ++ heard_in (whole_behind c direction amid) (framed (direction_byte direction) b)) ++ t)
+      (framed_heard c direction a h none first_fits)
 
-  whole_heard : (later : List ℕ) → heard_in c (framed (way_byte way) (a ++ b) ++ later)
-      ≡ (heard_in (whole_behind c way ended) later ++ flow_heard bed amid b) ++ flow_heard bed (entered c way) a
+  whole_heard : (later : List ℕ) → heard_in c (framed (direction_byte direction) (a ++ b) ++ later)
+      ≡ (heard_in (whole_behind c direction ended) later ++ flow_heard around amid b) ++ flow_heard around (entered c direction) a
   whole_heard later =
-      heard_append c (framed (way_byte way) (a ++ b)) later
-      ∙ ap (λ d. heard_in d later ++ heard_in c (framed (way_byte way) (a ++ b))) one_behind
-      ∙ ap (λ t. heard_in (whole_behind c way ended) later ++ t) one_heard
-      ∙ sym (append_assoc (heard_in (whole_behind c way ended) later) (flow_heard bed amid b) (flow_heard bed (entered c way) a))
+      heard_append c (framed (direction_byte direction) (a ++ b)) later
+      ∙ ap (λ d. heard_in d later ++ heard_in c (framed (direction_byte direction) (a ++ b))) one_behind
+      ∙ ap (λ t. heard_in (whole_behind c direction ended) later ++ t) one_heard
+      ∙ sym (append_assoc (heard_in (whole_behind c direction ended) later) (flow_heard around amid b) (flow_heard around (entered c direction) a))
 
   -- What is received of both is the same but for the numbers of the records.
-  split_heard : (later : List ℕ) → map but_record (heard_in c (framed (way_byte way) (a ++ b) ++ later))
-      ≡ map but_record (heard_in c (framed (way_byte way) a ++ (framed (way_byte way) b ++ later)))
+  split_heard : (later : List ℕ) → map but_record (heard_in c (framed (direction_byte direction) (a ++ b) ++ later))
+      ≡ map but_record (heard_in c (framed (direction_byte direction) a ++ (framed (direction_byte direction) b ++ later)))
   split_heard later =
       let far = ended_place in
       let start = amid_place in
       let grows = place_grows (behind_head amid.at) b in
       ap (map but_record) (whole_heard later)
-      ∙ both_same (heard_in (whole_behind c way ended) later ++ flow_heard bed amid b)
-      (heard_in (counted (whole_behind c way ended) end_place (c.records + 1 + 1)) later ++ heard_in (whole_behind c way amid) (framed (way_byte way) b))
-      (flow_heard bed (entered c way) a) (flow_heard bed (entered c way) a)
-      (both_same (heard_in (whole_behind c way ended) later) (heard_in (counted (whole_behind c way ended) end_place (c.records + 1 + 1)) later)
-      (flow_heard bed amid b) (heard_in (whole_behind c way amid) (framed (way_byte way) b))
-      (sym (heard_counted (whole_behind c way ended) end_place (c.records + 1 + 1) later (omega arith) (omega arith)))
+      ∙ both_same (heard_in (whole_behind c direction ended) later ++ flow_heard around amid b)
+      (heard_in (counted (whole_behind c direction ended) end_place (c.records + 1 + 1)) later ++ heard_in (whole_behind c direction amid) (framed (direction_byte direction) b))
+      (flow_heard around (entered c direction) a) (flow_heard around (entered c direction) a)
+      (both_same (heard_in (whole_behind c direction ended) later) (heard_in (counted (whole_behind c direction ended) end_place (c.records + 1 + 1)) later)
+      (flow_heard around amid b) (heard_in (whole_behind c direction amid) (framed (direction_byte direction) b))
+      (sym (heard_counted (whole_behind c direction ended) end_place (c.records + 1 + 1) later (omega arith) (omega arith)))
       (sym second_heard))
       refl
       ∙ ap (map but_record) (sym (two_heard later))
 
 -- Splitting such a record, after a log of whole records, changes the events in the numbers of their records alone.
-split_behind : (way : Way) (before later a b : List ℕ) → 8 ≤ length before → (records before).rest ≡ [] → length (a ++ b) < 2 ^ 32
-    → map but_record (events (before ++ (framed (way_byte way) (a ++ b) ++ later))) ≡ map but_record (events (before ++ (framed (way_byte way) a ++ (framed (way_byte way) b ++ later))))
-split_behind way before later a b long whole fits =
+split_behind : (direction : Direction) (before later a b : List ℕ) → 8 ≤ length before → (records before).rest ≡ [] → length (a ++ b) < 2 ^ 32
+    → map but_record (events (before ++ (framed (direction_byte direction) (a ++ b) ++ later))) ≡ map but_record (events (before ++ (framed (direction_byte direction) a ++ (framed (direction_byte direction) b ++ later))))
+split_behind direction before later a b long whole fits =
     let at : (context before).at ≡ length before = at_context before in
-    ap (map but_record) (events_run before (framed (way_byte way) (a ++ b) ++ later))
-    ∙ both_same (heard_in (context before) (framed (way_byte way) (a ++ b) ++ later)) (heard_in (context before) (framed (way_byte way) a ++ (framed (way_byte way) b ++ later)))
+    ap (map but_record) (events_run before (framed (direction_byte direction) (a ++ b) ++ later))
+    ∙ both_same (heard_in (context before) (framed (direction_byte direction) (a ++ b) ++ later)) (heard_in (context before) (framed (direction_byte direction) a ++ (framed (direction_byte direction) b ++ later)))
     (events before) (events before)
-    (split_heard (context before) way a b (omega arith) (part_context before ∙ whole) fits later)
+    (split_heard (context before) direction a b (omega arith) (part_context before ∙ whole) fits later)
     refl
-    ∙ ap (map but_record) (sym (events_run before (framed (way_byte way) a ++ (framed (way_byte way) b ++ later))))
+    ∙ ap (map but_record) (sym (events_run before (framed (direction_byte direction) a ++ (framed (direction_byte direction) b ++ later))))
 
-split_events : (way : Way) (before later a b : List ℕ) → 8 ≤ length before → (records before).rest ≡ [] → length (a ++ b) < 2 ^ 32
-    → map but_record (events (before ++ framed (way_byte way) (a ++ b) ++ later)) ≡ map but_record (events (before ++ framed (way_byte way) a ++ framed (way_byte way) b ++ later))
-split_events way before later a b long whole fits =
-    ap (λ log. map but_record (events log)) (append_assoc before (framed (way_byte way) (a ++ b)) later)
-    ∙ split_behind way before later a b long whole fits
-    ∙ ap (λ log. map but_record (events log)) (sym (append_assoc (before ++ framed (way_byte way) a) (framed (way_byte way) b) later
-    ∙ append_assoc before (framed (way_byte way) a) (framed (way_byte way) b ++ later)))
+split_events : (direction : Direction) (before later a b : List ℕ) → 8 ≤ length before → (records before).rest ≡ [] → length (a ++ b) < 2 ^ 32
+    → map but_record (events (before ++ framed (direction_byte direction) (a ++ b) ++ later)) ≡ map but_record (events (before ++ framed (direction_byte direction) a ++ framed (direction_byte direction) b ++ later))
+split_events direction before later a b long whole fits =
+    ap (λ log. map but_record (events log)) (append_assoc before (framed (direction_byte direction) (a ++ b)) later)
+    ∙ split_behind direction before later a b long whole fits
+    ∙ ap (λ log. map but_record (events log)) (sym (append_assoc (before ++ framed (direction_byte direction) a) (framed (direction_byte direction) b) later
+    ∙ append_assoc before (framed (direction_byte direction) a) (framed (direction_byte direction) b ++ later)))
 
 pub split_sent : (before later a b : List ℕ) → 8 ≤ length before → (records before).rest ≡ [] → length (a ++ b) < 2 ^ 32
     → map but_record (events (before ++ record_bytes (sent_record (a ++ b)) ++ later)) ≡ map but_record (events (before ++ record_bytes (sent_record a) ++ record_bytes (sent_record b) ++ later))
-split_sent before later a b long whole fits = split_events ways.Sent before later a b long whole fits
+split_sent before later a b long whole fits = split_events directions.Sent before later a b long whole fits
 
 pub split_received : (before later a b : List ℕ) → 8 ≤ length before → (records before).rest ≡ [] → length (a ++ b) < 2 ^ 32
     → map but_record (events (before ++ record_bytes (received_record (a ++ b)) ++ later)) ≡ map but_record (events (before ++ record_bytes (received_record a) ++ record_bytes (received_record b) ++ later))
-split_received before later a b long whole fits = split_events ways.Recv before later a b long whole fits
+split_received before later a b long whole fits = split_events directions.Recv before later a b long whole fits

@@ -13,12 +13,12 @@ use Rattle.mq_trace.specs.declared.reading.Reading.{Reading}
 use Rattle.mq_trace.specs.Framing.{kind_named, kind_of, opens}
 use Rattle.mq_trace.specs.Events.{Placed}
 use Rattle.mq_trace.specs.Refusals.{header_refusal, first_standing, is_open_kind, needs_connection, is_release_kind}
-use Rattle.mq_trace.specs.Context.{Half, Context, emptied, so_far_for, refusal_for, placed_for, put, after}
+use Rattle.mq_trace.specs.Context.{StreamState, Context, emptied, so_far_for, refusal_for, placed_for, put, after}
 use Rattle.mq_trace.specs.Runs.{behind, refused_in, heard_in}
-use Rattle.mq_trace.specs.Telling.{Untold, RefusedBySink}
-use Rattle.mq_trace.specs.Directing.{FlowWhy}
-use Rattle.mq_trace.specs.Keeping.{half_in, spelled_from, IsAt, context_of, begun_in, IsWithin, IsUnfinished, IsSound, Advances, StepStops}
-use Rattle.mq_trace.specs.Stepping.{behind_header, met_by_kind, refused_first, BeginsRecord, in_head}
+use Rattle.mq_trace.specs.Emission.{NotEmitted, RefusedBySink}
+use Rattle.mq_trace.specs.Deframing.{FlowWhy}
+use Rattle.mq_trace.specs.Keeping.{state_in, spelled_from, IsAt, context_of, begun_in, IsWithin, IsUnfinished, IsSound, Advances, StepStops}
+use Rattle.mq_trace.specs.Stepping.{behind_header, kind_refusal, refused_first, BeginsRecord, in_head}
 use Rattle.mq_trace.proofs.StepLaws.{header_refused, header_after, header_placed, first_refusal, first_event, first_after, middle_refusal, middle_event, middle_after, placed_none}
 use Rattle.mq_trace.proofs.FramingLaws.{kind_of-append}
 use Rattle.mq_trace.proofs.ReadingLaws.{advanced}
@@ -48,30 +48,30 @@ stops_refused declines r b sink refusal each = record {
 }
 
 -- One byte that completes an event that isn't told.
-pub stops_untold : {S : Type 0} (declines : S → S → List Placed → Refusal → Type 0) (r : Reading) (b : ℕ) (met : Option Refusal) (e : Placed) (old new : S) (refusal : Refusal)
+pub stops_unemitted : {S : Type 0} (declines : S → S → List Placed → Refusal → Type 0) (r : Reading) (b : ℕ) (met : Option Refusal) (e : Placed) (old new : S) (refusal : Refusal)
     → ((part : List ℕ) → IsAt r.stage part → (refusal_for r.limit (context_of r part) b ≡ met) × (placed_for (context_of r part) b ≡ Some e))
-    → Untold declines r.at met (e ∷ []) old new refusal → StepStops declines r (b ∷ []) old new refusal
-stops_untold {S} declines r b met e old new refusal each untold = record {
+    → NotEmitted declines r.at met (e ∷ []) old new refusal → StepStops declines r (b ∷ []) old new refusal
+stops_unemitted {S} declines r b met e old new refusal each unemitted = record {
   taken = [];
   byte = b;
   later = [];
   is = refl;
-  each = λ part at. (refl, refl, why part at untold);
+  each = λ part at. (refl, refl, why part at unemitted);
 }
   where
     place : r.at ≡ r.at + 0
     place = omega arith
 
-    why : (part : List ℕ) → IsAt r.stage part → Untold declines r.at met (e ∷ []) old new refusal
+    why : (part : List ℕ) → IsAt r.stage part → NotEmitted declines r.at met (e ∷ []) old new refusal
         → FlowWhy declines r.limit (r.at + length {A = ℕ} []) (so_far_for (context_of r part) b) (refused_in r.limit (context_of r part) (b ∷ [])) (heard_in (context_of r part) (b ∷ [])) old new refusal
-    why part at (inl told) = let f = each part at in inl (ap (λ o. option_or o None) (f.0 ∙ told.0), told.1)
-    why part at (inr told) =
+    why part at (inl emitted) = let f = each part at in inl (ap (λ o. option_or o None) (f.0 ∙ emitted.0), emitted.1)
+    why part at (inr emitted) =
         let f = each part at in
         inr (inr (
-          ap (λ o. option_or o None) (f.0 ∙ told.0),
+          ap (λ o. option_or o None) (f.0 ∙ emitted.0),
           ap (λ o. length (put o [])) f.1,
           subst (λ n. RefusedBySink declines n (put (placed_for (context_of r part) b) []) old new refusal) place
-              (subst (λ o. RefusedBySink declines r.at (put o []) old new refusal) (sym f.1) told.1),
+              (subst (λ o. RefusedBySink declines r.at (put o []) old new refusal) (sym f.1) emitted.1),
         ))
 
 -- A byte of the log's header.
@@ -107,7 +107,7 @@ header_sound r b sound short =
 
 -- A record's first byte.
 named_refusal : (r : Reading) (part : List ℕ) (b : ℕ) (kind : RecordKind) → 8 ≤ r.at → part ≡ [] → kind_named b ≡ Some kind
-    → refusal_for r.limit (context_of r part) b ≡ met_by_kind r kind
+    → refusal_for r.limit (context_of r part) b ≡ kind_refusal r kind
 named_refusal r part b kind behind none named =
     first_refusal r.limit (context_of r part) b behind none
     ∙ ap (λ k. first_standing (
@@ -131,7 +131,7 @@ unnamed_refused r b behind between unnamed part at =
     ∷ (nat_lt 4294967295 (r.records + 1), refusals.TooLong r.at)
     ∷ [])) unnamed
 
-pub named_refused : (r : Reading) (b : ℕ) (kind : RecordKind) (refusal : Refusal) → 8 ≤ r.at → r.stage ≡ stages.Between → kind_named b ≡ Some kind → met_by_kind r kind ≡ Some refusal
+pub named_refused : (r : Reading) (b : ℕ) (kind : RecordKind) (refusal : Refusal) → 8 ≤ r.at → r.stage ≡ stages.Between → kind_named b ≡ Some kind → kind_refusal r kind ≡ Some refusal
     → (part : List ℕ) → IsAt r.stage part → refusal_for r.limit (context_of r part) b ≡ Some refusal
 named_refused r b kind refusal behind between named met part at =
     named_refusal r part b kind behind (subst (λ s. IsAt s part) between at) named ∙ met
@@ -144,13 +144,13 @@ first_refused r b (Some kind) refusal behind between named met part at = named_r
 
 -- the reader after a record's first byte, apart from where its directions' bytes lie
 begun_context : (r r' : Reading) (b : ℕ) (kind : RecordKind) → kind_named b ≡ Some kind → BeginsRecord r r' kind
-    → record (context_of r []) { at = r.at + 1; part = b ∷ []; sent = cond (opens (kind_named b)) emptied (half_in r.sent); recv = cond (opens (kind_named b)) emptied (half_in r.recv) } ≡ context_of r' (b ∷ [])
+    → record (context_of r []) { at = r.at + 1; part = b ∷ []; sent = cond (opens (kind_named b)) emptied (state_in r.sent); recv = cond (opens (kind_named b)) emptied (state_in r.recv) } ≡ context_of r' (b ∷ [])
 begun_context r r' b kind named begins =
     let c : Context = record (context_of r (b ∷ [])) { at = r.at + 1 } in
-    ap (λ k. record c { sent = cond (opens k) emptied (half_in r.sent); recv = cond (opens k) emptied (half_in r.recv) }) named
-    ∙ ap (λ half. record c { sent = half; recv = cond (opens (Some kind)) emptied (half_in r.recv) }) (sym begins.sent)
-    ∙ ap (λ half. record c { sent = half_in r'.sent; recv = half }) (sym begins.recv)
-    ∙ sym (ap (λ (x : Reading). record (context_of x (b ∷ [])) { sent = half_in r'.sent; recv = half_in r'.recv }) begins.is)
+    ap (λ k. record c { sent = cond (opens k) emptied (state_in r.sent); recv = cond (opens k) emptied (state_in r.recv) }) named
+    ∙ ap (λ state. record c { sent = state; recv = cond (opens (Some kind)) emptied (state_in r.recv) }) (sym begins.sent)
+    ∙ ap (λ state. record c { sent = state_in r'.sent; recv = state }) (sym begins.recv)
+    ∙ sym (ap (λ (x : Reading). record (context_of x (b ∷ [])) { sent = state_in r'.sent; recv = state_in r'.recv }) begins.is)
 
 pub begins_at : (r r' : Reading) (kind : RecordKind) → BeginsRecord r r' kind → r'.at ≡ r.at + 1
 begins_at r r' kind begins = ap (λ (x : Reading). x.at) begins.is
@@ -159,7 +159,7 @@ kind_first : (b : ℕ) → kind_of (b ∷ []) ≡ kind_named b
 unfolding kind_of
 kind_first b = refl
 
-pub first_advances : (r r' : Reading) (b : ℕ) (kind : RecordKind) → 8 ≤ r.at → r.stage ≡ stages.Between → kind_named b ≡ Some kind → met_by_kind r kind ≡ None → BeginsRecord r r' kind
+pub first_advances : (r r' : Reading) (b : ℕ) (kind : RecordKind) → 8 ≤ r.at → r.stage ≡ stages.Between → kind_named b ≡ Some kind → kind_refusal r kind ≡ None → BeginsRecord r r' kind
     → Advances r r' (b ∷ []) []
 first_advances r r' b kind behind between named met begins = one_step r r' b [] (ap (λ (x : Reading). x.limit) begins.is) (λ part at. (
     let c = context_of r part in
@@ -176,15 +176,15 @@ nothing_unfinished : (limit : ℕ) → IsUnfinished limit (record { unfinished =
 unfolding fixed_header_of
 nothing_unfinished limit = (omega arith, λ e. refl)
 
-within_limit : (limit : ℕ) (opening : Bool) (half half' : Half) → IsUnfinished limit half → half' ≡ cond opening emptied half → IsUnfinished limit half'
-within_limit limit opening half half' unfinished is = subst (IsUnfinished limit) (sym is) (either opening)
+within_limit : (limit : ℕ) (opening : Bool) (state state' : StreamState) → IsUnfinished limit state → state' ≡ cond opening emptied state → IsUnfinished limit state'
+within_limit limit opening state state' unfinished is = subst (IsUnfinished limit) (sym is) (either opening)
   where
-    either : (opening : Bool) → IsUnfinished limit (cond opening emptied half)
+    either : (opening : Bool) → IsUnfinished limit (cond opening emptied state)
     either true = nothing_unfinished limit
     either false = unfinished
 
-no_others : (kind : RecordKind) (m : Half) (half half' : Half) (count number : ℕ) → stages.Head kind 0 0 ≡ stages.Head kinds.Open count number → half' ≡ cond (opens (Some kind)) m half → half' ≡ m
-no_others kind m half half' count number e is = is ∙ ap (λ k. cond (opens (Some k)) m half) (let same : kind ≡ kinds.Open = cc in same)
+no_others : (kind : RecordKind) (m : StreamState) (state state' : StreamState) (count number : ℕ) → stages.Head kind 0 0 ≡ stages.Head kinds.Open count number → state' ≡ cond (opens (Some kind)) m state → state' ≡ m
+no_others kind m state state' count number e is = is ∙ ap (λ k. cond (opens (Some k)) m state) (let same : kind ≡ kinds.Open = cc in same)
 
 pub first_sound : (r r' : Reading) (kind : RecordKind) → IsSound r → 8 ≤ r.at → r.stage ≡ stages.Between → r.records < 4294967295 → BeginsRecord r r' kind → IsSound r'
 first_sound r r' kind sound behind between room begins =
@@ -201,11 +201,11 @@ first_sound r r' kind sound behind between room begins =
       behind_header = λ some. omega arith;
       header_first = λ less. absurd (omega arith);
       emptied = λ count number is. (
-        no_others kind emptied (half_in r.sent) (half_in r'.sent) count number (sym staged ∙ is) begins.sent,
-        no_others kind emptied (half_in r.recv) (half_in r'.recv) count number (sym staged ∙ is) begins.recv,
+        no_others kind emptied (state_in r.sent) (state_in r'.sent) count number (sym staged ∙ is) begins.sent,
+        no_others kind emptied (state_in r.recv) (state_in r'.recv) count number (sym staged ∙ is) begins.recv,
       );
-      sent = subst (λ limit. IsUnfinished limit (half_in r'.sent)) (sym limited) (within_limit r.limit (opens (Some kind)) (half_in r.sent) (half_in r'.sent) sound.sent begins.sent);
-      recv = subst (λ limit. IsUnfinished limit (half_in r'.recv)) (sym limited) (within_limit r.limit (opens (Some kind)) (half_in r.recv) (half_in r'.recv) sound.recv begins.recv);
+      sent = subst (λ limit. IsUnfinished limit (state_in r'.sent)) (sym limited) (within_limit r.limit (opens (Some kind)) (state_in r.sent) (state_in r'.sent) sound.sent begins.sent);
+      recv = subst (λ limit. IsUnfinished limit (state_in r'.recv)) (sym limited) (within_limit r.limit (opens (Some kind)) (state_in r.recv) (state_in r'.recv) sound.recv begins.recv);
     }
 
 -- The bytes of a record's length.
@@ -235,7 +235,7 @@ module _ (r : Reading) (kind : RecordKind) (count number : ℕ) (sound : IsSound
   pub head_bounds : IsWithin (stages.Head kind count number)
   head_bounds = subst IsWithin staged sound.within
 
-  pub head_opening : kind ≡ kinds.Open → (half_in r.sent ≡ emptied) × (half_in r.recv ≡ emptied)
+  pub head_opening : kind ≡ kinds.Open → (state_in r.sent ≡ emptied) × (state_in r.recv ≡ emptied)
   head_opening is = sound.emptied count number (staged ∙ ap (λ k. stages.Head k count number) is)
 
   pub head_is : (part : List ℕ) → IsAt r.stage part → IsAt (stages.Head kind count number) part
@@ -244,7 +244,7 @@ module _ (r : Reading) (kind : RecordKind) (count number : ℕ) (sound : IsSound
   pub head_long : (part : List ℕ) → IsAt r.stage part → length part ≡ 1 + count
   head_long part at = let h = head_is part at in let l : length part ≡ length (h.0 ∷ h.1) = ap length h.2 in let n : length h.1 ≡ count = h.4 in omega arith
 
-  pub head_opens : (part : List ℕ) → IsAt r.stage part → opens (kind_of part) ≡ true → (half_in r.sent ≡ emptied) × (half_in r.recv ≡ emptied)
+  pub head_opens : (part : List ℕ) → IsAt r.stage part → opens (kind_of part) ≡ true → (state_in r.sent ≡ emptied) × (state_in r.recv ≡ emptied)
   head_opens part at e = head_opening (opening_of kind (ap opens (sym (head_is part at).3) ∙ e))
 
   pub head_longer : (part : List ℕ) (b : ℕ) → IsAt r.stage part → IsAt (stages.Head kind (count + 1) (number * 256 + b)) (part ++ b ∷ [])

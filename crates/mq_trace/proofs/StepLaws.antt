@@ -8,13 +8,13 @@ use Rattle.std.specs.Option.{option_or}
 use Rattle.mq_packet.specs.Stream.{fixed_header_of, frame_size, is_lost}
 use Rattle.mq_trace.specs.declared.kind.RecordKind.{RecordKind}
 use Rattle.mq_trace.specs.declared.kind.RecordKind.TheVariants as kinds
-use Rattle.mq_trace.specs.declared.kind.Way.TheVariants as ways
+use Rattle.mq_trace.specs.declared.kind.Direction.TheVariants as directions
 use Rattle.mq_trace.specs.declared.refusal.Refusal.{Refusal}
 use Rattle.mq_trace.specs.declared.refusal.Refusal.TheVariants as refusals
-use Rattle.mq_trace.specs.Framing.{kind_named, kind_of, body_length, record_size, opens, way_of}
+use Rattle.mq_trace.specs.Framing.{kind_named, kind_of, body_length, record_size, opens, direction_of}
 use Rattle.mq_trace.specs.Events.{Event, opened, closed, rested, released, sent, received, item_at, event_by, event_in, event_of_head}
 use Rattle.mq_trace.specs.Refusals.{Situation, header_refusal, record_refusal, first_standing, is_early, allows_length, is_open_kind, is_release_kind, needs_connection}
-use Rattle.mq_trace.specs.Context.{Half, Context, emptied, so_far_by, so_far_for, situated, refusal_for, event_for, placed_with, placed_for, half_by, half_then, with_heard, after_header, after_part, after, put}
+use Rattle.mq_trace.specs.Context.{StreamState, Context, emptied, so_far_by, so_far_for, situated, refusal_for, event_for, placed_with, placed_for, state_by, state_then, with_heard, after_header, after_part, after, put}
 use Rattle.mq_trace.specs.Runs.{behind, refused_in, heard_in}
 use Rattle.mq_trace.proofs.FramingLaws.{body_length-append, kind_of-append}
 
@@ -50,7 +50,7 @@ situation_with c part = record {
   so_far = [];
   events = c.events;
   connected = c.connected;
-  answered = c.answered;
+  connack_seen = c.connack_seen;
 }
 
 -- the refusal lines of such a byte, all tests told
@@ -65,12 +65,12 @@ lines_with c part first ends kind event long =
     ∷ (long, refusals.TooLong c.at)
     ∷ []
 
-lines_told : (limit : ℕ) (c : Context) (part : List ℕ) (first ends : Bool) (kind : Option RecordKind) (event : Option Event) (long : Bool)
+lines_emitted : (limit : ℕ) (c : Context) (part : List ℕ) (first ends : Bool) (kind : Option RecordKind) (event : Option Event) (long : Bool)
     → (length part == 1) ≡ first → (length part == 5) ≡ ends → kind_of part ≡ kind → event_in part [] ≡ event
     → ((first && nat_lt 4294967295 (c.records + 1)) || (is_some event && nat_le 4294967295 c.events)) ≡ long
     → record_refusal limit (situation_with c part) ≡ first_standing (lines_with c part first ends kind event long)
 unfolding record_refusal frame_size fixed_header_of
-lines_told limit c part first ends kind event long f e k v l =
+lines_emitted limit c part first ends kind event long f e k v l =
     let lines = lines_with c part in
     let no = nat_lt 4294967295 (c.records + 1) in
     let full = nat_le 4294967295 c.events in
@@ -91,7 +91,7 @@ situated_with c b part is none =
       so_far = so_far_for c b;
       events = c.events;
       connected = c.connected;
-      answered = c.answered;
+      connack_seen = c.connack_seen;
     }) is
     ∙ ap (λ bytes. record {
       at = c.at;
@@ -101,7 +101,7 @@ situated_with c b part is none =
       so_far = bytes;
       events = c.events;
       connected = c.connected;
-      answered = c.answered;
+      connack_seen = c.connack_seen;
     }) none
 
 refusal_with : (limit : ℕ) (c : Context) (b : ℕ) (part : List ℕ) → 8 ≤ c.at → c.part ++ b ∷ [] ≡ part → so_far_for c b ≡ [] → refusal_for limit c b ≡ record_refusal limit (situation_with c part)
@@ -118,7 +118,7 @@ event_with c b part h is none =
     ∙ ap (event_in part) none
 
 -- what is kept after a byte of a record, its tests told
-abbrev settled_with : Context → List ℕ → (whole : Bool) → Half → Half → Context
+abbrev settled_with : Context → List ℕ → (whole : Bool) → StreamState → StreamState → Context
 settled_with c part whole s r = record c {
   at = c.at + 1;
   part = cond whole [] part;
@@ -127,17 +127,17 @@ settled_with c part whole s r = record c {
   recv = r;
 }
 
-after_with : (c : Context) (b : ℕ) (part : List ℕ) (whole : Bool) (s r : Half) (event : Option Event) → 8 ≤ c.at → c.part ++ b ∷ [] ≡ part
-    → is_some (record_size part) ≡ whole → half_then ways.Sent c.sent part b ≡ s → half_then ways.Recv c.recv part b ≡ r → event_for c b ≡ event
+after_with : (c : Context) (b : ℕ) (part : List ℕ) (whole : Bool) (s r : StreamState) (event : Option Event) → 8 ≤ c.at → c.part ++ b ∷ [] ≡ part
+    → is_some (record_size part) ≡ whole → state_then directions.Sent c.sent part b ≡ s → state_then directions.Recv c.recv part b ≡ r → event_for c b ≡ event
     → after c b ≡ with_heard (settled_with c part whole s r) event
 unfolding after
 after_with c b part whole s r event h is w sent_is recv_is heard =
     let kept = settled_with c part in
     ap (λ t. if t then after_header c b else with_heard (after_part c (c.part ++ b ∷ []) b) (event_for c b)) (le-ltb c.at 8 h)
     ∙ ap (λ bytes. with_heard (after_part c bytes b) (event_for c b)) is
-    ∙ ap (λ t. with_heard (kept t (half_then ways.Sent c.sent part b) (half_then ways.Recv c.recv part b)) (event_for c b)) w
-    ∙ ap (λ half. with_heard (kept whole half (half_then ways.Recv c.recv part b)) (event_for c b)) sent_is
-    ∙ ap (λ half. with_heard (kept whole s half) (event_for c b)) recv_is
+    ∙ ap (λ t. with_heard (kept t (state_then directions.Sent c.sent part b) (state_then directions.Recv c.recv part b)) (event_for c b)) w
+    ∙ ap (λ state. with_heard (kept whole state (state_then directions.Recv c.recv part b)) (event_for c b)) sent_is
+    ∙ ap (λ state. with_heard (kept whole s state) (event_for c b)) recv_is
     ∙ ap (with_heard (kept whole s r)) heard
 
 -- A record's head belongs to no packet, ..
@@ -145,16 +145,16 @@ head_packet : (c : Context) (b : ℕ) → length c.part ≤ 4 → so_far_for c b
 unfolding so_far_for
 head_packet c b h =
     let l = length-append c.part (b ∷ []) in
-    ap (λ t. cond t (so_far_by (way_of (kind_of (c.part ++ b ∷ []))) c b) []) (le-ltb 5 (length (c.part ++ b ∷ [])) (omega arith))
+    ap (λ t. cond t (so_far_by (direction_of (kind_of (c.part ++ b ∷ []))) c b) []) (le-ltb 5 (length (c.part ++ b ∷ [])) (omega arith))
 
 -- .. and leaves the directions as they are, but for an OPEN.
-head_sent : (half : Half) (part : List ℕ) (b : ℕ) → length part ≤ 5 → half_then ways.Sent half part b ≡ cond (opens (kind_of part)) emptied half
-unfolding half_then
-head_sent half part b h = ap (λ t. cond (opens (kind_of part)) emptied (cond t (half_by ways.Sent (way_of (kind_of part)) half b) half)) (le-ltb 5 (length part) h)
+head_sent : (state : StreamState) (part : List ℕ) (b : ℕ) → length part ≤ 5 → state_then directions.Sent state part b ≡ cond (opens (kind_of part)) emptied state
+unfolding state_then
+head_sent state part b h = ap (λ t. cond (opens (kind_of part)) emptied (cond t (state_by directions.Sent (direction_of (kind_of part)) state b) state)) (le-ltb 5 (length part) h)
 
-head_recv : (half : Half) (part : List ℕ) (b : ℕ) → length part ≤ 5 → half_then ways.Recv half part b ≡ cond (opens (kind_of part)) emptied half
-unfolding half_then
-head_recv half part b h = ap (λ t. cond (opens (kind_of part)) emptied (cond t (half_by ways.Recv (way_of (kind_of part)) half b) half)) (le-ltb 5 (length part) h)
+head_recv : (state : StreamState) (part : List ℕ) (b : ℕ) → length part ≤ 5 → state_then directions.Recv state part b ≡ cond (opens (kind_of part)) emptied state
+unfolding state_then
+head_recv state part b h = ap (λ t. cond (opens (kind_of part)) emptied (cond t (state_by directions.Recv (direction_of (kind_of part)) state b) state)) (le-ltb 5 (length part) h)
 
 -- Where the head isn't whole, there is no event and no whole record.
 headless_event : (kind : Option RecordKind) (part : List ℕ) → (length part == 5) ≡ false → (length part == 7) ≡ false → event_by kind part [] ≡ None
@@ -199,7 +199,7 @@ pub first_refusal : (limit : ℕ) (c : Context) (b : ℕ) → 8 ≤ c.at → c.p
     ∷ [])
 first_refusal limit c b h none =
     refusal_with limit c b (b ∷ []) h (first_part c b none) (first_packet c b none)
-    ∙ lines_told limit c (b ∷ []) true false (kind_named b) None (nat_lt 4294967295 (c.records + 1)) refl refl (first_kind b) (first_in b)
+    ∙ lines_emitted limit c (b ∷ []) true false (kind_named b) None (nat_lt 4294967295 (c.records + 1)) refl refl (first_kind b) (first_in b)
     (or_nothing (nat_lt 4294967295 (c.records + 1)) (nat_le 4294967295 c.events))
 
 pub first_event : (c : Context) (b : ℕ) → 8 ≤ c.at → c.part ≡ [] → event_for c b ≡ None
@@ -223,22 +223,22 @@ one_longer : (c : Context) (b : ℕ) → length (c.part ++ b ∷ []) ≡ length 
 one_longer c b = length-append c.part (b ∷ [])
 
 -- a direction that is empty anyway stays as it is
-stays : (opening : Bool) (half : Half) → (opening ≡ true → half ≡ emptied) → cond opening emptied half ≡ half
-stays true half empty = sym (empty refl)
-stays false half empty = refl
+stays : (opening : Bool) (state : StreamState) → (opening ≡ true → state ≡ emptied) → cond opening emptied state ≡ state
+stays true state empty = sym (empty refl)
+stays false state empty = refl
 
 opens_more : (c : Context) (b : ℕ) → 1 ≤ length c.part → opens (kind_of (c.part ++ b ∷ [])) ≡ opens (kind_of c.part)
 opens_more c b some = ap opens (kind_of-append c.part (b ∷ []) (omega arith))
 
 -- After its first byte a record's head leaves the directions as they are.
 sent_stays : (c : Context) (b : ℕ) → 1 ≤ length c.part → length c.part ≤ 4 → (opens (kind_of c.part) ≡ true → (c.sent ≡ emptied) × (c.recv ≡ emptied))
-    → half_then ways.Sent c.sent (c.part ++ b ∷ []) b ≡ c.sent
+    → state_then directions.Sent c.sent (c.part ++ b ∷ []) b ≡ c.sent
 sent_stays c b some short opening =
     let l = one_longer c b in
     head_sent c.sent (c.part ++ b ∷ []) b (omega arith) ∙ ap (λ t. cond t emptied c.sent) (opens_more c b some) ∙ stays (opens (kind_of c.part)) c.sent (λ e. (opening e).0)
 
 recv_stays : (c : Context) (b : ℕ) → 1 ≤ length c.part → length c.part ≤ 4 → (opens (kind_of c.part) ≡ true → (c.sent ≡ emptied) × (c.recv ≡ emptied))
-    → half_then ways.Recv c.recv (c.part ++ b ∷ []) b ≡ c.recv
+    → state_then directions.Recv c.recv (c.part ++ b ∷ []) b ≡ c.recv
 recv_stays c b some short opening =
     let l = one_longer c b in
     head_recv c.recv (c.part ++ b ∷ []) b (omega arith) ∙ ap (λ t. cond t emptied c.recv) (opens_more c b some) ∙ stays (opens (kind_of c.part)) c.recv (λ e. (opening e).1)
@@ -255,7 +255,7 @@ middle_refusal limit c b h some short =
     let part = c.part ++ b ∷ [] in
     let l = one_longer c b in
     refusal_with limit c b part h refl (head_packet c b (omega arith))
-    ∙ lines_told limit c part false false (kind_of part) None false (ne_eqb (length part) 1 (λ e. omega arith)) (ne_eqb (length part) 5 (λ e. omega arith)) refl (middle_in c b some short) refl
+    ∙ lines_emitted limit c part false false (kind_of part) None false (ne_eqb (length part) 1 (λ e. omega arith)) (ne_eqb (length part) 5 (λ e. omega arith)) refl (middle_in c b some short) refl
 
 pub middle_event : (c : Context) (b : ℕ) → 8 ≤ c.at → 1 ≤ length c.part → length c.part ≤ 3 → event_for c b ≡ None
 middle_event c b h some short = event_with c b (c.part ++ b ∷ []) h refl (head_packet c b (omega arith)) ∙ middle_in c b some short
@@ -386,7 +386,7 @@ fifth_refusal limit c b kind h four is =
     let l = one_longer c b in
     let long = is_some (event_of_head kind) && nat_le 4294967295 c.events in
     refusal_with limit c b part h refl (head_packet c b (omega arith))
-    ∙ lines_told limit c part false true (Some kind) (event_of_head kind) long (ne_eqb (length part) 1 (λ e. omega arith)) (eq-eqb (length part) 5 (omega arith))
+    ∙ lines_emitted limit c part false true (Some kind) (event_of_head kind) long (ne_eqb (length part) 1 (λ e. omega arith)) (eq-eqb (length part) 5 (omega arith))
     (kind_more c b kind (omega arith) is) (fifth_in c b kind four is) refl
     ∙ ap (λ t. first_standing ((not (allows_length (Some kind) (body_length part)), refusals.Length c.at) ∷ (t, refusals.Early c.at) ∷ (long, refusals.TooLong c.at) ∷ [])) (head_early (situation_with c part) kind)
 
@@ -419,24 +419,24 @@ fifth_after c b h four opening =
     (sent_stays c b (omega arith) (omega arith) opening) (recv_stays c b (omega arith) (omega arith) opening) refl
 
 -- A RELEASE carries no packets.
-either_way : {A : Type 0} (t : Bool) (a : A) → cond t a a ≡ a
-either_way true a = refl
-either_way false a = refl
+either_direction : {A : Type 0} (t : Bool) (a : A) → cond t a a ≡ a
+either_direction true a = refl
+either_direction false a = refl
 
 release_packet : (c : Context) (b : ℕ) → kind_of (c.part ++ b ∷ []) ≡ Some kinds.Release → so_far_for c b ≡ []
 unfolding so_far_for
 release_packet c b is =
-    ap (λ k. cond (nat_lt 5 (length (c.part ++ b ∷ []))) (so_far_by (way_of k) c b) []) is ∙ either_way (nat_lt 5 (length (c.part ++ b ∷ []))) []
+    ap (λ k. cond (nat_lt 5 (length (c.part ++ b ∷ []))) (so_far_by (direction_of k) c b) []) is ∙ either_direction (nat_lt 5 (length (c.part ++ b ∷ []))) []
 
-release_sent : (half : Half) (part : List ℕ) (b : ℕ) → kind_of part ≡ Some kinds.Release → half_then ways.Sent half part b ≡ half
-unfolding half_then
-release_sent half part b is =
-    ap (λ k. cond (opens k) emptied (cond (nat_lt 5 (length part)) (half_by ways.Sent (way_of k) half b) half)) is ∙ either_way (nat_lt 5 (length part)) half
+release_sent : (state : StreamState) (part : List ℕ) (b : ℕ) → kind_of part ≡ Some kinds.Release → state_then directions.Sent state part b ≡ state
+unfolding state_then
+release_sent state part b is =
+    ap (λ k. cond (opens k) emptied (cond (nat_lt 5 (length part)) (state_by directions.Sent (direction_of k) state b) state)) is ∙ either_direction (nat_lt 5 (length part)) state
 
-release_recv : (half : Half) (part : List ℕ) (b : ℕ) → kind_of part ≡ Some kinds.Release → half_then ways.Recv half part b ≡ half
-unfolding half_then
-release_recv half part b is =
-    ap (λ k. cond (opens k) emptied (cond (nat_lt 5 (length part)) (half_by ways.Recv (way_of k) half b) half)) is ∙ either_way (nat_lt 5 (length part)) half
+release_recv : (state : StreamState) (part : List ℕ) (b : ℕ) → kind_of part ≡ Some kinds.Release → state_then directions.Recv state part b ≡ state
+unfolding state_then
+release_recv state part b is =
+    ap (λ k. cond (opens k) emptied (cond (nat_lt 5 (length part)) (state_by directions.Recv (direction_of k) state b) state)) is ∙ either_direction (nat_lt 5 (length part)) state
 
 release_in : (part : List ℕ) (whole : Bool) → kind_of part ≡ Some kinds.Release → (length part == 7) ≡ whole
     → event_in part [] ≡ (if whole then Some (released (from_be_bytes w16 (drop 5 part))) else None)
@@ -451,7 +451,7 @@ release_high_refusal limit c b h is five =
     let l = one_longer c b in
     let kind = kind_more c b kinds.Release (omega arith) is in
     refusal_with limit c b part h refl (release_packet c b kind)
-    ∙ lines_told limit c part false false (Some kinds.Release) None false (ne_eqb (length part) 1 (λ e. omega arith)) (ne_eqb (length part) 5 (λ e. omega arith)) kind
+    ∙ lines_emitted limit c part false false (Some kinds.Release) None false (ne_eqb (length part) 1 (λ e. omega arith)) (ne_eqb (length part) 5 (λ e. omega arith)) kind
     (release_in part false kind (ne_eqb (length part) 7 (λ e. omega arith))) refl
 
 pub release_high_event : (c : Context) (b : ℕ) → 8 ≤ c.at → kind_of c.part ≡ Some kinds.Release → length c.part ≡ 5 → event_for c b ≡ None
@@ -495,7 +495,7 @@ release_low_event c b head first h kind is five =
 
 pub release_low_refusal : (limit : ℕ) (c : Context) (b : ℕ) (head : List ℕ) (first : ℕ) → 8 ≤ c.at → kind_of c.part ≡ Some kinds.Release → c.part ≡ head ++ first ∷ [] → length head ≡ 5
     → refusal_for limit c b ≡ first_standing (
-    (c.connected && not c.answered, refusals.Early c.at)
+    (c.connected && not c.connack_seen, refusals.Early c.at)
     ∷ (nat_le 4294967295 c.events, refusals.TooLong c.at)
     ∷ [])
 release_low_refusal limit c b head first h kind is five =
@@ -504,7 +504,7 @@ release_low_refusal limit c b head first h kind is five =
     let six = six_long c head first is five in
     let more = kind_more c b kinds.Release (omega arith) kind in
     refusal_with limit c b part h refl (release_packet c b more)
-    ∙ lines_told limit c part false false (Some kinds.Release) (Some (released (from_be_bytes w16 (first ∷ b ∷ [])))) (nat_le 4294967295 c.events)
+    ∙ lines_emitted limit c part false false (Some kinds.Release) (Some (released (from_be_bytes w16 (first ∷ b ∷ [])))) (nat_le 4294967295 c.events)
     (ne_eqb (length part) 1 (λ e. omega arith)) (ne_eqb (length part) 5 (λ e. omega arith)) more (release_low_in c b head first kind is five) refl
 
 pub release_low_after : (c : Context) (b : ℕ) (head : List ℕ) (first : ℕ) → 8 ≤ c.at → kind_of c.part ≡ Some kinds.Release → body_length c.part ≡ 2 → c.part ≡ head ++ first ∷ [] → length head ≡ 5

@@ -16,8 +16,8 @@ use Rattle.mq_trace.specs.Refusing.{moved}
 use Rattle.mq_trace.specs.Context.{Context, context, fresh, so_far_for, event_for, placed_for, placed_with, put}
 use Rattle.mq_trace.specs.Runs.{behind, refused_in, heard_in}
 use Rattle.mq_trace.specs.Hearing.{AreEvents, Declines}
-use Rattle.mq_trace.specs.Telling.{RefusedBySink}
-use Rattle.mq_trace.specs.Directing.{NeedsMemory, FlowWhy}
+use Rattle.mq_trace.specs.Emission.{RefusedBySink}
+use Rattle.mq_trace.specs.Deframing.{NeedsMemory, FlowWhy}
 use Rattle.mq_trace.specs.Keeping.{IsAt, context_of, Advances, Comes, StepStops}
 use Rattle.mq_trace.specs.Tracing.{HasRead, HasHeard, IsRefused, LacksMemory, SinkRefuses, Why, Stops, is_between}
 use Rattle.mq_trace.proofs.ContextLaws.{at_context, part_context, context_is, context-nothing, refused-nothing, packet-kept, header-so_far, event-kept, refused-grow}
@@ -42,7 +42,7 @@ hears_on agrees r r' log bytes old new keeps comes =
     let longer : events (log ++ bytes) ≡ comes.heard ++ events log
     = events_run log bytes ∙ ap (λ (l : List Placed). l ++ events log) (ap (λ (c : Context). heard_in c bytes) keeps.kept ∙ step.4) in
     let next = keeps_on agrees r r' log bytes old new keeps comes in
-    λ was. subst (agrees new) (sym longer) (comes.told (events log) was (record { limit = r'.limit; log = log ++ bytes; unrefused = next.unrefused; are = sym longer })))
+    λ was. subst (agrees new) (sym longer) (comes.emitted (events log) was (record { limit = r'.limit; log = log ++ bytes; unrefused = next.unrefused; are = sym longer })))
 
 -- an event at its place is an event
 some_placed : (c : Context) (event : Option Event) → length (put (placed_with c event) []) ≡ 1 → is_some event ≡ true
@@ -235,7 +235,7 @@ pub rest_same : (n : ℕ) (rest : List ℕ) → take (length rest - n) (drop n r
 rest_same n rest = (let behind : length (drop n rest) ≡ length rest - n = length-drop n rest in take_all (length rest - n) (drop n rest) (omega arith))
 
 pub nothing_left : (rest : List ℕ) (empty : Bool) → empty ≡ (length rest == 0) → empty ≡ true → rest ≡ []
-nothing_left rest empty told is = nil_from_length rest (eqb-true (length rest) 0 (sym told ∙ is))
+nothing_left rest empty emitted is = nil_from_length rest (eqb-true (length rest) 0 (sym emitted ∙ is))
 
 -- What a reader knows of the log that it keeps.
 pub kept_at : (r : Reading) (log : List ℕ) → HasRead r log → r.at ≡ length log
@@ -248,7 +248,7 @@ kept_header r log keeps = ap (λ (c : Context). c.header) (sym keeps.kept ∙ co
 part_there : (stage : Stage) (part : List ℕ) → IsAt stage part → nat_lt 0 (length part) ≡ not (is_between stage)
 part_there stages.Between part at = ap (λ (p : List ℕ). nat_lt 0 (length p)) at
 part_there (stages.Head kind count length_so_far) part at = ap (λ (p : List ℕ). nat_lt 0 (length p)) at.2 ∙ lt-ltb 0 (length (at.0 ∷ at.1)) (omega arith)
-part_there (stages.Body way left) part at = lt-ltb 0 (length part) (omega (arith, at.3))
+part_there (stages.Body direction left) part at = lt-ltb 0 (length part) (omega (arith, at.3))
 part_there (stages.Release None) part at = lt-ltb 0 (length part) (omega (arith, at.1))
 part_there (stages.Release (Some high)) part at = lt-ltb 0 (length part) (omega (arith, at.1))
 

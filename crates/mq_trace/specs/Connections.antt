@@ -73,5 +73,5 @@ abbrev pub has_open_connection : List Placed → Bool
 has_open_connection log = event_since begins_connection ends_connection log
 
 -- The CONNACK of the latest connection has come; the flag says whether the tested end is a server.
-abbrev pub is_answered : Bool → List Placed → Bool
-is_answered server log = event_since (is_answer server) begins_connection log
+abbrev pub is_connack_seen : Bool → List Placed → Bool
+is_connack_seen server log = event_since (is_answer server) begins_connection log

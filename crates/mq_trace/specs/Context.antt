@@ -1,17 +1,17 @@
 -- What a reader of the log keeps from one byte to the next, as a function of all bytes so far. It looks at nothing else of them.
 use Rattle.std.specs.Prelude.{ℕ, ◌+◌, ◌==◌, nat_lt, Bool, true, false, ◌&&◌, ◌||◌, not, cond, if◌then◌else◌, List, [], ◌∷◌, ◌++◌, length, Option, Some, None, is_some}
-use Rattle.mq_trace.specs.declared.kind.Way.{Way}
-use Rattle.mq_trace.specs.declared.kind.Way.TheVariants as ways
+use Rattle.mq_trace.specs.declared.kind.Direction.{Direction}
+use Rattle.mq_trace.specs.declared.kind.Direction.TheVariants as directions
 use Rattle.mq_trace.specs.declared.refusal.Refusal.{Refusal}
 use Rattle.mq_trace.specs.declared.header.Header.{Header}
-use Rattle.mq_trace.specs.Connections.{begins_connection, ends_connection, is_answer, has_open_connection, is_answered}
+use Rattle.mq_trace.specs.Connections.{begins_connection, ends_connection, is_answer, has_open_connection, is_connack_seen}
 use Rattle.mq_packet.specs.Stream.{frame_size, is_lost}
-use Rattle.mq_trace.specs.Framing.{header_by, kind_of, way_of, opens, record_size, records, begun_records, carried, stream}
+use Rattle.mq_trace.specs.Framing.{header_by, kind_of, direction_of, opens, record_size, records, begun_records, carried, stream}
 use Rattle.mq_trace.specs.Events.{Event, Placed, event_in, events}
 use Rattle.mq_trace.specs.Refusals.{Situation, header_refusal, record_refusal}
 
 -- one direction: the bytes of its unfinished packet, none if it is lost
-pub record Half : Type 0 where
+pub record StreamState : Type 0 where
   pub unfinished : List ℕ
   pub lost : Bool
 
@@ -22,15 +22,15 @@ pub record Context : Type 0 where
   -- the bytes of the unfinished record, and how many whole ones come before it
   pub part : List ℕ
   pub records : ℕ
-  pub sent : Half
-  pub recv : Half
+  pub sent : StreamState
+  pub recv : StreamState
   -- of the events: how many, whether a connection is open, and whether the latest one's CONNACK came
   pub events : ℕ
   pub connected : Bool
-  pub answered : Bool
+  pub connack_seen : Bool
 
 -- what is kept of a direction that carried nothing
-abbrev pub emptied : Half
+abbrev pub emptied : StreamState
 emptied = record { unfinished = []; lost = false }
 
 -- what is kept before the first byte
@@ -44,15 +44,15 @@ fresh = record {
   recv = record { unfinished = []; lost = false };
   events = 0;
   connected = false;
-  answered = false;
+  connack_seen = false;
 }
 
 -- what is kept of a direction that carried these bytes
-abbrev pub half_with : List ℕ → Half
-half_with rest = record { unfinished = cond (is_lost rest) [] rest; lost = is_lost rest }
+abbrev pub state_with : List ℕ → StreamState
+state_with rest = record { unfinished = cond (is_lost rest) [] rest; lost = is_lost rest }
 
-unfoldable pub half_of : List ℕ → Half
-half_of bytes = half_with (stream bytes).rest
+unfoldable pub state_of : List ℕ → StreamState
+state_of bytes = state_with (stream bytes).rest
 
 -- what is kept of a log
 unfoldable pub context : List ℕ → Context
@@ -61,27 +61,27 @@ context log = record {
   header = header_by log;
   part = (records log).rest;
   records = length (records log).whole;
-  sent = half_of (carried ways.Sent (begun_records log));
-  recv = half_of (carried ways.Recv (begun_records log));
+  sent = state_of (carried directions.Sent (begun_records log));
+  recv = state_of (carried directions.Recv (begun_records log));
   events = length (events log);
   connected = has_open_connection (events log);
-  answered = is_answered (header_by log).server (events log);
+  connack_seen = is_connack_seen (header_by log).server (events log);
 }
 
 -- The bytes so far of the next byte's packet, that byte included, from what is kept.
-abbrev pub half_for : Context → Way → Half
-half_for c ways.Sent = c.sent
-half_for c ways.Recv = c.recv
+abbrev pub state_for : Context → Direction → StreamState
+state_for c directions.Sent = c.sent
+state_for c directions.Recv = c.recv
 
-abbrev pub so_far_in : Half → ℕ → List ℕ
-so_far_in half byte = cond half.lost [] (half.unfinished ++ byte ∷ [])
+abbrev pub so_far_in : StreamState → ℕ → List ℕ
+so_far_in state byte = cond state.lost [] (state.unfinished ++ byte ∷ [])
 
-abbrev pub so_far_by : Option Way → Context → ℕ → List ℕ
+abbrev pub so_far_by : Option Direction → Context → ℕ → List ℕ
 so_far_by None c byte = []
-so_far_by (Some way) c byte = so_far_in (half_for c way) byte
+so_far_by (Some direction) c byte = so_far_in (state_for c direction) byte
 
 unfoldable pub so_far_for : Context → ℕ → List ℕ
-so_far_for c byte = cond (nat_lt 5 (length (c.part ++ byte ∷ []))) (so_far_by (way_of (kind_of (c.part ++ byte ∷ []))) c byte) []
+so_far_for c byte = cond (nat_lt 5 (length (c.part ++ byte ∷ []))) (so_far_by (direction_of (kind_of (c.part ++ byte ∷ []))) c byte) []
 
 -- the situation of the next byte, from what is kept
 unfoldable pub situated : Context → ℕ → Situation
@@ -93,7 +93,7 @@ situated c byte = record {
   so_far = so_far_for c byte;
   events = c.events;
   connected = c.connected;
-  answered = c.answered;
+  connack_seen = c.connack_seen;
 }
 
 -- the refusal that applies first at the next byte
@@ -118,20 +118,20 @@ put None log = log
 put (Some e) log = e ∷ log
 
 -- a direction after one more byte of its own
-unfoldable pub half_after : Half → ℕ → Half
-half_after half byte = cond half.lost half (cond (is_lost (half.unfinished ++ byte ∷ [])) (record { unfinished = []; lost = true })
-    (cond (is_some (frame_size (half.unfinished ++ byte ∷ []))) (record { unfinished = []; lost = false }) (record { unfinished = half.unfinished ++ byte ∷ []; lost = false })))
+unfoldable pub state_after : StreamState → ℕ → StreamState
+state_after state byte = cond state.lost state (cond (is_lost (state.unfinished ++ byte ∷ [])) (record { unfinished = []; lost = true })
+    (cond (is_some (frame_size (state.unfinished ++ byte ∷ []))) (record { unfinished = []; lost = false }) (record { unfinished = state.unfinished ++ byte ∷ []; lost = false })))
 
 -- a direction after one byte that goes this way
-abbrev pub half_by : Way → Option Way → Half → ℕ → Half
-half_by ways.Sent (Some ways.Sent) half byte = half_after half byte
-half_by ways.Recv (Some ways.Recv) half byte = half_after half byte
-half_by _ _ half byte = half
+abbrev pub state_by : Direction → Option Direction → StreamState → ℕ → StreamState
+state_by directions.Sent (Some directions.Sent) state byte = state_after state byte
+state_by directions.Recv (Some directions.Recv) state byte = state_after state byte
+state_by _ _ state byte = state
 
 -- A direction after one more byte of a record: the first byte of an OPEN empties it, and a body byte of this direction is added.
-unfoldable pub half_then : Way → Half → List ℕ → ℕ → Half
-half_then way half part byte = cond (opens (kind_of part)) (record { unfinished = []; lost = false })
-    (cond (nat_lt 5 (length part)) (half_by way (way_of (kind_of part)) half byte) half)
+unfoldable pub state_then : Direction → StreamState → List ℕ → ℕ → StreamState
+state_then direction state part byte = cond (opens (kind_of part)) (record { unfinished = []; lost = false })
+    (cond (nat_lt 5 (length part)) (state_by direction (direction_of (kind_of part)) state byte) state)
 
 -- what is kept after one more event, if there is one
 abbrev pub with_heard : Context → Option Event → Context
@@ -139,7 +139,7 @@ with_heard c None = c
 with_heard c (Some event) = record c {
   events = c.events + 1;
   connected = begins_connection event || (not (ends_connection event) && c.connected);
-  answered = is_answer c.header.server event || (not (begins_connection event) && c.answered);
+  connack_seen = is_answer c.header.server event || (not (begins_connection event) && c.connack_seen);
 }
 
 -- after one more byte of the header
@@ -158,8 +158,8 @@ after_part c part byte = record c {
   at = c.at + 1;
   part = cond (is_some (record_size part)) [] part;
   records = cond (is_some (record_size part)) (c.records + 1) c.records;
-  sent = half_then ways.Sent c.sent part byte;
-  recv = half_then ways.Recv c.recv part byte;
+  sent = state_then directions.Sent c.sent part byte;
+  recv = state_then directions.Recv c.recv part byte;
 }
 
 -- what is kept after the next byte

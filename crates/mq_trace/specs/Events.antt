@@ -6,12 +6,12 @@ use Rattle.mq_packet.specs.declared.fault.DecodeFault.{DecodeFault}
 use Rattle.mq_packet.specs.declared.fault.DecodeFault.TheVariants.{Broken, OtherVersion}
 use Rattle.mq_trace.specs.declared.kind.RecordKind.{RecordKind}
 use Rattle.mq_trace.specs.declared.kind.RecordKind.TheVariants as kinds
-use Rattle.mq_trace.specs.declared.kind.Way.{Way}
+use Rattle.mq_trace.specs.declared.kind.Direction.{Direction}
 use Rattle.mq_trace.specs.declared.place.Place3.{Place3}
 use Rattle.mq_packet.specs.declared.header.FixedHeader.{FixedHeader}
 use Rattle.mq_packet.specs.declared.header.FixedHeader.TheVariants as headers
 use Rattle.mq_packet.specs.Stream.{fixed_header_of, frame_size, is_lost}
-use Rattle.mq_trace.specs.Framing.{kind_of, way_of, begun_records, carried, stream}
+use Rattle.mq_trace.specs.Framing.{kind_of, direction_of, begun_records, carried, stream}
 use Rattle.mq_packet.specs.Entries.{Entry}
 use Rattle.mq_packet.specs.Decoding.{decoded}
 
@@ -58,9 +58,9 @@ abbrev pub packet_with : List ℕ → ℕ → List ℕ
 packet_with before byte = cond (is_lost (stream before).rest) [] ((stream before).rest ++ byte ∷ [])
 
 -- the same for the body byte of a record of this kind, none for one that carries no packets
-abbrev pub packet_by : Option Way → List (List ℕ) → ℕ → List ℕ
+abbrev pub packet_by : Option Direction → List (List ℕ) → ℕ → List ℕ
 packet_by None parts byte = []
-packet_by (Some way) parts byte = packet_with (carried way parts) byte
+packet_by (Some direction) parts byte = packet_with (carried direction parts) byte
 
 -- the newest record, as far as it has come
 abbrev pub newest_record : List (List ℕ) → List ℕ
@@ -73,7 +73,7 @@ part_at before byte = newest_record (begun_records (before ++ byte ∷ []))
 
 -- the bytes so far of the packet that the next byte of a log belongs to, that byte included; none if it belongs to no packet, or the direction was lost before it
 unfoldable pub packet_at : List ℕ → ℕ → List ℕ
-packet_at before byte = cond (nat_lt 5 (length (part_at before byte))) (packet_by (way_of (kind_of (part_at before byte))) (begun_records before) byte) []
+packet_at before byte = cond (nat_lt 5 (length (part_at before byte))) (packet_by (direction_of (kind_of (part_at before byte))) (begun_records before) byte) []
 
 -- The event that the last byte of a part of a record completes, given its packet so far: OPEN, CLOSE and REST have no body, that of RELEASE is a
 -- Packet Identifier, and SENT and RECV give what their packets are.

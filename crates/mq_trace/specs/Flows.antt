@@ -1,104 +1,104 @@
 -- One direction while the body of a SENT or RECV record is read: what each byte of the body does.
 use Rattle.std.specs.Prelude.{ℕ, ◌+◌, nat_le, Bool, false, ◌&&◌, ◌||◌, not, cond, List, [], ◌∷◌, ◌++◌, Option, Some, None, option_map, is_some}
 use Rattle.std.specs.Option.{option_or}
-use Rattle.mq_trace.specs.declared.kind.Way.{Way}
-use Rattle.mq_trace.specs.declared.kind.Way.TheVariants as ways
+use Rattle.mq_trace.specs.declared.kind.Direction.{Direction}
+use Rattle.mq_trace.specs.declared.kind.Direction.TheVariants as directions
 use Rattle.mq_trace.specs.declared.refusal.Refusal.{Refusal}
 use Rattle.mq_trace.specs.declared.refusal.Refusal.TheVariants as refusals
 use Rattle.mq_packet.specs.Stream.{fixed_header_of, frame_size}
 use Rattle.mq_trace.specs.Events.{Item, Event, Placed, sent, received, read_frame, item_at}
 use Rattle.mq_trace.specs.Connections.{needs_answer, is_answer}
 use Rattle.mq_trace.specs.Refusals.{first_standing, is_too_large, is_other_version}
-use Rattle.mq_trace.specs.Context.{Half, Context, half_for, so_far_in, half_after, put}
+use Rattle.mq_trace.specs.Context.{StreamState, Context, state_for, so_far_in, state_after, put}
 
 -- what stays the same within a body: the direction, whether the tested end is a server, and the number of the record
-pub record Bed : Type 0 where
-  pub way : Way
+pub record BodyContext : Type 0 where
+  pub direction : Direction
   pub server : Bool
   pub record_no : ℕ
 
 -- what changes: how many bytes of the log came, the direction's state, how many events there are, whether a connection is open, and whether its CONNACK came
 pub record Flow : Type 0 where
   pub at : ℕ
-  pub half : Half
+  pub state : StreamState
   pub events : ℕ
   pub connected : Bool
-  pub answered : Bool
+  pub connack_seen : Bool
 
 -- the event of an item in this direction
-abbrev pub going : Way → Item → Event
-going ways.Sent item = sent item
-going ways.Recv item = received item
+abbrev pub going : Direction → Item → Event
+going directions.Sent item = sent item
+going directions.Recv item = received item
 
 -- the event that the next byte completes
-unfoldable pub flow_event : Bed → Flow → ℕ → Option Event
-flow_event bed f byte = option_map (going bed.way) (item_at (so_far_in f.half byte))
+unfoldable pub flow_event : BodyContext → Flow → ℕ → Option Event
+flow_event context f byte = option_map (going context.direction) (item_at (so_far_in f.state byte))
 
 -- the event needs the CONNACK of its open connection, and that hasn't come
 abbrev pub comes_early : Flow → Option Event → Bool
 comes_early f None = false
-comes_early f (Some event) = needs_answer event && (f.connected && not f.answered)
+comes_early f (Some event) = needs_answer event && (f.connected && not f.connack_seen)
 
 -- the refusal that applies first at the next byte
-unfoldable pub flow_refusal : ℕ → Bed → Flow → ℕ → Option Refusal
-flow_refusal limit bed f byte = first_standing (
-    (is_too_large limit (so_far_in f.half byte) (fixed_header_of (so_far_in f.half byte)), refusals.TooLarge f.at)
-    ∷ (is_some (frame_size (so_far_in f.half byte)) && is_other_version (read_frame (so_far_in f.half byte)), refusals.OtherVersion f.at)
-    ∷ (comes_early f (flow_event bed f byte), refusals.Early f.at)
-    ∷ (is_some (flow_event bed f byte) && nat_le 4294967295 f.events, refusals.TooLong f.at)
+unfoldable pub flow_refusal : ℕ → BodyContext → Flow → ℕ → Option Refusal
+flow_refusal limit context f byte = first_standing (
+    (is_too_large limit (so_far_in f.state byte) (fixed_header_of (so_far_in f.state byte)), refusals.TooLarge f.at)
+    ∷ (is_some (frame_size (so_far_in f.state byte)) && is_other_version (read_frame (so_far_in f.state byte)), refusals.OtherVersion f.at)
+    ∷ (comes_early f (flow_event context f byte), refusals.Early f.at)
+    ∷ (is_some (flow_event context f byte) && nat_le 4294967295 f.events, refusals.TooLong f.at)
     ∷ [])
 
 -- that event at its place
-abbrev pub flow_placed_with : Bed → Flow → Option Event → Option Placed
-flow_placed_with bed f None = None
-flow_placed_with bed f (Some event) = Some (record { place = record { position = f.events + 1; record_no = bed.record_no }; event = event })
+abbrev pub flow_placed_with : BodyContext → Flow → Option Event → Option Placed
+flow_placed_with context f None = None
+flow_placed_with context f (Some event) = Some (record { place = record { position = f.events + 1; record_no = context.record_no }; event = event })
 
-unfoldable pub flow_placed : Bed → Flow → ℕ → Option Placed
-flow_placed bed f byte = flow_placed_with bed f (flow_event bed f byte)
+unfoldable pub flow_placed : BodyContext → Flow → ℕ → Option Placed
+flow_placed context f byte = flow_placed_with context f (flow_event context f byte)
 
 -- a flow after an event, if there is one
-abbrev pub flow_with : Bed → Flow → Option Event → Flow
-flow_with bed f None = f
-flow_with bed f (Some event) = record f { events = f.events + 1; answered = is_answer bed.server event || f.answered }
+abbrev pub flow_with : BodyContext → Flow → Option Event → Flow
+flow_with context f None = f
+flow_with context f (Some event) = record f { events = f.events + 1; connack_seen = is_answer context.server event || f.connack_seen }
 
 -- what is kept after the next byte
-unfoldable pub flow_after : Bed → Flow → ℕ → Flow
-flow_after bed f byte = flow_with bed (record f { at = f.at + 1; half = half_after f.half byte }) (flow_event bed f byte)
+unfoldable pub flow_after : BodyContext → Flow → ℕ → Flow
+flow_after context f byte = flow_with context (record f { at = f.at + 1; state = state_after f.state byte }) (flow_event context f byte)
 
 -- what is kept after these bytes, the refusal that applies first at one of them, and the events that they complete, the newest first
-abbrev pub flow_behind : Bed → Flow → List ℕ → Flow
-flow_behind bed f [] = f
-flow_behind bed f (byte ∷ bytes) = flow_behind bed (flow_after bed f byte) bytes
+abbrev pub flow_behind : BodyContext → Flow → List ℕ → Flow
+flow_behind context f [] = f
+flow_behind context f (byte ∷ bytes) = flow_behind context (flow_after context f byte) bytes
 
-abbrev pub flow_refused : ℕ → Bed → Flow → List ℕ → Option Refusal
-flow_refused limit bed f [] = None
-flow_refused limit bed f (byte ∷ bytes) = option_or (flow_refusal limit bed f byte) (flow_refused limit bed (flow_after bed f byte) bytes)
+abbrev pub flow_refused : ℕ → BodyContext → Flow → List ℕ → Option Refusal
+flow_refused limit context f [] = None
+flow_refused limit context f (byte ∷ bytes) = option_or (flow_refusal limit context f byte) (flow_refused limit context (flow_after context f byte) bytes)
 
-abbrev pub flow_heard : Bed → Flow → List ℕ → List Placed
-flow_heard bed f [] = []
-flow_heard bed f (byte ∷ bytes) = flow_heard bed (flow_after bed f byte) bytes ++ put (flow_placed bed f byte) []
+abbrev pub flow_heard : BodyContext → Flow → List ℕ → List Placed
+flow_heard context f [] = []
+flow_heard context f (byte ∷ bytes) = flow_heard context (flow_after context f byte) bytes ++ put (flow_placed context f byte) []
 
 -- the direction that a body carries, from what is kept of the log
-abbrev pub bed_in : Context → Way → Bed
-bed_in c way = record { way = way; server = c.header.server; record_no = c.records + 1 }
+abbrev pub context_in : Context → Direction → BodyContext
+context_in c direction = record { direction = direction; server = c.header.server; record_no = c.records + 1 }
 
-abbrev pub flow_in : Context → Way → Flow
-flow_in c way = record { at = c.at; half = half_for c way; events = c.events; connected = c.connected; answered = c.answered }
+abbrev pub flow_in : Context → Direction → Flow
+flow_in c direction = record { at = c.at; state = state_for c direction; events = c.events; connected = c.connected; connack_seen = c.connack_seen }
 
 -- a direction after bytes of this one: what the flow keeps of it, or what was kept before if it is the other one
-abbrev pub half_behind : Way → Way → Half → Half → Half
-half_behind ways.Sent ways.Sent new old = new
-half_behind ways.Recv ways.Recv new old = new
-half_behind _ _ new old = old
+abbrev pub state_behind : Direction → Direction → StreamState → StreamState → StreamState
+state_behind directions.Sent directions.Sent new old = new
+state_behind directions.Recv directions.Recv new old = new
+state_behind _ _ new old = old
 
 -- what is kept of the log after bytes of a body, from what the flow keeps after them; the flag says whether the record is then whole
-abbrev pub flowed : Context → Way → Bool → Flow → List ℕ → Context
-flowed c way whole f bytes = record c {
+abbrev pub flowed : Context → Direction → Bool → Flow → List ℕ → Context
+flowed c direction whole f bytes = record c {
   at = f.at;
   part = cond whole [] (c.part ++ bytes);
   records = cond whole (c.records + 1) c.records;
-  sent = half_behind ways.Sent way f.half c.sent;
-  recv = half_behind ways.Recv way f.half c.recv;
+  sent = state_behind directions.Sent direction f.state c.sent;
+  recv = state_behind directions.Recv direction f.state c.recv;
   events = f.events;
-  answered = f.answered;
+  connack_seen = f.connack_seen;
 }

@@ -4,8 +4,8 @@ use Rattle.std.specs.Prelude.{ℕ, ◌+◌, ◌==◌, nat_lt, nat_le, Bool, true
 use Rattle.std.specs.Int.{w32, from_be_bytes}
 use Rattle.mq_trace.specs.declared.kind.RecordKind.{RecordKind}
 use Rattle.mq_trace.specs.declared.kind.RecordKind.TheVariants as kinds
-use Rattle.mq_trace.specs.declared.kind.Way.{Way}
-use Rattle.mq_trace.specs.declared.kind.Way.TheVariants as ways
+use Rattle.mq_trace.specs.declared.kind.Direction.{Direction}
+use Rattle.mq_trace.specs.declared.kind.Direction.TheVariants as directions
 use Rattle.mq_trace.specs.declared.header.Header.{Header}
 use Rattle.mq_trace.specs.Pieces.{Pieces, pieces}
 use Rattle.mq_packet.specs.Stream.{frame_size}
@@ -45,10 +45,10 @@ unfoldable pub begun_records : List ℕ → List (List ℕ)
 begun_records bytes = begun_with (records bytes).rest (reverse (records bytes).whole)
 
 -- the direction whose bytes a record of this kind carries
-abbrev pub way_of : Option RecordKind → Option Way
-way_of (Some kinds.Sent) = Some ways.Sent
-way_of (Some kinds.Recv) = Some ways.Recv
-way_of _ = None
+abbrev pub direction_of : Option RecordKind → Option Direction
+direction_of (Some kinds.Sent) = Some directions.Sent
+direction_of (Some kinds.Recv) = Some directions.Recv
+direction_of _ = None
 
 -- a connection begins with a record of this kind
 abbrev pub opens : Option RecordKind → Bool
@@ -56,15 +56,15 @@ opens (Some kinds.Open) = true
 opens _ = false
 
 -- the bytes, if they go this way
-abbrev pub if_way : Way → Option Way → List ℕ → List ℕ
-if_way ways.Sent (Some ways.Sent) bytes = bytes
-if_way ways.Recv (Some ways.Recv) bytes = bytes
-if_way _ _ bytes = []
+abbrev pub if_direction : Direction → Option Direction → List ℕ → List ℕ
+if_direction directions.Sent (Some directions.Sent) bytes = bytes
+if_direction directions.Recv (Some directions.Recv) bytes = bytes
+if_direction _ _ bytes = []
 
 -- what one direction carried on the connection so far, given the records begun, the newest first
-unfoldable pub carried : Way → List (List ℕ) → List ℕ
-carried way [] = []
-carried way (part ∷ before) = cond (opens (kind_of part)) [] (carried way before ++ if_way way (way_of (kind_of part)) (drop 5 part))
+unfoldable pub carried : Direction → List (List ℕ) → List ℕ
+carried direction [] = []
+carried direction (part ∷ before) = cond (opens (kind_of part)) [] (carried direction before ++ if_direction direction (direction_of (kind_of part)) (drop 5 part))
 
 -- one direction's stream of packets: whole frames, and the bytes so far of one that isn't whole
 unfoldable pub stream : List ℕ → Pieces

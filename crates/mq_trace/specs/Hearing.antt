@@ -10,7 +10,7 @@ use Rattle.mq_trace.specs.declared.event.Item.{Item as HeardItem}
 use Rattle.mq_trace.specs.declared.event.Item.TheVariants as items
 use Rattle.mq_trace.specs.declared.event.Event.{Event as HeardEvent}
 use Rattle.mq_trace.specs.declared.event.Event.TheVariants as heard
-use Rattle.mq_trace.specs.declared.kind.Way.{Way}
+use Rattle.mq_trace.specs.declared.kind.Direction.{Direction}
 use Rattle.mq_trace.specs.Flows.{going}
 use Rattle.mq_trace.specs.Events.{Item, Event, Placed, packet, bad, lost, opened, closed, rested, released, sent, received, events}
 use Rattle.mq_trace.specs.Refusals.{refused}
@@ -34,8 +34,8 @@ abbrev pub placed_at : Place3 → HeardEvent → Placed
 placed_at place event = record { place = place; event = event_of event }
 
 -- the event of a PUBLISH in this direction, at its place
-abbrev pub published_at : Place3 → Way → Publish → Placed
-published_at place way p = record { place = place; event = going way (item_of (items.Packet (packets.Publish p))) }
+abbrev pub published_at : Place3 → Direction → Publish → Placed
+published_at place direction p = record { place = place; event = going direction (item_of (items.Packet (packets.Publish p))) }
 
 -- These are the events of some log that isn't refused, the newest first.
 pub record AreEvents (heard : List Placed) : Type 0 where

@@ -1,10 +1,10 @@
 -- The events of a log, one connection and one direction at a time: they are the items of that direction's stream of packets.
 use Rattle.std.specs.Prelude.{ℕ, ◌+◌, ◌==◌, cond, List, [], ◌∷◌, ◌++◌, length, drop, slice_index, Option, Some, None}
-use Rattle.mq_trace.specs.declared.kind.Way.{Way}
-use Rattle.mq_trace.specs.declared.kind.Way.TheVariants as ways
+use Rattle.mq_trace.specs.declared.kind.Direction.{Direction}
+use Rattle.mq_trace.specs.declared.kind.Direction.TheVariants as directions
 use Rattle.mq_packet.specs.Stream.{is_lost}
 use Rattle.mq_trace.specs.Pieces.{Pieces}
-use Rattle.mq_trace.specs.Framing.{kind_of, way_of, opens, if_way}
+use Rattle.mq_trace.specs.Framing.{kind_of, direction_of, opens, if_direction}
 use Rattle.mq_trace.specs.Events.{Item, Event, Placed, lost, sent, received, item_read, read_frame}
 use Rattle.mq_trace.specs.Connections.{begins_connection}
 
@@ -15,10 +15,10 @@ opened_records (part ∷ before) = cond (opens (kind_of part)) (opened_records b
 
 -- What one direction of the connection of this number carried: the joined bodies of its records. Connections are numbered from 1, and what comes before the first OPEN is
 -- on connection 0. The newest record comes first.
-abbrev pub joined : ℕ → Way → List (List ℕ) → List ℕ
-joined number way [] = []
-joined number way (part ∷ before) =
-    joined number way before ++ cond (opened_records (part ∷ before) == number) (if_way way (way_of (kind_of part)) (drop 5 part)) []
+abbrev pub joined : ℕ → Direction → List (List ℕ) → List ℕ
+joined number direction [] = []
+joined number direction (part ∷ before) =
+    joined number direction before ++ cond (opened_records (part ∷ before) == number) (if_direction direction (direction_of (kind_of part)) (drop 5 part)) []
 
 -- the item, if there is one
 abbrev pub if_some : Option Item → List Item
@@ -44,12 +44,12 @@ opened_events [] = 0
 opened_events (e ∷ past) = cond (begins_connection e.event) (opened_events past + 1) (opened_events past)
 
 -- the item of an event, if it is in this direction
-abbrev pub item_going : Way → Event → Option Item
-item_going ways.Sent (sent item) = Some item
-item_going ways.Recv (received item) = Some item
+abbrev pub item_going : Direction → Event → Option Item
+item_going directions.Sent (sent item) = Some item
+item_going directions.Recv (received item) = Some item
 item_going _ _ = None
 
 -- the items of the events of one direction of the connection of this number, in order; the newest event comes first
-abbrev pub connection_items : ℕ → Way → List Placed → List Item
-connection_items number way [] = []
-connection_items number way (e ∷ past) = connection_items number way past ++ cond (opened_events (e ∷ past) == number) (if_some (item_going way e.event)) []
+abbrev pub connection_items : ℕ → Direction → List Placed → List Item
+connection_items number direction [] = []
+connection_items number direction (e ∷ past) = connection_items number direction past ++ cond (opened_events (e ∷ past) == number) (if_some (item_going direction e.event)) []

@@ -2,7 +2,7 @@
 use Rattle.std.specs.Prelude.{◌≡◌, ℕ, ◌+◌, ◌-◌, ◌*◌, ◌<◌, ◌≤◌, ◌⊎◌, Bool, true, false, List, [], ◌∷◌, ◌++◌, length, slice_index, Option, Some, None}
 use Rattle.mq_trace.specs.declared.kind.RecordKind.{RecordKind}
 use Rattle.mq_trace.specs.declared.kind.RecordKind.TheVariants as kinds
-use Rattle.mq_trace.specs.declared.direction.Direction.{Direction}
+use Rattle.mq_trace.specs.declared.deframer.Deframer.{Deframer}
 use Rattle.mq_trace.specs.declared.connections.Connections.{Connections}
 use Rattle.mq_trace.specs.declared.stage.Stage.{Stage}
 use Rattle.mq_trace.specs.declared.stage.Stage.TheVariants as stages
@@ -10,17 +10,17 @@ use Rattle.mq_trace.specs.declared.reading.Reading.{Reading}
 use Rattle.mq_packet.specs.declared.header.FixedHeader.{FixedHeader}
 use Rattle.mq_packet.specs.declared.header.FixedHeader.TheVariants as headers
 use Rattle.mq_packet.specs.Stream.{fixed_header_of}
-use Rattle.mq_trace.specs.Framing.{kind_of, way_of, body_length}
+use Rattle.mq_trace.specs.Framing.{kind_of, direction_of, body_length}
 use Rattle.mq_trace.specs.Events.{Placed}
-use Rattle.mq_trace.specs.Context.{Half, Context, so_far_for}
+use Rattle.mq_trace.specs.Context.{StreamState, Context, so_far_for}
 use Rattle.mq_trace.specs.Runs.{behind, refused_in, heard_in}
 use Rattle.mq_trace.specs.Hearing.{AreEvents}
-use Rattle.mq_trace.specs.Directing.{FlowWhy}
+use Rattle.mq_trace.specs.Deframing.{FlowWhy}
 use Rattle.mq_trace.specs.declared.refusal.Refusal.{Refusal}
 
 -- a direction, apart from where its bytes are in memory
-abbrev pub half_in : Direction → Half
-half_in d = record { unfinished = d.unfinished.items; lost = d.lost }
+abbrev pub state_in : Deframer → StreamState
+state_in d = record { unfinished = d.unfinished.items; lost = d.lost }
 
 -- the number that bytes spell, the most significant first
 abbrev pub spelled_from : ℕ → List ℕ → ℕ
@@ -32,7 +32,7 @@ abbrev pub IsAt : Stage → List ℕ → Type 0
 IsAt stages.Between part = part ≡ []
 IsAt (stages.Head kind count length_so_far) part = (first : ℕ) × (bytes : List ℕ) × (part ≡ first ∷ bytes)
     × (kind_of part ≡ Some kind) × (length bytes ≡ count) × (length_so_far ≡ spelled_from 0 bytes)
-IsAt (stages.Body way left) part = (kind : RecordKind) × (kind_of part ≡ Some kind) × (way_of (Some kind) ≡ Some way) × (5 ≤ length part) × (length part + left ≡ 5 + body_length part)
+IsAt (stages.Body direction left) part = (kind : RecordKind) × (kind_of part ≡ Some kind) × (direction_of (Some kind) ≡ Some direction) × (5 ≤ length part) × (length part + left ≡ 5 + body_length part)
 IsAt (stages.Release None) part = (kind_of part ≡ Some kinds.Release) × (length part ≡ 5) × (body_length part ≡ 2)
 IsAt (stages.Release (Some high)) part = (kind_of part ≡ Some kinds.Release) × (length part ≡ 6) × (body_length part ≡ 2) × (slice_index part 5 ≡ high)
 
@@ -43,18 +43,18 @@ context_of r part = record {
   header = r.header;
   part = part;
   records = r.records;
-  sent = half_in r.sent;
-  recv = half_in r.recv;
+  sent = state_in r.sent;
+  recv = state_in r.recv;
   events = r.connections.events;
   connected = r.connections.connected;
-  answered = r.connections.answered;
+  connack_seen = r.connections.connack_seen;
 }
 
 -- A bound on how many bytes of the unfinished record came.
 abbrev pub begun_in : Stage → ℕ
 begun_in stages.Between = 0
 begun_in (stages.Head kind count length_so_far) = 1 + count
-begun_in (stages.Body way left) = 1048581 - left
+begun_in (stages.Body direction left) = 1048581 - left
 begun_in (stages.Release None) = 5
 begun_in (stages.Release (Some high)) = 6
 
@@ -62,7 +62,7 @@ begun_in (stages.Release (Some high)) = 6
 abbrev pub IsWithin : Stage → Type 0
 IsWithin stages.Between = Unit {0}
 IsWithin (stages.Head kind count length_so_far) = (count ≤ 3) × ((count ≡ 0 → length_so_far ≡ 0) × (count ≡ 1 → length_so_far < 256) × (count ≡ 2 → length_so_far < 65536) × (length_so_far < 16777216))
-IsWithin (stages.Body way left) = (1 ≤ left) × (left ≤ 1048576)
+IsWithin (stages.Body direction left) = (1 ≤ left) × (left ≤ 1048576)
 IsWithin (stages.Release first) = Unit {0}
 
 -- A packet whose fixed header is whole isn't larger than the limit, and isn't whole.
@@ -72,8 +72,8 @@ IsShort limit bytes headers.Lost = ⊥
 IsShort limit bytes (headers.Whole header size) = (length bytes < size) × (size ≤ limit)
 
 -- the bytes of an unfinished packet
-abbrev pub IsUnfinished : ℕ → Half → Type 0
-IsUnfinished limit half = IsShort limit half.unfinished (fixed_header_of half.unfinished) × (half.lost ≡ true → half.unfinished ≡ [])
+abbrev pub IsUnfinished : ℕ → StreamState → Type 0
+IsUnfinished limit state = IsShort limit state.unfinished (fixed_header_of state.unfinished) × (state.lost ≡ true → state.unfinished ≡ [])
 
 -- What holds of the state that is kept of a log that wasn't refused.
 pub record IsSound (r : Reading) : Type 0 where
@@ -83,9 +83,9 @@ pub record IsSound (r : Reading) : Type 0 where
   pub behind_header : 0 < begun_in r.stage → 8 ≤ r.at
   pub header_first : r.at < 8 → (r.stage ≡ stages.Between) × (r.records ≡ 0)
   pub emptied : (count length_so_far : ℕ) → r.stage ≡ stages.Head kinds.Open count length_so_far
-      → (half_in r.sent ≡ record { unfinished = []; lost = false }) × (half_in r.recv ≡ record { unfinished = []; lost = false })
-  pub sent : IsUnfinished r.limit (half_in r.sent)
-  pub recv : IsUnfinished r.limit (half_in r.recv)
+      → (state_in r.sent ≡ record { unfinished = []; lost = false }) × (state_in r.recv ≡ record { unfinished = []; lost = false })
+  pub sent : IsUnfinished r.limit (state_in r.sent)
+  pub recv : IsUnfinished r.limit (state_in r.recv)
 
 -- These bytes bring a reader from one state to another: none of them is refused, and they complete these events, the newest first.
 pub record Advances (r r' : Reading) (bytes : List ℕ) (heard : List Placed) : Type 0 where
@@ -97,7 +97,7 @@ pub record Advances (r r' : Reading) (bytes : List ℕ) (heard : List Placed) : 
 pub record Comes {S : Type 0} (agrees : S → List Placed → Type 0) (r r' : Reading) (bytes : List ℕ) (old new : S) : Type 0 where
   pub heard : List Placed
   pub advances : Advances r r' bytes heard
-  pub told : (earlier : List Placed) → agrees old earlier → AreEvents (heard ++ earlier) → agrees new (heard ++ earlier)
+  pub emitted : (earlier : List Placed) → agrees old earlier → AreEvents (heard ++ earlier) → agrees new (heard ++ earlier)
 
 -- These bytes aren't all taken in: one of them isn't, and none before it is refused or completes anything.
 pub record StepStops {S : Type 0} (declines : S → S → List Placed → Refusal → Type 0) (r : Reading) (bytes : List ℕ) (old new : S) (refusal : Refusal) : Type 0 where

@@ -1,6 +1,6 @@
 pub mod Connections
 pub mod Context
-pub mod Directing
+pub mod Deframing
 pub mod Events
 pub mod Flows
 pub mod Framing
@@ -15,6 +15,6 @@ pub mod Runs
 pub mod Settling
 pub mod Stepping
 pub mod Splitting
-pub mod Telling
+pub mod Emission
 pub mod Tracing
 pub mod Writing

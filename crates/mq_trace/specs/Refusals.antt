@@ -10,7 +10,7 @@ use Rattle.mq_trace.specs.declared.kind.RecordKind.TheVariants as kinds
 use Rattle.mq_trace.specs.declared.refusal.Refusal.{Refusal}
 use Rattle.mq_trace.specs.declared.refusal.Refusal.TheVariants as refusals
 use Rattle.mq_trace.specs.declared.header.Header.{Header}
-use Rattle.mq_trace.specs.Connections.{needs_answer, has_open_connection, is_answered}
+use Rattle.mq_trace.specs.Connections.{needs_answer, has_open_connection, is_connack_seen}
 use Rattle.mq_packet.specs.Stream.{fixed_header_of, frame_size}
 use Rattle.mq_trace.specs.Framing.{header_by, kind_of, body_length, records, begun_records}
 use Rattle.mq_trace.specs.Events.{Event, event_in, read_frame, part_at, packet_at, events}
@@ -44,7 +44,7 @@ pub record Situation : Type 0 where
   -- the events before it: how many, whether a connection is open, and whether the latest one's CONNACK came
   pub events : ℕ
   pub connected : Bool
-  pub answered : Bool
+  pub connack_seen : Bool
 
 -- the situation of the next byte of a log
 unfoldable pub situation : List ℕ → ℕ → Situation
@@ -56,7 +56,7 @@ situation before byte = record {
   so_far = packet_at before byte;
   events = length (events before);
   connected = has_open_connection (events before);
-  answered = is_answered (header_by before).server (events before);
+  connack_seen = is_connack_seen (header_by before).server (events before);
 }
 
 -- the byte is its record's first, or the last of its length
@@ -111,7 +111,7 @@ ends_packet s = is_some (frame_size s.so_far)
 -- A session packet or a RELEASE comes on an open connection whose CONNACK hasn't come. A RELEASE between connections isn't early.
 abbrev pub is_early : Situation → Option Event → Bool
 is_early s None = false
-is_early s (Some event) = needs_answer event && (s.connected && not s.answered)
+is_early s (Some event) = needs_answer event && (s.connected && not s.connack_seen)
 
 -- the refusal of the first line whose condition applies
 abbrev pub first_standing : List (Bool × Refusal) → Option Refusal

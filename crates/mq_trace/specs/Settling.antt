@@ -2,17 +2,17 @@
 use Rattle.std.specs.Prelude.{◌≡◌, ℕ, ◌+◌, ◌≤◌, false, List, [], ◌∷◌, ◌++◌, length, Some}
 use Rattle.mq_packet.specs.declared.header.FixedHeader.TheVariants as headers
 use Rattle.mq_packet.specs.Stream.{fixed_header_of, frame_size}
-use Rattle.mq_trace.specs.declared.direction.Step.{Step}
-use Rattle.mq_trace.specs.declared.direction.Step.TheVariants as steps
-use Rattle.mq_trace.specs.Context.{Half}
+use Rattle.mq_trace.specs.declared.deframer.Step.{Step}
+use Rattle.mq_trace.specs.declared.deframer.Step.TheVariants as steps
+use Rattle.mq_trace.specs.Context.{StreamState}
 use Rattle.mq_trace.specs.Keeping.{IsShort, IsUnfinished}
 
 -- What the next bytes of a direction are: a whole packet within the limit, with its fixed header's length; the beginning of one; more of an unfinished packet of this size; or a byte that may belong to a fixed header, of which at most four came.
-abbrev pub IsStep : Half → ℕ → List ℕ → Step → Type 0
-IsStep half limit bytes (steps.Whole header size) = (half.unfinished ≡ []) × (frame_size bytes ≡ Some size) × (size ≤ limit) × (fixed_header_of bytes ≡ headers.Whole header size) × (size ≤ header + 268435455)
-IsStep half limit bytes (steps.More size) = (header : ℕ) × (fixed_header_of half.unfinished ≡ headers.Whole header size)
-IsStep half limit bytes steps.Beginning = (half.unfinished ≡ []) × IsShort limit bytes (fixed_header_of bytes)
-IsStep half limit bytes steps.Byte = length half.unfinished ≤ 4
+abbrev pub IsStep : StreamState → ℕ → List ℕ → Step → Type 0
+IsStep state limit bytes (steps.Whole header size) = (state.unfinished ≡ []) × (frame_size bytes ≡ Some size) × (size ≤ limit) × (fixed_header_of bytes ≡ headers.Whole header size) × (size ≤ header + 268435455)
+IsStep state limit bytes (steps.More size) = (header : ℕ) × (fixed_header_of state.unfinished ≡ headers.Whole header size)
+IsStep state limit bytes steps.Beginning = (state.unfinished ≡ []) × IsShort limit bytes (fixed_header_of bytes)
+IsStep state limit bytes steps.Byte = length state.unfinished ≤ 4
 
 -- These bytes of a packet are those of an unfinished one, and one more byte.
 pub record IsByteMore (limit : ℕ) (before : List ℕ) (byte : ℕ) (bytes : List ℕ) : Type 0 where

@@ -3,7 +3,7 @@ use Rattle.std.specs.Prelude.{◌≡◌, ℕ, ◌+◌, ◌<◌, ◌≤◌, ◌==
 use Rattle.std.specs.Int.{w32, from_be_bytes}
 use Rattle.mq_trace.specs.declared.kind.RecordKind.{RecordKind}
 use Rattle.mq_trace.specs.declared.kind.RecordKind.TheVariants as kinds
-use Rattle.mq_trace.specs.declared.kind.Way.{Way}
+use Rattle.mq_trace.specs.declared.kind.Direction.{Direction}
 use Rattle.mq_trace.specs.declared.refusal.Refusal.{Refusal}
 use Rattle.mq_trace.specs.declared.refusal.Refusal.TheVariants as refusals
 use Rattle.mq_trace.specs.declared.stage.Stage.TheVariants as stages
@@ -13,12 +13,12 @@ use Rattle.mq_trace.specs.Events.{Event}
 use Rattle.mq_trace.specs.Refusals.{first_standing, is_open_kind, needs_connection, is_release_kind}
 use Rattle.mq_trace.specs.Context.{emptied}
 use Rattle.mq_trace.specs.declared.connections.Connections.{Connections}
-use Rattle.mq_trace.specs.declared.direction.Direction.{Direction}
-use Rattle.mq_trace.specs.declared.kind.Way.TheVariants as ways
-use Rattle.mq_trace.specs.Telling.{connections_with}
-use Rattle.mq_trace.specs.Flows.{Bed, Flow}
-use Rattle.mq_trace.specs.Directing.{flow_of}
-use Rattle.mq_trace.specs.Keeping.{half_in}
+use Rattle.mq_trace.specs.declared.deframer.Deframer.{Deframer}
+use Rattle.mq_trace.specs.declared.kind.Direction.TheVariants as directions
+use Rattle.mq_trace.specs.Emission.{connections_with}
+use Rattle.mq_trace.specs.Flows.{BodyContext, Flow}
+use Rattle.mq_trace.specs.Deframing.{flow_of}
+use Rattle.mq_trace.specs.Keeping.{state_in}
 
 -- the refusal that a result holds, if it holds one
 abbrev pub err_of : {A : Type 0} → Result A Refusal → Option Refusal
@@ -36,8 +36,8 @@ behind_header r byte = record r {
 }
 
 -- the refusal that applies at the first byte of a record of this kind
-abbrev pub met_by_kind : Reading → RecordKind → Option Refusal
-met_by_kind r kind = first_standing (
+abbrev pub kind_refusal : Reading → RecordKind → Option Refusal
+kind_refusal r kind = first_standing (
     (is_open_kind (Some kind) && r.connections.connected, refusals.Nested r.at)
     ∷ (needs_connection (Some kind) && not r.connections.connected, refusals.NotOpen r.at)
     ∷ (is_release_kind (Some kind) && not r.header.releases, refusals.ReleaseUnrecorded r.at)
@@ -47,31 +47,31 @@ met_by_kind r kind = first_standing (
 -- after the first byte of a record of this kind
 pub record BeginsRecord (r r' : Reading) (kind : RecordKind) : Type 0 where
   pub is : r' ≡ record r { at = r.at + 1; stage = stages.Head kind 0 0; sent = r'.sent; recv = r'.recv }
-  pub sent : half_in r'.sent ≡ cond (opens (Some kind)) emptied (half_in r.sent)
-  pub recv : half_in r'.recv ≡ cond (opens (Some kind)) emptied (half_in r.recv)
+  pub sent : state_in r'.sent ≡ cond (opens (Some kind)) emptied (state_in r.sent)
+  pub recv : state_in r'.recv ≡ cond (opens (Some kind)) emptied (state_in r.recv)
 
 -- the refusal of a record's first byte
 abbrev pub refused_first : Reading → Option RecordKind → Option Refusal
 refused_first r None = Some (refusals.Kind r.at)
-refused_first r (Some kind) = met_by_kind r kind
+refused_first r (Some kind) = kind_refusal r kind
 
 -- after more bytes of a record's head
 abbrev pub in_head : Reading → ℕ → RecordKind → ℕ → ℕ → Reading
 in_head r at kind count number = record r { at = at; stage = stages.Head kind count number }
 
 -- the kind of the records that carry packets this way
-abbrev pub kind_for : Way → RecordKind
-kind_for ways.Sent = kinds.Sent
-kind_for ways.Recv = kinds.Recv
+abbrev pub kind_for : Direction → RecordKind
+kind_for directions.Sent = kinds.Sent
+kind_for directions.Recv = kinds.Recv
 
 -- The reader is between two records, and the next bytes are the head of one that carries packets this way, of this length, and meets no refusal.
-pub record IsBodyHead (r : Reading) (bytes : List ℕ) (way : Way) (number : ℕ) : Type 0 where
+pub record IsBodyHead (r : Reading) (bytes : List ℕ) (direction : Direction) (number : ℕ) : Type 0 where
   pub behind : 8 ≤ r.at
   pub between : r.stage ≡ stages.Between
   pub connected : r.connections.connected ≡ true
   pub room : r.records < 4294967295
   pub whole : 5 ≤ length bytes
-  pub named : kind_named (slice_index bytes 0) ≡ Some (kind_for way)
+  pub named : kind_named (slice_index bytes 0) ≡ Some (kind_for direction)
   pub spelled : number ≡ from_be_bytes w32 (slice_index bytes 1 ∷ slice_index bytes 2 ∷ slice_index bytes 3 ∷ slice_index bytes 4 ∷ [])
   pub allowed : number ≤ 1048576
 
@@ -85,28 +85,28 @@ marked r event = record r {
 }
 
 -- with this many bytes of a record's body still to come
-abbrev pub leaving : Reading → Way → ℕ → Reading
-leaving r way left = record r {
+abbrev pub leaving : Reading → Direction → ℕ → Reading
+leaving r direction left = record r {
   records = if left == 0 then r.records + 1 else r.records;
-  stage = if left == 0 then stages.Between else stages.Body way left;
+  stage = if left == 0 then stages.Between else stages.Body direction left;
 }
 
 -- the direction of a body's bytes, and what is kept of it
-abbrev pub bed_for : Reading → Way → Bed
-bed_for r way = record { way = way; server = r.header.server; record_no = r.records + 1 }
+abbrev pub context_for : Reading → Direction → BodyContext
+context_for r direction = record { direction = direction; server = r.header.server; record_no = r.records + 1 }
 
-abbrev pub direction_for : Reading → Way → Direction
-direction_for r ways.Sent = r.sent
-direction_for r ways.Recv = r.recv
+abbrev pub deframer_for : Reading → Direction → Deframer
+deframer_for r directions.Sent = r.sent
+deframer_for r directions.Recv = r.recv
 
-abbrev pub flow_for : Reading → Way → Flow
-flow_for r way = flow_of r.at (half_in (direction_for r way)) r.connections
+abbrev pub flow_for : Reading → Direction → Flow
+flow_for r direction = flow_of r.at (state_in (deframer_for r direction)) r.connections
 
 -- the reader, with this direction replaced
-abbrev pub redirected : Reading → Way → Direction → Reading
-redirected r ways.Sent d = record r { sent = d }
-redirected r ways.Recv d = record r { recv = d }
+abbrev pub redirected : Reading → Direction → Deframer → Reading
+redirected r directions.Sent d = record r { sent = d }
+redirected r directions.Recv d = record r { recv = d }
 
 -- after bytes of a body, of which this many are still to come
-abbrev pub carried_on : Reading → Way → ℕ → Direction → Connections → ℕ → Reading
-carried_on r way at d connections left = leaving (record (redirected r way d) { at = at; connections = connections }) way left
+abbrev pub carried_on : Reading → Direction → ℕ → Deframer → Connections → ℕ → Reading
+carried_on r direction at d connections left = leaving (record (redirected r direction d) { at = at; connections = connections }) direction left

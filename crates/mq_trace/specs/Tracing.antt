@@ -9,7 +9,7 @@ use Rattle.mq_trace.specs.Events.{Placed, events, event_at, packet_at}
 use Rattle.mq_trace.specs.Refusals.{refused, refusal_at, is_cut_short}
 use Rattle.mq_trace.specs.Refusing.{moved}
 use Rattle.mq_trace.specs.Context.{context}
-use Rattle.mq_trace.specs.Directing.{NeedsMemory}
+use Rattle.mq_trace.specs.Deframing.{NeedsMemory}
 use Rattle.mq_trace.specs.Keeping.{IsAt, context_of}
 
 -- a tracer: the refusal that it reported, if any, and what it keeps of the log

@@ -9,10 +9,10 @@ ghost use Rattle.mq_trace.specs.Flows.{going};
 ghost use Rattle.mq_trace.specs.declared.event.Item.TheVariants as items;
 ghost use Rattle.mq_trace.specs.Connections.{begins_connection, ends_connection, is_answer, needs_answer, is_packet, is_connack, is_session_entry};
 ghost use Rattle.mq_trace.specs.Hearing.{AreEvents, Declines, event_of, item_of};
-ghost use Rattle.mq_trace.specs.Telling.{met_by, connections_with, next_placed, Untold, RefusedBySink};
+ghost use Rattle.mq_trace.specs.Emission.{event_refusal, connections_with, next_placed, NotEmitted, RefusedBySink};
 
 use super::event::{Event, Item};
-use super::kind::Way;
+use super::kind::Direction;
 use super::place::Place3;
 use super::refusal::Refusal;
 use super::sink::Sink;
@@ -26,7 +26,7 @@ pub struct Connections {
     /// Whether a connection is open.
     pub connected: bool,
     /// Whether the latest connection's CONNACK came.
-    pub answered: bool,
+    pub connack_seen: bool,
 }
 
 /// Emits the next event to a sink. The byte at this offset of the log completes it, in the record of this number.
@@ -36,7 +36,7 @@ pub struct Connections {
 /// `Early` if the event needs its connection's CONNACK, which hasn't come; `TooLong` if there are 4,294,967,295 events
 /// already; the sink's own refusal. Each names this byte.
 #[inline(always)]
-pub fn tell<S: Sink>(
+pub fn emit<S: Sink>(
     connections: &mut Connections,
     server: bool,
     at: u64,
@@ -44,14 +44,14 @@ pub fn tell<S: Sink>(
     event: Event<'_>,
     sink: &mut S,
 ) -> Result<(), Refusal>
-    ensures ok { OnOk result ((met_by at connections.old (event_of event.entry) ≡ None) × (connections.new ≡ connections_with server connections.old (event_of event.entry))) }
+    ensures ok { OnOk result ((event_refusal at connections.old (event_of event.entry) ≡ None) × (connections.new ≡ connections_with server connections.old (event_of event.entry))) }
     ensures heard { (earlier : List Placed) → S.agrees sink.old earlier → AreEvents (next_placed connections.old record_no (event_of event.entry) ∷ earlier)
         → OnOk result (S.agrees sink.new (next_placed connections.old record_no (event_of event.entry) ∷ earlier)) }
-    ensures err { IfErr result (λ refusal. Untold (Declines S.agrees S.refuses) at (met_by at connections.old (event_of event.entry)) (next_placed connections.old record_no (event_of event.entry) ∷ []) sink.old sink.new refusal) }
+    ensures err { IfErr result (λ refusal. NotEmitted (Declines S.agrees S.refuses) at (event_refusal at connections.old (event_of event.entry)) (next_placed connections.old record_no (event_of event.entry) ∷ []) sink.old sink.new refusal) }
 {
-    match met_by(*connections, at, &event) {
+    match event_refusal(*connections, at, &event) {
         Some(refusal) => Err(refusal),
-        None => tell_next(connections, server, at, record_no, event, sink),
+        None => emit_next(connections, server, at, record_no, event, sink),
     }
 }
 
@@ -62,35 +62,35 @@ pub fn tell<S: Sink>(
 ///
 /// As for any event.
 #[inline(always)]
-pub fn tell_published<S: Sink>(
+pub fn emit_publish<S: Sink>(
     connections: &mut Connections,
     at: u64,
     record_no: u32,
-    way: Way,
+    direction: Direction,
     size: u32,
     publish: Publish<'_>,
     sink: &mut S,
 ) -> Result<(), Refusal>
     requires { size ≡ unwrap_or (size_with (remaining_length (packets.Publish publish))) 0 }
-    ensures met { OnOk result (met_by at connections.old (going way (item_of (items.Packet (packets.Publish publish.entry)))) ≡ None) }
-    ensures kept { (server : Bool) → OnOk result (connections.new ≡ connections_with server connections.old (going way (item_of (items.Packet (packets.Publish publish.entry))))) }
-    ensures heard { (earlier : List Placed) → S.agrees sink.old earlier → AreEvents (next_placed connections.old record_no (going way (item_of (items.Packet (packets.Publish publish.entry)))) ∷ earlier)
-        → OnOk result (S.agrees sink.new (next_placed connections.old record_no (going way (item_of (items.Packet (packets.Publish publish.entry)))) ∷ earlier)) }
-    ensures err { IfErr result (λ refusal. Untold (Declines S.agrees S.refuses) at (met_by at connections.old (going way (item_of (items.Packet (packets.Publish publish.entry))))) (next_placed connections.old record_no (going way (item_of (items.Packet (packets.Publish publish.entry)))) ∷ []) sink.old sink.new refusal) }
+    ensures met { OnOk result (event_refusal at connections.old (going direction (item_of (items.Packet (packets.Publish publish.entry)))) ≡ None) }
+    ensures kept { (server : Bool) → OnOk result (connections.new ≡ connections_with server connections.old (going direction (item_of (items.Packet (packets.Publish publish.entry))))) }
+    ensures heard { (earlier : List Placed) → S.agrees sink.old earlier → AreEvents (next_placed connections.old record_no (going direction (item_of (items.Packet (packets.Publish publish.entry)))) ∷ earlier)
+        → OnOk result (S.agrees sink.new (next_placed connections.old record_no (going direction (item_of (items.Packet (packets.Publish publish.entry)))) ∷ earlier)) }
+    ensures err { IfErr result (λ refusal. NotEmitted (Declines S.agrees S.refuses) at (event_refusal at connections.old (going direction (item_of (items.Packet (packets.Publish publish.entry))))) (next_placed connections.old record_no (going direction (item_of (items.Packet (packets.Publish publish.entry)))) ∷ []) sink.old sink.new refusal) }
 {
-    match met_by_publish(*connections, at) {
+    match publish_refusal(*connections, at) {
         Some(met) => Err(met),
-        None => tell_next_publish(connections, at, record_no, way, size, publish, sink),
+        None => emit_next_publish(connections, at, record_no, direction, size, publish, sink),
     }
 }
 
 /// The refusal that applies to a PUBLISH that the byte at this offset completes.
 #[inline(always)]
-fn met_by_publish(connections: Connections, at: u64) -> Option<Refusal>
-    ensures met { (way : Way) (size : ℕ) (fields : PublishFields) → result ≡ met_by at connections (going way (packet size (publish fields))) }
+fn publish_refusal(connections: Connections, at: u64) -> Option<Refusal>
+    ensures met { (direction : Direction) (size : ℕ) (fields : PublishFields) → result ≡ event_refusal at connections (going direction (packet size (publish fields))) }
     ensures room { result ≡ None → connections.events < 4294967295 }
 {
-    if connections.connected && !connections.answered {
+    if connections.connected && !connections.connack_seen {
         Some(Refusal::Early(at))
     } else if connections.events == u32::MAX {
         Some(Refusal::TooLong(at))
@@ -105,39 +105,39 @@ fn met_by_publish(connections: Connections, at: u64) -> Option<Refusal>
 ///
 /// The sink's own refusal, at this byte.
 #[inline(always)]
-fn tell_next_publish<S: Sink>(
+fn emit_next_publish<S: Sink>(
     connections: &mut Connections,
     at: u64,
     record_no: u32,
-    way: Way,
+    direction: Direction,
     size: u32,
     publish: Publish<'_>,
     sink: &mut S,
 ) -> Result<(), Refusal>
     requires room { connections.old.events < 4294967295 }
     requires size { size ≡ unwrap_or (size_with (remaining_length (packets.Publish publish))) 0 }
-    ensures kept { (server : Bool) → OnOk result (connections.new ≡ connections_with server connections.old (going way (item_of (items.Packet (packets.Publish publish.entry))))) }
-    ensures heard { (earlier : List Placed) → S.agrees sink.old earlier → AreEvents (next_placed connections.old record_no (going way (item_of (items.Packet (packets.Publish publish.entry)))) ∷ earlier)
-        → OnOk result (S.agrees sink.new (next_placed connections.old record_no (going way (item_of (items.Packet (packets.Publish publish.entry)))) ∷ earlier)) }
-    ensures err { IfErr result (λ refusal. RefusedBySink (Declines S.agrees S.refuses) at (next_placed connections.old record_no (going way (item_of (items.Packet (packets.Publish publish.entry)))) ∷ []) sink.old sink.new refusal) }
+    ensures kept { (server : Bool) → OnOk result (connections.new ≡ connections_with server connections.old (going direction (item_of (items.Packet (packets.Publish publish.entry))))) }
+    ensures heard { (earlier : List Placed) → S.agrees sink.old earlier → AreEvents (next_placed connections.old record_no (going direction (item_of (items.Packet (packets.Publish publish.entry)))) ∷ earlier)
+        → OnOk result (S.agrees sink.new (next_placed connections.old record_no (going direction (item_of (items.Packet (packets.Publish publish.entry)))) ∷ earlier)) }
+    ensures err { IfErr result (λ refusal. RefusedBySink (Declines S.agrees S.refuses) at (next_placed connections.old record_no (going direction (item_of (items.Packet (packets.Publish publish.entry)))) ∷ []) sink.old sink.new refusal) }
 {
     let place = Place3 {
         position: connections.events + 1,
         record_no,
     };
-    match sink.publish(place, way, size, publish) {
+    match sink.publish(place, direction, size, publish) {
         Ok(()) => {
             connections.events = place.position;
             Ok(())
         }
-        Err(refusal) => Err(refusal.moved(at)),
+        Err(refusal) => Err(refusal.moved_to(at)),
     }
 }
 
 /// The refusal that applies to an event that the byte at this offset completes.
 #[inline(always)]
-fn met_by(connections: Connections, at: u64, event: &Event<'_>) -> Option<Refusal>
-    ensures met { result ≡ met_by at connections (event_of event.now) }
+fn event_refusal(connections: Connections, at: u64, event: &Event<'_>) -> Option<Refusal>
+    ensures met { result ≡ event_refusal at connections (event_of event.now) }
     ensures room { result ≡ None → connections.events < 4294967295 }
 {
     if is_early(connections, event) {
@@ -152,9 +152,9 @@ fn met_by(connections: Connections, at: u64, event: &Event<'_>) -> Option<Refusa
 /// Whether the event needs its connection's CONNACK, while that hasn't come.
 #[inline(always)]
 fn is_early(connections: Connections, event: &Event<'_>) -> bool
-    ensures { result ≡ (needs_answer (event_of event.now) && (connections.connected && not connections.answered)) }
+    ensures { result ≡ (needs_answer (event_of event.now) && (connections.connected && not connections.connack_seen)) }
 {
-    needs_answer(event) && connections.connected && !connections.answered
+    needs_answer(event) && connections.connected && !connections.connack_seen
 }
 
 /// Emits the next event, to which no refusal applies.
@@ -163,7 +163,7 @@ fn is_early(connections: Connections, event: &Event<'_>) -> bool
 ///
 /// The sink's own refusal, at this byte.
 #[inline(always)]
-fn tell_next<S: Sink>(
+fn emit_next<S: Sink>(
     connections: &mut Connections,
     server: bool,
     at: u64,
@@ -187,7 +187,7 @@ fn tell_next<S: Sink>(
             *connections = next;
             Ok(())
         }
-        Err(refusal) => Err(refusal.moved(at)),
+        Err(refusal) => Err(refusal.moved_to(at)),
     }
 }
 
@@ -200,7 +200,7 @@ fn connections_with(connections: Connections, server: bool, event: &Event<'_>) -
     Connections {
         events: connections.events + 1,
         connected: begins(event) || (!ends(event) && connections.connected),
-        answered: is_answer(server, event) || (!begins(event) && connections.answered),
+        connack_seen: is_answer(server, event) || (!begins(event) && connections.connack_seen),
     }
 }
 

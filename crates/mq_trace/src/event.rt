@@ -4,7 +4,7 @@ ghost use Rattle.std.specs.Prelude.{◌≡◌};
 ghost use Rattle.mq_trace.specs.Flows.{going};
 ghost use Rattle.mq_trace.specs.Hearing.{event_of, item_of};
 
-use super::kind::Way;
+use super::kind::Direction;
 use mq_packet::{Packet, PacketRule};
 
 /// An item of one direction's stream of packets.
@@ -46,11 +46,11 @@ pub enum Event<'a> {
 
 /// The event of an item in this direction.
 #[inline(always)]
-pub fn going(way: Way, item: Item<'_>) -> Event<'_>
-    ensures { event_of result ≡ going way (item_of item.entry) }
+pub fn going(direction: Direction, item: Item<'_>) -> Event<'_>
+    ensures { event_of result ≡ going direction (item_of item.entry) }
 {
-    match way {
-        Way::Sent => Event::Sent(item),
-        Way::Recv => Event::Recv(item),
+    match direction {
+        Direction::Sent => Event::Sent(item),
+        Direction::Recv => Event::Recv(item),
     }
 }

@@ -3,7 +3,7 @@ ghost use Rattle.std.specs.Prelude.{◌≡◌, ℕ, true, false, take, drop, Lis
 ghost use Rattle.mq_packet.specs.Stream.{frame_size};
 ghost use Rattle.mq_trace.specs.declared.refusal.Refusal.{Refusal};
 ghost use Rattle.mq_trace.specs.declared.refusal.Refusal.TheVariants.{Version, Nested, NotOpen, ReleaseUnrecorded, Early};
-ghost use Rattle.mq_trace.specs.declared.kind.Way.{Way};
+ghost use Rattle.mq_trace.specs.declared.kind.Direction.{Direction};
 ghost use Rattle.mq_trace.specs.Pieces.{Pieces, AreCut};
 ghost use Rattle.mq_trace.specs.Framing.{record_size, records, stream, kind_of, opens, carried};
 ghost use Rattle.mq_trace.specs.Events.{events};
@@ -26,7 +26,7 @@ pub fn stream_is_its_frames()
 /// What a direction carried on a connection doesn't depend on what came before its OPEN: a packet that was unfinished is dropped, and a
 /// direction that was lost is read again. Records are given the newest first.
 pub fn connections_carry_their_own()
-    ensures { (way : Way) (later before : List (List ℕ)) (first : List ℕ) → opens (kind_of first) ≡ true → carried way (later ++ first ∷ before) ≡ carried way (later ++ first ∷ []) }
+    ensures { (direction : Direction) (later before : List (List ℕ)) (first : List ℕ) → opens (kind_of first) ≡ true → carried direction (later ++ first ∷ before) ≡ carried direction (later ++ first ∷ []) }
 {}
 
 /// A refusal stays, whatever follows: the earliest byte decides.

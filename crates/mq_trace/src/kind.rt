@@ -1,7 +1,7 @@
 //! The kinds of records, and the two directions of a connection.
 
 ghost use Rattle.std.specs.Prelude.{◌≡◌, ◌&&◌, Some, List};
-ghost use Rattle.mq_trace.specs.Framing.{kind_named, way_of, opens};
+ghost use Rattle.mq_trace.specs.Framing.{kind_named, direction_of, opens};
 ghost use Rattle.mq_trace.specs.Refusals.{allows_length, needs_connection, is_open_kind, is_release_kind};
 
 /// The kind of a record of the log, which its first byte names.
@@ -23,7 +23,7 @@ pub enum RecordKind {
 
 /// A direction of a connection, as the tested end sees it.
 #[derive(Clone, Copy, Debug, PartialEq, Eq)]
-pub enum Way {
+pub enum Direction {
     /// From the tested end to its peer.
     Sent,
     /// From the peer to the tested end.
@@ -38,7 +38,7 @@ const RELEASE_BODY: u32 = 2;
 
 impl RecordKind {
     /// The kind that a record's first byte names, if it names one.
-    pub fn named(byte: u8) -> Option<RecordKind>
+    pub fn from_byte(byte: u8) -> Option<RecordKind>
         ensures { result ≡ kind_named byte }
     {
         match byte {
@@ -53,12 +53,12 @@ impl RecordKind {
     }
 
     /// The direction whose bytes a record of this kind carries, if it carries any.
-    pub fn way(self) -> Option<Way>
-        ensures { result ≡ way_of (Some self) }
+    pub fn direction(self) -> Option<Direction>
+        ensures { result ≡ direction_of (Some self) }
     {
         match self {
-            RecordKind::Sent => Some(Way::Sent),
-            RecordKind::Recv => Some(Way::Recv),
+            RecordKind::Sent => Some(Direction::Sent),
+            RecordKind::Recv => Some(Direction::Recv),
             RecordKind::Open | RecordKind::Close | RecordKind::Rest | RecordKind::Release => None,
         }
     }
@@ -91,7 +91,7 @@ mod tests {
 
     #[test]
     fn a_kind_allows_its_lengths(rt: HostRuntime) {
-        assert_eq!(rt; RecordKind::named(6), Some(RecordKind::Release));
+        assert_eq!(rt; RecordKind::from_byte(6), Some(RecordKind::Release));
         assert!(rt; RecordKind::Recv.allows(1_048_576));
         assert!(rt; !RecordKind::Recv.allows(1_048_577));
         assert!(rt; !RecordKind::Release.allows(1));

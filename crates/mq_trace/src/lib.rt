@@ -2,7 +2,7 @@
 #![tactic(auto)]
 
 mod connections;
-mod direction;
+mod deframer;
 mod event;
 mod framing_laws;
 mod header;
@@ -21,7 +21,7 @@ mod writer;
 
 pub use event::{Event, Item};
 pub use header::Header;
-pub use kind::Way;
+pub use kind::Direction;
 pub use place::Place3;
 pub use refusal::Refusal;
 pub use sink::Sink;

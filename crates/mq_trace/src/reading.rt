@@ -1,7 +1,7 @@
 //! Reads a log: its header, its records, and what they carry.
 
 ghost use Rattle.std.specs.Prelude.{◌≡◌, ◌≢◌, ◌+◌, ◌*◌, ◌^◌, ◌<◌, ◌≤◌, ◌∷◌, ◌++◌, [], List, true, false, cond, Some, None, OnOk, IfOk, IfErr, IfSome, IsTrue, length, take};
-ghost use Rattle.mq_trace.specs.Keeping.{half_in, context_of, IsUnfinished, IsSound, Advances, Comes, StepStops};
+ghost use Rattle.mq_trace.specs.Keeping.{state_in, context_of, IsUnfinished, IsSound, Advances, Comes, StepStops};
 ghost use Rattle.mq_trace.specs.Refusals.{allows_length, header_refusal};
 ghost use Rattle.std.specs.Int.{w16, w32, from_be_bytes};
 ghost use Rattle.mq_trace.specs.declared.kind.RecordKind.TheVariants as kinds;
@@ -9,17 +9,17 @@ ghost use Rattle.mq_trace.specs.declared.stage.Stage.TheVariants as stages;
 ghost use Rattle.mq_trace.specs.Framing.{kind_named, opens};
 ghost use Rattle.mq_trace.specs.Events.{Placed};
 ghost use Rattle.mq_trace.specs.Hearing.{AreEvents, Declines, event_of};
-ghost use Rattle.mq_trace.specs.Telling.{met_by, next_placed, Untold};
+ghost use Rattle.mq_trace.specs.Emission.{event_refusal, next_placed, NotEmitted};
 ghost use Rattle.mq_trace.specs.Context.{fresh};
-ghost use Rattle.mq_trace.specs.Stepping.{err_of, behind_header, met_by_kind, kind_for, IsBodyHead, BeginsRecord, refused_first, in_head, marked, leaving, bed_for, direction_for, flow_for, redirected};
+ghost use Rattle.mq_trace.specs.Stepping.{err_of, behind_header, kind_refusal, kind_for, IsBodyHead, BeginsRecord, refused_first, in_head, marked, leaving, context_for, deframer_for, flow_for, redirected};
 ghost use Rattle.mq_trace.specs.Flows.{flow_refused, flow_heard, flow_behind};
-ghost use Rattle.mq_trace.specs.Directing.{flow_of, FlowStops};
+ghost use Rattle.mq_trace.specs.Deframing.{flow_of, FlowStops};
 
-use super::connections::{Connections, tell};
-use super::direction::{Bed, Direction};
+use super::connections::{Connections, emit};
+use super::deframer::{BodyContext, Deframer};
 use super::event::Event;
 use super::header::{HEADER_LENGTH, Header, header_after, header_refusal};
-use super::kind::{LONGEST_BODY, RecordKind, Way};
+use super::kind::{Direction, LONGEST_BODY, RecordKind};
 use super::refusal::Refusal;
 use super::sink::Sink;
 use super::stage::Stage;
@@ -30,12 +30,12 @@ const HEAD_LENGTH: usize = 5;
 
 /// The direction of the packets that a record carries, where this byte begins it and it is a SENT or RECV.
 #[inline(always)]
-fn way_named(byte: u8) -> Option<Way>
-    ensures { IfSome result (λ way. kind_named byte ≡ Some (kind_for way)) }
+fn direction_named(byte: u8) -> Option<Direction>
+    ensures { IfSome result (λ direction. kind_named byte ≡ Some (kind_for direction)) }
 {
     match byte {
-        2 => Some(Way::Sent),
-        3 => Some(Way::Recv),
+        2 => Some(Direction::Sent),
+        3 => Some(Direction::Recv),
         _ => None,
     }
 }
@@ -48,8 +48,8 @@ pub struct Reading {
     pub header: Header,
     pub records: u32,
     pub stage: Stage,
-    pub sent: Direction,
-    pub recv: Direction,
+    pub sent: Deframer,
+    pub recv: Deframer,
     pub connections: Connections,
 }
 
@@ -70,12 +70,12 @@ impl Reading {
             },
             records: 0,
             stage: Stage::Between,
-            sent: Direction::new(alloc),
-            recv: Direction::new(alloc),
+            sent: Deframer::new(alloc),
+            recv: Deframer::new(alloc),
             connections: Connections {
                 events: 0,
                 connected: false,
-                answered: false,
+                connack_seen: false,
             },
         }
     }
@@ -85,7 +85,7 @@ impl Reading {
     /// # Errors
     ///
     /// The refusal that applies first at one of them; the sink's own refusal; `Memory`.
-    pub fn take<S: Sink>(&mut self, bytes: &[u8], sink: &mut S) -> Result<usize, Refusal>
+    pub fn consume<S: Sink>(&mut self, bytes: &[u8], sink: &mut S) -> Result<usize, Refusal>
         requires some { 1 ≤ length bytes.now }
         requires sound { IsSound self.old }
         ensures count { IfOk result (λ n. (1 ≤ n) × (n ≤ length bytes.now)) }
@@ -114,9 +114,9 @@ impl Reading {
         ensures advances { Advances self.old self.new (take result bytes.now) [] }
     {
         match self.body_head(bytes) {
-            Some((way, length)) => {
+            Some((direction, length)) => {
                 self.at += HEAD_LENGTH as u64;
-                self.leave(way, length);
+                self.leave(direction, length);
                 HEAD_LENGTH
             }
             None => 0,
@@ -125,7 +125,7 @@ impl Reading {
 
     /// The direction and the length of the body, where the next bytes are the head of a SENT or RECV that meets no refusal.
     #[inline(always)]
-    fn body_head(&self, bytes: &[u8]) -> Option<(Way, u32)>
+    fn body_head(&self, bytes: &[u8]) -> Option<(Direction, u32)>
         ensures { IfSome result (λ body. IsBodyHead self.now bytes.now body.0 body.1) }
     {
         if self.at < HEADER_LENGTH {
@@ -137,12 +137,12 @@ impl Reading {
         if !self.takes_bodies() {
             return None;
         }
-        let way = way_named(bytes[0])?;
+        let direction = direction_named(bytes[0])?;
         let length = u32::from_be_bytes([bytes[1], bytes[2], bytes[3], bytes[4]]);
         if LONGEST_BODY < length {
             return None;
         }
-        Some((way, length))
+        Some((direction, length))
     }
 
     /// Whether the next byte can begin a record that carries packets.
@@ -168,13 +168,13 @@ impl Reading {
         ensures stops { IfErr result (λ refusal. StepStops (Declines S.agrees S.refuses) self.old bytes.now sink.old sink.new refusal) }
     {
         if self.at < HEADER_LENGTH {
-            return match self.take_header(bytes[0]) {
+            return match self.consume_header(bytes[0]) {
                 Ok(()) => Ok(1),
                 Err(refusal) => Err(refusal),
             };
         }
         match self.stage {
-            Stage::Between => self.take_head(bytes, sink),
+            Stage::Between => self.consume_head(bytes, sink),
             Stage::Head {
                 kind,
                 count,
@@ -183,7 +183,7 @@ impl Reading {
                 Ok(()) => Ok(1),
                 Err(refusal) => Err(refusal),
             },
-            Stage::Body { way, left } => self.take_body(way, left, bytes, sink),
+            Stage::Body { direction, left } => self.consume_body(direction, left, bytes, sink),
             Stage::Release(None) => {
                 self.at += 1;
                 self.stage = Stage::Release(Some(bytes[0]));
@@ -201,7 +201,7 @@ impl Reading {
     /// # Errors
     ///
     /// The refusal that the byte gives.
-    fn take_header(&mut self, byte: u8) -> Result<(), Refusal>
+    fn consume_header(&mut self, byte: u8) -> Result<(), Refusal>
         requires begun { self.old.at < 8 }
         ensures refused { header_refusal self.old.at byte ≡ err_of result }
         ensures kept { OnOk result (self.new ≡ behind_header self.old byte) }
@@ -216,7 +216,7 @@ impl Reading {
 
     /// Takes in a record's head at once, if all of it is there, else its first byte.
     #[inline(always)]
-    fn take_head<S: Sink>(&mut self, bytes: &[u8], sink: &mut S) -> Result<usize, Refusal>
+    fn consume_head<S: Sink>(&mut self, bytes: &[u8], sink: &mut S) -> Result<usize, Refusal>
         requires some { 1 ≤ length bytes.now }
         requires sound { IsSound self.old }
         requires behind { 8 ≤ self.old.at }
@@ -231,7 +231,7 @@ impl Reading {
                 if bytes.len() < HEAD_LENGTH {
                     return Ok(1);
                 }
-                match self.take_length(kind, bytes[1], bytes[2], bytes[3], bytes[4], sink) {
+                match self.consume_length(kind, bytes[1], bytes[2], bytes[3], bytes[4], sink) {
                     Ok(()) => Ok(HEAD_LENGTH),
                     Err(refusal) => Err(refusal),
                 }
@@ -242,7 +242,7 @@ impl Reading {
 
     /// Takes in all four bytes of a record's length, after its first byte.
     #[inline(always)]
-    fn take_length<S: Sink>(
+    fn consume_length<S: Sink>(
         &mut self,
         kind: RecordKind,
         a: u8,
@@ -271,15 +271,15 @@ impl Reading {
         requires sound { IsSound self.old }
         requires between { self.old.stage ≡ stages.Between }
         ensures named { IfOk result (λ kind. kind_named byte ≡ Some kind) }
-        ensures met { IfOk result (λ kind. met_by_kind self.old kind ≡ None) }
+        ensures met { IfOk result (λ kind. kind_refusal self.old kind ≡ None) }
         ensures room { OnOk result (self.old.records < 4294967295) }
         ensures begins { IfOk result (λ kind. BeginsRecord self.old self.new kind) }
         ensures refused { IfErr result (λ refusal. refused_first self.old (kind_named byte) ≡ Some refusal) }
     {
-        let Some(kind) = RecordKind::named(byte) else {
+        let Some(kind) = RecordKind::from_byte(byte) else {
             return Err(Refusal::Kind(self.at));
         };
-        if let Some(refusal) = self.met_by(kind) {
+        if let Some(refusal) = self.kind_refusal(kind) {
             return Err(refusal);
         }
         self.begin(kind);
@@ -288,8 +288,8 @@ impl Reading {
 
     /// The refusal that applies at the first byte of a record of this kind.
     #[inline(always)]
-    fn met_by(&self, kind: RecordKind) -> Option<Refusal>
-        ensures met { result ≡ met_by_kind self.now kind }
+    fn kind_refusal(&self, kind: RecordKind) -> Option<Refusal>
+        ensures met { result ≡ kind_refusal self.now kind }
         ensures room { result ≡ None → self.now.records < 4294967295 }
     {
         if kind == RecordKind::Open && self.connections.connected {
@@ -310,8 +310,8 @@ impl Reading {
     fn begin(&mut self, kind: RecordKind)
         requires { self.old.at + 1 < 2 ^ 64 }
         ensures is { self.new ≡ record self.old { at = self.old.at + 1; stage = stages.Head kind 0 0; sent = self.new.sent; recv = self.new.recv } }
-        ensures sent { half_in self.new.sent ≡ cond (opens (Some kind)) (record { unfinished = []; lost = false }) (half_in self.old.sent) }
-        ensures recv { half_in self.new.recv ≡ cond (opens (Some kind)) (record { unfinished = []; lost = false }) (half_in self.old.recv) }
+        ensures sent { state_in self.new.sent ≡ cond (opens (Some kind)) (record { unfinished = []; lost = false }) (state_in self.old.sent) }
+        ensures recv { state_in self.new.recv ≡ cond (opens (Some kind)) (record { unfinished = []; lost = false }) (state_in self.old.recv) }
     {
         if kind == RecordKind::Open {
             self.sent.clear();
@@ -390,11 +390,11 @@ impl Reading {
         }
         match kind {
             RecordKind::Sent => {
-                self.begin_body(Way::Sent, whole);
+                self.begin_body(Direction::Sent, whole);
                 Ok(())
             }
             RecordKind::Recv => {
-                self.begin_body(Way::Recv, whole);
+                self.begin_body(Direction::Recv, whole);
                 Ok(())
             }
             _ => self.end_other(kind, length, byte, sink),
@@ -440,13 +440,13 @@ impl Reading {
     fn end_mark<S: Sink>(&mut self, event: Event<'_>, sink: &mut S) -> Result<(), Refusal>
         requires room { self.old.at + 1 < 2 ^ 64 }
         requires numbered { self.old.records < 4294967295 }
-        ensures met { OnOk result (met_by self.old.at self.old.connections (event_of event.entry) ≡ None) }
+        ensures met { OnOk result (event_refusal self.old.at self.old.connections (event_of event.entry) ≡ None) }
         ensures kept { OnOk result (self.new ≡ marked self.old (event_of event.entry)) }
         ensures heard { (earlier : List Placed) → S.agrees sink.old earlier → AreEvents (next_placed self.old.connections (self.old.records + 1) (event_of event.entry) ∷ earlier)
             → OnOk result (S.agrees sink.new (next_placed self.old.connections (self.old.records + 1) (event_of event.entry) ∷ earlier)) }
-        ensures err { IfErr result (λ refusal. Untold (Declines S.agrees S.refuses) self.old.at (met_by self.old.at self.old.connections (event_of event.entry)) (next_placed self.old.connections (self.old.records + 1) (event_of event.entry) ∷ []) sink.old sink.new refusal) }
+        ensures err { IfErr result (λ refusal. NotEmitted (Declines S.agrees S.refuses) self.old.at (event_refusal self.old.at self.old.connections (event_of event.entry)) (next_placed self.old.connections (self.old.records + 1) (event_of event.entry) ∷ []) sink.old sink.new refusal) }
     {
-        match tell(
+        match emit(
             &mut self.connections,
             self.header.server,
             self.at,
@@ -486,51 +486,51 @@ impl Reading {
 
     /// Takes in the last byte of the head of a record that carries `length` bytes in this direction.
     #[inline(always)]
-    fn begin_body(&mut self, way: Way, length: u32)
+    fn begin_body(&mut self, direction: Direction, length: u32)
         requires room { self.old.at + 1 < 2 ^ 64 }
         requires numbered { self.old.records < 4294967295 }
-        ensures { self.new ≡ leaving (record self.old { at = self.old.at + 1 }) way length }
+        ensures { self.new ≡ leaving (record self.old { at = self.old.at + 1 }) direction length }
     {
         self.at += 1;
-        self.leave(way, length);
+        self.leave(direction, length);
     }
 
     /// Sets the state with `left` bytes of a record's body still to come.
     #[inline(always)]
-    fn leave(&mut self, way: Way, left: u32)
+    fn leave(&mut self, direction: Direction, left: u32)
         requires numbered { self.old.records < 4294967295 }
-        ensures { self.new ≡ leaving self.old way left }
+        ensures { self.new ≡ leaving self.old direction left }
     {
         if left == 0 {
             self.records += 1;
             self.stage = Stage::Between;
         } else {
-            self.stage = Stage::Body { way, left };
+            self.stage = Stage::Body { direction, left };
         }
     }
 
     /// Takes in bytes of a body, of which `left` are still to come: those of one packet.
     #[inline(always)]
-    fn take_body<S: Sink>(
+    fn consume_body<S: Sink>(
         &mut self,
-        way: Way,
+        direction: Direction,
         left: u32,
         bytes: &[u8],
         sink: &mut S,
     ) -> Result<usize, Refusal>
         requires some { 1 ≤ length bytes.now }
         requires sound { IsSound self.old }
-        requires within { self.old.stage ≡ stages.Body way left }
+        requires within { self.old.stage ≡ stages.Body direction left }
         ensures count { IfOk result (λ n. (1 ≤ n) × (n ≤ length bytes.now)) }
         ensures sound { OnOk result (IsSound self.new) }
         ensures comes { IfOk result (λ n. Comes S.agrees self.old self.new (take n bytes.now) sink.old sink.new) }
         ensures stops { IfErr result (λ refusal. StepStops (Declines S.agrees S.refuses) self.old bytes.now sink.old sink.new refusal) }
     {
         let body = &bytes[..bytes.len().min(left as usize)];
-        match self.pass_on(way, body, sink) {
+        match self.pass_on(direction, body, sink) {
             Ok(count) => {
                 self.at += count as u64;
-                self.leave(way, left - count as u32);
+                self.leave(direction, left - count as u32);
                 Ok(count)
             }
             Err(refusal) => Err(refusal),
@@ -539,31 +539,40 @@ impl Reading {
 
     /// Passes bytes of a body on to their direction: those of one packet. Returns how many.
     #[inline(always)]
-    fn pass_on<S: Sink>(&mut self, way: Way, body: &[u8], sink: &mut S) -> Result<usize, Refusal>
+    fn pass_on<S: Sink>(
+        &mut self,
+        direction: Direction,
+        body: &[u8],
+        sink: &mut S,
+    ) -> Result<usize, Refusal>
         requires some { 1 ≤ length body.now }
         requires room { self.old.at + length body.now < 2 ^ 64 }
         requires numbered { self.old.records < 4294967295 }
-        requires unfinished { IsUnfinished self.old.limit (half_in (direction_for self.old way)) }
-        ensures is { self.new ≡ record (redirected self.old way (direction_for self.new way)) { connections = self.new.connections } }
+        requires unfinished { IsUnfinished self.old.limit (state_in (deframer_for self.old direction)) }
+        ensures is { self.new ≡ record (redirected self.old direction (deframer_for self.new direction)) { connections = self.new.connections } }
         ensures count { IfOk result (λ n. (1 ≤ n) × (n ≤ length body.now)) }
-        ensures unrefused { IfOk result (λ n. flow_refused self.old.limit (bed_for self.old way) (flow_for self.old way) (take n body.now) ≡ None) }
-        ensures kept { IfOk result (λ n. flow_behind (bed_for self.old way) (flow_for self.old way) (take n body.now) ≡ flow_of (self.old.at + n) (half_in (direction_for self.new way)) self.new.connections) }
+        ensures unrefused { IfOk result (λ n. flow_refused self.old.limit (context_for self.old direction) (flow_for self.old direction) (take n body.now) ≡ None) }
+        ensures kept { IfOk result (λ n. flow_behind (context_for self.old direction) (flow_for self.old direction) (take n body.now) ≡ flow_of (self.old.at + n) (state_in (deframer_for self.new direction)) self.new.connections) }
         ensures heard { (earlier : List Placed) → S.agrees sink.old earlier → IfOk result (λ n.
-            AreEvents (flow_heard (bed_for self.old way) (flow_for self.old way) (take n body.now) ++ earlier)
-            → S.agrees sink.new (flow_heard (bed_for self.old way) (flow_for self.old way) (take n body.now) ++ earlier)) }
-        ensures sound { OnOk result (IsUnfinished self.old.limit (half_in (direction_for self.new way))) }
-        ensures stops { IfErr result (λ refusal. FlowStops (Declines S.agrees S.refuses) self.old.limit (bed_for self.old way) (flow_for self.old way) body.now sink.old sink.new refusal) }
+            AreEvents (flow_heard (context_for self.old direction) (flow_for self.old direction) (take n body.now) ++ earlier)
+            → S.agrees sink.new (flow_heard (context_for self.old direction) (flow_for self.old direction) (take n body.now) ++ earlier)) }
+        ensures sound { OnOk result (IsUnfinished self.old.limit (state_in (deframer_for self.new direction))) }
+        ensures stops { IfErr result (λ refusal. FlowStops (Declines S.agrees S.refuses) self.old.limit (context_for self.old direction) (flow_for self.old direction) body.now sink.old sink.new refusal) }
     {
-        let bed = Bed {
-            way,
+        let context = BodyContext {
+            direction,
             server: self.header.server,
             record_no: self.records + 1,
             limit: self.limit,
         };
         let at = self.at;
-        match way {
-            Way::Sent => self.sent.take(bed, &mut self.connections, at, body, sink),
-            Way::Recv => self.recv.take(bed, &mut self.connections, at, body, sink),
+        match direction {
+            Direction::Sent => self
+                .sent
+                .consume(context, &mut self.connections, at, body, sink),
+            Direction::Recv => self
+                .recv
+                .consume(context, &mut self.connections, at, body, sink),
         }
     }
 }

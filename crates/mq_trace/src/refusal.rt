@@ -118,7 +118,7 @@ impl Refusal {
 
 impl Refusal {
     /// The same refusal at another byte.
-    pub fn moved(self, at: u64) -> Refusal
+    pub fn moved_to(self, at: u64) -> Refusal
         ensures { result ≡ moved self at }
     {
         match self {

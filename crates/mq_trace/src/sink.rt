@@ -7,7 +7,7 @@ ghost use Rattle.mq_trace.specs.Events.{Placed};
 ghost use Rattle.mq_trace.specs.Hearing.{AreEvents, placed_at, published_at};
 
 use super::event::{Event, Item, going};
-use super::kind::Way;
+use super::kind::Direction;
 use super::place::Place3;
 use super::refusal::Refusal;
 use mq_packet::{Packet, Publish};
@@ -43,17 +43,20 @@ pub trait Sink {
     fn publish(
         &mut self,
         place: Place3,
-        way: Way,
+        direction: Direction,
         size: u32,
         publish: Publish<'_>,
     ) -> Result<(), Refusal>
         requires { size ≡ unwrap_or (size_with (remaining_length (packets.Publish publish))) 0 }
-        ensures heard { (earlier : List Placed) → agrees self.old earlier → AreEvents (published_at place way publish.entry ∷ earlier)
-            → OnOk result (agrees self.new (published_at place way publish.entry ∷ earlier)) }
-        ensures refused { (earlier : List Placed) → agrees self.old earlier → AreEvents (published_at place way publish.entry ∷ earlier)
+        ensures heard { (earlier : List Placed) → agrees self.old earlier → AreEvents (published_at place direction publish.entry ∷ earlier)
+            → OnOk result (agrees self.new (published_at place direction publish.entry ∷ earlier)) }
+        ensures refused { (earlier : List Placed) → agrees self.old earlier → AreEvents (published_at place direction publish.entry ∷ earlier)
             → IfErr result (λ refusal. refuses self.new earlier refusal) }
     {
         let _ = size;
-        self.event(place, going(way, Item::Packet(Packet::Publish(publish))))
+        self.event(
+            place,
+            going(direction, Item::Packet(Packet::Publish(publish))),
+        )
     }
 }

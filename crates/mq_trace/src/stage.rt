@@ -3,7 +3,7 @@
 ghost use Rattle.std.specs.Prelude.{◌≡◌};
 ghost use Rattle.mq_trace.specs.Tracing.{is_between};
 
-use super::kind::{RecordKind, Way};
+use super::kind::{Direction, RecordKind};
 
 /// Where a reader is among the records of a log.
 #[derive(Clone, Copy, Debug, PartialEq, Eq)]
@@ -22,7 +22,7 @@ pub enum Stage {
     /// Inside the body of a SENT or RECV.
     Body {
         /// The direction whose bytes it carries.
-        way: Way,
+        direction: Direction,
         /// How many of its bytes are still to come: 1 to 1,048,576.
         left: u32,
     },

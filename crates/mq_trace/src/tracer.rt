@@ -54,7 +54,7 @@ impl Tracer {
     }
 
     /// How many bytes of the log were taken in.
-    pub fn taken(&self) -> u64
+    pub fn byte_count(&self) -> u64
         ensures { (log : List ℕ) → IsTracedTo self.now log → result ≡ length log }
     {
         self.reading.at
@@ -80,7 +80,7 @@ impl Tracer {
         if let Some(refusal) = self.refusal {
             return Err(refusal);
         }
-        let taken = take_in(&mut self.reading, piece, sink);
+        let taken = consume(&mut self.reading, piece, sink);
         if let Err(refusal) = taken {
             self.refusal = Some(refusal);
         }
@@ -126,7 +126,7 @@ fn is_cut_short(reading: &Reading) -> bool
 }
 
 /// Takes in a piece of a log.
-fn take_in<S: Sink>(reading: &mut Reading, piece: &[u8], sink: &mut S) -> Result<(), Refusal>
+fn consume<S: Sink>(reading: &mut Reading, piece: &[u8], sink: &mut S) -> Result<(), Refusal>
     requires { IsSound reading.old }
     ensures sound { OnOk result (IsSound reading.new) }
     ensures limit { OnOk result (reading.new.limit ≡ reading.old.limit) }
@@ -136,7 +136,7 @@ fn take_in<S: Sink>(reading: &mut Reading, piece: &[u8], sink: &mut S) -> Result
 {
     let mut rest = piece;
     while !rest.is_empty() {
-        match reading.take(rest, sink) {
+        match reading.consume(rest, sink) {
             Ok(count) => rest = &rest[count..],
             Err(refusal) => return Err(refusal),
         }

@@ -67,21 +67,21 @@ pub fn put_varint(out: &mut Vec<u8>, number: u32) -> Result<(), PutFault>
 {
     match number {
         0..128 => put_bytes(out, &[number as u8]),
-        128..16_384 => put_bytes(out, &[continued(number), (number / 128) as u8]),
+        128..16_384 => put_bytes(out, &[continuation_byte(number), (number / 128) as u8]),
         16_384..2_097_152 => put_bytes(
             out,
             &[
-                continued(number),
-                continued(number / 128),
+                continuation_byte(number),
+                continuation_byte(number / 128),
                 (number / 16_384) as u8,
             ],
         ),
         2_097_152..=MAX_VARINT => put_bytes(
             out,
             &[
-                continued(number),
-                continued(number / 128),
-                continued(number / 16_384),
+                continuation_byte(number),
+                continuation_byte(number / 128),
+                continuation_byte(number / 16_384),
                 (number / 2_097_152) as u8,
             ],
         ),
@@ -90,7 +90,7 @@ pub fn put_varint(out: &mut Vec<u8>, number: u32) -> Result<(), PutFault>
 }
 
 // The low seven bits of the number, in a byte that says that another follows.
-fn continued(number: u32) -> u8
+fn continuation_byte(number: u32) -> u8
     ensures { result ≡ 128 + number % 128 }
 {
     128 + (number % 128) as u8

@@ -10,7 +10,7 @@ ghost use Rattle.mq_judge.specs.Report.{line, fault_data, fault_items, verdict_w
 use super::RunFault;
 use super::line::write_bytes;
 use crate::judge::Verdict;
-use mq_rules::{Fault, Faults, Mark, Role};
+use mq_rules::{Fault, FaultKey, Faults, Role};
 use mq_trace::Refusal;
 use serde_json::{Value, json, push};
 use std::alloc::{AllocError, Global};
@@ -96,23 +96,23 @@ fn fault_values(alloc: Global, faults: &Faults, role: Role) -> Result<Vec<Value>
     ensures { IfOk result (λ values. items_view values.items ≡ fault_items role (map.entries faults.now)) }
 {
     let mut values = Vec::new(alloc);
-    for (mark, fault) in faults.iter() {
-        let value = fault_value(alloc, role, *mark, *fault)?;
+    for (key, fault) in faults.iter() {
+        let value = fault_value(alloc, role, *key, *fault)?;
         push(&mut values, value)?;
     }
     Ok(values)
 }
 
 /// A fault as a value.
-fn fault_value(alloc: Global, role: Role, mark: Mark, fault: Fault) -> Result<Value, AllocError>
-    ensures { IfOk result (λ value. view value ≡ fault_data role mark fault) }
+fn fault_value(alloc: Global, role: Role, key: FaultKey, fault: Fault) -> Result<Value, AllocError>
+    ensures { IfOk result (λ value. view value ≡ fault_data role key fault) }
 {
     json!(in alloc; {
-        "citation": mark.rule.citation(role),
-        "code": mark.rule.code(),
+        "citation": key.rule.citation(role),
+        "code": key.rule.code(),
         "decided": fault.decided,
         "offset": fault.offset,
-        "position": mark.position,
+        "position": key.position,
         "record": fault.record_no
     })
 }

@@ -10,14 +10,14 @@ ghost use Rattle.mq_judge.specs.Report.{faults_of, first_fault_of, rule_text, ru
 use super::line::write_line;
 use super::{Counts, RunFault};
 use crate::judge::Verdict;
-use mq_rules::{Fault, Faults, Mark, Role, Rule};
+use mq_rules::{Fault, FaultKey, Faults, Role, Rule};
 use std::fmt;
 use std::io::Write;
 
 /// The faults of a statement: how many there are, and the first one.
 struct Tally {
     count: usize,
-    first: Option<(Mark, Fault)>,
+    first: Option<(FaultKey, Fault)>,
 }
 
 /// A statement that has faults, as a report in short shows it.
@@ -26,18 +26,18 @@ struct Broken {
     role: Role,
     rule: Rule,
     count: usize,
-    mark: Mark,
+    key: FaultKey,
     fault: Fault,
 }
 
 impl fmt::Display for Broken {
-    ghost output = { λ broken. Some (rule_text broken.role broken.rule broken.count broken.mark broken.fault) };
+    ghost output = { λ broken. Some (rule_text broken.role broken.rule broken.count broken.key broken.fault) };
 
     fn fmt<W: fmt::Write>(&self, f: &mut fmt::Formatter<W>) -> fmt::Result {
         let code = self.rule.code();
         let citation = self.rule.citation(self.role);
         let count = self.count;
-        let position = self.mark.position;
+        let position = self.key.position;
         let record_no = self.fault.record_no;
         write!(
             f,
@@ -109,12 +109,12 @@ fn write_rule<W: Write>(
 {
     let Tally { count, first } = tally_of(rule, faults);
     match first {
-        Some((mark, fault)) => {
+        Some((key, fault)) => {
             let broken = Broken {
                 role,
                 rule,
                 count,
-                mark,
+                key,
                 fault,
             };
             write_line(broken, writer)
@@ -130,9 +130,9 @@ fn tally_of(rule: Rule, faults: &Faults) -> Tally
 {
     let mut count = faults.len();
     let mut first = None;
-    for (mark, fault) in faults.iter() {
-        if mark.rule == rule {
-            first = first.or(Some((*mark, *fault)));
+    for (key, fault) in faults.iter() {
+        if key.rule == rule {
+            first = first.or(Some((*key, *fault)));
         } else {
             count -= 1;
         }

@@ -8,7 +8,7 @@ ghost use Rattle.mq_packet.specs.Reading.{Reads};
 
 use super::fields::{SUCCESS, last_properties, packet_identifier, reason_code};
 use crate::packet::{Acknowledgement, AcknowledgementKind};
-use crate::stop::Stop;
+use crate::read_fault::ReadFault;
 use mq_props::Props;
 use mq_wire::Cursor;
 
@@ -23,7 +23,7 @@ pub fn read_acknowledgement<'a>(
     mut cursor: Cursor<'a>,
     kind: AcknowledgementKind,
     size: usize,
-) -> Result<Acknowledgement<'a>, Stop>
+) -> Result<Acknowledgement<'a>, ReadFault>
     requires { size ≤ 268435455 }
     ensures read { Reads (λ p. acknowledgement kind p.identifier p.code p.properties) result (read (acknowledgement_format kind) cursor.entry) }
     ensures read_len { IfOk result (λ p. p.read_len ≡ Some size) }
@@ -49,7 +49,7 @@ fn read_behind_code<'a>(
     identifier: u16,
     code: u8,
     size: usize,
-) -> Result<Acknowledgement<'a>, Stop>
+) -> Result<Acknowledgement<'a>, ReadFault>
     requires { size ≤ 268435455 }
     ensures read { Reads (λ p. acknowledgement kind p.identifier p.code p.properties) result (read (last_properties (acknowledgement_place kind) (acknowledgement kind identifier code)) cursor.entry) }
     ensures read_len { IfOk result (λ p. p.read_len ≡ Some size) }

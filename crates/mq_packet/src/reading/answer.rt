@@ -7,9 +7,9 @@ ghost use Rattle.mq_packet.specs.Decoding.{read};
 ghost use Rattle.mq_packet.specs.Reading.{Reads};
 
 use crate::packet::{Answer, RequestKind};
+use crate::read_fault::ReadFault;
 use crate::reading::fields::{packet_identifier, property_list};
 use crate::reading::lists::code_list;
-use crate::stop::Stop;
 use mq_wire::Cursor;
 
 /// Reads a SUBACK or UNSUBACK (MQTT 5.0, sections 3.9 and 3.11) from all that is left.
@@ -18,7 +18,7 @@ use mq_wire::Cursor;
 ///
 /// The first rule that a field breaks: W06, W09, W13, or one of its property list.
 #[inline(never)]
-pub fn read_answer<'a>(mut cursor: Cursor<'a>, kind: RequestKind) -> Result<Answer<'a>, Stop>
+pub fn read_answer<'a>(mut cursor: Cursor<'a>, kind: RequestKind) -> Result<Answer<'a>, ReadFault>
     ensures { Reads (λ p. answer kind p.identifier p.properties p.codes) result (read (answer_format kind) cursor.entry) }
 {
     let identifier = packet_identifier(&mut cursor)?;

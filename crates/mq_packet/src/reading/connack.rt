@@ -9,8 +9,8 @@ ghost use Rattle.mq_packet.specs.Reading.{ReadsField, Reads};
 use super::fields::{property_list, reason_code, whole};
 use crate::codes::CONNACK_CODES;
 use crate::packet::Connack;
+use crate::read_fault::ReadFault;
 use crate::rule::PacketRule;
-use crate::stop::Stop;
 use mq_props::Place;
 use mq_wire::Cursor;
 
@@ -23,7 +23,7 @@ const SESSION_PRESENT: u8 = 0x01;
 ///
 /// The first rule that a field breaks: W06, W20, W13, or one of its property list.
 #[inline(never)]
-pub fn read_connack<'a>(mut cursor: Cursor<'a>) -> Result<Connack<'a>, Stop>
+pub fn read_connack<'a>(mut cursor: Cursor<'a>) -> Result<Connack<'a>, ReadFault>
     ensures { Reads (λ p. connack p.session_present p.code p.properties) result (read connack_format cursor.entry) }
 {
     let flags = connack_flags(&mut cursor)?;
@@ -40,13 +40,13 @@ pub fn read_connack<'a>(mut cursor: Cursor<'a>) -> Result<Connack<'a>, Stop>
     )
 }
 
-fn connack_flags(cursor: &mut Cursor<'_>) -> Result<u8, Stop>
+fn connack_flags(cursor: &mut Cursor<'_>) -> Result<u8, ReadFault>
     ensures { ReadsField (λ n. n) result (read_field byte connack_flags_objection cursor.old) cursor.new }
 {
     let at = cursor.at();
     let flags = cursor.u8()?;
     if flags > SESSION_PRESENT {
-        return Err(Stop::Broken {
+        return Err(ReadFault::Broken {
             at,
             rule: PacketRule::W20,
         });

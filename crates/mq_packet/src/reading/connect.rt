@@ -12,8 +12,8 @@ use crate::packet::{Connect, Qos, Will};
 use crate::protocol::{
     CLEAN_START, PASSWORD, RESERVED, USER_NAME, WILL, WILL_QOS, WILL_QOS_ONE, WILL_RETAIN,
 };
+use crate::read_fault::ReadFault;
 use crate::rule::PacketRule;
-use crate::stop::Stop;
 use mq_props::Place;
 use mq_wire::Cursor;
 
@@ -26,13 +26,13 @@ fn are_flags(flags: u8) -> bool
         && (flags & WILL != 0 || flags & (WILL_QOS | WILL_RETAIN) == 0)
 }
 
-fn connect_flags(cursor: &mut Cursor<'_>) -> Result<u8, Stop>
+fn connect_flags(cursor: &mut Cursor<'_>) -> Result<u8, ReadFault>
     ensures { ReadsField (λ n. n) result (read_field byte connect_flags_objection cursor.old) cursor.new }
 {
     let at = cursor.at();
     let flags = cursor.u8()?;
     if !are_flags(flags) {
-        return Err(Stop::Broken {
+        return Err(ReadFault::Broken {
             at,
             rule: PacketRule::W19,
         });
@@ -52,7 +52,7 @@ fn will_qos(flags: u8) -> Qos
 }
 
 // The Will (MQTT 5.0, sections 3.1.3.2 to 3.1.3.4), if its flag is set.
-fn read_will<'a>(cursor: &mut Cursor<'a>, flags: u8) -> Result<Option<Will<'a>>, Stop>
+fn read_will<'a>(cursor: &mut Cursor<'a>, flags: u8) -> Result<Option<Will<'a>>, ReadFault>
     ensures { TakesPart (option_map will_view) result (will_if (has_bits 4 flags) flags) cursor.old cursor.new }
 {
     if flags & WILL == 0 {
@@ -71,7 +71,7 @@ fn read_will<'a>(cursor: &mut Cursor<'a>, flags: u8) -> Result<Option<Will<'a>>,
 }
 
 // The User Name (MQTT 5.0, section 3.1.3.5), if its flag is set.
-fn read_user_name<'a>(cursor: &mut Cursor<'a>, flags: u8) -> Result<Option<&'a str>, Stop>
+fn read_user_name<'a>(cursor: &mut Cursor<'a>, flags: u8) -> Result<Option<&'a str>, ReadFault>
     ensures { TakesPart (option_map (λ name. name.now)) result (field_if (has_bits 128 flags) text) cursor.old cursor.new }
 {
     if flags & USER_NAME == 0 {
@@ -82,7 +82,7 @@ fn read_user_name<'a>(cursor: &mut Cursor<'a>, flags: u8) -> Result<Option<&'a s
 }
 
 // The Password (MQTT 5.0, section 3.1.3.6), if its flag is set.
-fn read_password<'a>(cursor: &mut Cursor<'a>, flags: u8) -> Result<Option<&'a [u8]>, Stop>
+fn read_password<'a>(cursor: &mut Cursor<'a>, flags: u8) -> Result<Option<&'a [u8]>, ReadFault>
     ensures { TakesPart (option_map (λ bytes. bytes.now)) result (field_if (has_bits 64 flags) binary) cursor.old cursor.new }
 {
     if flags & PASSWORD == 0 {
@@ -98,7 +98,7 @@ fn read_password<'a>(cursor: &mut Cursor<'a>, flags: u8) -> Result<Option<&'a [u
 ///
 /// The first rule that a field breaks: W06, W18, W19, one of a text or of a property list; or the version, if it isn't 5.
 #[inline(never)]
-pub fn read_connect<'a>(mut cursor: Cursor<'a>) -> Result<Connect<'a>, Stop>
+pub fn read_connect<'a>(mut cursor: Cursor<'a>) -> Result<Connect<'a>, ReadFault>
     ensures { Reads (λ p. connect (connect_view p)) result (read connect_format cursor.entry) }
 {
     protocol_name(&mut cursor)?;

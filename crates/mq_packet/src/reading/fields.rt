@@ -9,8 +9,8 @@ ghost use Rattle.mq_packet.specs.Reading.{ReadsField, Reads};
 
 use crate::codes::is_code;
 use crate::protocol::{PROTOCOL_NAME, PROTOCOL_VERSION};
+use crate::read_fault::ReadFault;
 use crate::rule::PacketRule;
-use crate::stop::Stop;
 use mq_props::{Place, Props};
 use mq_topic::{check_filter, check_name};
 use mq_wire::Cursor;
@@ -23,12 +23,12 @@ pub const SUCCESS: u8 = 0x00;
 /// # Errors
 ///
 /// W06 at the first byte that is left.
-pub fn whole<P: Drop>(cursor: Cursor<'_>, packet: P) -> Result<P, Stop>
+pub fn whole<P: Drop>(cursor: Cursor<'_>, packet: P) -> Result<P, ReadFault>
     ensures same { IfOk result (λ read. read ≡ packet) }
     ensures ended { (see : P → Entry) → Reads see result (ended (see packet) cursor.entry) }
 {
     if !cursor.is_empty() {
-        return Err(Stop::Broken {
+        return Err(ReadFault::Broken {
             at: cursor.at(),
             rule: PacketRule::W06,
         });
@@ -41,13 +41,13 @@ pub fn whole<P: Drop>(cursor: Cursor<'_>, packet: P) -> Result<P, Stop>
 /// # Errors
 ///
 /// A rule of texts, and W18 if it is another name.
-pub fn protocol_name<'a>(cursor: &mut Cursor<'a>) -> Result<&'a str, Stop>
+pub fn protocol_name<'a>(cursor: &mut Cursor<'a>) -> Result<&'a str, ReadFault>
     ensures { ReadsField (λ name. name.now) result (read_field text name_objection cursor.old) cursor.new }
 {
     let at = cursor.at();
     let name = cursor.text()?;
     if name != PROTOCOL_NAME {
-        return Err(Stop::Broken {
+        return Err(ReadFault::Broken {
             at,
             rule: PacketRule::W18,
         });
@@ -60,12 +60,12 @@ pub fn protocol_name<'a>(cursor: &mut Cursor<'a>) -> Result<&'a str, Stop>
 /// # Errors
 ///
 /// W06 if no byte is left, and the version if it isn't 5.
-pub fn protocol_version(cursor: &mut Cursor<'_>) -> Result<u8, Stop>
+pub fn protocol_version(cursor: &mut Cursor<'_>) -> Result<u8, ReadFault>
     ensures { ReadsField (λ n. n) result (read_field byte version_objection cursor.old) cursor.new }
 {
     let version = cursor.u8()?;
     if version != PROTOCOL_VERSION {
-        return Err(Stop::OtherVersion(version));
+        return Err(ReadFault::OtherVersion(version));
     }
     Ok(version)
 }
@@ -76,13 +76,13 @@ pub fn protocol_version(cursor: &mut Cursor<'_>) -> Result<u8, Stop>
 ///
 /// W06 if fewer than two bytes are left, and W09 if it is 0.
 #[inline(always)]
-pub fn packet_identifier(cursor: &mut Cursor<'_>) -> Result<u16, Stop>
+pub fn packet_identifier(cursor: &mut Cursor<'_>) -> Result<u16, ReadFault>
     ensures { ReadsField (λ n. n) result (read_field two_bytes identifier_objection cursor.old) cursor.new }
 {
     let at = cursor.at();
     let identifier = cursor.u16()?;
     if identifier == 0 {
-        return Err(Stop::Broken {
+        return Err(ReadFault::Broken {
             at,
             rule: PacketRule::W09,
         });
@@ -95,13 +95,13 @@ pub fn packet_identifier(cursor: &mut Cursor<'_>) -> Result<u16, Stop>
 /// # Errors
 ///
 /// W06 if no byte is left, and W13 if it isn't in the table.
-pub fn reason_code(cursor: &mut Cursor<'_>, table: &[u8]) -> Result<u8, Stop>
+pub fn reason_code(cursor: &mut Cursor<'_>, table: &[u8]) -> Result<u8, ReadFault>
     ensures { ReadsField (λ n. n) result (read_field byte (code_objection table.now) cursor.old) cursor.new }
 {
     let at = cursor.at();
     let code = cursor.u8()?;
     if !is_code(table, code) {
-        return Err(Stop::Broken {
+        return Err(ReadFault::Broken {
             at,
             rule: PacketRule::W13,
         });
@@ -115,7 +115,7 @@ pub fn reason_code(cursor: &mut Cursor<'_>, table: &[u8]) -> Result<u8, Stop>
 ///
 /// The rule that its first invalid field breaks, at that field: W03 to W06, W10 to W12, W14.
 #[inline(always)]
-pub fn property_list<'a>(cursor: &mut Cursor<'a>, place: Place) -> Result<Props<'a>, Stop>
+pub fn property_list<'a>(cursor: &mut Cursor<'a>, place: Place) -> Result<Props<'a>, ReadFault>
     ensures list { ReadsField (λ list. list.items) result (read_field (properties place) any_value cursor.old) cursor.new }
     ensures place { IfOk result (λ list. list ≡ listed place list.items) }
 {
@@ -128,7 +128,7 @@ pub fn property_list<'a>(cursor: &mut Cursor<'a>, place: Place) -> Result<Props<
 /// # Errors
 ///
 /// The rule that its first invalid field breaks, at that field, and W06 at a byte after the list.
-pub fn last_properties<'a>(mut cursor: Cursor<'a>, place: Place) -> Result<Props<'a>, Stop>
+pub fn last_properties<'a>(mut cursor: Cursor<'a>, place: Place) -> Result<Props<'a>, ReadFault>
     ensures { (packet : Listed → Entry) → Reads packet result (read (last_properties place packet) cursor.entry) }
 {
     if cursor.is_empty() {
@@ -136,7 +136,7 @@ pub fn last_properties<'a>(mut cursor: Cursor<'a>, place: Place) -> Result<Props
     }
     let list = property_list(&mut cursor, place)?;
     if !cursor.is_empty() {
-        return Err(Stop::Broken {
+        return Err(ReadFault::Broken {
             at: cursor.at(),
             rule: PacketRule::W06,
         });
@@ -151,7 +151,7 @@ pub fn last_properties<'a>(mut cursor: Cursor<'a>, place: Place) -> Result<Props
 /// A rule of texts, and W14 if it has a wildcard.
 #[inline(always)]
 #[tactic(auto, using(crate::proofs::FieldLaws::plain_topic))]
-pub fn topic_name<'a>(cursor: &mut Cursor<'a>) -> Result<&'a str, Stop>
+pub fn topic_name<'a>(cursor: &mut Cursor<'a>) -> Result<&'a str, ReadFault>
     ensures { ReadsField (λ topic. topic.now) result (read_field text topic_objection cursor.old) cursor.new }
 {
     match cursor.plain_text() {
@@ -162,13 +162,13 @@ pub fn topic_name<'a>(cursor: &mut Cursor<'a>) -> Result<&'a str, Stop>
 
 // The same for any bytes. It is a function of its own, so that the call for a plain Topic Name, the usual case, is inlined.
 #[inline(never)]
-fn any_topic_name<'a>(cursor: &mut Cursor<'a>) -> Result<&'a str, Stop>
+fn any_topic_name<'a>(cursor: &mut Cursor<'a>) -> Result<&'a str, ReadFault>
     ensures { ReadsField (λ topic. topic.now) result (read_field text topic_objection cursor.old) cursor.new }
 {
     let at = cursor.at();
     let topic = cursor.text()?;
     if !check_name(topic) {
-        return Err(Stop::Broken {
+        return Err(ReadFault::Broken {
             at,
             rule: PacketRule::W14,
         });
@@ -188,13 +188,13 @@ pub fn is_topic_filter(filter: &str) -> bool
 /// # Errors
 ///
 /// A rule of texts, and W15 if it is invalid.
-pub fn topic_filter<'a>(cursor: &mut Cursor<'a>) -> Result<&'a str, Stop>
+pub fn topic_filter<'a>(cursor: &mut Cursor<'a>) -> Result<&'a str, ReadFault>
     ensures { ReadsField (λ filter. filter.now) result (read_field text filter_objection cursor.old) cursor.new }
 {
     let at = cursor.at();
     let filter = cursor.text()?;
     if !is_topic_filter(filter) {
-        return Err(Stop::Broken {
+        return Err(ReadFault::Broken {
             at,
             rule: PacketRule::W15,
         });

@@ -8,10 +8,10 @@ ghost use Rattle.mq_packet.specs.Reading.{ReadsField, Reads, decode_fault};
 ghost use Rattle.mq_packet.specs.Elements.{filter_view, AreRead};
 
 use crate::filters::{Filter, Filters};
+use crate::read_fault::ReadFault;
 use crate::reading::fields::{reason_code, topic_filter};
 use crate::reason_codes::Codes;
 use crate::rule::PacketRule;
-use crate::stop::Stop;
 use mq_wire::Cursor;
 
 // Whether these are Subscription Options (MQTT 5.0, section 3.8.3.1): neither the Maximum QoS, bits 1 and 0, nor Retain
@@ -23,13 +23,13 @@ fn are_subscription_options(options: u8) -> bool
 }
 
 // The Subscription Options of a filter (MQTT 5.0, section 3.8.3.1).
-fn subscription_options(cursor: &mut Cursor<'_>) -> Result<u8, Stop>
+fn subscription_options(cursor: &mut Cursor<'_>) -> Result<u8, ReadFault>
     ensures { ReadsField (λ n. n) result (read_field byte options_objection cursor.old) cursor.new }
 {
     let at = cursor.at();
     let options = cursor.u8()?;
     if !are_subscription_options(options) {
-        return Err(Stop::Broken {
+        return Err(ReadFault::Broken {
             at,
             rule: PacketRule::W17,
         });
@@ -38,7 +38,7 @@ fn subscription_options(cursor: &mut Cursor<'_>) -> Result<u8, Stop>
 }
 
 // The Subscription Options of a filter, if they are asked for.
-fn asked_options(cursor: &mut Cursor<'_>, asks: bool) -> Result<Option<u8>, Stop>
+fn asked_options(cursor: &mut Cursor<'_>, asks: bool) -> Result<Option<u8>, ReadFault>
     ensures { ReadsField (λ o. o) result (options_on asks cursor.old) cursor.new }
 {
     if !asks {
@@ -49,7 +49,7 @@ fn asked_options(cursor: &mut Cursor<'_>, asks: bool) -> Result<Option<u8>, Stop
 }
 
 // A filter, with its Subscription Options if they are asked for (MQTT 5.0, sections 3.8.3 and 3.10.3).
-fn asked_filter<'a>(cursor: &mut Cursor<'a>, asks: bool) -> Result<Filter<'a>, Stop>
+fn asked_filter<'a>(cursor: &mut Cursor<'a>, asks: bool) -> Result<Filter<'a>, ReadFault>
     ensures { ReadsField filter_view result (filter_on asks cursor.old) cursor.new }
 {
     let filter = topic_filter(cursor)?;
@@ -63,12 +63,12 @@ fn asked_filter<'a>(cursor: &mut Cursor<'a>, asks: bool) -> Result<Filter<'a>, S
 /// # Errors
 ///
 /// The first rule that a field breaks: one of texts, W06, W15, W17; and W16 if there is no filter.
-pub fn check_filters(mut cursor: Cursor<'_>, asks: bool) -> Result<(), Stop>
+pub fn check_filters(mut cursor: Cursor<'_>, asks: bool) -> Result<(), ReadFault>
     requires { AreBytes cursor.rest }
     ensures { MatchResult result (λ _. AreRead asks cursor.entry) (λ stop. filters_on asks cursor.entry ≡ Err (decode_fault stop)) }
 {
     if cursor.is_empty() {
-        return Err(Stop::Broken {
+        return Err(ReadFault::Broken {
             at: cursor.at(),
             rule: PacketRule::W16,
         });
@@ -84,13 +84,13 @@ pub fn check_filters(mut cursor: Cursor<'_>, asks: bool) -> Result<(), Stop>
 /// # Errors
 ///
 /// Those of `check_filters`.
-pub fn filter_list<'a>(cursor: Cursor<'a>, asks: bool) -> Result<Filters<'a>, Stop>
+pub fn filter_list<'a>(cursor: Cursor<'a>, asks: bool) -> Result<Filters<'a>, ReadFault>
     ensures { Reads (λ filters. filters) result (filters_on asks cursor.entry) }
 {
     let at = cursor.at();
     let bytes = cursor.rest();
     check_filters(Cursor::starting_at(bytes, at), asks)?;
-    Ok(Filters::checked(bytes, asks))
+    Ok(Filters::from_checked(bytes, asks))
 }
 
 /// Reads the Reason Codes of a table that are all that is left (MQTT 5.0, sections 3.9.3 and 3.11.3).
@@ -98,7 +98,7 @@ pub fn filter_list<'a>(cursor: Cursor<'a>, asks: bool) -> Result<Filters<'a>, St
 /// # Errors
 ///
 /// W13 at the first byte that isn't in the table.
-pub fn code_list<'a>(cursor: Cursor<'a>, table: &[u8]) -> Result<Codes<'a>, Stop>
+pub fn code_list<'a>(cursor: Cursor<'a>, table: &[u8]) -> Result<Codes<'a>, ReadFault>
     ensures { Reads (λ codes. codes) result (codes_on table.now cursor.entry) }
 {
     let at = cursor.at();

@@ -11,8 +11,8 @@ ghost use Rattle.mq_packet.specs.Reading.{ReadsField, Reads, publish_view};
 use super::fields::{packet_identifier, property_list, topic_name};
 use crate::packet::{Publish, Qos};
 use crate::protocol::{DUP, QOS, QOS_ONE, QOS_TWO, RETAIN};
+use crate::read_fault::ReadFault;
 use crate::rule::PacketRule;
-use crate::stop::Stop;
 use mq_props::{Place, Props};
 use mq_wire::Cursor;
 
@@ -23,7 +23,7 @@ use mq_wire::Cursor;
 /// W07 or W08 if the flags break it; else the first rule that a field breaks: a rule of texts, W06, W09, W14, W21, or one of
 /// its property list.
 #[inline(always)]
-pub fn read_publish<'a>(flags: u8, cursor: Cursor<'a>) -> Result<Publish<'a>, Stop>
+pub fn read_publish<'a>(flags: u8, cursor: Cursor<'a>) -> Result<Publish<'a>, ReadFault>
     ensures { Reads (λ p. publish (publish_view p)) result (read (publish_format flags) cursor.entry) }
 {
     let duplicate = flags & DUP != 0;
@@ -32,7 +32,7 @@ pub fn read_publish<'a>(flags: u8, cursor: Cursor<'a>) -> Result<Publish<'a>, St
         0 => read_unacknowledged(cursor, duplicate, retain),
         QOS_ONE => read_acknowledged(cursor, duplicate, Qos::AtLeastOnce, retain),
         QOS_TWO => read_acknowledged(cursor, duplicate, Qos::ExactlyOnce, retain),
-        _ => Err(Stop::Broken {
+        _ => Err(ReadFault::Broken {
             at: 0,
             rule: PacketRule::W07,
         }),
@@ -44,11 +44,11 @@ fn read_unacknowledged<'a>(
     cursor: Cursor<'a>,
     duplicate: bool,
     retain: bool,
-) -> Result<Publish<'a>, Stop>
+) -> Result<Publish<'a>, ReadFault>
     ensures { Reads (λ p. publish (publish_view p)) result (read (if duplicate then bad_first_byte rules.W08 else publish_unacknowledged retain) cursor.entry) }
 {
     if duplicate {
-        return Err(Stop::Broken {
+        return Err(ReadFault::Broken {
             at: 0,
             rule: PacketRule::W08,
         });
@@ -57,7 +57,7 @@ fn read_unacknowledged<'a>(
 }
 
 #[inline(always)]
-fn read_at_most_once<'a>(mut cursor: Cursor<'a>, retain: bool) -> Result<Publish<'a>, Stop>
+fn read_at_most_once<'a>(mut cursor: Cursor<'a>, retain: bool) -> Result<Publish<'a>, ReadFault>
     ensures { Reads (λ p. publish (publish_view p)) result (read (publish_unacknowledged retain) cursor.entry) }
 {
     let topic = topic_name(&mut cursor)?;
@@ -79,7 +79,7 @@ fn read_acknowledged<'a>(
     duplicate: bool,
     qos: Qos,
     retain: bool,
-) -> Result<Publish<'a>, Stop>
+) -> Result<Publish<'a>, ReadFault>
     ensures { Reads (λ p. publish (publish_view p)) result (read (publish_acknowledged duplicate qos retain) cursor.entry) }
 {
     let topic = topic_name(&mut cursor)?;
@@ -106,14 +106,14 @@ pub fn names_topic(topic: &str, properties: &Props<'_>) -> bool
 
 // The property list of a PUBLISH on this topic.
 #[inline(always)]
-fn properties_for<'a>(cursor: &mut Cursor<'a>, topic: &str) -> Result<Props<'a>, Stop>
+fn properties_for<'a>(cursor: &mut Cursor<'a>, topic: &str) -> Result<Props<'a>, ReadFault>
     ensures list { ReadsField (λ list. list.items) result (read_field (properties places.Publish) (alias_objection topic.now) cursor.old) cursor.new }
     ensures place { IfOk result (λ list. list ≡ listed places.Publish list.items) }
 {
     let at = cursor.at();
     let properties = property_list(cursor, Place::Publish)?;
     if !names_topic(topic, &properties) {
-        return Err(Stop::Broken {
+        return Err(ReadFault::Broken {
             at,
             rule: PacketRule::W21,
         });

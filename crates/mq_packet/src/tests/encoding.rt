@@ -18,8 +18,8 @@ fn acknowledgement<'a>(code: u8, properties: Props<'a>) -> Acknowledgement<'a> {
     }
 }
 
-fn ending<'a>(code: u8, properties: Props<'a>) -> Ending<'a> {
-    Ending {
+fn reason_packet<'a>(code: u8, properties: Props<'a>) -> ReasonPacket<'a> {
+    ReasonPacket {
         code,
         properties,
         read_len: None,
@@ -34,8 +34,11 @@ fn bare<'a>(kind: PacketType, code: u8) -> Option<Packet<'a>> {
         PacketType::Pubrec => Some(Packet::Pubrec(acknowledgement(code, none(Place::Pubrec)))),
         PacketType::Pubrel => Some(Packet::Pubrel(acknowledgement(code, none(Place::Pubrel)))),
         PacketType::Pubcomp => Some(Packet::Pubcomp(acknowledgement(code, none(Place::Pubcomp)))),
-        PacketType::Disconnect => Some(Packet::Disconnect(ending(code, none(Place::Disconnect)))),
-        PacketType::Auth => Some(Packet::Auth(ending(code, none(Place::Auth)))),
+        PacketType::Disconnect => Some(Packet::Disconnect(reason_packet(
+            code,
+            none(Place::Disconnect),
+        ))),
+        PacketType::Auth => Some(Packet::Auth(reason_packet(code, none(Place::Auth)))),
         _ => None,
     }
 }
@@ -108,7 +111,7 @@ fn whole_spellings(rt: HostRuntime) -> Result<(), Fail> {
     assert!(rt; is_written_as(rt.alloc(), &packet, wanted)?);
     let mut list = PropsBuf::new(rt.alloc(), Place::Auth);
     list.push(&Prop::AuthenticationMethod("m"))?;
-    let packet = Packet::Auth(ending(0, list.as_props()));
+    let packet = Packet::Auth(reason_packet(0, list.as_props()));
     let wanted: &[u8] = &[0xF0, 0x06, 0x00, 0x04, 0x15, 0x00, 0x01, b'm'];
     assert!(rt; is_written_as(rt.alloc(), &packet, wanted)?);
     Ok(())
@@ -140,13 +143,13 @@ fn lengths_as_read(rt: HostRuntime) {
         read_len: Some(4),
     });
     assert_eq!(rt; long.size(), Some(6));
-    let long = Packet::Disconnect(Ending {
+    let long = Packet::Disconnect(ReasonPacket {
         code: 0,
         properties: Props::empty(Place::Disconnect),
         read_len: Some(2),
     });
     assert_eq!(rt; long.size(), Some(4));
-    let never = Packet::Auth(Ending {
+    let never = Packet::Auth(ReasonPacket {
         code: 0,
         properties: Props::empty(Place::Auth),
         read_len: Some(268_435_456),

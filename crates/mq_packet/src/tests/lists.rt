@@ -1,6 +1,6 @@
 use crate::packet::RequestKind;
+use crate::read_fault::ReadFault;
 use crate::reading::{read_answer, read_request};
-use crate::stop::Stop;
 use crate::*;
 use mq_wire::Cursor;
 use std::test::Fail;
@@ -82,9 +82,9 @@ fn codes_in_order(rt: HostRuntime) {
 }
 
 // Where reading stops, and the rule that is broken there.
-fn stopped<T: Drop>(read: Result<T, Stop>) -> Option<(usize, PacketRule)> {
+fn stopped<T: Drop>(read: Result<T, ReadFault>) -> Option<(usize, PacketRule)> {
     match read {
-        Err(Stop::Broken { at, rule }) => Some((at, rule)),
+        Err(ReadFault::Broken { at, rule }) => Some((at, rule)),
         _ => None,
     }
 }

@@ -29,13 +29,13 @@ fn codes_places_and_identifiers(rt: HostRuntime) {
     assert!(rt; is_valid(&puback(1, 0x10)));
     assert!(rt; !is_valid(&puback(0, 0x10)));
     assert!(rt; !is_valid(&puback(1, 0x92)));
-    let unknown = Packet::Disconnect(Ending {
+    let unknown = Packet::Disconnect(ReasonPacket {
         code: 0x01,
         properties: Props::empty(Place::Disconnect),
         read_len: None,
     });
     assert!(rt; !is_valid(&unknown));
-    let misplaced = Packet::Auth(Ending {
+    let misplaced = Packet::Auth(ReasonPacket {
         code: 0x00,
         properties: Props::empty(Place::Disconnect),
         read_len: None,

@@ -276,7 +276,7 @@ fn disconnect(rt: HostRuntime) -> Result<(), Fail> {
             KEY_VALUE,
         ],
     )?;
-    let packet = Packet::Disconnect(Ending {
+    let packet = Packet::Disconnect(ReasonPacket {
         code: 0x9D,
         properties: properties.as_props(),
         read_len: None,
@@ -297,7 +297,7 @@ fn auth(rt: HostRuntime) -> Result<(), Fail> {
             KEY_VALUE,
         ],
     )?;
-    let packet = Packet::Auth(Ending {
+    let packet = Packet::Auth(ReasonPacket {
         code: 0x18,
         properties: properties.as_props(),
         read_len: None,

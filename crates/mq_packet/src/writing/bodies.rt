@@ -14,7 +14,9 @@ use super::fields::{
 };
 use super::first::connect_flags;
 use super::puts::{put_byte, put_bytes, put_number, put_string};
-use crate::packet::{Acknowledgement, Answer, Connack, Connect, Ending, Packet, Publish, Request};
+use crate::packet::{
+    Acknowledgement, Answer, Connack, Connect, Packet, Publish, ReasonPacket, Request,
+};
 use crate::protocol::{PROTOCOL_NAME, PROTOCOL_VERSION};
 use mq_wire::PutFault;
 
@@ -117,7 +119,7 @@ fn put_answer(out: &mut Vec<u8>, packet: &Answer<'_>) -> Result<(), PutFault>
 }
 
 #[tactic(auto, unfolding(crate::specs::Canonical::disconnect_body))]
-fn put_disconnect(out: &mut Vec<u8>, packet: &Ending<'_>) -> Result<(), PutFault>
+fn put_disconnect(out: &mut Vec<u8>, packet: &ReasonPacket<'_>) -> Result<(), PutFault>
     ensures ok { OnOk result (out.new.items ≡ out.old.items ++ canonical_body (view (Packet.Disconnect packet.now))) }
     ensures capacity { vec_capacity out.old ≤ vec_capacity out.new }
     ensures err { OnErr result (LacksRoom (vec_capacity out.old) out.old.items (canonical_body (view (Packet.Disconnect packet.now)))) }
@@ -126,7 +128,7 @@ fn put_disconnect(out: &mut Vec<u8>, packet: &Ending<'_>) -> Result<(), PutFault
 }
 
 #[tactic(auto, using(crate::proofs::GrowingLaws::lacks_first, crate::proofs::GrowingLaws::lacks_behind, crate::proofs::GrowingLaws::lacks_byte, crate::proofs::GrowingLaws::lacks_behind_byte))]
-fn put_auth(out: &mut Vec<u8>, packet: &Ending<'_>) -> Result<(), PutFault>
+fn put_auth(out: &mut Vec<u8>, packet: &ReasonPacket<'_>) -> Result<(), PutFault>
     ensures ok { OnOk result (out.new.items ≡ out.old.items ++ canonical_body (view (Packet.Auth packet.now))) }
     ensures capacity { vec_capacity out.old ≤ vec_capacity out.new }
     ensures err { OnErr result (LacksRoom (vec_capacity out.old) out.old.items (canonical_body (view (Packet.Auth packet.now)))) }

@@ -10,7 +10,7 @@ ghost use Rattle.mq_packet.specs.Valid.{is_text, is_binary, if_there, valid_will
 ghost use Rattle.mq_packet.specs.Canonical.{list_spelling, spelling_if, will_spelling, reason_spelling, auth_body};
 
 use super::puts::{put_byte, put_bytes, put_data, put_length, put_number, put_string};
-use crate::packet::{Ending, Will};
+use crate::packet::{ReasonPacket, Will};
 use mq_props::Props;
 use mq_wire::PutFault;
 
@@ -126,7 +126,7 @@ pub fn put_will_if_there(out: &mut Vec<u8>, will: &Option<Will<'_>>) -> Result<(
     }
 }
 
-fn is_bare(packet: &Ending<'_>) -> bool
+fn is_bare(packet: &ReasonPacket<'_>) -> bool
     ensures { result ≡ ((packet.now.code == 0) && (length (properties_spelling packet.now.properties.items) == 0)) }
 {
     packet.code == 0 && packet.properties.as_bytes().is_empty()
@@ -134,7 +134,7 @@ fn is_bare(packet: &Ending<'_>) -> bool
 
 /// Whether an AUTH is empty: its Reason Code is 0x00, and it has no properties (MQTT 5.0, section 3.15.2.1).
 #[tactic(auto, using(crate::proofs::ReasonLaws::auth_parts))]
-pub fn is_empty_auth(packet: &Ending<'_>) -> bool
+pub fn is_empty_auth(packet: &ReasonPacket<'_>) -> bool
     ensures { MatchBool result (auth_body packet.now.code packet.now.properties.items ≡ []) (auth_body packet.now.code packet.now.properties.items ≡ packet.now.code ∷ list_spelling packet.now.properties.items) }
 {
     is_bare(packet)

@@ -9,7 +9,7 @@ ghost use Rattle.mq_packet.specs.Canonical.{list_spelling, spelling_if, will_spe
 
 use super::fields::is_empty_auth;
 use crate::packet::{
-    Acknowledgement, Answer, Connack, Connect, Ending, Packet, Publish, Request, Will,
+    Acknowledgement, Answer, Connack, Connect, Packet, Publish, ReasonPacket, Request, Will,
 };
 use mq_props::Props;
 use mq_wire::{MAX_VARINT, varint_len};
@@ -167,13 +167,13 @@ fn answer_len(packet: &Answer<'_>) -> Option<u32>
 }
 
 #[tactic(auto, unfolding(crate::specs::Canonical::disconnect_body))]
-fn disconnect_len(packet: &Ending<'_>) -> Option<u32>
+fn disconnect_len(packet: &ReasonPacket<'_>) -> Option<u32>
     ensures { result ≡ within (length (canonical_body (view (Packet.Disconnect packet.now)))) }
 {
     sum_within(&[reason_len(packet.code, &packet.properties)])
 }
 
-fn auth_len(packet: &Ending<'_>) -> Option<u32>
+fn auth_len(packet: &ReasonPacket<'_>) -> Option<u32>
     ensures { result ≡ within (length (canonical_body (view (Packet.Auth packet.now)))) }
 {
     if is_empty_auth(packet) {

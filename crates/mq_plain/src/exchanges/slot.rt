@@ -13,7 +13,7 @@ pub struct Slot {
 
 impl Slot {
     /// The same with an event before them, at this index, that is a cause.
-    pub fn asked(self, index: usize) -> Slot
+    pub fn with_cause(self, index: usize) -> Slot
         ensures { result ≡ asking_at true index self }
     {
         if self.is_answered {
@@ -26,7 +26,7 @@ impl Slot {
     }
 
     /// The same with an event before them that is an answer.
-    pub fn answered(self) -> Slot
+    pub fn with_answer(self) -> Slot
         ensures { result ≡ answered true self }
     {
         Slot {

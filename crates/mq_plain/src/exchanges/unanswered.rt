@@ -43,7 +43,7 @@ fn take_cause<X: Exchange>(slots: &mut Table<Slot>, index: usize, note: &Note)
 {
     if let Some(identifier) = X::cause(note) {
         let slot = slots.get(identifier);
-        slots.set(identifier, slot.asked(index));
+        slots.set(identifier, slot.with_cause(index));
     }
 }
 
@@ -53,7 +53,7 @@ fn take_answer<X: Exchange>(slots: &mut Table<Slot>, note: &Note)
 {
     if let Some(identifier) = X::answer(note) {
         let slot = slots.get(identifier);
-        slots.set(identifier, slot.answered());
+        slots.set(identifier, slot.with_answer());
     }
 }
 

@@ -72,7 +72,7 @@ impl ConnectionState {
 
     /// Takes in one more event.
     #[inline]
-    pub fn take(&mut self, role: Role, note: &Note)
+    pub fn consume(&mut self, role: Role, note: &Note)
         ensures { self.new ≡ connection_after role self.old note.now }
     {
         if self.is_unchanged_by(note) {

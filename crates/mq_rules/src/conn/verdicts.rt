@@ -4,7 +4,7 @@ ghost use Rattle.mq_packet.specs.declared.packet.PacketType.TheVariants as types
 ghost use Rattle.mq_rules.specs.Words.{is_id, is_some_and};
 ghost use Rattle.mq_rules.specs.declared.role.Role.TheVariants as roles;
 ghost use Rattle.mq_rules.specs.Notes.{may_explain, resumed_by, qos_number as number_of};
-ghost use Rattle.mq_rules.specs.Keeping as told;
+ghost use Rattle.mq_rules.specs.Keeping as keeping;
 
 use super::state::ConnectionState;
 use crate::note::ItemNote;
@@ -21,7 +21,7 @@ impl ConnectionState {
     /// The statements on what a client sends.
     #[inline]
     pub fn client_item(&self, item: &ItemNote) -> [Verdict; 4]
-        ensures { result ≡ told.item_verdicts roles.Client self.now (Some item.now) }
+        ensures { result ≡ keeping.item_verdicts roles.Client self.now (Some item.now) }
     {
         [
             (Rule::C01, is_foreign_to_client(item)),
@@ -34,7 +34,7 @@ impl ConnectionState {
     /// The statements on what a server sends.
     #[inline]
     pub fn server_item(&self, item: &ItemNote) -> [Verdict; 6]
-        ensures { result ≡ told.item_verdicts roles.Server self.now (Some item.now) }
+        ensures { result ≡ keeping.item_verdicts roles.Server self.now (Some item.now) }
     {
         [
             (Rule::C01, is_foreign_to_server(item)),
@@ -47,43 +47,43 @@ impl ConnectionState {
     }
 
     fn breaks_c02(&self, item: &ItemNote) -> bool
-        ensures { result ≡ told.tells_C02 self.now (Some item.now) }
+        ensures { result ≡ keeping.finds_C02 self.now (Some item.now) }
     {
         item.is_typed() && !item.is_of_type(PacketType::Connect) && !self.has_sent
     }
 
     fn breaks_c03(&self, item: &ItemNote) -> bool
-        ensures { result ≡ told.tells_C03 self.now (Some item.now) }
+        ensures { result ≡ keeping.finds_C03 self.now (Some item.now) }
     {
         item.is_of_type(PacketType::Connect) && self.has_sent_connect
     }
 
     fn breaks_c04(&self, item: &ItemNote) -> bool
-        ensures { result ≡ told.tells_C04 self.now (Some item.now) }
+        ensures { result ≡ keeping.finds_C04 self.now (Some item.now) }
     {
         item.is_of_type(PacketType::Connack) && !self.has_received_connect
     }
 
     fn breaks_c05(&self, item: &ItemNote) -> bool
-        ensures { result ≡ told.tells_C05 self.now (Some item.now) }
+        ensures { result ≡ keeping.finds_C05 self.now (Some item.now) }
     {
         item.is_typed() && !may_be_first(item) && !self.has_sent_connack
     }
 
     fn breaks_c06(&self, item: &ItemNote) -> bool
-        ensures { result ≡ told.tells_C06 self.now (Some item.now) }
+        ensures { result ≡ keeping.finds_C06 self.now (Some item.now) }
     {
         item.is_of_type(PacketType::Connack) && self.has_sent_connack
     }
 
     fn breaks_c11(&self, item: &ItemNote) -> bool
-        ensures { result ≡ told.tells_C11 self.now (Some item.now) }
+        ensures { result ≡ keeping.finds_C11 self.now (Some item.now) }
     {
         item.is_typed() && self.has_sent_disconnect
     }
 
     fn breaks_c12(&self, item: &ItemNote) -> bool
-        ensures { result ≡ told.tells_C12 self.now (Some item.now) }
+        ensures { result ≡ keeping.finds_C12 self.now (Some item.now) }
     {
         item.is_typed() && self.has_sent_refusal
     }
@@ -91,7 +91,7 @@ impl ConnectionState {
 
 /// Whether the item has a type that only a server sends.
 fn is_foreign_to_client(item: &ItemNote) -> bool
-    ensures { result ≡ told.tells_C01 roles.Client (Some item.now) }
+    ensures { result ≡ keeping.finds_C01 roles.Client (Some item.now) }
 {
     item.is_of_type(PacketType::Connack)
         || item.is_of_type(PacketType::Suback)
@@ -101,7 +101,7 @@ fn is_foreign_to_client(item: &ItemNote) -> bool
 
 /// Whether the item has a type that only a client sends.
 fn is_foreign_to_server(item: &ItemNote) -> bool
-    ensures { result ≡ told.tells_C01 roles.Server (Some item.now) }
+    ensures { result ≡ keeping.finds_C01 roles.Server (Some item.now) }
 {
     item.is_of_type(PacketType::Connect)
         || item.is_of_type(PacketType::Subscribe)
@@ -111,7 +111,7 @@ fn is_foreign_to_server(item: &ItemNote) -> bool
 
 /// Whether a server may send the item before its CONNACK.
 fn may_be_first(item: &ItemNote) -> bool
-    ensures { result ≡ (told.is_type types.Connack (Some item.now) || told.is_type types.Auth (Some item.now)) }
+    ensures { result ≡ (keeping.is_type types.Connack (Some item.now) || keeping.is_type types.Auth (Some item.now)) }
 {
     item.is_of_type(PacketType::Connack) || item.is_of_type(PacketType::Auth)
 }
@@ -121,7 +121,7 @@ impl ConnectionState {
     /// The statements on any packet that a client sends.
     #[inline]
     pub fn client_packet(&self, packet: &PacketNote) -> [Verdict; 2]
-        ensures { result ≡ told.packet_verdicts roles.Client self.now (Some packet.now) }
+        ensures { result ≡ keeping.packet_verdicts roles.Client self.now (Some packet.now) }
     {
         [
             (Rule::C13, self.breaks_c13(packet)),
@@ -132,7 +132,7 @@ impl ConnectionState {
     /// The statements on any packet that a server sends.
     #[inline]
     pub fn server_packet(&self, packet: &PacketNote) -> [Verdict; 2]
-        ensures { result ≡ told.packet_verdicts roles.Server self.now (Some packet.now) }
+        ensures { result ≡ keeping.packet_verdicts roles.Server self.now (Some packet.now) }
     {
         [
             (Rule::C14, self.breaks_c14(Role::Server, packet)),
@@ -141,7 +141,7 @@ impl ConnectionState {
     }
 
     fn breaks_c13(&self, packet: &PacketNote) -> bool
-        ensures { result ≡ told.tells_C13 self.now (Some packet.now) }
+        ensures { result ≡ keeping.finds_C13 self.now (Some packet.now) }
     {
         packet.fields.disconnect().is_none() && self.is_resumed() && self.is_not_to_be_resumed()
     }
@@ -174,7 +174,7 @@ impl ConnectionState {
     }
 
     fn breaks_c14(&self, role: Role, packet: &PacketNote) -> bool
-        ensures { result ≡ told.tells_C14 role self.now (Some packet.now) }
+        ensures { result ≡ keeping.finds_C14 role self.now (Some packet.now) }
     {
         match self.size_limit(role) {
             Some(most) => most < packet.size,
@@ -184,7 +184,7 @@ impl ConnectionState {
 
     /// The peer's Maximum Packet Size, in bytes.
     pub(super) fn size_limit(&self, role: Role) -> Option<u32>
-        ensures { result ≡ told.size_limit role self.now }
+        ensures { result ≡ keeping.size_limit role self.now }
     {
         match role {
             Role::Client => self.connack.and_then(|connack| connack.maximum_packet_size),
@@ -193,7 +193,7 @@ impl ConnectionState {
     }
 
     fn breaks_c21(&self, packet: &PacketNote) -> bool
-        ensures { result ≡ told.tells_C21 self.now (Some packet.now) }
+        ensures { result ≡ keeping.finds_C21 self.now (Some packet.now) }
     {
         explains(packet) && self.wants_no_problem_information()
     }
@@ -228,7 +228,7 @@ pub(super) fn has_explanation(packet: &PacketNote) -> bool
 impl ConnectionState {
     /// C15, for a tested end of this role.
     pub fn breaks_c15(&self, role: Role, publish: &PublishNote) -> bool
-        ensures { result ≡ told.tells_C15 role self.now (Some publish.now) }
+        ensures { result ≡ keeping.finds_C15 role self.now (Some publish.now) }
     {
         match publish.topic_alias {
             Some(alias) => self.may_look(role) && self.alias_limit(role) < alias,
@@ -238,7 +238,7 @@ impl ConnectionState {
 
     /// Whether the end may look at what the peer announced: a client after its CONNACK, a server at once.
     fn may_look(&self, role: Role) -> bool
-        ensures { result ≡ told.may_look role self.now }
+        ensures { result ≡ keeping.may_look role self.now }
     {
         match role {
             Role::Client => self.connack.is_some(),
@@ -248,7 +248,7 @@ impl ConnectionState {
 
     /// The peer's Topic Alias Maximum.
     fn alias_limit(&self, role: Role) -> u16
-        ensures { result ≡ told.alias_limit role self.now }
+        ensures { result ≡ keeping.alias_limit role self.now }
     {
         let announced = match role {
             Role::Client => self.connack.and_then(|connack| connack.topic_alias_maximum),
@@ -259,14 +259,14 @@ impl ConnectionState {
 
     /// C17.
     pub fn breaks_c17(&self, publish: &PublishNote) -> bool
-        ensures { result ≡ told.tells_C17 self.now (Some publish.now) }
+        ensures { result ≡ keeping.finds_C17 self.now (Some publish.now) }
     {
         self.qos_limit() < qos_number(publish.qos)
     }
 
     /// The server's Maximum QoS.
     fn qos_limit(&self) -> u8
-        ensures { result ≡ told.qos_limit self.now }
+        ensures { result ≡ keeping.qos_limit self.now }
     {
         let announced = self.connack.and_then(|connack| connack.maximum_qos);
         announced.unwrap_or(2)
@@ -288,7 +288,7 @@ fn qos_number(qos: Qos) -> u8
 impl ConnectionState {
     /// The statements on a CONNACK that a server sends.
     pub fn server_connack(&self, connack: &ConnackNote) -> [Verdict; 5]
-        ensures { result ≡ told.connack_verdicts roles.Server self.now (Some connack.now) }
+        ensures { result ≡ keeping.connack_verdicts roles.Server self.now (Some connack.now) }
     {
         [
             (Rule::C07, self.breaks_c07(connack)),
@@ -300,19 +300,19 @@ impl ConnectionState {
     }
 
     fn breaks_c07(&self, connack: &ConnackNote) -> bool
-        ensures { result ≡ told.tells_C07 self.now (Some connack.now) }
+        ensures { result ≡ keeping.finds_C07 self.now (Some connack.now) }
     {
         connack.session_present && self.has_clean_start()
     }
 
     fn breaks_c08(&self, connack: &ConnackNote) -> bool
-        ensures { result ≡ told.tells_C08 self.now (Some connack.now) }
+        ensures { result ≡ keeping.finds_C08 self.now (Some connack.now) }
     {
         connack.session_present && connack.code == 0 && !self.was_alive
     }
 
     fn breaks_c10(&self, connack: &ConnackNote) -> bool
-        ensures { result ≡ told.tells_C10 self.now (Some connack.now) }
+        ensures { result ≡ keeping.finds_C10 self.now (Some connack.now) }
     {
         connack.code == 0 && !connack.has_assigned_identifier && self.is_unnamed()
     }
@@ -328,7 +328,7 @@ impl ConnectionState {
     }
 
     fn breaks_c22(&self, connack: &ConnackNote) -> bool
-        ensures { result ≡ told.tells_C22 self.now (Some connack.now) }
+        ensures { result ≡ keeping.finds_C22 self.now (Some connack.now) }
     {
         connack.has_response_information && self.wants_no_response_information()
     }
@@ -345,7 +345,7 @@ impl ConnectionState {
 }
 
 fn breaks_c09(connack: &ConnackNote) -> bool
-    ensures { result ≡ told.tells_C09 (Some connack.now) }
+    ensures { result ≡ keeping.finds_C09 (Some connack.now) }
 {
     connack.session_present && connack.code != 0
 }
@@ -354,7 +354,7 @@ fn breaks_c09(connack: &ConnackNote) -> bool
 impl ConnectionState {
     /// C20.
     pub fn breaks_c20(&self, session_expiry: Option<u32>) -> bool
-        ensures { result ≡ told.tells_C20 self.now (Some session_expiry) }
+        ensures { result ≡ keeping.finds_C20 self.now (Some session_expiry) }
     {
         session_expiry.unwrap_or(0) != 0 && self.expires_at_once()
     }
@@ -371,14 +371,14 @@ impl ConnectionState {
 
     /// C23; the flag says whether the event is a REST.
     pub fn breaks_c23(&self, role: Role, is_rest: bool) -> bool
-        ensures { result ≡ told.tells_C23 role self.now is_rest }
+        ensures { result ≡ keeping.finds_C23 role self.now is_rest }
     {
         is_rest && self.has_left(role)
     }
 
     /// Whether the end sent something after which it must close the connection: a DISCONNECT, or as a server a CONNACK that refuses.
     fn has_left(&self, role: Role) -> bool
-        ensures { result ≡ told.has_left role self.now }
+        ensures { result ≡ keeping.has_left role self.now }
     {
         match role {
             Role::Client => self.has_sent_disconnect,

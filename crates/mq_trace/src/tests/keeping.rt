@@ -1,9 +1,9 @@
 //! What a tracer keeps: only unfinished packets, none over its limit, and a sink's refusal for ever.
 
+use super::emission::{LIMIT, Lines, assert_emits, trace};
 use super::logs::Part::{Open, Raw, Recv, Sent};
 use super::logs::{ANSWERED_LINES, CLIENT, CONNACK, LARGEST, PUBLISH, large_log, log_of};
 use super::sessions::SESSIONS;
-use super::telling::{LIMIT, Lines, assert_tells, trace};
 use crate::{Refusal, Tracer};
 use std::test::Fail;
 
@@ -26,7 +26,7 @@ fn keeps_to_its_limit(rt: HostRuntime) -> Result<(), Fail> {
     middle.extend_from_slice(&[b'x'; 196])?;
     let published = "4 record 4 SENT Publish 203\n";
     let opened = "1 record 1 OPEN\n";
-    let answered = "1 record 1 OPEN\n2 record 2 RECV Connack 5\n";
+    let connack_seen = "1 record 1 OPEN\n2 record 2 RECV Connack 5\n";
     let too_large = |at| Err(Refusal::TooLarge(at));
     for (limit, log, begin, lines, answer) in [
         (268_435_460, &largest, ANSWERED_LINES, "", Ok(())),
@@ -35,11 +35,17 @@ fn keeps_to_its_limit(rt: HostRuntime) -> Result<(), Fail> {
         (14, &largest, opened, "", too_large(19)),
         (203, &middle, ANSWERED_LINES, published, Ok(())),
         (202, &middle, ANSWERED_LINES, "", too_large(50)),
-        (9, &small, answered, "3 record 3 RECV Publish 9\n", Ok(())),
-        (8, &small, answered, "", too_large(29)),
-        (5, &small, answered, "", too_large(29)),
+        (
+            9,
+            &small,
+            connack_seen,
+            "3 record 3 RECV Publish 9\n",
+            Ok(()),
+        ),
+        (8, &small, connack_seen, "", too_large(29)),
+        (5, &small, connack_seen, "", too_large(29)),
     ] {
-        assert_tells(&rt, limit, log.as_slice(), true, begin, lines, answer);
+        assert_emits(&rt, limit, log.as_slice(), true, begin, lines, answer);
     }
     Ok(())
 }
@@ -60,15 +66,15 @@ fn stops_where_its_sink_refuses(rt: HostRuntime) -> Result<(), Fail> {
         for size in [usize::MAX, 1, 7, 8192] {
             let refused = Err(Refusal::Memory(at));
             let mut tracer = Tracer::new(rt.alloc(), LIMIT);
-            let mut told = Lines::new(rt.alloc(), true, room);
-            let ended = trace(&rt, &mut tracer, LIMIT, log.as_slice(), size, &mut told);
+            let mut emitted = Lines::new(rt.alloc(), true, room);
+            let ended = trace(&rt, &mut tracer, LIMIT, log.as_slice(), size, &mut emitted);
             assert_eq!(rt; ended, refused, "{room} events, pieces of {size}");
             for _ in 0..3 {
-                assert_eq!(rt; tracer.feed(b"\x04\x00\x00\x00\x00", &mut told), refused);
-                assert_eq!(rt; tracer.feed(b"", &mut told), refused);
+                assert_eq!(rt; tracer.feed(b"\x04\x00\x00\x00\x00", &mut emitted), refused);
+                assert_eq!(rt; tracer.feed(b"", &mut emitted), refused);
                 assert_eq!(rt; tracer.finish(), refused);
             }
-            assert_eq!(rt; told.heard, room + 1);
+            assert_eq!(rt; emitted.heard, room + 1);
         }
     }
     Ok(())
@@ -77,7 +83,7 @@ fn stops_where_its_sink_refuses(rt: HostRuntime) -> Result<(), Fail> {
 #[test]
 fn keeps_unfinished_packets_alone(rt: HostRuntime) -> Result<(), Fail> {
     let mut tracer = Tracer::new(rt.alloc(), LIMIT);
-    let mut told = Lines::new(rt.alloc(), true, u32::MAX);
+    let mut emitted = Lines::new(rt.alloc(), true, u32::MAX);
     let begin = log_of(rt.alloc(), true, &[], false)?;
     let pieces: [(&[u8], usize); 9] = [
         (begin.as_slice(), 0),
@@ -91,11 +97,11 @@ fn keeps_unfinished_packets_alone(rt: HostRuntime) -> Result<(), Fail> {
         (b"\x03\x00\x00\x00\x08\x30\x80\x00\x30\x07\x00\x00\x00", 0),
     ];
     for (piece, pending) in pieces {
-        assert_eq!(rt; tracer.feed(piece, &mut told), Ok(()));
+        assert_eq!(rt; tracer.feed(piece, &mut emitted), Ok(()));
         assert_eq!(rt; tracer.pending(), pending, "behind {piece:?}");
     }
     assert_eq!(rt; tracer.finish(), Ok(()));
-    assert_eq!(rt; told.heard, 8);
+    assert_eq!(rt; emitted.heard, 8);
     Ok(())
 }
 
@@ -118,10 +124,10 @@ fn keeps_large_packets(rt: HostRuntime) -> Result<(), Fail> {
         let log = large_log(rt.alloc(), begin, size)?;
         for piece in [usize::MAX, 1000, 8192] {
             let mut tracer = Tracer::new(rt.alloc(), LIMIT);
-            let mut told = Lines::new(rt.alloc(), true, u32::MAX);
-            let ended = trace(&rt, &mut tracer, LIMIT, log.as_slice(), piece, &mut told);
+            let mut emitted = Lines::new(rt.alloc(), true, u32::MAX);
+            let ended = trace(&rt, &mut tracer, LIMIT, log.as_slice(), piece, &mut emitted);
             assert_eq!(rt; ended, Ok(()), "{size} bytes, pieces of {piece}");
-            assert!(rt; told.text.as_str().strip_prefix(ANSWERED_LINES) == Some(line));
+            assert!(rt; emitted.text.as_str().strip_prefix(ANSWERED_LINES) == Some(line));
         }
     }
     Ok(())
@@ -135,12 +141,13 @@ fn counts_many_events(rt: HostRuntime) -> Result<(), Fail> {
         log.extend_from_slice(b"\x02\x00\x00\x00\x02\xc0\x00")?;
     }
     let mut tracer = Tracer::new(rt.alloc(), LIMIT);
-    let mut told = Lines::new(rt.alloc(), true, u32::MAX);
-    let ended = trace(&rt, &mut tracer, LIMIT, log.as_slice(), 8192, &mut told);
+    let mut emitted = Lines::new(rt.alloc(), true, u32::MAX);
+    let ended = trace(&rt, &mut tracer, LIMIT, log.as_slice(), 8192, &mut emitted);
     assert_eq!(rt; ended, Ok(()));
-    assert_eq!(rt; told.heard, 70_003);
+    assert_eq!(rt; emitted.heard, 70_003);
     assert!(rt;
-        told.text
+        emitted
+            .text
             .as_str()
             .ends_with("\n70003 record 70003 SENT Pingreq 2\n")
     );

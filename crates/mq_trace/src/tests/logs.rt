@@ -54,7 +54,7 @@ pub const ANSWERED_LINES: &str =
 
 /// The parts of a log, after those of `ANSWERED` or alone; the lines on the events of these parts; and its result.
 pub struct Row {
-    pub answered: bool,
+    pub connack_seen: bool,
     pub parts: &'static [Part],
     pub lines: &'static str,
     pub answer: Result<(), Refusal>,
@@ -90,12 +90,12 @@ fn put(log: &mut Vec<u8>, part: Part, split: bool) -> Result<(), AllocError> {
 /// The log of these parts, after those of `ANSWERED` or alone.
 pub fn log_of(
     alloc: Global,
-    answered: bool,
+    connack_seen: bool,
     parts: &[Part],
     split: bool,
 ) -> Result<Vec<u8>, AllocError> {
     let mut log = Vec::new(alloc);
-    if answered {
+    if connack_seen {
         for part in ANSWERED {
             put(&mut log, part, split)?;
         }

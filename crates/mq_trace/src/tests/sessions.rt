@@ -1,11 +1,11 @@
 //! Logs and the lines on their events, whatever the records and wherever a log ends.
 
+use super::emission::{LIMIT, Lines, assert_emits, assert_rows, trace};
 use super::logs::Part::{Close, Open, Raw, Recv, Release, Rest, Sent};
 use super::logs::{
     BEGINNING, CLIENT, CONNACK, CONNECT, END, LOST, PUBACK, PUBLISH, Row, SERVER, UNIDENTIFIED,
     log_of,
 };
-use super::telling::{LIMIT, Lines, assert_rows, assert_tells, trace};
 use crate::{Header, Refusal, Tracer};
 use std::process::Abort;
 use std::test::Fail;
@@ -13,20 +13,20 @@ use std::test::Fail;
 pub static SESSIONS: [Row; 15] = [
     // A log needs no record.
     Row {
-        answered: false,
+        connack_seen: false,
         parts: &[CLIENT],
         lines: "",
         answer: Ok(()),
     },
     Row {
-        answered: true,
+        connack_seen: true,
         parts: &[Sent(PUBLISH), Recv(PUBACK), Rest, Close],
         lines: "4 record 4 SENT Publish 9\n5 record 5 RECV Puback 4\n6 record 6 REST\n7 record 7 CLOSE\n",
         answer: Ok(()),
     },
     // A packet belongs to the record that has its last byte, and the other direction may come between.
     Row {
-        answered: true,
+        connack_seen: true,
         parts: &[
             Sent(b"\x32"),
             Sent(b"\x07"),
@@ -43,7 +43,7 @@ pub static SESSIONS: [Row; 15] = [
         answer: Ok(()),
     },
     Row {
-        answered: true,
+        connack_seen: true,
         parts: &[
             Sent(BEGINNING),
             Recv(b"\x32\x07\x00\x01"),
@@ -60,7 +60,7 @@ pub static SESSIONS: [Row; 15] = [
     },
     // A record with many packets, and the beginning of one more.
     Row {
-        answered: true,
+        connack_seen: true,
         parts: &[
             Sent(b"\xc0\x00\x40\x02\x00\x02\xc0\x00\x32\x07\x00\x01a\x00\x00\x00x\xc0\x00\x40"),
             Sent(b"\x02\x00\x03\xc0\x00"),
@@ -71,7 +71,7 @@ pub static SESSIONS: [Row; 15] = [
     },
     // Records without bytes count as records, and have no other effect, also within a packet.
     Row {
-        answered: true,
+        connack_seen: true,
         parts: &[
             Sent(b""),
             Recv(b""),
@@ -87,13 +87,13 @@ pub static SESSIONS: [Row; 15] = [
     },
     // A direction that is lost gives no more events on its connection.
     Row {
-        answered: true,
+        connack_seen: true,
         parts: &[Sent(LOST), Sent(PUBLISH), Recv(PUBLISH), Rest],
         lines: "4 record 4 SENT LOST\n5 record 6 RECV Publish 9\n6 record 7 REST\n",
         answer: Ok(()),
     },
     Row {
-        answered: true,
+        connack_seen: true,
         parts: &[
             Recv(b"\xd0\x00\x30\x80\x00\xd0\x00"),
             Recv(b"\xd0\x00"),
@@ -104,7 +104,7 @@ pub static SESSIONS: [Row; 15] = [
     },
     // The byte that shows it is the first that no Remaining Length can have.
     Row {
-        answered: true,
+        connack_seen: true,
         parts: &[
             Sent(b"\x30\x80"),
             Recv(b"\x30\xff\xff\xff"),
@@ -116,7 +116,7 @@ pub static SESSIONS: [Row; 15] = [
     },
     // What is unfinished or lost at the CLOSE is dropped: the next connection's streams start over.
     Row {
-        answered: true,
+        connack_seen: true,
         parts: &[
             Sent(BEGINNING),
             Recv(b"\x30\x80\x00"),
@@ -140,7 +140,7 @@ pub static SESSIONS: [Row; 15] = [
     },
     // A tested server sends the CONNACK.
     Row {
-        answered: false,
+        connack_seen: false,
         parts: &[
             SERVER,
             Open,
@@ -156,14 +156,14 @@ pub static SESSIONS: [Row; 15] = [
     },
     // Between connections a release needs no CONNACK.
     Row {
-        answered: false,
+        connack_seen: false,
         parts: &[CLIENT, Release(1), Open, Sent(CONNECT), Close, Release(2)],
         lines: "1 record 1 RELEASE 1\n2 record 2 OPEN\n3 record 3 SENT Connect 15\n4 record 4 CLOSE\n5 record 5 RELEASE 2\n",
         answer: Ok(()),
     },
     // Packets that need no session may come before the CONNACK, and so may bytes that break a rule.
     Row {
-        answered: false,
+        connack_seen: false,
         parts: &[
             CLIENT,
             Open,
@@ -181,14 +181,14 @@ pub static SESSIONS: [Row; 15] = [
     },
     // A second CONNACK of a connection changes nothing here.
     Row {
-        answered: true,
+        connack_seen: true,
         parts: &[Recv(CONNACK), Sent(PUBLISH)],
         lines: "4 record 4 RECV Connack 5\n5 record 5 SENT Publish 9\n",
         answer: Ok(()),
     },
     // A body may have 1,048,576 bytes.
     Row {
-        answered: false,
+        connack_seen: false,
         parts: &[CLIENT, Open, Raw(b"\x02\x00\x10\x00\x00")],
         lines: "1 record 1 OPEN\n",
         answer: Err(Refusal::Cut(18)),
@@ -196,27 +196,27 @@ pub static SESSIONS: [Row; 15] = [
 ];
 
 #[test]
-fn tells_of_sessions(rt: HostRuntime) -> Result<(), Fail> {
+fn reports_sessions(rt: HostRuntime) -> Result<(), Fail> {
     assert_rows(&rt, &SESSIONS)
 }
 
 /// How bytes are cut into records changes only the records' numbers.
 #[test]
-fn tells_the_same_of_any_records(rt: HostRuntime) -> Result<(), Fail> {
+fn reports_the_same_for_any_records(rt: HostRuntime) -> Result<(), Fail> {
     for row in &SESSIONS {
-        let log = log_of(rt.alloc(), row.answered, row.parts, false)?;
+        let log = log_of(rt.alloc(), row.connack_seen, row.parts, false)?;
         let mut tracer = Tracer::new(rt.alloc(), LIMIT);
-        let mut told = Lines::new(rt.alloc(), false, u32::MAX);
-        let _ = trace(&rt, &mut tracer, LIMIT, log.as_slice(), 8192, &mut told);
+        let mut emitted = Lines::new(rt.alloc(), false, u32::MAX);
+        let _ = trace(&rt, &mut tracer, LIMIT, log.as_slice(), 8192, &mut emitted);
         if row.answer.is_ok() {
-            let split = log_of(rt.alloc(), row.answered, row.parts, true)?;
-            assert_tells(
+            let split = log_of(rt.alloc(), row.connack_seen, row.parts, true)?;
+            assert_emits(
                 &rt,
                 LIMIT,
                 split.as_slice(),
                 false,
                 "",
-                told.text.as_str(),
+                emitted.text.as_str(),
                 Ok(()),
             );
         }
@@ -225,19 +225,19 @@ fn tells_the_same_of_any_records(rt: HostRuntime) -> Result<(), Fail> {
 }
 
 /// How many events a log has, its header, and its result.
-fn told_of(
+fn emitted_of(
     rt: &(impl Abort + AllocGlobal),
     log: &[u8],
 ) -> (usize, Option<Header>, Result<(), Refusal>) {
     let mut tracer = Tracer::new(rt.alloc(), LIMIT);
-    let mut told = Lines::new(rt.alloc(), true, u32::MAX);
-    let ended = trace(rt, &mut tracer, LIMIT, log, 5, &mut told);
-    (told.heard as usize, tracer.header(), ended)
+    let mut emitted = Lines::new(rt.alloc(), true, u32::MAX);
+    let ended = trace(rt, &mut tracer, LIMIT, log, 5, &mut emitted);
+    (emitted.heard as usize, tracer.header(), ended)
 }
 
 /// Each beginning of a log of 76 bytes is cut short, unless it ends after a record.
 #[test]
-fn tells_of_beginnings(rt: HostRuntime) -> Result<(), Fail> {
+fn reports_beginnings(rt: HostRuntime) -> Result<(), Fail> {
     let log = log_of(rt.alloc(), true, SESSIONS[1].parts, false)?;
     assert_eq!(rt; log.len(), 76);
     let ends = [8, 13, 33, 43, 57, 66, 71, 76];
@@ -253,7 +253,7 @@ fn tells_of_beginnings(rt: HostRuntime) -> Result<(), Fail> {
             Err(Refusal::Cut(count as u64))
         };
         assert_eq!(rt;
-            told_of(&rt, &log[..count]),
+            emitted_of(&rt, &log[..count]),
             (
                 whole.saturating_sub(1),
                 (count >= 8).then_some(header),

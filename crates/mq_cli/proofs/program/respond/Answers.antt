@@ -20,7 +20,7 @@ pub returns-in-Err-clause-passed : goal.returns-in-Err-clause-passed
 returns-in-Err-clause-passed g c = λ e. inl (c.in-Err.why, c.in-Err.ensures.stop, c.stop.ensures.shown e)
 
 pub returns-in-Err-clause-misused : goal.returns-in-Err-clause-misused
-returns-in-Err-clause-misused g c = λ e. inl (c.in-Err.why, c.in-Err.ensures.stop, c.stop.ensures.told e)
+returns-in-Err-clause-misused g c = λ e. inl (c.in-Err.why, c.in-Err.ensures.stop, c.stop.ensures.printed e)
 
 pub returns-in-Err-clause-failed : goal.returns-in-Err-clause-failed
 returns-in-Err-clause-failed g c = λ e. inl (c.in-Err.why, c.in-Err.ensures.stop, c.stop.ensures.failed e)

@@ -1,5 +1,5 @@
 use Rattle.std.proofs.Common.{ap, Err}
-use Rattle.mq_cli.proofs.ToldLemmas.{refusal_is_told, refusal_stops, report_stops, run_lacks, run_stops}
+use Rattle.mq_cli.proofs.MessageLaws.{refusal_is_printed, refusal_stops, report_stops, run_lacks, run_stops}
 use Rattle.mq_cli.proofs.tasks.check.Goals as goal
 
 pub returns-in-Ok-Pass-clause-stops : goal.returns-in-Ok-Pass-clause-stops
@@ -13,7 +13,7 @@ returns-in-Ok-Fail-clause-stops g c =
 pub returns-in-Err-Refused-clause-refused : goal.returns-in-Err-Refused-clause-refused
 returns-in-Err-Refused-clause-refused g c =
     let named = c.in-Err-Refused.field-0-is in
-    refusal_is_told _ _ _ _ _ _ c.in-Err-Refused.refusal c.refuse.result (rw named at c.in-Err-Refused.ensures.runs)
+    refusal_is_printed _ _ _ _ _ _ c.in-Err-Refused.refusal c.refuse.result (rw named at c.in-Err-Refused.ensures.runs)
     (ap g.W.Write.contents (c.in-Err-Refused.ensures.unwritten _ (ap Err named))) c.refuse.ensures.own c.refuse.ensures.written
 
 pub returns-in-Err-Refused-clause-stops : goal.returns-in-Err-Refused-clause-stops

@@ -5,7 +5,7 @@ use Rattle.mq_cli.specs.declared.command_line.Task.{Task}
 use Rattle.mq_cli.specs.declared.command_line.Task.TheVariants.{Show, Packet, Rules, Explain}
 use Rattle.mq_cli.specs.Explaining.{explained_for}
 use Rattle.mq_cli.specs.Listing.{listed_for}
-use Rattle.mq_cli.specs.Told.{HasFailed, IsMisnamed, IsRefusedOn, SpellsNoPacket, misnamed_line, no_role_line, no_statement_line}
+use Rattle.mq_cli.specs.Messages.{HasFailed, IsMisnamed, IsRefusedOn, SpellsNoPacket, misnamed_line, no_role_line, no_statement_line}
 use Rattle.std.proofs.Common.{None}
 use Rattle.mq_cli.proofs.tasks.perform.Goals as goal
 
@@ -26,9 +26,9 @@ pub returns-in-Rules-Some-clause-misused : goal.returns-in-Rules-Some-clause-mis
 returns-in-Rules-Some-clause-misused g c =
     let asked : c.args.task.now ≡ Rules (Some c.in-Rules-Some.word) = search rules in
     let word : c.as_str-in-Rules-Some.result.now ≡ string_bytes c.in-Rules-Some.word = search rules in
-    let P : Task → Type 0 = λ task. IsMisnamed task × Appends (g.E.Write.contents c.args.error.now) (g.E.Write.contents c.tell_rules.new.error) (misnamed_line task) in
-    let Q : List ℕ → Type 0 = λ w. (listed_for (Some w) ≡ None) × Appends (g.E.Write.contents c.args.error.now) (g.E.Write.contents c.tell_rules.new.error) (no_role_line w) in
-    λ e. subst P (sym asked) (subst Q word (c.tell_rules.ensures.misused e))
+    let P : Task → Type 0 = λ task. IsMisnamed task × Appends (g.E.Write.contents c.args.error.now) (g.E.Write.contents c.print_rules.new.error) (misnamed_line task) in
+    let Q : List ℕ → Type 0 = λ w. (listed_for (Some w) ≡ None) × Appends (g.E.Write.contents c.args.error.now) (g.E.Write.contents c.print_rules.new.error) (no_role_line w) in
+    λ e. subst P (sym asked) (subst Q word (c.print_rules.ensures.misused e))
 
 pub returns-in-Explain-clause-misused : goal.returns-in-Explain-clause-misused
 returns-in-Explain-clause-misused g c =

@@ -1,6 +1,6 @@
 use Rattle.std.proofs.Common.{rules}
-use Rattle.mq_cli.specs.Told.{IsOfLog}
-use Rattle.mq_cli.proofs.ToldLemmas.{unflushed_begun, unflushed_refusal}
+use Rattle.mq_cli.specs.Messages.{IsOfLog}
+use Rattle.mq_cli.proofs.MessageLaws.{unflushed_begun, unflushed_refusal}
 use Rattle.mq_cli.proofs.tasks.refuse.Goals as goal
 
 pub returns-in-Ok-clause-failed : goal.returns-in-Ok-clause-failed

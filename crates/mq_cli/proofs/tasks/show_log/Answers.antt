@@ -1,5 +1,5 @@
-use Rattle.mq_cli.specs.Told.{text_in_view}
-use Rattle.mq_cli.proofs.ToldLemmas.{lines_stop, shown_refusal_is_told, shown_refusal_stops}
+use Rattle.mq_cli.specs.Messages.{text_in_view}
+use Rattle.mq_cli.proofs.MessageLaws.{lines_stop, shown_refusal_is_printed, shown_refusal_stops}
 use Rattle.mq_cli.proofs.tasks.show_log.Goals as goal
 
 pub returns-in-Ok-clause-stops : goal.returns-in-Ok-clause-stops
@@ -9,7 +9,7 @@ returns-in-Ok-clause-stops g c =
 pub returns-in-Err-Refused-clause-refused : goal.returns-in-Err-Refused-clause-refused
 returns-in-Err-Refused-clause-refused g c =
     let named = c.in-Err-Refused.field-0-is in
-    shown_refusal_is_told (text_in_view c.args.view) _ (g.R.Read.remaining c.show_lines.new.input) _ _ _ c.in-Err-Refused.why c.refuse.result
+    shown_refusal_is_printed (text_in_view c.args.view) _ (g.R.Read.remaining c.show_lines.new.input) _ _ _ c.in-Err-Refused.why c.refuse.result
     (rw named at c.in-Err-Refused.ensures) c.refuse.ensures.own c.refuse.ensures.written
 
 pub returns-in-Err-Refused-clause-stops : goal.returns-in-Err-Refused-clause-stops

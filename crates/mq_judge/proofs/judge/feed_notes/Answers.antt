@@ -1,6 +1,6 @@
 use Rattle.std.proofs.Common.{◌≡◌, List, map, reverse}
 use Rattle.mq_trace.specs.declared.refusal.Refusal.TheVariants.{Memory}
-use Rattle.mq_judge.specs.declared.noting.Notes.{Notes}
+use Rattle.mq_judge.specs.declared.notes.Notes.{Notes}
 use Rattle.mq_rules.specs.declared.note.Seen.{Seen}
 use Rattle.mq_rules.specs.Notes.{seen}
 use Rattle.mq_judge.proofs.JudgeLaws.{fed-events}

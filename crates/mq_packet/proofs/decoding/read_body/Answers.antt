@@ -1,7 +1,7 @@
 -- The place of a broken rule fits in four bytes.
 use Rattle.std.proofs.Common.{◌≡◌, ℕ, List, length, Result, Err, ap, ◌∙◌, arith}
 use Rattle.mq_wire.specs.Left.{Left}
-use Rattle.mq_packet.specs.declared.stop.Stop.{Stop}
+use Rattle.mq_packet.specs.declared.read_fault.ReadFault.{ReadFault}
 use Rattle.mq_packet.specs.Entries.{Entry}
 use Rattle.mq_packet.specs.declared.fault.DecodeFault.{DecodeFault}
 use Rattle.mq_packet.specs.Formats.{format_of}
@@ -13,7 +13,7 @@ use Rattle.mq_packet.proofs.decoding.read_body.Goals as goal
 pub fault_of-requires : goal.fault_of-requires
 fault_of-requires c = λ at rule is.
     let cursor : Left = c.starting_at-cursor.result in
-    let failed : Stop → Result Entry DecodeFault = λ stop. Err (decode_fault stop) in
+    let failed : ReadFault → Result Entry DecodeFault = λ stop. Err (decode_fault stop) in
     let stops : read (format_of c.args.first) cursor ≡ Err (broken at rule) = c.in-Err.ensures.read ∙ ap failed is in
     let first : cursor.at ≡ c.header_len.result = ap (λ (left : Left). left.at) c.starting_at-cursor.ensures in
     let rest : cursor.rest ≡ c.args.body.now = ap (λ (left : Left). left.rest) c.starting_at-cursor.ensures in

@@ -42,9 +42,9 @@ loop-event-preserved c = λ placed.
     let front : reverse c.loop-event.earlier.now ≡ e ∷ reverse rest = ap reverse parts ∙ reverse-append rest (e ∷ []) in
     let owed : c.is_owed-is_due.result ≡ is_owed c.args.is_lenient (at c.args.again.now) moved confirmed (only c.is_accepted-is_in.result (opener_of e.note))
     = c.is_owed-is_due.ensures ∙ ap (is_owed c.args.is_lenient (at c.args.again.now) moved confirmed) (c.only_if-opener.ensures ∙ ap (only c.is_accepted-is_in.result) c.opener.ensures) in
-    walked-step c.args.is_lenient (at c.args.again.now) c.args.role past c.loop-event.fate c.fate_before-fate.result e (reverse rest) moved confirmed (at c.mark_moved.new.moved)
-    (at c.mark_confirmed.new.confirmed) c.loop-event.places.items c.push_if.new.places.items c.is_accepted-is_in.result c.is_owed-is_due.result c.begins_at.result
-    placed c.is_accepted-is_in.ensures owed c.in_ok-push_if.ensures c.begins_at.ensures c.if-begins_at.false c.fate_before-fate.ensures c.mark_moved.ensures c.mark_confirmed.ensures
+    walked-step c.args.is_lenient (at c.args.again.now) c.args.role past c.loop-event.fate c.fate_before-fate.result e (reverse rest) moved confirmed (at c.key_moved.new.moved)
+    (at c.key_confirmed.new.confirmed) c.loop-event.places.items c.push_if.new.places.items c.is_accepted-is_in.result c.is_owed-is_due.result c.begins_at.result
+    placed c.is_accepted-is_in.ensures owed c.in_ok-push_if.ensures c.begins_at.ensures c.if-begins_at.false c.fate_before-fate.ensures c.key_moved.ensures c.key_confirmed.ensures
     (subst (λ es. IsWalked c.args.is_lenient (at c.args.again.now) c.args.role past c.loop-event.fate es moved confirmed c.loop-event.places.items) front (c.loop-event.invariant placed))
 
 pub returns : goal.returns

@@ -3,7 +3,7 @@ use Rattle.std.specs.Prelude.{reverse}
 use Rattle.mq_rules.specs.Statements.{is_on_past}
 use Rattle.mq_rules.specs.Faults.{GrowsWithin}
 use Rattle.mq_rules.specs.Keeping.{Agrees}
-use Rattle.mq_rules.proofs.MarkLaws.{on_err}
+use Rattle.mq_rules.proofs.FaultKeyLaws.{on_err}
 use Rattle.mq_rules.proofs.GrowLaws.{grows-start}
 use Rattle.mq_rules.proofs.PlainLaws.{newest-first, next-place, grows-next, within-next}
 use Rattle.mq_rules.proofs.HarmlessLaws.{harmless-agrees, harmless-grows}

@@ -2,7 +2,7 @@ use Rattle.std.proofs.Common.{sym, subst, take}
 use Rattle.std.specs.Prelude.{reverse}
 use Rattle.mq_rules.specs.Statements.{is_on_bytes}
 use Rattle.mq_rules.specs.Faults.{GrowsWithin}
-use Rattle.mq_rules.proofs.MarkLaws.{on_err}
+use Rattle.mq_rules.proofs.FaultKeyLaws.{on_err}
 use Rattle.mq_rules.proofs.GrowLaws.{grows-start}
 use Rattle.mq_rules.proofs.PlainLaws.{next-place, grows-next, within-beginning}
 use Rattle.mq_rules.proofs.plain.plain_w.Goals as goal

@@ -4,4 +4,4 @@ use Rattle.mq_judge.proofs.judge.Judge.feed.Goals as goal
 
 pub returns-clause-answers : goal.returns-clause-answers
 returns-clause-answers c = λ log h.
-    c.take_in.ensures.answers c.self.inside.limit log (subst (λ (j : Judged). Follows j log) (sym c.self.view_is) h)
+    c.consume.ensures.answers c.self.inside.limit log (subst (λ (j : Judged). Follows j log) (sym c.self.view_is) h)

@@ -9,7 +9,7 @@ use Rattle.mq_rules.specs.Moments.{IsPlaced}
 use Rattle.mq_rules.specs.Connections.{IsInOrder}
 use Rattle.mq_rules.specs.Faults.{Grows}
 use Rattle.mq_judge.specs.Chosen.{is_judged}
-use Rattle.mq_rules.specs.Marks.{fault_at, mark_cmp}
+use Rattle.mq_rules.specs.FaultKeys.{fault_at, key_cmp}
 use Rattle.mq_judge.specs.Judging.{Judged, Follows, judge_of}
 use Rattle.mq_judge.proofs.JudgeLaws.{untold, told_as, counted, faults-of, where_ok}
 use Rattle.mq_judge.proofs.judge.Judge.finish.Goals as goal
@@ -27,17 +27,17 @@ returns-in_default-clause-verdict c = λ log h.
     let k : Follows (judge_of c.self.inside.limit c.self.inside.tested c.self.inside.tracer (reverse c.self.inside.notes.seen.items)) log
     = subst (λ (j : Judged). Follows j log) (sym c.self.view_is) h in
     let traced : IsTracedTo c.finish.new.self log = subst (λ (t : Traced). IsTracedTo t log) (sym c.in_ok-finish.ensures.same) k.traced in
-    inl (untold log (sym c.in_default.is ∙ k.knows.tested), ap refusals.Cut (c.taken-at.ensures log traced))
+    inl (untold log (sym c.in_default.is ∙ k.knows.tested), ap refusals.Cut (c.byte_count-at.ensures log traced))
 
 pub returns-in_err-map_err-clause-verdict : goal.returns-in_err-map_err-clause-verdict
 returns-in_err-map_err-clause-verdict c = λ log h.
     let k : Follows (judge_of c.self.inside.limit c.self.inside.tested c.self.inside.tracer (reverse c.self.inside.notes.seen.items)) log
     = subst (λ (j : Judged). Follows j log) (sym c.self.view_is) h in
     let traced : IsTracedTo c.finish.new.self log = subst (λ (t : Traced). IsTracedTo t log) (sym c.in_ok-finish.ensures.same) k.traced in
-    let at : c.taken-at.result ≡ length log = c.taken-at.ensures log traced in
+    let at : c.byte_count-at.result ≡ length log = c.byte_count-at.ensures log traced in
     let whole = c.in_ok-finish.ensures.ends log k.traced in
     let p = err_from_is_err_and c.from_residual-in_err-map_err.result c.from_residual-in_err-map_err.ensures.1 in
-    let memory : c.in_err-map_err.field-0.0 ≡ refusals.Memory c.taken-at.result = search rules in
+    let memory : c.in_err-map_err.field-0.0 ≡ refusals.Memory c.byte_count-at.result = search rules in
     rw (p.1, p.2) (inr (whole, memory ∙ ap refusals.Memory at))
 
 pub returns-clause-verdict : goal.returns-clause-verdict
@@ -53,6 +53,6 @@ returns-clause-verdict c = λ log h.
       c.in_ok-finish.ensures.ends log k.traced,
       counted c.self.inside.tracer.reading.limit c.self.inside.notes.seen.items log c.count.result unrefused k.knows.events c.count.ensures,
       faults-of c.self.inside.tracer.reading.limit (reverse c.self.inside.notes.seen.items) log c.in-Some.tested c.new-faults.result c.judge_all-judged.new.faults unrefused k.knows.events whom
-          (λ p rule. ap (λ m. fault_at m p rule) c.new-faults.ensures ∙ get-empty mark_cmp (record { position = p; rule = rule }))
+          (λ p rule. ap (λ m. fault_at m p rule) c.new-faults.ensures ∙ get-empty key_cmp (record { position = p; rule = rule }))
           (λ placed in_order. (where_ok c.judge_all-judged.result judged (grown placed in_order)).each),
     )

@@ -4,5 +4,5 @@ use Rattle.serde_json.specs.View.{view}
 use Rattle.mq_judge.proofs.JsonLaws.{fault_datas}
 use Rattle.mq_judge.proofs.report.json.fault_values.Given as goal
 
-abbrev pub invariant-loop-mark : goal.invariant-loop-mark
-invariant-loop-mark l = map view l.values.items ++ fault_datas l.role l.mark-iterator ≡ fault_datas l.role (fin_map.entries l.faults)
+abbrev pub invariant-loop-key : goal.invariant-loop-key
+invariant-loop-key l = map view l.values.items ++ fault_datas l.role l.key-iterator ≡ fault_datas l.role (fin_map.entries l.faults)

@@ -1,15 +1,15 @@
 use Rattle.std.specs.BTreeSet.{contains}
 use Rattle.std.specs.Ordering.{nat_cmp}
-use Rattle.mq_rules.specs.Keeping.{is_told}
-use Rattle.mq_rules.proofs.MarkLaws.{on_err}
+use Rattle.mq_rules.specs.Keeping.{is_found}
+use Rattle.mq_rules.proofs.FaultKeyLaws.{on_err}
 use Rattle.mq_rules.proofs.GrowLaws.{within-all}
-use Rattle.mq_rules.proofs.TellLaws.{agrees-next, step-grows, step-within, StepWithin}
+use Rattle.mq_rules.proofs.FindLaws.{agrees-next, step-grows, step-within, StepWithin}
 use Rattle.mq_rules.proofs.conn.Conn.step.Goals as goal
 
 pub returns-clause-agrees : goal.returns-clause-agrees
 returns-clause-agrees c = λ tested past here.
-    agrees-next c.args.self.now c.take.new.self tested (record { place = c.args.place; note = c.args.note.now }) past here
-    c.in_ok-take.ensures.role c.in_ok-take.ensures.state c.in_ok-take.ensures.aliases
+    agrees-next c.args.self.now c.consume.new.self tested (record { place = c.args.place; note = c.args.note.now }) past here
+    c.in_ok-consume.ensures.role c.in_ok-consume.ensures.state c.in_ok-consume.ensures.aliases
 
 pub returns-clause-grows : goal.returns-clause-grows
 returns-clause-grows c = λ tested past here placed.
@@ -20,8 +20,8 @@ returns-in_err-judge-clause-memory c =
     on_err c.from_residual.result (StepWithin c.args.self.now c.args.place c.args.note.now c.args.faults.now c.judge.new.faults)
     (step-within c.args.self.now c.args.place c.args.note.now c.args.faults.now c.judge.new.faults c.in_err-judge.ensures.memory)
 
-pub returns-in_err-take-clause-memory : goal.returns-in_err-take-clause-memory
-returns-in_err-take-clause-memory c =
-    on_err c.from_residual-in_err-take.result (StepWithin c.args.self.now c.args.place c.args.note.now c.args.faults.now c.judge.new.faults)
+pub returns-in_err-consume-clause-memory : goal.returns-in_err-consume-clause-memory
+returns-in_err-consume-clause-memory c =
+    on_err c.from_residual-in_err-consume.result (StepWithin c.args.self.now c.args.place c.args.note.now c.args.faults.now c.judge.new.faults)
     (step-within c.args.self.now c.args.place c.args.note.now c.args.faults.now c.judge.new.faults
-    (within-all (is_told c.args.self.now.role c.args.self.now.state (contains nat_cmp c.args.self.now.aliases) c.args.note.now) c.args.place c.args.faults.now c.judge.new.faults c.in_ok-judge.ensures.ok))
+    (within-all (is_found c.args.self.now.role c.args.self.now.state (contains nat_cmp c.args.self.now.aliases) c.args.note.now) c.args.place c.args.faults.now c.judge.new.faults c.in_ok-judge.ensures.ok))

@@ -1,7 +1,7 @@
 use Rattle.std.proofs.Common.{rules, sym, ap, ◌∙◌}
 use Rattle.std.specs.FinMap as map
-use Rattle.mq_rules.specs.Marks.{faults_at}
-use Rattle.mq_rules.proofs.MarkLaws.{at_entries, entries-of}
+use Rattle.mq_rules.specs.FaultKeys.{faults_at}
+use Rattle.mq_rules.proofs.FaultKeyLaws.{at_entries, entries-of}
 use Rattle.mq_rules.proofs.faults.Faults.at.Goals as goal
 
 pub returns-clause-rest : goal.returns-clause-rest

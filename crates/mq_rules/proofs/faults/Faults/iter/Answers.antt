@@ -1,6 +1,6 @@
 use Rattle.std.proofs.Common.{sym, ap, ◌∙◌}
 use Rattle.std.specs.FinMap as map
-use Rattle.mq_rules.proofs.MarkLaws.{entries-of}
+use Rattle.mq_rules.proofs.FaultKeyLaws.{entries-of}
 use Rattle.mq_rules.proofs.faults.Faults.iter.Goals as goal
 
 pub returns-clause-rest : goal.returns-clause-rest

@@ -1,6 +1,6 @@
 use Rattle.std.proofs.Common.{sym, ap, ◌∙◌}
 use Rattle.std.specs.FinMap as map
-use Rattle.mq_rules.proofs.MarkLaws.{len-of}
+use Rattle.mq_rules.proofs.FaultKeyLaws.{len-of}
 use Rattle.mq_rules.proofs.faults.Faults.len.Goals as goal
 
 pub returns : goal.returns

@@ -2,9 +2,9 @@ use Rattle.std.proofs.Common.{rules, ◌≡◌, ◌+◌, ◌*◌, ◌∷◌, [],
 use Rattle.mq_trace.specs.declared.reading.Reading.{Reading}
 use Rattle.mq_trace.specs.Keeping.{Advances}
 use Rattle.mq_trace.specs.Stepping.{leaving}
-use Rattle.mq_trace.specs.declared.kind.Way.TheVariants as ways
+use Rattle.mq_trace.specs.declared.kind.Direction.TheVariants as directions
 use Rattle.mq_trace.specs.declared.refusal.Refusal.TheVariants as refusals
-use Rattle.mq_trace.specs.Framing.{way_of}
+use Rattle.mq_trace.specs.Framing.{direction_of}
 use Rattle.mq_trace.specs.Events.{event_of_head}
 use Rattle.mq_trace.specs.Refusals.{allows_length}
 use Rattle.mq_trace.proofs.ReadingLaws.{comes_quietly}
@@ -23,14 +23,14 @@ pub returns-in-Sent-clause-comes : goal.returns-in-Sent-clause-comes
 returns-in-Sent-clause-comes g c =
     let r = c.args.self.now in
     let allowed : allows_length (Some c.args.kind) (c.args.length * 256 + c.args.byte) ≡ true = search rules in
-    let is : c.begin_body.new.self ≡ leaving (record r { at = r.at + 1 }) ways.Sent (c.args.length * 256 + c.args.byte) = search rules in
+    let is : c.begin_body.new.self ≡ leaving (record r { at = r.at + 1 }) directions.Sent (c.args.length * 256 + c.args.byte) = search rules in
     comes_quietly g.S.Sink.agrees r _ (c.args.byte ∷ []) c.args.sink.now (subst (λ (x : Reading). Advances r x (c.args.byte ∷ []) []) (sym is)
-    (body_advances r c.args.kind c.args.length c.args.byte c.requires.sound c.requires.within ways.Sent (ap (λ k. way_of (Some k)) c.in-Sent.is) (ap event_of_head c.in-Sent.is) allowed))
+    (body_advances r c.args.kind c.args.length c.args.byte c.requires.sound c.requires.within directions.Sent (ap (λ k. direction_of (Some k)) c.in-Sent.is) (ap event_of_head c.in-Sent.is) allowed))
 
 pub returns-in-Recv-clause-comes : goal.returns-in-Recv-clause-comes
 returns-in-Recv-clause-comes g c =
     let r = c.args.self.now in
     let allowed : allows_length (Some c.args.kind) (c.args.length * 256 + c.args.byte) ≡ true = search rules in
-    let is : c.begin_body-in-Recv.new.self ≡ leaving (record r { at = r.at + 1 }) ways.Recv (c.args.length * 256 + c.args.byte) = search rules in
+    let is : c.begin_body-in-Recv.new.self ≡ leaving (record r { at = r.at + 1 }) directions.Recv (c.args.length * 256 + c.args.byte) = search rules in
     comes_quietly g.S.Sink.agrees r _ (c.args.byte ∷ []) c.args.sink.now (subst (λ (x : Reading). Advances r x (c.args.byte ∷ []) []) (sym is)
-    (body_advances r c.args.kind c.args.length c.args.byte c.requires.sound c.requires.within ways.Recv (ap (λ k. way_of (Some k)) c.in-Recv.is) (ap event_of_head c.in-Recv.is) allowed))
+    (body_advances r c.args.kind c.args.length c.args.byte c.requires.sound c.requires.within directions.Recv (ap (λ k. direction_of (Some k)) c.in-Recv.is) (ap event_of_head c.in-Recv.is) allowed))

@@ -1,12 +1,12 @@
 use Rattle.std.proofs.Common.{◌+◌, ◌*◌, ◌∷◌, [], true, Some, ap, sym, ◌∙◌}
 use Rattle.std.proofs.lemmas.Bool.{eqb-true}
-use Rattle.mq_trace.specs.declared.kind.Way.TheVariants as ways
+use Rattle.mq_trace.specs.declared.kind.Direction.TheVariants as directions
 use Rattle.mq_trace.specs.declared.refusal.Refusal.TheVariants as refusals
 use Rattle.mq_trace.specs.Events.{opened, closed, rested, event_of_head}
 use Rattle.mq_trace.specs.Refusals.{allows_length}
 use Rattle.mq_trace.proofs.ReadingLaws.{comes_quietly}
-use Rattle.mq_trace.proofs.EndLaws.{mark_tells, release_advances}
-use Rattle.mq_trace.proofs.TellingLaws.{told_comes, told_stops}
+use Rattle.mq_trace.proofs.EndLaws.{mark_emits, release_advances}
+use Rattle.mq_trace.proofs.EmissionLaws.{emitted_comes, emitted_stops}
 use Rattle.mq_trace.specs.Hearing.{Declines}
 use Rattle.mq_trace.proofs.reading.Reading.end_other.Goals as goal
 
@@ -15,42 +15,42 @@ returns-in-Open-clause-comes g c =
     let r = c.args.self.now in
     let allowed = c.requires.allowed in
     let s = c.end_mark.ensures in
-    told_comes g.S.Sink.agrees r _ c.args.byte opened _ _ _ (mark_tells r c.args.kind c.args.length c.args.byte c.requires.sound c.requires.within opened (ap event_of_head c.in-Open.is) allowed) s.met s.kept s.heard
+    emitted_comes g.S.Sink.agrees r _ c.args.byte opened _ _ _ (mark_emits r c.args.kind c.args.length c.args.byte c.requires.sound c.requires.within opened (ap event_of_head c.in-Open.is) allowed) s.met s.kept s.heard
 
 pub returns-in-Open-clause-stops : goal.returns-in-Open-clause-stops
 returns-in-Open-clause-stops g c =
     let r = c.args.self.now in
     let allowed = c.requires.allowed in
     let s = c.end_mark.ensures in
-    told_stops (Declines g.S.Sink.agrees g.S.Sink.refuses) r c.args.byte opened _ _ _ (mark_tells r c.args.kind c.args.length c.args.byte c.requires.sound c.requires.within opened (ap event_of_head c.in-Open.is) allowed) s.err
+    emitted_stops (Declines g.S.Sink.agrees g.S.Sink.refuses) r c.args.byte opened _ _ _ (mark_emits r c.args.kind c.args.length c.args.byte c.requires.sound c.requires.within opened (ap event_of_head c.in-Open.is) allowed) s.err
 
 pub returns-in-Close-clause-comes : goal.returns-in-Close-clause-comes
 returns-in-Close-clause-comes g c =
     let r = c.args.self.now in
     let allowed = c.requires.allowed in
     let s = c.end_mark-in-Close.ensures in
-    told_comes g.S.Sink.agrees r _ c.args.byte closed _ _ _ (mark_tells r c.args.kind c.args.length c.args.byte c.requires.sound c.requires.within closed (ap event_of_head c.in-Close.is) allowed) s.met s.kept s.heard
+    emitted_comes g.S.Sink.agrees r _ c.args.byte closed _ _ _ (mark_emits r c.args.kind c.args.length c.args.byte c.requires.sound c.requires.within closed (ap event_of_head c.in-Close.is) allowed) s.met s.kept s.heard
 
 pub returns-in-Close-clause-stops : goal.returns-in-Close-clause-stops
 returns-in-Close-clause-stops g c =
     let r = c.args.self.now in
     let allowed = c.requires.allowed in
     let s = c.end_mark-in-Close.ensures in
-    told_stops (Declines g.S.Sink.agrees g.S.Sink.refuses) r c.args.byte closed _ _ _ (mark_tells r c.args.kind c.args.length c.args.byte c.requires.sound c.requires.within closed (ap event_of_head c.in-Close.is) allowed) s.err
+    emitted_stops (Declines g.S.Sink.agrees g.S.Sink.refuses) r c.args.byte closed _ _ _ (mark_emits r c.args.kind c.args.length c.args.byte c.requires.sound c.requires.within closed (ap event_of_head c.in-Close.is) allowed) s.err
 
 pub returns-in-Rest-clause-comes : goal.returns-in-Rest-clause-comes
 returns-in-Rest-clause-comes g c =
     let r = c.args.self.now in
     let allowed = c.requires.allowed in
     let s = c.end_mark-in-Rest.ensures in
-    told_comes g.S.Sink.agrees r _ c.args.byte rested _ _ _ (mark_tells r c.args.kind c.args.length c.args.byte c.requires.sound c.requires.within rested (ap event_of_head c.in-Rest.is) allowed) s.met s.kept s.heard
+    emitted_comes g.S.Sink.agrees r _ c.args.byte rested _ _ _ (mark_emits r c.args.kind c.args.length c.args.byte c.requires.sound c.requires.within rested (ap event_of_head c.in-Rest.is) allowed) s.met s.kept s.heard
 
 pub returns-in-Rest-clause-stops : goal.returns-in-Rest-clause-stops
 returns-in-Rest-clause-stops g c =
     let r = c.args.self.now in
     let allowed = c.requires.allowed in
     let s = c.end_mark-in-Rest.ensures in
-    told_stops (Declines g.S.Sink.agrees g.S.Sink.refuses) r c.args.byte rested _ _ _ (mark_tells r c.args.kind c.args.length c.args.byte c.requires.sound c.requires.within rested (ap event_of_head c.in-Rest.is) allowed) s.err
+    emitted_stops (Declines g.S.Sink.agrees g.S.Sink.refuses) r c.args.byte rested _ _ _ (mark_emits r c.args.kind c.args.length c.args.byte c.requires.sound c.requires.within rested (ap event_of_head c.in-Rest.is) allowed) s.err
 
 pub returns-in-Release-clause-comes : goal.returns-in-Release-clause-comes
 returns-in-Release-clause-comes g c =

@@ -17,8 +17,8 @@ returns-in-Ok-clause-comes g c =
     let sink = c.args.sink.now in
     let short : r.at < 8 = omega (arith, c.if-self-lt-HEADER_LENGTH.true) in
     let s = c.in-Ok.ensures in
-    comes_front g.S.Sink.agrees r c.take_header.new.self (b ∷ []) bytes 1 sink sink (first_of bytes c.requires.some)
-    (comes_quietly g.S.Sink.agrees r c.take_header.new.self (b ∷ []) sink
+    comes_front g.S.Sink.agrees r c.consume_header.new.self (b ∷ []) bytes 1 sink sink (first_of bytes c.requires.some)
+    (comes_quietly g.S.Sink.agrees r c.consume_header.new.self (b ∷ []) sink
     (subst (λ (x : Reading). Advances r x (b ∷ []) []) (sym s.kept) (header_advances r b short (c.requires.sound.header_first short).0 s.refused)))
 
 pub returns-in-Err-clause-stops : goal.returns-in-Err-clause-stops

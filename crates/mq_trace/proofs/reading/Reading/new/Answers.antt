@@ -1,8 +1,8 @@
 -- What is kept of nothing is sound.
 use Rattle.std.proofs.Common.{◌≡◌, ◌<◌, ◌≤◌, ℕ, refl, sym, subst, arith, false}
-use Rattle.mq_trace.specs.Context.{Half}
+use Rattle.mq_trace.specs.Context.{StreamState}
 use Rattle.mq_trace.specs.Keeping.{IsUnfinished}
-use Rattle.mq_trace.proofs.DirectionLaws.{nothing_unfinished}
+use Rattle.mq_trace.proofs.DeframerLaws.{nothing_unfinished}
 use Rattle.mq_trace.proofs.reading.Reading.new.Goals as goal
 
 pub returns-clause-sound : goal.returns-clause-sound
@@ -13,6 +13,6 @@ returns-clause-sound c = record {
   behind_header = λ h. absurd (omega (arith, h));
   header_first = λ h. (refl, refl);
   emptied = λ count length_so_far is. absurd (cc);
-  sent = subst (λ (h : Half). IsUnfinished c.args.limit h) (sym c.new.ensures) (nothing_unfinished c.args.limit false);
-  recv = subst (λ (h : Half). IsUnfinished c.args.limit h) (sym c.new-2.ensures) (nothing_unfinished c.args.limit false);
+  sent = subst (λ (h : StreamState). IsUnfinished c.args.limit h) (sym c.new.ensures) (nothing_unfinished c.args.limit false);
+  recv = subst (λ (h : StreamState). IsUnfinished c.args.limit h) (sym c.new-2.ensures) (nothing_unfinished c.args.limit false);
 }

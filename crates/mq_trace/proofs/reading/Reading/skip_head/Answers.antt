@@ -9,4 +9,4 @@ returns-in-Some-clause-advances c =
     let r = c.args.self.now in
     let bytes = c.args.bytes.now in
     subst (λ (x : Reading). Advances r x (take 5 bytes) []) (sym c.leave.ensures)
-    (head_advances r c.in-Some.way c.in-Some.length bytes c.requires.sound c.in-Some.ensures (λ i. omega (arith, c.type_inv.bytes i)))
+    (head_advances r c.in-Some.direction c.in-Some.length bytes c.requires.sound c.in-Some.ensures (λ i. omega (arith, c.type_inv.bytes i)))

@@ -1,0 +1,282 @@
+-- What the program writes, and where.
+use Rattle.std.specs.Prelude.{Bool, true, false, ◌≡◌, ◌⊎◌, ⊤, List, ℕ, Option, None, [], ◌∷◌, ◌++◌, codes, string_bytes, unwrap_or, option_map, IfSome, IsSome, IsSomeAnd, IsErr, Ok}
+use Rattle.std.specs.FinMap as map
+use Rattle.std.specs.Io.KnownBytes.{Appends, Keeps}
+use Rattle.hex.specs.Hex.{decode_of}
+use Rattle.mq_judge.specs.declared.Form.{Form}
+use Rattle.mq_judge.specs.declared.Form.TheVariants.{Text, Json, Summary}
+use Rattle.mq_judge.specs.declared.Refusal.{Refusal}
+use Rattle.mq_judge.specs.declared.Refusal.TheVariants as refusals
+use Rattle.mq_judge.specs.OnePacket.{IsOnePacket, packet_report}
+use Rattle.mq_judge.specs.Report.{refused_line, refused_report, report}
+use Rattle.mq_judge.specs.Runner.{IsFaultless, IsJudged, default_limit}
+use Rattle.mq_judge.specs.Display.{WritesBeginning, annotated, short_lines_of, long_lines_of}
+use Rattle.mq_judge.specs.Stopping.{IsRefusedAt, IsRefusedNext}
+use Rattle.mq_trace.specs.Events.{Placed, events}
+use Rattle.mq_trace.specs.Refusals.{refused}
+use Rattle.mq_cli.specs.Explaining.{explained_for}
+use Rattle.mq_cli.specs.Listing.{listed_for}
+use Rattle.mq_cli.specs.declared.command_line.Task.{Task}
+use Rattle.mq_cli.specs.declared.command_line.Task.TheVariants.{Check, Show, Packet, Rules, Explain}
+use Rattle.mq_cli.specs.declared.tasks.View.{View}
+use Rattle.mq_cli.specs.declared.tasks.View.TheVariants.{Lines, Faults}
+use Rattle.mq_cli.specs.declared.command_line.EarlyExit.{EarlyExit}
+use Rattle.mq_cli.specs.declared.command_line.EarlyExit.TheVariants.{Help, Usage, Memory}
+use Rattle.mq_cli.specs.declared.failure.Failure.{Failure}
+use Rattle.mq_cli.specs.declared.failure.Failure.TheVariants as failures
+
+-- help or the version was asked for, and its text was written
+abbrev pub IsShownOn : EarlyExit → Option (List ℕ) → Option (List ℕ) → Type 0
+IsShownOn (Help text) old new = Appends old new (string_bytes text)
+IsShownOn (Usage text) old new = ⊥
+IsShownOn Memory old new = ⊥
+
+-- the words were misused, and the text that says so was written
+abbrev pub IsPrintedOn : EarlyExit → Option (List ℕ) → Option (List ℕ) → Type 0
+IsPrintedOn (Help text) old new = ⊥
+IsPrintedOn (Usage text) old new = Appends old new (string_bytes text)
+IsPrintedOn Memory old new = ⊥
+
+-- The known bytes grew by a beginning of the text, or by all of it, and by nothing else.
+pub record AppendsPart (old new : Option (List ℕ)) (text : List ℕ) : Type 0 where
+  pub written : List ℕ
+  pub unwritten : List ℕ
+  pub whole : text ≡ written ++ unwritten
+  pub appended : Appends old new written
+
+-- The known bytes grew by one text, then by a beginning of another one, or by all of it, and by nothing else.
+pub record AppendsAfter (old new : Option (List ℕ)) (before text : List ℕ) : Type 0 where
+  pub written : List ℕ
+  pub unwritten : List ℕ
+  pub whole : text ≡ written ++ unwritten
+  pub appended : Appends old new (before ++ written)
+
+-- ---- the log
+
+-- the log is the reason of the refusal, and not a failed read or want of memory
+abbrev pub IsOfLog : Refusal → Type 0
+IsOfLog (refusals.Read at) = ⊥
+IsOfLog (refusals.Memory at) = ⊥
+IsOfLog _ = ⊤
+
+-- what failed if the line on a refusal couldn't be written: reading or memory if that is the refusal, else writing
+abbrev pub failure_of : Refusal → Failure
+failure_of (refusals.Read at) = failures.Read
+failure_of (refusals.Memory at) = failures.Memory
+failure_of _ = failures.Write
+
+-- nothing was written, or part of the report on this refusal, whose reason is the log
+abbrev pub BeginsRefusal : Form → Refusal → Option (List ℕ) → Option (List ℕ) → Type 0
+BeginsRefusal form refusal old new = Keeps old new ⊎ (IsOfLog refusal × AppendsPart old new (refused_report form refusal))
+
+-- memory ran out for a refusal as JSON, whose reason is the log: nothing was written
+abbrev pub LacksJsonMemory : Form → Refusal → Option (List ℕ) → Option (List ℕ) → Type 0
+LacksJsonMemory form refusal old new = (form ≡ Json) × IsOfLog refusal × Keeps old new
+
+-- The log is refused for this reason, and nothing is refused before that byte: it is the lowest number whose condition applies at the
+-- byte after those that were taken in, or the log is cut short after them.
+pub record IsRefusedBy (log : List ℕ) (refusal : Refusal) : Type 0 where
+  pub own : IsOfLog refusal
+  pub taken : List ℕ
+  pub later : List ℕ
+  pub is : log ≡ taken ++ later
+  pub unrefused : refused default_limit taken ≡ None
+  pub why : IsRefusedNext default_limit taken later refusal
+
+-- the form of the report that these flags ask for, JSON and summary: both together ask for JSON, which has everything
+abbrev pub form_of : Bool → Bool → Form
+form_of true summary = Json
+form_of false true = Summary
+form_of false false = Text
+
+-- A check of the log was refused: the refusal was written in this form and nothing else.
+abbrev pub RefusesCheck : Form → List ℕ → (old new : Option (List ℕ)) → Type 0
+RefusesCheck form log old new = (refusal : Refusal) × IsRefusedBy log refusal × Appends old new (refused_report form refusal)
+
+-- the lines of events, long or short
+abbrev pub text_for : (long : Bool) → List Placed → List ℕ
+text_for false = short_lines_of
+text_for true = long_lines_of
+
+-- the text of events by a view of them
+abbrev pub text_in_view : View → List Placed → List ℕ
+text_in_view (Lines long) = text_for long
+text_in_view (Faults faults role around long) = annotated (record { role = role; faults = map.entries faults.now; around = around; long = long })
+
+-- Showing the log by this text of events was refused: the text of the events that are complete before the refused byte was written, then the line on
+-- the refusal, and nothing else.
+abbrev pub RefusesShow : (List Placed → List ℕ) → List ℕ → (old new : Option (List ℕ)) → Type 0
+RefusesShow text_of log old new = (refusal : Refusal) × (by : IsRefusedBy log refusal)
+    × Appends old new (text_of (events by.taken) ++ refused_line refusal)
+
+-- In what follows, `left` are the bytes that the log's reader has left, if that is known.
+
+-- the log was judged, or is refused
+abbrev pub IsDecided : List ℕ → Type 0
+IsDecided log = IsJudged log ⊎ ((refusal : Refusal) × IsRefusedBy log refusal)
+
+-- A check of the log failed. Reading it failed, or memory ran out, for the log or for the report or refusal as JSON: nothing was
+-- written. Or writing failed: part of the report was written, or of its refusal.
+abbrev pub StopsCheck : Form → Failure → List ℕ → (left old new : Option (List ℕ)) → Type 0
+StopsCheck form failures.Read log left old new = (at : ℕ) × IsRefusedAt default_limit log left (refusals.Read at) × Keeps old new
+StopsCheck form failures.Memory log left old new = ((at : ℕ) × IsRefusedAt default_limit log left (refusals.Memory at) × Keeps old new)
+    ⊎ ((form ≡ Json) × IsDecided log × Keeps old new)
+StopsCheck form failures.Write log left old new = (IsJudged log × AppendsPart old new (report form log))
+    ⊎ ((refusal : Refusal) × IsRefusedBy log refusal × AppendsPart old new (refused_report form refusal))
+
+-- Showing the log by this text of events failed. Reading it failed, or memory ran out: the text of the preceding events was written. Or
+-- writing failed: a beginning of the text was written; or all of it, if only a flush failed; or that of the events before the refused
+-- byte, and part of the line on the refusal.
+abbrev pub StopsShow : (List Placed → List ℕ) → Failure → List ℕ → (left old new : Option (List ℕ)) → Type 0
+StopsShow text_of failures.Read log left old new = (at : ℕ) × (stops : IsRefusedAt default_limit log left (refusals.Read at))
+    × Appends old new (text_of (events stops.taken))
+StopsShow text_of failures.Memory log left old new = (at : ℕ) × (stops : IsRefusedAt default_limit log left (refusals.Memory at))
+    × Appends old new (text_of (events stops.taken))
+StopsShow text_of failures.Write log left old new = WritesBeginning text_of log old new
+    ⊎ ((IsJudged log × Appends old new (text_of (events log)))
+    ⊎ ((refusal : Refusal) × (by : IsRefusedBy log refusal) × AppendsAfter old new (text_of (events by.taken)) (refused_line refusal)))
+
+-- the line that says what failed
+abbrev pub failure_line : Failure → List ℕ
+failure_line failures.Read = codes "mqjudge: read failed" ++ 10 ∷ []
+failure_line failures.Write = codes "mqjudge: write failed" ++ 10 ∷ []
+failure_line failures.Memory = codes "mqjudge: out of memory" ++ 10 ∷ []
+
+-- ---- the bytes of one packet
+
+-- the digits spell bytes that are one packet
+abbrev pub SpellsPacket : List ℕ → Type 0
+SpellsPacket hex = (bytes : List ℕ) × (decode_of hex ≡ Ok bytes) × IsOnePacket bytes
+
+-- they spell bytes that aren't one packet
+abbrev pub SpellsNoPacket : List ℕ → Type 0
+SpellsNoPacket hex = (bytes : List ℕ) × (decode_of hex ≡ Ok bytes) × (¬ IsOnePacket bytes)
+
+-- they spell bytes, and the line on these was written and nothing else
+abbrev pub AppendsLineOf : List ℕ → Option (List ℕ) → Option (List ℕ) → Type 0
+AppendsLineOf hex old new = (bytes : List ℕ) × (decode_of hex ≡ Ok bytes) × Appends old new (packet_report bytes)
+
+-- the message if they don't spell bytes
+abbrev pub not_hex_line : List ℕ
+not_hex_line = codes "mqjudge: not hex" ++ 10 ∷ []
+
+-- ---- the statements
+
+-- there is such a text, and it was written and nothing else
+abbrev pub Prints : Option (List ℕ) → Option (List ℕ) → Option (List ℕ) → Type 0
+Prints text old new = IsSomeAnd text (λ printed. Appends old new printed)
+
+-- there is such a text, and part of it was written
+abbrev pub PrintsPart : Option (List ℕ) → Option (List ℕ) → Option (List ℕ) → Type 0
+PrintsPart text old new = IsSomeAnd text (λ printed. AppendsPart old new printed)
+
+-- the messages for a word that isn't an end, and for one that isn't a statement's code
+abbrev pub no_role_line : List ℕ → List ℕ
+no_role_line word = codes "mqjudge: no role " ++ word ++ 10 ∷ []
+
+abbrev pub no_statement_line : List ℕ → List ℕ
+no_statement_line code = codes "mqjudge: no statement " ++ code ++ 10 ∷ []
+
+-- ---- what a status means for a task, whose input gives these bytes and then has these left, each if known
+
+-- 0: the log is judged and has no fault; the log that is shown can be judged; the bytes are one packet; the word names an end, or a statement
+abbrev pub HasPassed : Task → Option (List ℕ) → Type 0
+HasPassed (Check file json summary) input = IfSome input (λ log. IsJudged log × IsFaultless log)
+HasPassed (Show file long) input = IfSome input IsJudged
+HasPassed (Packet hex) input = SpellsPacket (string_bytes hex)
+HasPassed (Rules role) input = IsSome (listed_for (option_map string_bytes role))
+HasPassed (Explain code) input = IsSome (explained_for (string_bytes code))
+
+-- 1: the log is judged and has faults; the bytes aren't exactly one packet
+abbrev pub HasFailed : Task → Option (List ℕ) → Type 0
+HasFailed (Check file json summary) input = IfSome input (λ log. IsJudged log × (¬ IsFaultless log))
+HasFailed (Show file long) input = ⊥
+HasFailed (Packet hex) input = SpellsNoPacket (string_bytes hex)
+HasFailed (Rules role) input = ⊥
+HasFailed (Explain code) input = ⊥
+
+-- 0 and 1: the report was written, or the lines of the log's events, the line on the packet, the lines of the statements, or the explanation of one, and nothing else
+abbrev pub IsReportedOn : Task → Option (List ℕ) → Option (List ℕ) → Option (List ℕ) → Type 0
+IsReportedOn (Check file json summary) input old new = IfSome input (λ log. Appends old new (report (form_of json summary) log))
+IsReportedOn (Show file long) input old new = IfSome input (λ log. Appends old new (text_for long (events log)))
+IsReportedOn (Packet hex) input old new = AppendsLineOf (string_bytes hex) old new
+IsReportedOn (Rules role) input old new = Prints (listed_for (option_map string_bytes role)) old new
+IsReportedOn (Explain code) input old new = Prints (explained_for (string_bytes code)) old new
+
+-- 2: the log is refused, and the line that says so was written: alone by a check, after the lines of the preceding events if the log is shown
+abbrev pub IsRefusedOn : Task → (input old new : Option (List ℕ)) → Type 0
+IsRefusedOn (Check file json summary) input old new = IfSome input (λ log. RefusesCheck (form_of json summary) log old new)
+IsRefusedOn (Show file long) input old new = IfSome input (λ log. RefusesShow (text_for long) log old new)
+IsRefusedOn (Packet hex) input old new = ⊥
+IsRefusedOn (Rules role) input old new = ⊥
+IsRefusedOn (Explain code) input old new = ⊥
+
+-- 3: the digits of a packet are invalid, or a word isn't an end, or isn't the code of a statement
+abbrev pub IsMisnamed : Task → Type 0
+IsMisnamed (Check file json summary) = ⊥
+IsMisnamed (Show file long) = ⊥
+IsMisnamed (Packet hex) = IsErr (decode_of (string_bytes hex))
+IsMisnamed (Rules role) = listed_for (option_map string_bytes role) ≡ None
+IsMisnamed (Explain code) = explained_for (string_bytes code) ≡ None
+
+-- the message then
+abbrev pub misnamed_line : Task → List ℕ
+misnamed_line (Check file json summary) = []
+misnamed_line (Show file long) = []
+misnamed_line (Packet hex) = not_hex_line
+misnamed_line (Rules role) = no_role_line (unwrap_or (option_map string_bytes role) [])
+misnamed_line (Explain code) = no_statement_line (string_bytes code)
+
+-- 4, for a packet: the line on its bytes couldn't be written or flushed, or memory ran out first
+abbrev pub StopsPacket : Failure → List ℕ → Option (List ℕ) → Option (List ℕ) → Type 0
+StopsPacket failures.Read hex old new = ⊥
+StopsPacket failures.Write hex old new = (bytes : List ℕ) × (decode_of hex ≡ Ok bytes) × AppendsPart old new (packet_report bytes)
+StopsPacket failures.Memory hex old new = Keeps old new
+
+-- 4, for these digits: what failed is written to the error stream, as far as possible; or they don't spell bytes, and the line
+-- that says so couldn't be written to the error stream
+abbrev pub FailsPacket : List ℕ → Option (List ℕ) → Option (List ℕ) → Option (List ℕ) → Option (List ℕ) → Type 0
+FailsPacket hex old new error_old error_new =
+    ((failure : Failure) × StopsPacket failure hex old new × AppendsPart error_old error_new (failure_line failure))
+    ⊎ (IsErr (decode_of hex) × Keeps old new × AppendsPart error_old error_new not_hex_line)
+
+-- 4, for the statements: the text couldn't be written or flushed, or memory ran out first
+abbrev pub StopsPrinting : Failure → Option (List ℕ) → Option (List ℕ) → Option (List ℕ) → Type 0
+StopsPrinting failures.Read text old new = ⊥
+StopsPrinting failures.Write text old new = PrintsPart text old new
+StopsPrinting failures.Memory text old new = Keeps old new
+
+-- 4, for this text, or this line if there is none: what failed is written to the error stream, as far as possible; or there is
+-- no text, and the line that says so couldn't be written to the error stream
+abbrev pub FailsPrinting : (text : Option (List ℕ)) → (line : List ℕ) → Option (List ℕ) → Option (List ℕ) → Option (List ℕ) → Option (List ℕ) → Type 0
+FailsPrinting text line old new error_old error_new =
+    ((failure : Failure) × StopsPrinting failure text old new × AppendsPart error_old error_new (failure_line failure))
+    ⊎ ((text ≡ None) × Keeps old new × AppendsPart error_old error_new line)
+
+-- 4: what failed, and what had been written
+abbrev pub StopsTask : Failure → Task → (input left old new : Option (List ℕ)) → Type 0
+StopsTask failure (Check file json summary) input left old new = IfSome input (λ log. StopsCheck (form_of json summary) failure log left old new)
+StopsTask failure (Show file long) input left old new = IfSome input (λ log. StopsShow (text_for long) failure log left old new)
+StopsTask failure (Packet hex) input left old new = StopsPacket failure (string_bytes hex) old new
+StopsTask failure (Rules role) input left old new = StopsPrinting failure (listed_for (option_map string_bytes role)) old new
+StopsTask failure (Explain code) input left old new = StopsPrinting failure (explained_for (string_bytes code)) old new
+
+-- 4: what failed is written to the error stream, as far as possible
+pub record FailsTask (task : Task) (input left old new error_old error_new : Option (List ℕ)) : Type 0 where
+  pub failure : Failure
+  pub stops : StopsTask failure task input left old new
+  pub printed : AppendsPart error_old error_new (failure_line failure)
+
+-- 4: the digits of a packet are invalid, or a word isn't an end or a statement's code; and the line that says so couldn't be written to the error stream
+pub record FailsMisnamed (task : Task) (old new error_old error_new : Option (List ℕ)) : Type 0 where
+  pub misnamed : IsMisnamed task
+  pub unwritten : Keeps old new
+  pub printed : AppendsPart error_old error_new (misnamed_line task)
+
+-- ---- what a status means if the words ask for no task
+
+-- 4: help, the version or a misuse couldn't be written, or memory ran out
+abbrev pub FailsStop : EarlyExit → Option (List ℕ) → Option (List ℕ) → Option (List ℕ) → Option (List ℕ) → Type 0
+FailsStop (Help text) old new error_old error_new = AppendsPart old new (string_bytes text) × AppendsPart error_old error_new (failure_line failures.Write)
+FailsStop (Usage text) old new error_old error_new = Keeps old new × AppendsPart error_old error_new (string_bytes text)
+FailsStop Memory old new error_old error_new = Keeps old new × AppendsPart error_old error_new (failure_line failures.Memory)

@@ -1,0 +1,143 @@
+-- A log that was fed to a judge, and what a run over it comes to.
+use Rattle.std.proofs.Common.{◌≡◌, ℕ, Bool, true, false, ◌⊎◌, inl, inr, List, [], ◌∷◌, ◌++◌, length, Option, Some, None, refl, sym, ap, subst, ◌∙◌, append-nil, nat_lt, ◌||◌, ◌==◌, IsSome, IfSome, rules, Ok, Err, if◌then◌else◌}
+use Rattle.std.specs.FinMap as map
+use Rattle.std.specs.Io.KnownBytes.{Appends}
+use Rattle.mq_trace.specs.declared.refusal.Refusal.{Refusal}
+use Rattle.mq_trace.specs.declared.refusal.Refusal.TheVariants as refusals
+use Rattle.mq_judge.specs.declared.report.Form.{Form}
+use Rattle.mq_judge.specs.declared.report.Outcome.{Outcome}
+use Rattle.mq_judge.specs.declared.report.Outcome.TheVariants.{Pass, Fail}
+use Rattle.mq_judge.specs.declared.report.RunFault.{RunFault}
+use Rattle.mq_judge.specs.declared.report.RunFault.TheVariants as run_faults
+use Rattle.mq_rules.specs.declared.role.Role.{Role}
+use Rattle.mq_judge.specs.Judging.{Judged, Knows, Follows, RefusesIn, AreFaultsOf}
+use Rattle.mq_trace.specs.Refusals.{refused, is_cut_short}
+use Rattle.mq_trace.specs.Events.{events}
+use Rattle.mq_rules.specs.Notes.{tested_by, seen_in}
+use Rattle.mq_rules.specs.FaultKeys.{FaultMap}
+use Rattle.mq_judge.specs.Report.{report, report_on, FailsToReport}
+use Rattle.mq_judge.specs.Feeding.{FedAll, FedSome}
+use Rattle.mq_judge.specs.Stopping.{IsRefusedByte, IsRefusedEnd, IsRefusedAt}
+use Rattle.mq_judge.specs.Runner.{default_limit, found_in, outcome_of, IsJudged, IsVerdictOn, JudgesOver, RunsOver}
+use Rattle.mq_judge.proofs.JudgeLaws.{unrefused}
+use Rattle.mq_judge.proofs.FeedingLaws.{whole-taken, some-taken, pieces-are}
+use Rattle.mq_judge.specs.Chosen.{is_judged}
+use Rattle.mq_rules.proofs.Exports.{entries-listed}
+
+-- nothing is refused in what a judge with the default limit follows
+unrefused-yet : {judge : Judged} (log : List ℕ) → judge.limit ≡ default_limit → Follows judge log → refused default_limit log ≡ None
+unrefused-yet {judge} log e follows = subst (λ l. refused l log ≡ None) e (unrefused judge log follows)
+
+-- what a verdict says of its log
+abbrev pub SaysOf : List ℕ → ℕ → FaultMap → Type 0
+SaysOf log count faults = (is_cut_short log ≡ false) × (count ≡ length (events log)) × AreFaultsOf log faults
+
+or-false : (a b : Bool) → (a || b) ≡ false → a ≡ false
+or-false false b h = refl
+or-false true b h = h
+
+-- This is the end that a judge names.
+abbrev pub IsNamed : Judged → Option Role → Type 0
+IsNamed judge named = (taken : List ℕ) → Knows judge taken → named ≡ (if nat_lt (length taken) 8 then None else Some (tested_by taken).role)
+
+-- the end that a judge names once its log isn't cut short
+role-known : (judge : Judged) (log : List ℕ) (named : Option Role) → Follows judge log → is_cut_short log ≡ false → IsNamed judge named → named ≡ Some (tested_by log).role
+unfolding is_cut_short
+role-known judge log named followed whole names =
+    let long : nat_lt (length log) 8 ≡ false = or-false (nat_lt (length log) 8) _ whole in
+    names log followed.knows ∙ ap (λ b. if b then None else Some (tested_by log).role) long
+
+pub is-named : {first : ℕ} {judge : Judged} {x y : Option (List ℕ)} (named : Option Role) (count : ℕ) (faults : FaultMap) → FedAll {S = Unit {0}} (λ j. j.limit) (λ j _. Follows j) first x y judge tt → first ≡ default_limit
+    → ((log : List ℕ) → Follows judge log → SaysOf log count faults)
+    → IsNamed judge named → IsSome named
+is-named {first} {judge} named count faults took default verdict names =
+    rw (role-known judge took.log named took.followed (verdict took.log took.followed).0 names) (search rules)
+
+-- a verdict on a log that was fed whole
+pub judge-ends : {first : ℕ} {x y : Option (List ℕ)} {judge : Judged} (count : ℕ) (faults : FaultMap) (role : Role)
+    → FedAll {S = Unit {0}} (λ j. j.limit) (λ j _. Follows j) first x y judge tt → first ≡ default_limit → ((log : List ℕ) → Follows judge log → SaysOf log count faults)
+    → IsNamed judge (Some role) → IfSome x (λ log. IsVerdictOn log role count faults)
+judge-ends {first} {x} {y} {judge} count faults role took default verdict named =
+    let log = took.log in
+    let v : SaysOf log count faults = verdict log took.followed in
+    let known : Some role ≡ Some (tested_by log).role = role-known judge log (Some role) took.followed v.0 named in
+    whole-taken x y log (λ l. IsVerdictOn l role count faults) took.consumed took.ended (record {
+      judged = record { unrefused = unrefused-yet log (took.within ∙ default) took.followed; whole = v.0 };
+      role_is = cc;
+      count_is = v.1;
+      faults_are = entries-listed (is_judged (tested_by log)) (tested_by log) (seen_in log) faults v.2;
+    })
+
+-- what holds of a log holds of what a reader had left, where that is known
+pub for_log : (remaining : Option (List ℕ)) (P Q : List ℕ → Type 0) → ((log : List ℕ) → P log → Q log) → IfSome remaining P → IfSome remaining Q
+for_log None P Q f h = tt
+for_log (Some log) P Q f h = f log h
+
+report-is : (form : Form) (log : List ℕ) (role : Role) (count : ℕ) (faults : FaultMap) → IsVerdictOn log role count faults
+    → report_on form role (map.entries faults) count ≡ report form log
+unfolding report
+report-is form log role count faults v = rw (v.role_is, v.faults_are, v.count_is) refl
+
+outcome-is : (log : List ℕ) (role : Role) (count : ℕ) (faults : FaultMap) → IsVerdictOn log role count faults
+    → (if map.len faults == 0 then Pass else Fail) ≡ outcome_of log
+outcome-is log role count faults v = rw (map.len-entries faults, v.faults_are) refl
+
+-- a run that came to an outcome
+pub run-reports : (x y : Option (List ℕ)) (form : Form) (w z : Option (List ℕ)) (count : ℕ) (faults : FaultMap) (role : Role) (outcome : Outcome)
+    → IfSome x (λ log. IsVerdictOn log role count faults)
+    → Appends w z (report_on form role (map.entries faults) count) → outcome ≡ (if map.len faults == 0 then Pass else Fail)
+    → IfSome x (λ log. RunsOver form log y (Ok outcome) w z)
+run-reports x y form w z count faults role outcome judged wrote says =
+    for_log x (λ log. IsVerdictOn log role count faults) (λ log. RunsOver form log y (Ok outcome) w z)
+    (λ log v. (v.judged, says ∙ outcome-is log role count faults v, subst (Appends w z) (report-is form log role count faults v) wrote)) judged
+
+-- a run whose report couldn't be written
+stops-with : (form : Form) (log : List ℕ) (y w z : Option (List ℕ)) (fault : RunFault) → IsJudged log → FailsToReport form w z (report form log) fault → RunsOver form log y (Err fault) w z
+stops-with form log y w z (run_faults.Refused refusal) judged failed = absurd failed
+stops-with form log y w z run_faults.Write judged failed = (judged, failed)
+stops-with form log y w z run_faults.Memory judged failed = (judged, failed.0, failed.1)
+
+pub run-stops-writing : (x y : Option (List ℕ)) (form : Form) (w z : Option (List ℕ)) (count : ℕ) (faults : FaultMap) (role : Role) (fault : RunFault)
+    → IfSome x (λ log. IsVerdictOn log role count faults)
+    → FailsToReport form w z (report_on form role (map.entries faults) count) fault
+    → IfSome x (λ log. RunsOver form log y (Err fault) w z)
+run-stops-writing x y form w z count faults role fault judged stopped =
+    for_log x (λ log. IsVerdictOn log role count faults) (λ log. RunsOver form log y (Err fault) w z)
+    (λ log v. stops-with form log y w z fault v.judged (subst (λ (t : List ℕ). FailsToReport form w z t fault) (report-is form log role count faults v) stopped)) judged
+
+-- a run whose judge refused the log at its end
+pub run-refused-at-end : {first : ℕ} {x y : Option (List ℕ)} {judge : Judged} (refusal : Refusal) → FedAll {S = Unit {0}} (λ j. j.limit) (λ j _. Follows j) first x y judge tt → first ≡ default_limit
+    → ((log : List ℕ) → Follows judge log → IsRefusedEnd log refusal) → IfSome x (λ log. IsRefusedAt default_limit log y refusal)
+run-refused-at-end {first} {x} {y} refusal took default why =
+    let log = took.log in
+    whole-taken x y log (λ l. IsRefusedAt default_limit l y refusal) took.consumed took.ended (record {
+      taken = log;
+      later = [];
+      is = sym (append-nil log);
+      unrefused = unrefused-yet log (took.within ∙ default) took.followed;
+      why = inl (why log took.followed);
+    })
+
+-- a run that was stopped while it was feeding the judge
+pub run-stopped : {first : ℕ} {x y : Option (List ℕ)} {judge : Judged} (refusal : Refusal) → FedSome {S = Unit {0}} (λ j. j.limit) (λ j _. Follows j) (λ l j _. RefusesIn l j) first x y judge tt refusal → first ≡ default_limit
+    → IfSome x (λ log. IsRefusedAt default_limit log y refusal)
+run-stopped {first} {x} {y} {judge} refusal fed default =
+    some-taken x y (fed.log ++ fed.piece) (λ l left. IsRefusedAt default_limit l left refusal) fed.consumed (λ left. told left fed.why)
+  where
+    told : (left : List ℕ) → RefusesIn first judge fed.log fed.piece refusal
+        ⊎ ((fed.piece ≡ []) × Follows judge fed.log × (judge.limit ≡ first) × (refusal ≡ refusals.Read (length fed.log)))
+        → IsRefusedAt default_limit ((fed.log ++ fed.piece) ++ left) (Some left) refusal
+    told left (inl (s, state)) = record {
+      taken = fed.log ++ s.taken;
+      later = s.byte ∷ (s.later ++ left);
+      is = pieces-are fed.log fed.piece s.taken (s.byte ∷ s.later) left s.is;
+      unrefused = subst (λ (l : ℕ). refused l (fed.log ++ s.taken) ≡ None) default s.unrefused;
+      why = inl (subst (λ (l : ℕ). IsRefusedByte l (fed.log ++ s.taken) s.byte refusal) default s.why);
+    }
+    told left (inr (none, follows, within, is)) = record {
+      taken = fed.log;
+      later = left;
+      is = ap (λ (l : List ℕ). (fed.log ++ l) ++ left) none ∙ ap (λ (l : List ℕ). l ++ left) (append-nil fed.log);
+      unrefused = unrefused-yet fed.log (within ∙ default) follows;
+      why = inr (is, refl);
+    }

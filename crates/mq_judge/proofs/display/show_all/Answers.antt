@@ -1,0 +1,109 @@
+use Rattle.std.proofs.Common.{◌≡◌, ◌∙◌, [], List, sym, ap, subst}
+use Rattle.std.proofs.lemmas.Result.{err_from_is_err_and}
+use Rattle.mq_trace.specs.Events.{Placed, events}
+use Rattle.mq_trace.specs.declared.refusal.Refusal.{Refusal}
+use Rattle.mq_trace.proofs.Exports.{events-nothing}
+use Rattle.mq_judge.specs.Outgoing.{Carries}
+use Rattle.mq_judge.specs.declared.display.Display.{Display}
+use Rattle.mq_judge.specs.Views.{StandsAfter, text_by}
+use Rattle.mq_judge.proofs.DisplayLaws.{shown-nothing, show-kept, show-unwritten, show-ended, show-refused}
+use Rattle.mq_judge.proofs.display.show_all.Given as given
+use Rattle.mq_judge.proofs.display.show_all.Goals as goal
+
+-- the sink, and what its events say of it
+abbrev Sink : given.Over → Type 0
+Sink g = Display g.row.W.Denot g.row.K.Denot
+
+abbrev agrees : (g : given.Over) → Sink g → List Placed → Type 0
+agrees g s received = (s.out.now.writer.ghost_name ≡ g.K.Given.name) × (text_by s.view ≡ g.K.Given.text) × StandsAfter received s.view
+    × Carries g.W.Write.contents g.K.Given.held (g.K.Given.text received) s.out.now × (s.out.ghost_name ≡ g.K.Given.direction)
+
+abbrev refuses : (g : given.Over) → Sink g → List Placed → Refusal → Type 0
+refuses g s received own = ⊥
+
+pub feed_all-fed-requires : goal.feed_all-fed-requires
+feed_all-fed-requires g c =
+    let fresh = c.requires.fresh in
+    let s = c.args.display.now in (
+      c.requires.follows.0,
+      (
+        c.requires.name,
+        c.requires.text,
+        subst (λ (received : List Placed). StandsAfter received s.view) (sym events-nothing) fresh.2,
+        shown-nothing s.out.now.failed _ _ _ _ fresh.0 c.requires.held (ap g.K.Given.text events-nothing ∙ c.requires.empty) fresh.1,
+        c.requires.direction,
+      ),
+    )
+
+pub returns-in_err-write_last-clause-shows : goal.returns-in_err-write_last-clause-shows
+returns-in_err-write_last-clause-shows g c =
+    let s = c.feed_all-fed.new.sink in
+    let p = err_from_is_err_and c.from_residual.result c.from_residual.ensures.1 in
+    let failed = c.in_err-write_last.ensures.failed in
+    rw (p.1, p.2, failed.0) (show-unwritten (agrees g) (refuses g) (λ sink. sink.out.now.failed) g.K.Given.text _ _ c.feed_all-fed.new.feeder s _ c.requires.follows.1
+    g.K.Given.held (g.W.Write.contents s.out.now.writer.now) s.out.now.lines (λ received a. a.3) (λ received own b. b)
+    (g.W.Write.contents c.write_last.new.self.writer.now) c.feed_all-fed.result c.feed_all-fed.ensures.all c.feed_all-fed.ensures.some failed.1)
+
+pub returns-in-Err-clause-shows : goal.returns-in-Err-clause-shows
+returns-in-Err-clause-shows g c =
+    let s = c.feed_all-fed.new.sink in
+    let written = c.in_ok-write_last.ensures.written in
+    show-refused (agrees g) (refuses g) (λ sink. sink.out.now.failed) g.K.Given.text _ _ c.feed_all-fed.new.feeder s _ c.requires.follows.1
+    g.K.Given.held (g.W.Write.contents s.out.now.writer.now) s.out.now.lines (λ received a. a.3) (λ received own b. b)
+    (g.W.Write.contents c.write_last.new.self.writer.now) c.in-Err.refusal c.in-Err.ensures.some written.0 written.1
+
+pub returns-in-Ok-clause-shows : goal.returns-in-Ok-clause-shows
+returns-in-Ok-clause-shows g c =
+    let s = c.feed_all-fed.new.sink in
+    let written = c.in_ok-write_last.ensures.written in
+    show-ended (agrees g) (refuses g) (λ sink. sink.out.now.failed) g.K.Given.text _ _ c.feed_all-fed.new.feeder s _ c.requires.follows.1
+    g.K.Given.held (g.W.Write.contents s.out.now.writer.now) s.out.now.lines (λ received a. a.3) (λ received own b. b)
+    (g.W.Write.contents c.write_last.new.self.writer.now) c.end.result c.in-Ok.ensures.all written.0 written.1 c.end.ensures.ok c.end.ensures.refused
+
+pub returns-in_err-write_last-clause-writer : goal.returns-in_err-write_last-clause-writer
+returns-in_err-write_last-clause-writer g c =
+    let s = c.feed_all-fed.new.sink in
+    let kept = show-kept (agrees g) (refuses g) (λ sink. sink.out.now.failed) g.K.Given.text _ _ c.feed_all-fed.new.feeder s _ c.requires.follows.1
+    g.K.Given.held (g.W.Write.contents s.out.now.writer.now) s.out.now.lines (λ received a. a.3) (λ received own b. b)
+    (s.out.now.writer.ghost_name ≡ g.K.Given.name) (λ received a. a.0) c.feed_all-fed.result c.feed_all-fed.ensures.all c.feed_all-fed.ensures.some in
+    c.write_last.ensures.same ∙ kept ∙ sym c.requires.name
+
+pub returns-in-Ok-clause-writer : goal.returns-in-Ok-clause-writer
+returns-in-Ok-clause-writer g c =
+    let s = c.feed_all-fed.new.sink in
+    let kept = show-kept (agrees g) (refuses g) (λ sink. sink.out.now.failed) g.K.Given.text _ _ c.feed_all-fed.new.feeder s _ c.requires.follows.1
+    g.K.Given.held (g.W.Write.contents s.out.now.writer.now) s.out.now.lines (λ received a. a.3) (λ received own b. b)
+    (s.out.now.writer.ghost_name ≡ g.K.Given.name) (λ received a. a.0) c.feed_all-fed.result c.feed_all-fed.ensures.all c.feed_all-fed.ensures.some in
+    c.write_last.ensures.same ∙ kept ∙ sym c.requires.name
+
+pub returns-in-Err-clause-writer : goal.returns-in-Err-clause-writer
+returns-in-Err-clause-writer g c =
+    let s = c.feed_all-fed.new.sink in
+    let kept = show-kept (agrees g) (refuses g) (λ sink. sink.out.now.failed) g.K.Given.text _ _ c.feed_all-fed.new.feeder s _ c.requires.follows.1
+    g.K.Given.held (g.W.Write.contents s.out.now.writer.now) s.out.now.lines (λ received a. a.3) (λ received own b. b)
+    (s.out.now.writer.ghost_name ≡ g.K.Given.name) (λ received a. a.0) c.feed_all-fed.result c.feed_all-fed.ensures.all c.feed_all-fed.ensures.some in
+    c.write_last.ensures.same ∙ kept ∙ sym c.requires.name
+
+pub returns-in_err-write_last-clause-direction : goal.returns-in_err-write_last-clause-direction
+returns-in_err-write_last-clause-direction g c =
+    let s = c.feed_all-fed.new.sink in
+    let kept = show-kept (agrees g) (refuses g) (λ sink. sink.out.now.failed) g.K.Given.text _ _ c.feed_all-fed.new.feeder s _ c.requires.follows.1
+    g.K.Given.held (g.W.Write.contents s.out.now.writer.now) s.out.now.lines (λ received a. a.3) (λ received own b. b)
+    (s.out.ghost_name ≡ g.K.Given.direction) (λ received a. a.4) c.feed_all-fed.result c.feed_all-fed.ensures.all c.feed_all-fed.ensures.some in
+    kept ∙ sym c.requires.direction
+
+pub returns-in-Ok-clause-direction : goal.returns-in-Ok-clause-direction
+returns-in-Ok-clause-direction g c =
+    let s = c.feed_all-fed.new.sink in
+    let kept = show-kept (agrees g) (refuses g) (λ sink. sink.out.now.failed) g.K.Given.text _ _ c.feed_all-fed.new.feeder s _ c.requires.follows.1
+    g.K.Given.held (g.W.Write.contents s.out.now.writer.now) s.out.now.lines (λ received a. a.3) (λ received own b. b)
+    (s.out.ghost_name ≡ g.K.Given.direction) (λ received a. a.4) c.feed_all-fed.result c.feed_all-fed.ensures.all c.feed_all-fed.ensures.some in
+    kept ∙ sym c.requires.direction
+
+pub returns-in-Err-clause-direction : goal.returns-in-Err-clause-direction
+returns-in-Err-clause-direction g c =
+    let s = c.feed_all-fed.new.sink in
+    let kept = show-kept (agrees g) (refuses g) (λ sink. sink.out.now.failed) g.K.Given.text _ _ c.feed_all-fed.new.feeder s _ c.requires.follows.1
+    g.K.Given.held (g.W.Write.contents s.out.now.writer.now) s.out.now.lines (λ received a. a.3) (λ received own b. b)
+    (s.out.ghost_name ≡ g.K.Given.direction) (λ received a. a.4) c.feed_all-fed.result c.feed_all-fed.ensures.all c.feed_all-fed.ensures.some in
+    kept ∙ sym c.requires.direction

@@ -1,0 +1,64 @@
+-- The result of judging a whole log, from a reader to a writer.
+use Rattle.std.specs.Prelude.{◌≡◌, ℕ, ◌==◌, false, List, [], length, Option, None, Result, Ok, Err, if◌then◌else◌}
+use Rattle.std.specs.Io.KnownBytes.{Appends}
+use Rattle.mq_judge.specs.declared.report.Form.{Form}
+use Rattle.mq_judge.specs.declared.report.Form.TheVariants.{Json}
+use Rattle.mq_judge.specs.declared.report.Outcome.{Outcome}
+use Rattle.mq_judge.specs.declared.report.Outcome.TheVariants.{Pass, Fail}
+use Rattle.mq_judge.specs.declared.report.RunFault.{RunFault}
+use Rattle.mq_judge.specs.declared.report.RunFault.TheVariants as run_faults
+use Rattle.std.specs.FinMap as map
+use Rattle.mq_rules.specs.declared.role.Role.{Role}
+use Rattle.mq_rules.specs.declared.fault.Fault.{Fault}
+use Rattle.mq_rules.specs.declared.faults.FaultKey.{FaultKey}
+use Rattle.mq_rules.specs.FaultKeys.{FaultMap}
+use Rattle.mq_rules.specs.Notes.{tested_by, seen_in}
+use Rattle.mq_trace.specs.declared.refusal.Refusal.{Refusal}
+use Rattle.mq_trace.specs.Events.{events}
+use Rattle.mq_rules.specs.Faults.{listed_faults}
+use Rattle.mq_judge.specs.Chosen.{is_judged}
+use Rattle.mq_trace.specs.Refusals.{refused, is_cut_short}
+use Rattle.mq_trace.specs.Writing.{AppendsBeginning}
+use Rattle.mq_judge.specs.Report.{report}
+use Rattle.mq_judge.specs.Stopping.{IsRefusedAt}
+
+-- the largest packet that is read by default, in bytes
+abbrev pub default_limit : ℕ
+default_limit = 16777216
+
+-- no statement that is judged is false at any position of the log
+abbrev pub IsFaultless : List ℕ → Type 0
+IsFaultless log = listed_faults (is_judged (tested_by log)) (tested_by log) (seen_in log) ≡ []
+
+-- Pass exactly if the log has no faults
+abbrev pub outcome_of : List ℕ → Outcome
+outcome_of log = if length (listed_faults (is_judged (tested_by log)) (tested_by log) (seen_in log)) == 0 then Pass else Fail
+
+-- The log can be judged: nothing is refused in it, and it ends after a whole record.
+pub record IsJudged (log : List ℕ) : Type 0 where
+  pub unrefused : refused default_limit log ≡ None
+  pub whole : is_cut_short log ≡ false
+
+-- the faults of a log, in ascending order
+abbrev pub found_in : List ℕ → List (FaultKey × Fault)
+found_in log = listed_faults (is_judged (tested_by log)) (tested_by log) (seen_in log)
+
+-- The log can be judged, and this is the verdict on it: the end that was judged, how many events there are, and the faults.
+pub record IsVerdictOn (log : List ℕ) (role : Role) (count : ℕ) (faults : FaultMap) : Type 0 where
+  pub judged : IsJudged log
+  pub role_is : role ≡ (tested_by log).role
+  pub count_is : count ≡ length (events log)
+  pub faults_are : map.entries faults ≡ found_in log
+
+-- The result of judging this log, and what the reader has left: the verdict and the end that was judged, or why the log is refused.
+abbrev pub JudgesOver : {V : Type 0} → (V → ℕ) → (V → FaultMap) → List ℕ → Option (List ℕ) → Result (V × Role) Refusal → Type 0
+JudgesOver count_in faults_in log left (Ok answer) = IsVerdictOn log answer.1 (count_in answer.0) (faults_in answer.0)
+JudgesOver count_in faults_in log left (Err refusal) = IsRefusedAt default_limit log left refusal
+
+-- What a run over this log did, by the form of its report, its result and what the reader has left: it wrote the report and nothing else; or, if
+-- writing failed, a beginning of it; or nothing, if the log is refused or there was no memory for a JSON value.
+abbrev pub RunsOver : Form → List ℕ → Option (List ℕ) → Result Outcome RunFault → Option (List ℕ) → Option (List ℕ) → Type 0
+RunsOver form log left (Ok outcome) old new = IsJudged log × (outcome ≡ outcome_of log) × Appends old new (report form log)
+RunsOver form log left (Err (run_faults.Refused refusal)) old new = IsRefusedAt default_limit log left refusal
+RunsOver form log left (Err run_faults.Write) old new = IsJudged log × AppendsBeginning old new (report form log)
+RunsOver form log left (Err run_faults.Memory) old new = IsJudged log × (form ≡ Json) × (new ≡ old)

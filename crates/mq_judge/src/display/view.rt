@@ -1,0 +1,138 @@
+//! What is shown of an event: its line, or more.
+ghost use Rattle.std.specs.Prelude.{◌≡◌, ◌+◌, ◌<◌, ◌≤◌, ◌∷◌, ◌++◌, ℕ, List, Option, IfErr, OnOk, length};
+ghost use Rattle.mq_judge.specs.Outgoing.{Carries, Puts};
+ghost use Rattle.mq_judge.specs.Display.{event_line, event_text, event_words, long_line};
+ghost use Rattle.mq_judge.specs.Views.{StandsAfter, text_by};
+ghost use Rattle.mq_trace.specs.Events.{Placed};
+ghost use Rattle.mq_trace.specs.Hearing.{event_of, placed_at};
+
+use super::super::lines::Lines;
+use super::super::report::item::put_item;
+use super::annotated::Annotated;
+use super::details::put_details;
+use super::outgoing::Outgoing;
+use mq_trace::{Event, Place3};
+use std::fmt;
+use std::io::Write;
+
+/// What is shown of each event.
+#[derive(Clone, Copy)]
+pub enum View<'a> {
+    /// Its line.
+    Brief,
+    /// Its long line.
+    Long,
+    /// Its line and the faults at it, if it is near to a fault.
+    Annotated(Annotated<'a>),
+}
+
+impl View<'_> {
+    /// Appends what is shown of the next event, which has this place.
+    #[inline(always)]
+    pub fn put<W: Write>(&mut self, out: &mut Outgoing<'_, W>, place: Place3, event: &Event<'_>)
+        ensures text { text_by self.new ≡ text_by self.old }
+        ensures writer { out.new.writer.ghost_name ≡ out.old.writer.ghost_name }
+        ensures stands { (earlier : List Placed) → StandsAfter earlier self.old → StandsAfter (placed_at place event.now ∷ earlier) self.new }
+        ensures puts { (held : Option (List ℕ)) (earlier : List Placed) → StandsAfter earlier self.old → Carries W.contents held (text_by self.old earlier) out.old
+            → Carries W.contents held (text_by self.old (placed_at place event.now ∷ earlier)) out.new }
+    {
+        match self {
+            View::Brief => put_event_line(out, place, event),
+            View::Long => put_long_line(out, place, event),
+            View::Annotated(annotated) => annotated.put(out, place, event),
+        }
+    }
+}
+
+/// Appends the line of an event at its place.
+#[inline(always)]
+pub fn put_event_line<W: Write>(out: &mut Outgoing<'_, W>, place: Place3, event: &Event<'_>)
+    ensures { Puts W.contents out.old (event_line (placed_at place event.now)) out.new }
+{
+    out.make_room();
+    put_line(&mut out.lines, place, event);
+}
+
+/// Appends the long line of an event at its place.
+#[inline(never)]
+pub fn put_long_line<W: Write>(out: &mut Outgoing<'_, W>, place: Place3, event: &Event<'_>)
+    ensures { Puts W.contents out.old (long_line (placed_at place event.now)) out.new }
+{
+    put_event_words(out, place, event);
+    put_details(out, event);
+    out.put("\n");
+}
+
+// Appends the words of an event at its place.
+fn put_event_words<W: Write>(out: &mut Outgoing<'_, W>, place: Place3, event: &Event<'_>)
+    ensures { Puts W.contents out.old (event_words (placed_at place event.now)) out.new }
+{
+    out.make_room();
+    put_words(&mut out.lines, place, event);
+}
+
+// Appends the line of an event at its place to those that wait, for which there is room.
+#[inline(always)]
+fn put_line(lines: &mut Lines, place: Place3, event: &Event<'_>)
+    requires { length lines.old + 128 ≤ 8192 }
+    ensures { lines.new ≡ lines.old ++ event_line (placed_at place event.now) }
+{
+    try_put_line(lines, place, event).unwrap()
+}
+
+// Appends the line of an event at its place to those that wait, if there is room for it.
+#[inline(always)]
+fn try_put_line(lines: &mut Lines, place: Place3, event: &Event<'_>) -> fmt::Result
+    ensures puts { OnOk result (lines.new ≡ lines.old ++ event_line (placed_at place event.now)) }
+    ensures full { IfErr result (λ _. 8192 < length lines.old + 128) }
+{
+    try_put_words(lines, place, event)?;
+    lines.put("\n")
+}
+
+// Appends the words of an event at its place to what waits, for which there is room.
+fn put_words(lines: &mut Lines, place: Place3, event: &Event<'_>)
+    requires { length lines.old + 128 ≤ 8192 }
+    ensures { lines.new ≡ lines.old ++ event_words (placed_at place event.now) }
+{
+    try_put_words(lines, place, event).unwrap()
+}
+
+// Appends the words of an event at its place to what waits, if there is room for them.
+#[inline(always)]
+fn try_put_words(lines: &mut Lines, place: Place3, event: &Event<'_>) -> fmt::Result
+    ensures puts { OnOk result (lines.new ≡ lines.old ++ event_words (placed_at place event.now)) }
+    ensures short { OnOk result (length lines.new ≤ length lines.old + 127) }
+    ensures full { IfErr result (λ _. 8192 < length lines.old + 127) }
+{
+    lines.put_number(place.position)?;
+    lines.put(" record ")?;
+    lines.put_number(place.record_no)?;
+    put_event(lines, event)
+}
+
+// Appends a space and an event's text to the waiting lines.
+#[inline(always)]
+fn put_event(lines: &mut Lines, event: &Event<'_>) -> fmt::Result
+    ensures puts { OnOk result (lines.new ≡ lines.old ++ 32 ∷ event_text (event_of event.now)) }
+    ensures short { OnOk result (length (event_text (event_of event.now)) ≤ 76) }
+    ensures full { IfErr result (λ _. 8192 < length lines.old + 77) }
+{
+    match event {
+        Event::Open => lines.put(" OPEN"),
+        Event::Close => lines.put(" CLOSE"),
+        Event::Rest => lines.put(" REST"),
+        Event::Release(identifier) => {
+            lines.put(" RELEASE ")?;
+            lines.put_number(u32::from(*identifier))
+        }
+        Event::Sent(item) => {
+            lines.put(" SENT ")?;
+            put_item(lines, item)
+        }
+        Event::Recv(item) => {
+            lines.put(" RECV ")?;
+            put_item(lines, item)
+        }
+    }
+}

@@ -1,0 +1,246 @@
+//! Judges a log from a reader, and writes the report on it.
+ghost use Rattle.std.specs.Prelude.{◌≡◌, ◌==◌, IfSome, IfErr, OnOk, Err, if◌then◌else◌};
+ghost use Rattle.std.specs.FinMap as map;
+ghost use Rattle.std.specs.Io.KnownBytes.{Appends};
+ghost use Rattle.mq_judge.specs.declared.report.RunFault.TheVariants as run_faults;
+ghost use Rattle.mq_trace.specs.declared.refusal.Refusal.{Refusal as AnyRefusal};
+ghost use Rattle.mq_judge.specs.Report.{report_on, FailsToReport};
+ghost use Rattle.mq_judge.specs.Runner.{JudgesOver, RunsOver};
+
+use super::feeding::feed_all;
+use super::judge::{Judge, Options, Verdict};
+use super::report::json::write_json;
+use super::report::summing::write_summary;
+use super::report::{Form, Outcome, RunFault, write_text};
+use mq_rules::Role;
+use mq_trace::Refusal;
+use std::alloc::Global;
+use std::io::{Read, Write};
+
+/// Judges the log that a reader gives, and writes the report on it in this form. It is `run_bounded` with 4,294,967,295 turns.
+///
+/// # Errors
+///
+/// As `run_bounded`.
+pub fn run<R: Read, W: Write>(
+    alloc: Global,
+    reader: &mut R,
+    writer: &mut W,
+    form: Form,
+) -> Result<Outcome, RunFault>
+    ensures runs { IfSome (R.remaining reader.old) (λ log. RunsOver form log (R.remaining reader.new) result (W.contents writer.old) (W.contents writer.new)) }
+    ensures unwritten { (refusal : AnyRefusal) → result ≡ Err (run_faults.Refused refusal) → writer.new ≡ writer.old }
+{
+    run_bounded(alloc, reader, writer, form, u32::MAX)
+}
+
+/// Judges the log that a reader gives, and writes the report on it in this form. It reads at most `turns` times, counting interrupted reads, and at most 8,192
+/// bytes each time.
+///
+/// # Errors
+///
+/// `Refused` if the log is refused, if the reader fails or hasn't ended after `turns` reads (refusal 15), or if the judge has no memory (refusal 16). Nothing
+/// was then written. `Write` if a write failed. A beginning of the report, but not all of it, was then written. `Memory` if there is no memory for a report as
+/// JSON. Nothing was then written.
+pub fn run_bounded<R: Read, W: Write>(
+    alloc: Global,
+    reader: &mut R,
+    writer: &mut W,
+    form: Form,
+    turns: u32,
+) -> Result<Outcome, RunFault>
+    ensures runs { IfSome (R.remaining reader.old) (λ log. RunsOver form log (R.remaining reader.new) result (W.contents writer.old) (W.contents writer.new)) }
+    ensures unwritten { (refusal : AnyRefusal) → result ≡ Err (run_faults.Refused refusal) → writer.new ≡ writer.old }
+{
+    let (verdict, role) = judge_bounded(alloc, reader, turns)?;
+    write_report(alloc, &verdict, role, form, writer)?;
+    Ok(outcome(&verdict))
+}
+
+/// Judges the log that a reader gives, and returns the verdict on it and the role of the end that was judged. It reads at most 4,294,967,295 times, and at most
+/// 8,192 bytes each time.
+///
+/// # Errors
+///
+/// Why the log is refused; `Read` if the reader fails, or hasn't ended after the last turn; `Memory` if the judge has no memory.
+pub fn judge_reader<R: Read>(alloc: Global, reader: &mut R) -> Result<(Verdict, Role), Refusal>
+    ensures { IfSome (R.remaining reader.old) (λ log. JudgesOver (λ v. v.events) (λ v. v.faults) log (R.remaining reader.new) result) }
+{
+    judge_bounded(alloc, reader, u32::MAX)
+}
+
+/// The same in at most `turns` turns.
+fn judge_bounded<R: Read>(
+    alloc: Global,
+    reader: &mut R,
+    turns: u32,
+) -> Result<(Verdict, Role), Refusal>
+    ensures { IfSome (R.remaining reader.old) (λ log. JudgesOver (λ v. v.events) (λ v. v.faults) log (R.remaining reader.new) result) }
+{
+    let mut judge = Judge::new(alloc, Options::default());
+    feed_all(&mut judge, &mut (), reader, turns)?;
+    let role = judge.role();
+    let verdict = judge.finish()?;
+    Ok((verdict, role.unwrap()))
+}
+
+/// Writes the report on a verdict in this form.
+///
+/// # Errors
+///
+/// `Write` if a write failed. A beginning of the report, but not all of it, was then written. `Memory` if there is no memory for a report as JSON.
+fn write_report<W: Write>(
+    alloc: Global,
+    verdict: &Verdict,
+    role: Role,
+    form: Form,
+    writer: &mut W,
+) -> Result<(), RunFault>
+    ensures ok { OnOk result (Appends (W.contents writer.old) (W.contents writer.new)
+        (report_on form role (map.entries verdict.now.faults) verdict.now.events)) }
+    ensures err { IfErr result (FailsToReport form (W.contents writer.old) (W.contents writer.new)
+        (report_on form role (map.entries verdict.now.faults) verdict.now.events)) }
+{
+    match form {
+        Form::Text => write_text(verdict, role, writer),
+        Form::Json => write_json(alloc, verdict, role, writer),
+        Form::Summary => write_summary(verdict, role, writer),
+    }
+}
+
+/// The outcome of a report on a verdict.
+fn outcome(verdict: &Verdict) -> Outcome
+    ensures { result ≡ (if map.len verdict.now.faults == 0 then Outcome.Pass else Outcome.Fail) }
+{
+    if verdict.faults.is_empty() {
+        Outcome::Pass
+    } else {
+        Outcome::Fail
+    }
+}
+
+#[cfg(test)]
+mod tests {
+    use super::*;
+    use std::io;
+    use std::io::ErrorKind;
+    use std::process::Abort;
+
+    const HEADER: &[u8] = b"MQTR\x01\x00\x01\x00";
+
+    /// A reader that gives these bytes, this many a turn, and then fails or ends. Each read is interrupted once before it gives anything.
+    #[derive(Drop)]
+    struct Halting<'a> {
+        left: &'a [u8],
+        size: usize,
+        fails: bool,
+        interrupted: bool,
+    }
+
+    impl Read for Halting<'_> {
+        fn read(&mut self, buffer: &mut [u8]) -> io::Result<usize> {
+            self.interrupted = !self.interrupted;
+            if self.interrupted {
+                return Err(io::Error::from(ErrorKind::Interrupted));
+            }
+            if self.left.is_empty() && self.fails {
+                return Err(io::Error::from(ErrorKind::Other));
+            }
+            let count = self.left.len().min(self.size).min(buffer.len());
+            buffer[..count].copy_from_slice(&self.left[..count]);
+            self.left = &self.left[count..];
+            Ok(count)
+        }
+    }
+
+    fn reader_of(left: &[u8], size: usize, fails: bool) -> Halting<'_> {
+        Halting {
+            left,
+            size,
+            fails,
+            interrupted: false,
+        }
+    }
+
+    /// Asserts the result for a log and what is written, for each size of a turn.
+    fn assert_runs(
+        rt: &(impl Abort + AllocGlobal),
+        log: &[u8],
+        answer: Result<Outcome, RunFault>,
+        text: &str,
+    ) {
+        for size in [1, 7, 8192] {
+            let mut written = Vec::new(rt.alloc());
+            let mut reader = reader_of(log, size, false);
+            let ran = run(rt.alloc(), &mut reader, &mut written, Form::Text);
+            assert_eq!(rt; ran, answer, "in turns of {size}");
+            assert!(rt; written.as_slice() == text.as_bytes(), "in turns of {size}");
+        }
+    }
+
+    /// A log of an OPEN, a CONNECT, a CONNACK of code 0 and what follows.
+    fn session(rt: &(impl Abort + AllocGlobal), rest: &[u8]) -> Vec<u8> {
+        let mut log = Vec::new(rt.alloc());
+        for part in [
+            HEADER,
+            b"\x01\x00\x00\x00\x00",
+            b"\x02\x00\x00\x00\x0f\x10\x0d\x00\x04MQTT\x05\x02\x00\x3c\x00\x00\x00",
+            b"\x03\x00\x00\x00\x05\x20\x03\x00\x00\x00",
+            rest,
+        ] {
+            assert!(rt; log.extend_from_slice(part).is_ok());
+        }
+        log
+    }
+
+    #[test]
+    fn passes_a_header_alone(rt: HostRuntime) {
+        assert_runs(&rt, HEADER, Ok(Outcome::Pass), "pass 0 events\n");
+    }
+
+    #[test]
+    fn refuses_a_log_that_is_cut_short(rt: HostRuntime) {
+        let cut = RunFault::Refused(Refusal::Cut(7));
+        assert_runs(&rt, &HEADER[..7], Err(cut), "");
+    }
+
+    #[test]
+    fn reports_an_identifier_of_0(rt: HostRuntime) {
+        let log = session(&rt, b"\x02\x00\x00\x00\x09\x32\x07\x00\x01a\x00\x00\x00x");
+        let text = "fault 4 W09 sec-2.2.1 decided 4 record 4 offset 5\nfail 1 faults 4 events\n";
+        assert_runs(&rt, log.as_slice(), Ok(Outcome::Fail), text);
+    }
+
+    #[test]
+    fn reports_an_identifier_that_is_in_use(rt: HostRuntime) {
+        let log = session(
+            &rt,
+            b"\x02\x00\x00\x00\x09\x32\x07\x00\x01a\x00\x01\x00x\x02\x00\x00\x00\x09\x32\x07\x00\x01a\x00\x01\x00x\x03\x00\x00\x00\x04\x40\x02\x00\x01",
+        );
+        let text = "fault 5 S01 MQTT-2.2.1-3 decided 5 record 5 offset -\nfail 1 faults 6 events\n";
+        assert_runs(&rt, log.as_slice(), Ok(Outcome::Fail), text);
+    }
+
+    #[test]
+    fn refuses_where_the_reader_fails(rt: HostRuntime) {
+        let log = session(&rt, b"\x05\x00\x00\x00\x00");
+        for count in 0..log.len() + 1 {
+            let mut written = Vec::new(rt.alloc());
+            let mut reader = reader_of(&log[..count], 5, true);
+            let ran = run(rt.alloc(), &mut reader, &mut written, Form::Text);
+            let refusal = Refusal::Read(count as u64);
+            assert_eq!(rt; ran, Err(RunFault::Refused(refusal)));
+            assert!(rt; written.is_empty());
+        }
+    }
+
+    #[test]
+    fn stops_where_the_writer_fails(rt: HostRuntime) {
+        let mut room = [0; 10];
+        let mut writer = &mut room[..];
+        let mut reader = reader_of(HEADER, 8, false);
+        let ran = run(rt.alloc(), &mut reader, &mut writer, Form::Text);
+        assert_eq!(rt; ran, Err(RunFault::Write));
+        assert_eq!(rt; &room, b"pass 0 eve");
+    }
+}

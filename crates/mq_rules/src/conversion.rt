@@ -1,0 +1,482 @@
+//! What the statements look at in the packets and events of a log, copied out of the bytes that they were read from.
+//!
+//! Memory is taken only for a text that some statement looks at: the Topic Name of a PUBLISH that was sent, the Topic Filters of a
+//! SUBSCRIBE that was received, and the Reason Codes of a SUBACK that was sent.
+ghost use Rattle.std.specs.Prelude.{◌≡◌, ◌<◌, ◌≤◌, ℕ, List, [], true, is_some, length, option_map, unwrap_or, IfOk, OnErr};
+ghost use Rattle.mq_props.specs.First.{first_two_bytes, first_four_bytes, first_varint, first_text, first_pair};
+ghost use Rattle.mq_packet.specs.declared.packet.RequestKind.TheVariants as requests;
+ghost use Rattle.mq_packet.specs.Reading.{view, connect_view, publish_view};
+ghost use Rattle.mq_packet.specs.Sizes.{size_with, remaining_length};
+ghost use Rattle.mq_packet.specs.Entries.{publish as publish_entry};
+ghost use Rattle.mq_trace.specs.Events.{packet};
+ghost use Rattle.mq_trace.specs.Flows.{going};
+ghost use Rattle.mq_trace.specs.Hearing.{item_of, event_of};
+ghost use Rattle.mq_rules.specs.declared.packet_note.PacketFields.TheVariants as fields;
+ghost use Rattle.mq_rules.specs.Notes.{only_list, is_sent_direction, connect_note, connack_note, publish_note, packet_fields, properties_of, packet_note, item_note, note_of, request_fields, answer_fields, keeps_text, item_keeps_text, note_keeps_text};
+
+use crate::faults::Memory;
+use crate::note::{ItemNote, Note};
+use crate::packet_note::{ConnackNote, ConnectNote, PacketFields, PacketNote, PublishNote};
+use crate::text::{CodeList, FilterList, Text};
+use mq_packet::{Answer, Codes, Connack, Connect, Filters, Packet, Publish, Request};
+use mq_props::Props;
+use mq_trace::{Direction, Event, Item};
+use std::alloc::Global;
+
+/// Whether there is a text.
+#[inline]
+fn is_text(text: Option<&str>) -> bool
+    ensures { result ≡ is_some (option_map (λ text. text.now) text.entry) }
+{
+    text.is_some()
+}
+
+/// Whether there is a pair of texts.
+#[inline]
+fn is_pair(pair: Option<(&str, &str)>) -> bool
+    ensures { result ≡ is_some {T = List ℕ × List ℕ} (option_map (λ texts. (texts.0.now, texts.1.now)) pair.entry) }
+{
+    pair.is_some()
+}
+
+/// The list, if it has properties. In most packets it is empty, and then nothing needs to be looked for in it.
+#[inline(always)]
+fn nonempty<'p, 'a>(list: &'p Props<'a>) -> Option<&'p Props<'a>>
+    ensures { unwrap_or (option_map (λ list. list.now.items) result) [] ≡ list.now.items }
+{
+    if list.as_bytes().is_empty() {
+        None
+    } else {
+        Some(list)
+    }
+}
+
+/// Whether there is a list, and it has a Reason String (MQTT 5.0, section 3.2.2.3.9).
+#[inline(always)]
+fn has_reason_string(list: Option<&Props<'_>>) -> bool
+    ensures { result ≡ is_some (first_text 31 (unwrap_or (option_map (λ list. list.now.items) list.entry) [])) }
+{
+    match list {
+        Some(list) => is_text(list.get_reason_string()),
+        None => false,
+    }
+}
+
+/// Whether there is a list, and it has a User Property (MQTT 5.0, section 3.2.2.3.10).
+#[inline(always)]
+fn has_user_property(list: Option<&Props<'_>>) -> bool
+    ensures { result ≡ is_some (first_pair 38 (unwrap_or (option_map (λ list. list.now.items) list.entry) [])) }
+{
+    match list {
+        Some(list) => is_pair(list.get_user_property()),
+        None => false,
+    }
+}
+
+/// The Topic Alias, if there is a list, and it has one (MQTT 5.0, section 3.3.2.3.4).
+#[inline(always)]
+fn topic_alias(list: Option<&Props<'_>>) -> Option<u16>
+    ensures { result ≡ first_two_bytes 35 (unwrap_or (option_map (λ list. list.now.items) list.entry) []) }
+{
+    match list {
+        Some(list) => list.get_topic_alias(),
+        None => None,
+    }
+}
+
+/// Whether there is a list, and it has a Message Expiry Interval (MQTT 5.0, section 3.3.2.3.3).
+#[inline(always)]
+fn has_message_expiry(list: Option<&Props<'_>>) -> bool
+    ensures { result ≡ is_some (first_four_bytes 2 (unwrap_or (option_map (λ list. list.now.items) list.entry) [])) }
+{
+    match list {
+        Some(list) => list.get_message_expiry_interval().is_some(),
+        None => false,
+    }
+}
+
+/// Whether there is a list, and it has a Subscription Identifier (MQTT 5.0, section 3.3.2.3.8).
+#[inline(always)]
+fn has_subscription_identifier(list: Option<&Props<'_>>) -> bool
+    ensures { result ≡ is_some (first_varint 11 (unwrap_or (option_map (λ list. list.now.items) list.entry) [])) }
+{
+    match list {
+        Some(list) => list.get_subscription_identifier().is_some(),
+        None => false,
+    }
+}
+
+impl ConnectNote {
+    /// What the statements look at in this CONNECT.
+    pub fn of(connect: &Connect<'_>) -> ConnectNote
+        ensures { result ≡ connect_note (connect_view connect.now) }
+    {
+        let properties = &connect.properties;
+        ConnectNote {
+            clean_start: connect.clean_start,
+            is_unnamed: connect.client_identifier.is_empty(),
+            session_expiry: properties.get_session_expiry_interval(),
+            request_problem_information: properties.get_request_problem_information(),
+            request_response_information: properties.get_request_response_information(),
+            receive_maximum: properties.get_receive_maximum(),
+            topic_alias_maximum: properties.get_topic_alias_maximum(),
+            maximum_packet_size: properties.get_maximum_packet_size(),
+        }
+    }
+}
+
+impl ConnackNote {
+    /// What the statements look at in this CONNACK.
+    pub fn of(connack: &Connack<'_>) -> ConnackNote
+        ensures { result ≡ connack_note connack.now.session_present connack.now.code connack.now.properties.items }
+    {
+        let properties = &connack.properties;
+        ConnackNote {
+            session_present: connack.session_present,
+            code: connack.code,
+            session_expiry: properties.get_session_expiry_interval(),
+            receive_maximum: properties.get_receive_maximum(),
+            topic_alias_maximum: properties.get_topic_alias_maximum(),
+            maximum_qos: properties.get_maximum_qos(),
+            maximum_packet_size: properties.get_maximum_packet_size(),
+            has_assigned_identifier: is_text(properties.get_assigned_client_identifier()),
+            has_response_information: is_text(properties.get_response_information()),
+        }
+    }
+}
+
+/// The Topic Name, if its PUBLISH was sent; else it is empty.
+#[inline(always)]
+fn kept_topic(alloc: Global, direction: Direction, topic: &str) -> Result<Text, Memory>
+    ensures exact { IfOk result (λ text. text ≡ only_list (is_sent_direction direction) topic.now) }
+    ensures needed { OnErr result (0 < length (only_list (is_sent_direction direction) topic.now)) }
+{
+    match direction {
+        Direction::Sent => Text::of(alloc, topic),
+        Direction::Recv => Ok(Text::empty()),
+    }
+}
+
+/// The Topic Name, where its PUBLISH was sent, and it is short.
+#[inline(always)]
+fn short_topic(direction: Direction, topic: &str) -> Text
+    requires { length topic.now ≤ 30 }
+    ensures { result ≡ only_list (is_sent_direction direction) topic.now }
+{
+    match direction {
+        Direction::Sent => Text::short(topic),
+        Direction::Recv => Text::empty(),
+    }
+}
+
+impl PublishNote {
+    /// What the statements look at in this PUBLISH, which went this way.
+    ///
+    /// # Errors
+    ///
+    /// `Memory` if there is no memory for its Topic Name, which is kept of a PUBLISH that was sent.
+    #[inline(always)]
+    pub fn of(
+        alloc: Global,
+        direction: Direction,
+        publish: &Publish<'_>,
+    ) -> Result<PublishNote, Memory>
+        ensures exact { IfOk result (λ note. note ≡ publish_note direction (publish_view publish.now)) }
+        ensures needed { OnErr result (0 < length (publish_note direction (publish_view publish.now)).topic) }
+    {
+        let topic = kept_topic(alloc, direction, publish.topic)?;
+        Ok(PublishNote::with_topic(topic, publish))
+    }
+
+    /// What the statements look at in this PUBLISH, with this copy of its Topic Name.
+    #[inline(always)]
+    fn with_topic(topic: Text, publish: &Publish<'_>) -> PublishNote
+        ensures { (direction : Direction) → topic ≡ only_list (is_sent_direction direction) publish.now.topic.now → result ≡ publish_note direction (publish_view publish.now) }
+    {
+        let properties = nonempty(&publish.properties);
+        PublishNote {
+            identifier: publish.identifier,
+            qos: publish.qos,
+            duplicate: publish.duplicate,
+            topic,
+            topic_alias: topic_alias(properties),
+            has_message_expiry: has_message_expiry(properties),
+            has_subscription_identifier: has_subscription_identifier(properties),
+        }
+    }
+}
+
+/// What the statements look at in a SUBSCRIBE with these filters, which went this way.
+fn subscribe_fields(
+    alloc: Global,
+    direction: Direction,
+    identifier: u16,
+    filters: &Filters<'_>,
+) -> Result<PacketFields, Memory>
+    ensures exact { IfOk result (λ fields. fields ≡ request_fields direction requests.Subscribe identifier filters.now) }
+    ensures needed { OnErr result (keeps_text (request_fields direction requests.Subscribe identifier filters.now) ≡ true) }
+{
+    let filters = match direction {
+        Direction::Sent => FilterList::empty(alloc),
+        Direction::Recv => FilterList::of(alloc, filters)?,
+    };
+    Ok(PacketFields::Subscribe {
+        identifier,
+        filters,
+    })
+}
+
+/// What the statements look at in a SUBACK with these Reason Codes, which went this way.
+fn suback_fields(
+    alloc: Global,
+    direction: Direction,
+    identifier: u16,
+    codes: &Codes<'_>,
+) -> Result<PacketFields, Memory>
+    ensures exact { IfOk result (λ fields. fields ≡ answer_fields direction requests.Subscribe identifier codes.now) }
+    ensures needed { OnErr result (keeps_text (answer_fields direction requests.Subscribe identifier codes.now) ≡ true) }
+{
+    let codes = match direction {
+        Direction::Sent => CodeList::of(alloc, codes)?,
+        Direction::Recv => CodeList::empty(alloc),
+    };
+    Ok(PacketFields::Suback { identifier, codes })
+}
+
+/// What the statements look at of this UNSUBSCRIBE, whichever way it went: its Packet Identifier, and how many filters it has.
+fn unsubscribe_fields(request: &Request<'_>) -> PacketFields
+    ensures { result ≡ fields.Unsubscribe request.now.identifier (length request.now.filters) }
+{
+    PacketFields::Unsubscribe {
+        identifier: request.identifier,
+        filters: request.filters.iter().count(),
+    }
+}
+
+/// What the statements look at of this UNSUBACK, whichever way it went: its Packet Identifier, and how many Reason Codes it has.
+fn unsuback_fields(answer: &Answer<'_>) -> PacketFields
+    ensures { result ≡ fields.Unsuback answer.now.identifier (length answer.now.codes) }
+{
+    PacketFields::Unsuback {
+        identifier: answer.identifier,
+        codes: answer.codes.as_bytes().len(),
+    }
+}
+
+impl PacketFields {
+    /// What the statements look at in the fields of this packet, which went this way.
+    ///
+    /// # Errors
+    ///
+    /// `Memory` if there is no memory for a text that is kept.
+    #[inline(always)]
+    pub fn of(
+        alloc: Global,
+        direction: Direction,
+        packet: &Packet<'_>,
+    ) -> Result<PacketFields, Memory>
+        ensures exact { IfOk result (λ fields. fields ≡ packet_fields direction (view packet.now)) }
+        ensures needed { OnErr result (keeps_text (packet_fields direction (view packet.now)) ≡ true) }
+    {
+        match packet {
+            Packet::Publish(publish) => {
+                let note = PublishNote::of(alloc, direction, publish)?;
+                Ok(PacketFields::Publish(note))
+            }
+            Packet::Puback(puback) => Ok(PacketFields::Puback {
+                identifier: puback.identifier,
+                code: puback.code,
+            }),
+            Packet::Pubrec(pubrec) => Ok(PacketFields::Pubrec {
+                identifier: pubrec.identifier,
+                code: pubrec.code,
+            }),
+            Packet::Pubrel(pubrel) => Ok(PacketFields::Pubrel {
+                identifier: pubrel.identifier,
+                code: pubrel.code,
+            }),
+            Packet::Pubcomp(pubcomp) => Ok(PacketFields::Pubcomp {
+                identifier: pubcomp.identifier,
+                code: pubcomp.code,
+            }),
+            Packet::Pingreq => Ok(PacketFields::Pingreq),
+            Packet::Pingresp => Ok(PacketFields::Pingresp),
+            Packet::Connect(connect) => Ok(PacketFields::Connect(ConnectNote::of(connect))),
+            Packet::Connack(connack) => Ok(PacketFields::Connack(ConnackNote::of(connack))),
+            Packet::Subscribe(request) => subscribe_fields(
+                alloc,
+                direction,
+                request.identifier,
+                &request.filters,
+            ),
+            Packet::Suback(answer) => suback_fields(
+                alloc,
+                direction,
+                answer.identifier,
+                &answer.codes,
+            ),
+            Packet::Unsubscribe(request) => Ok(unsubscribe_fields(request)),
+            Packet::Unsuback(answer) => Ok(unsuback_fields(answer)),
+            Packet::Disconnect(disconnect) => Ok(PacketFields::Disconnect {
+                session_expiry: disconnect.properties.get_session_expiry_interval(),
+            }),
+            Packet::Auth(_) => Ok(PacketFields::Auth),
+        }
+    }
+}
+
+/// The packet's own property list, if it has one with properties in it (MQTT 5.0, section 2.2.2).
+#[inline(always)]
+fn properties_in<'p, 'a>(packet: &'p Packet<'a>) -> Option<&'p Props<'a>>
+    ensures { unwrap_or (option_map (λ list. list.now.items) result) [] ≡ properties_of (view packet.now) }
+{
+    match packet {
+        Packet::Connect(packet) => nonempty(&packet.properties),
+        Packet::Connack(packet) => nonempty(&packet.properties),
+        Packet::Publish(packet) => nonempty(&packet.properties),
+        Packet::Puback(packet)
+        | Packet::Pubrec(packet)
+        | Packet::Pubrel(packet)
+        | Packet::Pubcomp(packet) => nonempty(&packet.properties),
+        Packet::Subscribe(packet) | Packet::Unsubscribe(packet) => nonempty(&packet.properties),
+        Packet::Suback(packet) | Packet::Unsuback(packet) => nonempty(&packet.properties),
+        Packet::Pingreq | Packet::Pingresp => None,
+        Packet::Disconnect(packet) | Packet::Auth(packet) => nonempty(&packet.properties),
+    }
+}
+
+impl PacketNote {
+    /// What the statements look at in this packet, which went this way. The size is 0 if no Remaining Length can say it, which can't
+    /// be for a packet that was read.
+    ///
+    /// # Errors
+    ///
+    /// `Memory` if there is no memory for a text that is kept.
+    #[inline(always)]
+    pub fn of(
+        alloc: Global,
+        direction: Direction,
+        packet: &Packet<'_>,
+    ) -> Result<PacketNote, Memory>
+        ensures exact { IfOk result (λ note. note ≡ packet_note direction (unwrap_or (size_with (remaining_length packet.now)) 0) (view packet.now)) }
+        ensures needed { OnErr result (keeps_text (packet_fields direction (view packet.now)) ≡ true) }
+    {
+        let fields = PacketFields::of(alloc, direction, packet)?;
+        let properties = properties_in(packet);
+        Ok(PacketNote {
+            size: packet.size().unwrap_or(0),
+            has_reason_string: has_reason_string(properties),
+            has_user_property: has_user_property(properties),
+            fields,
+        })
+    }
+}
+
+impl ItemNote {
+    /// What the statements look at in this item, which went this way.
+    ///
+    /// # Errors
+    ///
+    /// `Memory` if there is no memory for a text that is kept.
+    #[inline(always)]
+    pub fn of(alloc: Global, direction: Direction, item: &Item<'_>) -> Result<ItemNote, Memory>
+        ensures exact { IfOk result (λ note. note ≡ item_note direction (item_of item.now)) }
+        ensures needed { OnErr result (item_keeps_text (item_note direction (item_of item.now)) ≡ true) }
+    {
+        match item {
+            Item::Packet(packet) => {
+                let note = PacketNote::of(alloc, direction, packet)?;
+                Ok(ItemNote::Packet(note))
+            }
+            Item::Bad { first, rule, at } => Ok(ItemNote::Bad {
+                first: *first,
+                rule: *rule,
+                at: *at,
+            }),
+            Item::Lost => Ok(ItemNote::Lost),
+        }
+    }
+}
+
+impl Note {
+    /// What the statements look at in a PUBLISH of `size` bytes, which went this way.
+    ///
+    /// # Errors
+    ///
+    /// `Memory` if there is no memory for its Topic Name, which is kept of a PUBLISH that was sent.
+    #[inline(always)]
+    pub fn of_publish(
+        alloc: Global,
+        direction: Direction,
+        size: u32,
+        publish: &Publish<'_>,
+    ) -> Result<Note, Memory>
+        ensures exact { IfOk result (λ note. note ≡ note_of (going direction (packet size (publish_entry (publish_view publish.now))))) }
+        ensures needed { OnErr result (note_keeps_text (note_of (going direction (packet size (publish_entry (publish_view publish.now))))) ≡ true) }
+    {
+        match kept_topic(alloc, direction, publish.topic) {
+            Ok(topic) => Ok(Note::with_topic(direction, size, topic, publish)),
+            Err(memory) => Err(memory),
+        }
+    }
+
+    /// The same, where the Topic Name is short enough to lie in the note.
+    #[inline(always)]
+    pub fn of_short_publish(direction: Direction, size: u32, publish: &Publish<'_>) -> Note
+        requires { length publish.now.topic.now ≤ 30 }
+        ensures { result ≡ note_of (going direction (packet size (publish_entry (publish_view publish.now)))) }
+    {
+        Note::with_topic(
+            direction,
+            size,
+            short_topic(direction, publish.topic),
+            publish,
+        )
+    }
+
+    /// The same, where this is kept of the Topic Name. It is made in one piece, since each move of a note costs more than what is
+    /// noted.
+    #[inline(always)]
+    fn with_topic(direction: Direction, size: u32, topic: Text, publish: &Publish<'_>) -> Note
+        ensures { topic ≡ only_list (is_sent_direction direction) publish.now.topic.now → result ≡ note_of (going direction (packet size (publish_entry (publish_view publish.now)))) }
+    {
+        let properties = nonempty(&publish.properties);
+        let note = ItemNote::Packet(PacketNote {
+            size,
+            has_reason_string: has_reason_string(properties),
+            has_user_property: has_user_property(properties),
+            fields: PacketFields::Publish(PublishNote::with_topic(topic, publish)),
+        });
+        match direction {
+            Direction::Sent => Note::Sent(note),
+            Direction::Recv => Note::Recv(note),
+        }
+    }
+
+    /// What the statements look at in this event.
+    ///
+    /// # Errors
+    ///
+    /// `Memory` if there is no memory for a text that is kept: the Topic Name of a PUBLISH that was sent, the Topic Filters of a
+    /// SUBSCRIBE that was received, or the Reason Codes of a SUBACK that was sent. Any other event takes no memory.
+    #[inline(always)]
+    pub fn of(alloc: Global, event: &Event<'_>) -> Result<Note, Memory>
+        ensures exact { IfOk result (λ note. note ≡ note_of (event_of event.now)) }
+        ensures needed { OnErr result (note_keeps_text (note_of (event_of event.now)) ≡ true) }
+    {
+        match event {
+            Event::Sent(item) => {
+                let note = ItemNote::of(alloc, Direction::Sent, item)?;
+                Ok(Note::Sent(note))
+            }
+            Event::Recv(item) => {
+                let note = ItemNote::of(alloc, Direction::Recv, item)?;
+                Ok(Note::Recv(note))
+            }
+            Event::Open => Ok(Note::Open),
+            Event::Close => Ok(Note::Close),
+            Event::Rest => Ok(Note::Rest),
+            Event::Release(identifier) => Ok(Note::Release(*identifier)),
+        }
+    }
+}

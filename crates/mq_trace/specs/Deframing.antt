@@ -1,0 +1,66 @@
+-- One direction in memory: what a step takes in, and what stops it.
+use Rattle.std.specs.Prelude.{◌≡◌, ℕ, ◌+◌, ◌<◌, ◌≤◌, ◌⊎◌, nat_le, Bool, true, false, ◌&&◌, List, [], ◌∷◌, ◌++◌, length, slice_index, Option, Some, None, option_map, is_some}
+use Rattle.mq_packet.specs.Stream.{fixed_header_of}
+use Rattle.mq_trace.specs.declared.kind.Direction.{Direction}
+use Rattle.mq_trace.specs.declared.refusal.Refusal.{Refusal}
+use Rattle.mq_trace.specs.declared.refusal.Refusal.TheVariants as refusals
+use Rattle.mq_trace.specs.declared.connections.Connections.{Connections}
+use Rattle.mq_trace.specs.declared.deframer.BodyContext.{BodyContext as ContextInMemory}
+use Rattle.mq_trace.specs.Events.{Event, Placed, item_read, read_frame}
+use Rattle.mq_trace.specs.Refusals.{first_standing, is_too_large, is_other_version}
+use Rattle.mq_trace.specs.Context.{StreamState, so_far_in}
+use Rattle.mq_trace.specs.Hearing.{AreEvents}
+use Rattle.mq_trace.specs.Flows.{BodyContext, Flow, going, comes_early, flow_refused, flow_behind, flow_heard}
+use Rattle.mq_trace.specs.Emission.{connections_with, RefusedBySink}
+
+abbrev pub context_of : ContextInMemory → BodyContext
+context_of context = record { direction = context.direction; server = context.server; record_no = context.record_no }
+
+abbrev pub flow_of : ℕ → StreamState → Connections → Flow
+flow_of at state c = record { at = at; state = state; events = c.events; connected = c.connected; connack_seen = c.connack_seen }
+
+-- the event of a whole packet
+abbrev pub frame_event : Direction → List ℕ → Option Event
+frame_event direction frame = option_map (going direction) (item_read (length frame) (slice_index frame 0) (read_frame frame))
+
+-- the refusal that applies at the last byte of a whole packet
+abbrev pub frame_refusal : ℕ → Flow → Direction → List ℕ → Option Refusal
+frame_refusal at f direction frame = first_standing (
+    (is_other_version (read_frame frame), refusals.OtherVersion at)
+    ∷ (comes_early f (frame_event direction frame), refusals.Early at)
+    ∷ (is_some (frame_event direction frame) && nat_le 4294967295 f.events, refusals.TooLong at)
+    ∷ [])
+
+-- what is kept of the events after one more, if there is one
+abbrev pub connections_then : Bool → Connections → Option Event → Connections
+connections_then server c None = c
+connections_then server c (Some event) = connections_with server c event
+
+-- A byte may need memory, given the bytes so far of its packet, the byte included: it belongs to one, and doesn't end a fixed header whose size is over the limit.
+pub record NeedsMemory (limit : ℕ) (so_far : List ℕ) : Type 0 where
+  pub packet : 0 < length so_far
+  pub within : is_too_large limit so_far (fixed_header_of so_far) ≡ false
+
+-- Why a byte isn't taken in, given the bytes so far of its packet, the refusal that applies at it and what it completes: it is refused, or there was no memory,
+-- and the sink received nothing; or the sink refused what it completes.
+abbrev pub FlowWhy : {S : Type 0} → (S → S → List Placed → Refusal → Type 0) → ℕ → ℕ → List ℕ → Option Refusal → List Placed → S → S → Refusal → Type 0
+FlowWhy declines limit at so_far met completed old new refusal =
+    ((met ≡ Some refusal) × (new ≡ old))
+    ⊎ ((refusal ≡ refusals.Memory at) × (new ≡ old) × NeedsMemory limit so_far)
+    ⊎ ((met ≡ None) × (length completed ≡ 1) × RefusedBySink declines at completed old new refusal)
+
+-- Bytes of a direction aren't all taken in: one of them isn't, and none before it is refused or completes anything.
+pub record FlowStops {S : Type 0} (declines : S → S → List Placed → Refusal → Type 0) (limit : ℕ) (context : BodyContext) (f : Flow) (bytes : List ℕ) (old new : S) (refusal : Refusal) : Type 0 where
+  pub taken : List ℕ
+  pub byte : ℕ
+  pub later : List ℕ
+  pub is : bytes ≡ taken ++ byte ∷ later
+  pub unrefused : flow_refused limit context f taken ≡ None
+  pub unheard : flow_heard context f taken ≡ []
+  pub why : FlowWhy declines limit (f.at + length taken) (so_far_in (flow_behind context f taken).state byte) (flow_refused limit context f (taken ++ byte ∷ [])) (flow_heard context f (taken ++ byte ∷ [])) old new refusal
+
+-- These bytes bring a direction from one state to another: none of them is refused, and a sink that had received what came before has received the events too that they complete.
+pub record FlowComes {S : Type 0} (agrees : S → List Placed → Type 0) (limit : ℕ) (context : BodyContext) (f f' : Flow) (bytes : List ℕ) (old new : S) : Type 0 where
+  pub unrefused : flow_refused limit context f bytes ≡ None
+  pub kept : flow_behind context f bytes ≡ f'
+  pub emitted : (earlier : List Placed) → agrees old earlier → AreEvents (flow_heard context f bytes ++ earlier) → agrees new (flow_heard context f bytes ++ earlier)

@@ -1,0 +1,38 @@
+-- Emitting an event to a sink: which refusals can apply, and what is kept after it.
+use Rattle.std.specs.Prelude.{◌≡◌, ℕ, ◌+◌, ◌⊎◌, nat_le, Bool, ◌&&◌, ◌||◌, not, List, [], ◌∷◌, Option, Some, None}
+use Rattle.mq_trace.specs.declared.refusal.Refusal.{Refusal}
+use Rattle.mq_trace.specs.declared.refusal.Refusal.TheVariants as refusals
+use Rattle.mq_trace.specs.declared.connections.Connections.{Connections}
+use Rattle.mq_trace.specs.Events.{Event, Placed}
+use Rattle.mq_trace.specs.Connections.{begins_connection, ends_connection, is_answer, needs_answer}
+use Rattle.mq_trace.specs.Refusals.{first_standing}
+use Rattle.mq_trace.specs.Refusing.{moved}
+
+-- the refusal that applies to an event that this byte completes
+abbrev pub event_refusal : ℕ → Connections → Event → Option Refusal
+event_refusal at connections event = first_standing (
+    (needs_answer event && (connections.connected && not connections.connack_seen), refusals.Early at)
+    ∷ (nat_le 4294967295 connections.events, refusals.TooLong at)
+    ∷ [])
+
+-- what is kept of the events after one more
+abbrev pub connections_with : Bool → Connections → Event → Connections
+connections_with server connections event = record {
+  events = connections.events + 1;
+  connected = begins_connection event || (not (ends_connection event) && connections.connected);
+  connack_seen = is_answer server event || (not (begins_connection event) && connections.connack_seen);
+}
+
+-- the event at the next place
+abbrev pub next_placed : Connections → ℕ → Event → Placed
+next_placed connections record_no event = record { place = record { position = connections.events + 1; record_no = record_no }; event = event }
+
+-- The sink refused what this byte completed: one event, given as a list.
+pub record RefusedBySink {S : Type 0} (declines : S → S → List Placed → Refusal → Type 0) (at : ℕ) (completed : List Placed) (old new : S) (refusal : Refusal) : Type 0 where
+  pub own : Refusal
+  pub refused : declines old new completed own
+  pub is : refusal ≡ moved own at
+
+-- Why what a byte completes wasn't emitted: a refusal's condition applies at the byte, and the sink received nothing; or none does, and the sink refused it.
+abbrev pub NotEmitted : {S : Type 0} → (S → S → List Placed → Refusal → Type 0) → ℕ → Option Refusal → List Placed → S → S → Refusal → Type 0
+NotEmitted declines at met completed old new refusal = ((met ≡ Some refusal) × (new ≡ old)) ⊎ ((met ≡ None) × RefusedBySink declines at completed old new refusal)

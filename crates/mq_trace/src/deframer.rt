@@ -1,0 +1,688 @@
+//! One direction of a connection: its stream of packets, which the bodies of records carry in any cutting.
+//!
+//! The path of a whole packet to the sink is inlined, so that the packet isn't moved; rare cases are functions of their own.
+
+ghost use Rattle.std.specs.Prelude.{◌≡◌, ◌+◌, ◌-◌, ◌<◌, ◌≤◌, ◌^◌, ◌++◌, ◌⊎◌, ℕ, ◌∷◌, [], List, Some, None, OnOk, OnErr, IfOk, IfErr, Err, length, take, drop, slice_index, option_map, true, false};
+ghost use Rattle.mq_packet.specs.Stream.{frame_size, fixed_header_of};
+ghost use Rattle.mq_packet.specs.Decoding.{decoded};
+ghost use Rattle.mq_packet.specs.Reading.{view, Gives};
+ghost use Rattle.mq_packet.specs.Sizes.{remaining_length};
+ghost use Rattle.mq_packet.specs.declared.header.FixedHeader.TheVariants as headers;
+ghost use Rattle.mq_trace.specs.Refusals.{is_too_large};
+ghost use Rattle.mq_trace.specs.Events.{Placed, bad, lost, item_read, read_frame};
+ghost use Rattle.mq_trace.specs.Context.{put};
+ghost use Rattle.mq_trace.specs.Hearing.{AreEvents, Declines, event_of, item_of};
+ghost use Rattle.mq_trace.specs.declared.event.Item.TheVariants as items;
+ghost use Rattle.mq_trace.specs.Emission.{NotEmitted, event_refusal, connections_with, next_placed};
+ghost use Rattle.mq_trace.specs.Keeping.{state_in, IsUnfinished};
+ghost use Rattle.mq_trace.specs.Settling.{IsByteMore, IsStep};
+ghost use Rattle.mq_trace.specs.Flows.{going, flow_placed_with, flow_refused, flow_heard, flow_behind};
+ghost use Rattle.mq_trace.specs.Deframing.{context_of, flow_of, frame_event, frame_refusal, connections_then, FlowStops, FlowComes};
+
+use super::connections::{Connections, emit, emit_publish};
+use super::event::{Item, going};
+use super::kind::Direction;
+use super::refusal::Refusal;
+use super::sink::Sink;
+use bytes::BytesMut;
+use mq_packet::{
+    DecodeFault, FixedHeader, Packet, PacketRule, decode, decode_publish, fixed_header,
+};
+use std::alloc::Global;
+
+/// What is kept of one direction: the bytes of its unfinished packet.
+#[derive(Drop)]
+pub struct Deframer {
+    pub unfinished: BytesMut,
+    pub lost: bool,
+}
+
+/// What stays the same while the body of a record is read.
+#[derive(Clone, Copy, Debug, PartialEq, Eq)]
+pub struct BodyContext {
+    /// The direction of the body's bytes.
+    pub direction: Direction,
+    /// Whether the tested end is a server.
+    pub server: bool,
+    /// The number of the record.
+    pub record_no: u32,
+    /// The largest packet that is read, in bytes.
+    pub limit: u32,
+}
+
+/// What the next bytes of a direction are.
+#[derive(Clone, Copy, Debug, PartialEq, Eq)]
+pub enum Step {
+    /// A whole packet, within the limit.
+    Whole {
+        /// How many bytes its fixed header has.
+        header: usize,
+        /// How many bytes it has.
+        size: usize,
+    },
+    /// The beginning of a packet, of which more is to come.
+    Beginning,
+    /// More of the unfinished packet, which has this size.
+    More(usize),
+    /// A byte that may belong to a fixed header.
+    Byte,
+}
+
+impl Deframer {
+    /// A direction in which nothing has come.
+    pub fn new(alloc: Global) -> Self
+        ensures { state_in result ≡ record { unfinished = []; lost = false } }
+    {
+        Deframer {
+            unfinished: BytesMut::new(alloc),
+            lost: false,
+        }
+    }
+
+    /// Starts over, as at the beginning of each connection.
+    pub fn clear(&mut self)
+        ensures { state_in self.new ≡ record { unfinished = []; lost = false } }
+    {
+        self.unfinished.clear();
+        self.lost = false;
+    }
+
+    /// Takes in the next bytes of the direction, up to the end of the packet that the first one belongs to, and returns how many.
+    /// The first one has this offset in the log.
+    ///
+    /// # Errors
+    ///
+    /// The refusal that applies first at one of them; the sink's own refusal; `Memory`.
+    #[inline(always)]
+    pub fn consume<S: Sink>(
+        &mut self,
+        context: BodyContext,
+        connections: &mut Connections,
+        at: u64,
+        bytes: &[u8],
+        sink: &mut S,
+    ) -> Result<usize, Refusal>
+        requires some { 1 ≤ length bytes.now }
+        requires room { at + length bytes.now < 2 ^ 64 }
+        requires unfinished { IsUnfinished context.limit (state_in self.old) }
+        ensures count { IfOk result (λ n. (1 ≤ n) × (n ≤ length bytes.now)) }
+        ensures unrefused { IfOk result (λ n. flow_refused context.limit (context_of context) (flow_of at (state_in self.old) connections.old) (take n bytes.now) ≡ None) }
+        ensures kept { IfOk result (λ n. flow_behind (context_of context) (flow_of at (state_in self.old) connections.old) (take n bytes.now) ≡ flow_of (at + n) (state_in self.new) connections.new) }
+        ensures heard { (earlier : List Placed) → S.agrees sink.old earlier → IfOk result (λ n.
+            AreEvents (flow_heard (context_of context) (flow_of at (state_in self.old) connections.old) (take n bytes.now) ++ earlier)
+            → S.agrees sink.new (flow_heard (context_of context) (flow_of at (state_in self.old) connections.old) (take n bytes.now) ++ earlier)) }
+        ensures sound { OnOk result (IsUnfinished context.limit (state_in self.new)) }
+        ensures stops { IfErr result (λ refusal. FlowStops (Declines S.agrees S.refuses) context.limit (context_of context) (flow_of at (state_in self.old) connections.old) bytes.now sink.old sink.new refusal) }
+    {
+        if self.lost {
+            return Ok(bytes.len());
+        }
+        match self.step(context.limit, bytes) {
+            Step::Whole { header, size } => {
+                match consume_whole(context, connections, at, header, &bytes[..size], sink) {
+                    Ok(()) => Ok(size),
+                    Err(refusal) => Err(refusal),
+                }
+            }
+            Step::Beginning => match self.buffer(at, bytes) {
+                Ok(()) => Ok(bytes.len()),
+                Err(refusal) => Err(refusal),
+            },
+            Step::More(size) => self.go_on(context, connections, at, size, bytes, sink),
+            Step::Byte => match self.consume_byte(context, connections, at, bytes[0], sink) {
+                Ok(()) => Ok(1),
+                Err(refusal) => Err(refusal),
+            },
+        }
+    }
+
+    /// What the next bytes are to the direction, which isn't lost.
+    #[inline(always)]
+    fn step(&self, limit: u32, bytes: &[u8]) -> Step
+        requires { IsUnfinished limit (state_in self.now) }
+        ensures { IsStep (state_in self.now) limit bytes.now result }
+    {
+        if self.unfinished.is_empty() {
+            match fixed_header(bytes) {
+                FixedHeader::Whole { length, size } if size <= limit as usize => {
+                    if size <= bytes.len() {
+                        Step::Whole {
+                            header: length,
+                            size,
+                        }
+                    } else {
+                        Step::Beginning
+                    }
+                }
+                FixedHeader::Short => Step::Beginning,
+                _ => Step::Byte,
+            }
+        } else {
+            match fixed_header(self.unfinished.as_slice()) {
+                FixedHeader::Whole { size, .. } => Step::More(size),
+                _ => Step::Byte,
+            }
+        }
+    }
+
+    /// Takes in more of an unfinished packet of this size, whose fixed header is whole. Returns how many bytes it took.
+    ///
+    /// # Errors
+    ///
+    /// The refusal that applies at the packet's last byte; the sink's own refusal; `Memory`.
+    #[inline(never)]
+    fn go_on<S: Sink>(
+        &mut self,
+        context: BodyContext,
+        connections: &mut Connections,
+        at: u64,
+        size: usize,
+        bytes: &[u8],
+        sink: &mut S,
+    ) -> Result<usize, Refusal>
+        requires some { 1 ≤ length bytes.now }
+        requires room { at + length bytes.now < 2 ^ 64 }
+        requires unfinished { IsUnfinished context.limit (state_in self.old) }
+        requires kept { self.old.lost ≡ false }
+        requires begun { (header : ℕ) × (fixed_header_of self.old.unfinished.items ≡ headers.Whole header size) }
+        ensures count { IfOk result (λ n. (1 ≤ n) × (n ≤ length bytes.now)) }
+        ensures comes { IfOk result (λ n. FlowComes S.agrees context.limit (context_of context) (flow_of at (state_in self.old) connections.old)
+            (flow_of (at + n) (state_in self.new) connections.new) (take n bytes.now) sink.old sink.new) }
+        ensures sound { OnOk result (IsUnfinished context.limit (state_in self.new)) }
+        ensures stops { IfErr result (λ refusal. FlowStops (Declines S.agrees S.refuses) context.limit (context_of context) (flow_of at (state_in self.old) connections.old) bytes.now sink.old sink.new refusal) }
+    {
+        let lacks = size - self.unfinished.len();
+        if bytes.len() < lacks {
+            match self.buffer(at, bytes) {
+                Ok(()) => Ok(bytes.len()),
+                Err(refusal) => Err(refusal),
+            }
+        } else {
+            match self.complete(context, connections, at, &bytes[..lacks], sink) {
+                Ok(()) => Ok(lacks),
+                Err(refusal) => Err(refusal),
+            }
+        }
+    }
+
+    /// Keeps bytes of an unfinished packet.
+    ///
+    /// # Errors
+    ///
+    /// `Memory`, at the first of them, if there is no memory for all of them. Nothing is kept then.
+    #[inline(never)]
+    fn buffer(&mut self, at: u64, bytes: &[u8]) -> Result<(), Refusal>
+        ensures ok { OnOk result (state_in self.new ≡ record { unfinished = self.old.unfinished.items ++ bytes.now; lost = self.old.lost }) }
+        ensures err { IfErr result (λ refusal. refusal ≡ Refusal.Memory at) }
+        ensures same { OnErr result (state_in self.new ≡ state_in self.old) }
+        ensures room { OnErr result (self.old.unfinished.spare < length bytes.now) }
+    {
+        match self.unfinished.extend_from_slice(bytes) {
+            Ok(()) => Ok(()),
+            Err(_) => Err(Refusal::Memory(at)),
+        }
+    }
+
+    /// Takes in the last bytes of an unfinished packet.
+    ///
+    /// # Errors
+    ///
+    /// The refusal that applies at the last of them; the sink's own refusal; `Memory`.
+    #[inline(never)]
+    fn complete<S: Sink>(
+        &mut self,
+        context: BodyContext,
+        connections: &mut Connections,
+        at: u64,
+        bytes: &[u8],
+        sink: &mut S,
+    ) -> Result<(), Refusal>
+        requires some { 1 ≤ length bytes.now }
+        requires room { at + length bytes.now < 2 ^ 64 }
+        requires kept { self.old.lost ≡ false }
+        requires whole { frame_size (self.old.unfinished.items ++ bytes.now) ≡ Some (length (self.old.unfinished.items ++ bytes.now)) }
+        requires within { length (self.old.unfinished.items ++ bytes.now) ≤ context.limit }
+        ensures comes { OnOk result (FlowComes S.agrees context.limit (context_of context) (flow_of at (state_in self.old) connections.old)
+            (flow_of (at + length bytes.now) (state_in self.new) connections.new) bytes.now sink.old sink.new) }
+        ensures empty { OnOk result (state_in self.new ≡ record { unfinished = []; lost = false }) }
+        ensures stops { IfErr result (λ refusal. FlowStops (Declines S.agrees S.refuses) context.limit (context_of context) (flow_of at (state_in self.old) connections.old) bytes.now sink.old sink.new refusal) }
+    {
+        match self.buffer(at, bytes) {
+            Ok(()) => self.emit_buffered(context, connections, at + (bytes.len() - 1) as u64, sink),
+            Err(refusal) => Err(refusal),
+        }
+    }
+
+    /// Emits the packet that was unfinished and is now whole, and drops its bytes. Its last byte has this offset in the log.
+    ///
+    /// # Errors
+    ///
+    /// The refusal that applies at its last byte; the sink's own refusal.
+    fn emit_buffered<S: Sink>(
+        &mut self,
+        context: BodyContext,
+        connections: &mut Connections,
+        at: u64,
+        sink: &mut S,
+    ) -> Result<(), Refusal>
+        requires whole { frame_size self.old.unfinished.items ≡ Some (length self.old.unfinished.items) }
+        ensures empty { OnOk result (state_in self.new ≡ record { unfinished = []; lost = self.old.lost }) }
+        ensures met { OnOk result (frame_refusal at (flow_of at (record { unfinished = []; lost = false }) connections.old) context.direction self.old.unfinished.items ≡ None) }
+        ensures kept { OnOk result (connections.new ≡ connections_then context.server connections.old (frame_event context.direction self.old.unfinished.items)) }
+        ensures heard { (earlier : List Placed) → S.agrees sink.old earlier
+            → AreEvents (put (flow_placed_with (context_of context) (flow_of at (record { unfinished = []; lost = false }) connections.old) (frame_event context.direction self.old.unfinished.items)) earlier)
+            → OnOk result (S.agrees sink.new (put (flow_placed_with (context_of context) (flow_of at (record { unfinished = []; lost = false }) connections.old) (frame_event context.direction self.old.unfinished.items)) earlier)) }
+        ensures err { IfErr result (λ refusal. NotEmitted (Declines S.agrees S.refuses) at (frame_refusal at (flow_of at (record { unfinished = []; lost = false }) connections.old) context.direction self.old.unfinished.items)
+            (put (flow_placed_with (context_of context) (flow_of at (record { unfinished = []; lost = false }) connections.old) (frame_event context.direction self.old.unfinished.items)) []) sink.old sink.new refusal) }
+    {
+        let frame = self.unfinished.as_slice();
+        let emitted = emit_frame(context, connections, at, header_of(frame), frame, sink);
+        self.unfinished.clear();
+        emitted
+    }
+
+    /// Takes in one byte, which may belong to a fixed header.
+    #[inline(never)]
+    fn consume_byte<S: Sink>(
+        &mut self,
+        context: BodyContext,
+        connections: &mut Connections,
+        at: u64,
+        byte: u8,
+        sink: &mut S,
+    ) -> Result<(), Refusal>
+        requires unfinished { IsUnfinished context.limit (state_in self.old) }
+        requires kept { self.old.lost ≡ false }
+        requires few { length self.old.unfinished.items ≤ 4 }
+        requires room { at + 1 < 2 ^ 64 }
+        ensures comes { OnOk result (FlowComes S.agrees context.limit (context_of context) (flow_of at (state_in self.old) connections.old)
+            (flow_of (at + 1) (state_in self.new) connections.new) (byte ∷ []) sink.old sink.new) }
+        ensures sound { OnOk result (IsUnfinished context.limit (state_in self.new)) }
+        ensures stops { IfErr result (λ refusal. FlowStops (Declines S.agrees S.refuses) context.limit (context_of context) (flow_of at (state_in self.old) connections.old) (byte ∷ []) sink.old sink.new refusal) }
+    {
+        match self.buffer(at, &[byte]) {
+            Ok(()) => self.check_header(context, connections, at, sink),
+            Err(refusal) => {
+                // TooLarge has the lower number, and needs no memory.
+                if self.is_too_large(context.limit, byte) {
+                    Err(Refusal::TooLarge(at))
+                } else {
+                    Err(refusal)
+                }
+            }
+        }
+    }
+
+    /// Whether the fixed header of the unfinished packet, of which at most four bytes came, ends with this byte and gives a size
+    /// over the limit.
+    fn is_too_large(&self, limit: u32, byte: u8) -> bool
+        requires { length self.now.unfinished.items ≤ 4 }
+        ensures { result ≡ is_too_large limit (self.now.unfinished.items ++ byte ∷ []) (fixed_header_of (self.now.unfinished.items ++ byte ∷ [])) }
+    {
+        match self.header_with(byte) {
+            FixedHeader::Whole { length, size } => {
+                length == self.unfinished.len() + 1 && size > limit as usize
+            }
+            FixedHeader::Short | FixedHeader::Lost => false,
+        }
+    }
+
+    /// The fixed header of the unfinished packet, of which at most four bytes came, with one more byte.
+    fn header_with(&self, byte: u8) -> FixedHeader
+        requires { length self.now.unfinished.items ≤ 4 }
+        ensures { result ≡ fixed_header_of (self.now.unfinished.items ++ byte ∷ []) }
+    {
+        match *self.unfinished.as_slice() {
+            [] => fixed_header(&[byte]),
+            [a] => fixed_header(&[a, byte]),
+            [a, b] => fixed_header(&[a, b, byte]),
+            [a, b, c] => fixed_header(&[a, b, c, byte]),
+            [a, b, c, d] => fixed_header(&[a, b, c, d, byte]),
+            _ => unreachable!(),
+        }
+    }
+
+    /// Settles the newest byte of the unfinished packet, which has this offset in the log.
+    ///
+    /// # Errors
+    ///
+    /// The refusal that applies at it; the sink's own refusal.
+    #[inline(never)]
+    fn check_header<S: Sink>(
+        &mut self,
+        context: BodyContext,
+        connections: &mut Connections,
+        at: u64,
+        sink: &mut S,
+    ) -> Result<(), Refusal>
+        requires kept { self.old.lost ≡ false }
+        ensures comes { (before : List ℕ) (byte : ℕ) → IsByteMore context.limit before byte self.old.unfinished.items
+            → OnOk result (FlowComes S.agrees context.limit (context_of context) (flow_of at (record { unfinished = before; lost = false }) connections.old)
+            (flow_of (at + 1) (state_in self.new) connections.new) (byte ∷ []) sink.old sink.new) }
+        ensures sound { (before : List ℕ) (byte : ℕ) → IsByteMore context.limit before byte self.old.unfinished.items → OnOk result (IsUnfinished context.limit (state_in self.new)) }
+        ensures stops { (before : List ℕ) (byte : ℕ) → IsByteMore context.limit before byte self.old.unfinished.items
+            → IfErr result (λ refusal. FlowStops (Declines S.agrees S.refuses) context.limit (context_of context) (flow_of at (record { unfinished = before; lost = false }) connections.old) (byte ∷ []) sink.old sink.new refusal) }
+    {
+        match fixed_header(self.unfinished.as_slice()) {
+            FixedHeader::Short => Ok(()),
+            FixedHeader::Lost => self.mark_lost(context, connections, at, sink),
+            FixedHeader::Whole { length, size } => {
+                if length == self.unfinished.len() && size > context.limit as usize {
+                    Err(Refusal::TooLarge(at))
+                } else if size == self.unfinished.len() {
+                    self.emit_buffered(context, connections, at, sink)
+                } else {
+                    Ok(())
+                }
+            }
+        }
+    }
+
+    /// Marks the direction as lost: the byte at this offset of the log makes the Remaining Length invalid (MQTT 5.0, section
+    /// 1.5.5).
+    ///
+    /// # Errors
+    ///
+    /// `TooLong` if there are 4,294,967,295 events already; the sink's own refusal.
+    #[inline(never)]
+    fn mark_lost<S: Sink>(
+        &mut self,
+        context: BodyContext,
+        connections: &mut Connections,
+        at: u64,
+        sink: &mut S,
+    ) -> Result<(), Refusal>
+        ensures gone { state_in self.new ≡ record { unfinished = []; lost = true } }
+        ensures ok { OnOk result ((event_refusal at connections.old (going context.direction lost) ≡ None) × (connections.new ≡ connections_with context.server connections.old (going context.direction lost))) }
+        ensures heard { (earlier : List Placed) → S.agrees sink.old earlier → AreEvents (next_placed connections.old context.record_no (going context.direction lost) ∷ earlier)
+            → OnOk result (S.agrees sink.new (next_placed connections.old context.record_no (going context.direction lost) ∷ earlier)) }
+        ensures err { IfErr result (λ refusal. NotEmitted (Declines S.agrees S.refuses) at (event_refusal at connections.old (going context.direction lost)) (next_placed connections.old context.record_no (going context.direction lost) ∷ []) sink.old sink.new refusal) }
+    {
+        self.unfinished.clear();
+        self.lost = true;
+        emit(
+            connections,
+            context.server,
+            at,
+            context.record_no,
+            going(context.direction, Item::Lost),
+            sink,
+        )
+    }
+}
+
+/// How many bytes the fixed header of a whole packet has.
+fn header_of(frame: &[u8]) -> usize
+    requires { frame_size frame.now ≡ Some (length frame.now) }
+    ensures is { fixed_header_of frame.now ≡ headers.Whole result (length frame.now) }
+    ensures fits { length frame.now ≤ result + 268435455 }
+{
+    let FixedHeader::Whole { length, .. } = fixed_header(frame) else {
+        unreachable!()
+    };
+    length
+}
+
+/// Takes in a whole packet, with a fixed header of `header` bytes, while none is unfinished.
+///
+/// # Errors
+///
+/// The refusal that applies at its last byte; the sink's own refusal.
+#[inline(always)]
+fn consume_whole<S: Sink>(
+    context: BodyContext,
+    connections: &mut Connections,
+    at: u64,
+    header: usize,
+    frame: &[u8],
+    sink: &mut S,
+) -> Result<(), Refusal>
+    requires some { 1 ≤ length frame.now }
+    requires room { at + length frame.now < 2 ^ 64 }
+    requires whole { fixed_header_of frame.now ≡ headers.Whole header (length frame.now) }
+    requires fits { length frame.now ≤ header + 268435455 }
+    requires within { length frame.now ≤ context.limit }
+    ensures comes { OnOk result (FlowComes S.agrees context.limit (context_of context) (flow_of at (record { unfinished = []; lost = false }) connections.old)
+        (flow_of (at + length frame.now) (record { unfinished = []; lost = false }) connections.new) frame.now sink.old sink.new) }
+    ensures stops { IfErr result (λ refusal. FlowStops (Declines S.agrees S.refuses) context.limit (context_of context) (flow_of at (record { unfinished = []; lost = false }) connections.old) frame.now sink.old sink.new refusal) }
+{
+    let last = at + (frame.len() - 1) as u64;
+    emit_frame(context, connections, last, header, frame, sink)
+}
+
+/// Emits a whole packet, with a fixed header of `header` bytes, whose last byte has this offset in the log.
+///
+/// The first byte chooses the function before any byte of the body is read. So reading a PUBLISH takes no stack for others.
+#[inline(always)]
+fn emit_frame<S: Sink>(
+    context: BodyContext,
+    connections: &mut Connections,
+    at: u64,
+    header: usize,
+    frame: &[u8],
+    sink: &mut S,
+) -> Result<(), Refusal>
+    requires whole { fixed_header_of frame.now ≡ headers.Whole header (length frame.now) }
+    requires fits { length frame.now ≤ header + 268435455 }
+    ensures met { OnOk result (frame_refusal at (flow_of at (record { unfinished = []; lost = false }) connections.old) context.direction frame.now ≡ None) }
+    ensures kept { OnOk result (connections.new ≡ connections_then context.server connections.old (frame_event context.direction frame.now)) }
+    ensures heard { (earlier : List Placed) → S.agrees sink.old earlier
+        → AreEvents (put (flow_placed_with (context_of context) (flow_of at (record { unfinished = []; lost = false }) connections.old) (frame_event context.direction frame.now)) earlier)
+        → OnOk result (S.agrees sink.new (put (flow_placed_with (context_of context) (flow_of at (record { unfinished = []; lost = false }) connections.old) (frame_event context.direction frame.now)) earlier)) }
+    ensures err { IfErr result (λ refusal. NotEmitted (Declines S.agrees S.refuses) at (frame_refusal at (flow_of at (record { unfinished = []; lost = false }) connections.old) context.direction frame.now)
+        (put (flow_placed_with (context_of context) (flow_of at (record { unfinished = []; lost = false }) connections.old) (frame_event context.direction frame.now)) []) sink.old sink.new refusal) }
+{
+    match frame[0] {
+        0x30..0x40 => emit_publish_frame(context, connections, at, header, frame, sink),
+        0x40..0x80 => emit_acknowledgement(context, connections, at, header, frame, sink),
+        _ => emit_other_frame(context, connections, at, header, frame, sink),
+    }
+}
+
+/// The same for a PUBLISH.
+#[inline(never)]
+fn emit_publish_frame<S: Sink>(
+    context: BodyContext,
+    connections: &mut Connections,
+    at: u64,
+    header: usize,
+    frame: &[u8],
+    sink: &mut S,
+) -> Result<(), Refusal>
+    requires whole { fixed_header_of frame.now ≡ headers.Whole header (length frame.now) }
+    requires publish { (48 ≤ slice_index frame.now 0) × (slice_index frame.now 0 < 64) }
+    requires fits { length frame.now ≤ header + 268435455 }
+    ensures met { OnOk result (frame_refusal at (flow_of at (record { unfinished = []; lost = false }) connections.old) context.direction frame.now ≡ None) }
+    ensures kept { OnOk result (connections.new ≡ connections_then context.server connections.old (frame_event context.direction frame.now)) }
+    ensures heard { (earlier : List Placed) → S.agrees sink.old earlier
+        → AreEvents (put (flow_placed_with (context_of context) (flow_of at (record { unfinished = []; lost = false }) connections.old) (frame_event context.direction frame.now)) earlier)
+        → OnOk result (S.agrees sink.new (put (flow_placed_with (context_of context) (flow_of at (record { unfinished = []; lost = false }) connections.old) (frame_event context.direction frame.now)) earlier)) }
+    ensures err { IfErr result (λ refusal. NotEmitted (Declines S.agrees S.refuses) at (frame_refusal at (flow_of at (record { unfinished = []; lost = false }) connections.old) context.direction frame.now)
+        (put (flow_placed_with (context_of context) (flow_of at (record { unfinished = []; lost = false }) connections.old) (frame_event context.direction frame.now)) []) sink.old sink.new refusal) }
+{
+    match decode_publish(frame[0], &frame[header..]) {
+        Ok(publish) => emit_publish(
+            connections,
+            at,
+            context.record_no,
+            context.direction,
+            frame.len() as u32,
+            publish,
+            sink,
+        ),
+        Err(fault) => emit_fault(context, connections, at, header, frame, fault, sink),
+    }
+}
+
+/// The same for what acknowledges a PUBLISH. Its first byte is looked at here, so that no other packet takes room where it is read.
+#[inline(never)]
+fn emit_acknowledgement<S: Sink>(
+    context: BodyContext,
+    connections: &mut Connections,
+    at: u64,
+    header: usize,
+    frame: &[u8],
+    sink: &mut S,
+) -> Result<(), Refusal>
+    requires whole { fixed_header_of frame.now ≡ headers.Whole header (length frame.now) }
+    requires fits { length frame.now ≤ header + 268435455 }
+    ensures met { OnOk result (frame_refusal at (flow_of at (record { unfinished = []; lost = false }) connections.old) context.direction frame.now ≡ None) }
+    ensures kept { OnOk result (connections.new ≡ connections_then context.server connections.old (frame_event context.direction frame.now)) }
+    ensures heard { (earlier : List Placed) → S.agrees sink.old earlier
+        → AreEvents (put (flow_placed_with (context_of context) (flow_of at (record { unfinished = []; lost = false }) connections.old) (frame_event context.direction frame.now)) earlier)
+        → OnOk result (S.agrees sink.new (put (flow_placed_with (context_of context) (flow_of at (record { unfinished = []; lost = false }) connections.old) (frame_event context.direction frame.now)) earlier)) }
+    ensures err { IfErr result (λ refusal. NotEmitted (Declines S.agrees S.refuses) at (frame_refusal at (flow_of at (record { unfinished = []; lost = false }) connections.old) context.direction frame.now)
+        (put (flow_placed_with (context_of context) (flow_of at (record { unfinished = []; lost = false }) connections.old) (frame_event context.direction frame.now)) []) sink.old sink.new refusal) }
+{
+    match frame[0] {
+        0x40 | 0x50 | 0x62 | 0x70 => {
+            let read = decode(frame[0], &frame[header..]);
+            emit_decoded(context, connections, at, header, frame, read, sink)
+        }
+        _ => emit_other_frame(context, connections, at, header, frame, sink),
+    }
+}
+
+/// The same for any other packet.
+#[inline(never)]
+fn emit_other_frame<S: Sink>(
+    context: BodyContext,
+    connections: &mut Connections,
+    at: u64,
+    header: usize,
+    frame: &[u8],
+    sink: &mut S,
+) -> Result<(), Refusal>
+    requires whole { fixed_header_of frame.now ≡ headers.Whole header (length frame.now) }
+    requires fits { length frame.now ≤ header + 268435455 }
+    ensures met { OnOk result (frame_refusal at (flow_of at (record { unfinished = []; lost = false }) connections.old) context.direction frame.now ≡ None) }
+    ensures kept { OnOk result (connections.new ≡ connections_then context.server connections.old (frame_event context.direction frame.now)) }
+    ensures heard { (earlier : List Placed) → S.agrees sink.old earlier
+        → AreEvents (put (flow_placed_with (context_of context) (flow_of at (record { unfinished = []; lost = false }) connections.old) (frame_event context.direction frame.now)) earlier)
+        → OnOk result (S.agrees sink.new (put (flow_placed_with (context_of context) (flow_of at (record { unfinished = []; lost = false }) connections.old) (frame_event context.direction frame.now)) earlier)) }
+    ensures err { IfErr result (λ refusal. NotEmitted (Declines S.agrees S.refuses) at (frame_refusal at (flow_of at (record { unfinished = []; lost = false }) connections.old) context.direction frame.now)
+        (put (flow_placed_with (context_of context) (flow_of at (record { unfinished = []; lost = false }) connections.old) (frame_event context.direction frame.now)) []) sink.old sink.new refusal) }
+{
+    let read = decode(frame[0], &frame[header..]);
+    emit_decoded(context, connections, at, header, frame, read, sink)
+}
+
+/// Emits what was decoded from a whole packet.
+#[inline(always)]
+fn emit_decoded<S: Sink>(
+    context: BodyContext,
+    connections: &mut Connections,
+    at: u64,
+    header: usize,
+    frame: &[u8],
+    read: Result<Packet<'_>, DecodeFault>,
+    sink: &mut S,
+) -> Result<(), Refusal>
+    requires whole { fixed_header_of frame.now ≡ headers.Whole header (length frame.now) }
+    requires exact { Gives view read (decoded (slice_index frame.now 0) (take (length frame.now - header) (drop header frame.now))) }
+    requires size { IfOk read (λ packet. remaining_length packet ≡ length (take (length frame.now - header) (drop header frame.now))) }
+    ensures met { OnOk result (frame_refusal at (flow_of at (record { unfinished = []; lost = false }) connections.old) context.direction frame.now ≡ None) }
+    ensures kept { OnOk result (connections.new ≡ connections_then context.server connections.old (frame_event context.direction frame.now)) }
+    ensures heard { (earlier : List Placed) → S.agrees sink.old earlier
+        → AreEvents (put (flow_placed_with (context_of context) (flow_of at (record { unfinished = []; lost = false }) connections.old) (frame_event context.direction frame.now)) earlier)
+        → OnOk result (S.agrees sink.new (put (flow_placed_with (context_of context) (flow_of at (record { unfinished = []; lost = false }) connections.old) (frame_event context.direction frame.now)) earlier)) }
+    ensures err { IfErr result (λ refusal. NotEmitted (Declines S.agrees S.refuses) at (frame_refusal at (flow_of at (record { unfinished = []; lost = false }) connections.old) context.direction frame.now)
+        (put (flow_placed_with (context_of context) (flow_of at (record { unfinished = []; lost = false }) connections.old) (frame_event context.direction frame.now)) []) sink.old sink.new refusal) }
+{
+    match read {
+        Ok(packet) => emit_packet(context, connections, at, packet, sink),
+        Err(fault) => emit_fault(context, connections, at, header, frame, fault, sink),
+    }
+}
+
+/// Emits a whole packet that has this fault.
+#[inline(always)]
+fn emit_fault<S: Sink>(
+    context: BodyContext,
+    connections: &mut Connections,
+    at: u64,
+    header: usize,
+    frame: &[u8],
+    fault: DecodeFault,
+    sink: &mut S,
+) -> Result<(), Refusal>
+    requires whole { fixed_header_of frame.now ≡ headers.Whole header (length frame.now) }
+    requires exact { decoded (slice_index frame.now 0) (take (length frame.now - header) (drop header frame.now)) ≡ Err fault }
+    ensures met { OnOk result (frame_refusal at (flow_of at (record { unfinished = []; lost = false }) connections.old) context.direction frame.now ≡ None) }
+    ensures kept { OnOk result (connections.new ≡ connections_then context.server connections.old (frame_event context.direction frame.now)) }
+    ensures heard { (earlier : List Placed) → S.agrees sink.old earlier
+        → AreEvents (put (flow_placed_with (context_of context) (flow_of at (record { unfinished = []; lost = false }) connections.old) (frame_event context.direction frame.now)) earlier)
+        → OnOk result (S.agrees sink.new (put (flow_placed_with (context_of context) (flow_of at (record { unfinished = []; lost = false }) connections.old) (frame_event context.direction frame.now)) earlier)) }
+    ensures err { IfErr result (λ refusal. NotEmitted (Declines S.agrees S.refuses) at (frame_refusal at (flow_of at (record { unfinished = []; lost = false }) connections.old) context.direction frame.now)
+        (put (flow_placed_with (context_of context) (flow_of at (record { unfinished = []; lost = false }) connections.old) (frame_event context.direction frame.now)) []) sink.old sink.new refusal) }
+{
+    match fault {
+        DecodeFault::Broken(broken) => emit_bad(
+            context,
+            connections,
+            at,
+            frame[0],
+            broken.rule,
+            broken.at,
+            sink,
+        ),
+        DecodeFault::OtherVersion(_) => Err(Refusal::OtherVersion(at)),
+    }
+}
+
+/// Emits a packet.
+#[inline(always)]
+fn emit_packet<S: Sink>(
+    context: BodyContext,
+    connections: &mut Connections,
+    at: u64,
+    packet: Packet<'_>,
+    sink: &mut S,
+) -> Result<(), Refusal>
+    ensures met { OnOk result (event_refusal at connections.old (going context.direction (item_of (items.Packet packet.entry))) ≡ None) }
+    ensures kept { OnOk result (connections.new ≡ connections_with context.server connections.old (going context.direction (item_of (items.Packet packet.entry)))) }
+    ensures heard { (earlier : List Placed) → S.agrees sink.old earlier → AreEvents (next_placed connections.old context.record_no (going context.direction (item_of (items.Packet packet.entry))) ∷ earlier)
+        → OnOk result (S.agrees sink.new (next_placed connections.old context.record_no (going context.direction (item_of (items.Packet packet.entry))) ∷ earlier)) }
+    ensures err { IfErr result (λ refusal. NotEmitted (Declines S.agrees S.refuses) at (event_refusal at connections.old (going context.direction (item_of (items.Packet packet.entry)))) (next_placed connections.old context.record_no (going context.direction (item_of (items.Packet packet.entry))) ∷ []) sink.old sink.new refusal) }
+{
+    emit(
+        connections,
+        context.server,
+        at,
+        context.record_no,
+        going(context.direction, Item::Packet(packet)),
+        sink,
+    )
+}
+
+/// Emits a packet with this first byte, which breaks a rule at this offset.
+#[inline(never)]
+fn emit_bad<S: Sink>(
+    context: BodyContext,
+    connections: &mut Connections,
+    at: u64,
+    first: u8,
+    rule: PacketRule,
+    place: u32,
+    sink: &mut S,
+) -> Result<(), Refusal>
+    ensures met { OnOk result (event_refusal at connections.old (going context.direction (bad first rule place)) ≡ None) }
+    ensures kept { OnOk result (connections.new ≡ connections_with context.server connections.old (going context.direction (bad first rule place))) }
+    ensures heard { (earlier : List Placed) → S.agrees sink.old earlier → AreEvents (next_placed connections.old context.record_no (going context.direction (bad first rule place)) ∷ earlier)
+        → OnOk result (S.agrees sink.new (next_placed connections.old context.record_no (going context.direction (bad first rule place)) ∷ earlier)) }
+    ensures err { IfErr result (λ refusal. NotEmitted (Declines S.agrees S.refuses) at (event_refusal at connections.old (going context.direction (bad first rule place))) (next_placed connections.old context.record_no (going context.direction (bad first rule place)) ∷ []) sink.old sink.new refusal) }
+{
+    let item = Item::Bad {
+        first,
+        rule,
+        at: place,
+    };
+    emit(
+        connections,
+        context.server,
+        at,
+        context.record_no,
+        going(context.direction, item),
+        sink,
+    )
+}
