@@ -50,8 +50,8 @@ def table() -> str:
         sys.exit("rules_table.py: the sentences aren't the comments of the enum's values, in their order")
     lines = HEAD.copy()
     for name, code, client, server, needs_releases in rows:
-        where = ", where the log records releases" if needs_releases == "true" else ""
-        lines.append(f"| {code} | {said[name]}{where} | {client or '-'} | {server or '-'} |")
+        condition = ", if the log records releases" if needs_releases == "true" else ""
+        lines.append(f"| {code} | {said[name]}{condition} | {client or '-'} | {server or '-'} |")
     return "\n".join(lines) + "\n"
 
 

@@ -22,13 +22,13 @@ pub const SENTENCES: [Saying; 74] = [
     (Rule::W02, "The type isn't 0."),
     (
         Rule::W03,
-        "A variable byte integer is at most four bytes long, and no longer than need be.",
+        "A Variable Byte Integer has at most four bytes, and no more than it needs.",
     ),
     (Rule::W04, "A text is well-formed UTF-8."),
-    (Rule::W05, "A text doesn't hold U+0000."),
+    (Rule::W05, "A text doesn't contain U+0000."),
     (
         Rule::W06,
-        "Each field lies within the packet or the list that it is in, and no bytes are left over.",
+        "Each field ends within its packet or list, and no bytes are left over.",
     ),
     (Rule::W07, "The QoS of a PUBLISH isn't 3."),
     (Rule::W08, "DUP is 0 in a PUBLISH of QoS 0."),
@@ -36,28 +36,31 @@ pub const SENTENCES: [Saying; 74] = [
     (Rule::W10, "A property is known, and allowed in its list."),
     (
         Rule::W11,
-        "A property stands in a list once, but for those that may be repeated.",
+        "No property is repeated in a list, except those that may be.",
     ),
-    (Rule::W12, "A property has a value that it may have."),
-    (Rule::W13, "A Reason Code is one of the packet's."),
+    (Rule::W12, "The value of a property is in its range."),
+    (Rule::W13, "A Reason Code is one that its packet may have."),
     (
         Rule::W14,
         "A Topic Name, and the Response Topic of a PUBLISH, has no wildcard.",
     ),
     (Rule::W15, "A Topic Filter is valid."),
-    (Rule::W16, "A SUBSCRIBE or UNSUBSCRIBE has a filter."),
+    (
+        Rule::W16,
+        "A SUBSCRIBE or UNSUBSCRIBE has at least one filter.",
+    ),
     (
         Rule::W17,
-        "The Subscription Options name a Maximum QoS and a Retain Handling that exist, and have no reserved bit.",
+        "The Subscription Options have neither Maximum QoS 3 nor Retain Handling 3, and no reserved bit is set.",
     ),
-    (Rule::W18, "The protocol's name is `MQTT`."),
+    (Rule::W18, "The Protocol Name is `MQTT`."),
     (
         Rule::W19,
-        "The Connect Flags have no reserved bit, no Will QoS 3, and no Will QoS or Will Retain without a Will.",
+        "The Connect Flags have no reserved bit set, no Will QoS 3, and no Will QoS or Will Retain without a Will.",
     ),
     (
         Rule::W20,
-        "The Connect Acknowledge Flags have no reserved bit.",
+        "The Connect Acknowledge Flags have no reserved bit set.",
     ),
     (Rule::W21, "A PUBLISH has a Topic Name or a Topic Alias."),
     (Rule::C01, "A packet has a type that this end may send."),
@@ -65,7 +68,10 @@ pub const SENTENCES: [Saying; 74] = [
         Rule::C02,
         "The first packet that a client sends on a connection is a CONNECT.",
     ),
-    (Rule::C03, "A client sends one CONNECT on a connection."),
+    (
+        Rule::C03,
+        "A client sends only one CONNECT on a connection.",
+    ),
     (
         Rule::C04,
         "A server sends a CONNACK only after a CONNECT was received.",
@@ -74,11 +80,14 @@ pub const SENTENCES: [Saying; 74] = [
         Rule::C05,
         "A server sends a CONNACK before any packet other than AUTH.",
     ),
-    (Rule::C06, "A server sends one CONNACK on a connection."),
-    (Rule::C07, "Session Present is 0 where Clean Start was 1."),
+    (
+        Rule::C06,
+        "A server sends only one CONNACK on a connection.",
+    ),
+    (Rule::C07, "Session Present is 0 if Clean Start was 1."),
     (
         Rule::C08,
-        "Session Present is 1 only where the server has a session.",
+        "Session Present is 1 only if the server has a session.",
     ),
     (Rule::C09, "Session Present is 0 in a CONNACK that refuses."),
     (
@@ -92,7 +101,7 @@ pub const SENTENCES: [Saying; 74] = [
     ),
     (
         Rule::C13,
-        "A client that has no session goes on with none: it only sends a DISCONNECT.",
+        "A client without a session doesn't resume one: after Session Present 1 it sends only a DISCONNECT.",
     ),
     (
         Rule::C14,
@@ -118,14 +127,17 @@ pub const SENTENCES: [Saying; 74] = [
         Rule::C19,
         "A server sends no Session Expiry Interval in a DISCONNECT.",
     ),
-    (Rule::C20, "A Session Expiry Interval of 0 stays 0."),
+    (
+        Rule::C20,
+        "A DISCONNECT doesn't change a Session Expiry Interval of 0.",
+    ),
     (
         Rule::C21,
-        "No Reason String and no User Property is sent where the client asked for none.",
+        "No Reason String and no User Property is sent if the client asked for none.",
     ),
     (
         Rule::C22,
-        "Response Information is sent only where the client asked for it.",
+        "Response Information is sent only if the client asked for it.",
     ),
     (
         Rule::C23,
@@ -153,7 +165,7 @@ pub const SENTENCES: [Saying; 74] = [
     ),
     (
         Rule::S06,
-        "What is unacknowledged is sent again when a session is resumed.",
+        "Unacknowledged packets are sent again when a session is resumed.",
     ),
     (
         Rule::S07,
@@ -186,7 +198,7 @@ pub const SENTENCES: [Saying; 74] = [
     (Rule::E7R, "A PINGREQ is answered by a PINGRESP."),
     (
         Rule::L1,
-        "A release is of a QoS 2 message that was received and whose exchange isn't over.",
+        "Only a QoS 2 message that was received, and whose exchange isn't over, is released.",
     ),
     (Rule::L2, "A QoS 2 message is released once."),
     (Rule::L3, "A QoS 2 message is released before its PUBCOMP."),

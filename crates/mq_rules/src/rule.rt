@@ -12,15 +12,15 @@ pub enum Rule {
     W01,
     /// The type isn't 0 (MQTT 5.0, section 2.1.2).
     W02,
-    /// A variable byte integer is at most four bytes long, and no longer than need be (MQTT 5.0,
-    /// section 1.5.5).
+    /// A Variable Byte Integer has at most four bytes, and no more than it needs (MQTT 5.0, section
+    /// 1.5.5).
     W03,
     /// A text is well-formed UTF-8 (MQTT 5.0, section 1.5.4).
     W04,
-    /// A text doesn't hold U+0000 (MQTT 5.0, section 1.5.4).
+    /// A text doesn't contain U+0000 (MQTT 5.0, section 1.5.4).
     W05,
-    /// Each field lies within the packet or the list that it is in, and no bytes are left over
-    /// (MQTT 5.0, section 2.1.4).
+    /// Each field ends within its packet or list, and no bytes are left over (MQTT 5.0, section
+    /// 2.1.4).
     W06,
     /// The QoS of a PUBLISH isn't 3 (MQTT 5.0, section 3.3.1.2).
     W07,
@@ -30,29 +30,28 @@ pub enum Rule {
     W09,
     /// A property is known, and allowed in its list (MQTT 5.0, section 2.2.2.2).
     W10,
-    /// A property stands in a list once, but for those that may be repeated (MQTT 5.0, section
-    /// 2.2.2.2).
+    /// No property is repeated in a list, except those that may be (MQTT 5.0, section 2.2.2.2).
     W11,
-    /// A property has a value that it may have (MQTT 5.0, section 2.2.2.2).
+    /// The value of a property is in its range (MQTT 5.0, section 2.2.2.2).
     W12,
-    /// A Reason Code is one of the packet's (MQTT 5.0, section 2.4).
+    /// A Reason Code is one that its packet may have (MQTT 5.0, section 2.4).
     W13,
     /// A Topic Name, and the Response Topic of a PUBLISH, has no wildcard (MQTT 5.0, section
     /// 3.3.2).
     W14,
     /// A Topic Filter is valid (MQTT 5.0, section 4.7).
     W15,
-    /// A SUBSCRIBE or UNSUBSCRIBE has a filter (MQTT 5.0, sections 3.8.3 and 3.10.3).
+    /// A SUBSCRIBE or UNSUBSCRIBE has at least one filter (MQTT 5.0, sections 3.8.3 and 3.10.3).
     W16,
-    /// The Subscription Options name a Maximum QoS and a Retain Handling that exist, and have no
-    /// reserved bit (MQTT 5.0, section 3.8.3.1).
+    /// The Subscription Options have neither Maximum QoS 3 nor Retain Handling 3, and no reserved
+    /// bit is set (MQTT 5.0, section 3.8.3.1).
     W17,
-    /// The protocol's name is `MQTT` (MQTT 5.0, section 3.1.2.1).
+    /// The Protocol Name is `MQTT` (MQTT 5.0, section 3.1.2.1).
     W18,
-    /// The Connect Flags have no reserved bit, no Will QoS 3, and no Will QoS or Will Retain
+    /// The Connect Flags have no reserved bit set, no Will QoS 3, and no Will QoS or Will Retain
     /// without a Will (MQTT 5.0, section 3.1.2.3).
     W19,
-    /// The Connect Acknowledge Flags have no reserved bit (MQTT 5.0, section 3.2.2.1).
+    /// The Connect Acknowledge Flags have no reserved bit set (MQTT 5.0, section 3.2.2.1).
     W20,
     /// A PUBLISH has a Topic Name or a Topic Alias (MQTT 5.0, section 3.3.2).
     W21,
@@ -60,17 +59,17 @@ pub enum Rule {
     C01,
     /// The first packet that a client sends on a connection is a CONNECT (MQTT 5.0, section 3.1).
     C02,
-    /// A client sends one CONNECT on a connection (MQTT 5.0, section 3.1).
+    /// A client sends only one CONNECT on a connection (MQTT 5.0, section 3.1).
     C03,
     /// A server sends a CONNACK only after a CONNECT was received (MQTT 5.0, section 3.2).
     C04,
     /// A server sends a CONNACK before any packet other than AUTH (MQTT 5.0, section 3.2).
     C05,
-    /// A server sends one CONNACK on a connection (MQTT 5.0, section 3.2).
+    /// A server sends only one CONNACK on a connection (MQTT 5.0, section 3.2).
     C06,
-    /// Session Present is 0 where Clean Start was 1 (MQTT 5.0, section 3.2.2.1.1).
+    /// Session Present is 0 if Clean Start was 1 (MQTT 5.0, section 3.2.2.1.1).
     C07,
-    /// Session Present is 1 only where the server has a session (MQTT 5.0, section 3.2.2.1.1).
+    /// Session Present is 1 only if the server has a session (MQTT 5.0, section 3.2.2.1.1).
     C08,
     /// Session Present is 0 in a CONNACK that refuses (MQTT 5.0, section 3.2.2.1.1).
     C09,
@@ -80,8 +79,8 @@ pub enum Rule {
     C11,
     /// A server sends nothing after a CONNACK that refuses (MQTT 5.0, section 3.2.2.2).
     C12,
-    /// A client that has no session goes on with none: it only sends a DISCONNECT (MQTT 5.0,
-    /// section 3.2.2.1.1).
+    /// A client without a session doesn't resume one: after Session Present 1 it sends only a
+    /// DISCONNECT (MQTT 5.0, section 3.2.2.1.1).
     C13,
     /// A packet isn't larger than the peer's Maximum Packet Size (MQTT 5.0, sections 3.1.2.11.4
     /// and 3.2.2.3.6).
@@ -99,13 +98,12 @@ pub enum Rule {
     C18,
     /// A server sends no Session Expiry Interval in a DISCONNECT (MQTT 5.0, section 3.14.2.2.2).
     C19,
-    /// A Session Expiry Interval of 0 stays 0 (MQTT 5.0, section 3.14.2.2.2).
+    /// A DISCONNECT doesn't change a Session Expiry Interval of 0 (MQTT 5.0, section 3.14.2.2.2).
     C20,
-    /// No Reason String and no User Property is sent where the client asked for none (MQTT 5.0,
+    /// No Reason String and no User Property is sent if the client asked for none (MQTT 5.0,
     /// section 3.1.2.11.7).
     C21,
-    /// Response Information is sent only where the client asked for it (MQTT 5.0, section
-    /// 3.1.2.11.6).
+    /// Response Information is sent only if the client asked for it (MQTT 5.0, section 3.1.2.11.6).
     C22,
     /// An end that sent a DISCONNECT, or a CONNACK that refuses, closes the connection (MQTT 5.0,
     /// sections 3.14.4 and 3.2.2.2).
@@ -121,7 +119,7 @@ pub enum Rule {
     S04,
     /// A client sends PUBLISHes again in their original order (MQTT 5.0, section 4.6).
     S05,
-    /// What is unacknowledged is sent again when a session is resumed (MQTT 5.0, section 4.4).
+    /// Unacknowledged packets are sent again when a session is resumed (MQTT 5.0, section 4.4).
     S06,
     /// No more PUBLISHes are in flight than the peer's Receive Maximum (MQTT 5.0, section 4.9).
     S07,
@@ -157,8 +155,8 @@ pub enum Rule {
     E6R,
     /// A PINGREQ is answered by a PINGRESP (MQTT 5.0, section 3.12.4).
     E7R,
-    /// A release is of a QoS 2 message that was received and whose exchange isn't over (MQTT 5.0,
-    /// section 4.3.3).
+    /// Only a QoS 2 message that was received, and whose exchange isn't over, is released (MQTT
+    /// 5.0, section 4.3.3).
     L1,
     /// A QoS 2 message is released once (MQTT 5.0, section 4.3.3).
     L2,

@@ -30,7 +30,7 @@ pub const C02: &str = "C02 client MQTT-3.1.0-1\n\
 
 /// The text of `explain C03`.
 pub const C03: &str = "C03 client sec-3.1\n\
-    A client sends one CONNECT on a connection.\n\n\
+    A client sends only one CONNECT on a connection.\n\n\
     Why: A second CONNECT would change who the client is in the middle of a\n\
     connection, so it is a Protocol Error.\n\n\
     Judged: At each CONNECT after the first one on its connection, on every\n\
@@ -64,7 +64,7 @@ pub const C05: &str = "C05 server MQTT-3.2.0-1\n\
 
 /// The text of `explain C06`.
 pub const C06: &str = "C06 server MQTT-3.2.0-2\n\
-    A server sends one CONNACK on a connection.\n\n\
+    A server sends only one CONNACK on a connection.\n\n\
     Why: A connection is accepted or refused once.\n\n\
     Judged: At each CONNACK after the first one on its connection, on every\n\
     connection. Decided at once.\n\n\
@@ -75,7 +75,7 @@ pub const C06: &str = "C06 server MQTT-3.2.0-2\n\
 
 /// The text of `explain C07`.
 pub const C07: &str = "C07 server MQTT-3.2.2-2\n\
-    Session Present is 0 where Clean Start was 1.\n\n\
+    Session Present is 0 if Clean Start was 1.\n\n\
     Why: Clean Start 1 asks to drop the old session. Session Present 1 would say\n\
     that it goes on.\n\n\
     Judged: At the CONNACK, on every connection. Decided at once.\n\n\
@@ -85,7 +85,7 @@ pub const C07: &str = "C07 server MQTT-3.2.2-2\n\
 
 /// The text of `explain C08`.
 pub const C08: &str = "C08 server MQTT-3.2.2-3\n\
-    Session Present is 1 only where the server has a session.\n\n\
+    Session Present is 1 only if the server has a session.\n\n\
     Why: The client trusts Session Present: it goes on with its half of the session.\n\
     If the server has none, messages are lost or identifiers clash.\n\n\
     Judged: At a CONNACK of code 0x00, on every connection. Decided at once. The\n\
@@ -146,7 +146,8 @@ pub const C12: &str = "C12 server MQTT-3.2.2-7\n\
 
 /// The text of `explain C13`.
 pub const C13: &str = "C13 client MQTT-3.2.2-4\n\
-    A client that has no session goes on with none: it only sends a DISCONNECT.\n\n\
+    A client without a session doesn't resume one: after Session Present 1 it sends\n\
+    only a DISCONNECT.\n\n\
     Why: Session Present 1 means that the server goes on with a session that the\n\
     client doesn't have. The two would disagree on identifiers and messages.\n\n\
     Judged: At each packet other than DISCONNECT that the client sends after a\n\
@@ -233,7 +234,7 @@ pub const C19: &str = "C19 server MQTT-3.14.2-2\n\
 
 /// The text of `explain C20`.
 pub const C20: &str = "C20 client sec-3.14.2\n\
-    A Session Expiry Interval of 0 stays 0.\n\n\
+    A DISCONNECT doesn't change a Session Expiry Interval of 0.\n\n\
     Why: A client whose interval was 0 has told the server to end the session with\n\
     the connection. It can't bring it back when it leaves.\n\n\
     Judged: At a DISCONNECT with a Session Expiry Interval other than 0, on every\n\
@@ -244,7 +245,7 @@ pub const C20: &str = "C20 client sec-3.14.2\n\
 
 /// The text of `explain C21`.
 pub const C21: &str = "C21 server MQTT-3.1.2-29\n\
-    No Reason String and no User Property is sent where the client asked for none.\n\n\
+    No Reason String and no User Property is sent if the client asked for none.\n\n\
     Why: A client that asked for no problem information may have no room for it.\n\
     PUBLISH, CONNACK and DISCONNECT may carry it all the same.\n\n\
     Judged: At each other packet with a Reason String or a User Property, where\n\
@@ -256,7 +257,7 @@ pub const C21: &str = "C21 server MQTT-3.1.2-29\n\
 
 /// The text of `explain C22`.
 pub const C22: &str = "C22 server MQTT-3.1.2-28\n\
-    Response Information is sent only where the client asked for it.\n\n\
+    Response Information is sent only if the client asked for it.\n\n\
     Why: Response Information costs bytes, and is only for clients that build\n\
     Response Topics from it.\n\n\
     Judged: At a CONNACK with Response Information, where Request Response\n\

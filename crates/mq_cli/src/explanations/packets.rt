@@ -32,7 +32,7 @@ pub const W02: &str = "W02 both sec-2.1.2\n\
 
 /// The text of `explain W03`.
 pub const W03: &str = "W03 both MQTT-1.5.5-1\n\
-    A variable byte integer is at most four bytes long, and no longer than need be.\n\n\
+    A Variable Byte Integer has at most four bytes, and no more than it needs.\n\n\
     Why: Each number has one spelling, so that a receiver can compare and count\n\
     bytes. More than four bytes can't be a length at all.\n\n\
     Judged: At the packet, by its bytes alone, on every connection. Decided at once.\n\
@@ -61,7 +61,7 @@ pub const W04: &str = "W04 both MQTT-1.5.4-1\n\
 
 /// The text of `explain W05`.
 pub const W05: &str = "W05 both MQTT-1.5.4-2\n\
-    A text doesn't hold U+0000.\n\n\
+    A text doesn't contain U+0000.\n\n\
     Why: U+0000 ends a text in many languages, so what stands after it would be seen\n\
     by some receivers and not by others.\n\n\
     Judged: At the packet, by its bytes alone, on every connection. Decided at once.\n\
@@ -74,8 +74,7 @@ pub const W05: &str = "W05 both MQTT-1.5.4-2\n\
 
 /// The text of `explain W06`.
 pub const W06: &str = "W06 both sec-2.1.4\n\
-    Each field lies within the packet or the list that it is in, and no bytes are\n\
-    left over.\n\n\
+    Each field ends within its packet or list, and no bytes are left over.\n\n\
     Why: A receiver finds the end of each field by lengths alone. A field that runs\n\
     past its packet or its list of properties, or bytes that are left over, mean\n\
     that the two ends read different packets.\n\n\
@@ -148,7 +147,7 @@ pub const W10: &str = "W10 both sec-2.2.2.2\n\
 
 /// The text of `explain W11`.
 pub const W11: &str = "W11 both sec-2.2.2.2\n\
-    A property stands in a list once, but for those that may be repeated.\n\n\
+    No property is repeated in a list, except those that may be.\n\n\
     Why: Two values for one property leave open which one counts. Only User Property\n\
     may be repeated, and Subscription Identifier in a PUBLISH from a server.\n\n\
     Judged: At the packet, by its bytes alone, on every connection. Decided at once.\n\
@@ -163,7 +162,7 @@ pub const W11: &str = "W11 both sec-2.2.2.2\n\
 
 /// The text of `explain W12`.
 pub const W12: &str = "W12 both sec-2.2.2.2\n\
-    A property has a value that it may have.\n\n\
+    The value of a property is in its range.\n\n\
     Why: Some properties have only a few values that mean something: flags are 0 or\n\
     1, and Receive Maximum, Maximum Packet Size, Topic Alias and Subscription\n\
     Identifier aren't 0.\n\n\
@@ -179,7 +178,7 @@ pub const W12: &str = "W12 both sec-2.2.2.2\n\
 
 /// The text of `explain W13`.
 pub const W13: &str = "W13 both sec-2.4\n\
-    A Reason Code is one of the packet's.\n\n\
+    A Reason Code is one that its packet may have.\n\n\
     Why: The peer decides by the Reason Code what to do next, so the code must be\n\
     one that the packet can have.\n\n\
     Judged: At the packet, by its bytes alone, on every connection. Decided at once.\n\
@@ -226,7 +225,7 @@ pub const W15: &str = "W15 both sec-4.7\n\
 
 /// The text of `explain W16`.
 pub const W16: &str = "W16 both MQTT-3.8.3-2,MQTT-3.10.3-2\n\
-    A SUBSCRIBE or UNSUBSCRIBE has a filter.\n\n\
+    A SUBSCRIBE or UNSUBSCRIBE has at least one filter.\n\n\
     Why: A SUBSCRIBE or UNSUBSCRIBE with no filter asks for nothing, and its answer\n\
     would have no Reason Code.\n\n\
     Judged: At the packet, by its bytes alone, on every connection. Decided at once.\n\
@@ -240,8 +239,8 @@ pub const W16: &str = "W16 both MQTT-3.8.3-2,MQTT-3.10.3-2\n\
 
 /// The text of `explain W17`.
 pub const W17: &str = "W17 both sec-3.8.3\n\
-    The Subscription Options name a Maximum QoS and a Retain Handling that exist,\n\
-    and have no reserved bit.\n\n\
+    The Subscription Options have neither Maximum QoS 3 nor Retain Handling 3, and\n\
+    no reserved bit is set.\n\n\
     Why: The two high bits of the Subscription Options are reserved, and neither QoS\n\
     3 nor Retain Handling 3 means anything.\n\n\
     Judged: At the packet, by its bytes alone, on every connection. Decided at once.\n\
@@ -256,7 +255,7 @@ pub const W17: &str = "W17 both sec-3.8.3\n\
 
 /// The text of `explain W18`.
 pub const W18: &str = "W18 both sec-3.1.2\n\
-    The protocol's name is `MQTT`.\n\n\
+    The Protocol Name is `MQTT`.\n\n\
     Why: By its name and version a server knows which protocol is spoken, and\n\
     refuses what it doesn't know.\n\n\
     Judged: At the packet, by its bytes alone, on every connection. Decided at once.\n\
@@ -270,8 +269,8 @@ pub const W18: &str = "W18 both sec-3.1.2\n\
 
 /// The text of `explain W19`.
 pub const W19: &str = "W19 both sec-3.1.2\n\
-    The Connect Flags have no reserved bit, no Will QoS 3, and no Will QoS or Will\n\
-    Retain without a Will.\n\n\
+    The Connect Flags have no reserved bit set, no Will QoS 3, and no Will QoS or\n\
+    Will Retain without a Will.\n\n\
     Why: Bit 0 is reserved, and Will QoS and Will Retain describe a Will: without\n\
     one they must be 0.\n\n\
     Judged: At the packet, by its bytes alone, on every connection. Decided at once.\n\
@@ -285,7 +284,7 @@ pub const W19: &str = "W19 both sec-3.1.2\n\
 
 /// The text of `explain W20`.
 pub const W20: &str = "W20 both MQTT-3.2.2-1\n\
-    The Connect Acknowledge Flags have no reserved bit.\n\n\
+    The Connect Acknowledge Flags have no reserved bit set.\n\n\
     Why: Only Session Present is defined. The other seven bits are reserved.\n\n\
     Judged: At the packet, by its bytes alone, on every connection. Decided at once.\n\
     A packet is reported for the first rule that its bytes break, with the offset in\n\

@@ -2,7 +2,8 @@
 
 /// The text of `explain L1`.
 pub const L1: &str = "L1 both sec-4.3.3\n\
-    A release is of a QoS 2 message that was received and whose exchange isn't over.\n\n\
+    Only a QoS 2 message that was received, and whose exchange isn't over, is\n\
+    released.\n\n\
     Why: A release hands a message on. One without a message, or after its exchange\n\
     is over, delivers something twice or something that never came.\n\n\
     Judged: At a RELEASE, on an accepted connection or between connections. Decided\n\

@@ -83,7 +83,7 @@ pub const S05: &str = "S05 client MQTT-4.6.0-1\n\
 
 /// The text of `explain S06`.
 pub const S06: &str = "S06 both MQTT-4.4.0-1\n\
-    What is unacknowledged is sent again when a session is resumed.\n\n\
+    Unacknowledged packets are sent again when a session is resumed.\n\n\
     Why: The peer still holds its half of each exchange. What isn't sent again stays\n\
     open for ever: the message is lost and its identifier is never free.\n\n\
     Judged: At the PUBLISH with DUP 0 that was sent on an earlier connection and\n\
