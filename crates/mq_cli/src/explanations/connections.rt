@@ -9,7 +9,7 @@ pub const C01: &str = "C01 both sec-2.1.2\n\
     Judged: At each packet that is sent, a malformed one too, on every connection.\n\
     Decided at once.\n\n\
     In a client: Client and server share a dispatcher, and the client answers a\n\
-    PINGREQ or a SUBSCRIBE that it never should get. Close with DISCONNECT 0x82\n\
+    PINGREQ or a SUBSCRIBE that it should never receive. Close with DISCONNECT 0x82\n\
     (Protocol Error) instead.\n\n\
     In a server: A bridge's client code runs on a connection that the server\n\
     accepted, and sends PINGREQ or SUBSCRIBE there. Keep the two kinds of connection\n\
@@ -44,9 +44,9 @@ pub const C04: &str = "C04 server sec-3.2\n\
     A server sends a CONNACK only after a CONNECT was received.\n\n\
     Why: A CONNACK answers a CONNECT, and has nothing to say before it.\n\n\
     Judged: At the CONNACK, on every connection. Decided at once.\n\n\
-    In a server: The server writes the CONNACK when it accepts the socket, as to\n\
-    refuse it while busy, or after other bytes than a CONNECT. Read the CONNECT\n\
-    first, or close without a CONNACK.\n\n\
+    In a server: The server writes the CONNACK when it accepts the socket, for\n\
+    example to refuse it while busy, or after bytes that aren't a CONNECT. Read the\n\
+    CONNECT first, or close without a CONNACK.\n\n\
     See: MQTT 5.0, section 3.2.\n";
 
 /// The text of `explain C05`.
@@ -101,8 +101,8 @@ pub const C08: &str = "C08 server MQTT-3.2.2-3\n\
 pub const C09: &str = "C09 server MQTT-3.2.2-6\n\
     Session Present is 0 in a CONNACK that refuses.\n\n\
     Why: A refused client has no session, so the flag must say so.\n\n\
-    Judged: At a CONNACK of another code than 0x00, on every connection. Decided at\n\
-    once.\n\n\
+    Judged: At a CONNACK with a code other than 0x00, on every connection. Decided\n\
+    at once.\n\n\
     In a server: The CONNACK is built with the flag of the session that was looked\n\
     up, and the code is set to a refusal afterwards. Write 0 wherever the code isn't\n\
     0x00.\n\n\
@@ -111,8 +111,8 @@ pub const C09: &str = "C09 server MQTT-3.2.2-6\n\
 /// The text of `explain C10`.
 pub const C10: &str = "C10 server MQTT-3.2.2-16\n\
     A client whose Client Identifier was empty is assigned one.\n\n\
-    Why: A client without an identifier must learn the one that its session is kept\n\
-    under, to resume it.\n\n\
+    Why: A client without an identifier must learn the one under which its session\n\
+    is kept, to resume it.\n\n\
     Judged: At a CONNACK of code 0x00, on every connection. Decided at once.\n\n\
     In a server: The server makes an identifier for its own tables and forgets to\n\
     write Assigned Client Identifier. Write the property wherever the CONNECT's\n\
@@ -148,27 +148,27 @@ pub const C12: &str = "C12 server MQTT-3.2.2-7\n\
 pub const C13: &str = "C13 client MQTT-3.2.2-4\n\
     A client without a session doesn't resume one: after Session Present 1 it sends\n\
     only a DISCONNECT.\n\n\
-    Why: Session Present 1 means that the server goes on with a session that the\n\
-    client doesn't have. The two would disagree on identifiers and messages.\n\n\
+    Why: Session Present 1 means that the server continues a session that the client\n\
+    doesn't have. The two would disagree on identifiers and messages.\n\n\
     Judged: At each packet other than DISCONNECT that the client sends after a\n\
     CONNACK with Session Present 1, where Clean Start was 1 or it has no session, on\n\
     every connection. Decided at once.\n\n\
-    In a client: The client has lost its state, as after a restart, and doesn't look\n\
-    at Session Present. Compare the flag with the own store: if it is 1 and the\n\
-    store is empty, close the connection, and connect with Clean Start 1.\n\n\
+    In a client: The client has lost its state, for example after a restart, and\n\
+    doesn't look at Session Present. Compare the flag with its own store: if it is 1\n\
+    and the store is empty, close the connection, and connect with Clean Start 1.\n\n\
     See: MQTT 5.0, section 3.2.2.1.1.\n";
 
 /// The text of `explain C14`.
 pub const C14: &str = "C14 both MQTT-3.2.2-15;MQTT-3.1.2-24\n\
     A packet isn't larger than the peer's Maximum Packet Size.\n\n\
-    Why: The peer has said how large a packet it takes, fixed header and all. A\n\
+    Why: The peer has said how large a packet it accepts, fixed header and all. A\n\
     larger one is lost, or ends the connection.\n\n\
     Judged: At each packet that is sent, from when the peer has announced Maximum\n\
     Packet Size, on every connection. Decided at once.\n\n\
-    In a client: The maximum of the CONNACK isn't kept, or is compared with the\n\
+    In a client: The maximum of the CONNACK isn't stored, or is compared with the\n\
     payload alone. Compare the whole encoded packet, also when one is sent again\n\
     after a reconnect, and refuse it to the application.\n\n\
-    In a server: The maximum of the CONNECT isn't asked before a delivery, or is\n\
+    In a server: The maximum of the CONNECT isn't checked before a delivery, or is\n\
     compared with the payload alone. Drop a message that is too large as if it had\n\
     been sent, and leave Reason String and User Property out of answers.\n\n\
     See: MQTT 5.0, sections 3.1.2.11.4 and 3.2.2.3.6.\n";
@@ -176,7 +176,7 @@ pub const C14: &str = "C14 both MQTT-3.2.2-15;MQTT-3.1.2-24\n\
 /// The text of `explain C15`.
 pub const C15: &str = "C15 both MQTT-3.2.2-17;MQTT-3.1.2-26\n\
     A Topic Alias isn't above the peer's Topic Alias Maximum.\n\n\
-    Why: The peer keeps a table of so many aliases. An alias above it has no place\n\
+    Why: The peer keeps a table of that many aliases. An alias above it has no place\n\
     there, and the default is 0.\n\n\
     Judged: At each PUBLISH with a Topic Alias; for a client after its CONNACK, on\n\
     every connection. Decided at once.\n\n\
@@ -206,7 +206,7 @@ pub const C17: &str = "C17 client MQTT-3.2.2-11\n\
     Why: A server with a lower Maximum QoS can't keep the promise of a higher one.\n\n\
     Judged: At each PUBLISH that the client sends, on every connection. Decided at\n\
     once.\n\n\
-    In a client: The Maximum QoS of the CONNACK isn't kept, or messages queued\n\
+    In a client: The Maximum QoS of the CONNACK isn't stored, or messages queued\n\
     before the connection go out unchanged. Check it when a message leaves the\n\
     queue, and refuse or lower it there.\n\n\
     See: MQTT 5.0, section 3.2.2.3.4.\n";
@@ -225,7 +225,7 @@ pub const C18: &str = "C18 client MQTT-3.3.4-6\n\
 /// The text of `explain C19`.
 pub const C19: &str = "C19 server MQTT-3.14.2-2\n\
     A server sends no Session Expiry Interval in a DISCONNECT.\n\n\
-    Why: How long a session lasts is the client's to say when it leaves.\n\n\
+    Why: How long a session lasts is for the client to decide when it leaves.\n\n\
     Judged: At each DISCONNECT that the server sends, on every connection. Decided\n\
     at once.\n\n\
     In a server: One encoder serves both ends, and writes the session's expiry into\n\
@@ -236,7 +236,7 @@ pub const C19: &str = "C19 server MQTT-3.14.2-2\n\
 pub const C20: &str = "C20 client sec-3.14.2\n\
     A DISCONNECT doesn't change a Session Expiry Interval of 0.\n\n\
     Why: A client whose interval was 0 has told the server to end the session with\n\
-    the connection. It can't bring it back when it leaves.\n\n\
+    the connection. It can't bring the session back with its DISCONNECT.\n\n\
     Judged: At a DISCONNECT with a Session Expiry Interval other than 0, on every\n\
     connection. Decided at once.\n\n\
     In a client: The DISCONNECT takes its interval from settings, and the CONNECT\n\
@@ -247,7 +247,7 @@ pub const C20: &str = "C20 client sec-3.14.2\n\
 pub const C21: &str = "C21 server MQTT-3.1.2-29\n\
     No Reason String and no User Property is sent if the client asked for none.\n\n\
     Why: A client that asked for no problem information may have no room for it.\n\
-    PUBLISH, CONNACK and DISCONNECT may carry it all the same.\n\n\
+    PUBLISH, CONNACK and DISCONNECT may carry it anyway.\n\n\
     Judged: At each other packet with a Reason String or a User Property, where\n\
     Request Problem Information was 0, on every connection. Decided at once.\n\n\
     In a server: Answers such as PUBACK and SUBACK are built with a Reason String\n\
@@ -271,8 +271,8 @@ pub const C23: &str = "C23 both MQTT-3.14.4-2;MQTT-3.14.4-2,MQTT-3.2.2-7\n\
     An end that sent a DISCONNECT, or a CONNACK that refuses, closes the connection.\n\n\
     Why: The peer waits for the connection to end, and its resources are held until\n\
     then.\n\n\
-    Judged: At each REST that stands after the sent DISCONNECT, or a server's\n\
-    CONNACK of 0x80 or more, on every connection. Decided at once.\n\n\
+    Judged: At each REST after the sent DISCONNECT, or a server's CONNACK of 0x80 or\n\
+    more, on every connection. Decided at once.\n\n\
     In a client: The socket is left to the peer or to the operating system after the\n\
     DISCONNECT. Close it as soon as the packet is written.\n\n\
     In a server: The server waits for the client to close after a DISCONNECT or a\n\

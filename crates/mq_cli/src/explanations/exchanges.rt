@@ -5,9 +5,10 @@ pub const E1A: &str = "E1A both MQTT-2.2.1-5\n\
     A PUBACK answers a PUBLISH of QoS 1.\n\n\
     Why: By a PUBACK the sender drops its message. One that answers nothing may drop\n\
     another message, which then is lost.\n\n\
-    Judged: At a PUBACK for whose identifier no PUBLISH of QoS 1 stands before it in\n\
-    the session, or which was answered on this connection already, on a connection\n\
-    that the server accepted. Decided at once: the CONNACK stands before it.\n\n\
+    Judged: At a PUBACK, on a connection that the server accepted, whose identifier\n\
+    has no unanswered PUBLISH of QoS 1 before it: none in the session, or only ones\n\
+    that were answered on this connection. Decided at once, since the CONNACK came\n\
+    before.\n\n\
     In a client: A PUBACK is sent twice, once by the library and once by the\n\
     application, or with the identifier of another message. Keep a list of what is\n\
     to be acknowledged, and take each entry out as it is answered.\n\n\
@@ -22,12 +23,12 @@ pub const E1R: &str = "E1R both MQTT-4.3.2-4\n\
     Why: The sender keeps the message, its identifier and a place in the send quota\n\
     until the PUBACK comes.\n\n\
     Judged: At the PUBLISH of QoS 1 that was received, the first unanswered one of\n\
-    its identifier; not sending the PUBACK is the fault. Decided at the first REST\n\
-    that binds on that connection and before which it hasn't come. A REST binds\n\
-    after the accepting CONNACK, where neither end has sent a DISCONNECT or a\n\
-    malformed packet.\n\n\
+    its identifier; not sending the PUBACK is the fault. Decided at the first\n\
+    binding REST on that connection before which it hasn't come. A REST binds after\n\
+    the accepting CONNACK, if neither end has sent a DISCONNECT or a malformed\n\
+    packet.\n\n\
     In a client: The application's handler throws, or takes the message and never\n\
-    acknowledges. Send the PUBACK on every way out of the handler, with a Reason\n\
+    acknowledges. Send the PUBACK on every path out of the handler, with a Reason\n\
     Code of 0x80 or more for an error.\n\n\
     In a server: A message without subscribers, or one that is refused, isn't\n\
     acknowledged. Answer every PUBLISH of QoS 1: with 0x10 where nobody subscribes,\n\
@@ -40,7 +41,7 @@ pub const E1O: &str = "E1O client MQTT-4.6.0-2\n\
     Why: A sender may rely on acknowledgements in the order of its messages.\n\n\
     Judged: At a PUBACK, where a PUBLISH of QoS 1 under another identifier came\n\
     earlier on this connection and is still unanswered, on a connection that the\n\
-    server accepted. Decided at once: the CONNACK stands before it.\n\n\
+    server accepted. Decided at once, since the CONNACK came before.\n\n\
     In a client: Handlers run at the same time, and each acknowledges when it ends.\n\
     Put acknowledgements into a queue in the order of arrival, and send one only\n\
     when all before it are ready.\n\n\
@@ -51,9 +52,10 @@ pub const E2A: &str = "E2A both MQTT-2.2.1-5\n\
     A PUBREC answers a PUBLISH of QoS 2.\n\n\
     Why: A PUBREC moves the sender to its PUBREL. One that answers nothing does that\n\
     to a message that hasn't arrived.\n\n\
-    Judged: At a PUBREC for whose identifier no PUBLISH of QoS 2 stands before it in\n\
-    the session, or which was answered on this connection already, on a connection\n\
-    that the server accepted. Decided at once: the CONNACK stands before it.\n\n\
+    Judged: At a PUBREC, on a connection that the server accepted, whose identifier\n\
+    has no unanswered PUBLISH of QoS 2 before it: none in the session, or only ones\n\
+    that were answered on this connection. Decided at once, since the CONNACK came\n\
+    before.\n\n\
     In a client: A PUBREC answers a PUBLISH of QoS 1, or is sent a second time.\n\
     Choose the answer by the QoS of the PUBLISH, and send it once for each.\n\n\
     In a server: A PUBREC answers a PUBLISH of QoS 1, or is sent again after a\n\
@@ -67,12 +69,12 @@ pub const E2R: &str = "E2R both MQTT-4.3.3-8\n\
     Why: Without a PUBREC the sender can't go on: the message stays in flight, and\n\
     its identifier in use.\n\n\
     Judged: At the PUBLISH of QoS 2 that was received, the first unanswered one of\n\
-    its identifier; not sending the PUBREC is the fault. Decided at the first REST\n\
-    that binds on that connection and before which it hasn't come. A REST binds\n\
-    after the accepting CONNACK, where neither end has sent a DISCONNECT or a\n\
-    malformed packet.\n\n\
+    its identifier; not sending the PUBREC is the fault. Decided at the first\n\
+    binding REST on that connection before which it hasn't come. A REST binds after\n\
+    the accepting CONNACK, if neither end has sent a DISCONNECT or a malformed\n\
+    packet.\n\n\
     In a client: A PUBLISH with DUP 1 of a known identifier is dropped as a\n\
-    duplicate, and its PUBREC with it. Drop the message alone, and send the PUBREC\n\
+    duplicate, and its PUBREC with it. Drop only the message, and send the PUBREC\n\
     each time.\n\n\
     In a server: A message that is refused, or known already, isn't answered. Send a\n\
     PUBREC for each PUBLISH of QoS 2, with a Reason Code of 0x80 or more where it is\n\
@@ -85,7 +87,7 @@ pub const E2O: &str = "E2O client MQTT-4.6.0-3\n\
     Why: A sender may rely on PUBRECs in the order of its messages.\n\n\
     Judged: At a PUBREC, where a PUBLISH of QoS 2 under another identifier came\n\
     earlier on this connection and is still unanswered, on a connection that the\n\
-    server accepted. Decided at once: the CONNACK stands before it.\n\n\
+    server accepted. Decided at once, since the CONNACK came before.\n\n\
     In a client: Messages are stored by several tasks, and each sends its PUBREC\n\
     when done. Put PUBRECs into a queue in the order of arrival.\n\n\
     See: MQTT 5.0, section 4.6.\n";
@@ -95,10 +97,10 @@ pub const E3A: &str = "E3A both MQTT-2.2.1-5\n\
     A PUBREL answers a PUBREC that accepts.\n\n\
     Why: A PUBREL tells the receiver to release the message and forget the\n\
     identifier. Without an accepting PUBREC the message may not have arrived.\n\n\
-    Judged: At a PUBREL for whose identifier no PUBREC below 0x80 stands before it\n\
-    in the session, or which was answered on this connection already, on a\n\
-    connection that the server accepted. Decided at once: the CONNACK stands before\n\
-    it.\n\n\
+    Judged: At a PUBREL, on a connection that the server accepted, whose identifier\n\
+    has no unanswered PUBREC below 0x80 before it: none in the session, or only ones\n\
+    that were answered on this connection. Decided at once, since the CONNACK came\n\
+    before.\n\n\
     In a client: A PUBREL follows a PUBREC of 0x80 or more, or is sent after a\n\
     reconnect for a message whose PUBREC never came. Look at the Reason Code, and\n\
     keep for each message whether its PUBREC came.\n\n\
@@ -113,10 +115,10 @@ pub const E3R: &str = "E3R both MQTT-4.3.3-4\n\
     Why: The receiver holds the identifier until the PUBREL, and some hold the\n\
     message too.\n\n\
     Judged: At the PUBREC below 0x80 that was received, the first unanswered one of\n\
-    its identifier; not sending the PUBREL is the fault. Decided at the first REST\n\
-    that binds on that connection and before which it hasn't come. A REST binds\n\
-    after the accepting CONNACK, where neither end has sent a DISCONNECT or a\n\
-    malformed packet.\n\n\
+    its identifier; not sending the PUBREL is the fault. Decided at the first\n\
+    binding REST on that connection before which it hasn't come. A REST binds after\n\
+    the accepting CONNACK, if neither end has sent a DISCONNECT or a malformed\n\
+    packet.\n\n\
     In a client: A PUBREC of 0x10 (No matching subscribers) is taken for an error,\n\
     or one for an unknown identifier is ignored. Answer every PUBREC below 0x80 with\n\
     a PUBREL, with code 0x92 where the identifier isn't known.\n\n\
@@ -132,7 +134,7 @@ pub const E3O: &str = "E3O client MQTT-4.6.0-4\n\
     the receiver releases them at the PUBREL.\n\n\
     Judged: At a PUBREL, where a PUBREC under another identifier came earlier on\n\
     this connection and is still unanswered, on a connection that the server\n\
-    accepted. Decided at once: the CONNACK stands before it.\n\n\
+    accepted. Decided at once, since the CONNACK came before.\n\n\
     In a client: PUBRELs are sent when a write to the store is done, in whatever\n\
     order that happens. Put them into a queue in the order of the PUBRECs.\n\n\
     See: MQTT 5.0, section 4.6.\n";
@@ -142,9 +144,9 @@ pub const E4A: &str = "E4A both MQTT-2.2.1-5\n\
     A PUBCOMP answers a PUBREL.\n\n\
     Why: A PUBCOMP frees the identifier. One that answers nothing frees it while the\n\
     peer still uses it.\n\n\
-    Judged: At a PUBCOMP for whose identifier no PUBREL stands before it in the\n\
-    session, or which was answered on this connection already, on a connection that\n\
-    the server accepted. Decided at once: the CONNACK stands before it.\n\n\
+    Judged: At a PUBCOMP, on a connection that the server accepted, whose identifier\n\
+    has no unanswered PUBREL before it: none in the session, or only ones that were\n\
+    answered on this connection. Decided at once, since the CONNACK came before.\n\n\
     In a client: The PUBCOMP is sent right after the PUBREC, or once by the library\n\
     and once by the application. Send it only when a PUBREL comes.\n\n\
     In a server: The PUBCOMP is sent together with the PUBREC, or again after a\n\
@@ -157,25 +159,25 @@ pub const E4R: &str = "E4R both MQTT-4.3.3-11\n\
     Why: The sender keeps the identifier and a place in the send quota until the\n\
     PUBCOMP.\n\n\
     Judged: At the PUBREL that was received, the first unanswered one of its\n\
-    identifier; not sending the PUBCOMP is the fault. Decided at the first REST that\n\
-    binds on that connection and before which it hasn't come. A REST binds after the\n\
-    accepting CONNACK, where neither end has sent a DISCONNECT or a malformed\n\
-    packet.\n\n\
+    identifier; not sending the PUBCOMP is the fault. Decided at the first binding\n\
+    REST on that connection before which it hasn't come. A REST binds after the\n\
+    accepting CONNACK, if neither end has sent a DISCONNECT or a malformed packet.\n\n\
     In a client: A PUBREL for an identifier that is no longer stored is ignored,\n\
-    often after a reconnect. Answer it all the same, with code 0x92 (Packet\n\
-    Identifier not found).\n\n\
+    often after a reconnect. Answer it anyway, with code 0x92 (Packet Identifier not\n\
+    found).\n\n\
     In a server: A PUBREL for an identifier that the session no longer has is\n\
-    ignored. Answer it all the same, with code 0x92 (Packet Identifier not found).\n\n\
+    ignored. Answer it anyway, with code 0x92 (Packet Identifier not found).\n\n\
     See: MQTT 5.0, section 4.3.3.\n";
 
 /// The text of `explain E5A`.
 pub const E5A: &str = "E5A server MQTT-2.2.1-6\n\
     A SUBACK answers a SUBSCRIBE.\n\n\
-    Why: An answer without its question would free an identifier that the peer has\n\
-    just given to another packet.\n\n\
-    Judged: At a SUBACK for whose identifier no SUBSCRIBE stands before it in the\n\
-    session, or which was answered on this connection already, on a connection that\n\
-    the server accepted. Decided at once: the CONNACK stands before it.\n\n\
+    Why: An answer to nothing would free an identifier that the peer has just given\n\
+    to another packet.\n\n\
+    Judged: At a SUBACK, on a connection that the server accepted, whose identifier\n\
+    has no unanswered SUBSCRIBE before it: none in the session, or only ones that\n\
+    were answered on this connection. Decided at once, since the CONNACK came\n\
+    before.\n\n\
     In a server: A SUBACK is sent for each filter and not for each SUBSCRIBE, or by\n\
     two plugins. Collect the codes of all filters, and answer once.\n\n\
     See: MQTT 5.0, section 2.2.1.\n";
@@ -186,10 +188,9 @@ pub const E5R: &str = "E5R server MQTT-3.8.4-1\n\
     Why: Without its SUBACK a client doesn't know whether and at which QoS it is\n\
     subscribed, and can't use the identifier again.\n\n\
     Judged: At the SUBSCRIBE that was received, the first unanswered one of its\n\
-    identifier; not sending the SUBACK is the fault. Decided at the first REST that\n\
-    binds on that connection and before which it hasn't come. A REST binds after the\n\
-    accepting CONNACK, where neither end has sent a DISCONNECT or a malformed\n\
-    packet.\n\n\
+    identifier; not sending the SUBACK is the fault. Decided at the first binding\n\
+    REST on that connection before which it hasn't come. A REST binds after the\n\
+    accepting CONNACK, if neither end has sent a DISCONNECT or a malformed packet.\n\n\
     In a server: A SUBSCRIBE that isn't authorized is dropped without an answer, or\n\
     an asynchronous check never comes back. Answer it with codes of 0x80 or more.\n\n\
     See: MQTT 5.0, section 3.8.4.\n";
@@ -197,11 +198,12 @@ pub const E5R: &str = "E5R server MQTT-3.8.4-1\n\
 /// The text of `explain E6A`.
 pub const E6A: &str = "E6A server MQTT-2.2.1-6\n\
     An UNSUBACK answers an UNSUBSCRIBE.\n\n\
-    Why: An answer without its question would free an identifier that the peer has\n\
-    just given to another packet.\n\n\
-    Judged: At an UNSUBACK for whose identifier no UNSUBSCRIBE stands before it in\n\
-    the session, or which was answered on this connection already, on a connection\n\
-    that the server accepted. Decided at once: the CONNACK stands before it.\n\n\
+    Why: An answer to nothing would free an identifier that the peer has just given\n\
+    to another packet.\n\n\
+    Judged: At an UNSUBACK, on a connection that the server accepted, whose\n\
+    identifier has no unanswered UNSUBSCRIBE before it: none in the session, or only\n\
+    ones that were answered on this connection. Decided at once, since the CONNACK\n\
+    came before.\n\n\
     In a server: An UNSUBACK is sent for each filter and not for each UNSUBSCRIBE.\n\
     Collect the codes of all filters, and answer once.\n\n\
     See: MQTT 5.0, section 2.2.1.\n";
@@ -212,12 +214,11 @@ pub const E6R: &str = "E6R server MQTT-3.10.4-4\n\
     Why: A client waits for the UNSUBACK to know that no new messages are added for\n\
     it, and keeps the identifier until then.\n\n\
     Judged: At the UNSUBSCRIBE that was received, the first unanswered one of its\n\
-    identifier; not sending the UNSUBACK is the fault. Decided at the first REST\n\
-    that binds on that connection and before which it hasn't come. A REST binds\n\
-    after the accepting CONNACK, where neither end has sent a DISCONNECT or a\n\
-    malformed packet.\n\n\
-    In a server: Nothing is sent where no subscription matches. Answer all the same,\n\
-    with code 0x11 (No subscription existed) for that filter.\n\n\
+    identifier; not sending the UNSUBACK is the fault. Decided at the first binding\n\
+    REST on that connection before which it hasn't come. A REST binds after the\n\
+    accepting CONNACK, if neither end has sent a DISCONNECT or a malformed packet.\n\n\
+    In a server: Nothing is sent where no subscription matches. Answer anyway, with\n\
+    code 0x11 (No subscription existed) for that filter.\n\n\
     See: MQTT 5.0, section 3.10.4.\n";
 
 /// The text of `explain E7R`.
@@ -227,7 +228,7 @@ pub const E7R: &str = "E7R server MQTT-3.12.4-1\n\
     it.\n\n\
     Judged: At a REST that binds and before which fewer PINGRESPs were sent than\n\
     PINGREQs received on its connection. Decided at once, there. A REST binds after\n\
-    the accepting CONNACK, where neither end has sent a DISCONNECT or a malformed\n\
+    the accepting CONNACK, if neither end has sent a DISCONNECT or a malformed\n\
     packet.\n\n\
     In a server: A PINGREQ only resets the keep-alive timer, or its answer waits\n\
     behind a full queue of deliveries. Write a PINGRESP for each PINGREQ, past the\n\

@@ -5,7 +5,7 @@ pub const L1: &str = "L1 both sec-4.3.3\n\
     Only a QoS 2 message that was received, and whose exchange isn't over, is\n\
     released.\n\n\
     Why: A release hands a message on. One without a message, or after its exchange\n\
-    is over, delivers something twice or something that never came.\n\n\
+    is over, delivers a message twice, or one that never came.\n\n\
     Judged: At a RELEASE, on an accepted connection or between connections. Decided\n\
     at once. This is judged where the log's header says that releases are recorded.\n\n\
     In a client: The message is handed to the application again from the store after\n\
@@ -38,8 +38,8 @@ pub const L3: &str = "L3 both sec-4.3.3\n\
     Why: The PUBCOMP makes the sender forget the message. If it wasn't released\n\
     before, nobody has it if this end fails now.\n\n\
     Judged: At a PUBCOMP of code 0x00 for a message of QoS 2 that wasn't released,\n\
-    on a connection that the server accepted. Decided at once: the CONNACK stands\n\
-    before it. It is excused if the PUBLISH had a Message Expiry Interval, or a\n\
+    on a connection that the server accepted. Decided at once, since the CONNACK\n\
+    came before. It is excused if the PUBLISH had a Message Expiry Interval, or a\n\
     PUBREC of 0x10 was sent for it. This is judged where the log's header says that\n\
     releases are recorded.\n\n\
     In a client: The PUBCOMP is sent by the network task while the application still\n\
