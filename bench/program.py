@@ -4,7 +4,7 @@
 It covers what no proof reaches: `main`, files, the standard streams and the words of the command line. Each run has files and a
 standard input of its own, and one where the wrong one is read gives the wrong answer.
 
-usage: bench/program.py [PROGRAM]      (crates/mq_cli/out/mq_cli where it is left out)
+usage: bench/program.py [PROGRAM]      (crates/mq_cli/out/mq_cli if it is missing)
 """
 import os
 import subprocess
@@ -66,8 +66,8 @@ Options:
   -h, --help     Print help
   -V, --version  Print version
 
-Statuses: 0 for a pass, 1 for faults, 2 for a log that is refused, 3 for misuse,
-4 where reading or writing failed or memory ran out.
+Statuses: 0 for a pass, 1 for faults, 2 for a rejected log, 3 for misuse,
+4 if reading or writing failed or memory ran out.
 Example: mqjudge check session.log
 The log's format: docs/LOG_FORMAT.md
 """
@@ -77,15 +77,15 @@ Judges a log and reports each fault
 Usage: mqjudge check [OPTIONS] [FILE]
 
 Arguments:
-  [FILE]  The log; standard input where it is left out or `-`
+  [FILE]  The log; standard input if it is missing or `-`
 
 Options:
-      --json     Report all in one line of JSON, with --summary too
+      --json     Report as one line of JSON, also with --summary
       --summary  Report a line for each statement that has faults
   -h, --help     Print help
 
-Statuses: 0 for no fault, 1 for faults, 2 for a log that is refused, 3 for misuse,
-4 where reading or writing failed or memory ran out.
+Statuses: 0 for no fault, 1 for faults, 2 for a rejected log, 3 for misuse,
+4 if reading or writing failed or memory ran out.
 Example: mqjudge check --json session.log
 The log's format: docs/LOG_FORMAT.md
 """
@@ -95,7 +95,7 @@ Shows each event of a log
 Usage: mqjudge show [OPTIONS] [FILE]
 
 Arguments:
-  [FILE]  The log; standard input where it is left out or `-`
+  [FILE]  The log; standard input if it is missing or `-`
 
 Options:
       --long        Show the other fields and the properties of each packet
@@ -103,8 +103,8 @@ Options:
       --around <N>  With --faults: only the events within N positions of a fault
   -h, --help        Print help
 
-Statuses: 0 where the log was shown, 2 for a log that is refused, 3 for misuse,
-4 where reading or writing failed or memory ran out.
+Statuses: 0 if the log was shown, 2 for a rejected log, 3 for misuse,
+4 if reading or writing failed or memory ran out.
 Example: mqjudge show --faults --around 3 session.log
 The log's format: docs/LOG_FORMAT.md
 """

@@ -12,37 +12,34 @@ use clap::{Arg, ArgAction, ArgMatches, Command, Error};
 use std::alloc::{AllocError, Global};
 use std::convert::AsStr;
 
-const HELP: &str =
-    "Statuses: 0 for a pass, 1 for faults, 2 for a log that is refused, 3 for misuse,\n\
-    4 where reading or writing failed or memory ran out.\n\
+const HELP: &str = "Statuses: 0 for a pass, 1 for faults, 2 for a rejected log, 3 for misuse,\n\
+    4 if reading or writing failed or memory ran out.\n\
     Example: mqjudge check session.log\n\
     The log's format: docs/LOG_FORMAT.md";
 
 const CHECK_HELP: &str =
-    "Statuses: 0 for no fault, 1 for faults, 2 for a log that is refused, 3 for misuse,\n\
-    4 where reading or writing failed or memory ran out.\n\
+    "Statuses: 0 for no fault, 1 for faults, 2 for a rejected log, 3 for misuse,\n\
+    4 if reading or writing failed or memory ran out.\n\
     Example: mqjudge check --json session.log\n\
     The log's format: docs/LOG_FORMAT.md";
 
-const SHOW_HELP: &str =
-    "Statuses: 0 where the log was shown, 2 for a log that is refused, 3 for misuse,\n\
-    4 where reading or writing failed or memory ran out.\n\
+const SHOW_HELP: &str = "Statuses: 0 if the log was shown, 2 for a rejected log, 3 for misuse,\n\
+    4 if reading or writing failed or memory ran out.\n\
     Example: mqjudge show --faults --around 3 session.log\n\
     The log's format: docs/LOG_FORMAT.md";
 
-const PACKET_HELP: &str = "Statuses: 0 for one packet, 1 for bytes that aren't, 3 for misuse,\n\
-    4 where writing failed or memory ran out.\n\
+const PACKET_HELP: &str = "Statuses: 0 for one packet, 1 for other bytes, 3 for misuse,\n\
+    4 if writing failed or memory ran out.\n\
     Example: mqjudge packet 40020001\n\
     The log's format: docs/LOG_FORMAT.md";
 
-const RULES_HELP: &str = "Statuses: 0 where they were listed, 3 for misuse,\n\
-    4 where writing failed or memory ran out.\n\
+const RULES_HELP: &str = "Statuses: 0 if they were listed, 3 for misuse,\n\
+    4 if writing failed or memory ran out.\n\
     Example: mqjudge rules --role client\n\
     The log's format: docs/LOG_FORMAT.md";
 
-const EXPLAIN_HELP: &str =
-    "Statuses: 0 where it was explained, 3 for misuse or a code of no statement,\n\
-    4 where writing failed or memory ran out.\n\
+const EXPLAIN_HELP: &str = "Statuses: 0 if it was explained, 3 for misuse or an unknown code,\n\
+    4 if writing failed or memory ran out.\n\
     Example: mqjudge explain S01\n\
     The log's format: docs/LOG_FORMAT.md";
 
@@ -223,7 +220,7 @@ fn check_command<'a>(alloc: Global) -> Result<Command<'a>, AllocError>
     let json = flag(
         alloc,
         "json",
-        "Report all in one line of JSON, with --summary too",
+        "Report as one line of JSON, also with --summary",
     );
     let summary = flag(
         alloc,
@@ -270,7 +267,7 @@ fn log_operand<'a>(alloc: Global) -> Arg<'a>
     ensures rule { rule_of result ≡ new_rule (codes "FILE") }
     ensures local { result.global ≡ false }
 {
-    Arg::new(alloc, "FILE").help("The log; standard input where it is left out or `-`")
+    Arg::new(alloc, "FILE").help("The log; standard input if it is missing or `-`")
 }
 
 // A flag of this name.

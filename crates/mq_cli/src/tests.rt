@@ -411,7 +411,7 @@ fn shows_help_and_the_version(rt: HostRuntime) -> Result<(), Fail> {
         ),
         (
             &["mqjudge", "explain", "--help"],
-            "3 for misuse or a code of no statement",
+            "3 for misuse or an unknown code",
         ),
         (&["mqjudge", "show", "--help"], "docs/LOG_FORMAT.md"),
         (&["mqjudge", "--version"], VERSION),
