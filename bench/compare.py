@@ -112,7 +112,7 @@ class Comparison:
         self.both = shutil.which(mqjudge) is not None
         self.differences = 0
         if not self.both:
-            print(f"no program at {mqjudge}: the plain program is tried alone")
+            print(f"no program at {mqjudge}: only the plain program is tried")
 
     def tell(self, what: str, *answers: Answer) -> None:
         self.differences += 1

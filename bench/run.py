@@ -166,7 +166,7 @@ def main() -> None:
     words.add_argument("--mqjudge", type=Path, default=HERE.parent / "crates/mq_cli/out/mq_cli")
     words.add_argument("--megabytes", type=float, default=200, help="of each log (default 200)")
     words.add_argument("--kinds", nargs="+", choices=make_log.KINDS, default=list(make_log.KINDS))
-    words.add_argument("--rounds", type=int, default=1, help="the quickest of so many counts")
+    words.add_argument("--rounds", type=int, default=1, help="the quickest of this many runs counts")
     words.add_argument("--seconds", type=int, default=600, help="after which a program is stopped")
     words.add_argument("--gigabytes", type=int, default=8, help="of memory that a program may have")
     words.add_argument("--instructions", action="store_true", help="count instructions an event by callgrind instead")

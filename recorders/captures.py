@@ -667,7 +667,7 @@ def main(words: list[str] | None = None) -> int:
     try:
         arguments.out.mkdir(parents=True, exist_ok=True)
     except OSError as error:
-        tell_standard_error(f"from-capture: {arguments.out} can't be made: {error.strerror}")
+        tell_standard_error(f"from-capture: can't create {arguments.out}: {error.strerror}")
         return 1
     capture = Capture(arguments.out, ends, arguments.rest)
     status = 0
@@ -684,5 +684,5 @@ def main(words: list[str] | None = None) -> int:
     if capture.is_stopped:
         status = 1
     capture.finish()
-    print(f"{capture.connections} connections, {capture.left_out} of them not to their end")
+    print(f"{capture.connections} connections, {capture.left_out} of them incomplete")
     return status

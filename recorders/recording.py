@@ -510,7 +510,7 @@ class Recorder:
                 self._forget(known)
         if connection.log is not None:
             connection.log.pause()
-        self._leave_out(connection, f"bytes of {name or UNNAMED} weren't seen")
+        self._leave_out(connection, f"bytes of {name or UNNAMED} are missing")
 
     @guarded
     def tick(self) -> None:
@@ -575,7 +575,7 @@ class Recorder:
         connect = connection.connect
         if connect is not None and connect.version != 5:
             who = file_name(connect.identifier or b"") or UNNAMED
-            self._leave_out(connection, f"{who} speaks {file_name(connect.protocol)} version {connect.version}")
+            self._leave_out(connection, f"{who} uses {file_name(connect.protocol)} version {connect.version}")
 
     def _put(self, connection: Connection, item: Item) -> None:
         """Writes an item to the connection's log, or keeps it until it is known which one that is."""
@@ -599,7 +599,7 @@ class Recorder:
         name = self._name(connection)
         if name is not None and not connection.is_waiting:
             self._logs.pop(name, None)  # what comes later wouldn't have this connection before it
-        self._leave_out(connection, f"too much came of {name or UNNAMED} before its place in a log was known")
+        self._leave_out(connection, f"{name or UNNAMED} sent too much before its session was known")
 
     # -- where a connection belongs
 

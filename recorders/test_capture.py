@@ -34,7 +34,7 @@ PUBACK = bytes.fromhex("40020007")
 SUBSCRIBE, SUBACK = bytes.fromhex("82070001000001 6101".replace(" ", "")), bytes.fromhex("900400010001")
 PINGREQ, PINGRESP, DISCONNECT = bytes.fromhex("c000"), bytes.fromhex("d000"), bytes.fromhex("e000")
 TALK = "10.0.0.2:40000 to 10.0.0.1:1883"
-NOT_SEEN = "not recorded: bytes of c weren't seen"
+NOT_SEEN = "not recorded: bytes of c are missing"
 NO_KEYS = "its TLS can't be read without the keys of its connection"
 
 
@@ -198,7 +198,7 @@ class ByHand(Case):
         self.assertEqual(self.log("c.1.client"), client)
         swapped = [word.replace("SENT", "-").replace("RECV", "SENT").replace("-", "RECV") for word in client]
         self.assertEqual(self.log("c.1.server"), swapped)
-        self.assertEqual((self.told, self.printed), ([], "1 connections, 0 of them not to their end\n"))
+        self.assertEqual((self.told, self.printed), ([], "1 connections, 0 of them incomplete\n"))
         self.assertEqual({verdict(path) for path in self.logs.iterdir()}, {"pass"})
 
     def test_ipv6_and_a_server_without_a_host(self) -> None:
@@ -429,7 +429,7 @@ class ByHand(Case):
         talk.close()
         Conversation(self.wire, "10.0.0.3").open().close()
         self.convert("--end", "client")
-        self.assertEqual(self.told, ["not recorded: o speaks MQTT version 4"])
+        self.assertEqual(self.told, ["not recorded: o uses MQTT version 4"])
 
     def test_tls_without_keys(self) -> None:
         talk = Conversation(self.wire, "10.0.0.2").open()

@@ -87,7 +87,7 @@ class Statuses(Case):
 
     def test_where_no_log_is(self) -> None:
         status, printed, told = self.judged()
-        self.assertEqual((status, told), (4, f"judge: no log is in {self.logs}\n"))
+        self.assertEqual((status, told), (4, f"judge: no logs in {self.logs}\n"))
         self.assertEqual(self.judged(self.logs / "none.log", program=judge_program())[0], 4)
 
     def test_misuse(self) -> None:

@@ -182,7 +182,7 @@ class Sessions(Case):
             recorder.from_server(key, bytes.fromhex("20020000"))
             recorder.closed(key)
         self.assertEqual(self.logs(), {})
-        self.assertEqual(self.told[0], "not recorded: o%0Ald speaks MQTT version 4")
+        self.assertEqual(self.told[0], "not recorded: o%0Ald uses MQTT version 4")
         self.assertEqual(len(self.told), 3)
 
     def test_earlier_files_are_never_written_over(self) -> None:
@@ -284,7 +284,7 @@ class Missing(Case):
         )
         self.assertEqual(
             self.told,
-            ["not recorded: bytes of a weren't seen", "not recorded: a resumes a session that began before the recording"],
+            ["not recorded: bytes of a are missing", "not recorded: a resumes a session that began before the recording"],
         )
 
     def test_before_the_connack_it_is_the_connect_that_names_the_session(self) -> None:
