@@ -18,7 +18,7 @@ use Rattle.mq_trace.specs.Context.{StreamState, so_far_in, put}
 use Rattle.mq_trace.specs.Hearing.{AreEvents}
 use Rattle.mq_trace.specs.Emission.{event_refusal, connections_with, next_placed, RefusedBySink, NotEmitted}
 use Rattle.mq_trace.specs.Flows.{BodyContext, Flow, going, flow_placed_with, flow_behind, flow_refused, flow_heard}
-use Rattle.mq_trace.specs.Deframing.{context_of, flow_of, frame_event, frame_refusal, connections_then, FlowWhy, FlowStops, FlowComes}
+use Rattle.mq_trace.specs.Deframing.{body_context, flow_of, frame_event, frame_refusal, connections_then, FlowWhy, FlowStops, FlowComes}
 use Rattle.mq_trace.specs.Keeping.{IsShort, IsUnfinished}
 use Rattle.mq_trace.specs.Settling.{IsByteMore}
 use Rattle.mq_trace.proofs.FlowLaws.{quiet-refused, quiet-heard, quiet-behind, short-refused, short-heard, short-behind, loses-refusal, loses-after, loses-placed, large-refusal, refused-one}
@@ -68,9 +68,9 @@ module _ {S : Type 0} (agrees : S → List Placed → Type 0) (declines : S → 
   before = flow_of at (going_on u) c
 
   -- What does nothing comes to what stays.
-  quiet_comes : (t : List ℕ) (gone : Bool) (sink : S) → IsByteMore limit u byte t → gone ≡ false → flow_refused limit (context_of context) before (byte ∷ []) ≡ None → flow_heard (context_of context) before (byte ∷ []) ≡ []
-      → flow_behind (context_of context) before (byte ∷ []) ≡ flow_of (at + 1) (going_on (u ++ byte ∷ [])) c
-      → FlowComes agrees limit (context_of context) before (flow_of (at + 1) (record { unfinished = t; lost = gone }) c) (byte ∷ []) sink sink
+  quiet_comes : (t : List ℕ) (gone : Bool) (sink : S) → IsByteMore limit u byte t → gone ≡ false → flow_refused limit (body_context context) before (byte ∷ []) ≡ None → flow_heard (body_context context) before (byte ∷ []) ≡ []
+      → flow_behind (body_context context) before (byte ∷ []) ≡ flow_of (at + 1) (going_on (u ++ byte ∷ [])) c
+      → FlowComes agrees limit (body_context context) before (flow_of (at + 1) (record { unfinished = t; lost = gone }) c) (byte ∷ []) sink sink
   quiet_comes t gone sink more there unrefused unheard kept = record {
     unrefused = unrefused;
     kept = kept ∙ ap (λ (x : List ℕ). flow_of (at + 1) (going_on x) c) (sym more.is) ∙ ap (λ (b : Bool). flow_of (at + 1) (record { unfinished = t; lost = b }) c) (sym there);
@@ -79,30 +79,30 @@ module _ {S : Type 0} (agrees : S → List Placed → Type 0) (declines : S → 
 
   -- A byte after which the fixed header is short only stays.
   pub comes_short : (t : List ℕ) (gone : Bool) (sink : S) → IsByteMore limit u byte t → gone ≡ false → fixed_header_of t ≡ headers.Short
-      → FlowComes agrees limit (context_of context) before (flow_of (at + 1) (record { unfinished = t; lost = gone }) c) (byte ∷ []) sink sink
+      → FlowComes agrees limit (body_context context) before (flow_of (at + 1) (record { unfinished = t; lost = gone }) c) (byte ∷ []) sink sink
   comes_short t gone sink more there short =
       (let short' : fixed_header_of (u ++ byte ∷ []) ≡ headers.Short = ap fixed_header_of (sym more.is) ∙ short in
       quiet_comes t gone sink more there
-      (short-refused limit (context_of context) before u (byte ∷ []) refl short')
-      (short-heard (context_of context) before u (byte ∷ []) refl short')
-      (short-behind (context_of context) before u (byte ∷ []) refl short'))
+      (short-refused limit (body_context context) before u (byte ∷ []) refl short')
+      (short-heard (body_context context) before u (byte ∷ []) refl short')
+      (short-behind (body_context context) before u (byte ∷ []) refl short'))
 
   -- So does one that isn't the packet's last, if the packet isn't larger than the limit.
   pub comes_more : (t : List ℕ) (gone : Bool) (sink : S) (header size : ℕ) → IsByteMore limit u byte t → gone ≡ false → fixed_header_of t ≡ headers.Whole header size → (header ≡ length t → size ≤ limit) → (size ≡ length t → ⊥)
-      → FlowComes agrees limit (context_of context) before (flow_of (at + 1) (record { unfinished = t; lost = gone }) c) (byte ∷ []) sink sink
+      → FlowComes agrees limit (body_context context) before (flow_of (at + 1) (record { unfinished = t; lost = gone }) c) (byte ∷ []) sink sink
   comes_more t gone sink header size more there whole may lacks =
       (let whole' : fixed_header_of (u ++ byte ∷ []) ≡ headers.Whole header size = ap fixed_header_of (sym more.is) ∙ whole in
       let known : Fits limit t size = fits limit u byte header size t more whole may in
       let less : length t < size = below (length t) size known.there lacks in
       let less' : length (u ++ byte ∷ []) < size = subst (λ (x : List ℕ). length x < size) more.is less in
       quiet_comes t gone sink more there
-      (quiet-refused limit (context_of context) before u (byte ∷ []) header size refl whole' less' (inl known.within))
-      (quiet-heard (context_of context) before u (byte ∷ []) header size refl whole' less')
-      (quiet-behind (context_of context) before u (byte ∷ []) header size refl whole' less'))
+      (quiet-refused limit (body_context context) before u (byte ∷ []) header size refl whole' less' (inl known.within))
+      (quiet-heard (body_context context) before u (byte ∷ []) header size refl whole' less')
+      (quiet-behind (body_context context) before u (byte ∷ []) header size refl whole' less'))
 
   -- The byte that tells a size over the limit is refused.
   pub stops_large : (t : List ℕ) (sink : S) (header size : ℕ) → IsByteMore limit u byte t → fixed_header_of t ≡ headers.Whole header size → header ≡ length t → limit < size
-      → FlowStops declines limit (context_of context) before (byte ∷ []) sink sink (refusals.TooLarge at)
+      → FlowStops declines limit (body_context context) before (byte ∷ []) sink sink (refusals.TooLarge at)
   stops_large t sink header size more whole ends over =
       record {
         taken = [];
@@ -112,8 +112,8 @@ module _ {S : Type 0} (agrees : S → List Placed → Type 0) (declines : S → 
         unrefused = refl;
         unheard = refl;
         why = inl (
-          refused-one limit (context_of context) before byte
-              ∙ large-refusal limit (context_of context) before u byte header size refl (ap fixed_header_of (sym more.is) ∙ whole) (ends ∙ ap length more.is) over,
+          refused-one limit (body_context context) before byte
+              ∙ large-refusal limit (body_context context) before u byte header size refl (ap fixed_header_of (sym more.is) ∙ whole) (ends ∙ ap length more.is) over,
           refl,
         );
       }
@@ -123,31 +123,31 @@ module _ {S : Type 0} (agrees : S → List Placed → Type 0) (declines : S → 
       → fixed_header_of t ≡ headers.Whole header size → (header ≡ length t → size ≤ limit) → size ≡ length t
       → OnOk r (frame_refusal at (flow_of at (going_on []) c) context.direction t ≡ None)
       → OnOk r (c' ≡ connections_then context.server c (frame_event context.direction t))
-      → ((earlier : List Placed) → agrees old earlier → AreEvents (put (flow_placed_with (context_of context) (flow_of at (going_on []) c) (frame_event context.direction t)) earlier)
-      → OnOk r (agrees new (put (flow_placed_with (context_of context) (flow_of at (going_on []) c) (frame_event context.direction t)) earlier)))
-      → OnOk r (FlowComes agrees limit (context_of context) before (flow_of (at + 1) (going_on []) c') (byte ∷ []) old new)
+      → ((earlier : List Placed) → agrees old earlier → AreEvents (put (flow_placed_with (body_context context) (flow_of at (going_on []) c) (frame_event context.direction t)) earlier)
+      → OnOk r (agrees new (put (flow_placed_with (body_context context) (flow_of at (going_on []) c) (frame_event context.direction t)) earlier)))
+      → OnOk r (FlowComes agrees limit (body_context context) before (flow_of (at + 1) (going_on []) c') (byte ∷ []) old new)
   frame_comes {A} r t header size c' old new more whole may all =
       (let known : Fits limit t size = fits limit u byte header size t more whole may in
       let inside : length t ≤ limit = omega (arith, known.within, all) in
       let P : List ℕ → Type 0 = λ x. frame_size x ≡ Some (length x) → length x ≤ limit
       → OnOk r (frame_refusal at (flow_of at (going_on []) c) context.direction x ≡ None)
       → OnOk r (c' ≡ connections_then context.server c (frame_event context.direction x))
-      → ((earlier : List Placed) → agrees old earlier → AreEvents (put (flow_placed_with (context_of context) (flow_of at (going_on []) c) (frame_event context.direction x)) earlier)
-      → OnOk r (agrees new (put (flow_placed_with (context_of context) (flow_of at (going_on []) c) (frame_event context.direction x)) earlier)))
-      → OnOk r (FlowComes agrees limit (context_of context) before (flow_of (at + 1) (going_on []) c') (byte ∷ []) old new) in
+      → ((earlier : List Placed) → agrees old earlier → AreEvents (put (flow_placed_with (body_context context) (flow_of at (going_on []) c) (frame_event context.direction x)) earlier)
+      → OnOk r (agrees new (put (flow_placed_with (body_context context) (flow_of at (going_on []) c) (frame_event context.direction x)) earlier)))
+      → OnOk r (FlowComes agrees limit (body_context context) before (flow_of (at + 1) (going_on []) c') (byte ∷ []) old new) in
       let emitted : P (u ++ byte ∷ []) = λ frame within. comes_of agrees declines limit context at at c u (byte ∷ []) frame (omega arith) (omega arith) within r c' old new in
       subst P (sym more.is) emitted (whole_frame t header size whole all) inside)
 
   pub frame_stops : {A : Type 0} (r : Result A Refusal) (t : List ℕ) (header size : ℕ) (old new : S) → IsByteMore limit u byte t
       → fixed_header_of t ≡ headers.Whole header size → (header ≡ length t → size ≤ limit) → size ≡ length t
-      → IfErr r (λ refusal. NotEmitted declines at (frame_refusal at (flow_of at (going_on []) c) context.direction t) (put (flow_placed_with (context_of context) (flow_of at (going_on []) c) (frame_event context.direction t)) []) old new refusal)
-      → IfErr r (λ refusal. FlowStops declines limit (context_of context) before (byte ∷ []) old new refusal)
+      → IfErr r (λ refusal. NotEmitted declines at (frame_refusal at (flow_of at (going_on []) c) context.direction t) (put (flow_placed_with (body_context context) (flow_of at (going_on []) c) (frame_event context.direction t)) []) old new refusal)
+      → IfErr r (λ refusal. FlowStops declines limit (body_context context) before (byte ∷ []) old new refusal)
   frame_stops {A} r t header size old new more whole may all =
       (let known : Fits limit t size = fits limit u byte header size t more whole may in
       let inside : length t ≤ limit = omega (arith, known.within, all) in
       let P : List ℕ → Type 0 = λ x. frame_size x ≡ Some (length x) → length x ≤ limit
-      → IfErr r (λ refusal. NotEmitted declines at (frame_refusal at (flow_of at (going_on []) c) context.direction x) (put (flow_placed_with (context_of context) (flow_of at (going_on []) c) (frame_event context.direction x)) []) old new refusal)
-      → IfErr r (λ refusal. FlowStops declines limit (context_of context) before (byte ∷ []) old new refusal) in
+      → IfErr r (λ refusal. NotEmitted declines at (frame_refusal at (flow_of at (going_on []) c) context.direction x) (put (flow_placed_with (body_context context) (flow_of at (going_on []) c) (frame_event context.direction x)) []) old new refusal)
+      → IfErr r (λ refusal. FlowStops declines limit (body_context context) before (byte ∷ []) old new refusal) in
       let emitted : P (u ++ byte ∷ []) = λ frame within. stops_of agrees declines limit context at at c u (byte ∷ []) frame (omega arith) (omega arith) within r old new in
       subst P (sym more.is) emitted (whole_frame t header size whole all) inside)
 
@@ -159,15 +159,15 @@ module _ {S : Type 0} (agrees : S → List Placed → Type 0) (declines : S → 
   is_gone : (t : List ℕ) → IsByteMore limit u byte t → fixed_header_of t ≡ headers.Lost → is_lost (u ++ byte ∷ []) ≡ true
   is_gone t more lost_there = header_lost (u ++ byte ∷ []) (ap fixed_header_of (sym more.is) ∙ lost_there)
 
-  lost_behind : is_lost (u ++ byte ∷ []) ≡ true → flow_behind (context_of context) before (byte ∷ []) ≡ flow_of (at + 1) lost_state (connections_with context.server c (going context.direction lost))
-  lost_behind l = loses-after (context_of context) before u byte refl l ∙ flow_then context (at + 1) lost_state c (Some lost)
+  lost_behind : is_lost (u ++ byte ∷ []) ≡ true → flow_behind (body_context context) before (byte ∷ []) ≡ flow_of (at + 1) lost_state (connections_with context.server c (going context.direction lost))
+  lost_behind l = loses-after (body_context context) before u byte refl l ∙ flow_then context (at + 1) lost_state c (Some lost)
 
-  lost_heard : is_lost (u ++ byte ∷ []) ≡ true → flow_heard (context_of context) before (byte ∷ []) ≡ next_placed c context.record_no (going context.direction lost) ∷ []
-  lost_heard l = ap (λ (o : Option Placed). put o []) (loses-placed (context_of context) before u byte refl l)
+  lost_heard : is_lost (u ++ byte ∷ []) ≡ true → flow_heard (body_context context) before (byte ∷ []) ≡ next_placed c context.record_no (going context.direction lost) ∷ []
+  lost_heard l = ap (λ (o : Option Placed). put o []) (loses-placed (body_context context) before u byte refl l)
 
   -- What is lost isn't early.
-  lost_met : is_lost (u ++ byte ∷ []) ≡ true → flow_refused limit (context_of context) before (byte ∷ []) ≡ event_refusal at c (going context.direction lost)
-  lost_met l = refused-one limit (context_of context) before byte ∙ loses-refusal limit (context_of context) before u byte refl l ∙ sym (in_time context.direction)
+  lost_met : is_lost (u ++ byte ∷ []) ≡ true → flow_refused limit (body_context context) before (byte ∷ []) ≡ event_refusal at c (going context.direction lost)
+  lost_met l = refused-one limit (body_context context) before byte ∙ loses-refusal limit (body_context context) before u byte refl l ∙ sym (in_time context.direction)
     where
       in_time : (direction : Direction) → event_refusal at c (going direction lost) ≡ first_standing ((nat_le 4294967295 c.events, refusals.TooLong at) ∷ [])
       in_time directions.Sent = refl
@@ -176,11 +176,11 @@ module _ {S : Type 0} (agrees : S → List Placed → Type 0) (declines : S → 
   pub lost_comes : {A : Type 0} (r : Result A Refusal) (t : List ℕ) (c' : Connections) (old new : S) → IsByteMore limit u byte t → fixed_header_of t ≡ headers.Lost
       → OnOk r ((event_refusal at c (going context.direction lost) ≡ None) × (c' ≡ connections_with context.server c (going context.direction lost)))
       → ((earlier : List Placed) → agrees old earlier → AreEvents (next_placed c context.record_no (going context.direction lost) ∷ earlier) → OnOk r (agrees new (next_placed c context.record_no (going context.direction lost) ∷ earlier)))
-      → OnOk r (FlowComes agrees limit (context_of context) before (flow_of (at + 1) lost_state c') (byte ∷ []) old new)
+      → OnOk r (FlowComes agrees limit (body_context context) before (flow_of (at + 1) lost_state c') (byte ∷ []) old new)
   lost_comes (Err refusal) t c' old new more lost_there ok emitted = tt
   lost_comes (Ok x) t c' old new more lost_there ok emitted =
       (let l : is_lost (u ++ byte ∷ []) ≡ true = is_gone t more lost_there in
-      let same : (earlier : List Placed) → flow_heard (context_of context) before (byte ∷ []) ++ earlier ≡ next_placed c context.record_no (going context.direction lost) ∷ earlier
+      let same : (earlier : List Placed) → flow_heard (body_context context) before (byte ∷ []) ++ earlier ≡ next_placed c context.record_no (going context.direction lost) ∷ earlier
       = λ earlier. ap (λ (heard : List Placed). heard ++ earlier) (lost_heard l) in
       record {
         unrefused = lost_met l ∙ ok.0;
@@ -190,7 +190,7 @@ module _ {S : Type 0} (agrees : S → List Placed → Type 0) (declines : S → 
 
   pub lost_stops : {A : Type 0} (r : Result A Refusal) (t : List ℕ) (old new : S) → IsByteMore limit u byte t → fixed_header_of t ≡ headers.Lost
       → IfErr r (λ refusal. NotEmitted declines at (event_refusal at c (going context.direction lost)) (next_placed c context.record_no (going context.direction lost) ∷ []) old new refusal)
-      → IfErr r (λ refusal. FlowStops declines limit (context_of context) before (byte ∷ []) old new refusal)
+      → IfErr r (λ refusal. FlowStops declines limit (body_context context) before (byte ∷ []) old new refusal)
   lost_stops (Ok x) t old new more lost_there unemitted = tt
   lost_stops (Err refusal) t old new more lost_there unemitted =
       (let l : is_lost (u ++ byte ∷ []) ≡ true = is_gone t more lost_there in
@@ -202,8 +202,8 @@ module _ {S : Type 0} (agrees : S → List Placed → Type 0) (declines : S → 
         is = refl;
         unrefused = refl;
         unheard = refl;
-        why = subst (λ (n : ℕ). FlowWhy declines limit n (so_far_in (going_on u) byte) (flow_refused limit (context_of context) before (byte ∷ [])) (flow_heard (context_of context) before (byte ∷ [])) old new refusal) here
-            (why_by (so_far_in (going_on u) byte) (flow_refused limit (context_of context) before (byte ∷ [])) (flow_heard (context_of context) before (byte ∷ [])) (lost_met l) (lost_heard l) unemitted);
+        why = subst (λ (n : ℕ). FlowWhy declines limit n (so_far_in (going_on u) byte) (flow_refused limit (body_context context) before (byte ∷ [])) (flow_heard (body_context context) before (byte ∷ [])) old new refusal) here
+            (why_by (so_far_in (going_on u) byte) (flow_refused limit (body_context context) before (byte ∷ [])) (flow_heard (body_context context) before (byte ∷ [])) (lost_met l) (lost_heard l) unemitted);
       })
     where
       why_by : (so_far : List ℕ) (met : Option Refusal) (heard : List Placed) → met ≡ event_refusal at c (going context.direction lost) → heard ≡ next_placed c context.record_no (going context.direction lost) ∷ []

@@ -24,7 +24,7 @@ use Rattle.mq_trace.specs.Hearing.{AreEvents}
 use Rattle.mq_trace.specs.Keeping.{IsShort, IsUnfinished}
 use Rattle.mq_trace.specs.Emission.{connections_with, RefusedBySink, NotEmitted}
 use Rattle.mq_trace.specs.Flows.{BodyContext, Flow, going, flow_refusal, flow_placed_with, flow_with, flow_behind, flow_refused, flow_heard}
-use Rattle.mq_trace.specs.Deframing.{context_of, flow_of, frame_event, frame_refusal, connections_then, NeedsMemory, FlowWhy, FlowStops, FlowComes}
+use Rattle.mq_trace.specs.Deframing.{body_context, flow_of, frame_event, frame_refusal, connections_then, NeedsMemory, FlowWhy, FlowStops, FlowComes}
 use Rattle.mq_trace.proofs.FlowLaws.{lost-behind, HasLast, has_last, IsQuiet, until_last, quiet-refused, quiet-heard, quiet-behind, short-refused, short-heard, short-behind, complete-refused-within, complete-heard-frame, complete-behind-frame}
 
 -- a direction that isn't lost, with these bytes of an unfinished packet
@@ -38,7 +38,7 @@ with_item server c directions.Recv item = refl
 
 -- what is kept after an item, if there is one
 pub flow_then : (context : ContextInMemory) (at : ℕ) (state : StreamState) (c : Connections) (item : Option Item)
-    → flow_with (context_of context) (flow_of at state c) (option_map (going context.direction) item) ≡ flow_of at state (connections_then context.server c (option_map (going context.direction) item))
+    → flow_with (body_context context) (flow_of at state c) (option_map (going context.direction) item) ≡ flow_of at state (connections_then context.server c (option_map (going context.direction) item))
 flow_then context at state c None = refl
 flow_then context at state c (Some item) = ap (λ (k : Connections). flow_of at state k) (sym (with_item context.server c context.direction item))
 
@@ -150,17 +150,17 @@ module _ {S : Type 0} (agrees : S → List Placed → Type 0) (declines : S → 
   -- The bytes that complete a packet come to what telling it comes to ..
   pub completes : (c' : Connections) (old new : S) → frame_refusal last (flow_of last (going_on []) c) context.direction (u ++ bytes) ≡ None
       → c' ≡ connections_then context.server c (frame_event context.direction (u ++ bytes))
-      → ((earlier : List Placed) → agrees old earlier → AreEvents (put (flow_placed_with (context_of context) (flow_of last (going_on []) c) (frame_event context.direction (u ++ bytes))) earlier)
-      → agrees new (put (flow_placed_with (context_of context) (flow_of last (going_on []) c) (frame_event context.direction (u ++ bytes))) earlier))
-      → FlowComes agrees limit (context_of context) (flow_of at (going_on u) c) (flow_of (at + length bytes) (going_on []) c') bytes old new
+      → ((earlier : List Placed) → agrees old earlier → AreEvents (put (flow_placed_with (body_context context) (flow_of last (going_on []) c) (frame_event context.direction (u ++ bytes))) earlier)
+      → agrees new (put (flow_placed_with (body_context context) (flow_of last (going_on []) c) (frame_event context.direction (u ++ bytes))) earlier))
+      → FlowComes agrees limit (body_context context) (flow_of at (going_on u) c) (flow_of (at + length bytes) (going_on []) c') bytes old new
   completes c' old new met kept emitted =
-      (let heard : flow_heard (context_of context) (flow_of at (going_on u) c) bytes ≡ put (flow_placed_with (context_of context) (flow_of at (going_on u) c) (frame_event context.direction (u ++ bytes))) []
-      = complete-heard-frame (context_of context) (flow_of at (going_on u) c) u bytes refl whole some in
-      let same : (earlier : List Placed) → flow_heard (context_of context) (flow_of at (going_on u) c) bytes ++ earlier ≡ put (flow_placed_with (context_of context) (flow_of last (going_on []) c) (frame_event context.direction (u ++ bytes))) earlier
-      = λ earlier. ap (λ (l : List Placed). l ++ earlier) heard ∙ put_same (context_of context) at last (going_on u) (going_on []) c (frame_event context.direction (u ++ bytes)) earlier in
+      (let heard : flow_heard (body_context context) (flow_of at (going_on u) c) bytes ≡ put (flow_placed_with (body_context context) (flow_of at (going_on u) c) (frame_event context.direction (u ++ bytes))) []
+      = complete-heard-frame (body_context context) (flow_of at (going_on u) c) u bytes refl whole some in
+      let same : (earlier : List Placed) → flow_heard (body_context context) (flow_of at (going_on u) c) bytes ++ earlier ≡ put (flow_placed_with (body_context context) (flow_of last (going_on []) c) (frame_event context.direction (u ++ bytes))) earlier
+      = λ earlier. ap (λ (l : List Placed). l ++ earlier) heard ∙ put_same (body_context context) at last (going_on u) (going_on []) c (frame_event context.direction (u ++ bytes)) earlier in
       record {
-        unrefused = complete-refused-within limit (context_of context) (flow_of at (going_on u) c) u bytes last refl whole some is_last within ∙ met;
-        kept = complete-behind-frame (context_of context) (flow_of at (going_on u) c) u bytes refl whole some
+        unrefused = complete-refused-within limit (body_context context) (flow_of at (going_on u) c) u bytes last refl whole some is_last within ∙ met;
+        kept = complete-behind-frame (body_context context) (flow_of at (going_on u) c) u bytes refl whole some
             ∙ flow_then context (at + length bytes) (going_on []) c _
             ∙ ap (λ (k : Connections). flow_of (at + length bytes) (going_on []) k) (sym kept);
         emitted = λ earlier was are. subst (agrees new) (sym (same earlier)) (emitted earlier was (subst AreEvents (same earlier) are));
@@ -168,8 +168,8 @@ module _ {S : Type 0} (agrees : S → List Placed → Type 0) (declines : S → 
 
   -- .. and stop where telling it stops: at the last of them.
   pub stops_by : HasLast bytes → (old new : S) (refusal : Refusal)
-      → NotEmitted declines last (frame_refusal last (flow_of last (going_on []) c) context.direction (u ++ bytes)) (put (flow_placed_with (context_of context) (flow_of last (going_on []) c) (frame_event context.direction (u ++ bytes))) []) old new refusal
-      → FlowStops declines limit (context_of context) (flow_of at (going_on u) c) bytes old new refusal
+      → NotEmitted declines last (frame_refusal last (flow_of last (going_on []) c) context.direction (u ++ bytes)) (put (flow_placed_with (body_context context) (flow_of last (going_on []) c) (frame_event context.direction (u ++ bytes))) []) old new refusal
+      → FlowStops declines limit (body_context context) (flow_of at (going_on u) c) bytes old new refusal
   stops_by cut old new refusal unemitted =
       (let f : Flow = flow_of at (going_on u) c in
       let joined : bytes ≡ cut.before ++ cut.byte ∷ [] = cut.joined in
@@ -177,14 +177,14 @@ module _ {S : Type 0} (agrees : S → List Placed → Type 0) (declines : S → 
       let found : (header : ℕ) × (fixed_header_of (u ++ bytes) ≡ headers.Whole header (length (u ++ bytes))) × (length (u ++ bytes) ≤ length (u ++ bytes)) = header_from_frame (u ++ bytes) (length (u ++ bytes)) whole in
       let longer : length (u ++ bytes) ≡ length (u ++ cut.before) + 1 = ap length frame ∙ length-append (u ++ cut.before) (cut.byte ∷ []) in
       let known : fixed_header_of ((u ++ cut.before) ++ cut.byte ∷ []) ≡ headers.Whole found.0 (length (u ++ bytes)) = ap fixed_header_of (sym frame) ∙ found.1 in
-      let quiet : IsQuiet limit (context_of context) f cut.before (going_on (u ++ cut.before))
-      = until_last (context_of context) f u cut.before cut.byte refl found.0 (length (u ++ bytes)) known (ap length frame) limit (inl within) in
+      let quiet : IsQuiet limit (body_context context) f cut.before (going_on (u ++ cut.before))
+      = until_last (body_context context) f u cut.before cut.byte refl found.0 (length (u ++ bytes)) known (ap length frame) limit (inl within) in
       let more : length bytes ≡ length cut.before + 1 = ap length joined ∙ length-append cut.before (cut.byte ∷ []) in
       let here : last ≡ at + length cut.before = omega arith in
-      let met : flow_refused limit (context_of context) f (cut.before ++ cut.byte ∷ []) ≡ frame_refusal last (flow_of last (going_on []) c) context.direction (u ++ bytes)
-      = ap (flow_refused limit (context_of context) f) (sym joined) ∙ complete-refused-within limit (context_of context) f u bytes last refl whole some is_last within in
-      let heard : flow_heard (context_of context) f (cut.before ++ cut.byte ∷ []) ≡ put (flow_placed_with (context_of context) f (frame_event context.direction (u ++ bytes))) []
-      = ap (flow_heard (context_of context) f) (sym joined) ∙ complete-heard-frame (context_of context) f u bytes refl whole some in
+      let met : flow_refused limit (body_context context) f (cut.before ++ cut.byte ∷ []) ≡ frame_refusal last (flow_of last (going_on []) c) context.direction (u ++ bytes)
+      = ap (flow_refused limit (body_context context) f) (sym joined) ∙ complete-refused-within limit (body_context context) f u bytes last refl whole some is_last within in
+      let heard : flow_heard (body_context context) f (cut.before ++ cut.byte ∷ []) ≡ put (flow_placed_with (body_context context) f (frame_event context.direction (u ++ bytes))) []
+      = ap (flow_heard (body_context context) f) (sym joined) ∙ complete-heard-frame (body_context context) f u bytes refl whole some in
       record {
         taken = cut.before;
         byte = cut.byte;
@@ -192,21 +192,21 @@ module _ {S : Type 0} (agrees : S → List Placed → Type 0) (declines : S → 
         is = joined;
         unrefused = quiet.refused;
         unheard = quiet.heard;
-        why = subst (λ (n : ℕ). FlowWhy declines limit n (so_far_in (flow_behind (context_of context) f cut.before).state cut.byte) (flow_refused limit (context_of context) f (cut.before ++ cut.byte ∷ []))
-            (flow_heard (context_of context) f (cut.before ++ cut.byte ∷ [])) old new refusal) here
-            (why_by (so_far_in (flow_behind (context_of context) f cut.before).state cut.byte) (flow_refused limit (context_of context) f (cut.before ++ cut.byte ∷ []))
-            (flow_heard (context_of context) f (cut.before ++ cut.byte ∷ [])) met (heard ∙ ap (λ (o : Option Placed). put o []) (placed_same (context_of context) at last (going_on u) (going_on []) c (frame_event context.direction (u ++ bytes)))) old new refusal unemitted);
+        why = subst (λ (n : ℕ). FlowWhy declines limit n (so_far_in (flow_behind (body_context context) f cut.before).state cut.byte) (flow_refused limit (body_context context) f (cut.before ++ cut.byte ∷ []))
+            (flow_heard (body_context context) f (cut.before ++ cut.byte ∷ [])) old new refusal) here
+            (why_by (so_far_in (flow_behind (body_context context) f cut.before).state cut.byte) (flow_refused limit (body_context context) f (cut.before ++ cut.byte ∷ []))
+            (flow_heard (body_context context) f (cut.before ++ cut.byte ∷ [])) met (heard ∙ ap (λ (o : Option Placed). put o []) (placed_same (body_context context) at last (going_on u) (going_on []) c (frame_event context.direction (u ++ bytes)))) old new refusal unemitted);
       })
     where
       -- what isn't met is an item, and is received
       one_heard : (event : Option Event) → frame_event context.direction (u ++ bytes) ≡ event → frame_refusal last (flow_of last (going_on []) c) context.direction (u ++ bytes) ≡ None
-          → length (put (flow_placed_with (context_of context) (flow_of last (going_on []) c) (frame_event context.direction (u ++ bytes))) []) ≡ 1
+          → length (put (flow_placed_with (body_context context) (flow_of last (going_on []) c) (frame_event context.direction (u ++ bytes))) []) ≡ 1
       one_heard None e none = let some : frame_refusal last (flow_of last (going_on []) c) context.direction (u ++ bytes) ≡ Some (refusals.OtherVersion last) = met_none last (flow_of last (going_on []) c) context.direction (u ++ bytes) e in absurd (cc)
-      one_heard (Some event) e none = ap (λ (o : Option Event). length (put (flow_placed_with (context_of context) (flow_of last (going_on []) c) o) [])) e
+      one_heard (Some event) e none = ap (λ (o : Option Event). length (put (flow_placed_with (body_context context) (flow_of last (going_on []) c) o) [])) e
 
       why_by : (so_far : List ℕ) (met : Option Refusal) (heard : List Placed) → met ≡ frame_refusal last (flow_of last (going_on []) c) context.direction (u ++ bytes)
-          → heard ≡ (put (flow_placed_with (context_of context) (flow_of last (going_on []) c) (frame_event context.direction (u ++ bytes))) []) → (old new : S) (refusal : Refusal)
-          → NotEmitted declines last (frame_refusal last (flow_of last (going_on []) c) context.direction (u ++ bytes)) (put (flow_placed_with (context_of context) (flow_of last (going_on []) c) (frame_event context.direction (u ++ bytes))) []) old new refusal
+          → heard ≡ (put (flow_placed_with (body_context context) (flow_of last (going_on []) c) (frame_event context.direction (u ++ bytes))) []) → (old new : S) (refusal : Refusal)
+          → NotEmitted declines last (frame_refusal last (flow_of last (going_on []) c) context.direction (u ++ bytes)) (put (flow_placed_with (body_context context) (flow_of last (going_on []) c) (frame_event context.direction (u ++ bytes))) []) old new refusal
           → FlowWhy declines limit last so_far met heard old new refusal
       why_by so_far met heard same one old new refusal (inl x) = inl (same ∙ x.0, x.1)
       why_by so_far met heard same one old new refusal (inr x) =
@@ -214,14 +214,14 @@ module _ {S : Type 0} (agrees : S → List Placed → Type 0) (declines : S → 
 
   pub comes_of : {A : Type 0} (r : Result A Refusal) (c' : Connections) (old new : S) → OnOk r (frame_refusal last (flow_of last (going_on []) c) context.direction (u ++ bytes) ≡ None)
       → OnOk r (c' ≡ connections_then context.server c (frame_event context.direction (u ++ bytes)))
-      → ((earlier : List Placed) → agrees old earlier → AreEvents (put (flow_placed_with (context_of context) (flow_of last (going_on []) c) (frame_event context.direction (u ++ bytes))) earlier)
-      → OnOk r (agrees new (put (flow_placed_with (context_of context) (flow_of last (going_on []) c) (frame_event context.direction (u ++ bytes))) earlier)))
-      → OnOk r (FlowComes agrees limit (context_of context) (flow_of at (going_on u) c) (flow_of (at + length bytes) (going_on []) c') bytes old new)
+      → ((earlier : List Placed) → agrees old earlier → AreEvents (put (flow_placed_with (body_context context) (flow_of last (going_on []) c) (frame_event context.direction (u ++ bytes))) earlier)
+      → OnOk r (agrees new (put (flow_placed_with (body_context context) (flow_of last (going_on []) c) (frame_event context.direction (u ++ bytes))) earlier)))
+      → OnOk r (FlowComes agrees limit (body_context context) (flow_of at (going_on u) c) (flow_of (at + length bytes) (going_on []) c') bytes old new)
   comes_of (Ok x) c' old new met kept emitted = completes c' old new met kept emitted
   comes_of (Err refusal) c' old new met kept emitted = tt
 
-  pub stops_of : {A : Type 0} (r : Result A Refusal) (old new : S) → IfErr r (λ refusal. NotEmitted declines last (frame_refusal last (flow_of last (going_on []) c) context.direction (u ++ bytes)) (put (flow_placed_with (context_of context) (flow_of last (going_on []) c) (frame_event context.direction (u ++ bytes))) []) old new refusal)
-      → IfErr r (λ refusal. FlowStops declines limit (context_of context) (flow_of at (going_on u) c) bytes old new refusal)
+  pub stops_of : {A : Type 0} (r : Result A Refusal) (old new : S) → IfErr r (λ refusal. NotEmitted declines last (frame_refusal last (flow_of last (going_on []) c) context.direction (u ++ bytes)) (put (flow_placed_with (body_context context) (flow_of last (going_on []) c) (frame_event context.direction (u ++ bytes))) []) old new refusal)
+      → IfErr r (λ refusal. FlowStops declines limit (body_context context) (flow_of at (going_on u) c) bytes old new refusal)
   stops_of (Ok x) old new unemitted = tt
   stops_of (Err refusal) old new unemitted = stops_by (has_last bytes some) old new refusal unemitted
 
@@ -236,32 +236,32 @@ module _ {S : Type 0} (agrees : S → List Placed → Type 0) (declines : S → 
   pub ended : {A : Type 0} (r : Result A Refusal) (new_state : StreamState) (c' : Connections) (old new : S) → OnOk r (new_state ≡ record { unfinished = []; lost = kept_state.lost })
       → OnOk r (frame_refusal last (flow_of last (going_on []) c) context.direction kept_state.unfinished ≡ None)
       → OnOk r (c' ≡ connections_then context.server c (frame_event context.direction kept_state.unfinished))
-      → ((earlier : List Placed) → agrees old earlier → AreEvents (put (flow_placed_with (context_of context) (flow_of last (going_on []) c) (frame_event context.direction kept_state.unfinished)) earlier)
-      → OnOk r (agrees new (put (flow_placed_with (context_of context) (flow_of last (going_on []) c) (frame_event context.direction kept_state.unfinished)) earlier)))
-      → OnOk r (FlowComes agrees limit (context_of context) (flow_of at old_state c) (flow_of (at + length bytes) new_state c') bytes old new)
+      → ((earlier : List Placed) → agrees old earlier → AreEvents (put (flow_placed_with (body_context context) (flow_of last (going_on []) c) (frame_event context.direction kept_state.unfinished)) earlier)
+      → OnOk r (agrees new (put (flow_placed_with (body_context context) (flow_of last (going_on []) c) (frame_event context.direction kept_state.unfinished)) earlier)))
+      → OnOk r (FlowComes agrees limit (body_context context) (flow_of at old_state c) (flow_of (at + length bytes) new_state c') bytes old new)
   ended (Err refusal) new_state c' old new empty met kept emitted = tt
   ended (Ok x) new_state c' old new empty met kept emitted =
       (let frame : kept_state.unfinished ≡ old_state.unfinished ++ bytes = ap (λ (h : StreamState). h.unfinished) kept_is in
       let gone : new_state ≡ going_on [] = empty ∙ ap (λ (l : Bool). record { unfinished = []; lost = l }) (ap (λ (h : StreamState). h.lost) kept_is ∙ open_yet) in
-      let P : List ℕ → Type 0 = λ (t : List ℕ). (earlier : List Placed) → agrees old earlier → AreEvents (put (flow_placed_with (context_of context) (flow_of last (going_on []) c) (frame_event context.direction t)) earlier)
-      → agrees new (put (flow_placed_with (context_of context) (flow_of last (going_on []) c) (frame_event context.direction t)) earlier) in
-      let comes : FlowComes agrees limit (context_of context) (flow_of at (going_on old_state.unfinished) c) (flow_of (at + length bytes) (going_on []) c') bytes old new
+      let P : List ℕ → Type 0 = λ (t : List ℕ). (earlier : List Placed) → agrees old earlier → AreEvents (put (flow_placed_with (body_context context) (flow_of last (going_on []) c) (frame_event context.direction t)) earlier)
+      → agrees new (put (flow_placed_with (body_context context) (flow_of last (going_on []) c) (frame_event context.direction t)) earlier) in
+      let comes : FlowComes agrees limit (body_context context) (flow_of at (going_on old_state.unfinished) c) (flow_of (at + length bytes) (going_on []) c') bytes old new
       = completes agrees declines limit context at last c old_state.unfinished bytes whole some is_last within c' old new
       (ap (λ (t : List ℕ). frame_refusal last (flow_of last (going_on []) c) context.direction t) (sym frame) ∙ met)
       (kept ∙ ap (λ (t : List ℕ). connections_then context.server c (frame_event context.direction t)) frame)
       (subst P frame emitted) in
-      subst (λ (h : StreamState). FlowComes agrees limit (context_of context) (flow_of at h c) (flow_of (at + length bytes) new_state c') bytes old new) (sym state_is)
-      (subst (λ (h : StreamState). FlowComes agrees limit (context_of context) (flow_of at (going_on old_state.unfinished) c) (flow_of (at + length bytes) h c') bytes old new) (sym gone) comes))
+      subst (λ (h : StreamState). FlowComes agrees limit (body_context context) (flow_of at h c) (flow_of (at + length bytes) new_state c') bytes old new) (sym state_is)
+      (subst (λ (h : StreamState). FlowComes agrees limit (body_context context) (flow_of at (going_on old_state.unfinished) c) (flow_of (at + length bytes) h c') bytes old new) (sym gone) comes))
 
-  pub ended_stops : {A : Type 0} (r : Result A Refusal) (old new : S) → IfErr r (λ refusal. NotEmitted declines last (frame_refusal last (flow_of last (going_on []) c) context.direction kept_state.unfinished) (put (flow_placed_with (context_of context) (flow_of last (going_on []) c) (frame_event context.direction kept_state.unfinished)) []) old new refusal)
-      → IfErr r (λ refusal. FlowStops declines limit (context_of context) (flow_of at old_state c) bytes old new refusal)
+  pub ended_stops : {A : Type 0} (r : Result A Refusal) (old new : S) → IfErr r (λ refusal. NotEmitted declines last (frame_refusal last (flow_of last (going_on []) c) context.direction kept_state.unfinished) (put (flow_placed_with (body_context context) (flow_of last (going_on []) c) (frame_event context.direction kept_state.unfinished)) []) old new refusal)
+      → IfErr r (λ refusal. FlowStops declines limit (body_context context) (flow_of at old_state c) bytes old new refusal)
   ended_stops (Ok x) old new unemitted = tt
   ended_stops (Err refusal) old new unemitted =
       (let frame : kept_state.unfinished ≡ old_state.unfinished ++ bytes = ap (λ (h : StreamState). h.unfinished) kept_is in
-      let stops : FlowStops declines limit (context_of context) (flow_of at (going_on old_state.unfinished) c) bytes old new refusal
+      let stops : FlowStops declines limit (body_context context) (flow_of at (going_on old_state.unfinished) c) bytes old new refusal
       = stops_by agrees declines limit context at last c old_state.unfinished bytes whole some is_last within (has_last bytes some) old new refusal
-      (subst (λ (t : List ℕ). NotEmitted declines last (frame_refusal last (flow_of last (going_on []) c) context.direction t) (put (flow_placed_with (context_of context) (flow_of last (going_on []) c) (frame_event context.direction t)) []) old new refusal) frame unemitted) in
-      subst (λ (h : StreamState). FlowStops declines limit (context_of context) (flow_of at h c) bytes old new refusal) (sym state_is) stops)
+      (subst (λ (t : List ℕ). NotEmitted declines last (frame_refusal last (flow_of last (going_on []) c) context.direction t) (put (flow_placed_with (body_context context) (flow_of last (going_on []) c) (frame_event context.direction t)) []) old new refusal) frame unemitted) in
+      subst (λ (h : StreamState). FlowStops declines limit (body_context context) (flow_of at h c) bytes old new refusal) (sym state_is) stops)
 
 -- A direction with no unfinished packet.
 pub nothing_unfinished : (limit : ℕ) (lost : Bool) → IsUnfinished limit (record { unfinished = []; lost = lost })

@@ -13,8 +13,8 @@ use Rattle.mq_trace.specs.Hearing.{AreEvents}
 use Rattle.mq_trace.specs.Flows.{BodyContext, Flow, going, comes_early, flow_refused, flow_behind, flow_heard}
 use Rattle.mq_trace.specs.Emission.{connections_with, RefusedBySink}
 
-abbrev pub context_of : ContextInMemory → BodyContext
-context_of context = record { direction = context.direction; server = context.server; record_no = context.record_no }
+abbrev pub body_context : ContextInMemory → BodyContext
+body_context context = record { direction = context.direction; server = context.server; record_no = context.record_no }
 
 abbrev pub flow_of : ℕ → StreamState → Connections → Flow
 flow_of at state c = record { at = at; state = state; events = c.events; connected = c.connected; connack_seen = c.connack_seen }

@@ -17,7 +17,7 @@ ghost use Rattle.mq_trace.specs.Emission.{NotEmitted, event_refusal, connections
 ghost use Rattle.mq_trace.specs.Keeping.{state_in, IsUnfinished};
 ghost use Rattle.mq_trace.specs.Settling.{IsByteMore, IsStep};
 ghost use Rattle.mq_trace.specs.Flows.{going, flow_placed_with, flow_refused, flow_heard, flow_behind};
-ghost use Rattle.mq_trace.specs.Deframing.{context_of, flow_of, frame_event, frame_refusal, connections_then, FlowStops, FlowComes};
+ghost use Rattle.mq_trace.specs.Deframing.{body_context, flow_of, frame_event, frame_refusal, connections_then, FlowStops, FlowComes};
 
 use super::connections::{Connections, emit, emit_publish};
 use super::event::{Item, going};
@@ -106,13 +106,13 @@ impl Deframer {
         requires room { at + length bytes.now < 2 ^ 64 }
         requires unfinished { IsUnfinished context.limit (state_in self.old) }
         ensures count { IfOk result (λ n. (1 ≤ n) × (n ≤ length bytes.now)) }
-        ensures unrefused { IfOk result (λ n. flow_refused context.limit (context_of context) (flow_of at (state_in self.old) connections.old) (take n bytes.now) ≡ None) }
-        ensures kept { IfOk result (λ n. flow_behind (context_of context) (flow_of at (state_in self.old) connections.old) (take n bytes.now) ≡ flow_of (at + n) (state_in self.new) connections.new) }
+        ensures unrefused { IfOk result (λ n. flow_refused context.limit (body_context context) (flow_of at (state_in self.old) connections.old) (take n bytes.now) ≡ None) }
+        ensures kept { IfOk result (λ n. flow_behind (body_context context) (flow_of at (state_in self.old) connections.old) (take n bytes.now) ≡ flow_of (at + n) (state_in self.new) connections.new) }
         ensures heard { (earlier : List Placed) → S.agrees sink.old earlier → IfOk result (λ n.
-            AreEvents (flow_heard (context_of context) (flow_of at (state_in self.old) connections.old) (take n bytes.now) ++ earlier)
-            → S.agrees sink.new (flow_heard (context_of context) (flow_of at (state_in self.old) connections.old) (take n bytes.now) ++ earlier)) }
+            AreEvents (flow_heard (body_context context) (flow_of at (state_in self.old) connections.old) (take n bytes.now) ++ earlier)
+            → S.agrees sink.new (flow_heard (body_context context) (flow_of at (state_in self.old) connections.old) (take n bytes.now) ++ earlier)) }
         ensures sound { OnOk result (IsUnfinished context.limit (state_in self.new)) }
-        ensures stops { IfErr result (λ refusal. FlowStops (Declines S.agrees S.refuses) context.limit (context_of context) (flow_of at (state_in self.old) connections.old) bytes.now sink.old sink.new refusal) }
+        ensures stops { IfErr result (λ refusal. FlowStops (Declines S.agrees S.refuses) context.limit (body_context context) (flow_of at (state_in self.old) connections.old) bytes.now sink.old sink.new refusal) }
     {
         if self.lost {
             return Ok(bytes.len());
@@ -186,10 +186,10 @@ impl Deframer {
         requires kept { self.old.lost ≡ false }
         requires begun { (header : ℕ) × (fixed_header_of self.old.unfinished.items ≡ headers.Whole header size) }
         ensures count { IfOk result (λ n. (1 ≤ n) × (n ≤ length bytes.now)) }
-        ensures comes { IfOk result (λ n. FlowComes S.agrees context.limit (context_of context) (flow_of at (state_in self.old) connections.old)
+        ensures comes { IfOk result (λ n. FlowComes S.agrees context.limit (body_context context) (flow_of at (state_in self.old) connections.old)
             (flow_of (at + n) (state_in self.new) connections.new) (take n bytes.now) sink.old sink.new) }
         ensures sound { OnOk result (IsUnfinished context.limit (state_in self.new)) }
-        ensures stops { IfErr result (λ refusal. FlowStops (Declines S.agrees S.refuses) context.limit (context_of context) (flow_of at (state_in self.old) connections.old) bytes.now sink.old sink.new refusal) }
+        ensures stops { IfErr result (λ refusal. FlowStops (Declines S.agrees S.refuses) context.limit (body_context context) (flow_of at (state_in self.old) connections.old) bytes.now sink.old sink.new refusal) }
     {
         let lacks = size - self.unfinished.len();
         if bytes.len() < lacks {
@@ -242,10 +242,10 @@ impl Deframer {
         requires kept { self.old.lost ≡ false }
         requires whole { frame_size (self.old.unfinished.items ++ bytes.now) ≡ Some (length (self.old.unfinished.items ++ bytes.now)) }
         requires within { length (self.old.unfinished.items ++ bytes.now) ≤ context.limit }
-        ensures comes { OnOk result (FlowComes S.agrees context.limit (context_of context) (flow_of at (state_in self.old) connections.old)
+        ensures comes { OnOk result (FlowComes S.agrees context.limit (body_context context) (flow_of at (state_in self.old) connections.old)
             (flow_of (at + length bytes.now) (state_in self.new) connections.new) bytes.now sink.old sink.new) }
         ensures empty { OnOk result (state_in self.new ≡ record { unfinished = []; lost = false }) }
-        ensures stops { IfErr result (λ refusal. FlowStops (Declines S.agrees S.refuses) context.limit (context_of context) (flow_of at (state_in self.old) connections.old) bytes.now sink.old sink.new refusal) }
+        ensures stops { IfErr result (λ refusal. FlowStops (Declines S.agrees S.refuses) context.limit (body_context context) (flow_of at (state_in self.old) connections.old) bytes.now sink.old sink.new refusal) }
     {
         match self.buffer(at, bytes) {
             Ok(()) => self.emit_buffered(context, connections, at + (bytes.len() - 1) as u64, sink),
@@ -270,10 +270,10 @@ impl Deframer {
         ensures met { OnOk result (frame_refusal at (flow_of at (record { unfinished = []; lost = false }) connections.old) context.direction self.old.unfinished.items ≡ None) }
         ensures kept { OnOk result (connections.new ≡ connections_then context.server connections.old (frame_event context.direction self.old.unfinished.items)) }
         ensures heard { (earlier : List Placed) → S.agrees sink.old earlier
-            → AreEvents (put (flow_placed_with (context_of context) (flow_of at (record { unfinished = []; lost = false }) connections.old) (frame_event context.direction self.old.unfinished.items)) earlier)
-            → OnOk result (S.agrees sink.new (put (flow_placed_with (context_of context) (flow_of at (record { unfinished = []; lost = false }) connections.old) (frame_event context.direction self.old.unfinished.items)) earlier)) }
+            → AreEvents (put (flow_placed_with (body_context context) (flow_of at (record { unfinished = []; lost = false }) connections.old) (frame_event context.direction self.old.unfinished.items)) earlier)
+            → OnOk result (S.agrees sink.new (put (flow_placed_with (body_context context) (flow_of at (record { unfinished = []; lost = false }) connections.old) (frame_event context.direction self.old.unfinished.items)) earlier)) }
         ensures err { IfErr result (λ refusal. NotEmitted (Declines S.agrees S.refuses) at (frame_refusal at (flow_of at (record { unfinished = []; lost = false }) connections.old) context.direction self.old.unfinished.items)
-            (put (flow_placed_with (context_of context) (flow_of at (record { unfinished = []; lost = false }) connections.old) (frame_event context.direction self.old.unfinished.items)) []) sink.old sink.new refusal) }
+            (put (flow_placed_with (body_context context) (flow_of at (record { unfinished = []; lost = false }) connections.old) (frame_event context.direction self.old.unfinished.items)) []) sink.old sink.new refusal) }
     {
         let frame = self.unfinished.as_slice();
         let emitted = emit_frame(context, connections, at, header_of(frame), frame, sink);
@@ -295,10 +295,10 @@ impl Deframer {
         requires kept { self.old.lost ≡ false }
         requires few { length self.old.unfinished.items ≤ 4 }
         requires room { at + 1 < 2 ^ 64 }
-        ensures comes { OnOk result (FlowComes S.agrees context.limit (context_of context) (flow_of at (state_in self.old) connections.old)
+        ensures comes { OnOk result (FlowComes S.agrees context.limit (body_context context) (flow_of at (state_in self.old) connections.old)
             (flow_of (at + 1) (state_in self.new) connections.new) (byte ∷ []) sink.old sink.new) }
         ensures sound { OnOk result (IsUnfinished context.limit (state_in self.new)) }
-        ensures stops { IfErr result (λ refusal. FlowStops (Declines S.agrees S.refuses) context.limit (context_of context) (flow_of at (state_in self.old) connections.old) (byte ∷ []) sink.old sink.new refusal) }
+        ensures stops { IfErr result (λ refusal. FlowStops (Declines S.agrees S.refuses) context.limit (body_context context) (flow_of at (state_in self.old) connections.old) (byte ∷ []) sink.old sink.new refusal) }
     {
         match self.buffer(at, &[byte]) {
             Ok(()) => self.check_header(context, connections, at, sink),
@@ -357,11 +357,11 @@ impl Deframer {
     ) -> Result<(), Refusal>
         requires kept { self.old.lost ≡ false }
         ensures comes { (before : List ℕ) (byte : ℕ) → IsByteMore context.limit before byte self.old.unfinished.items
-            → OnOk result (FlowComes S.agrees context.limit (context_of context) (flow_of at (record { unfinished = before; lost = false }) connections.old)
+            → OnOk result (FlowComes S.agrees context.limit (body_context context) (flow_of at (record { unfinished = before; lost = false }) connections.old)
             (flow_of (at + 1) (state_in self.new) connections.new) (byte ∷ []) sink.old sink.new) }
         ensures sound { (before : List ℕ) (byte : ℕ) → IsByteMore context.limit before byte self.old.unfinished.items → OnOk result (IsUnfinished context.limit (state_in self.new)) }
         ensures stops { (before : List ℕ) (byte : ℕ) → IsByteMore context.limit before byte self.old.unfinished.items
-            → IfErr result (λ refusal. FlowStops (Declines S.agrees S.refuses) context.limit (context_of context) (flow_of at (record { unfinished = before; lost = false }) connections.old) (byte ∷ []) sink.old sink.new refusal) }
+            → IfErr result (λ refusal. FlowStops (Declines S.agrees S.refuses) context.limit (body_context context) (flow_of at (record { unfinished = before; lost = false }) connections.old) (byte ∷ []) sink.old sink.new refusal) }
     {
         match fixed_header(self.unfinished.as_slice()) {
             FixedHeader::Short => Ok(()),
@@ -442,9 +442,9 @@ fn consume_whole<S: Sink>(
     requires whole { fixed_header_of frame.now ≡ headers.Whole header (length frame.now) }
     requires fits { length frame.now ≤ header + 268435455 }
     requires within { length frame.now ≤ context.limit }
-    ensures comes { OnOk result (FlowComes S.agrees context.limit (context_of context) (flow_of at (record { unfinished = []; lost = false }) connections.old)
+    ensures comes { OnOk result (FlowComes S.agrees context.limit (body_context context) (flow_of at (record { unfinished = []; lost = false }) connections.old)
         (flow_of (at + length frame.now) (record { unfinished = []; lost = false }) connections.new) frame.now sink.old sink.new) }
-    ensures stops { IfErr result (λ refusal. FlowStops (Declines S.agrees S.refuses) context.limit (context_of context) (flow_of at (record { unfinished = []; lost = false }) connections.old) frame.now sink.old sink.new refusal) }
+    ensures stops { IfErr result (λ refusal. FlowStops (Declines S.agrees S.refuses) context.limit (body_context context) (flow_of at (record { unfinished = []; lost = false }) connections.old) frame.now sink.old sink.new refusal) }
 {
     let last = at + (frame.len() - 1) as u64;
     emit_frame(context, connections, last, header, frame, sink)
@@ -467,10 +467,10 @@ fn emit_frame<S: Sink>(
     ensures met { OnOk result (frame_refusal at (flow_of at (record { unfinished = []; lost = false }) connections.old) context.direction frame.now ≡ None) }
     ensures kept { OnOk result (connections.new ≡ connections_then context.server connections.old (frame_event context.direction frame.now)) }
     ensures heard { (earlier : List Placed) → S.agrees sink.old earlier
-        → AreEvents (put (flow_placed_with (context_of context) (flow_of at (record { unfinished = []; lost = false }) connections.old) (frame_event context.direction frame.now)) earlier)
-        → OnOk result (S.agrees sink.new (put (flow_placed_with (context_of context) (flow_of at (record { unfinished = []; lost = false }) connections.old) (frame_event context.direction frame.now)) earlier)) }
+        → AreEvents (put (flow_placed_with (body_context context) (flow_of at (record { unfinished = []; lost = false }) connections.old) (frame_event context.direction frame.now)) earlier)
+        → OnOk result (S.agrees sink.new (put (flow_placed_with (body_context context) (flow_of at (record { unfinished = []; lost = false }) connections.old) (frame_event context.direction frame.now)) earlier)) }
     ensures err { IfErr result (λ refusal. NotEmitted (Declines S.agrees S.refuses) at (frame_refusal at (flow_of at (record { unfinished = []; lost = false }) connections.old) context.direction frame.now)
-        (put (flow_placed_with (context_of context) (flow_of at (record { unfinished = []; lost = false }) connections.old) (frame_event context.direction frame.now)) []) sink.old sink.new refusal) }
+        (put (flow_placed_with (body_context context) (flow_of at (record { unfinished = []; lost = false }) connections.old) (frame_event context.direction frame.now)) []) sink.old sink.new refusal) }
 {
     match frame[0] {
         0x30..0x40 => emit_publish_frame(context, connections, at, header, frame, sink),
@@ -495,10 +495,10 @@ fn emit_publish_frame<S: Sink>(
     ensures met { OnOk result (frame_refusal at (flow_of at (record { unfinished = []; lost = false }) connections.old) context.direction frame.now ≡ None) }
     ensures kept { OnOk result (connections.new ≡ connections_then context.server connections.old (frame_event context.direction frame.now)) }
     ensures heard { (earlier : List Placed) → S.agrees sink.old earlier
-        → AreEvents (put (flow_placed_with (context_of context) (flow_of at (record { unfinished = []; lost = false }) connections.old) (frame_event context.direction frame.now)) earlier)
-        → OnOk result (S.agrees sink.new (put (flow_placed_with (context_of context) (flow_of at (record { unfinished = []; lost = false }) connections.old) (frame_event context.direction frame.now)) earlier)) }
+        → AreEvents (put (flow_placed_with (body_context context) (flow_of at (record { unfinished = []; lost = false }) connections.old) (frame_event context.direction frame.now)) earlier)
+        → OnOk result (S.agrees sink.new (put (flow_placed_with (body_context context) (flow_of at (record { unfinished = []; lost = false }) connections.old) (frame_event context.direction frame.now)) earlier)) }
     ensures err { IfErr result (λ refusal. NotEmitted (Declines S.agrees S.refuses) at (frame_refusal at (flow_of at (record { unfinished = []; lost = false }) connections.old) context.direction frame.now)
-        (put (flow_placed_with (context_of context) (flow_of at (record { unfinished = []; lost = false }) connections.old) (frame_event context.direction frame.now)) []) sink.old sink.new refusal) }
+        (put (flow_placed_with (body_context context) (flow_of at (record { unfinished = []; lost = false }) connections.old) (frame_event context.direction frame.now)) []) sink.old sink.new refusal) }
 {
     match decode_publish(frame[0], &frame[header..]) {
         Ok(publish) => emit_publish(
@@ -529,10 +529,10 @@ fn emit_acknowledgement<S: Sink>(
     ensures met { OnOk result (frame_refusal at (flow_of at (record { unfinished = []; lost = false }) connections.old) context.direction frame.now ≡ None) }
     ensures kept { OnOk result (connections.new ≡ connections_then context.server connections.old (frame_event context.direction frame.now)) }
     ensures heard { (earlier : List Placed) → S.agrees sink.old earlier
-        → AreEvents (put (flow_placed_with (context_of context) (flow_of at (record { unfinished = []; lost = false }) connections.old) (frame_event context.direction frame.now)) earlier)
-        → OnOk result (S.agrees sink.new (put (flow_placed_with (context_of context) (flow_of at (record { unfinished = []; lost = false }) connections.old) (frame_event context.direction frame.now)) earlier)) }
+        → AreEvents (put (flow_placed_with (body_context context) (flow_of at (record { unfinished = []; lost = false }) connections.old) (frame_event context.direction frame.now)) earlier)
+        → OnOk result (S.agrees sink.new (put (flow_placed_with (body_context context) (flow_of at (record { unfinished = []; lost = false }) connections.old) (frame_event context.direction frame.now)) earlier)) }
     ensures err { IfErr result (λ refusal. NotEmitted (Declines S.agrees S.refuses) at (frame_refusal at (flow_of at (record { unfinished = []; lost = false }) connections.old) context.direction frame.now)
-        (put (flow_placed_with (context_of context) (flow_of at (record { unfinished = []; lost = false }) connections.old) (frame_event context.direction frame.now)) []) sink.old sink.new refusal) }
+        (put (flow_placed_with (body_context context) (flow_of at (record { unfinished = []; lost = false }) connections.old) (frame_event context.direction frame.now)) []) sink.old sink.new refusal) }
 {
     match frame[0] {
         0x40 | 0x50 | 0x62 | 0x70 => {
@@ -558,10 +558,10 @@ fn emit_other_frame<S: Sink>(
     ensures met { OnOk result (frame_refusal at (flow_of at (record { unfinished = []; lost = false }) connections.old) context.direction frame.now ≡ None) }
     ensures kept { OnOk result (connections.new ≡ connections_then context.server connections.old (frame_event context.direction frame.now)) }
     ensures heard { (earlier : List Placed) → S.agrees sink.old earlier
-        → AreEvents (put (flow_placed_with (context_of context) (flow_of at (record { unfinished = []; lost = false }) connections.old) (frame_event context.direction frame.now)) earlier)
-        → OnOk result (S.agrees sink.new (put (flow_placed_with (context_of context) (flow_of at (record { unfinished = []; lost = false }) connections.old) (frame_event context.direction frame.now)) earlier)) }
+        → AreEvents (put (flow_placed_with (body_context context) (flow_of at (record { unfinished = []; lost = false }) connections.old) (frame_event context.direction frame.now)) earlier)
+        → OnOk result (S.agrees sink.new (put (flow_placed_with (body_context context) (flow_of at (record { unfinished = []; lost = false }) connections.old) (frame_event context.direction frame.now)) earlier)) }
     ensures err { IfErr result (λ refusal. NotEmitted (Declines S.agrees S.refuses) at (frame_refusal at (flow_of at (record { unfinished = []; lost = false }) connections.old) context.direction frame.now)
-        (put (flow_placed_with (context_of context) (flow_of at (record { unfinished = []; lost = false }) connections.old) (frame_event context.direction frame.now)) []) sink.old sink.new refusal) }
+        (put (flow_placed_with (body_context context) (flow_of at (record { unfinished = []; lost = false }) connections.old) (frame_event context.direction frame.now)) []) sink.old sink.new refusal) }
 {
     let read = decode(frame[0], &frame[header..]);
     emit_decoded(context, connections, at, header, frame, read, sink)
@@ -584,10 +584,10 @@ fn emit_decoded<S: Sink>(
     ensures met { OnOk result (frame_refusal at (flow_of at (record { unfinished = []; lost = false }) connections.old) context.direction frame.now ≡ None) }
     ensures kept { OnOk result (connections.new ≡ connections_then context.server connections.old (frame_event context.direction frame.now)) }
     ensures heard { (earlier : List Placed) → S.agrees sink.old earlier
-        → AreEvents (put (flow_placed_with (context_of context) (flow_of at (record { unfinished = []; lost = false }) connections.old) (frame_event context.direction frame.now)) earlier)
-        → OnOk result (S.agrees sink.new (put (flow_placed_with (context_of context) (flow_of at (record { unfinished = []; lost = false }) connections.old) (frame_event context.direction frame.now)) earlier)) }
+        → AreEvents (put (flow_placed_with (body_context context) (flow_of at (record { unfinished = []; lost = false }) connections.old) (frame_event context.direction frame.now)) earlier)
+        → OnOk result (S.agrees sink.new (put (flow_placed_with (body_context context) (flow_of at (record { unfinished = []; lost = false }) connections.old) (frame_event context.direction frame.now)) earlier)) }
     ensures err { IfErr result (λ refusal. NotEmitted (Declines S.agrees S.refuses) at (frame_refusal at (flow_of at (record { unfinished = []; lost = false }) connections.old) context.direction frame.now)
-        (put (flow_placed_with (context_of context) (flow_of at (record { unfinished = []; lost = false }) connections.old) (frame_event context.direction frame.now)) []) sink.old sink.new refusal) }
+        (put (flow_placed_with (body_context context) (flow_of at (record { unfinished = []; lost = false }) connections.old) (frame_event context.direction frame.now)) []) sink.old sink.new refusal) }
 {
     match read {
         Ok(packet) => emit_packet(context, connections, at, packet, sink),
@@ -611,10 +611,10 @@ fn emit_fault<S: Sink>(
     ensures met { OnOk result (frame_refusal at (flow_of at (record { unfinished = []; lost = false }) connections.old) context.direction frame.now ≡ None) }
     ensures kept { OnOk result (connections.new ≡ connections_then context.server connections.old (frame_event context.direction frame.now)) }
     ensures heard { (earlier : List Placed) → S.agrees sink.old earlier
-        → AreEvents (put (flow_placed_with (context_of context) (flow_of at (record { unfinished = []; lost = false }) connections.old) (frame_event context.direction frame.now)) earlier)
-        → OnOk result (S.agrees sink.new (put (flow_placed_with (context_of context) (flow_of at (record { unfinished = []; lost = false }) connections.old) (frame_event context.direction frame.now)) earlier)) }
+        → AreEvents (put (flow_placed_with (body_context context) (flow_of at (record { unfinished = []; lost = false }) connections.old) (frame_event context.direction frame.now)) earlier)
+        → OnOk result (S.agrees sink.new (put (flow_placed_with (body_context context) (flow_of at (record { unfinished = []; lost = false }) connections.old) (frame_event context.direction frame.now)) earlier)) }
     ensures err { IfErr result (λ refusal. NotEmitted (Declines S.agrees S.refuses) at (frame_refusal at (flow_of at (record { unfinished = []; lost = false }) connections.old) context.direction frame.now)
-        (put (flow_placed_with (context_of context) (flow_of at (record { unfinished = []; lost = false }) connections.old) (frame_event context.direction frame.now)) []) sink.old sink.new refusal) }
+        (put (flow_placed_with (body_context context) (flow_of at (record { unfinished = []; lost = false }) connections.old) (frame_event context.direction frame.now)) []) sink.old sink.new refusal) }
 {
     match fault {
         DecodeFault::Broken(broken) => emit_bad(

@@ -2,7 +2,7 @@
 use Rattle.std.proofs.Common.{◌<◌, [], false, Err, length, sym, ap, ◌∙◌, arith, rules}
 use Rattle.mq_packet.proofs.Exports.{size_above}
 use Rattle.mq_packet.specs.declared.fault.DecodeFault.TheVariants as faults
-use Rattle.mq_trace.specs.Deframing.{context_of}
+use Rattle.mq_trace.specs.Deframing.{body_context}
 use Rattle.mq_trace.specs.Hearing.{Declines}
 use Rattle.mq_trace.proofs.ItemLaws.{fault_item, emitted_met, emitted_kept, emitted_heard, emitted_err, other_met}
 use Rattle.mq_trace.proofs.deframer.emit_fault.Goals as goal
@@ -16,22 +16,22 @@ bounds-frame-0 g c =
 pub returns-in-Broken-clause-met : goal.returns-in-Broken-clause-met
 returns-in-Broken-clause-met g c =
     let is = fault_item c.args.frame.now c.args.header (faults.Broken c.in-Broken.broken) (sym c.requires.whole) (c.requires.exact ∙ ap Err c.in-Broken.is) in
-    emitted_met g.S.Sink.agrees (Declines g.S.Sink.agrees g.S.Sink.refuses) c.emit_bad.result c.args.at (record { unfinished = []; lost = false }) c.args.connections.now (context_of c.args.context) c.args.frame.now _ is c.emit_bad.ensures.met
+    emitted_met g.S.Sink.agrees (Declines g.S.Sink.agrees g.S.Sink.refuses) c.emit_bad.result c.args.at (record { unfinished = []; lost = false }) c.args.connections.now (body_context c.args.context) c.args.frame.now _ is c.emit_bad.ensures.met
 
 pub returns-in-Broken-clause-kept : goal.returns-in-Broken-clause-kept
 returns-in-Broken-clause-kept g c =
     let is = fault_item c.args.frame.now c.args.header (faults.Broken c.in-Broken.broken) (sym c.requires.whole) (c.requires.exact ∙ ap Err c.in-Broken.is) in
-    emitted_kept g.S.Sink.agrees (Declines g.S.Sink.agrees g.S.Sink.refuses) c.emit_bad.result c.args.at (record { unfinished = []; lost = false }) c.args.connections.now (context_of c.args.context) c.args.frame.now _ is c.emit_bad.new.connections c.emit_bad.ensures.kept
+    emitted_kept g.S.Sink.agrees (Declines g.S.Sink.agrees g.S.Sink.refuses) c.emit_bad.result c.args.at (record { unfinished = []; lost = false }) c.args.connections.now (body_context c.args.context) c.args.frame.now _ is c.emit_bad.new.connections c.emit_bad.ensures.kept
 
 pub returns-in-Broken-clause-heard : goal.returns-in-Broken-clause-heard
 returns-in-Broken-clause-heard g c =
     let is = fault_item c.args.frame.now c.args.header (faults.Broken c.in-Broken.broken) (sym c.requires.whole) (c.requires.exact ∙ ap Err c.in-Broken.is) in
-    emitted_heard g.S.Sink.agrees (Declines g.S.Sink.agrees g.S.Sink.refuses) c.emit_bad.result c.args.at (record { unfinished = []; lost = false }) c.args.connections.now (context_of c.args.context) c.args.frame.now _ is c.args.sink.now c.emit_bad.new.sink c.emit_bad.ensures.heard
+    emitted_heard g.S.Sink.agrees (Declines g.S.Sink.agrees g.S.Sink.refuses) c.emit_bad.result c.args.at (record { unfinished = []; lost = false }) c.args.connections.now (body_context c.args.context) c.args.frame.now _ is c.args.sink.now c.emit_bad.new.sink c.emit_bad.ensures.heard
 
 pub returns-in-Broken-clause-err : goal.returns-in-Broken-clause-err
 returns-in-Broken-clause-err g c =
     let is = fault_item c.args.frame.now c.args.header (faults.Broken c.in-Broken.broken) (sym c.requires.whole) (c.requires.exact ∙ ap Err c.in-Broken.is) in
-    emitted_err g.S.Sink.agrees (Declines g.S.Sink.agrees g.S.Sink.refuses) c.emit_bad.result c.args.at (record { unfinished = []; lost = false }) c.args.connections.now (context_of c.args.context) c.args.frame.now _ is c.args.sink.now c.emit_bad.new.sink c.emit_bad.ensures.err
+    emitted_err g.S.Sink.agrees (Declines g.S.Sink.agrees g.S.Sink.refuses) c.emit_bad.result c.args.at (record { unfinished = []; lost = false }) c.args.connections.now (body_context c.args.context) c.args.frame.now _ is c.args.sink.now c.emit_bad.new.sink c.emit_bad.ensures.err
 
 pub returns-in-OtherVersion-clause-err : goal.returns-in-OtherVersion-clause-err
 returns-in-OtherVersion-clause-err g c =

@@ -2,7 +2,7 @@
 use Rattle.std.proofs.Common.{◌≡◌, ◌+◌, ◌≤◌, [], ◌∷◌, true, false, length, sym, ap, ◌∙◌, arith}
 use Rattle.mq_packet.specs.Stream.{fixed_header_of}
 use Rattle.mq_trace.specs.Keeping.{state_in}
-use Rattle.mq_trace.specs.Deframing.{context_of, flow_of}
+use Rattle.mq_trace.specs.Deframing.{body_context, flow_of}
 use Rattle.mq_trace.proofs.ByteLaws.{whole_frame, comes_short, comes_more, stops_large, frame_comes, frame_stops, lost_comes, lost_stops, sound_short, sound_more, sound_nothing, kept_to, always, emptied_to}
 use Rattle.mq_trace.specs.Hearing.{Declines}
 use Rattle.mq_trace.proofs.deframer.Deframer.check_header.Goals as goal
@@ -22,7 +22,7 @@ returns-in-Short-clause-sound g c = λ before byte more.
 
 pub returns-in-Lost-clause-comes : goal.returns-in-Lost-clause-comes
 returns-in-Lost-clause-comes g c = λ before byte more.
-    kept_to c.mark_lost.result g.S.Sink.agrees c.args.context.limit (context_of c.args.context) (flow_of c.args.at (record { unfinished = before; lost = false }) c.args.connections.now) (c.args.at + 1)
+    kept_to c.mark_lost.result g.S.Sink.agrees c.args.context.limit (body_context c.args.context) (flow_of c.args.at (record { unfinished = before; lost = false }) c.args.connections.now) (c.args.at + 1)
     (record { unfinished = []; lost = true }) (state_in c.mark_lost.new.self) c.mark_lost.new.connections (byte ∷ []) c.args.sink.now c.mark_lost.new.sink
     (always c.mark_lost.result (state_in c.mark_lost.new.self) (record { unfinished = []; lost = true }) c.mark_lost.ensures.gone)
     (lost_comes g.S.Sink.agrees (Declines g.S.Sink.agrees g.S.Sink.refuses) c.args.context.limit c.args.context c.args.at c.args.connections.now before byte
@@ -50,7 +50,7 @@ returns-then-size-len-clause-comes g c = λ before byte more.
       | else-length-len-via-then-length-len+else-size-context w ↦ omega (arith, w.if-size-context.false)
       | else-length-len-via-else-length-len w ↦ absurd (w.if-length-len.false (ends ∙ sym c.len.ensures.value))
     ] in
-    kept_to c.emit_buffered.result g.S.Sink.agrees c.args.context.limit (context_of c.args.context) (flow_of c.args.at (record { unfinished = before; lost = false }) c.args.connections.now) (c.args.at + 1)
+    kept_to c.emit_buffered.result g.S.Sink.agrees c.args.context.limit (body_context c.args.context) (flow_of c.args.at (record { unfinished = before; lost = false }) c.args.connections.now) (c.args.at + 1)
     (record { unfinished = []; lost = false }) (state_in c.emit_buffered.new.self) c.emit_buffered.new.connections (byte ∷ []) c.args.sink.now c.emit_buffered.new.sink
     (emptied_to c.emit_buffered.result (state_in c.emit_buffered.new.self) c.args.self.now.lost c.requires.kept c.emit_buffered.ensures.empty)
     (frame_comes g.S.Sink.agrees (Declines g.S.Sink.agrees g.S.Sink.refuses) c.args.context.limit c.args.context c.args.at c.args.connections.now before byte

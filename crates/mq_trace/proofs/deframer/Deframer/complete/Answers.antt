@@ -1,7 +1,7 @@
 -- The last bytes of an unfinished packet.
 use Rattle.std.proofs.Common.{◌≡◌, ◌<◌, ◌+◌, ℕ, length, arith, sym, subst}
 use Rattle.mq_trace.specs.declared.refusal.Refusal.{Refusal}
-use Rattle.mq_trace.specs.Deframing.{context_of, flow_of, FlowStops}
+use Rattle.mq_trace.specs.Deframing.{body_context, flow_of, FlowStops}
 use Rattle.mq_trace.specs.Keeping.{state_in}
 use Rattle.mq_trace.proofs.DeframerLaws.{ended, ended_stops, stops_memory, small_part}
 use Rattle.mq_trace.specs.Hearing.{Declines}
@@ -22,7 +22,7 @@ returns-in-Ok-clause-stops g c =
 
 pub returns-in-Err-clause-stops : goal.returns-in-Err-clause-stops
 returns-in-Err-clause-stops g c =
-    subst (λ (refusal : Refusal). FlowStops {S = g.row.S.Denot} (Declines g.S.Sink.agrees g.S.Sink.refuses) c.args.context.limit (context_of c.args.context) (flow_of c.args.at (state_in c.args.self.now) c.args.connections.now)
+    subst (λ (refusal : Refusal). FlowStops {S = g.row.S.Denot} (Declines g.S.Sink.agrees g.S.Sink.refuses) c.args.context.limit (body_context c.args.context) (flow_of c.args.at (state_in c.args.self.now) c.args.connections.now)
     c.args.bytes.now c.args.sink.now c.args.sink.now refusal) (sym c.in-Err.ensures.err)
-    (stops_memory (Declines g.S.Sink.agrees g.S.Sink.refuses) c.args.context.limit (context_of c.args.context) (flow_of c.args.at (state_in c.args.self.now) c.args.connections.now) c.args.bytes.now c.args.sink.now (omega (arith, c.requires.some)) c.requires.kept
+    (stops_memory (Declines g.S.Sink.agrees g.S.Sink.refuses) c.args.context.limit (body_context c.args.context) (flow_of c.args.at (state_in c.args.self.now) c.args.connections.now) c.args.bytes.now c.args.sink.now (omega (arith, c.requires.some)) c.requires.kept
     (small_part c.args.context.limit c.args.self.now.unfinished.items c.args.bytes.now c.requires.whole c.requires.within))

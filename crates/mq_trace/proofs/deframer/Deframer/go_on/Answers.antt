@@ -3,7 +3,7 @@ use Rattle.std.proofs.Common.{◌≡◌, ◌<◌, ◌≤◌, ◌+◌, ◌-◌, �
 use Rattle.std.proofs.lemmas.List.{take_all}
 use Rattle.mq_trace.specs.declared.refusal.Refusal.{Refusal}
 use Rattle.mq_trace.specs.Context.{StreamState}
-use Rattle.mq_trace.specs.Deframing.{context_of, flow_of, FlowStops, FlowComes}
+use Rattle.mq_trace.specs.Deframing.{body_context, flow_of, FlowStops, FlowComes}
 use Rattle.mq_trace.specs.Keeping.{state_in, IsUnfinished}
 use Rattle.mq_trace.proofs.DeframerLaws.{keeps, keeps_unfinished, whole_with, stops_front, stops_memory, small_more, nothing_unfinished, short_is}
 use Rattle.mq_trace.specs.Hearing.{Declines}
@@ -19,10 +19,10 @@ complete-requires-clause-whole g c =
 pub returns-in-Ok-clause-comes : goal.returns-in-Ok-clause-comes
 returns-in-Ok-clause-comes g c =
     let bounds = short_is c.args.context.limit c.args.self.now.unfinished.items c.requires.begun.0 c.args.size c.requires.begun.1 c.requires.unfinished.0 in
-    subst (λ (t : List ℕ). FlowComes {S = g.row.S.Denot} g.S.Sink.agrees c.args.context.limit (context_of c.args.context) (flow_of c.args.at (state_in c.args.self.now) c.args.connections.now)
+    subst (λ (t : List ℕ). FlowComes {S = g.row.S.Denot} g.S.Sink.agrees c.args.context.limit (body_context c.args.context) (flow_of c.args.at (state_in c.args.self.now) c.args.connections.now)
     (flow_of (c.args.at + length c.args.bytes.now) (state_in c.buffer.new.self) c.args.connections.now) t c.args.sink.now c.args.sink.now)
     (sym (take_all (length c.args.bytes.now) c.args.bytes.now (omega arith)))
-    (keeps g.S.Sink.agrees c.args.context.limit (context_of c.args.context) c.args.at c.args.connections.now (state_in c.args.self.now) (state_in c.buffer.new.self) c.args.bytes.now c.args.sink.now
+    (keeps g.S.Sink.agrees c.args.context.limit (body_context c.args.context) c.args.at c.args.connections.now (state_in c.args.self.now) (state_in c.buffer.new.self) c.args.bytes.now c.args.sink.now
     c.requires.begun.0 c.args.size c.requires.kept c.in-Ok.ensures.ok c.requires.begun.1 c.requires.unfinished.0 (omega (arith, bounds.0, c.len.ensures.value, c.if-bytes-lacks.true)))
 
 pub returns-in-Ok-clause-sound : goal.returns-in-Ok-clause-sound
@@ -33,9 +33,9 @@ returns-in-Ok-clause-sound g c =
 
 pub returns-in-Err-clause-stops : goal.returns-in-Err-clause-stops
 returns-in-Err-clause-stops g c =
-    subst (λ (refusal : Refusal). FlowStops {S = g.row.S.Denot} (Declines g.S.Sink.agrees g.S.Sink.refuses) c.args.context.limit (context_of c.args.context) (flow_of c.args.at (state_in c.args.self.now) c.args.connections.now)
+    subst (λ (refusal : Refusal). FlowStops {S = g.row.S.Denot} (Declines g.S.Sink.agrees g.S.Sink.refuses) c.args.context.limit (body_context c.args.context) (flow_of c.args.at (state_in c.args.self.now) c.args.connections.now)
     c.args.bytes.now c.args.sink.now c.args.sink.now refusal) (sym c.in-Err.ensures.err)
-    (stops_memory (Declines g.S.Sink.agrees g.S.Sink.refuses) c.args.context.limit (context_of c.args.context) (flow_of c.args.at (state_in c.args.self.now) c.args.connections.now) c.args.bytes.now c.args.sink.now (omega (arith, c.requires.some)) c.requires.kept
+    (stops_memory (Declines g.S.Sink.agrees g.S.Sink.refuses) c.args.context.limit (body_context c.args.context) (flow_of c.args.at (state_in c.args.self.now) c.args.connections.now) c.args.bytes.now c.args.sink.now (omega (arith, c.requires.some)) c.requires.kept
     (λ byte more is. small_more c.args.context.limit c.args.self.now.unfinished.items byte c.requires.begun.0 c.args.size c.requires.begun.1
     (short_is c.args.context.limit c.args.self.now.unfinished.items c.requires.begun.0 c.args.size c.requires.begun.1 c.requires.unfinished.0).1))
 
@@ -44,5 +44,5 @@ returns-in-Ok-complete-clause-sound g c = subst (λ (h : StreamState). IsUnfinis
 
 pub returns-in-Err-complete-clause-stops : goal.returns-in-Err-complete-clause-stops
 returns-in-Err-complete-clause-stops g c =
-    stops_front (Declines g.S.Sink.agrees g.S.Sink.refuses) c.args.context.limit (context_of c.args.context) (flow_of c.args.at (state_in c.args.self.now) c.args.connections.now) (c.args.size - c.len.result) c.args.bytes.now
+    stops_front (Declines g.S.Sink.agrees g.S.Sink.refuses) c.args.context.limit (body_context c.args.context) (flow_of c.args.at (state_in c.args.self.now) c.args.connections.now) (c.args.size - c.len.result) c.args.bytes.now
     c.args.sink.now c.complete.new.sink _ c.in-Err-complete.ensures.stops
