@@ -16,7 +16,7 @@ use Rattle.mq_trace.specs.declared.refusal.Refusal.TheVariants as refusals
 use Rattle.mq_trace.specs.declared.connections.Connections.{Connections}
 use Rattle.mq_trace.specs.declared.deframer.BodyContext.{BodyContext as ContextInMemory}
 use Rattle.mq_trace.specs.Events.{Item, Event, Placed, item_read, read_frame}
-use Rattle.mq_trace.specs.Refusals.{is_too_large, is_other_version, first_standing}
+use Rattle.mq_trace.specs.Refusals.{is_too_large, is_other_version}
 use Rattle.mq_trace.proofs.ItemLaws.{met_other}
 use Rattle.mq_trace.specs.Connections.{is_answer}
 use Rattle.mq_trace.specs.Context.{StreamState, so_far_in, put}

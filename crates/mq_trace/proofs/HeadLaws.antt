@@ -1,26 +1,22 @@
 -- The head of a record that carries packets, all at once.
-use Rattle.std.proofs.Common.{◌≡◌, ℕ, ◌+◌, ◌*◌, ◌<◌, ◌≤◌, Bool, true, false, List, [], ◌∷◌, ◌++◌, length, take, drop, Option, Some, None, refl, sym, ◌∙◌, ap, subst, arith, zero, suc}
-use Rattle.std.specs.Prelude.{◌==◌, not, nat_le, nat_lt, slice_index}
+use Rattle.std.proofs.Common.{◌≡◌, ℕ, ◌+◌, ◌*◌, ◌<◌, ◌≤◌, Bool, true, false, List, [], ◌∷◌, ◌++◌, length, take, drop, Some, None, refl, sym, ◌∙◌, ap, subst, arith, zero, suc}
+use Rattle.std.specs.Prelude.{not, nat_lt, slice_index}
 use Rattle.std.specs.Int.{w32, from_be_bytes}
 use Rattle.std.proofs.lemmas.Bool.{le-leb, le-ltb}
 use Rattle.std.proofs.lemmas.List.{take-append-drop, length-take-le}
-use Rattle.mq_trace.specs.declared.kind.RecordKind.{RecordKind}
-use Rattle.mq_trace.specs.declared.kind.RecordKind.TheVariants as kinds
 use Rattle.mq_trace.specs.declared.kind.Direction.{Direction}
 use Rattle.mq_trace.specs.declared.kind.Direction.TheVariants as directions
-use Rattle.mq_trace.specs.declared.stage.Stage.TheVariants as stages
 use Rattle.mq_trace.specs.declared.refusal.Refusal.{Refusal}
 use Rattle.mq_trace.specs.declared.refusal.Refusal.TheVariants as refusals
 use Rattle.mq_trace.specs.declared.reading.Reading.{Reading}
 use Rattle.mq_trace.specs.Framing.{kind_named, direction_of}
-use Rattle.mq_trace.specs.Events.{Event, Placed, event_of_head}
+use Rattle.mq_trace.specs.Events.{Placed, event_of_head}
 use Rattle.mq_trace.specs.Refusals.{first_standing, allows_length}
-use Rattle.mq_trace.specs.Hearing.{AreEvents}
-use Rattle.mq_trace.specs.Keeping.{state_in, begun_in, IsSound, Advances, Comes, StepStops}
+use Rattle.mq_trace.specs.Keeping.{IsSound, Advances, Comes, StepStops}
 use Rattle.mq_trace.specs.Stepping.{kind_refusal, kind_for, IsBodyHead, BeginsRecord, in_head, leaving}
 use Rattle.mq_trace.proofs.ReadingLaws.{advanced, comes_after, stops_after, five_of}
 use Rattle.mq_trace.proofs.StageLaws.{first_advances, first_sound, three_advance, three_sound}
-use Rattle.mq_trace.proofs.EndLaws.{body_advances, left_sound}
+use Rattle.mq_trace.proofs.EndLaws.{body_advances}
 
 goes : (direction : Direction) → direction_of (Some (kind_for direction)) ≡ Some direction
 goes directions.Sent = refl

@@ -1,9 +1,8 @@
 -- What a whole packet is, and what telling it meets.
-use Rattle.std.proofs.Common.{◌≡◌, ℕ, ◌-◌, ◌<◌, ◌≤◌, Bool, true, false, List, [], ◌∷◌, length, take, drop, take_all, Option, Some, None, Result, Ok, Err, refl, sym, ap, ◌∙◌, subst, inl, inr, arith}
+use Rattle.std.proofs.Common.{◌≡◌, ℕ, ◌-◌, ◌<◌, ◌≤◌, Bool, true, false, List, [], ◌∷◌, length, take, drop, take_all, Option, Some, None, Result, Ok, Err, refl, sym, ap, ◌∙◌, subst, inl, arith}
 use Rattle.std.specs.Prelude.{slice_index, unwrap_or, option_map, OnOk, IfErr}
 use Rattle.std.proofs.lemmas.List.{length-drop}
-use Rattle.mq_packet.specs.declared.header.FixedHeader.{FixedHeader}
-use Rattle.mq_packet.specs.declared.header.FixedHeader.TheVariants.{Short, Lost, Whole}
+use Rattle.mq_packet.specs.declared.header.FixedHeader.TheVariants.{Whole}
 use Rattle.mq_packet.specs.declared.fault.DecodeFault.{DecodeFault}
 use Rattle.mq_packet.specs.declared.fault.DecodeFault.TheVariants.{Broken, OtherVersion}
 use Rattle.mq_packet.specs.declared.packet.Packet.{Packet}
@@ -17,7 +16,7 @@ use Rattle.mq_trace.specs.declared.refusal.Refusal.{Refusal}
 use Rattle.mq_trace.specs.declared.refusal.Refusal.TheVariants as refusals
 use Rattle.mq_trace.specs.declared.kind.Direction.{Direction}
 use Rattle.mq_trace.specs.declared.connections.Connections.{Connections}
-use Rattle.mq_trace.specs.Events.{Item, Event, Placed, packet, bad, lost, item_read, read_frame}
+use Rattle.mq_trace.specs.Events.{Item, Placed, packet, item_read, read_frame}
 use Rattle.mq_trace.specs.Refusals.{is_other_version}
 use Rattle.mq_trace.specs.Context.{StreamState, put}
 use Rattle.mq_trace.specs.Flows.{BodyContext, going, flow_placed_with}

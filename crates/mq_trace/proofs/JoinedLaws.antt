@@ -1,6 +1,6 @@
 -- The items of the events of one direction of a connection are what its stream of packets holds.
 use Rattle.std.proofs.Common.{◌≡◌, ℕ, ◌+◌, ◌<◌, ◌≤◌, Bool, true, false, cond, ◌&&◌, nat_lt, List, [], ◌∷◌, ◌++◌, length, drop, reverse, Option, Some, None, is_some, refl, sym, ◌∙◌, ap, subst, arith, append_assoc, length-append}
-use Rattle.std.specs.Prelude.{◌==◌, if◌then◌else◌, option_map, slice_index}
+use Rattle.std.specs.Prelude.{◌==◌, if◌then◌else◌, option_map}
 use Rattle.std.specs.Int.{w16, from_be_bytes}
 use Rattle.std.proofs.lemmas.List.{append-nil, reverse-append, reverse-reverse, drop-append-le, drop_all}
 use Rattle.std.proofs.lemmas.Bool.{eq-eqb, ne_eqb, eqb-true, eqb-false, le-ltb, lt-ltb, ltb-true, ltb-false}
@@ -12,12 +12,12 @@ use Rattle.mq_trace.specs.declared.kind.Direction.{Direction}
 use Rattle.mq_trace.specs.declared.kind.Direction.TheVariants as directions
 use Rattle.mq_trace.specs.Pieces.{Pieces, pieces}
 use Rattle.mq_trace.specs.Framing.{kind_of, direction_of, opens, if_direction, record_size, records, begun_records, begun_with, carried, stream}
-use Rattle.mq_trace.specs.Events.{Item, Event, Placed, lost, opened, closed, rested, sent, received, released, item_at, item_read, read_frame, packet_with, event_by, event_in, events}
+use Rattle.mq_trace.specs.Events.{Item, Event, Placed, lost, opened, closed, rested, sent, received, released, item_at, packet_with, event_by, event_in, events}
 use Rattle.mq_trace.specs.Connections.{begins_connection}
 use Rattle.mq_trace.specs.Context.{Context, context, so_far_by, so_far_for, event_for, placed_with, placed_for, put}
 use Rattle.mq_trace.specs.Joined.{opened_records, joined, if_some, frame_item, frame_items, stream_items, opened_events, item_going, connection_items}
 use Rattle.mq_trace.proofs.PiecesLaws.{grown, pieces-grow, nothing_cut}
-use Rattle.mq_trace.proofs.FramingLaws.{body_byte, if_direction-nothing, if_direction-append, kind_of-append, begun-grow, begun-header, rest-grow, IsRecord, record_size-is}
+use Rattle.mq_trace.proofs.FramingLaws.{body_byte, if_direction-nothing, if_direction-append, kind_of-append, begun-grow, begun-header, rest-grow, record_size-is}
 use Rattle.mq_trace.proofs.StreamStateLaws.{frame_settles, nothing_lost}
 use Rattle.mq_trace.proofs.ContextLaws.{part_context, at_context, so_far_kept_by, events-kept, events-header}
 use Rattle.mq_trace.proofs.FlowLaws.{nothing_item, item_by}

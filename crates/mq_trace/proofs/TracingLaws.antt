@@ -1,5 +1,5 @@
 -- From steps to logs: what a reader's steps come to, and what stops them.
-use Rattle.std.proofs.Common.{◌≡◌, ℕ, ◌+◌, ◌<◌, ◌≤◌, Bool, true, false, List, [], ◌∷◌, ◌++◌, length, Option, Some, None, Result, Ok, Err, inl, inr, is_some, refl, sym, ap, ◌∙◌, arith, length-append, append_assoc, subst, take, drop, ◌-◌}
+use Rattle.std.proofs.Common.{◌≡◌, ℕ, ◌+◌, ◌<◌, Bool, true, false, List, [], ◌∷◌, ◌++◌, length, Option, Some, None, inl, inr, is_some, refl, sym, ap, ◌∙◌, arith, length-append, append_assoc, subst, take, drop, ◌-◌}
 use Rattle.std.specs.Prelude.{◌==◌, ◌||◌, not, nat_lt}
 use Rattle.std.proofs.lemmas.Bool.{eqb-true, lt-ltb, ltb-true, ltb-false}
 use Rattle.std.proofs.lemmas.List.{append-nil, take-append-drop, length-drop, take_all, nil_from_length}
@@ -16,10 +16,9 @@ use Rattle.mq_trace.specs.Refusing.{moved}
 use Rattle.mq_trace.specs.Context.{Context, context, fresh, so_far_for, event_for, placed_for, placed_with, put}
 use Rattle.mq_trace.specs.Runs.{behind, refused_in, heard_in}
 use Rattle.mq_trace.specs.Hearing.{AreEvents, Declines}
-use Rattle.mq_trace.specs.Emission.{RefusedBySink}
 use Rattle.mq_trace.specs.Deframing.{NeedsMemory, FlowWhy}
-use Rattle.mq_trace.specs.Keeping.{IsAt, context_of, Advances, Comes, StepStops}
-use Rattle.mq_trace.specs.Tracing.{HasRead, HasHeard, IsRefused, LacksMemory, SinkRefuses, Why, Stops, is_between}
+use Rattle.mq_trace.specs.Keeping.{IsAt, context_of, Comes, StepStops}
+use Rattle.mq_trace.specs.Tracing.{HasRead, HasHeard, Why, Stops, is_between}
 use Rattle.mq_trace.proofs.ContextLaws.{at_context, part_context, context_is, context-nothing, refused-nothing, packet-kept, header-so_far, event-kept, refused-grow}
 use Rattle.mq_trace.proofs.RunLaws.{heard_append, context_run, events_run, passes, stops}
 

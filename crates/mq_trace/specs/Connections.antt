@@ -1,10 +1,10 @@
 -- What events make of a connection.
-use Rattle.std.specs.Prelude.{ℕ, Bool, true, false, ◌||◌, ◌&&◌, not, List, [], ◌∷◌}
+use Rattle.std.specs.Prelude.{Bool, true, false, ◌||◌, ◌&&◌, not, List, [], ◌∷◌}
 use Rattle.mq_packet.specs.declared.packet.PacketType.{PacketType}
 use Rattle.mq_packet.specs.declared.packet.PacketType.TheVariants as types
 use Rattle.mq_packet.specs.Entries.{Entry}
 use Rattle.mq_packet.specs.Canonical.{type_of}
-use Rattle.mq_trace.specs.Events.{Item, Event, Placed, packet, bad, lost, opened, closed, rested, released, sent, received}
+use Rattle.mq_trace.specs.Events.{Item, Event, Placed, packet, bad, lost, opened, closed, released, sent, received}
 
 -- a connection begins, and ends
 abbrev pub begins_connection : Event → Bool

@@ -1,5 +1,5 @@
 -- What a sink receives of a log.
-use Rattle.std.specs.Prelude.{◌≡◌, ℕ, List, ◌++◌, Option, None, unwrap_or}
+use Rattle.std.specs.Prelude.{◌≡◌, ℕ, List, ◌++◌, None, unwrap_or}
 use Rattle.mq_packet.specs.declared.packet.Publish.{Publish}
 use Rattle.mq_packet.specs.declared.packet.Packet.TheVariants as packets
 use Rattle.mq_packet.specs.Reading.{view}

@@ -474,7 +474,6 @@ fn emit_frame<S: Sink>(
 {
     match frame[0] {
         0x30..0x40 => emit_publish_frame(context, connections, at, header, frame, sink),
-        0x40..0x80 => emit_acknowledgement(context, connections, at, header, frame, sink),
         _ => emit_other_frame(context, connections, at, header, frame, sink),
     }
 }
@@ -511,35 +510,6 @@ fn emit_publish_frame<S: Sink>(
             sink,
         ),
         Err(fault) => emit_fault(context, connections, at, header, frame, fault, sink),
-    }
-}
-
-/// The same for what acknowledges a PUBLISH. Its first byte is looked at here, so that no other packet takes room where it is read.
-#[inline(never)]
-fn emit_acknowledgement<S: Sink>(
-    context: BodyContext,
-    connections: &mut Connections,
-    at: u64,
-    header: usize,
-    frame: &[u8],
-    sink: &mut S,
-) -> Result<(), Refusal>
-    requires whole { fixed_header_of frame.now ≡ headers.Whole header (length frame.now) }
-    requires fits { length frame.now ≤ header + 268435455 }
-    ensures met { OnOk result (frame_refusal at (flow_of at (record { unfinished = []; lost = false }) connections.old) context.direction frame.now ≡ None) }
-    ensures kept { OnOk result (connections.new ≡ connections_then context.server connections.old (frame_event context.direction frame.now)) }
-    ensures heard { (earlier : List Placed) → S.agrees sink.old earlier
-        → AreEvents (put (flow_placed_with (body_context context) (flow_of at (record { unfinished = []; lost = false }) connections.old) (frame_event context.direction frame.now)) earlier)
-        → OnOk result (S.agrees sink.new (put (flow_placed_with (body_context context) (flow_of at (record { unfinished = []; lost = false }) connections.old) (frame_event context.direction frame.now)) earlier)) }
-    ensures err { IfErr result (λ refusal. NotEmitted (Declines S.agrees S.refuses) at (frame_refusal at (flow_of at (record { unfinished = []; lost = false }) connections.old) context.direction frame.now)
-        (put (flow_placed_with (body_context context) (flow_of at (record { unfinished = []; lost = false }) connections.old) (frame_event context.direction frame.now)) []) sink.old sink.new refusal) }
-{
-    match frame[0] {
-        0x40 | 0x50 | 0x62 | 0x70 => {
-            let read = decode(frame[0], &frame[header..]);
-            emit_decoded(context, connections, at, header, frame, read, sink)
-        }
-        _ => emit_other_frame(context, connections, at, header, frame, sink),
     }
 }
 

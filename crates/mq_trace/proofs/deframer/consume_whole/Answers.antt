@@ -1,5 +1,5 @@
 -- A whole packet in place.
-use Rattle.std.proofs.Common.{◌≡◌, ◌<◌, ◌+◌, ℕ, [], length, arith}
+use Rattle.std.proofs.Common.{[], arith}
 use Rattle.mq_trace.proofs.ItemLaws.{frame_by_header}
 use Rattle.mq_trace.proofs.DeframerLaws.{comes_of, stops_of}
 use Rattle.mq_trace.specs.Hearing.{Declines}

@@ -1,5 +1,5 @@
 -- A whole packet's fixed header is whole.
-use Rattle.std.proofs.Common.{◌≡◌, length, sym, ap, ◌∙◌, arith}
+use Rattle.std.proofs.Common.{sym, ap, ◌∙◌, arith}
 use Rattle.mq_trace.proofs.ItemLaws.{framed, frame_header}
 use Rattle.mq_packet.specs.declared.header.FixedHeader.TheVariants as headers
 use Rattle.mq_trace.proofs.deframer.header_of.Goals as goal

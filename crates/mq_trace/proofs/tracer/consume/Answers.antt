@@ -1,6 +1,6 @@
 -- A piece is taken in step by step.
 use Rattle.std.proofs.Common.{ℕ, List, sym, subst}
-use Rattle.mq_trace.proofs.TracingLaws.{Goes, begins, goes_on, ends_kept, stops_piece, rest_same, nothing_left}
+use Rattle.mq_trace.proofs.TracingLaws.{Goes, goes_on, ends_kept, stops_piece, rest_same, nothing_left}
 use Rattle.mq_trace.proofs.tracer.consume.Goals as goal
 
 pub loop-rest-preserved : goal.loop-rest-preserved

@@ -1,4 +1,4 @@
-use Rattle.std.proofs.Common.{◌≡◌, ℕ, List, length}
+use Rattle.std.proofs.Common.{length}
 use Rattle.mq_trace.specs.Keeping.{IsSound}
 use Rattle.mq_trace.proofs.TracingLaws.{Goes}
 use Rattle.mq_trace.proofs.tracer.consume.Given as goal

@@ -1,5 +1,5 @@
 -- The last bytes of an unfinished packet.
-use Rattle.std.proofs.Common.{◌≡◌, ◌<◌, ◌+◌, ℕ, length, arith, sym, subst}
+use Rattle.std.proofs.Common.{arith, sym, subst}
 use Rattle.mq_trace.specs.declared.refusal.Refusal.{Refusal}
 use Rattle.mq_trace.specs.Deframing.{body_context, flow_of, FlowStops}
 use Rattle.mq_trace.specs.Keeping.{state_in}

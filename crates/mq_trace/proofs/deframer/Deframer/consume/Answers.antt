@@ -1,6 +1,5 @@
 -- The next packet of a direction.
-use Rattle.std.proofs.Common.{◌≡◌, ◌<◌, ◌≤◌, ◌+◌, false, ℕ, List, [], ◌∷◌, ◌++◌, length, arith, sym, subst, ap, ◌∙◌, take}
-use Rattle.std.specs.Prelude.{slice_index}
+use Rattle.std.proofs.Common.{◌≡◌, ◌+◌, false, ℕ, List, [], ◌++◌, length, arith, sym, subst, ap, ◌∙◌, take}
 use Rattle.std.proofs.lemmas.List.{take_all}
 use Rattle.mq_trace.specs.Events.{Placed}
 use Rattle.mq_trace.specs.Context.{StreamState}

@@ -1,5 +1,5 @@
 -- One byte is kept and settled.
-use Rattle.std.proofs.Common.{◌≡◌, ◌<◌, ◌+◌, ◌++◌, ◌∙◌, ℕ, Bool, true, false, List, [], ◌∷◌, length, arith, sym, subst, OnOk, IfErr}
+use Rattle.std.proofs.Common.{◌≡◌, ◌+◌, ◌++◌, ◌∙◌, ℕ, Bool, true, false, List, [], ◌∷◌, arith, sym, subst, OnOk, IfErr}
 use Rattle.mq_trace.specs.declared.refusal.Refusal.{Refusal}
 use Rattle.mq_trace.specs.Context.{StreamState}
 use Rattle.mq_trace.specs.Keeping.{state_in}

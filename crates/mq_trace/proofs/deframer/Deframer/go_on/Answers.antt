@@ -1,5 +1,5 @@
 -- More of an unfinished packet.
-use Rattle.std.proofs.Common.{◌≡◌, ◌<◌, ◌≤◌, ◌+◌, ◌-◌, ℕ, List, length, arith, sym, subst, ap, ◌∙◌, take, length-take-le}
+use Rattle.std.proofs.Common.{◌≡◌, ◌+◌, ◌-◌, ℕ, List, length, arith, sym, subst, take, length-take-le}
 use Rattle.std.proofs.lemmas.List.{take_all}
 use Rattle.mq_trace.specs.declared.refusal.Refusal.{Refusal}
 use Rattle.mq_trace.specs.Context.{StreamState}

@@ -1,5 +1,5 @@
 -- What the next bytes are.
-use Rattle.std.proofs.Common.{◌≡◌, List, [], ◌∷◌, length, arith, subst, sym, ◌∙◌, ℕ, true, refl, Bool}
+use Rattle.std.proofs.Common.{◌≡◌, List, [], ◌∷◌, length, arith, subst, sym, ◌∙◌, ℕ, true, refl}
 use Rattle.std.specs.Prelude.{◌==◌}
 use Rattle.std.proofs.lemmas.Bool.{eqb-true}
 use Rattle.mq_packet.proofs.Exports.{frame_from_header, short_few}

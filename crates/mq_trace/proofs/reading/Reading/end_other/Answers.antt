@@ -1,7 +1,5 @@
-use Rattle.std.proofs.Common.{◌+◌, ◌*◌, ◌∷◌, [], true, Some, ap, sym, ◌∙◌}
+use Rattle.std.proofs.Common.{◌+◌, ◌*◌, ◌∷◌, [], Some, ap, sym, ◌∙◌}
 use Rattle.std.proofs.lemmas.Bool.{eqb-true}
-use Rattle.mq_trace.specs.declared.kind.Direction.TheVariants as directions
-use Rattle.mq_trace.specs.declared.refusal.Refusal.TheVariants as refusals
 use Rattle.mq_trace.specs.Events.{opened, closed, rested, event_of_head}
 use Rattle.mq_trace.specs.Refusals.{allows_length}
 use Rattle.mq_trace.proofs.ReadingLaws.{comes_quietly}

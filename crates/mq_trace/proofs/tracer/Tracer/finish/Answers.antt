@@ -1,5 +1,5 @@
 -- A log ends where no record is unfinished.
-use Rattle.std.proofs.Common.{◌≡◌, ℕ, Bool, length, ap, ◌∙◌, sym, subst}
+use Rattle.std.proofs.Common.{ℕ, ap, ◌∙◌, sym, subst}
 use Rattle.mq_trace.specs.declared.refusal.Refusal.TheVariants.{Cut}
 use Rattle.mq_trace.specs.declared.reading.Reading.{Reading}
 use Rattle.mq_trace.specs.Tracing.{Traced, HasRead}
