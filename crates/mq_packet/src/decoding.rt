@@ -5,6 +5,7 @@
 
 ghost use Rattle.std.specs.Prelude.{◌≡◌, ◌≤◌, ◌<◌, ℕ, IfOk, IfErr, Some, Result, length};
 ghost use Rattle.mq_wire.specs.Left.{Gives};
+ghost use Rattle.mq_wire.specs.Spellings.{max_varint};
 ghost use Rattle.mq_packet.specs.declared.fault.DecodeFault.{DecodeFault};
 ghost use Rattle.mq_packet.specs.declared.packet.Packet.TheVariants as packets;
 ghost use Rattle.mq_packet.specs.declared.rule.PacketRule.{PacketRule};
@@ -32,7 +33,7 @@ use mq_wire::Cursor;
 /// isn't 5. Last, no bytes may be left over.
 #[inline(always)]
 pub fn decode<'a>(first: u8, body: &'a [u8]) -> Result<Packet<'a>, DecodeFault>
-    requires { length body.now ≤ 268435455 }
+    requires { length body.now ≤ max_varint }
     // A packet is returned only if these bytes spell it, and a fault only if they have it.
     ensures packet { IfOk result (λ packet. IsSpelled first body.now (view packet)) }
     ensures fault { IfErr result (λ fault. HasFault first body.now fault) }
@@ -50,7 +51,7 @@ pub fn decode<'a>(first: u8, body: &'a [u8]) -> Result<Packet<'a>, DecodeFault>
 #[inline(always)]
 #[tactic(auto, unfolding(crate::specs::Decoding::decoded, crate::specs::Decoding::body_start))]
 fn read_body<'a>(first: u8, body: &'a [u8]) -> Result<Packet<'a>, DecodeFault>
-    requires { length body.now ≤ 268435455 }
+    requires { length body.now ≤ max_varint }
     ensures read_len { IfOk result (λ packet. HasReadLen (length body.now) packet) }
     ensures exact { Gives view result (decoded first body.now) }
 {
@@ -67,7 +68,7 @@ fn read_body<'a>(first: u8, body: &'a [u8]) -> Result<Packet<'a>, DecodeFault>
 pub fn decode_publish<'a>(first: u8, body: &'a [u8]) -> Result<Publish<'a>, DecodeFault>
     requires from { 48 ≤ first }
     requires to { first < 64 }
-    requires bound { length body.now ≤ 268435455 }
+    requires bound { length body.now ≤ max_varint }
     ensures exact { Gives (λ publish. view (packets.Publish publish)) result (decoded first body.now) }
     ensures size { IfOk result (λ publish. remaining_length (packets.Publish publish) ≡ length body.now) }
 {
@@ -79,7 +80,7 @@ pub fn decode_publish<'a>(first: u8, body: &'a [u8]) -> Result<Publish<'a>, Deco
 fn read_publish_body<'a>(first: u8, body: &'a [u8]) -> Result<Publish<'a>, DecodeFault>
     requires from { 48 ≤ first }
     requires to { first < 64 }
-    requires bound { length body.now ≤ 268435455 }
+    requires bound { length body.now ≤ max_varint }
     ensures exact { Gives (λ publish. view (packets.Publish publish)) result (decoded first body.now) }
 {
     let cursor = Cursor::starting_at(body, header_len(body.len() as u32));

@@ -1,9 +1,10 @@
 //! What the types of a packet's fields say of it. The functions here only query the fields: they are there for their contracts.
 
-ghost use Rattle.std.specs.Prelude.{◌≤◌, IfSome};
+ghost use Rattle.std.specs.Prelude.{IfSome};
 ghost use Rattle.std.specs.Str.{IsUtf8};
 ghost use Rattle.std.specs.Option.{option_map};
 ghost use Rattle.std.specs.List.{AllByRecursion};
+ghost use Rattle.mq_wire.specs.Spellings.{IsTwoBytes};
 ghost use Rattle.mq_packet.specs.Reading.{view, will_view};
 ghost use Rattle.mq_packet.specs.Valid.{IsListed, IsWill, IsIdentified, IsAskedFilter, IsRequest, IsTyped};
 
@@ -24,11 +25,11 @@ fn text_facts(text: &str)
 }
 
 fn number_facts(number: u16)
-    ensures { number ≤ 65535 }
+    ensures { IsTwoBytes number }
 {}
 
 fn identifier_facts(identifier: Option<u16>)
-    ensures { IfSome identifier (λ number. number ≤ 65535) }
+    ensures { IfSome identifier IsTwoBytes }
 {
     if let Some(number) = identifier {
         number_facts(number);

@@ -11,6 +11,7 @@ mod reason_packet;
 mod request;
 
 ghost use Rattle.std.specs.Prelude.{◌≡◌, ◌≢◌, ◌<◌, ◌≤◌, ◌⊎◌, IfOk};
+ghost use Rattle.mq_wire.specs.Spellings.{max_varint};
 ghost use Rattle.mq_packet.specs.Formats.{format_of};
 ghost use Rattle.mq_packet.specs.Decoding.{read};
 ghost use Rattle.mq_packet.specs.Reading.{view, HasReadLen, Reads};
@@ -38,7 +39,7 @@ pub use request::read_request;
 /// spellings keeps the size (MQTT 5.0, sections 3.4 to 3.7, 3.14 and 3.15).
 #[inline(always)]
 pub fn read_packet<'a>(first: u8, cursor: Cursor<'a>, size: usize) -> Result<Packet<'a>, ReadFault>
-    requires bound { size ≤ 268435455 }
+    requires bound { size ≤ max_varint }
     ensures read { Reads view result (read (format_of first) cursor.entry) }
     ensures read_len { IfOk result (λ packet. HasReadLen size packet) }
 {
@@ -65,7 +66,7 @@ pub fn read_packet<'a>(first: u8, cursor: Cursor<'a>, size: usize) -> Result<Pac
 // stack for its packets.
 #[inline(never)]
 fn read_other<'a>(first: u8, cursor: Cursor<'a>, size: usize) -> Result<Packet<'a>, ReadFault>
-    requires bound { size ≤ 268435455 }
+    requires bound { size ≤ max_varint }
     requires publish { (first < 48) ⊎ (64 ≤ first) }
     requires acknowledgement { (first ≢ 64) × (first ≢ 80) × (first ≢ 98) × (first ≢ 112) }
     ensures read { Reads view result (read (format_of first) cursor.entry) }

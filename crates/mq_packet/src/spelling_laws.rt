@@ -3,7 +3,7 @@
 
 ghost use Rattle.std.specs.Prelude.{◌≡◌, ◌≢◌, ◌↔◌, ◌⊎◌, ℕ, ◌≤◌, true, false, List, [], ◌∷◌, ◌++◌, length, Ok};
 ghost use Rattle.mq_props.specs.declared.table.Place.TheVariants as places;
-ghost use Rattle.mq_wire.specs.Spellings.{AreBytes, varint_spelling};
+ghost use Rattle.mq_wire.specs.Spellings.{AreBytes, max_varint, varint_spelling};
 ghost use Rattle.mq_packet.specs.declared.packet.PacketType.TheVariants.{Auth};
 ghost use Rattle.mq_packet.specs.declared.packet.AcknowledgementKind.TheVariants.{Puback};
 ghost use Rattle.mq_packet.specs.Entries.{Entry, acknowledgement, pingreq, auth, none_listed};
@@ -29,7 +29,7 @@ pub fn each_packet_has_one_spelling()
 /// A valid packet is written as one frame, whatever follows it, and that frame is read as the packet (MQTT 5.0, section
 /// 2.1).
 pub fn what_is_written_is_read()
-    ensures { (entry : Entry) (more : List ℕ) → IsTyped entry → valid entry ≡ true → length (canonical_body entry) ≤ 268435455 → BeginsWithPacket (canonical entry ++ more) entry }
+    ensures { (entry : Entry) (more : List ℕ) → IsTyped entry → valid entry ≡ true → length (canonical_body entry) ≤ max_varint → BeginsWithPacket (canonical entry ++ more) entry }
 {}
 
 /// A packet that is read can be written, if there is memory: the bytes are those that were read, except for short forms, and are
@@ -38,7 +38,7 @@ pub fn what_is_read_is_written()
     // It is valid, as `encode` requires.
     ensures valid { (first : ℕ) (body : List ℕ) (entry : Entry) → AreBytes body → decoded first body ≡ Ok entry → IsTyped entry × (valid entry ≡ true) }
     // It isn't too long to be written (section 2.1.4).
-    ensures fits { (first : ℕ) (body : List ℕ) (entry : Entry) → AreBytes body → decoded first body ≡ Ok entry → length body ≤ 268435455 → length (canonical_body entry) ≤ 268435455 }
+    ensures fits { (first : ℕ) (body : List ℕ) (entry : Entry) → AreBytes body → decoded first body ≡ Ok entry → length body ≤ max_varint → length (canonical_body entry) ≤ max_varint }
     // A packet without short forms is written as the frame that was read.
     ensures same { (first : ℕ) (body : List ℕ) (entry : Entry) → AreBytes body → decoded first body ≡ Ok entry → has_short_form entry ≡ false → canonical entry ≡ first ∷ (varint_spelling (length body) ++ body) }
     // Any other is written as that frame, except for what a short form leaves out (sections 3.4.2.1, 3.14.2.1 and 3.15.2.1).

@@ -10,6 +10,7 @@ mod puts;
 mod size;
 
 ghost use Rattle.std.specs.Prelude.{◌≡◌, ◌+◌, ◌++◌, ◌<◌, ◌≤◌, ◌↔◌, true, length, OnOk, OnErr, Err, vec_len, vec_capacity};
+ghost use Rattle.mq_wire.specs.Spellings.{max_varint};
 ghost use Rattle.mq_packet.specs.Growing.{LacksRoom};
 ghost use Rattle.mq_packet.specs.Reading.{view};
 ghost use Rattle.mq_packet.specs.Spelled.{IsSpelled};
@@ -31,7 +32,7 @@ use puts::{put_byte, put_length};
 #[tactic(auto, using(crate::proofs::GrowingLaws::lacks_first, crate::proofs::GrowingLaws::lacks_behind, crate::proofs::GrowingLaws::lacks_byte, crate::proofs::GrowingLaws::lacks_behind_byte), unfolding(crate::specs::Canonical::canonical))]
 fn put_packet(out: &mut Vec<u8>, packet: &Packet<'_>, len: u32) -> Result<(), PutFault>
     requires len { len ≡ length (canonical_body (view packet.now)) }
-    requires bound { len ≤ 268435455 }
+    requires bound { len ≤ max_varint }
     requires valid { valid (view packet.now) ≡ true }
     ensures ok { OnOk result (out.new.items ≡ out.old.items ++ canonical (view packet.now)) }
     ensures capacity { vec_capacity out.old ≤ vec_capacity out.new }
@@ -46,7 +47,7 @@ fn put_packet(out: &mut Vec<u8>, packet: &Packet<'_>, len: u32) -> Result<(), Pu
 #[tactic(auto, using(crate::proofs::GrowingLaws::written_length))]
 fn written_len(packet: &Packet<'_>, len: u32) -> usize
     requires len { len ≡ length (canonical_body (view packet.now)) }
-    requires bound { len ≤ 268435455 }
+    requires bound { len ≤ max_varint }
     ensures { result ≡ length (canonical (view packet.now)) }
 {
     header_len(len) + len as usize
@@ -56,7 +57,7 @@ fn written_len(packet: &Packet<'_>, len: u32) -> usize
 #[tactic(auto, using(crate::proofs::GrowingLaws::room_enough))]
 fn put_within(out: &mut Vec<u8>, packet: &Packet<'_>, len: u32)
     requires len { len ≡ length (canonical_body (view packet.now)) }
-    requires bound { len ≤ 268435455 }
+    requires bound { len ≤ max_varint }
     requires valid { valid (view packet.now) ≡ true }
     requires room { vec_len out.old + length (canonical (view packet.now)) ≤ vec_capacity out.old }
     ensures { out.new.items ≡ out.old.items ++ canonical (view packet.now) }
@@ -86,7 +87,7 @@ pub fn encode(packet: &Packet<'_>, out: &mut Vec<u8>) -> Result<(), EncodeFault>
     ensures ok { OnOk result (out.new.items ≡ out.old.items ++ canonical (view packet.now)) }
     // What is written spells the packet.
     ensures spelled { IsSpelled (first_byte_of (view packet.now)) (canonical_body (view packet.now)) (view packet.now) }
-    ensures too_long { (result ≡ Err EncodeFault.TooLong) ↔ (268435455 < length (canonical_body (view packet.now))) }
+    ensures too_long { (result ≡ Err EncodeFault.TooLong) ↔ (max_varint < length (canonical_body (view packet.now))) }
     ensures memory { result ≡ Err EncodeFault.Memory → vec_capacity out.old < vec_len out.old + length (canonical (view packet.now)) }
     ensures err { OnErr result (out.new.items ≡ out.old.items) }
 {

@@ -1,6 +1,7 @@
 //! The reader of PUBACK, PUBREC, PUBREL and PUBCOMP (MQTT 5.0, sections 3.4 to 3.7).
 
 ghost use Rattle.std.specs.Prelude.{◌≡◌, ◌≤◌, Some, IfOk};
+ghost use Rattle.mq_wire.specs.Spellings.{max_varint};
 ghost use Rattle.mq_packet.specs.Entries.{acknowledgement, acknowledgement_place};
 ghost use Rattle.mq_packet.specs.Formats.{acknowledgement_format, last_properties};
 ghost use Rattle.mq_packet.specs.Decoding.{read};
@@ -24,7 +25,7 @@ pub fn read_acknowledgement<'a>(
     kind: AcknowledgementKind,
     size: usize,
 ) -> Result<Acknowledgement<'a>, ReadFault>
-    requires { size ≤ 268435455 }
+    requires { size ≤ max_varint }
     ensures read { Reads (λ p. acknowledgement kind p.identifier p.code p.properties) result (read (acknowledgement_format kind) cursor.entry) }
     ensures read_len { IfOk result (λ p. p.read_len ≡ Some size) }
 {
@@ -50,7 +51,7 @@ fn read_behind_code<'a>(
     code: u8,
     size: usize,
 ) -> Result<Acknowledgement<'a>, ReadFault>
-    requires { size ≤ 268435455 }
+    requires { size ≤ max_varint }
     ensures read { Reads (λ p. acknowledgement kind p.identifier p.code p.properties) result (read (last_properties (acknowledgement_place kind) (acknowledgement kind identifier code)) cursor.entry) }
     ensures read_len { IfOk result (λ p. p.read_len ≡ Some size) }
 {

@@ -1,6 +1,7 @@
 //! The reader of DISCONNECT and AUTH (MQTT 5.0, sections 3.14 and 3.15).
 
 ghost use Rattle.std.specs.Prelude.{◌≡◌, ◌≤◌, Some, IfOk};
+ghost use Rattle.mq_wire.specs.Spellings.{max_varint};
 ghost use Rattle.mq_packet.specs.Entries.{reason_packet};
 ghost use Rattle.mq_packet.specs.Formats.{reason_packet_format};
 ghost use Rattle.mq_packet.specs.Decoding.{read};
@@ -24,7 +25,7 @@ pub fn read_reason_packet<'a>(
     kind: ReasonPacketKind,
     size: usize,
 ) -> Result<ReasonPacket<'a>, ReadFault>
-    requires { size ≤ 268435455 }
+    requires { size ≤ max_varint }
     ensures read { Reads (λ p. reason_packet kind p.code p.properties) result (read (reason_packet_format kind) cursor.entry) }
     ensures read_len { IfOk result (λ p. p.read_len ≡ Some size) }
 {

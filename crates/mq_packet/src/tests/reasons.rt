@@ -2,6 +2,7 @@
 //! and not by packet.
 
 ghost use Rattle.std.specs.Prelude.{◌≤◌, length};
+ghost use Rattle.mq_wire.specs.Spellings.{max_varint};
 
 use crate::PacketType::*;
 use crate::{BodyFault, DecodeFault, PacketRule, PacketType, decode};
@@ -105,7 +106,7 @@ fn is_listed(code: u8, kind: PacketType) -> bool {
 
 // Whether the packet is read; or None if it is refused for anything other than its Reason Code at this offset.
 fn is_taken(first: u8, body: &[u8], at: u32) -> Option<bool>
-    requires { length body.now ≤ 268435455 }
+    requires { length body.now ≤ max_varint }
 {
     match decode(first, body) {
         Ok(_) => Some(true),

@@ -1,6 +1,7 @@
 //! The rule that a body breaks, and where: one row for each rule, and others on the order in which they are checked.
 
 ghost use Rattle.std.specs.Prelude.{◌≤◌, length};
+ghost use Rattle.mq_wire.specs.Spellings.{max_varint};
 
 use crate::PacketRule::*;
 use crate::packet::Packet;
@@ -10,7 +11,7 @@ use crate::{BodyFault, DecodeFault, PacketRule, decode};
 const MAX_BODY: usize = 100;
 
 fn fault_of(first: u8, body: &[u8]) -> Option<DecodeFault>
-    requires { length body.now ≤ 268435455 }
+    requires { length body.now ≤ max_varint }
 {
     decode(first, body).err()
 }

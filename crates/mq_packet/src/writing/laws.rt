@@ -1,6 +1,7 @@
 //! Laws of the definitions that the contracts of writing use, proved as the contracts of functions that do nothing.
 
 ghost use Rattle.std.specs.Prelude.{◌≡◌, ℕ, ◌+◌, ◌≤◌, true, List, ◌++◌, length, Ok};
+ghost use Rattle.mq_wire.specs.Spellings.{max_varint};
 ghost use Rattle.mq_packet.specs.Entries.{Entry};
 ghost use Rattle.mq_packet.specs.Spelled.{IsSpelled};
 ghost use Rattle.mq_packet.specs.Canonical.{first_byte_of, canonical_body, canonical};
@@ -19,7 +20,7 @@ pub fn what_is_valid_is_spelled()
 /// A packet that is written is cut as one frame, whatever follows it.
 #[tactic(auto, using(crate::proofs::WrittenLaws::written_cut))]
 pub fn what_is_written_is_cut()
-    ensures { (entry : Entry) (more : List ℕ) → length (canonical_body entry) ≤ 268435455 → cut_of (canonical entry ++ more) ≡ Frame (first_byte_of entry) (body_start (length (canonical_body entry))) (body_start (length (canonical_body entry)) + length (canonical_body entry)) }
+    ensures { (entry : Entry) (more : List ℕ) → length (canonical_body entry) ≤ max_varint → cut_of (canonical entry ++ more) ≡ Frame (first_byte_of entry) (body_start (length (canonical_body entry))) (body_start (length (canonical_body entry)) + length (canonical_body entry)) }
 {}
 
 /// A valid packet that is written is decoded as itself.

@@ -1,7 +1,7 @@
 //! Writing the kinds of field. Writing a valid field fails only if the vector has no room for it and can't grow.
 
 ghost use Rattle.std.specs.Prelude.{◌≡◌, ◌≤◌, [], ◌∷◌, ◌++◌, true, OnOk, OnErr, vec_capacity};
-ghost use Rattle.mq_wire.specs.Spellings.{two_bytes_spelling, varint_spelling, text_spelling, binary_spelling};
+ghost use Rattle.mq_wire.specs.Spellings.{max_varint, two_bytes_spelling, varint_spelling, text_spelling, binary_spelling};
 ghost use Rattle.mq_packet.specs.Growing.{LacksRoom};
 ghost use Rattle.mq_packet.specs.Valid.{is_text, is_binary};
 
@@ -40,7 +40,7 @@ pub fn put_number(out: &mut Vec<u8>, number: u16) -> Result<(), PutFault>
 /// Appends a length as a Variable Byte Integer (MQTT 5.0, section 1.5.5).
 #[tactic(auto, using(crate::proofs::GrowingLaws::length_lacks))]
 pub fn put_length(out: &mut Vec<u8>, number: u32) -> Result<(), PutFault>
-    requires { number ≤ 268435455 }
+    requires { number ≤ max_varint }
     ensures ok { OnOk result (out.new.items ≡ out.old.items ++ varint_spelling number) }
     ensures capacity { vec_capacity out.old ≤ vec_capacity out.new }
     ensures err { OnErr result (LacksRoom (vec_capacity out.old) out.old.items (varint_spelling number)) }
