@@ -25,6 +25,7 @@ pub fn each_front_is_one_of_three()
 {}
 
 /// Short examples, computed from the definitions alone (MQTT 5.0, sections 2.1.4 and 1.5.5).
+#[tactic(auto, unfolding(crate::specs::Frames::cut_of, crate::specs::Stream::fixed_header_of, mq_wire::specs::Fields::varint_at))]
 pub fn worked_fronts()
     ensures empty { cut_of [] ≡ Need }
     ensures first_byte { cut_of (192 ∷ []) ≡ Need }

@@ -48,6 +48,7 @@ pub fn what_is_read_is_written()
 {}
 
 /// Short examples, computed from the definitions alone (MQTT 5.0, sections 3.4, 3.12 and 3.15).
+#[tactic(auto, unfolding(crate::specs::Canonical::canonical, crate::specs::Canonical::acknowledgement_body, crate::specs::Canonical::auth_body, crate::specs::Decoding::decoded, crate::specs::Decoding::body_start, mq_wire::specs::Spellings::varint_spelling, mq_wire::specs::Fields::varint_at, mq_props::specs::Reading::properties_on, mq_props::specs::Reading::list_on))]
 pub fn worked_spellings()
     ensures pingreq { canonical pingreq ≡ 192 ∷ 0 ∷ [] }
     // A PUBACK is written without the Reason Code 0x00, and may be read with it, and with no properties as well.
