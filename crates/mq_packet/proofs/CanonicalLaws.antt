@@ -23,7 +23,7 @@ use Rattle.mq_packet.specs.declared.packet.RequestKind.{RequestKind}
 use Rattle.mq_packet.specs.declared.packet.RequestKind.TheVariants as requests
 use Rattle.mq_packet.specs.declared.rule.PacketRule.TheVariants as rules
 use Rattle.mq_packet.specs.Entries.{Entry, connect, connack, publish, acknowledgement, request, answer, pingreq, pingresp, disconnect, auth, WillFields, ConnectFields, PublishFields, AskedFilter, listed, request_place, answer_place, answer_codes, has_options}
-use Rattle.mq_packet.specs.Formats.{text, binary, properties, Format, done, field, field_if, will_if, is_code, names_topic, is_filter, are_connect_flags, has_bits, qos_of, connect_from, connack_format, publish_from, publish_unacknowledged, publish_acknowledged, acknowledgement_format, request_format, answer_format, any_value}
+use Rattle.mq_packet.specs.Formats.{byte, text, binary, properties, Format, done, field, field_if, will_if, is_code, names_topic, is_filter, are_connect_flags, has_bits, qos_of, connect_from, connack_format, publish_from, publish_unacknowledged, publish_acknowledged, acknowledgement_format, request_format, answer_format, any_value, code_objection}
 use Rattle.mq_packet.specs.Asking.{AreOptions, IsAsked, filters_spelling, AreAsked}
 use Rattle.mq_packet.specs.Spelled.{IsValueOf, Spells, IsSpelled}
 use Rattle.mq_packet.specs.Canonical.{bit, connect_flags, spelling_if, list_spelling, will_spelling, reason_spelling, first_byte_of, connect_body, connack_body, publish_body, acknowledgement_body, request_body, answer_body, disconnect_body, auth_body, canonical_body}
@@ -49,33 +49,19 @@ connack_spelled session_present code list ok e =
     let value : IsValueOf (properties places.Connack) list.items = list_value places.Connack list ok parts.0 in
     subst (λ (l : Listed). Spells connack_format (bit 1 session_present ∷ code ∷ list_spelling list.items) (connack session_present code l)) (listed_is places.Connack list parts.0) (flagged session_present value parts.1))
   where
+    behind : (s : Bool) → IsValueOf (properties places.Connack) list.items → is_code connack_codes code ≡ true
+        → Spells (field byte (code_objection connack_codes) (λ c. field (properties places.Connack) any_value (λ l. done (connack s c (listed places.Connack l))))) (code ∷ list_spelling list.items) (connack s code (listed places.Connack list.items))
+    behind s value known = (
+      code,
+      list_spelling list.items,
+      record { is_value = code_value connack_codes code refl known; spelled = refl },
+      unobjected (is_code connack_codes code) rules.W13 known,
+      list_ends places.Connack list.items (connack s code) value,
+    )
+
     flagged : (s : Bool) → IsValueOf (properties places.Connack) list.items → is_code connack_codes code ≡ true → Spells connack_format (bit 1 s ∷ code ∷ list_spelling list.items) (connack s code (listed places.Connack list.items))
-    flagged true value known = (
-      1,
-      code ∷ list_spelling list.items,
-      record { is_value = omega arith; spelled = refl },
-      refl,
-      (
-        code,
-        list_spelling list.items,
-        record { is_value = code_value connack_codes code refl known; spelled = refl },
-        unobjected (is_code connack_codes code) rules.W13 known,
-        list_ends places.Connack list.items (connack true code) value,
-      ),
-    )
-    flagged false value known = (
-      0,
-      code ∷ list_spelling list.items,
-      record { is_value = omega arith; spelled = refl },
-      refl,
-      (
-        code,
-        list_spelling list.items,
-        record { is_value = code_value connack_codes code refl known; spelled = refl },
-        unobjected (is_code connack_codes code) rules.W13 known,
-        list_ends places.Connack list.items (connack false code) value,
-      ),
-    )
+    flagged true value known = (1, code ∷ list_spelling list.items, record { is_value = omega arith; spelled = refl }, refl, behind true value known)
+    flagged false value known = (0, code ∷ list_spelling list.items, record { is_value = omega arith; spelled = refl }, refl, behind false value known)
 
 -- What is written of a Reason Code and properties is one of their spellings.
 reason_ends : (code : ℕ) (items : List Property) → SpellsEnd code items (reason_spelling code items)

@@ -1,5 +1,5 @@
 -- A fixed header that is whole or lost stays so whatever follows, and so does a frame.
-use Rattle.std.proofs.Common.{◌≡◌, ℕ, ◌+◌, ◌*◌, ◌-◌, ◌<◌, ◌≤◌, true, false, ◌⊎◌, inl, inr, List, [], ◌∷◌, ◌++◌, length, Some, None, Result, Ok, Err, refl, sym, ◌∙◌, ap, subst, arith}
+use Rattle.std.proofs.Common.{◌≡◌, ℕ, ◌+◌, ◌*◌, ◌-◌, ◌<◌, ◌≤◌, ◌↔◌, true, false, ◌⊎◌, inl, inr, List, [], ◌∷◌, ◌++◌, length, Some, None, Result, Ok, Err, refl, sym, ◌∙◌, ap, subst, arith}
 use Rattle.std.specs.Prelude.{nat_lt, nat_le, ◌==◌, if◌then◌else◌}
 use Rattle.std.proofs.lemmas.List.{length-append}
 use Rattle.std.proofs.lemmas.Bool.{leb-true, le-leb}
@@ -8,7 +8,7 @@ use Rattle.mq_wire.specs.declared.fault.Reason.TheVariants as reasons
 use Rattle.mq_wire.specs.Fields.{varint_at, second_byte, third_byte, fourth_byte, ended_by}
 use Rattle.mq_packet.specs.declared.header.FixedHeader.{FixedHeader}
 use Rattle.mq_packet.specs.declared.header.FixedHeader.TheVariants.{Short, Lost, Whole}
-use Rattle.mq_packet.proofs.Lengths.{OneToFour, varint_length}
+use Rattle.mq_packet.proofs.Lengths.{OneToFour, varint_length, chosen, chosen_both}
 use Rattle.mq_packet.specs.Stream.{remaining_length_at, header_with, fixed_header_of, size_within, frame_size, is_overlong, is_lost}
 
 -- A number that was read has more than n bytes.
@@ -21,44 +21,33 @@ abbrev Settled : ℕ → Result (ℕ × ℕ) Reason → Result (ℕ × ℕ) Reas
 Settled there before after = (after ≡ before) ⊎ ((before ≡ Err reasons.Short) × LongerThan there after)
 
 ended_longer : (there last n taken : ℕ) → there < taken → LongerThan there (ended_by last n taken)
-ended_longer there last n taken h =
-    elim (last == 0) as (λ b. LongerThan there (if b then Err reasons.Overlong else Ok (n, taken))) [
-      | true ↦ tt
-      | false ↦ h
-    ]
+ended_longer there last n taken h = chosen (LongerThan there) (last == 0) (Err reasons.Overlong) (Ok (n, taken)) tt h
 
 fourth_longer : (there n : ℕ) (c : List ℕ) → there < 4 → LongerThan there (fourth_byte n c)
 fourth_longer there n [] h = tt
 fourth_longer there n (d ∷ c) h =
-    elim (nat_lt d 128) as (λ b. LongerThan there (if b then ended_by d (n + 2097152 * d) 4 else Err reasons.Overlong)) [
-      | true ↦ ended_longer there d (n + 2097152 * d) 4 h
-      | false ↦ tt
-    ]
+    chosen (LongerThan there) (nat_lt d 128) (ended_by d (n + 2097152 * d) 4) (Err reasons.Overlong) (ended_longer there d (n + 2097152 * d) 4 h) tt
 
 third_longer : (there n : ℕ) (c : List ℕ) → there < 3 → LongerThan there (third_byte n c)
 third_longer there n [] h = tt
 third_longer there n (d ∷ c) h =
-    elim (nat_lt d 128) as (λ b. LongerThan there (if b then ended_by d (n + 16384 * d) 3 else fourth_byte (n + 16384 * (d - 128)) c)) [
-      | true ↦ ended_longer there d (n + 16384 * d) 3 h
-      | false ↦ fourth_longer there (n + 16384 * (d - 128)) c (omega arith)
-    ]
+    chosen (LongerThan there) (nat_lt d 128) (ended_by d (n + 16384 * d) 3) (fourth_byte (n + 16384 * (d - 128)) c) (ended_longer there d (n + 16384 * d) 3 h) (fourth_longer there (n + 16384 * (d - 128)) c (omega arith))
 
 second_longer : (there n : ℕ) (c : List ℕ) → there < 2 → LongerThan there (second_byte n c)
 second_longer there n [] h = tt
 second_longer there n (d ∷ c) h =
-    elim (nat_lt d 128) as (λ b. LongerThan there (if b then ended_by d (n + 128 * d) 2 else third_byte (n + 128 * (d - 128)) c)) [
-      | true ↦ ended_longer there d (n + 128 * d) 2 h
-      | false ↦ third_longer there (n + 128 * (d - 128)) c (omega arith)
-    ]
+    chosen (LongerThan there) (nat_lt d 128) (ended_by d (n + 128 * d) 2) (third_byte (n + 128 * (d - 128)) c) (ended_longer there d (n + 128 * d) 2 h) (third_longer there (n + 128 * (d - 128)) c (omega arith))
 
 varint_longer : (c : List ℕ) → LongerThan 0 (varint_at c)
 unfolding varint_at
 varint_longer [] = tt
-varint_longer (d ∷ c) =
-    elim (nat_lt d 128) as (λ b. LongerThan 0 (if b then Ok (d, 1) else second_byte (d - 128) c)) [
-      | true ↦ omega arith
-      | false ↦ second_longer 0 (d - 128) c (omega arith)
-    ]
+varint_longer (d ∷ c) = chosen (LongerThan 0) (nat_lt d 128) (Ok (d, 1)) (second_byte (d - 128) c) (omega arith) (second_longer 0 (d - 128) c (omega arith))
+
+-- A byte before others that settle: it is the last of a number, or they go on.
+first_settled : (there behind d : ℕ) (last before after : Result (ℕ × ℕ) Reason) → behind ≡ there → Settled behind before after
+    → Settled there (if nat_lt d 128 then last else before) (if nat_lt d 128 then last else after)
+first_settled there behind d last before after same settled =
+    chosen_both (Settled there) (nat_lt d 128) last before after (inl refl) (subst (λ (k : ℕ). Settled k before after) same settled)
 
 fourth_settled : (n : ℕ) (a c : List ℕ) → Settled (3 + length a) (fourth_byte n a) (fourth_byte n (a ++ c))
 fourth_settled n [] c = inr (refl, fourth_longer 3 n c (omega arith))
@@ -67,48 +56,30 @@ fourth_settled n (d ∷ a) c = inl refl
 third_settled : (n : ℕ) (a c : List ℕ) → Settled (2 + length a) (third_byte n a) (third_byte n (a ++ c))
 third_settled n [] c = inr (refl, third_longer 2 n c (omega arith))
 third_settled n (d ∷ a) c =
-    elim (nat_lt d 128) as (λ b. Settled (2 + length (d ∷ a)) (if b then ended_by d (n + 16384 * d) 3 else fourth_byte (n + 16384 * (d - 128)) a) (if b then ended_by d (n + 16384 * d) 3 else fourth_byte (n + 16384 * (d - 128)) (a ++ c))) [
-      | true ↦ inl refl
-      | false ↦
-          (let P : ℕ → Type 0 = λ k. Settled k (fourth_byte (n + 16384 * (d - 128)) a) (fourth_byte (n + 16384 * (d - 128)) (a ++ c)) in
-          let e : 3 + length a ≡ 2 + length (d ∷ a) = omega arith in
-          subst P e (fourth_settled (n + 16384 * (d - 128)) a c))
-    ]
+    (let m : ℕ = n + 16384 * (d - 128) in
+    first_settled (2 + length (d ∷ a)) (3 + length a) d (ended_by d (n + 16384 * d) 3) (fourth_byte m a) (fourth_byte m (a ++ c)) (omega arith) (fourth_settled m a c))
 
 second_settled : (n : ℕ) (a c : List ℕ) → Settled (1 + length a) (second_byte n a) (second_byte n (a ++ c))
 second_settled n [] c = inr (refl, second_longer 1 n c (omega arith))
 second_settled n (d ∷ a) c =
-    elim (nat_lt d 128) as (λ b. Settled (1 + length (d ∷ a)) (if b then ended_by d (n + 128 * d) 2 else third_byte (n + 128 * (d - 128)) a) (if b then ended_by d (n + 128 * d) 2 else third_byte (n + 128 * (d - 128)) (a ++ c))) [
-      | true ↦ inl refl
-      | false ↦
-          (let P : ℕ → Type 0 = λ k. Settled k (third_byte (n + 128 * (d - 128)) a) (third_byte (n + 128 * (d - 128)) (a ++ c)) in
-          let e : 2 + length a ≡ 1 + length (d ∷ a) = omega arith in
-          subst P e (third_settled (n + 128 * (d - 128)) a c))
-    ]
+    (let m : ℕ = n + 128 * (d - 128) in
+    first_settled (1 + length (d ∷ a)) (2 + length a) d (ended_by d (n + 128 * d) 2) (third_byte m a) (third_byte m (a ++ c)) (omega arith) (third_settled m a c))
 
 number_settled : (a c : List ℕ) → Settled (length a) (varint_at a) (varint_at (a ++ c))
 unfolding varint_at
 number_settled [] c = inr (refl, varint_longer c)
 number_settled (d ∷ a) c =
-    elim (nat_lt d 128) as (λ b. Settled (length (d ∷ a)) (if b then Ok (d, 1) else second_byte (d - 128) a) (if b then Ok (d, 1) else second_byte (d - 128) (a ++ c))) [
-      | true ↦ inl refl
-      | false ↦
-          (let P : ℕ → Type 0 = λ k. Settled k (second_byte (d - 128) a) (second_byte (d - 128) (a ++ c)) in
-          let e : 1 + length a ≡ length (d ∷ a) = omega arith in
-          subst P e (second_settled (d - 128) a c))
-    ]
+    first_settled (length (d ∷ a)) (1 + length a) d (Ok (d, 1)) (second_byte (d - 128) a) (second_byte (d - 128) (a ++ c)) (omega arith) (second_settled (d - 128) a c)
 
 -- The packet has more than n bytes, where its fixed header is whole.
 abbrev LargerThan : ℕ → FixedHeader → Type 0
 LargerThan n (Whole header size) = n < size
 LargerThan n _ = Unit {0}
 
-larger : (there : ℕ) (r : Result (ℕ × ℕ) Reason) → LongerThan there r → LargerThan (1 + there) (header_with r)
-larger there (Ok x) h = omega (arith, h)
-larger there (Err reasons.Short) h = tt
-larger there (Err reasons.Overlong) h = tt
-larger there (Err reasons.NotUtf8) h = tt
-larger there (Err reasons.Nul) h = tt
+larger : (least there : ℕ) (r : Result (ℕ × ℕ) Reason) → least ≤ 1 + there → LongerThan there r → LargerThan least (header_with r)
+larger least there (Ok x) le h = omega (arith, le, h)
+larger least there (Err reasons.Overlong) le h = tt
+larger least there _ le h = tt
 
 -- What further bytes do to a fixed header: nothing, or it was short and its packet has more bytes than were there.
 abbrev HeaderSettled : ℕ → FixedHeader → FixedHeader → Type 0
@@ -116,20 +87,12 @@ HeaderSettled there before after = (after ≡ before) ⊎ ((before ≡ Short) ×
 
 header_step : (there : ℕ) (before after : Result (ℕ × ℕ) Reason) → Settled there before after → HeaderSettled (1 + there) (header_with before) (header_with after)
 header_step there before after (inl e) = inl (ap header_with e)
-header_step there before after (inr h) = inr (ap header_with h.0, larger there after h.1)
+header_step there before after (inr h) = inr (ap header_with h.0, larger (1 + there) there after (omega arith) h.1)
 
 header_settled : (a c : List ℕ) → HeaderSettled (length a) (fixed_header_of a) (fixed_header_of (a ++ c))
 unfolding fixed_header_of
 header_settled [] [] = inl refl
-header_settled [] (first ∷ c) =
-    inr (refl, first_larger (varint_at c) (varint_longer c))
-  where
-    first_larger : (r : Result (ℕ × ℕ) Reason) → LongerThan 0 r → LargerThan 0 (header_with r)
-    first_larger (Ok x) h = omega (arith, h)
-    first_larger (Err reasons.Short) h = tt
-    first_larger (Err reasons.Overlong) h = tt
-    first_larger (Err reasons.NotUtf8) h = tt
-    first_larger (Err reasons.Nul) h = tt
+header_settled [] (first ∷ c) = inr (refl, larger 0 0 (varint_at c) (omega arith) (varint_longer c))
 header_settled (first ∷ a) c =
     (let P : ℕ → Type 0 = λ k. HeaderSettled k (header_with (varint_at a)) (header_with (varint_at (a ++ c))) in
     let e : 1 + length a ≡ length (first ∷ a) = omega arith in
@@ -160,27 +123,18 @@ short_before a c e =
     ]
 
 -- The fixed header is lost exactly where the bytes are.
+overlong_lost : (r : Result (ℕ × ℕ) Reason) → (is_overlong r ≡ true) ↔ (header_with r ≡ Lost)
+overlong_lost (Err reasons.Overlong) = ((λ e. refl), (λ e. refl))
+overlong_lost (Ok x) = ((λ e. (cc)), (λ e. (cc)))
+overlong_lost _ = ((λ e. (cc)), (λ e. (cc)))
+
 pub lost_header : (a : List ℕ) → is_lost a ≡ true → fixed_header_of a ≡ Lost
 unfolding is_lost fixed_header_of
-lost_header a e = told (remaining_length_at a) e
-  where
-    told : (r : Result (ℕ × ℕ) Reason) → is_overlong r ≡ true → header_with r ≡ Lost
-    told (Ok x) e = (cc)
-    told (Err reasons.Short) e = (cc)
-    told (Err reasons.Overlong) e = refl
-    told (Err reasons.NotUtf8) e = (cc)
-    told (Err reasons.Nul) e = (cc)
+lost_header a e = (overlong_lost (remaining_length_at a)).0 e
 
 pub header_lost : (a : List ℕ) → fixed_header_of a ≡ Lost → is_lost a ≡ true
 unfolding is_lost fixed_header_of
-header_lost a e = told (remaining_length_at a) e
-  where
-    told : (r : Result (ℕ × ℕ) Reason) → header_with r ≡ Lost → is_overlong r ≡ true
-    told (Ok x) e = (cc)
-    told (Err reasons.Short) e = (cc)
-    told (Err reasons.Overlong) e = refl
-    told (Err reasons.NotUtf8) e = (cc)
-    told (Err reasons.Nul) e = (cc)
+header_lost a e = (overlong_lost (remaining_length_at a)).1 e
 
 -- Bytes that are lost stay so whatever follows.
 pub is_lost_stays : (a c : List ℕ) → is_lost a ≡ true → is_lost (a ++ c) ≡ true
@@ -230,43 +184,39 @@ no_frame_yet a header size e h = ap (size_within (length a)) e ∙ lacks
 -- Each frame comes of a whole fixed header, whose size is the frame's.
 pub header_from_frame : (a : List ℕ) (n : ℕ) → frame_size a ≡ Some n → (header : ℕ) × (fixed_header_of a ≡ Whole header n) × (n ≤ length a)
 unfolding frame_size
-header_from_frame a n h = told (fixed_header_of a) refl h
+header_from_frame a n h = by_header (fixed_header_of a) refl h
   where
-    told : (x : FixedHeader) → fixed_header_of a ≡ x → size_within (length a) x ≡ Some n → (header : ℕ) × (fixed_header_of a ≡ Whole header n) × (n ≤ length a)
-    told (Whole header size) e h =
+    by_header : (x : FixedHeader) → fixed_header_of a ≡ x → size_within (length a) x ≡ Some n → (header : ℕ) × (fixed_header_of a ≡ Whole header n) × (n ≤ length a)
+    by_header (Whole header size) e h =
         (let known : (size ≡ n) × (n ≤ length a) = within header size (length a) n h in
         let same : size ≡ n = known.0 in
         (header, e ∙ ap (λ k. Whole header k) same, known.1))
-    told Short e h = (cc)
-    told Lost e h = (cc)
+    by_header Short e h = (cc)
+    by_header Lost e h = (cc)
 
 -- The size of a packet is above that of its fixed header's first byte.
 pub size_above : (a : List ℕ) (header size : ℕ) → fixed_header_of a ≡ Whole header size → (1 ≤ header) × (header ≤ size)
 unfolding fixed_header_of
-size_above a header size e = told (remaining_length_at a) e
+size_above a header size e = by_number (remaining_length_at a) e
   where
-    told : (r : Result (ℕ × ℕ) Reason) → header_with r ≡ Whole header size → (1 ≤ header) × (header ≤ size)
-    told (Ok x) e =
+    by_number : (r : Result (ℕ × ℕ) Reason) → header_with r ≡ Whole header size → (1 ≤ header) × (header ≤ size)
+    by_number (Ok x) e =
         (let h : 1 + x.1 ≡ header = cc in
         let s : 1 + x.1 + x.0 ≡ size = cc in
         (omega (arith, h, s), omega (arith, h, s)))
-    told (Err reasons.Short) e = (cc)
-    told (Err reasons.Overlong) e = (cc)
-    told (Err reasons.NotUtf8) e = (cc)
-    told (Err reasons.Nul) e = (cc)
+    by_number (Err reasons.Overlong) e = (cc)
+    by_number _ e = (cc)
 
 -- A whole fixed header has five bytes at most.
 pub header_few : (a : List ℕ) (header size : ℕ) → fixed_header_of a ≡ Whole header size → header ≤ 5
 unfolding fixed_header_of
 header_few [] header size e = (cc)
-header_few (first ∷ behind) header size e = told (varint_at behind) (varint_length behind) e
+header_few (first ∷ behind) header size e = by_number (varint_at behind) (varint_length behind) e
   where
-    told : (r : Result (ℕ × ℕ) Reason) → OneToFour r → header_with r ≡ Whole header size → header ≤ 5
-    told (Ok x) bounds e = (let h : 1 + x.1 ≡ header = cc in omega (arith, h, bounds.1))
-    told (Err reasons.Short) bounds e = (cc)
-    told (Err reasons.Overlong) bounds e = (cc)
-    told (Err reasons.NotUtf8) bounds e = (cc)
-    told (Err reasons.Nul) bounds e = (cc)
+    by_number : (r : Result (ℕ × ℕ) Reason) → OneToFour r → header_with r ≡ Whole header size → header ≤ 5
+    by_number (Ok x) bounds e = (let h : 1 + x.1 ≡ header = cc in omega (arith, h, bounds.1))
+    by_number (Err reasons.Overlong) bounds e = (cc)
+    by_number _ bounds e = (cc)
 
 -- The size that a fixed header names isn't 0.
 pub not_empty : (a : List ℕ) (header size : ℕ) → fixed_header_of a ≡ Whole header size → 0 < size

@@ -6,12 +6,7 @@ use Rattle.mq_props.specs.Allowed.{first_of}
 -- The value, if it is a byte.
 abbrev pub as_byte : Value → Option ℕ
 as_byte (byte_value x) = Some x
-as_byte (two_bytes_value x) = None
-as_byte (four_bytes_value x) = None
-as_byte (varint_value x) = None
-as_byte (text_value x) = None
-as_byte (pair_value name value) = None
-as_byte (binary_value x) = None
+as_byte _ = None
 
 -- The value of the first property with the identifier, if it is there and a byte.
 abbrev pub first_byte : ℕ → List Property → Option ℕ
@@ -19,13 +14,8 @@ first_byte id ps = option_and_then as_byte (first_of id ps)
 
 -- The value, if it is a Two Byte Integer.
 abbrev pub as_two_bytes : Value → Option ℕ
-as_two_bytes (byte_value x) = None
 as_two_bytes (two_bytes_value x) = Some x
-as_two_bytes (four_bytes_value x) = None
-as_two_bytes (varint_value x) = None
-as_two_bytes (text_value x) = None
-as_two_bytes (pair_value name value) = None
-as_two_bytes (binary_value x) = None
+as_two_bytes _ = None
 
 -- The value of the first property with the identifier, if it is there and a Two Byte Integer.
 abbrev pub first_two_bytes : ℕ → List Property → Option ℕ
@@ -33,13 +23,8 @@ first_two_bytes id ps = option_and_then as_two_bytes (first_of id ps)
 
 -- The value, if it is a Four Byte Integer.
 abbrev pub as_four_bytes : Value → Option ℕ
-as_four_bytes (byte_value x) = None
-as_four_bytes (two_bytes_value x) = None
 as_four_bytes (four_bytes_value x) = Some x
-as_four_bytes (varint_value x) = None
-as_four_bytes (text_value x) = None
-as_four_bytes (pair_value name value) = None
-as_four_bytes (binary_value x) = None
+as_four_bytes _ = None
 
 -- The value of the first property with the identifier, if it is there and a Four Byte Integer.
 abbrev pub first_four_bytes : ℕ → List Property → Option ℕ
@@ -47,13 +32,8 @@ first_four_bytes id ps = option_and_then as_four_bytes (first_of id ps)
 
 -- The value, if it is a Variable Byte Integer.
 abbrev pub as_varint : Value → Option ℕ
-as_varint (byte_value x) = None
-as_varint (two_bytes_value x) = None
-as_varint (four_bytes_value x) = None
 as_varint (varint_value x) = Some x
-as_varint (text_value x) = None
-as_varint (pair_value name value) = None
-as_varint (binary_value x) = None
+as_varint _ = None
 
 -- The value of the first property with the identifier, if it is there and a Variable Byte Integer.
 abbrev pub first_varint : ℕ → List Property → Option ℕ
@@ -61,13 +41,8 @@ first_varint id ps = option_and_then as_varint (first_of id ps)
 
 -- The value, if it is a text.
 abbrev pub as_text : Value → Option (List ℕ)
-as_text (byte_value x) = None
-as_text (two_bytes_value x) = None
-as_text (four_bytes_value x) = None
-as_text (varint_value x) = None
 as_text (text_value x) = Some x
-as_text (pair_value name value) = None
-as_text (binary_value x) = None
+as_text _ = None
 
 -- The value of the first property with the identifier, if it is there and a text.
 abbrev pub first_text : ℕ → List Property → Option (List ℕ)
@@ -75,13 +50,8 @@ first_text id ps = option_and_then as_text (first_of id ps)
 
 -- The value, if it is a pair of texts.
 abbrev pub as_pair : Value → Option (List ℕ × List ℕ)
-as_pair (byte_value x) = None
-as_pair (two_bytes_value x) = None
-as_pair (four_bytes_value x) = None
-as_pair (varint_value x) = None
-as_pair (text_value x) = None
 as_pair (pair_value name value) = Some (name, value)
-as_pair (binary_value x) = None
+as_pair _ = None
 
 -- The value of the first property with the identifier, if it is there and a pair of texts.
 abbrev pub first_pair : ℕ → List Property → Option (List ℕ × List ℕ)
@@ -89,13 +59,8 @@ first_pair id ps = option_and_then as_pair (first_of id ps)
 
 -- The value, if it is binary data.
 abbrev pub as_binary : Value → Option (List ℕ)
-as_binary (byte_value x) = None
-as_binary (two_bytes_value x) = None
-as_binary (four_bytes_value x) = None
-as_binary (varint_value x) = None
-as_binary (text_value x) = None
-as_binary (pair_value name value) = None
 as_binary (binary_value x) = Some x
+as_binary _ = None
 
 -- The value of the first property with the identifier, if it is there and binary data.
 abbrev pub first_binary : ℕ → List Property → Option (List ℕ)
