@@ -187,7 +187,7 @@ type_measured types.Auth flags = reason_packet_measured endings.Auth
 format_measured : (first : ℕ) → Measures (format_of first) 0
 format_measured first = each_first (λ format. Measures format 0) first tt tt (λ type _ _. type_measured type (flags_in first))
 
--- A body that spells a packet has the length that the packet tells.
+-- A body that spells a packet has the length that the packet gives.
 spelled_length : (first : ℕ) (body : List ℕ) (entry : Entry) → IsSpelled first body entry → HasLength (length body) entry
 spelled_length first body entry spelled =
     length_at entry (0 + length body) (length body) (omega arith) (measured (format_of first) 0 body entry (format_measured first) spelled)
@@ -240,10 +240,10 @@ pub size_of_frame : (frame : List ℕ) (header size : ℕ) (packet : Packet) →
     → remaining_length packet ≡ length (drop header frame) → size_with (remaining_length packet) ≡ Some (length frame)
 unfolding fixed_header_of
 size_of_frame [] header size packet known e exact is = cc
-size_of_frame (b ∷ behind) header size packet known e exact is = told (varint_at behind) refl e
+size_of_frame (b ∷ behind) header size packet known e exact is = by_number (varint_at behind) refl e
   where
-    told : (read : Result (ℕ × ℕ) Reason) → varint_at behind ≡ read → header_with read ≡ Whole header size → size_with (remaining_length packet) ≡ Some (length (b ∷ behind))
-    told (Ok x) found h =
+    by_number : (read : Result (ℕ × ℕ) Reason) → varint_at behind ≡ read → header_with read ≡ Whole header size → size_with (remaining_length packet) ≡ Some (length (b ∷ behind))
+    by_number (Ok x) found h =
         (let stands : Stands IsVarint varint_spelling behind x.0 x.1 = varint_exact.only behind x.0 x.1 (λ i. known (suc i)) found in
         let header_is : 1 + x.1 ≡ header = ap header_in h in
         let size_is : 1 + x.1 + x.0 ≡ size = ap size_in h in
@@ -252,7 +252,5 @@ size_of_frame (b ∷ behind) header size packet known e exact is = told (varint_
         ap size_with remaining
         ∙ ap (λ (t : Bool). if t then Some (1 + length (varint_spelling x.0) + x.0) else None) (le-leb x.0 268435455 stands.value)
         ∙ ap (λ (k : ℕ). Some k) whole)
-    told (Err reasons.Short) found h = cc
-    told (Err reasons.Overlong) found h = cc
-    told (Err reasons.NotUtf8) found h = cc
-    told (Err reasons.Nul) found h = cc
+    by_number (Err reasons.Overlong) found h = cc
+    by_number _ found h = cc

@@ -33,13 +33,13 @@ auth_bare code items zero empty =
     ∙ ap (λ (t : Bool). if t then [] else code ∷ list_spelling items) zero)
 
 pub auth_whole : (code : ℕ) (items : List Property) → ((code == 0) && (length (properties_spelling items) == 0)) ≡ false → auth_body code items ≡ code ∷ list_spelling items
-auth_whole code items e = auth_by code items ∙ told (code == 0) (length (properties_spelling items) == 0) e
+auth_whole code items e = auth_by code items ∙ by_tests (code == 0) (length (properties_spelling items) == 0) e
   where
-    told : (zero empty : Bool) → (zero && empty) ≡ false → (if empty then (if zero then [] else code ∷ list_spelling items) else code ∷ list_spelling items) ≡ code ∷ list_spelling items
-    told true true e = absurd (cc)
-    told true false e = refl
-    told false true e = refl
-    told false false e = refl
+    by_tests : (zero empty : Bool) → (zero && empty) ≡ false → (if empty then (if zero then [] else code ∷ list_spelling items) else code ∷ list_spelling items) ≡ code ∷ list_spelling items
+    by_tests true true e = absurd (cc)
+    by_tests true false e = refl
+    by_tests false true e = refl
+    by_tests false false e = refl
 
 pub auth_parts : (code : ℕ) (items : List Property) (bare : Bool) → bare ≡ ((code == 0) && (length (properties_spelling items) == 0)) → MatchBool bare (auth_body code items ≡ []) (auth_body code items ≡ code ∷ list_spelling items)
 auth_parts code items true e = (let both : ((code == 0) ≡ true) × ((length (properties_spelling items) == 0) ≡ true) = and_parts (code == 0) (length (properties_spelling items) == 0) (sym e) in auth_bare code items both.0 both.1)

@@ -151,8 +151,8 @@ reason_packet_none kind = (tt, λ code. (broken_rule (is_code (reason_packet_cod
 
 -- ---- CONNECT
 
-version_told : (version other : ℕ) → version_objection version ≡ Some (other_version other) → (version ≡ other) × (version ≢ 5)
-version_told version other e =
+other_version_is : (version other : ℕ) → version_objection version ≡ Some (other_version other) → (version ≡ other) × (version ≢ 5)
+other_version_is version other e =
     elim (version == 5) as (λ t. (version == 5) ≡ t → (if t then None else Some (other_version version)) ≡ Some (other_version other) → (version ≡ other) × (version ≢ 5)) [
       | true ↦ λ is h. absurd (cc)
       | false ↦ λ is h. ((let same : version ≡ other = cc in same), eqb-false version 5 is)
@@ -173,53 +173,53 @@ connect_version at body version (inr (inr fails)) = versioned fails.4
     versioned : Fails (field byte version_objection (λ v. field byte connect_flags_objection (λ flags. connect_from flags))) (at + length (spelling text fails.0)) fails.1 (OtherVersion version) → IsConnectOfVersion 16 body version
     versioned (inl wrong) = absurd (misspelled_no byte _ fails.1 version wrong)
     versioned (inr (inl other)) =
-        (let told : (other.1.0 ≡ version) × (other.1.0 ≢ 5) = version_told other.1.0 version (other.1.3 ∙ ap (λ (w : Objection). Some w) (objected_version _ version other.0 other.2)) in
+        (let known : (other.1.0 ≡ version) × (other.1.0 ≢ 5) = other_version_is other.1.0 version (other.1.3 ∙ ap (λ (w : Objection). Some w) (objected_version _ version other.0 other.2)) in
         let found : IsConnectOfVersion 16 body other.1.0 = record {
           following = other.1.1;
           first_is = refl;
           body_is = fails.2.spelled ∙ (ap (λ (name : List ℕ). text_spelling name ++ fails.1) name_is ∙ ap (λ (l : List ℕ). text_spelling (codes "MQTT") ++ l) other.1.2.spelled);
           is_byte = other.1.2.is_value;
-          other = told.1;
+          other = known.1;
         } in
-        subst (λ (v : ℕ). IsConnectOfVersion 16 body v) told.0 found)
+        subst (λ (v : ℕ). IsConnectOfVersion 16 body v) known.0 found)
     versioned (inr (inr good)) = absurd (no_version (field byte connect_flags_objection (λ flags. connect_from flags)) (λ flags. (broken_rule (are_connect_flags flags) rules.W19, connect_none flags)) _ good.1 version good.4)
 
 -- ---- any first byte
 
--- What another version by a format says of the bytes.
+-- What another version by a format shows of the bytes: they are a CONNECT of it.
 module _ (first at : ℕ) (body : List ℕ) (version : ℕ) where
-  abbrev Tells : Format → Type 0
-  Tells format = Fails format at body (OtherVersion version) → IsConnectOfVersion first body version
+  abbrev Shows : Format → Type 0
+  Shows format = Fails format at body (OtherVersion version) → IsConnectOfVersion first body version
 
-  none_tells : (format : Format) → HasNoVersion format → Tells format
-  none_tells format h fails = absurd (no_version format h at body version fails)
+  none_shows : (format : Format) → HasNoVersion format → Shows format
+  none_shows format h fails = absurd (no_version format h at body version fails)
 
-  connect_tells : first ≡ 16 → Tells connect_format
-  connect_tells is fails = subst (λ (f : ℕ). IsConnectOfVersion f body version) (sym is) (connect_version at body version fails)
+  connect_shows : first ≡ 16 → Shows connect_format
+  connect_shows is fails = subst (λ (f : ℕ). IsConnectOfVersion f body version) (sym is) (connect_version at body version fails)
 
-  type_tells : (type : PacketType) (flags : ℕ) → first ≡ first_byte_with type (flags_in first) → are_flags (reserved_flags type) (flags_in first) ≡ true → Tells (format_by_type type flags)
-  type_tells types.Connect flags is e = connect_tells (reserved_first first 0 types.Connect is e)
-  type_tells types.Connack flags is e = none_tells connack_format connack_none
-  type_tells types.Publish flags is e = none_tells (publish_format flags) (publish_none flags)
-  type_tells types.Puback flags is e = none_tells (acknowledgement_format acknowledgements.Puback) (acknowledgement_none acknowledgements.Puback)
-  type_tells types.Pubrec flags is e = none_tells (acknowledgement_format acknowledgements.Pubrec) (acknowledgement_none acknowledgements.Pubrec)
-  type_tells types.Pubrel flags is e = none_tells (acknowledgement_format acknowledgements.Pubrel) (acknowledgement_none acknowledgements.Pubrel)
-  type_tells types.Pubcomp flags is e = none_tells (acknowledgement_format acknowledgements.Pubcomp) (acknowledgement_none acknowledgements.Pubcomp)
-  type_tells types.Subscribe flags is e = none_tells (request_format requests.Subscribe) (request_none requests.Subscribe)
-  type_tells types.Suback flags is e = none_tells (answer_format requests.Subscribe) (answer_none requests.Subscribe)
-  type_tells types.Unsubscribe flags is e = none_tells (request_format requests.Unsubscribe) (request_none requests.Unsubscribe)
-  type_tells types.Unsuback flags is e = none_tells (answer_format requests.Unsubscribe) (answer_none requests.Unsubscribe)
-  type_tells types.Pingreq flags is e = none_tells (done pingreq) tt
-  type_tells types.Pingresp flags is e = none_tells (done pingresp) tt
-  type_tells types.Disconnect flags is e = none_tells (reason_packet_format endings.Disconnect) (reason_packet_none endings.Disconnect)
-  type_tells types.Auth flags is e = none_tells (reason_packet_format endings.Auth) (reason_packet_none endings.Auth)
+  type_shows : (type : PacketType) (flags : ℕ) → first ≡ first_byte_with type (flags_in first) → are_flags (reserved_flags type) (flags_in first) ≡ true → Shows (format_by_type type flags)
+  type_shows types.Connect flags is e = connect_shows (reserved_first first 0 types.Connect is e)
+  type_shows types.Connack flags is e = none_shows connack_format connack_none
+  type_shows types.Publish flags is e = none_shows (publish_format flags) (publish_none flags)
+  type_shows types.Puback flags is e = none_shows (acknowledgement_format acknowledgements.Puback) (acknowledgement_none acknowledgements.Puback)
+  type_shows types.Pubrec flags is e = none_shows (acknowledgement_format acknowledgements.Pubrec) (acknowledgement_none acknowledgements.Pubrec)
+  type_shows types.Pubrel flags is e = none_shows (acknowledgement_format acknowledgements.Pubrel) (acknowledgement_none acknowledgements.Pubrel)
+  type_shows types.Pubcomp flags is e = none_shows (acknowledgement_format acknowledgements.Pubcomp) (acknowledgement_none acknowledgements.Pubcomp)
+  type_shows types.Subscribe flags is e = none_shows (request_format requests.Subscribe) (request_none requests.Subscribe)
+  type_shows types.Suback flags is e = none_shows (answer_format requests.Subscribe) (answer_none requests.Subscribe)
+  type_shows types.Unsubscribe flags is e = none_shows (request_format requests.Unsubscribe) (request_none requests.Unsubscribe)
+  type_shows types.Unsuback flags is e = none_shows (answer_format requests.Unsubscribe) (answer_none requests.Unsubscribe)
+  type_shows types.Pingreq flags is e = none_shows (done pingreq) tt
+  type_shows types.Pingresp flags is e = none_shows (done pingresp) tt
+  type_shows types.Disconnect flags is e = none_shows (reason_packet_format endings.Disconnect) (reason_packet_none endings.Disconnect)
+  type_shows types.Auth flags is e = none_shows (reason_packet_format endings.Auth) (reason_packet_none endings.Auth)
 
-  format_tells : Tells (format_of first)
-  format_tells =
-      each_first Tells first (none_tells (bad_first_byte rules.W01) tt) (none_tells (bad_first_byte rules.W02) tt) (λ type is e. type_tells type (flags_in first) is e)
+  format_shows : Shows (format_of first)
+  format_shows =
+      each_first Shows first (none_shows (bad_first_byte rules.W01) tt) (none_shows (bad_first_byte rules.W02) tt) (λ type is e. type_shows type (flags_in first) is e)
 
 version_connects : (first : ℕ) (body : List ℕ) (version : ℕ) → IsOtherVersion first body version → IsConnectOfVersion first body version
-version_connects first body version = format_tells first (body_start (length body)) body version
+version_connects first body version = format_shows first (body_start (length body)) body version
 
 -- ---- such bytes have another version
 

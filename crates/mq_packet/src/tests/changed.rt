@@ -36,7 +36,7 @@ fn comes_back(alloc: Global, packet: &Packet<'_>) -> Result<bool, Fail> {
 }
 
 // Whether that holds of the packet at the front of the bytes.
-fn is_well_told(alloc: Global, bytes: &[u8]) -> Result<bool, Fail> {
+fn decodes_well(alloc: Global, bytes: &[u8]) -> Result<bool, Fail> {
     let Cut::Frame {
         first,
         body_start,
@@ -56,10 +56,10 @@ fn is_well_told(alloc: Global, bytes: &[u8]) -> Result<bool, Fail> {
 }
 
 // Whether that holds of the packet, of its beginnings, and of it with any one byte changed.
-fn is_well_told_in_all(alloc: Global, packet: (u8, &[u8])) -> Result<bool, Fail> {
+fn decodes_well_in_all(alloc: Global, packet: (u8, &[u8])) -> Result<bool, Fail> {
     let (first, body) = packet;
     for size in 0..body.len() {
-        if !is_well_told(alloc, &whole(alloc, first, &body[..size])?)? {
+        if !decodes_well(alloc, &whole(alloc, first, &body[..size])?)? {
             return Ok(false);
         }
     }
@@ -70,18 +70,18 @@ fn is_well_told_in_all(alloc: Global, packet: (u8, &[u8])) -> Result<bool, Fail>
             if let Some(byte) = changed.get_mut(at) {
                 *byte = value;
             }
-            if !is_well_told(alloc, &changed)? {
+            if !decodes_well(alloc, &changed)? {
                 return Ok(false);
             }
         }
     }
-    is_well_told(alloc, &bytes)
+    decodes_well(alloc, &bytes)
 }
 
 #[test]
 fn all_packets(rt: HostRuntime) -> Result<(), Fail> {
     for (name, packet) in PACKETS {
-        assert!(rt; is_well_told_in_all(rt.alloc(), packet)?, "{name}");
+        assert!(rt; decodes_well_in_all(rt.alloc(), packet)?, "{name}");
     }
     Ok(())
 }
