@@ -13,19 +13,19 @@ pub enum PropReason {
     #[error(transparent)]
     Wire(Reason),
     /// No property has the identifier (MQTT 5.0, 2.2.2.2).
-    #[error("no property has the identifier")]
+    #[error("no property has this identifier")]
     Unknown,
     /// The property isn't allowed in this list (MQTT 5.0, 2.2.2.2).
-    #[error("the property isn't one of this list")]
+    #[error("the property isn't allowed in this list")]
     NotAllowed,
     /// The property is in the list already, and may be there only once.
-    #[error("the property may stand in the list only once")]
+    #[error("the property may appear only once in the list")]
     Repeated,
     /// The property may not have this value.
     #[error("the property may not have this value")]
     Value,
     /// The Response Topic of a PUBLISH has a wildcard (MQTT 5.0, 3.3.2.3.5).
-    #[error("a Response Topic has a wildcard")]
+    #[error("a Response Topic contains a wildcard")]
     Wildcard,
 }
 
@@ -74,10 +74,10 @@ impl From<WireFault> for PropFault {
 #[derive(Debug, Clone, Copy, PartialEq, Eq, Error)]
 pub enum PushFault {
     /// The property isn't allowed in this list (MQTT 5.0, 2.2.2.2).
-    #[error("the property isn't one of this list")]
+    #[error("the property isn't allowed in this list")]
     NotAllowed,
     /// The property is in the list already, and may be there only once.
-    #[error("the property may stand in the list only once")]
+    #[error("the property may appear only once in the list")]
     Repeated,
     /// The property may not have this value: it is out of range, a Response Topic of a PUBLISH with a
     /// wildcard, a text with U+0000, or a number above 268,435,455.
@@ -87,7 +87,7 @@ pub enum PushFault {
     #[error("the value or the list is too long")]
     TooLong,
     /// The memory for it couldn't be allocated.
-    #[error("no memory was left")]
+    #[error("out of memory")]
     Memory,
 }
 

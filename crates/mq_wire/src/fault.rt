@@ -19,7 +19,7 @@ pub enum Reason {
     #[error("a text isn't well-formed UTF-8")]
     NotUtf8,
     /// A text has the character U+0000 (MQTT 5.0, 1.5.4).
-    #[error("a text has the character U+0000")]
+    #[error("a text contains the character U+0000")]
     Nul,
 }
 
@@ -55,10 +55,10 @@ pub enum PutFault {
     #[error("a value is too long")]
     TooLong,
     /// A text has the character U+0000.
-    #[error("a text has the character U+0000")]
+    #[error("a text contains the character U+0000")]
     Nul,
     /// The vector could not grow.
-    #[error("no memory was left")]
+    #[error("out of memory")]
     Memory,
 }
 
