@@ -5,6 +5,7 @@ mod changed;
 mod cuts;
 mod encoding;
 mod faults;
+mod harness;
 mod lists;
 mod packets;
 mod props;

@@ -1,13 +1,11 @@
 //! Each packet, cut short at each of its bytes and with each of them changed: `decode` returns a packet that is written and read
 //! as itself, or a fault whose offset is in the packet.
 
-use super::packets::{PACKETS, whole, written};
+use super::harness::{MAX_BODY, whole, written};
+use super::packets::PACKETS;
 use crate::*;
 use std::alloc::Global;
 use std::test::Fail;
-
-// The most bytes that a body has here.
-const MAX_BODY: usize = 1_000;
 
 // What one byte is changed to.
 const VALUES: [u8; 4] = [0x00, 0x7f, 0x80, 0xff];

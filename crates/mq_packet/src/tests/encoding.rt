@@ -1,39 +1,25 @@
 //! Which of its spellings is written for a packet, and its size.
 
-use super::packets::is_written_as;
+use super::harness::{
+    MAX_BODY, acknowledgement, is_written_as, is_written_in_size, list_of, reason_packet,
+};
 use crate::*;
-use mq_props::{Place, Prop, Props, PropsBuf};
+use mq_props::{Place, Prop, Props};
 use std::alloc::Global;
 use std::test::Fail;
-
-// The most bytes that a body has here.
-const MAX_BODY: usize = 100;
-
-fn acknowledgement<'a>(code: u8, properties: Props<'a>) -> Acknowledgement<'a> {
-    Acknowledgement {
-        identifier: 1,
-        code,
-        properties,
-        read_len: None,
-    }
-}
-
-fn reason_packet<'a>(code: u8, properties: Props<'a>) -> ReasonPacket<'a> {
-    ReasonPacket {
-        code,
-        properties,
-        read_len: None,
-    }
-}
 
 // A packet of this type with this code and no properties, if it may leave these out.
 fn bare<'a>(kind: PacketType, code: u8) -> Option<Packet<'a>> {
     let none = Props::empty;
     match kind {
-        PacketType::Puback => Some(Packet::Puback(acknowledgement(code, none(Place::Puback)))),
-        PacketType::Pubrec => Some(Packet::Pubrec(acknowledgement(code, none(Place::Pubrec)))),
-        PacketType::Pubrel => Some(Packet::Pubrel(acknowledgement(code, none(Place::Pubrel)))),
-        PacketType::Pubcomp => Some(Packet::Pubcomp(acknowledgement(code, none(Place::Pubcomp)))),
+        PacketType::Puback => Some(Packet::Puback(acknowledgement(1, code, none(Place::Puback)))),
+        PacketType::Pubrec => Some(Packet::Pubrec(acknowledgement(1, code, none(Place::Pubrec)))),
+        PacketType::Pubrel => Some(Packet::Pubrel(acknowledgement(1, code, none(Place::Pubrel)))),
+        PacketType::Pubcomp => Some(Packet::Pubcomp(acknowledgement(
+            1,
+            code,
+            none(Place::Pubcomp),
+        ))),
         PacketType::Disconnect => Some(Packet::Disconnect(reason_packet(
             code,
             none(Place::Disconnect),
@@ -46,8 +32,7 @@ fn bare<'a>(kind: PacketType, code: u8) -> Option<Packet<'a>> {
 // Whether that packet is written as these bytes, and its size is their number.
 fn is_written_short(alloc: Global, kind: PacketType, code: u8, bytes: &[u8]) -> Result<bool, Fail> {
     let packet = bare(kind, code).ok_or("no such packet")?;
-    let size = Some(u32::try_from(bytes.len())?);
-    Ok(is_written_as(alloc, &packet, bytes)? && packet.size() == size)
+    is_written_in_size(alloc, &packet, bytes)
 }
 
 #[test]
@@ -104,13 +89,11 @@ fn spellings_that_were_read(rt: HostRuntime) -> Result<(), Fail> {
 // With properties, a Reason Code of 0x00 is written too.
 #[test]
 fn whole_spellings(rt: HostRuntime) -> Result<(), Fail> {
-    let mut list = PropsBuf::new(rt.alloc(), Place::Puback);
-    list.push(&Prop::ReasonString("r"))?;
-    let packet = Packet::Puback(acknowledgement(0, list.as_props()));
+    let list = list_of(rt.alloc(), Place::Puback, &[Prop::ReasonString("r")])?;
+    let packet = Packet::Puback(acknowledgement(1, 0, list.as_props()));
     let wanted: &[u8] = &[0x40, 0x08, 0x00, 0x01, 0x00, 0x04, 0x1F, 0x00, 0x01, b'r'];
     assert!(rt; is_written_as(rt.alloc(), &packet, wanted)?);
-    let mut list = PropsBuf::new(rt.alloc(), Place::Auth);
-    list.push(&Prop::AuthenticationMethod("m"))?;
+    let list = list_of(rt.alloc(), Place::Auth, &[Prop::AuthenticationMethod("m")])?;
     let packet = Packet::Auth(reason_packet(0, list.as_props()));
     let wanted: &[u8] = &[0xF0, 0x06, 0x00, 0x04, 0x15, 0x00, 0x01, b'm'];
     assert!(rt; is_written_as(rt.alloc(), &packet, wanted)?);

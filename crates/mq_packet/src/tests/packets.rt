@@ -1,10 +1,5 @@
 //! A packet of each type with every field and property that it may have, as bytes.
 
-use crate::{Packet, encode, is_valid};
-use mq_wire::put_varint;
-use std::alloc::Global;
-use std::test::Fail;
-
 /// CONNECT: its first byte and its body.
 pub const CONNECT: (u8, &[u8]) = (
     0x10,
@@ -158,32 +153,3 @@ pub const PACKETS: [(&str, (u8, &[u8])); 15] = [
     ("DISCONNECT", DISCONNECT),
     ("AUTH", AUTH),
 ];
-
-/// The packet with this first byte and body.
-pub fn whole(alloc: Global, first: u8, body: &[u8]) -> Result<Vec<u8>, Fail> {
-    let mut bytes = Vec::new(alloc);
-    bytes.push(first)?;
-    put_varint(&mut bytes, u32::try_from(body.len())?)?;
-    bytes.extend_from_slice(body)?;
-    Ok(bytes)
-}
-
-/// The packet's bytes, as it is written; none if no bytes spell it.
-pub fn written(alloc: Global, packet: &Packet<'_>) -> Result<Vec<u8>, Fail> {
-    let mut out = Vec::new(alloc);
-    if is_valid(packet) {
-        encode(packet, &mut out)?;
-    }
-    Ok(out)
-}
-
-/// Whether the packet is written as these bytes, after what the vector had.
-pub fn is_written_as(alloc: Global, packet: &Packet<'_>, bytes: &[u8]) -> Result<bool, Fail> {
-    let before: &[u8] = &[7, 8];
-    let mut out = Vec::new(alloc);
-    out.extend_from_slice(before)?;
-    if is_valid(packet) {
-        encode(packet, &mut out)?;
-    }
-    Ok(out.strip_prefix(before) == Some(bytes))
-}

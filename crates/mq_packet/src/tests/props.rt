@@ -1,3 +1,4 @@
+use super::harness::list_of;
 use mq_props::Place::*;
 use mq_props::*;
 use mq_wire::{Cursor, Reason, put_varint};
@@ -299,18 +300,9 @@ fn the_bytes_of_a_list(rt: HostRuntime) {
     }
 }
 
-// The list of these properties.
-fn made(alloc: Global, place: Place, props: &[Prop]) -> Result<PropsBuf, Fail> {
-    let mut list = PropsBuf::new(alloc, place);
-    for prop in props {
-        list.push(prop)?;
-    }
-    Ok(list)
-}
-
 #[test]
 fn first_of_each_in_publish(rt: HostRuntime) -> Result<(), Fail> {
-    let list = made(
+    let list = list_of(
         rt.alloc(),
         Publish,
         &[
@@ -340,7 +332,7 @@ fn first_of_each_in_publish(rt: HostRuntime) -> Result<(), Fail> {
 
 #[test]
 fn first_of_each_in_connack(rt: HostRuntime) -> Result<(), Fail> {
-    let list = made(
+    let list = list_of(
         rt.alloc(),
         Connack,
         &[
@@ -403,7 +395,7 @@ fn first_of_each_in_connect(rt: HostRuntime) -> Result<(), Fail> {
         Prop::RequestProblemInformation(0),
         Prop::RequestResponseInformation(1),
     ];
-    let list = made(rt.alloc(), Connect, &asked)?;
+    let list = list_of(rt.alloc(), Connect, &asked)?;
     let props = list.as_props();
     assert_eq!(rt; props.get_request_problem_information(), Some(0));
     assert_eq!(rt; props.get_request_response_information(), Some(1));
@@ -412,7 +404,7 @@ fn first_of_each_in_connect(rt: HostRuntime) -> Result<(), Fail> {
 
 #[test]
 fn first_of_each_in_will(rt: HostRuntime) -> Result<(), Fail> {
-    let list = made(rt.alloc(), Will, &[Prop::WillDelayInterval(8)])?;
+    let list = list_of(rt.alloc(), Will, &[Prop::WillDelayInterval(8)])?;
     assert_eq!(rt; list.as_props().get_will_delay_interval(), Some(8));
     Ok(())
 }

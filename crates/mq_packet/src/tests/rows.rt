@@ -3,12 +3,10 @@
 ghost use Rattle.std.specs.Prelude.{◌≤◌, length};
 ghost use Rattle.mq_wire.specs.Spellings.{max_varint};
 
+use super::harness::MAX_BODY;
 use crate::PacketRule::*;
 use crate::packet::Packet;
 use crate::{BodyFault, DecodeFault, PacketRule, decode};
-
-// The most bytes that a body has here.
-const MAX_BODY: usize = 100;
 
 fn fault_of(first: u8, body: &[u8]) -> Option<DecodeFault>
     requires { length body.now ≤ max_varint }

@@ -1,7 +1,8 @@
 //! Which packets some bytes spell.
 
+use super::harness::{acknowledgement, answer, list_of, reason_packet, request};
 use crate::*;
-use mq_props::{Place, Prop, Props, PropsBuf};
+use mq_props::{Place, Prop, Props};
 use std::test::Fail;
 
 fn connack<'a>(code: u8, properties: Props<'a>) -> Packet<'a> {
@@ -13,12 +14,7 @@ fn connack<'a>(code: u8, properties: Props<'a>) -> Packet<'a> {
 }
 
 fn puback<'a>(identifier: u16, code: u8) -> Packet<'a> {
-    Packet::Puback(Acknowledgement {
-        identifier,
-        code,
-        properties: Props::empty(Place::Puback),
-        read_len: None,
-    })
+    Packet::Puback(acknowledgement(identifier, code, Props::empty(Place::Puback)))
 }
 
 #[test]
@@ -29,17 +25,9 @@ fn codes_places_and_identifiers(rt: HostRuntime) {
     assert!(rt; is_valid(&puback(1, 0x10)));
     assert!(rt; !is_valid(&puback(0, 0x10)));
     assert!(rt; !is_valid(&puback(1, 0x92)));
-    let unknown = Packet::Disconnect(ReasonPacket {
-        code: 0x01,
-        properties: Props::empty(Place::Disconnect),
-        read_len: None,
-    });
+    let unknown = Packet::Disconnect(reason_packet(0x01, Props::empty(Place::Disconnect)));
     assert!(rt; !is_valid(&unknown));
-    let misplaced = Packet::Auth(ReasonPacket {
-        code: 0x00,
-        properties: Props::empty(Place::Disconnect),
-        read_len: None,
-    });
+    let misplaced = Packet::Auth(reason_packet(0x00, Props::empty(Place::Disconnect)));
     assert!(rt; !is_valid(&misplaced));
 }
 
@@ -88,8 +76,7 @@ fn publishes(rt: HostRuntime) -> Result<(), Fail> {
 // A Topic Alias stands for a Topic Name.
 #[test]
 fn aliases(rt: HostRuntime) -> Result<(), Fail> {
-    let mut list = PropsBuf::new(rt.alloc(), Place::Publish);
-    list.push(&Prop::TopicAlias(5))?;
+    let list = list_of(rt.alloc(), Place::Publish, &[Prop::TopicAlias(5)])?;
     let packet = Packet::Publish(Publish {
         duplicate: false,
         qos: Qos::AtMostOnce,
@@ -140,12 +127,9 @@ fn connects(rt: HostRuntime) -> Result<(), Fail> {
     Ok(())
 }
 
-fn request<'a>(identifier: u16, filters: Filters<'a>, place: Place) -> Request<'a> {
-    Request {
-        identifier,
-        properties: Props::empty(place),
-        filters,
-    }
+// A SUBSCRIBE or UNSUBSCRIBE with these filters and no properties.
+fn bare_request<'a>(identifier: u16, filters: Filters<'a>, place: Place) -> Request<'a> {
+    request(identifier, Props::empty(place), filters)
 }
 
 #[test]
@@ -153,32 +137,29 @@ fn requests(rt: HostRuntime) -> Result<(), Fail> {
     let asked: &[u8] = &[0, 1, b'a', 1];
     let plain: &[u8] = &[0, 1, b'a'];
     let filters = Filters::of(asked, true).ok_or("no filters")?;
-    assert!(rt; is_valid(&Packet::Subscribe(request(1, filters, Place::Subscribe))));
+    assert!(rt; is_valid(&Packet::Subscribe(bare_request(1, filters, Place::Subscribe))));
     let filters = Filters::of(plain, false).ok_or("no filters")?;
-    assert!(rt; !is_valid(&Packet::Subscribe(request(1, filters, Place::Subscribe))));
+    assert!(rt; !is_valid(&Packet::Subscribe(bare_request(1, filters, Place::Subscribe))));
     let filters = Filters::of(plain, false).ok_or("no filters")?;
-    assert!(rt; is_valid(&Packet::Unsubscribe(request(1, filters, Place::Unsubscribe))));
+    assert!(rt; is_valid(&Packet::Unsubscribe(bare_request(1, filters, Place::Unsubscribe))));
     let filters = Filters::of(asked, true).ok_or("no filters")?;
-    assert!(rt; !is_valid(&Packet::Unsubscribe(request(1, filters, Place::Unsubscribe))));
+    assert!(rt; !is_valid(&Packet::Unsubscribe(bare_request(1, filters, Place::Unsubscribe))));
     let filters = Filters::of(asked, true).ok_or("no filters")?;
-    assert!(rt; !is_valid(&Packet::Subscribe(request(0, filters, Place::Subscribe))));
+    assert!(rt; !is_valid(&Packet::Subscribe(bare_request(0, filters, Place::Subscribe))));
     Ok(())
 }
 
-fn answer<'a>(codes: &'a [u8], place: Place) -> Answer<'a> {
-    Answer {
-        identifier: 1,
-        properties: Props::empty(place),
-        codes: Codes::of(codes),
-    }
+// A SUBACK or UNSUBACK with these Reason Codes and no properties.
+fn bare_answer<'a>(codes: &'a [u8], place: Place) -> Answer<'a> {
+    answer(1, Props::empty(place), codes)
 }
 
 #[test]
 fn answers(rt: HostRuntime) {
-    assert!(rt; is_valid(&Packet::Suback(answer(&[0x00, 0x02, 0x80], Place::Suback))));
-    assert!(rt; is_valid(&Packet::Suback(answer(&[], Place::Suback))));
-    assert!(rt; !is_valid(&Packet::Suback(answer(&[0x00, 0x11], Place::Suback))));
-    assert!(rt; is_valid(&Packet::Unsuback(answer(&[0x11], Place::Unsuback))));
-    assert!(rt; !is_valid(&Packet::Unsuback(answer(&[0x01], Place::Unsuback))));
-    assert!(rt; !is_valid(&Packet::Unsuback(answer(&[0x11], Place::Suback))));
+    assert!(rt; is_valid(&Packet::Suback(bare_answer(&[0x00, 0x02, 0x80], Place::Suback))));
+    assert!(rt; is_valid(&Packet::Suback(bare_answer(&[], Place::Suback))));
+    assert!(rt; !is_valid(&Packet::Suback(bare_answer(&[0x00, 0x11], Place::Suback))));
+    assert!(rt; is_valid(&Packet::Unsuback(bare_answer(&[0x11], Place::Unsuback))));
+    assert!(rt; !is_valid(&Packet::Unsuback(bare_answer(&[0x01], Place::Unsuback))));
+    assert!(rt; !is_valid(&Packet::Unsuback(bare_answer(&[0x11], Place::Suback))));
 }

@@ -1,13 +1,11 @@
 //! A packet of each type with every field and property that it may have, whole and cut at each of its bytes.
 
+use super::harness::MAX_BODY;
 use super::packets::{
     AUTH, CONNACK, CONNECT, DISCONNECT, PINGREQ, PINGRESP, PUBACK, PUBCOMP, PUBLISH, PUBREC,
     PUBREL, SUBACK, SUBSCRIBE, UNSUBACK, UNSUBSCRIBE,
 };
 use crate::decode;
-
-// The most bytes that a body has here.
-const MAX_BODY: usize = 1_000;
 
 // How many of the body's proper beginnings are a body too; None if it isn't one itself.
 fn whole_beginnings(first: u8, body: &[u8]) -> Option<usize> {

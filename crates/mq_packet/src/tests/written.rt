@@ -1,8 +1,11 @@
 //! A packet of each type with every field and property that it may have, as it is written.
 
+use super::harness::{
+    acknowledgement, answer, is_written_in_size, list_of, reason_packet, request, whole,
+};
 use super::packets::{
     AUTH, CONNACK, CONNECT, DISCONNECT, PINGREQ, PINGRESP, PUBACK, PUBCOMP, PUBLISH, PUBREC,
-    PUBREL, SUBACK, SUBSCRIBE, UNSUBACK, UNSUBSCRIBE, is_written_as, whole,
+    PUBREL, SUBACK, SUBSCRIBE, UNSUBACK, UNSUBSCRIBE,
 };
 use crate::*;
 use mq_props::{Place, Prop, Props, PropsBuf};
@@ -11,18 +14,9 @@ use std::test::Fail;
 
 const KEY_VALUE: Prop = Prop::UserProperty("k", "v");
 
-// A list of these properties.
-fn list(alloc: Global, place: Place, props: &[Prop<'_>]) -> Result<PropsBuf, Fail> {
-    let mut list = PropsBuf::new(alloc, place);
-    for prop in props {
-        list.push(prop)?;
-    }
-    Ok(list)
-}
-
 // The properties of an answer: a reason, and two of the user's.
 fn reasons(alloc: Global, place: Place) -> Result<PropsBuf, Fail> {
-    list(
+    list_of(
         alloc,
         place,
         &[Prop::ReasonString("why"), KEY_VALUE, KEY_VALUE],
@@ -38,8 +32,7 @@ fn is_example(
 ) -> Result<bool, Fail> {
     let (first, body) = example;
     let bytes = whole(alloc, first, body)?;
-    let size = Some(u32::try_from(bytes.len())?);
-    Ok(is_written_as(alloc, packet, &bytes)? && packet.size() == size && packet.kind() == kind)
+    Ok(is_written_in_size(alloc, packet, &bytes)? && packet.kind() == kind)
 }
 
 // A CONNECT with all that it may have.
@@ -63,7 +56,7 @@ fn connect_with<'a>(properties: Props<'a>, will_properties: Props<'a>) -> Packet
 
 #[test]
 fn connect(rt: HostRuntime) -> Result<(), Fail> {
-    let properties = list(
+    let properties = list_of(
         rt.alloc(),
         Place::Connect,
         &[
@@ -79,7 +72,7 @@ fn connect(rt: HostRuntime) -> Result<(), Fail> {
             Prop::MaximumPacketSize(1000),
         ],
     )?;
-    let will_properties = list(
+    let will_properties = list_of(
         rt.alloc(),
         Place::Will,
         &[
@@ -99,7 +92,7 @@ fn connect(rt: HostRuntime) -> Result<(), Fail> {
 
 #[test]
 fn connack(rt: HostRuntime) -> Result<(), Fail> {
-    let properties = list(
+    let properties = list_of(
         rt.alloc(),
         Place::Connack,
         &[
@@ -133,7 +126,7 @@ fn connack(rt: HostRuntime) -> Result<(), Fail> {
 
 #[test]
 fn publish(rt: HostRuntime) -> Result<(), Fail> {
-    let properties = list(
+    let properties = list_of(
         rt.alloc(),
         Place::Publish,
         &[
@@ -162,16 +155,6 @@ fn publish(rt: HostRuntime) -> Result<(), Fail> {
     Ok(())
 }
 
-// An acknowledgement that a caller makes.
-fn acknowledgement<'a>(identifier: u16, code: u8, properties: Props<'a>) -> Acknowledgement<'a> {
-    Acknowledgement {
-        identifier,
-        code,
-        properties,
-        read_len: None,
-    }
-}
-
 #[test]
 fn acknowledgements(rt: HostRuntime) -> Result<(), Fail> {
     let rows = [
@@ -194,17 +177,9 @@ fn acknowledgements(rt: HostRuntime) -> Result<(), Fail> {
     Ok(())
 }
 
-fn request<'a>(identifier: u16, properties: Props<'a>, filters: Filters<'a>) -> Request<'a> {
-    Request {
-        identifier,
-        properties,
-        filters,
-    }
-}
-
 #[test]
 fn subscribe(rt: HostRuntime) -> Result<(), Fail> {
-    let properties = list(
+    let properties = list_of(
         rt.alloc(),
         Place::Subscribe,
         &[Prop::SubscriptionIdentifier(300), KEY_VALUE],
@@ -219,18 +194,14 @@ fn subscribe(rt: HostRuntime) -> Result<(), Fail> {
 #[test]
 fn suback(rt: HostRuntime) -> Result<(), Fail> {
     let properties = reasons(rt.alloc(), Place::Suback)?;
-    let packet = Packet::Suback(Answer {
-        identifier: 4,
-        properties: properties.as_props(),
-        codes: Codes::of(&[0x01, 0x02, 0xA2]),
-    });
+    let packet = Packet::Suback(answer(4, properties.as_props(), &[0x01, 0x02, 0xA2]));
     assert!(rt; is_example(rt.alloc(), &packet, PacketType::Suback, SUBACK)?);
     Ok(())
 }
 
 #[test]
 fn unsubscribe(rt: HostRuntime) -> Result<(), Fail> {
-    let properties = list(rt.alloc(), Place::Unsubscribe, &[KEY_VALUE])?;
+    let properties = list_of(rt.alloc(), Place::Unsubscribe, &[KEY_VALUE])?;
     let filters = Filters::of(b"\x00\x03a/#\x00\x06$SYS/+", false);
     let filters = filters.ok_or("no filters")?;
     let packet = Packet::Unsubscribe(request(5, properties.as_props(), filters));
@@ -241,11 +212,7 @@ fn unsubscribe(rt: HostRuntime) -> Result<(), Fail> {
 #[test]
 fn unsuback(rt: HostRuntime) -> Result<(), Fail> {
     let properties = reasons(rt.alloc(), Place::Unsuback)?;
-    let packet = Packet::Unsuback(Answer {
-        identifier: 5,
-        properties: properties.as_props(),
-        codes: Codes::of(&[0x00, 0x11]),
-    });
+    let packet = Packet::Unsuback(answer(5, properties.as_props(), &[0x00, 0x11]));
     assert!(rt; is_example(rt.alloc(), &packet, PacketType::Unsuback, UNSUBACK)?);
     Ok(())
 }
@@ -266,7 +233,7 @@ fn pings(rt: HostRuntime) -> Result<(), Fail> {
 
 #[test]
 fn disconnect(rt: HostRuntime) -> Result<(), Fail> {
-    let properties = list(
+    let properties = list_of(
         rt.alloc(),
         Place::Disconnect,
         &[
@@ -276,18 +243,14 @@ fn disconnect(rt: HostRuntime) -> Result<(), Fail> {
             KEY_VALUE,
         ],
     )?;
-    let packet = Packet::Disconnect(ReasonPacket {
-        code: 0x9D,
-        properties: properties.as_props(),
-        read_len: None,
-    });
+    let packet = Packet::Disconnect(reason_packet(0x9D, properties.as_props()));
     assert!(rt; is_example(rt.alloc(), &packet, PacketType::Disconnect, DISCONNECT)?);
     Ok(())
 }
 
 #[test]
 fn auth(rt: HostRuntime) -> Result<(), Fail> {
-    let properties = list(
+    let properties = list_of(
         rt.alloc(),
         Place::Auth,
         &[
@@ -297,11 +260,7 @@ fn auth(rt: HostRuntime) -> Result<(), Fail> {
             KEY_VALUE,
         ],
     )?;
-    let packet = Packet::Auth(ReasonPacket {
-        code: 0x18,
-        properties: properties.as_props(),
-        read_len: None,
-    });
+    let packet = Packet::Auth(reason_packet(0x18, properties.as_props()));
     assert!(rt; is_example(rt.alloc(), &packet, PacketType::Auth, AUTH)?);
     Ok(())
 }
