@@ -9,6 +9,18 @@ use super::header::{FixedHeader, fixed_header};
 
 /// The packet at the front of the bytes: `Frame` exactly if they begin with a whole one, `Lost` exactly if the Remaining Length
 /// after the first byte is invalid, else `Need` (MQTT 5.0, sections 2.1 and 1.5.5).
+///
+/// # Examples
+///
+/// ```
+/// let puback = Cut::Frame {
+///     first: 0x40,
+///     body_start: 2,
+///     body_end: 4,
+/// };
+/// assert_eq!(rt; cut(&[0x40, 2, 0, 10, 0xC0]), puback);
+/// assert_eq!(rt; cut(&[0xC0]), Cut::Need);
+/// ```
 #[tactic(auto, using(crate::proofs::FrameLaws::lost_exactly))]
 pub fn cut(bytes: &[u8]) -> Cut
     // A frame is returned exactly if the bytes begin with one.

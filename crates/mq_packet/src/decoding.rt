@@ -31,6 +31,17 @@ use mq_wire::Cursor;
 /// The fields are checked in their order, for each first its spelling and then its value, and the first invalid one decides:
 /// `Broken` if it breaks a rule on a packet's bytes, with its offset, `OtherVersion` if it is the version of a CONNECT and
 /// isn't 5. Last, no bytes may be left over.
+///
+/// # Examples
+///
+/// ```
+/// let packet = decode(0x40, &[0, 10])?;
+/// assert_eq!(rt; packet.kind(), PacketType::Puback);
+/// match decode(0x40, &[0, 0]) {
+///     Err(DecodeFault::Broken(fault)) => assert_eq!(rt; fault.rule, PacketRule::W09),
+///     _ => assert!(rt; false),
+/// }
+/// ```
 #[inline(always)]
 pub fn decode<'a>(first: u8, body: &'a [u8]) -> Result<Packet<'a>, DecodeFault>
     requires { length body.now ≤ max_varint }

@@ -50,6 +50,17 @@ impl<'a> Filters<'a> {
     ///
     /// `None` if the bytes don't spell such filters: if there are none, if one is misspelled or invalid, if options are missing
     /// or invalid, or if something is left over.
+    ///
+    /// # Examples
+    ///
+    /// ```
+    /// let filters = Filters::of(b"\x00\x03a/b\x01", true).ok_or("no filters")?;
+    /// let wanted = Filter {
+    ///     filter: "a/b",
+    ///     options: Some(1),
+    /// };
+    /// assert_eq!(rt; filters.iter().next(), Some(wanted));
+    /// ```
     #[tactic(auto, using(crate::proofs::FilterLaws::filters_spelled, crate::proofs::FilterLaws::filters_asked))]
     pub fn of(bytes: &'a [u8], options: bool) -> Option<Filters<'a>>
         ensures some { IfSome result (λ filters. (bytes.entry.now ≡ filters_spelling filters) × AreAsked options filters) }

@@ -24,6 +24,14 @@ pub enum FixedHeader {
 
 /// The fixed header at the front of the bytes: it is `Short` if the Remaining Length isn't complete yet, and `Lost` if no further
 /// bytes could make it a Variable Byte Integer (MQTT 5.0, section 2.1.4).
+///
+/// # Examples
+///
+/// ```
+/// let whole = FixedHeader::Whole { length: 2, size: 4 };
+/// assert_eq!(rt; fixed_header(&[0x40, 2]), whole);
+/// assert_eq!(rt; fixed_header(&[0x40]), FixedHeader::Short);
+/// ```
 #[tactic(auto, using(crate::proofs::Lengths::number_length), unfolding(crate::specs::Stream::fixed_header_of))]
 pub fn fixed_header(bytes: &[u8]) -> FixedHeader
     ensures exact { result ≡ fixed_header_of bytes.now }

@@ -4,6 +4,7 @@
 mod changed;
 mod cuts;
 mod encoding;
+mod examples;
 mod faults;
 mod harness;
 mod lists;

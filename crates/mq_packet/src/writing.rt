@@ -82,6 +82,17 @@ fn spelling_facts(packet: &Packet<'_>)
 ///
 /// `TooLong` exactly if the Remaining Length would be over 268,435,455; else `Memory` only if the vector has no room for the
 /// packet and couldn't grow. The vector is then unchanged.
+///
+/// # Examples
+///
+/// ```
+/// let packet = decode(0xE0, &[0x04, 0x00])?;
+/// let mut out = Vec::new(rt.alloc());
+/// if is_valid(&packet) {
+///     encode(&packet, &mut out)?;
+/// }
+/// assert_eq!(rt; out.as_slice(), [0xE0, 0x01, 0x04].as_slice());
+/// ```
 pub fn encode(packet: &Packet<'_>, out: &mut Vec<u8>) -> Result<(), EncodeFault>
     requires valid { valid (view packet.now) ≡ true }
     ensures ok { OnOk result (out.new.items ≡ out.old.items ++ canonical (view packet.now)) }

@@ -312,6 +312,18 @@ impl PropsBuf {
     ///
     /// The [`PushFault`] with the lowest number of those that apply: `Memory` only if the property has more bytes than fit
     /// without another allocation. The list is then unchanged.
+    ///
+    /// # Examples
+    ///
+    /// ```
+    /// let mut list = PropsBuf::new(rt.alloc(), Place::Connack);
+    /// list.push(&Prop::ServerKeepAlive(30))?;
+    /// assert_eq!(rt;
+    ///     list.push(&Prop::ServerKeepAlive(60)),
+    ///     Err(PushFault::Repeated)
+    /// );
+    /// assert_eq!(rt; list.as_props().as_bytes(), [0x13, 0, 30].as_slice());
+    /// ```
     pub fn push(&mut self, prop: &Prop) -> Result<(), PushFault>
         ensures ok { OnOk result (self.new.list ≡ record { place = self.old.list.place; items = self.old.list.items ++ prop_view prop.now ∷ [] }) }
         ensures err { OnErr result (self.new.list ≡ self.old.list) }

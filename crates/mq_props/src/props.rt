@@ -166,6 +166,15 @@ impl<'a> Props<'a> {
     /// identifier is misspelled, `Unknown`, `NotAllowed`, `Repeated`, these at the identifier; then
     /// `Wire` if the value is misspelled, `Value`, `Wildcard`, these at the value. The cursor has then
     /// not moved.
+    ///
+    /// # Examples
+    ///
+    /// ```
+    /// let mut cursor = Cursor::new(&[3, 0x21, 0, 20]);
+    /// let props = Props::read(&mut cursor, Place::Connect)?;
+    /// assert_eq!(rt; props.get_receive_maximum(), Some(20));
+    /// assert_eq!(rt; props.get_topic_alias_maximum(), None);
+    /// ```
     #[inline(always)]
     pub fn read(cursor: &mut Cursor<'a>, place: Place) -> Result<Props<'a>, PropFault>
         // What is read is spelled by the bytes that the cursor moved past, and is valid in the place.
@@ -218,6 +227,15 @@ impl<'a> Props<'a> {
     }
 
     /// The properties, in order.
+    ///
+    /// # Examples
+    ///
+    /// ```
+    /// let mut cursor = Cursor::new(&[3, 0x21, 0, 20]);
+    /// let mut props = Props::read(&mut cursor, Place::Connect)?.iter();
+    /// assert!(rt; matches!(props.next(), Some(Prop::ReceiveMaximum(20))));
+    /// assert!(rt; props.next().is_none());
+    /// ```
     pub fn iter(&self) -> PropsIter<'a>
         ensures { result ≡ self.now.items }
     {

@@ -57,6 +57,15 @@ impl Topic {
 /// The Topic Name that was last set for each Topic Alias of one direction of a Network Connection (MQTT 5.0, 3.3.2.3.4).
 ///
 /// A contract sees the finite map from aliases to the bytes of names.
+///
+/// # Examples
+///
+/// ```
+/// let mut aliases = AliasTable::new(rt.alloc());
+/// assert_eq!(rt; aliases.set(1, "sport/tennis"), Ok(()));
+/// assert_eq!(rt; aliases.get(1), Some("sport/tennis"));
+/// assert_eq!(rt; aliases.get(2), None);
+/// ```
 #[derive(Drop)]
 pub struct AliasTable {
     alloc: Global,

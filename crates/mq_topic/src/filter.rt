@@ -49,6 +49,16 @@ fn check_level(level: &str, is_last: bool) -> Result<(), FilterFault>
 /// # Errors
 ///
 /// The [`FilterFault`] of an invalid filter.
+///
+/// # Examples
+///
+/// ```
+/// assert_eq!(rt; check_filter("sport/tennis/#"), Ok(()));
+/// assert_eq!(rt;
+///     check_filter("sport/tennis#"),
+///     Err(FilterFault::HashNotAlone)
+/// );
+/// ```
 pub fn check_filter(filter: &str) -> Result<(), FilterFault>
     ensures { MatchResult result (λ _. filter_fault filter.now ≡ None) (λ fault. filter_fault filter.now ≡ Some fault) }
 {

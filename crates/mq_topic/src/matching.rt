@@ -11,6 +11,14 @@ use crate::name::check_name;
 ///
 /// `+` matches one level, and `#` matches all remaining levels, also none. A filter that begins with one of them matches no name
 /// that begins with `$`. An invalid filter or name, or an empty name, has no match.
+///
+/// # Examples
+///
+/// ```
+/// assert!(rt; matches("sport/+/player1", "sport/tennis/player1"));
+/// assert!(rt; matches("sport/#", "sport"));
+/// assert!(rt; !matches("#", "$SYS/monitor"));
+/// ```
 #[tactic(auto, unfolding(crate::specs::Matching::matches))]
 pub fn matches(filter: &str, name: &str) -> bool
     ensures { result ≡ is_match filter.now name.now }

@@ -1,5 +1,14 @@
 //! The fields that MQTT 5.0 packets are made of (MQTT 5.0, 1.5): read from bytes without a copy, and
 //! written to a vector.
+//!
+//! # Examples
+//!
+//! ```
+//! let mut cursor = Cursor::new(b"\x00\x0A\x00\x03a/b");
+//! assert_eq!(rt; cursor.u16()?, 10);
+//! assert_eq!(rt; cursor.text()?, "a/b");
+//! assert!(rt; cursor.is_empty());
+//! ```
 #![tactic(auto)]
 
 mod cursor;

@@ -56,6 +56,14 @@ pub fn put_u32(out: &mut Vec<u8>, number: u32) -> Result<(), PutFault>
 ///
 /// Fails with `TooLong` if the number is larger, else with `Memory` if the vector couldn't grow;
 /// the vector is then unchanged.
+///
+/// # Examples
+///
+/// ```
+/// let mut out = Vec::new(rt.alloc());
+/// put_varint(&mut out, 321)?;
+/// assert_eq!(rt; out.as_slice(), b"\xC1\x02".as_slice());
+/// ```
 #[tactic(auto, using(crate::proofs::Back::varint_back), unfolding(crate::specs::Spellings::varint_spelling))]
 pub fn put_varint(out: &mut Vec<u8>, number: u32) -> Result<(), PutFault>
     ensures ok { OnOk result (out.new.items ≡ out.old.items ++ varint_spelling number) }
@@ -121,6 +129,14 @@ pub fn put_binary(out: &mut Vec<u8>, bytes: &[u8]) -> Result<(), PutFault>
 ///
 /// Fails with `TooLong` if there are more bytes, else with `Nul` if U+0000 is among the
 /// characters, else with `Memory` if the vector couldn't grow; the vector is then unchanged.
+///
+/// # Examples
+///
+/// ```
+/// let mut out = Vec::new(rt.alloc());
+/// put_text(&mut out, "A\u{2A6D4}")?;
+/// assert_eq!(rt; out.as_slice(), b"\x00\x05A\xF0\xAA\x9B\x94".as_slice());
+/// ```
 #[tactic(auto, using(crate::proofs::Back::text_back))]
 pub fn put_text(out: &mut Vec<u8>, text: &str) -> Result<(), PutFault>
     ensures ok { OnOk result (out.new.items ≡ out.old.items ++ text_spelling text.now) }
