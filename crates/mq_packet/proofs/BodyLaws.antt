@@ -28,7 +28,7 @@ use Rattle.mq_packet.specs.declared.fault.DecodeFault.{DecodeFault}
 use Rattle.mq_packet.specs.declared.header.FixedHeader.{FixedHeader}
 use Rattle.mq_packet.specs.declared.header.FixedHeader.TheVariants.{Whole}
 use Rattle.mq_packet.specs.Entries.{Entry, connect, connack, publish, acknowledgement, request, answer, pingreq, pingresp, disconnect, auth, WillFields, ConnectFields, PublishFields, AskedFilter, listed}
-use Rattle.mq_packet.specs.Formats.{Kind, text, binary, ValueOf, Format, done, rest, all_codes, all_filters, bad_first_byte, field, at_end, field_if, will_if, has_bits, qos_of, connect_format, connack_format, publish_from, publish_unacknowledged, publish_acknowledged, publish_format, acknowledgement_format, request_format, answer_format, reason_packet_format, format_of, format_by_type}
+use Rattle.mq_packet.specs.Formats.{Kind, text, binary, ValueOf, Format, done, rest, all_codes, all_filters, bad_first_byte, field, at_end, field_if, will_if, has_bits, qos_of, connect_format, connack_format, publish_from, publish_unacknowledged, publish_acknowledged, publish_format, acknowledgement_format, identified, request_format, answer_format, reason_packet_format, format_of, format_by_type}
 use Rattle.mq_packet.specs.Asking.{filters_spelling}
 use Rattle.mq_packet.specs.FirstBytes.{flags_in}
 use Rattle.mq_packet.specs.Canonical.{list_spelling, spelling_if, will_spelling, connect_body, connack_body, publish_body, request_body, answer_body}
@@ -147,11 +147,13 @@ publish_measured first =
 -- ---- SUBSCRIBE, UNSUBSCRIBE and their answers
 
 request_measured : (kind : RequestKind) → Measures (request_format kind) 0
+unfolding identified
 request_measured kind = λ identifier _ list _ filters.
     (let whole : sum (2 ∷ length (list_spelling list) ∷ length (filters_spelling filters) ∷ []) ≡ length (request_body identifier list filters) = request_length identifier list filters (length (list_spelling list)) (length (filters_spelling filters)) refl refl in
     omega (arith, whole))
 
 answer_measured : (kind : RequestKind) → Measures (answer_format kind) 0
+unfolding identified
 answer_measured kind = λ identifier _ list _ reasons.
     (let whole : sum (2 ∷ length (list_spelling list) ∷ length reasons ∷ []) ≡ length (answer_body identifier list reasons) = answer_length identifier list reasons (length (list_spelling list)) (length reasons) refl refl in
     omega (arith, whole))

@@ -23,7 +23,7 @@ use Rattle.mq_packet.specs.declared.packet.RequestKind.{RequestKind}
 use Rattle.mq_packet.specs.declared.packet.RequestKind.TheVariants as requests
 use Rattle.mq_packet.specs.declared.rule.PacketRule.TheVariants as rules
 use Rattle.mq_packet.specs.Entries.{Entry, connect, connack, publish, acknowledgement, request, answer, pingreq, pingresp, disconnect, auth, WillFields, ConnectFields, PublishFields, AskedFilter, listed, request_place, answer_place, answer_codes, has_options}
-use Rattle.mq_packet.specs.Formats.{byte, text, binary, properties, Format, done, field, field_if, will_if, is_code, names_topic, is_filter, are_connect_flags, has_bits, qos_of, connect_from, connack_format, publish_from, publish_unacknowledged, publish_acknowledged, acknowledgement_format, request_format, answer_format, any_value, code_objection}
+use Rattle.mq_packet.specs.Formats.{byte, text, binary, properties, Format, done, all_codes, all_filters, field, field_if, will_if, is_code, names_topic, is_filter, are_connect_flags, has_bits, qos_of, connect_from, connack_format, publish_from, publish_unacknowledged, publish_acknowledged, acknowledgement_format, identified, request_format, answer_format, any_value, code_objection}
 use Rattle.mq_packet.specs.Asking.{AreOptions, IsAsked, filters_spelling, AreAsked}
 use Rattle.mq_packet.specs.Spelled.{IsValueOf, Spells, IsSpelled}
 use Rattle.mq_packet.specs.Canonical.{bit, connect_flags, spelling_if, list_spelling, will_spelling, reason_spelling, first_byte_of, connect_body, connack_body, publish_body, acknowledgement_body, request_body, answer_body, disconnect_body, auth_body, canonical_body}
@@ -182,6 +182,20 @@ some_asked : (filters : List AskedFilter) → not (length filters == 0) ≡ true
 some_asked [] e = absurd (cc)
 some_asked (asked ∷ filters) e = λ (none : (asked ∷ filters) ≡ []). cc
 
+-- What begins with a Packet Identifier and properties is spelled by them, and by what spells the rest.
+identified_spells : (place : Place) (next : ℕ × Listed → Format) (identifier : ℕ) (list : Listed) (behind : List ℕ) (make : Listed → Entry) → IsIdentified identifier list
+    → same_place list.place place ≡ true → is_identifier identifier ≡ true → Spells (next (identifier, listed place list.items)) behind (make (listed place list.items))
+    → Spells (identified place next) (two_bytes_spelling identifier ++ (list_spelling list.items ++ behind)) (make list)
+unfolding identified
+identified_spells place next identifier list behind make ok there known spells =
+    subst (λ (l : Listed). Spells (identified place next) (two_bytes_spelling identifier ++ (list_spelling list.items ++ behind)) (make l)) (listed_is place list there) (
+      identifier,
+      list_spelling list.items ++ behind,
+      record { is_value = ok.bound; spelled = refl },
+      unobjected (is_identifier identifier) rules.W09 known,
+      (list.items, behind, record { is_value = list_value place list ok.properties there; spelled = refl }, refl, spells),
+    )
+
 request_spells : (kind : RequestKind) (identifier : ℕ) (list : Listed) (filters : List AskedFilter) → IsRequest identifier list filters → valid_request kind identifier list filters ≡ true
     → Spells (request_format kind) (request_body identifier list.items filters) (request kind identifier list filters)
 unfolding valid_request valid_filters request_body
@@ -190,14 +204,7 @@ request_spells kind identifier list filters ok e =
     let two : (is_identifier identifier ≡ true) × (valid_filters (has_options kind) filters ≡ true) = and_parts _ _ one.1 in
     let three : (not (length filters == 0) ≡ true) × (list_all (valid_filter (has_options kind)) filters ≡ true) = and_parts _ _ two.1 in
     let are : AreAsked (has_options kind) filters = record { some = some_asked filters three.0; each = filters_asked (has_options kind) filters ok.each three.1 } in
-    let P : Listed → Type 0 = λ l. Spells (request_format kind) (two_bytes_spelling identifier ++ (list_spelling list.items ++ filters_spelling filters)) (request kind identifier l filters) in
-    subst P (listed_is (request_place kind) list one.0) (
-      identifier,
-      list_spelling list.items ++ filters_spelling filters,
-      record { is_value = ok.identified.bound; spelled = refl },
-      unobjected (is_identifier identifier) rules.W09 two.0,
-      (list.items, filters_spelling filters, record { is_value = list_value (request_place kind) list ok.identified.properties one.0; spelled = refl }, refl, (filters, are, refl, refl)),
-    ))
+    identified_spells (request_place kind) (λ start. all_filters (has_options kind) (request kind start.0 start.1)) identifier list (filters_spelling filters) (λ l. request kind identifier l filters) ok.identified one.0 two.0 (filters, are, refl, refl))
 
 request_spelled : (kind : RequestKind) (identifier : ℕ) (list : Listed) (filters : List AskedFilter) → IsRequest identifier list filters → valid_request kind identifier list filters ≡ true
     → IsSpelled (first_byte_of (request kind identifier list filters)) (request_body identifier list.items filters) (request kind identifier list filters)
@@ -210,20 +217,7 @@ unfolding valid_answer answer_body
 answer_spells kind identifier list reasons ok e =
     (let one : (same_place list.place (answer_place kind) ≡ true) × ((is_identifier identifier && list_all (is_code (answer_codes kind)) reasons) ≡ true) = and_parts _ _ e in
     let two : (is_identifier identifier ≡ true) × (list_all (is_code (answer_codes kind)) reasons ≡ true) = and_parts _ _ one.1 in
-    let P : Listed → Type 0 = λ l. Spells (answer_format kind) (two_bytes_spelling identifier ++ (list_spelling list.items ++ reasons)) (answer kind identifier l reasons) in
-    subst P (listed_is (answer_place kind) list one.0) (
-      identifier,
-      list_spelling list.items ++ reasons,
-      record { is_value = ok.bound; spelled = refl },
-      unobjected (is_identifier identifier) rules.W09 two.0,
-      (
-        list.items,
-        reasons,
-        record { is_value = list_value (answer_place kind) list ok.properties one.0; spelled = refl },
-        refl,
-        (two.1, refl),
-      ),
-    ))
+    identified_spells (answer_place kind) (λ start. all_codes (answer_codes kind) (answer kind start.0 start.1)) identifier list reasons (λ l. answer kind identifier l reasons) ok one.0 two.0 (two.1, refl))
 
 answer_spelled : (kind : RequestKind) (identifier : ℕ) (list : Listed) (reasons : List ℕ) → IsIdentified identifier list → valid_answer kind identifier list reasons ≡ true
     → IsSpelled (first_byte_of (answer kind identifier list reasons)) (answer_body identifier list.items reasons) (answer kind identifier list reasons)

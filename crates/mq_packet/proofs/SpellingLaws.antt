@@ -20,7 +20,7 @@ use Rattle.mq_packet.specs.declared.packet.RequestKind.{RequestKind}
 use Rattle.mq_packet.specs.declared.packet.RequestKind.TheVariants as requests
 use Rattle.mq_packet.specs.declared.rule.PacketRule.TheVariants as rules
 use Rattle.mq_packet.specs.Entries.{Entry, WillFields, ConnectFields, AskedFilter, listed, none_listed, acknowledgement_place, has_options}
-use Rattle.mq_packet.specs.Formats.{Kind, text, binary, ValueOf, other_version, version_objection, Format, done, rest, all_codes, all_filters, bad_first_byte, field, at_end, field_if, will_if, are_connect_flags, has_bits, qos_of, connect_format, connack_format, publish_from, publish_unacknowledged, publish_acknowledged, publish_format, acknowledgement_format, request_format, answer_format, reason_packet_format, format_of, format_by_type}
+use Rattle.mq_packet.specs.Formats.{Kind, text, binary, ValueOf, other_version, version_objection, Format, done, rest, all_codes, all_filters, bad_first_byte, field, at_end, field_if, will_if, are_connect_flags, has_bits, qos_of, connect_format, connack_format, publish_from, publish_unacknowledged, publish_acknowledged, publish_format, acknowledgement_format, identified, request_format, answer_format, reason_packet_format, format_of, format_by_type}
 use Rattle.mq_packet.specs.Asking.{filters_spelling, AreAsked}
 use Rattle.mq_packet.specs.Spelled.{IsValueOf, spelling, Spells, IsSpelled}
 use Rattle.mq_packet.specs.Canonical.{acknowledgement_type, request_type, answer_type, bit, qos_bits, will_flags, connect_flags, spelling_if, list_spelling, will_spelling, first_byte_of, connect_body, connack_body, publish_body, request_body, answer_body}
@@ -295,7 +295,7 @@ auth_writes first first_is = (
 -- ---- SUBSCRIBE, UNSUBSCRIBE and their answers
 
 request_writes : (first : ℕ) (kind : RequestKind) → first ≡ reserved_byte (request_type kind) → Writes (IsMade first) (request_format kind) (λ left. left)
-unfolding request_body
+unfolding identified request_body
 request_writes first kind first_is = λ identifier is_identifier _ list is_list _ filters are.
     record {
       first_is = first_is;
@@ -304,7 +304,7 @@ request_writes first kind first_is = λ identifier is_identifier _ list is_list 
     }
 
 answer_writes : (first : ℕ) (kind : RequestKind) → first ≡ reserved_byte (answer_type kind) → Writes (IsMade first) (answer_format kind) (λ left. left)
-unfolding answer_body
+unfolding identified answer_body
 answer_writes first kind first_is = λ identifier is_identifier _ list is_list _ reasons.
     record {
       first_is = first_is;

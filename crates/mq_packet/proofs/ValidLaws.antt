@@ -21,7 +21,7 @@ use Rattle.mq_packet.specs.declared.packet.RequestKind.TheVariants as requests
 use Rattle.mq_packet.specs.declared.rule.PacketRule.{PacketRule}
 use Rattle.mq_packet.specs.declared.rule.PacketRule.TheVariants as rules
 use Rattle.mq_packet.specs.Entries.{Entry, connect, connack, publish, acknowledgement, request, answer, pingreq, pingresp, disconnect, auth, WillFields, listed, acknowledgement_place, acknowledgement_codes, request_place, answer_place, has_options}
-use Rattle.mq_packet.specs.Formats.{byte, text, binary, properties, Format, done, bad_first_byte, field, at_end, field_if, will_if, is_code, names_topic, has_bits, qos_of, connect_from, connect_format, connack_format, publish_from, publish_unacknowledged, publish_acknowledged, publish_format, acknowledgement_format, request_format, answer_format, reason_packet_format, any_value, code_objection, format_of, format_by_type}
+use Rattle.mq_packet.specs.Formats.{byte, text, binary, properties, Format, done, bad_first_byte, field, at_end, field_if, will_if, is_code, names_topic, has_bits, qos_of, connect_from, connect_format, connack_format, publish_from, publish_unacknowledged, publish_acknowledged, publish_format, acknowledgement_format, identified, request_format, answer_format, reason_packet_format, any_value, code_objection, format_of, format_by_type}
 use Rattle.mq_packet.specs.FirstBytes.{flags_in}
 use Rattle.mq_packet.specs.Spelled.{Spells, IsSpelled}
 use Rattle.mq_packet.specs.Valid.{is_text, is_binary, is_identifier, if_there, fits_qos, valid_will, valid_connect, valid_connack, valid_publish, valid_acknowledgement, valid_filters, valid_request, valid_answer, valid_reason_packet, valid, IsTyped}
@@ -127,7 +127,7 @@ publish_sound first =
 -- ---- SUBSCRIBE, UNSUBSCRIBE and their answers
 
 request_sound : (kind : RequestKind) → IsSound (request_format kind)
-unfolding valid_request
+unfolding identified valid_request
 request_sound kind bytes entry h =
     (let known : is_identifier h.0 ≡ true = not_objected (is_identifier h.0) rules.W09 h.3 in
     let good : valid_filters (has_options kind) h.4.4.0 ≡ true = filters_fit (has_options kind) (has_options kind) h.4.4.0 h.4.4.1 ∙ same (has_options kind) in
@@ -138,7 +138,7 @@ request_sound kind bytes entry h =
     same false = refl
 
 answer_sound : (kind : RequestKind) → IsSound (answer_format kind)
-unfolding valid_answer
+unfolding identified valid_answer
 answer_sound kind bytes entry h =
     (let known : is_identifier h.0 ≡ true = not_objected (is_identifier h.0) rules.W09 h.3 in
     by_packet (answer kind h.0 (listed (answer_place kind) h.4.0) h.4.1) entry h.4.4.1 (and_from _ _ (same_as_itself (answer_place kind)) (and_from _ _ known h.4.4.0)))

@@ -20,7 +20,7 @@ use Rattle.mq_packet.specs.declared.rule.PacketRule.TheVariants as rules
 use Rattle.mq_packet.specs.declared.fault.DecodeFault.{DecodeFault}
 use Rattle.mq_packet.specs.declared.fault.DecodeFault.TheVariants.{OtherVersion}
 use Rattle.mq_packet.specs.Entries.{Entry, WillFields, acknowledgement_codes, pingreq, pingresp, reason_packet_codes}
-use Rattle.mq_packet.specs.Formats.{Kind, byte, two_bytes, text, binary, properties, ValueOf, Objection, breaks, other_version, unless_broken, name_objection, version_objection, are_connect_flags, connect_flags_objection, is_code, names_topic, is_filter, are_options, filter_objection, options_objection, Format, done, rest, all_codes, all_filters, bad_first_byte, field, at_end, field_if, will_if, has_bits, connect_from, connect_format, connack_format, publish_from, publish_unacknowledged, publish_acknowledged, publish_format, acknowledgement_format, request_format, answer_format, reason_packet_format, format_of, format_by_type}
+use Rattle.mq_packet.specs.Formats.{Kind, byte, two_bytes, text, binary, properties, ValueOf, Objection, breaks, other_version, unless_broken, name_objection, version_objection, are_connect_flags, connect_flags_objection, is_code, names_topic, is_filter, are_options, filter_objection, options_objection, Format, done, rest, all_codes, all_filters, bad_first_byte, field, at_end, field_if, will_if, has_bits, connect_from, connect_format, connack_format, publish_from, publish_unacknowledged, publish_acknowledged, publish_format, acknowledgement_format, identified, request_format, answer_format, reason_packet_format, format_of, format_by_type}
 use Rattle.mq_packet.specs.FirstBytes.{reserved_flags, flags_in, are_flags, first_byte_with}
 use Rattle.mq_packet.specs.Decoding.{objected, body_start, decoded}
 use Rattle.mq_packet.specs.Misspellings.{MisspelledAs}
@@ -141,9 +141,11 @@ acknowledgement_none : (kind : AcknowledgementKind) → HasNoVersion (acknowledg
 acknowledgement_none kind = λ identifier. (broken_rule (is_identifier identifier) rules.W09, (tt, λ code. (broken_rule (is_code (acknowledgement_codes kind) code) rules.W13, (tt, λ list. (tt, tt)))))
 
 request_none : (kind : RequestKind) → HasNoVersion (request_format kind)
+unfolding identified
 request_none kind = λ identifier. (broken_rule (is_identifier identifier) rules.W09, λ list. (tt, tt))
 
 answer_none : (kind : RequestKind) → HasNoVersion (answer_format kind)
+unfolding identified
 answer_none kind = λ identifier. (broken_rule (is_identifier identifier) rules.W09, λ list. (tt, tt))
 
 reason_packet_none : (kind : ReasonPacketKind) → HasNoVersion (reason_packet_format kind)

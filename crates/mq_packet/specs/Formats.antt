@@ -221,19 +221,24 @@ acknowledgement_format kind =
     (field byte (code_objection (acknowledgement_codes kind)) (λ code.
     last_properties (acknowledgement_place kind) (acknowledgement kind identifier code))))
 
+-- A Packet Identifier, the properties of a place, and then what both decide (3.8.2 to 3.11.2).
+unfoldable pub identified : Place → (ℕ × Listed → Format) → Format
+identified place next =
+    field two_bytes identifier_objection (λ identifier.
+    field (properties place) any_value (λ list.
+    next (identifier, listed place list)))
+
 -- SUBSCRIBE and UNSUBSCRIBE (3.8, 3.10).
 abbrev pub request_format : RequestKind → Format
 request_format kind =
-    field two_bytes identifier_objection (λ identifier.
-    field (properties (request_place kind)) any_value (λ list.
-    all_filters (has_options kind) (request kind identifier (listed (request_place kind) list))))
+    identified (request_place kind) (λ start.
+    all_filters (has_options kind) (request kind start.0 start.1))
 
 -- SUBACK and UNSUBACK (3.9, 3.11).
 abbrev pub answer_format : RequestKind → Format
 answer_format kind =
-    field two_bytes identifier_objection (λ identifier.
-    field (properties (answer_place kind)) any_value (λ list.
-    all_codes (answer_codes kind) (answer kind identifier (listed (answer_place kind) list))))
+    identified (answer_place kind) (λ start.
+    all_codes (answer_codes kind) (answer kind start.0 start.1))
 
 -- DISCONNECT (3.14) and AUTH (3.15): an empty one has the Reason Code 0x00; if one ends after its code, it has no properties.
 abbrev pub reason_packet_format : ReasonPacketKind → Format

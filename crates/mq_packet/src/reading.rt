@@ -1,7 +1,6 @@
 //! Readers of packets, each proved against its format (MQTT 5.0, sections 3.1 to 3.15).
 
 mod acknowledgement;
-mod answer;
 mod connack;
 mod connect;
 mod fields;
@@ -24,7 +23,6 @@ use crate::packet::{AcknowledgementKind, Packet, ReasonPacketKind, RequestKind};
 use crate::read_fault::ReadFault;
 use crate::rule::PacketRule;
 use acknowledgement::read_acknowledgement;
-pub use answer::read_answer;
 use connack::read_connack;
 use connect::read_connect;
 use fields::whole;
@@ -32,7 +30,7 @@ pub use lists::check_filters;
 use mq_wire::Cursor;
 pub use publish::{names_topic, read_publish};
 use reason_packet::read_reason_packet;
-pub use request::read_request;
+pub use request::{read_answer, read_request};
 
 /// The packet with this first byte, whose body, of this size, is left in the cursor; or why reading it stops. Each type has one
 /// first byte, except PUBLISH, which has flags of its own (MQTT 5.0, sections 2.1.2 and 2.1.3). A packet that has several
