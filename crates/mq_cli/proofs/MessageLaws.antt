@@ -14,7 +14,7 @@ use Rattle.mq_judge.specs.Report.{refused_line, refused_report, report}
 use Rattle.mq_judge.specs.Runner.{RunsOver, default_limit}
 use Rattle.mq_judge.specs.Display.{Shows}
 use Rattle.mq_judge.specs.Stopping.{IsRefusedAt, IsRefusedNext, IsUnread}
-use Rattle.mq_judge.proofs.Exports.{appends-kept, appends-then}
+use Rattle.mq_trace.proofs.Exports.{appends-kept, appends-then}
 use Rattle.mq_cli.specs.Messages.{AppendsAfter, AppendsPart, BeginsRefusal, IsOfLog, LacksJsonMemory, IsRefusedBy, RefusesCheck, RefusesShow, StopsCheck, StopsShow, failure_of}
 use Rattle.mq_cli.specs.declared.failure.Failure.{Failure}
 use Rattle.mq_cli.specs.declared.failure.Failure.TheVariants as failures

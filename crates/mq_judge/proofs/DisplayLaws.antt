@@ -15,10 +15,9 @@ use Rattle.mq_judge.specs.Outgoing.{Sends}
 use Rattle.mq_judge.specs.Display.{Shows, WritesBeginning}
 use Rattle.mq_judge.specs.Stopping.{IsRefusedByte}
 use Rattle.mq_judge.specs.Tracing.{TraceStops, HasFailedIn, ShowStops}
-use Rattle.mq_trace.proofs.Exports.{events-nothing}
+use Rattle.mq_trace.proofs.Exports.{events-nothing, appends-nothing, last-written, stopped-in-last}
 use Rattle.mq_trace.specs.Writing.{AppendsBeginning}
 use Rattle.mq_judge.proofs.FeedingLaws.{whole-taken, some-taken, pieces-are}
-use Rattle.mq_judge.proofs.Writes.{appends-nothing, last-written, stopped-in-last}
 
 -- what stops a tracer stops it and its sink
 pub trace-stops : {S : Type 0} (agrees : S → List Placed → Type 0) (refuses : S → List Placed → Refusal → Type 0) (limit : ℕ) (log piece : List ℕ) (old new : S) (r : Refusal)

@@ -5,7 +5,7 @@ pub mod OnePacketLaws
 pub mod ReportLaws
 pub mod RunnerLaws
 pub mod DisplayLaws
-pub mod Writes
+pub mod LineLaws
 pub mod EvaluatingLaws
 pub mod CodeLaws
 pub mod JsonLaws
@@ -15,4 +15,3 @@ pub mod DetailLaws
 pub mod OneLineLaws
 pub mod NearLaws
 pub mod ViewLaws
-pub mod Exports

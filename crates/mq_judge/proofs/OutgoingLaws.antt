@@ -2,11 +2,11 @@
 use Rattle.std.proofs.Common.{◌≡◌, ℕ, Bool, true, false, List, [], ◌++◌, ◌<◌, length, Option, refl, sym, ap, subst, MutBor, ◌∙◌, append_assoc, append-nil, arith}
 use Rattle.std.proofs.lemmas.List.{length-append}
 use Rattle.std.specs.Io.KnownBytes.{Appends}
-use Rattle.mq_trace.specs.Writing.{AppendsBeginning}
+use Rattle.mq_trace.specs.Writing.{AppendsBeginning, LeavesToWrite}
 use Rattle.mq_judge.specs.declared.display.outgoing.Outgoing.{Outgoing}
 use Rattle.mq_judge.specs.Outgoing.{Sends, Carries, Puts}
-use Rattle.mq_judge.specs.Report.{LeavesToWrite, StopsWriting}
-use Rattle.mq_judge.proofs.Writes.{last-written, stopped-in-last}
+use Rattle.mq_judge.specs.Report.{StopsWriting}
+use Rattle.mq_trace.proofs.Exports.{last-written, stopped-in-last}
 
 -- more of the text waits
 pub waits_more : {x y : Option (List ℕ)} {whole rest : List ℕ} (more : List ℕ) → LeavesToWrite x y whole rest → LeavesToWrite x y (whole ++ more) (rest ++ more)

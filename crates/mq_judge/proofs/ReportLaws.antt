@@ -1,14 +1,14 @@
 -- A report that is written line by line.
 use Rattle.std.proofs.Common.{◌≡◌, ℕ, List, [], ◌∷◌, ◌++◌, length, Option, sym, ap, subst, ◌∙◌, append_assoc, IfErr, OnOk, Result, Ok, Err}
 use Rattle.std.specs.Io.KnownBytes.{Appends}
-use Rattle.mq_trace.specs.Writing.{AppendsBeginning}
+use Rattle.mq_trace.specs.Writing.{AppendsBeginning, LeavesToWrite}
 use Rattle.mq_judge.specs.declared.report.RunFault.{RunFault}
 use Rattle.mq_judge.specs.declared.report.RunFault.TheVariants.{Write}
 use Rattle.mq_rules.specs.declared.role.Role.{Role}
 use Rattle.mq_rules.specs.declared.fault.Fault.{Fault}
 use Rattle.mq_rules.specs.declared.faults.FaultKey.{FaultKey}
-use Rattle.mq_judge.specs.Report.{line, fault_text, verdict_text, fault_lines, text_report, LeavesToWrite}
-use Rattle.mq_judge.proofs.Writes.{all-left, piece-written, last-written, stopped-in-piece, stopped-in-last}
+use Rattle.mq_judge.specs.Report.{line, fault_text, verdict_text, fault_lines, text_report}
+use Rattle.mq_trace.proofs.Exports.{all-left, piece-written, last-written, stopped-in-piece, stopped-in-last}
 
 -- before the first line
 pub report-begins : (x : Option (List ℕ)) (role : Role) (faults left : List (FaultKey × Fault)) (events : ℕ) → left ≡ faults

@@ -2,7 +2,7 @@
 use Rattle.std.proofs.Common.{◌≡◌, ℕ, Bool, true, false, ◌<◌, ◌≤◌, ◌+◌, add-one, List, [], ◌∷◌, length, drop, drop-cons, get_or, Option, Some, None, refl, sym, ap, subst, ◌∙◌, arith, OnOk, IfErr, Result, Ok, Err}
 use Rattle.std.specs.Option.{option_or}
 use Rattle.std.specs.Io.KnownBytes.{Appends}
-use Rattle.mq_trace.specs.Writing.{AppendsBeginning}
+use Rattle.mq_trace.specs.Writing.{AppendsBeginning, LeavesToWrite}
 use Rattle.mq_judge.specs.declared.report.RunFault.{RunFault}
 use Rattle.mq_judge.specs.declared.report.RunFault.TheVariants.{Write}
 use Rattle.mq_rules.specs.declared.role.Role.{Role}
@@ -11,8 +11,8 @@ use Rattle.mq_rules.specs.declared.rule.Rule.TheVariants.{W01}
 use Rattle.mq_rules.specs.declared.fault.Fault.{Fault}
 use Rattle.mq_rules.specs.declared.faults.FaultKey.{FaultKey}
 use Rattle.mq_rules.specs.Rules.{same_rule, all_rules}
-use Rattle.mq_judge.specs.Report.{line, verdict_text, faults_of, first_fault_of, rule_line, rule_lines, summary_report, LeavesToWrite}
-use Rattle.mq_judge.proofs.Writes.{all-left, appends-then, piece-written, stopped-in-piece, stopped-in-last}
+use Rattle.mq_judge.specs.Report.{line, verdict_text, faults_of, first_fault_of, rule_line, rule_lines, summary_report}
+use Rattle.mq_trace.proofs.Exports.{all-left, appends-then, piece-written, stopped-in-piece, stopped-in-last}
 
 -- What was counted, and the first fault that was found, before these faults are left of all: of the count, those of other statements are still to be taken away.
 pub record Tallies (rule : Rule) (count : ℕ) (found : Option (FaultKey × Fault)) (left whole : List (FaultKey × Fault)) : Type 0 where

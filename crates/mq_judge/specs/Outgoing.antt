@@ -2,7 +2,7 @@
 use Rattle.std.specs.Prelude.{◌≡◌, ℕ, Bool, true, false, List, ◌++◌, Option}
 use Rattle.mq_trace.specs.Writing.{AppendsBeginning}
 use Rattle.mq_judge.specs.declared.display.outgoing.Outgoing.{Outgoing}
-use Rattle.mq_judge.specs.Report.{LeavesToWrite}
+use Rattle.mq_trace.specs.Writing.{LeavesToWrite}
 
 -- By whether a write failed: if not, all of the whole text was written except the rest, which waits; else a beginning of it, but not all.
 abbrev pub Sends : Bool → Option (List ℕ) → Option (List ℕ) → List ℕ → List ℕ → Type 0

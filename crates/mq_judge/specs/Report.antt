@@ -1,7 +1,6 @@
 -- The text of a report in each form, and the line that is written instead for a log that is refused.
 use Rattle.std.specs.Prelude.{◌≡◌, ℕ, Bool, true, false, ◌<◌, ◌==◌, List, [], ◌∷◌, ◌++◌, length, map, codes, decimal, Option, Some, None, if◌then◌else◌}
 use Rattle.std.specs.List.{filter, flat_map}
-use Rattle.std.specs.Io.KnownBytes.{Appends}
 use Rattle.serde_json.specs.Data.{Data, null, number, unsigned, string, array, object, Items, member, no_members}
 use Rattle.serde_json.specs.View.{items_of}
 use Rattle.serde_json.specs.Written.{compact_text}
@@ -139,12 +138,6 @@ abbrev pub FailsToReport : Form → Option (List ℕ) → Option (List ℕ) → 
 FailsToReport form old new text (run_faults.Refused refusal) = ⊥
 FailsToReport form old new text run_faults.Write = AppendsBeginning old new text
 FailsToReport form old new text run_faults.Memory = (form ≡ forms.Json) × (new ≡ old)
-
--- The known bytes have grown by all of the whole text except the rest.
-pub record LeavesToWrite (old new : Option (List ℕ)) (whole rest : List ℕ) : Type 0 where
-  pub written : List ℕ
-  pub parts : whole ≡ written ++ rest
-  pub appended : Appends old new written
 
 -- A write failed before, and nothing was written now; or it failed now, and a beginning of the text, but not all of it, was written.
 abbrev pub StopsWriting : Bool → Option (List ℕ) → Option (List ℕ) → List ℕ → Type 0

@@ -2,7 +2,7 @@
 use Rattle.std.proofs.lemmas.List.{take_all, length-append}
 use Rattle.std.proofs.Common.{◌≡◌, ℕ, zero, suc, ◌-◌, ◌<◌, subst, length-drop, OnErr, Result, Ok, Err, List, [], ◌∷◌, ◌++◌, length, take, drop, Option, Some, None, refl, sym, ap, ◌∙◌, append_assoc, append-nil, arith}
 use Rattle.std.specs.Io.KnownBytes.{Appends, Keeps}
-use Rattle.mq_trace.specs.Writing.{AppendsBeginning}
+use Rattle.mq_trace.specs.Writing.{AppendsBeginning, LeavesToWrite}
 
 pub appends-nothing : (x : Option (List ℕ)) → Appends x x []
 appends-nothing None = tt
@@ -27,16 +27,10 @@ take-drop-whole (suc n) (x ∷ xs) = ap (λ z. x ∷ z) (take-drop-whole n xs)
 take-left : (n : ℕ) (xs : List ℕ) → take (length xs - n) (drop n xs) ≡ drop n xs
 take-left n xs = take_all (length xs - n) (drop n xs) (omega (arith, length-drop n xs))
 
--- Of the whole, the known bytes have grown by all but the rest.
-pub record LeavesToWrite (old new : Option (List ℕ)) (whole rest : List ℕ) : Type 0 where
-  pub written : List ℕ
-  pub parts : whole ≡ written ++ rest
-  pub appended : Appends old new written
-
 pub all-left : (x : Option (List ℕ)) (whole : List ℕ) → LeavesToWrite x x whole whole
 all-left x whole = record { written = []; parts = refl; appended = appends-nothing x }
 
-piece-written : {x y z : Option (List ℕ)} {whole : List ℕ} (piece rest : List ℕ)
+pub piece-written : {x y z : Option (List ℕ)} {whole : List ℕ} (piece rest : List ℕ)
     → LeavesToWrite x y whole (piece ++ rest) → Appends y z piece → LeavesToWrite x z whole rest
 piece-written {x} {y} {z} piece rest so_far more = record {
   written = so_far.written ++ piece;
@@ -44,15 +38,9 @@ piece-written {x} {y} {z} piece rest so_far more = record {
   appended = appends-then x y z so_far.written piece so_far.appended more;
 }
 
--- nothing more was written
-pub stopped-before : {x y z : Option (List ℕ)} {whole rest : List ℕ} → LeavesToWrite x y whole rest → 0 < length rest → Keeps y z → AppendsBeginning x z whole
-stopped-before {x} {y} {z} {whole} {rest} so_far some kept = record {
-  written = so_far.written ++ [];
-  unwritten = rest;
-  whole = so_far.parts ∙ ap (λ (t : List ℕ). t ++ rest) (sym (append-nil so_far.written));
-  some = some;
-  appended = appends-then x y z so_far.written [] so_far.appended (appends-kept y z kept);
-}
+pub last-written : {x y : Option (List ℕ)} (z : Option (List ℕ)) {whole : List ℕ} (piece : List ℕ)
+    → LeavesToWrite x y whole piece → Appends y z piece → Appends x z whole
+last-written {x} {y} z piece so_far more = rw so_far.parts (appends-then x y z so_far.written piece so_far.appended more)
 
 -- a write took the first n bytes of the rest
 pub some-written : {x y z : Option (List ℕ)} {whole : List ℕ} (n : ℕ) (rest : List ℕ)
@@ -60,13 +48,6 @@ pub some-written : {x y z : Option (List ℕ)} {whole : List ℕ} (n : ℕ) (res
 some-written {x} {y} {z} {whole} n rest so_far more =
     let split : LeavesToWrite x y whole (take n rest ++ drop n rest) = subst (LeavesToWrite x y whole) (take-drop-whole n rest) so_far in
     subst (LeavesToWrite x z whole) (sym (take-left n rest)) (piece-written (take n rest) (drop n rest) split more)
-
-pub none-left : {x y : Option (List ℕ)} {whole : List ℕ} (rest : List ℕ) → LeavesToWrite x y whole rest → length rest ≡ 0 → Appends x y whole
-none-left [] so_far e = rw (so_far.parts ∙ append-nil so_far.written) so_far.appended
-none-left (b ∷ rest) so_far e = absurd (omega arith)
-
-pub begun : {x y : Option (List ℕ)} {whole rest : List ℕ} → LeavesToWrite x y whole rest → 0 < length rest → AppendsBeginning x y whole
-begun {x} {y} {whole} {rest} so_far some = record { written = so_far.written; unwritten = rest; whole = so_far.parts; some = some; appended = so_far.appended }
 
 -- of two pieces the first was written in part
 pub stopped-in-front : {x y : Option (List ℕ)} (front back : List ℕ) → AppendsBeginning x y front → AppendsBeginning x y (front ++ back)
@@ -87,6 +68,14 @@ stopped-in-back {x} {y} {z} front back before part = record {
   some = part.some;
   appended = appends-then x y z front part.written before part.appended;
 }
+
+pub stopped-in-last : {x y : Option (List ℕ)} (z : Option (List ℕ)) {whole : List ℕ} (piece : List ℕ)
+    → LeavesToWrite x y whole piece → AppendsBeginning y z piece → AppendsBeginning x z whole
+stopped-in-last z piece so_far part = rw so_far.parts (stopped-in-back so_far.written piece so_far.appended part)
+
+pub stopped-in-piece : {x y : Option (List ℕ)} (z : Option (List ℕ)) {whole : List ℕ} (piece rest : List ℕ)
+    → LeavesToWrite x y whole (piece ++ rest) → AppendsBeginning y z piece → AppendsBeginning x z whole
+stopped-in-piece z piece rest so_far part = stopped-in-last z (piece ++ rest) so_far (stopped-in-front piece rest part)
 
 -- a fact that holds anyway holds of an error
 pub on-err : {T E X : Type 0} (answer : Result T E) → X → OnErr answer X

@@ -62,6 +62,12 @@ pub record AppendsBeginning (old new : Option (List ℕ)) (text : List ℕ) : Ty
   pub some : 0 < length unwritten
   pub appended : Appends old new written
 
+-- The known bytes have grown by all of the whole text except the rest.
+pub record LeavesToWrite (old new : Option (List ℕ)) (whole rest : List ℕ) : Type 0 where
+  pub written : List ℕ
+  pub parts : whole ≡ written ++ rest
+  pub appended : Appends old new written
+
 -- a TraceWriter: the writer that it writes to, and whether a call has failed
 pub record Tracing (W : Type 0) : Type 0 where
   pub writer : W

@@ -1,4 +1,4 @@
-use Rattle.mq_judge.proofs.Exports.{some-written}
+use Rattle.mq_trace.proofs.Exports.{some-written}
 use Rattle.mq_cli.proofs.writing.write_text.Goals as goal
 
 pub loop-rest-preserved : goal.loop-rest-preserved

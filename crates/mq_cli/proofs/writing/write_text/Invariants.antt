@@ -1,5 +1,5 @@
 use Rattle.std.proofs.Common.{length}
-use Rattle.mq_judge.specs.Report.{LeavesToWrite}
+use Rattle.mq_trace.specs.Writing.{LeavesToWrite}
 use Rattle.mq_cli.proofs.writing.write_text.Given as goal
 
 abbrev pub invariant-loop-rest : goal.invariant-loop-rest

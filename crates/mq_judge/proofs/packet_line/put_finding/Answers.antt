@@ -1,5 +1,5 @@
 -- The texts of a finding with a number.
-use Rattle.mq_judge.proofs.Writes.{all_written}
+use Rattle.mq_judge.proofs.LineLaws.{all_written}
 use Rattle.mq_judge.proofs.packet_line.put_finding.Goals as goal
 
 pub returns-in-LeftOver : goal.returns-in-LeftOver

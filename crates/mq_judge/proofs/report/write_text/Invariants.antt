@@ -1,7 +1,7 @@
 use Rattle.std.proofs.Common.{◌++◌, length}
 use Rattle.std.specs.FinMap as map
 use Rattle.mq_judge.specs.Report.{line, verdict_text, fault_lines, text_report}
-use Rattle.mq_judge.specs.Report.{LeavesToWrite}
+use Rattle.mq_trace.specs.Writing.{LeavesToWrite}
 use Rattle.mq_judge.proofs.report.write_text.Given as goal
 
 abbrev pub invariant-loop-key : goal.invariant-loop-key

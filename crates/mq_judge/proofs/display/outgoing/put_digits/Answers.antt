@@ -1,5 +1,5 @@
 -- The digits of a number.
-use Rattle.mq_judge.proofs.Writes.{all_written}
+use Rattle.mq_judge.proofs.LineLaws.{all_written}
 use Rattle.mq_judge.proofs.display.outgoing.put_digits.Goals as goal
 
 pub returns : goal.returns

@@ -1,4 +1,4 @@
-use Rattle.mq_judge.proofs.Writes.{some-written}
+use Rattle.mq_trace.proofs.Exports.{some-written}
 use Rattle.mq_judge.proofs.report.line.write_bytes.Goals as goal
 
 pub loop-rest-preserved : goal.loop-rest-preserved

@@ -1,6 +1,7 @@
 use Rattle.std.proofs.Common.{drop}
 use Rattle.std.specs.FinMap as map
-use Rattle.mq_judge.specs.Report.{LeavesToWrite, rule_lines}
+use Rattle.mq_judge.specs.Report.{rule_lines}
+use Rattle.mq_trace.specs.Writing.{LeavesToWrite}
 use Rattle.mq_judge.proofs.report.summing.write_rules.Given as goal
 
 abbrev pub invariant-loop-rule : goal.invariant-loop-rule

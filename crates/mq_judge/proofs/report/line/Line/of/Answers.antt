@@ -1,4 +1,4 @@
-use Rattle.mq_judge.proofs.Writes.{made-line}
+use Rattle.mq_judge.proofs.LineLaws.{made-line}
 use Rattle.mq_judge.proofs.report.line.Line.of.Goals as goal
 
 pub returns : goal.returns
