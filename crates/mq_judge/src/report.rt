@@ -14,6 +14,7 @@ pub mod summing;
 use self::json::write_refusal;
 use self::line::write_line;
 use super::judge::Verdict;
+use super::lines::Lines;
 use mq_rules::{Fault, FaultKey, Role};
 use mq_trace::Refusal;
 use std::alloc::Global;
@@ -137,19 +138,20 @@ pub fn write_text<W: Write>(verdict: &Verdict, role: Role, writer: &mut W) -> Re
     ensures write { IfErr result (λ fault. (fault ≡ RunFault.Write) × AppendsBeginning (W.contents writer.old) (W.contents writer.new)
         (report_on Form.Text role (map.entries verdict.now.faults) verdict.now.events)) }
 {
+    let mut lines = Lines::new();
     for (key, fault) in verdict.faults.iter() {
         let found = Found {
             role,
             key: *key,
             fault: *fault,
         };
-        write_line(found, writer)?;
+        write_line(found, &mut lines, writer)?;
     }
     let counts = Counts {
         faults: verdict.faults.len(),
         events: verdict.events,
     };
-    write_line(counts, writer)
+    write_line(counts, &mut lines, writer)
 }
 
 /// Writes the line that replaces the report for a log that is refused. It takes memory only in the form `Json`.
@@ -169,7 +171,7 @@ pub fn write_refused<W: Write>(
     ensures err { IfErr result (FailsToReport form (W.contents writer.old) (W.contents writer.new) (refused_report form refusal.now)) }
 {
     match form {
-        Form::Text | Form::Summary => write_line(*refusal, writer),
+        Form::Text | Form::Summary => write_line(*refusal, &mut Lines::new(), writer),
         Form::Json => write_refusal(alloc, *refusal, writer),
     }
 }

@@ -1,76 +1,14 @@
 //! Lines, each complete before it is written.
-ghost use Rattle.std.specs.Prelude.{◌≡◌, [], ◌∷◌, ◌++◌, IfSome, IfOk, IfErr, OnOk};
+ghost use Rattle.std.specs.Prelude.{◌≡◌, ◌++◌, IfSome, IfErr, OnOk};
 ghost use Rattle.std.specs.Io.KnownBytes.{Appends};
 ghost use Rattle.mq_trace.specs.Writing.{AppendsBeginning};
 ghost use Rattle.mq_judge.specs.Report.{line};
 
+use super::super::lines::Lines;
 use super::RunFault;
 use std::fmt;
 use std::fmt::{Display, Write as _};
 use std::io::Write;
-use std::marker::Model;
-
-/// The most bytes that a line can have. The longest line of a report has 89.
-const ROOM: usize = 128;
-
-/// A line that is being built.
-#[derive(Drop)]
-struct Line {
-    bytes: [u8; 128],
-    len: usize,
-}
-
-impl Model for Line {
-    ghost use Rattle.std.specs.Prelude.{ℕ, ◌≤◌, List, take};
-
-    ghost Value = { List ℕ };
-
-    ghost view = { λ l. take l.len l.bytes };
-
-    ghost invariant = { λ l. l.len ≤ 128 };
-}
-
-impl Line {
-    /// An empty line.
-    fn new() -> Self
-        ensures { result ≡ [] }
-    {
-        Line {
-            bytes: [0; 128],
-            len: 0,
-        }
-    }
-
-    /// A value's line, or an error if it has no room.
-    fn of<D: Display + Drop>(value: D) -> Result<Self, fmt::Error>
-        ensures { IfOk result (λ made. IfSome (D.output value) (λ text. made ≡ line text)) }
-    {
-        let mut made = Line::new();
-        made.writeln(value)?;
-        Ok(made)
-    }
-
-    /// The line so far.
-    fn as_bytes(&self) -> &[u8]
-        ensures { result.now ≡ self.now }
-    {
-        &self.bytes[..self.len]
-    }
-}
-
-impl fmt::Write for Line {
-    ghost write_str_gives = { λ old text new. new ≡ old ++ text };
-
-    fn write_str(&mut self, text: &str) -> fmt::Result {
-        if text.len() > ROOM - self.len {
-            return Err(fmt::Error);
-        }
-        let end = self.len + text.len();
-        self.bytes[self.len..end].copy_from_slice(text.as_bytes());
-        self.len = end;
-        Ok(())
-    }
-}
 
 /// Writes these bytes.
 ///
@@ -92,18 +30,34 @@ pub fn write_bytes<W: Write>(bytes: &[u8], writer: &mut W) -> Result<(), RunFaul
     Ok(())
 }
 
-/// Writes a value as a line of its own.
+/// Writes a value as a line of its own, which is built in a buffer in place of what waited there.
 ///
 /// # Errors
 ///
 /// `Write` if a write failed, or the line has no room for the value.
-pub fn write_line<D: Display + Drop, W: Write>(value: D, writer: &mut W) -> Result<(), RunFault>
+pub fn write_line<D: Display + Drop, W: Write>(
+    value: D,
+    lines: &mut Lines,
+    writer: &mut W,
+) -> Result<(), RunFault>
     ensures ok { OnOk result (IfSome (D.output value) (λ text. Appends (W.contents writer.old) (W.contents writer.new) (line text))) }
     ensures write { IfErr result (λ fault. (fault ≡ RunFault.Write)
         × IfSome (D.output value) (λ text. AppendsBeginning (W.contents writer.old) (W.contents writer.new) (line text))) }
 {
-    match Line::of(value) {
-        Ok(made) => write_bytes(made.as_bytes(), writer),
+    lines.clear();
+    match put_line(lines, value) {
+        Ok(()) => write_bytes(lines.as_bytes(), writer),
         Err(_) => Err(RunFault::Write),
     }
+}
+
+/// Appends a value as a line to those that wait.
+///
+/// # Errors
+///
+/// If there is no room for it. A beginning of it may then have been appended.
+fn put_line<D: Display + Drop>(lines: &mut Lines, value: D) -> fmt::Result
+    ensures { OnOk result (IfSome (D.output value) (λ text. lines.new ≡ lines.old ++ line text)) }
+{
+    lines.writeln(value)
 }

@@ -7,6 +7,7 @@ ghost use Rattle.mq_judge.specs.declared.report.Form.TheVariants.{Summary};
 ghost use Rattle.mq_judge.specs.declared.report.RunFault.TheVariants as run_faults;
 ghost use Rattle.mq_judge.specs.Report.{faults_of, first_fault_of, rule_text, rule_line, rule_lines, report_on};
 
+use super::super::lines::Lines;
 use super::line::write_line;
 use super::{Counts, RunFault};
 use crate::judge::Verdict;
@@ -68,7 +69,7 @@ pub fn write_summary<W: Write>(
         faults: verdict.faults.len(),
         events: verdict.events,
     };
-    write_line(counts, writer)
+    write_line(counts, &mut Lines::new(), writer)
 }
 
 /// Writes a line for each of these statements that has faults.
@@ -117,7 +118,7 @@ fn write_rule<W: Write>(
                 key,
                 fault,
             };
-            write_line(broken, writer)
+            write_line(broken, &mut Lines::new(), writer)
         }
         None => Ok(()),
     }
