@@ -2,6 +2,6 @@
 
 mod emission;
 mod keeping;
-mod logs;
+pub mod logs;
 mod refusals;
 mod sessions;

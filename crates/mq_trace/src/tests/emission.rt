@@ -2,7 +2,7 @@
 
 ghost use Rattle.std.specs.Prelude.{◌≡◌};
 
-use super::logs::{ANSWERED_LINES, Row, log_of};
+use super::logs::{ANSWERED_LINES, Part, log_of};
 use crate::{Event, Item, Place3, Refusal, Sink, Tracer};
 use std::alloc::{AllocError, Global};
 use std::process::Abort;
@@ -117,20 +117,16 @@ pub fn assert_emits(
     }
 }
 
-/// Asserts that each row's log, in each cutting, gives the row's lines and result.
-pub fn assert_rows(rt: &(impl Abort + AllocGlobal), rows: &[Row]) -> Result<(), Fail> {
-    for row in rows {
-        let log = log_of(rt.alloc(), row.connack_seen, row.parts, false)?;
-        let begin = if row.connack_seen { ANSWERED_LINES } else { "" };
-        assert_emits(
-            rt,
-            LIMIT,
-            log.as_slice(),
-            true,
-            begin,
-            row.lines,
-            row.answer,
-        );
-    }
+/// Asserts that the log of these parts, after those of `ANSWERED` or alone, gives in each cutting these lines on the parts, and this result.
+pub fn assert_log(
+    rt: &(impl Abort + AllocGlobal),
+    connack_seen: bool,
+    parts: &[Part],
+    lines: &str,
+    answer: Result<(), Refusal>,
+) -> Result<(), Fail> {
+    let log = log_of(rt.alloc(), connack_seen, parts, false)?;
+    let begin = if connack_seen { ANSWERED_LINES } else { "" };
+    assert_emits(rt, LIMIT, log.as_slice(), true, begin, lines, answer);
     Ok(())
 }

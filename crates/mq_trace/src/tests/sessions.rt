@@ -1,6 +1,6 @@
 //! Logs and the lines on their events, whatever the records and wherever a log ends.
 
-use super::emission::{LIMIT, Lines, assert_emits, assert_rows, trace};
+use super::emission::{LIMIT, Lines, assert_emits, assert_log, trace};
 use super::logs::Part::{Close, Open, Raw, Recv, Release, Rest, Sent};
 use super::logs::{
     BEGINNING, CLIENT, CONNACK, CONNECT, END, LOST, PUBACK, PUBLISH, Row, SERVER, UNIDENTIFIED,
@@ -197,7 +197,10 @@ pub static SESSIONS: [Row; 15] = [
 
 #[test]
 fn reports_sessions(rt: HostRuntime) -> Result<(), Fail> {
-    assert_rows(&rt, &SESSIONS)
+    for row in &SESSIONS {
+        assert_log(&rt, row.connack_seen, row.parts, row.lines, row.answer)?;
+    }
+    Ok(())
 }
 
 /// How bytes are cut into records changes only the records' numbers.

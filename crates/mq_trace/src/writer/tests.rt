@@ -1,18 +1,11 @@
 //! Logs that are written, byte for byte, and writers that fail.
 use super::super::header::Header;
+use super::super::tests::logs::{CONNACK, CONNECT, PUBACK, PUBLISH};
 use super::{TraceWriter, WriteFault};
 use std::alloc::AllocError;
 use std::io;
 use std::io::{ErrorKind, Write};
 use std::process::Abort;
-
-const CONNECT: &[u8] = b"\x10\x0D\x00\x04MQTT\x05\x02\x00\x3C\x00\x00\x00";
-
-const CONNACK: &[u8] = b"\x20\x03\x00\x00\x00";
-
-const PUBLISH: &[u8] = b"\x32\x07\x00\x01a\x00\x01\x00x";
-
-const PUBACK: &[u8] = b"\x40\x02\x00\x01";
 
 /// A client connects, publishes a message at QoS 1 and gets the PUBACK, rests, and the connection ends.
 const WORKED: &[u8] = b"MQTR\x01\x00\x01\x00\
