@@ -1,5 +1,10 @@
 //! Logs that are shown with the faults at their events.
 use super::display::{show_faults, show_long};
+use super::harness::Part::{Open, Recv, Rest, Sent};
+use super::harness::{
+    CLIENT, CONNACK, CONNECT, HEADER, PINGREQ, PINGRESP, PUBACK, PUBLISH_ONCE,
+    PUBLISH_UNIDENTIFIED, Part, add_record, log_of,
+};
 use super::report::RunFault;
 use super::runner::judge_reader;
 use mq_trace::Refusal;
@@ -8,13 +13,14 @@ use std::fmt::Write as _;
 use std::test::Fail;
 
 // A client that sends a PUBLISH of QoS 1 and, with the same Packet Identifier, another one.
-const IN_USE: &[u8] = b"MQTR\x01\x00\x01\x00\
-    \x01\x00\x00\x00\x00\
-    \x02\x00\x00\x00\x0f\x10\x0d\x00\x04MQTT\x05\x02\x00\x3c\x00\x00\x00\
-    \x03\x00\x00\x00\x05\x20\x03\x00\x00\x00\
-    \x02\x00\x00\x00\x09\x32\x07\x00\x01a\x00\x01\x00x\
-    \x02\x00\x00\x00\x09\x32\x07\x00\x01a\x00\x01\x00x\
-    \x03\x00\x00\x00\x04\x40\x02\x00\x01";
+const IN_USE: &[Part] = &[
+    Open,
+    Sent(CONNECT),
+    Recv(CONNACK),
+    Sent(PUBLISH_ONCE),
+    Sent(PUBLISH_ONCE),
+    Recv(PUBACK),
+];
 
 const IN_USE_ALL: &str = "1 record 1 OPEN\n\
     2 record 2 SENT CONNECT size 15\n\
@@ -36,15 +42,16 @@ const IN_USE_AROUND_1: &str = "..\n\
     6 record 6 RECV PUBACK size 4 id 1\n";
 
 // A client that doesn't answer a PUBLISH of QoS 1 before the session rests, and then sends one whose Packet Identifier is 0.
-const TWO_FAULTS: &[u8] = b"MQTR\x01\x00\x01\x00\
-    \x01\x00\x00\x00\x00\
-    \x02\x00\x00\x00\x0f\x10\x0d\x00\x04MQTT\x05\x02\x00\x3c\x00\x00\x00\
-    \x03\x00\x00\x00\x05\x20\x03\x00\x00\x00\
-    \x03\x00\x00\x00\x09\x32\x07\x00\x01a\x00\x01\x00x\
-    \x02\x00\x00\x00\x02\xc0\x00\
-    \x03\x00\x00\x00\x02\xd0\x00\
-    \x05\x00\x00\x00\x00\
-    \x02\x00\x00\x00\x09\x32\x07\x00\x01a\x00\x00\x00x";
+const TWO_FAULTS: &[Part] = &[
+    Open,
+    Sent(CONNECT),
+    Recv(CONNACK),
+    Recv(PUBLISH_ONCE),
+    Sent(PINGREQ),
+    Recv(PINGRESP),
+    Rest,
+    Sent(PUBLISH_UNIDENTIFIED),
+];
 
 const TWO_FAULTS_AROUND_0: &str = "..\n\
     4 record 4 RECV PUBLISH size 9 qos 1 dup 0 id 1\n\
@@ -53,8 +60,8 @@ const TWO_FAULTS_AROUND_0: &str = "..\n\
     8 record 8 SENT BAD W09 offset 5\n\
     \x20 fault W09 sec-2.2.1 A Packet Identifier isn't 0. (offset 5)\n";
 
-// A log, the `around` of its view, and what is shown.
-static ROWS: [(&[u8], Option<u32>, &str); 6] = [
+// A client's log, the `around` of its view, and what is shown.
+static ROWS: [(&[Part], Option<u32>, &str); 6] = [
     (IN_USE, None, IN_USE_ALL),
     (IN_USE, Some(4), IN_USE_ALL),
     (IN_USE, Some(0), IN_USE_AROUND_0),
@@ -83,9 +90,10 @@ fn is_shown(alloc: Global, log: &[u8], around: Option<u32>, text: &[u8]) -> Resu
 
 #[test]
 fn shows_faults_under_their_events(rt: HostRuntime) -> Result<(), Fail> {
-    for (log, around, text) in ROWS {
+    for (parts, around, text) in ROWS {
+        let log = log_of(rt.alloc(), CLIENT, parts)?;
         assert!(rt;
-            is_shown(rt.alloc(), log, around, text.as_bytes())?,
+            is_shown(rt.alloc(), &log, around, text.as_bytes())?,
             "{text}"
         );
     }
@@ -95,12 +103,11 @@ fn shows_faults_under_their_events(rt: HostRuntime) -> Result<(), Fail> {
 #[test]
 fn shows_3000_faults(rt: HostRuntime) -> Result<(), Fail> {
     let alloc = rt.alloc();
-    let mut log = Vec::new(alloc);
-    log.extend_from_slice(&IN_USE[..43])?;
+    let mut log = log_of(alloc, CLIENT, &[Open, Sent(CONNECT), Recv(CONNACK)])?;
     let mut text = String::new(alloc);
     text.push_str("..\n")?;
     for position in 4..3004_u32 {
-        log.extend_from_slice(b"\x02\x00\x00\x00\x09\x32\x07\x00\x01a\x00\x00\x00x")?;
+        add_record(&mut log, 2, PUBLISH_UNIDENTIFIED)?;
         write!(text, "{position} record {position} SENT BAD W09 offset 5\n")?;
         text.push_str("  fault W09 sec-2.2.1 A Packet Identifier isn't 0. (offset 5)\n")?;
     }
@@ -110,15 +117,16 @@ fn shows_3000_faults(rt: HostRuntime) -> Result<(), Fail> {
 
 #[test]
 fn refuses_a_log_that_is_cut_short(rt: HostRuntime) {
-    let judged = judge_reader(rt.alloc(), &mut &IN_USE[..7]);
+    let judged = judge_reader(rt.alloc(), &mut &HEADER[..7]);
     assert!(rt; matches!(judged, Err(Refusal::Cut(7))));
 }
 
 // The events up to there are shown.
 #[test]
 fn stops_at_the_end_of_a_log_that_is_cut_short(rt: HostRuntime) {
+    let log = b"MQTR\x01\x00\x01\x00\x01\x00\x00\x00\x00\x02";
     let mut written = Vec::new(rt.alloc());
-    let shown = show_long(rt.alloc(), &mut &IN_USE[..14], &mut written);
+    let shown = show_long(rt.alloc(), &mut log.as_slice(), &mut written);
     assert_eq!(rt; shown, Err(RunFault::Refused(Refusal::Cut(14))));
     assert!(rt; written.as_slice() == b"1 record 1 OPEN\n".as_slice());
 }

@@ -1,8 +1,14 @@
 //! Logs with the expected report on each, read at once and byte by byte.
+use super::harness::Part::{Close, Open, Recv, Release, Rest, Sent};
+use super::harness::{
+    AUTH, CLIENT, CONNACK, CONNACK_RESUMED, CONNECT, CONNECT_AGAIN, CONNECT_ANEW, CONNECT_OF_C,
+    DISCONNECT, PINGREQ, PINGRESP, PUBACK, PUBCOMP, PUBLISH_ONCE, PUBLISH_TWICE,
+    PUBLISH_UNIDENTIFIED, PUBREC, PUBREC_WITHOUT_READERS, PUBREL, Part, Pieces, REFUSING_CONNACK,
+    REFUSING_PUBREC, SERVER, SUBACK, SUBSCRIBE, UNSUBACK, UNSUBSCRIBE, log_of,
+};
 use super::report::{Form, Outcome, RunFault, write_refused};
 use super::runner::run;
 use std::alloc::{AllocError, Global};
-use std::io;
 use std::io::Read;
 use std::test::Fail;
 
@@ -12,79 +18,6 @@ const PASSED: Option<Outcome> = Some(Outcome::Pass);
 const FAULTY: Option<Outcome> = Some(Outcome::Fail);
 
 const REFUSED: Option<Outcome> = None;
-
-// A record of a log.
-#[derive(Clone, Copy)]
-enum Part {
-    Open,
-    Sent(&'static [u8]),
-    Recv(&'static [u8]),
-    Close,
-    Rest,
-    Release(u8),
-}
-
-use Part::{Close, Open, Recv, Release, Rest, Sent};
-
-// The header's byte for the role of the tested end.
-const CLIENT: u8 = 0;
-
-const SERVER: u8 = 1;
-
-const CONNECT: &[u8] = b"\x10\x0d\x00\x04MQTT\x05\x02\x00\x3c\x00\x00\x00";
-
-const CONNECT_OF_C: &[u8] = b"\x10\x0e\x00\x04MQTT\x05\x02\x00\x3c\x00\x00\x01c";
-
-// A client whose session is kept for a minute: it begins one, and resumes it.
-const CONNECT_ANEW: &[u8] =
-    b"\x10\x13\x00\x04MQTT\x05\x02\x00\x3c\x05\x11\x00\x00\x00\x3c\x00\x01c";
-
-const CONNECT_AGAIN: &[u8] =
-    b"\x10\x13\x00\x04MQTT\x05\x00\x00\x3c\x05\x11\x00\x00\x00\x3c\x00\x01c";
-
-const CONNACK: &[u8] = b"\x20\x03\x00\x00\x00";
-
-// A CONNACK with Session Present 1.
-const CONNACK_RESUMED: &[u8] = b"\x20\x03\x01\x00\x00";
-
-// A CONNACK of code 0x87: the client isn't authorized.
-const REFUSING_CONNACK: &[u8] = b"\x20\x03\x00\x87\x00";
-
-// PUBLISH of QoS 1 and of QoS 2 under identifier 1, and of QoS 1 under identifier 0.
-const PUBLISH_ONCE: &[u8] = b"\x32\x07\x00\x01a\x00\x01\x00x";
-
-const PUBLISH_TWICE: &[u8] = b"\x34\x07\x00\x01a\x00\x01\x00x";
-
-const PUBLISH_UNIDENTIFIED: &[u8] = b"\x32\x07\x00\x01a\x00\x00\x00x";
-
-const PUBACK: &[u8] = b"\x40\x02\x00\x01";
-
-const PUBREC: &[u8] = b"\x50\x02\x00\x01";
-
-// PUBREC of code 0x10, no matching subscribers, and of code 0x80, unspecified error.
-const PUBREC_WITHOUT_READERS: &[u8] = b"\x50\x03\x00\x01\x10";
-
-const REFUSING_PUBREC: &[u8] = b"\x50\x03\x00\x01\x80";
-
-const PUBREL: &[u8] = b"\x62\x02\x00\x01";
-
-const PUBCOMP: &[u8] = b"\x70\x02\x00\x01";
-
-const SUBSCRIBE: &[u8] = b"\x82\x07\x00\x01\x00\x00\x01a\x00";
-
-const SUBACK: &[u8] = b"\x90\x04\x00\x01\x00\x00";
-
-const UNSUBSCRIBE: &[u8] = b"\xa2\x06\x00\x01\x00\x00\x01a";
-
-const UNSUBACK: &[u8] = b"\xb0\x04\x00\x01\x00\x00";
-
-const PINGREQ: &[u8] = b"\xc0\x00";
-
-const PINGRESP: &[u8] = b"\xd0\x00";
-
-const DISCONNECT: &[u8] = b"\xe0\x00";
-
-const AUTH: &[u8] = b"\xf0\x00";
 
 // A log's records, and the expected result.
 struct Row {
@@ -643,48 +576,6 @@ static BROKEN: [Broken; 23] = [
     },
 ];
 
-// Appends a record to the log; its body is shorter than 256 bytes.
-fn add_record(log: &mut Vec<u8>, kind: u8, body: &[u8]) -> Result<(), AllocError> {
-    let Ok(length) = u8::try_from(body.len()) else {
-        return Ok(());
-    };
-    log.extend_from_slice(&[kind, 0, 0, 0, length])?;
-    log.extend_from_slice(body)
-}
-
-// The log of an end in this role, in which releases are recorded.
-fn log_of(alloc: Global, role: u8, parts: &[Part]) -> Result<Vec<u8>, AllocError> {
-    let mut log = Vec::new(alloc);
-    log.extend_from_slice(b"MQTR\x01")?;
-    log.extend_from_slice(&[role, 1, 0])?;
-    for part in parts {
-        match part {
-            Open => add_record(&mut log, 1, &[])?,
-            Sent(packet) => add_record(&mut log, 2, packet)?,
-            Recv(packet) => add_record(&mut log, 3, packet)?,
-            Close => add_record(&mut log, 4, &[])?,
-            Rest => add_record(&mut log, 5, &[])?,
-            Release(identifier) => add_record(&mut log, 6, &[0, *identifier])?,
-        }
-    }
-    Ok(log)
-}
-
-// A reader that gives a byte at each read.
-#[derive(Drop)]
-struct Trickle<'a> {
-    left: &'a [u8],
-}
-
-impl Read for Trickle<'_> {
-    fn read(&mut self, buffer: &mut [u8]) -> io::Result<usize> {
-        let count = self.left.len().min(buffer.len()).min(1);
-        buffer[..count].copy_from_slice(&self.left[..count]);
-        self.left = &self.left[count..];
-        Ok(count)
-    }
-}
-
 // Whether judging what the reader gives has this outcome, and writes this report; for a refused log that is its line.
 fn reports<R: Read>(
     alloc: Global,
@@ -714,7 +605,7 @@ fn is_reported(
     report: &str,
 ) -> Result<bool, Fail> {
     let whole = reports(alloc, &mut &log[..], outcome, report)?;
-    let cut = reports(alloc, &mut Trickle { left: log }, outcome, report)?;
+    let cut = reports(alloc, &mut Pieces::single(log), outcome, report)?;
     Ok(whole && cut)
 }
 

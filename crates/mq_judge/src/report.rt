@@ -178,11 +178,11 @@ pub fn write_refused<W: Write>(
 
 #[cfg(test)]
 mod tests {
+    use super::super::harness::Failing;
     use super::json::write_json;
     use super::summing::write_summary;
     use super::*;
     use mq_rules::{Faults, Rule};
-    use std::io;
     use std::io::ErrorKind;
     use std::process::Abort;
 
@@ -261,33 +261,6 @@ mod tests {
             assert!(rt; faults.add(*key, *fault).is_ok());
         }
         Verdict { events, faults }
-    }
-
-    /// A writer that takes this many bytes, at most three at a time, and then fails: with an error of this kind, or by taking none.
-    #[derive(Drop)]
-    struct Failing {
-        taken: Vec<u8>,
-        room: usize,
-        error: Option<ErrorKind>,
-    }
-
-    impl Write for Failing {
-        fn write(&mut self, bytes: &[u8]) -> io::Result<usize> {
-            let count = bytes.len().min(self.room).min(3);
-            if count == 0 {
-                return match self.error {
-                    Some(kind) => Err(io::Error::from(kind)),
-                    None => Ok(0),
-                };
-            }
-            self.taken.extend_from_slice(&bytes[..count])?;
-            self.room -= count;
-            Ok(count)
-        }
-
-        fn flush(&mut self) -> io::Result<()> {
-            Ok(())
-        }
     }
 
     #[test]
@@ -376,11 +349,7 @@ mod tests {
     #[test]
     fn stops_where_the_writer_fails_in_json(rt: HostRuntime) {
         let text = b"{\"events\":6,\"faults\":[],\"verdict\":\"pass\"}\n";
-        let mut writer = Failing {
-            taken: Vec::new(rt.alloc()),
-            room: 20,
-            error: None,
-        };
+        let mut writer = Failing::after(rt.alloc(), 20, None);
         let verdict = verdict_of(&rt, 6, &[]);
         let written = write_json(rt.alloc(), &verdict, Role::Client, &mut writer);
         assert_eq!(rt; written, Err(RunFault::Write));
@@ -393,11 +362,7 @@ mod tests {
         let verdict = verdict_of(&rt, 6, &[W03_AT_4, W09_AT_5, S01_AT_5]);
         for error in [None, Some(ErrorKind::Interrupted), Some(ErrorKind::Other)] {
             for room in 0..text.len() + 1 {
-                let mut writer = Failing {
-                    taken: Vec::new(rt.alloc()),
-                    room,
-                    error,
-                };
+                let mut writer = Failing::after(rt.alloc(), room, error);
                 let written = write_text(&verdict, Role::Client, &mut writer);
                 assert_eq!(rt; written.is_ok(), room == text.len(), "{room}");
                 assert!(rt; writer.taken.as_slice() == &text[..room], "{room}");

@@ -121,46 +121,14 @@ fn outcome(verdict: &Verdict) -> Outcome
 
 #[cfg(test)]
 mod tests {
+    use super::super::harness::Part::{Open, Recv, Rest, Sent};
+    use super::super::harness::{
+        CLIENT, CONNACK, CONNECT, HEADER, PUBACK, PUBLISH_ONCE, PUBLISH_UNIDENTIFIED, Pieces,
+        log_of,
+    };
     use super::*;
-    use std::io;
-    use std::io::ErrorKind;
+    use std::alloc::AllocError;
     use std::process::Abort;
-
-    const HEADER: &[u8] = b"MQTR\x01\x00\x01\x00";
-
-    /// A reader that gives these bytes, this many a turn, and then fails or ends. Each read is interrupted once before it gives anything.
-    #[derive(Drop)]
-    struct Halting<'a> {
-        left: &'a [u8],
-        size: usize,
-        fails: bool,
-        interrupted: bool,
-    }
-
-    impl Read for Halting<'_> {
-        fn read(&mut self, buffer: &mut [u8]) -> io::Result<usize> {
-            self.interrupted = !self.interrupted;
-            if self.interrupted {
-                return Err(io::Error::from(ErrorKind::Interrupted));
-            }
-            if self.left.is_empty() && self.fails {
-                return Err(io::Error::from(ErrorKind::Other));
-            }
-            let count = self.left.len().min(self.size).min(buffer.len());
-            buffer[..count].copy_from_slice(&self.left[..count]);
-            self.left = &self.left[count..];
-            Ok(count)
-        }
-    }
-
-    fn reader_of(left: &[u8], size: usize, fails: bool) -> Halting<'_> {
-        Halting {
-            left,
-            size,
-            fails,
-            interrupted: false,
-        }
-    }
 
     /// Asserts the result for a log and what is written, for each size of a turn.
     fn assert_runs(
@@ -171,26 +139,11 @@ mod tests {
     ) {
         for size in [1, 7, 8192] {
             let mut written = Vec::new(rt.alloc());
-            let mut reader = reader_of(log, size, false);
+            let mut reader = Pieces::interrupted(log, size, false);
             let ran = run(rt.alloc(), &mut reader, &mut written, Form::Text);
             assert_eq!(rt; ran, answer, "in turns of {size}");
             assert!(rt; written.as_slice() == text.as_bytes(), "in turns of {size}");
         }
-    }
-
-    /// A log of an OPEN, a CONNECT, a CONNACK of code 0 and what follows.
-    fn session(rt: &(impl Abort + AllocGlobal), rest: &[u8]) -> Vec<u8> {
-        let mut log = Vec::new(rt.alloc());
-        for part in [
-            HEADER,
-            b"\x01\x00\x00\x00\x00",
-            b"\x02\x00\x00\x00\x0f\x10\x0d\x00\x04MQTT\x05\x02\x00\x3c\x00\x00\x00",
-            b"\x03\x00\x00\x00\x05\x20\x03\x00\x00\x00",
-            rest,
-        ] {
-            assert!(rt; log.extend_from_slice(part).is_ok());
-        }
-        log
     }
 
     #[test]
@@ -205,40 +158,58 @@ mod tests {
     }
 
     #[test]
-    fn reports_an_identifier_of_0(rt: HostRuntime) {
-        let log = session(&rt, b"\x02\x00\x00\x00\x09\x32\x07\x00\x01a\x00\x00\x00x");
+    fn reports_an_identifier_of_0(rt: HostRuntime) -> Result<(), AllocError> {
+        let parts = [
+            Open,
+            Sent(CONNECT),
+            Recv(CONNACK),
+            Sent(PUBLISH_UNIDENTIFIED),
+        ];
+        let log = log_of(rt.alloc(), CLIENT, &parts)?;
         let text = "fault 4 W09 sec-2.2.1 decided 4 record 4 offset 5\nfail 1 faults 4 events\n";
         assert_runs(&rt, log.as_slice(), Ok(Outcome::Fail), text);
+        Ok(())
     }
 
     #[test]
-    fn reports_an_identifier_that_is_in_use(rt: HostRuntime) {
-        let log = session(
-            &rt,
-            b"\x02\x00\x00\x00\x09\x32\x07\x00\x01a\x00\x01\x00x\x02\x00\x00\x00\x09\x32\x07\x00\x01a\x00\x01\x00x\x03\x00\x00\x00\x04\x40\x02\x00\x01",
-        );
+    fn reports_an_identifier_that_is_in_use(rt: HostRuntime) -> Result<(), AllocError> {
+        let parts = [
+            Open,
+            Sent(CONNECT),
+            Recv(CONNACK),
+            Sent(PUBLISH_ONCE),
+            Sent(PUBLISH_ONCE),
+            Recv(PUBACK),
+        ];
+        let log = log_of(rt.alloc(), CLIENT, &parts)?;
         let text = "fault 5 S01 MQTT-2.2.1-3 decided 5 record 5 offset -\nfail 1 faults 6 events\n";
         assert_runs(&rt, log.as_slice(), Ok(Outcome::Fail), text);
+        Ok(())
     }
 
     #[test]
-    fn refuses_where_the_reader_fails(rt: HostRuntime) {
-        let log = session(&rt, b"\x05\x00\x00\x00\x00");
+    fn refuses_where_the_reader_fails(rt: HostRuntime) -> Result<(), AllocError> {
+        let log = log_of(
+            rt.alloc(),
+            CLIENT,
+            &[Open, Sent(CONNECT), Recv(CONNACK), Rest],
+        )?;
         for count in 0..log.len() + 1 {
             let mut written = Vec::new(rt.alloc());
-            let mut reader = reader_of(&log[..count], 5, true);
+            let mut reader = Pieces::interrupted(&log[..count], 5, true);
             let ran = run(rt.alloc(), &mut reader, &mut written, Form::Text);
             let refusal = Refusal::Read(count as u64);
             assert_eq!(rt; ran, Err(RunFault::Refused(refusal)));
             assert!(rt; written.is_empty());
         }
+        Ok(())
     }
 
     #[test]
     fn stops_where_the_writer_fails(rt: HostRuntime) {
         let mut room = [0; 10];
         let mut writer = &mut room[..];
-        let mut reader = reader_of(HEADER, 8, false);
+        let mut reader = Pieces::interrupted(HEADER, 8, false);
         let ran = run(rt.alloc(), &mut reader, &mut writer, Form::Text);
         assert_eq!(rt; ran, Err(RunFault::Write));
         assert_eq!(rt; &room, b"pass 0 eve");
