@@ -4,6 +4,8 @@
 mod command_line;
 mod explanations;
 mod failure;
+#[cfg(test)]
+mod harness;
 mod host;
 #[cfg(test)]
 mod large_tests;

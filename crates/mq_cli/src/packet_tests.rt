@@ -1,7 +1,8 @@
-use crate::command_line::{EarlyExit, Task, parse};
+use crate::command_line::{EarlyExit, Task};
 use crate::failure::{FAILED, FAULTY, MISUSED, PASSED};
-use crate::tasks::{perform, stop};
-use crate::tests::{Narrow, Printed, is_failed_write, task_of};
+use crate::harness::{
+    Narrow, Printed, is_failed_write, is_misuse, is_written, printed_by, status_by, task_of,
+};
 use std::alloc::Global;
 use std::io;
 use std::io::Cursor;
@@ -259,15 +260,7 @@ static ROWS: [Row; 48] = [
 ];
 
 fn printed_of_packet(alloc: Global, hex: &str) -> Result<Printed, EarlyExit> {
-    let task = task_of(alloc, &["mqjudge", "packet", hex])?;
-    let mut output = Vec::new(alloc);
-    let mut error = Vec::new(alloc);
-    let status = perform(alloc, &task, &mut io::empty(), &mut output, &mut error);
-    Ok(Printed {
-        status,
-        output,
-        error,
-    })
+    printed_by(alloc, &["mqjudge", "packet", hex], &mut io::empty())
 }
 
 #[test]
@@ -305,20 +298,15 @@ fn reports_a_packet_line_that_fails(rt: HostRuntime) -> Result<(), Fail> {
 fn reports_a_packet_without_memory(rt: HostRuntime) {
     let mut output = Cursor::new([0; 64]);
     let mut error = Cursor::new([0; 64]);
-    let status = match task_of(rt.alloc(), &["mqjudge", "packet", "40020001"]) {
-        Ok(task) => perform(rt.alloc(), &task, &mut io::empty(), &mut output, &mut error),
-        Err(why) => stop(&why, &mut output, &mut error),
-    };
+    let words = ["mqjudge", "packet", "40020001"];
+    let status = status_by(rt.alloc(), &words, b"", &mut output, &mut error);
     let (line, complaint): (&[u8], &[u8]) = if status == PASSED {
         (b"PUBACK size 4 id 1\n", b"")
     } else {
         assert_eq!(rt; status, FAILED);
         (b"", b"mqjudge: out of memory\n")
     };
-    assert_eq!(rt; output.position(), line.len() as u64);
-    assert!(rt; output.get_ref().starts_with(line));
-    assert_eq!(rt; error.position(), complaint.len() as u64);
-    assert!(rt; error.get_ref().starts_with(complaint));
+    assert!(rt; is_written(&output, line) && is_written(&error, complaint));
 }
 
 #[test]
@@ -339,10 +327,7 @@ fn reads_the_words_of_a_packet(rt: HostRuntime) -> Result<(), Fail> {
         ),
     ];
     for (words, part) in misuses {
-        let Err(EarlyExit::Usage(text)) = parse(rt.alloc(), words) else {
-            return Err("taken".into());
-        };
-        assert!(rt; text.as_str().contains(part), "{words:?} tells {text}");
+        assert!(rt; is_misuse(rt.alloc(), words, part), "{words:?}");
     }
     Ok(())
 }

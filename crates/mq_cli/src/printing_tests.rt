@@ -1,19 +1,11 @@
 use crate::command_line::EarlyExit;
 use crate::explanations::explanation;
-use crate::tasks::perform;
-use crate::tests::task_of;
+use crate::failure::PASSED;
+use crate::harness::printed_by;
 use mq_rules::{Role, Rule};
 use std::alloc::Global;
+use std::io;
 use std::test::Fail;
-
-// The status of these words, and what they write.
-fn printed(alloc: Global, words: &[&str]) -> Result<(u8, Vec<u8>), EarlyExit> {
-    let task = task_of(alloc, words)?;
-    let mut output = Vec::new(alloc);
-    let mut error = Vec::new(alloc);
-    let status = perform(alloc, &task, &mut &b""[..], &mut output, &mut error);
-    Ok((status, output))
-}
 
 // Whether a statement's text begins with its code and citations, has its sentence next, says why and where it is judged, and has
 // no line of more than 80 bytes.
@@ -54,10 +46,13 @@ fn explains_each_statement(rt: HostRuntime) {
 #[test]
 fn explains_a_code_in_any_case(rt: HostRuntime) -> Result<(), Fail> {
     for code in ["S01", "s01"] {
-        let (status, text) = printed(rt.alloc(), &["mqjudge", "explain", code])?;
-        assert_eq!(rt; status, 0);
+        let words = ["mqjudge", "explain", code];
+        let printed = printed_by(rt.alloc(), &words, &mut io::empty())?;
+        assert_eq!(rt; printed.status, PASSED);
         assert!(rt;
-            text.as_slice()
+            printed
+                .output
+                .as_slice()
                 .starts_with(b"S01 both MQTT-2.2.1-3;MQTT-2.2.1-4\n")
         );
     }
@@ -66,9 +61,10 @@ fn explains_a_code_in_any_case(rt: HostRuntime) -> Result<(), Fail> {
 
 // How many lines there are, and whether these are the first bytes.
 fn lists(alloc: Global, words: &[&str], lines: usize, start: &[u8]) -> Result<bool, EarlyExit> {
-    let (status, text) = printed(alloc, words)?;
-    let count = text.as_slice().iter().filter(|byte| **byte == 10).count();
-    Ok(status == 0 && count == lines && text.as_slice().starts_with(start))
+    let printed = printed_by(alloc, words, &mut io::empty())?;
+    let text = printed.output.as_slice();
+    let count = text.iter().filter(|byte| **byte == 10).count();
+    Ok(printed.status == PASSED && count == lines && text.starts_with(start))
 }
 
 #[test]

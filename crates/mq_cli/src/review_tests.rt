@@ -1,7 +1,7 @@
 use crate::command_line::{Work, parse};
 use crate::failure::{Failure, PASSED, REFUSED};
+use crate::harness::{CONNECTED, CONNECTED_LINES, NESTED, Narrow, Trickle, add_record};
 use crate::reviewing::{Plan, show_twice};
-use crate::tests::{Narrow, Trickle};
 use std::alloc::Global;
 use std::fmt::Write as _;
 use std::io::Cursor;
@@ -62,16 +62,6 @@ const LONG_AROUND_0: &str = "..\n\
     \x20 fault C01 sec-2.1.2 A packet has a type that this end may send.\n\
     ..\n";
 
-// The first bytes of that log, up to its CONNACK.
-const FAULTLESS: &[u8] = b"MQTR\x01\x00\x01\x00\
-    \x01\x00\x00\x00\x00\
-    \x02\x00\x00\x00\x0f\x10\x0d\x00\x04MQTT\x05\x02\x00\x3c\x00\x00\x00\
-    \x03\x00\x00\x00\x05\x20\x03\x00\x00\x00";
-
-const FAULTLESS_LINES: &str = "1 record 1 OPEN\n\
-    2 record 2 SENT CONNECT size 15\n\
-    3 record 3 RECV CONNACK size 5\n";
-
 // A log, the number after `--around`, whether lines are long, and what is shown.
 static ROWS: [(&[u8], Option<u32>, bool, &str); 9] = [
     (THREE_FAULTS, None, false, ALL),
@@ -80,8 +70,8 @@ static ROWS: [(&[u8], Option<u32>, bool, &str); 9] = [
     (THREE_FAULTS, Some(3), false, ALL),
     (THREE_FAULTS, Some(u32::MAX), false, ALL),
     (THREE_FAULTS, Some(0), true, LONG_AROUND_0),
-    (FAULTLESS, None, false, FAULTLESS_LINES),
-    (FAULTLESS, Some(1_000), false, "..\n"),
+    (CONNECTED, None, false, CONNECTED_LINES),
+    (CONNECTED, Some(1_000), false, "..\n"),
     (b"MQTR\x01\x00\x01\x00", Some(0), false, ""),
 ];
 
@@ -93,10 +83,6 @@ fn plan(around: Option<u32>, long: bool) -> Plan<'static> {
     }
 }
 
-fn trickle(bytes: &[u8], fails_after: Option<usize>) -> Trickle<'_> {
-    Trickle { bytes, fails_after }
-}
-
 // Whether judging the one log and showing the other one, byte by byte, has this status and writes this.
 fn is_shown(alloc: Global, plan: Plan<'_>, logs: [&[u8]; 2], status: u8, text: &str) -> bool {
     let [judged, shown] = logs;
@@ -104,8 +90,8 @@ fn is_shown(alloc: Global, plan: Plan<'_>, logs: [&[u8]; 2], status: u8, text: &
     let given = show_twice(
         alloc,
         plan,
-        &mut trickle(judged, None),
-        &mut trickle(shown, None),
+        &mut Trickle::of(judged, None),
+        &mut Trickle::of(shown, None),
         &mut output,
     );
     given == Ok(status) && output.as_slice() == text.as_bytes()
@@ -125,10 +111,9 @@ fn shows_faults_under_their_events(rt: HostRuntime) {
 // Nothing is known of the faults of a log that is refused.
 #[test]
 fn shows_nothing_of_a_refused_log(rt: HostRuntime) {
-    let nested = b"MQTR\x01\x00\x01\x00\x01\x00\x00\x00\x00\x01\x00\x00\x00\x00";
     for (log, line) in [
-        (&nested[..7], "refused 10 Cut at 7\n"),
-        (&nested[..], "refused 7 Nested at 13\n"),
+        (&NESTED[..7], "refused 10 Cut at 7\n"),
+        (NESTED, "refused 7 Nested at 13\n"),
     ] {
         let logs = [log, log];
         assert!(rt;
@@ -144,9 +129,9 @@ fn shows_what_the_second_reading_gives(rt: HostRuntime) {
     let from_the_second = "..\n2 record 2 SENT CONNECT size 15\n3 record 3 RECV CONNACK size 5\n";
     let cut = "..\nrefused 10 Cut at 14\n";
     for (judged, shown, status, text) in [
-        (FAULTLESS, THREE_FAULTS, PASSED, "..\n"),
-        (THREE_FAULTS, FAULTLESS, PASSED, from_the_second),
-        (THREE_FAULTS, &FAULTLESS[..14], REFUSED, cut),
+        (CONNECTED, THREE_FAULTS, PASSED, "..\n"),
+        (THREE_FAULTS, CONNECTED, PASSED, from_the_second),
+        (THREE_FAULTS, &CONNECTED[..14], REFUSED, cut),
     ] {
         let printed = is_shown(
             rt.alloc(),
@@ -169,8 +154,8 @@ fn reports_a_failed_reading(rt: HostRuntime) {
         let given = show_twice(
             rt.alloc(),
             plan(None, false),
-            &mut trickle(THREE_FAULTS, judging),
-            &mut trickle(THREE_FAULTS, display),
+            &mut Trickle::of(THREE_FAULTS, judging),
+            &mut Trickle::of(THREE_FAULTS, display),
             &mut output,
         );
         assert_eq!(rt; given, Err(Failure::Read));
@@ -189,8 +174,8 @@ fn reports_a_failed_write(rt: HostRuntime) {
         let given = show_twice(
             rt.alloc(),
             plan(None, false),
-            &mut trickle(log, None),
-            &mut trickle(log, None),
+            &mut Trickle::of(log, None),
+            &mut Trickle::of(log, None),
             &mut Narrow { room, stays },
         );
         assert_eq!(rt; given, Err(Failure::Write), "{room} bytes");
@@ -239,11 +224,11 @@ fn reads_the_words_of_a_review(rt: HostRuntime) -> Result<(), Fail> {
 fn shows_3000_faults(rt: HostRuntime) -> Result<(), Fail> {
     let alloc = rt.alloc();
     let mut log = Vec::new(alloc);
-    log.extend_from_slice(FAULTLESS)?;
+    log.extend_from_slice(CONNECTED)?;
     let mut text = String::new(alloc);
     text.push_str("..\n")?;
     for position in 4..3004_u32 {
-        log.extend_from_slice(b"\x02\x00\x00\x00\x09\x32\x07\x00\x01a\x00\x00\x00x")?;
+        add_record(&mut log, 2, b"\x32\x07\x00\x01a\x00\x00\x00x")?;
         write!(text, "{position} record {position} SENT BAD W09 offset 5\n")?;
         text.push_str("  fault W09 sec-2.2.1 A Packet Identifier isn't 0. (offset 5)\n")?;
     }

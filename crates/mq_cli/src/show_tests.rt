@@ -1,21 +1,15 @@
-use crate::command_line::{EarlyExit, Task, parse};
+use crate::command_line::Task;
 use crate::failure::{FAILED, PASSED, REFUSED};
-use crate::tasks::{perform, stop};
-use crate::tests::{Narrow, Printed, Trickle, is_failed_write, task_of};
-use std::alloc::Global;
-use std::io::{Cursor, Read};
+use crate::harness::{
+    NESTED, Narrow, Trickle, WHOLE_LOG, is_failed_write, is_misuse, is_written, printed_by,
+    status_by, task_of,
+};
+use std::io::Cursor;
 use std::test::Fail;
 
-// A session of seven events: a message is sent and acknowledged.
-const WHOLE_LOG: &[u8] = b"MQTR\x01\x00\x01\x00\
-    \x01\x00\x00\x00\x00\
-    \x02\x00\x00\x00\x0f\x10\x0d\x00\x04MQTT\x05\x02\x00\x3c\x00\x00\x00\
-    \x03\x00\x00\x00\x05\x20\x03\x00\x00\x00\
-    \x02\x00\x00\x00\x09\x32\x07\x00\x01a\x00\x01\x00x\
-    \x03\x00\x00\x00\x04\x40\x02\x00\x01\
-    \x05\x00\x00\x00\x00\
-    \x04\x00\x00\x00\x00";
+const SHOW: [&str; 2] = ["mqjudge", "show"];
 
+// The lines of `WHOLE_LOG`.
 const WHOLE_LINES: &str = "1 record 1 OPEN\n\
     2 record 2 SENT CONNECT size 15\n\
     3 record 3 RECV CONNACK size 5\n\
@@ -75,11 +69,7 @@ static ROWS: [(&[u8], &str, u8); 6] = [
     (LOG_OF_ALL, LINES_OF_ALL, PASSED),
     (b"MQTR\x01\x00\x01\x00", "", PASSED),
     (b"MQTR\x01\x00\x01", "refused 10 Cut at 7\n", REFUSED),
-    (
-        b"MQTR\x01\x00\x01\x00\x01\x00\x00\x00\x00\x01\x00\x00\x00\x00",
-        "1 record 1 OPEN\nrefused 7 Nested at 13\n",
-        REFUSED,
-    ),
+    (NESTED, "1 record 1 OPEN\nrefused 7 Nested at 13\n", REFUSED),
     (
         b"MQTR\x01\x00\x01\x00\x01\x00\x00\x00\x00\x02\x00\x00\x00\x05\x30\xff\xff\xff\x7f",
         "1 record 1 OPEN\nrefused 11 TooLarge at 22\n",
@@ -96,31 +86,11 @@ const LONG_LINES: &str = "1 record 1 OPEN\n\
     6 record 6 REST\n\
     7 record 7 CLOSE\n";
 
-fn shown_of<R: Read>(alloc: Global, input: &mut R) -> Result<Printed, EarlyExit> {
-    shown_by(alloc, &["mqjudge", "show"], input)
-}
-
-fn shown_by<R: Read>(alloc: Global, words: &[&str], input: &mut R) -> Result<Printed, EarlyExit> {
-    let task = task_of(alloc, words)?;
-    let mut output = Vec::new(alloc);
-    let mut error = Vec::new(alloc);
-    let status = perform(alloc, &task, input, &mut output, &mut error);
-    Ok(Printed {
-        status,
-        output,
-        error,
-    })
-}
-
 #[test]
 fn shows_logs_whole_and_byte_by_byte(rt: HostRuntime) -> Result<(), Fail> {
     for (log, lines, status) in ROWS {
-        let mut trickle = Trickle {
-            bytes: log,
-            fails_after: None,
-        };
-        let whole = shown_of(rt.alloc(), &mut &log[..])?;
-        let cut = shown_of(rt.alloc(), &mut trickle)?;
+        let whole = printed_by(rt.alloc(), &SHOW, &mut &log[..])?;
+        let cut = printed_by(rt.alloc(), &SHOW, &mut Trickle::of(log, None))?;
         for printed in [whole, cut] {
             assert!(rt; printed.says(status, lines), "{lines}");
         }
@@ -130,7 +100,7 @@ fn shows_logs_whole_and_byte_by_byte(rt: HostRuntime) -> Result<(), Fail> {
 
 #[test]
 fn shows_long_lines(rt: HostRuntime) -> Result<(), Fail> {
-    let printed = shown_by(
+    let printed = printed_by(
         rt.alloc(),
         &["mqjudge", "show", "--long"],
         &mut &WHOLE_LOG[..],
@@ -143,11 +113,8 @@ fn shows_long_lines(rt: HostRuntime) -> Result<(), Fail> {
 #[test]
 fn reports_a_failed_read(rt: HostRuntime) -> Result<(), Fail> {
     for (fails_after, lines) in [(0, 0), (7, 0), (13, 1), (42, 2), (43, 3), (76, 7)] {
-        let mut input = Trickle {
-            bytes: WHOLE_LOG,
-            fails_after: Some(fails_after),
-        };
-        let printed = shown_of(rt.alloc(), &mut input)?;
+        let mut input = Trickle::of(WHOLE_LOG, Some(fails_after));
+        let printed = printed_by(rt.alloc(), &SHOW, &mut input)?;
         assert_eq!(rt; printed.status, FAILED);
         assert_eq!(rt; printed.error.as_slice(), &b"mqjudge: read failed\n"[..]);
         let ends = printed.output.iter().filter(|byte| **byte == b'\n').count();
@@ -173,7 +140,7 @@ fn reports_a_failed_write(rt: HostRuntime) -> Result<(), Fail> {
         (short, 10_000, true),
     ] {
         let output = Narrow { room, stays };
-        let failed = is_failed_write(rt.alloc(), &["mqjudge", "show"], log, output)?;
+        let failed = is_failed_write(rt.alloc(), &SHOW, log, output)?;
         assert!(rt; failed, "{room} bytes");
     }
     Ok(())
@@ -184,16 +151,7 @@ fn reports_a_failed_write(rt: HostRuntime) -> Result<(), Fail> {
 fn reports_a_show_without_memory(rt: HostRuntime) {
     let mut output = Cursor::new([0; 1024]);
     let mut error = Cursor::new([0; 64]);
-    let status = match task_of(rt.alloc(), &["mqjudge", "show"]) {
-        Ok(task) => perform(
-            rt.alloc(),
-            &task,
-            &mut &LOG_OF_ALL[..],
-            &mut output,
-            &mut error,
-        ),
-        Err(why) => stop(&why, &mut output, &mut error),
-    };
+    let status = status_by(rt.alloc(), &SHOW, LOG_OF_ALL, &mut output, &mut error);
     let written = output.position() as usize;
     assert!(rt; written <= LINES_OF_ALL.len());
     assert!(rt;
@@ -208,13 +166,12 @@ fn reports_a_show_without_memory(rt: HostRuntime) {
         assert_eq!(rt; status, FAILED);
         b"mqjudge: out of memory\n"
     };
-    assert_eq!(rt; error.position(), complaint.len() as u64);
-    assert!(rt; error.get_ref().starts_with(complaint));
+    assert!(rt; is_written(&error, complaint));
 }
 
 #[test]
 fn reads_the_words_of_a_show(rt: HostRuntime) -> Result<(), Fail> {
-    let Task::Show { file, .. } = task_of(rt.alloc(), &["mqjudge", "show"])? else {
+    let Task::Show { file, .. } = task_of(rt.alloc(), &SHOW)? else {
         return Err("no show".into());
     };
     assert!(rt; file.is_none());
@@ -223,12 +180,7 @@ fn reads_the_words_of_a_show(rt: HostRuntime) -> Result<(), Fail> {
     };
     let path = file.ok_or("no file")?;
     assert!(rt; path.as_str() == "a.log");
-    let Err(EarlyExit::Usage(text)) = parse(rt.alloc(), &["mqjudge", "show", "a", "b"]) else {
-        return Err("taken".into());
-    };
-    assert!(rt;
-        text.as_str().contains("unexpected argument 'b' found"),
-        "{text}"
-    );
+    let two = ["mqjudge", "show", "a", "b"];
+    assert!(rt; is_misuse(rt.alloc(), &two, "unexpected argument 'b' found"));
     Ok(())
 }

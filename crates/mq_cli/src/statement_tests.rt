@@ -22,20 +22,12 @@ mod subscriptions;
 mod worked;
 
 use crate::failure::{FAULTY, PASSED, REFUSED};
+use crate::harness::add_record;
 use crate::tests::is_printed;
 use hex::decode;
 use packets::PACKETS;
 use std::alloc::{AllocError, Global};
 use std::test::Fail;
-
-// Appends a record to the log; its body is shorter than 256 bytes.
-fn add_record(log: &mut Vec<u8>, kind: u8, body: &[u8]) -> Result<(), AllocError> {
-    let Ok(length) = u8::try_from(body.len()) else {
-        return Ok(());
-    };
-    log.extend_from_slice(&[kind, 0, 0, 0, length])?;
-    log.extend_from_slice(body)
-}
 
 // The hexadecimal digits that a word names, or the word itself.
 fn digits_of(word: &'static str) -> &'static str {

@@ -1,10 +1,13 @@
-use crate::command_line::{EarlyExit, Task, Work, parse};
+use crate::command_line::{EarlyExit, Task, parse};
 use crate::failure::{FAILED, FAULTY, MISUSED, PASSED, REFUSED};
-use crate::tasks::{perform, stop};
+use crate::harness::{
+    Narrow, Trickle, WHOLE_LOG, is_failed_write, is_misuse, is_written, printed_by, status_by,
+    task_of,
+};
+use crate::tasks::stop;
 use mq_judge::{Judge, Options, Refusal};
 use std::alloc::{AllocError, Global};
-use std::io;
-use std::io::{Cursor, ErrorKind, Read, Write};
+use std::io::Cursor;
 use std::test::Fail;
 
 const HEADER: &[u8] = b"MQTR\x01\x00\x01\x00";
@@ -35,16 +38,6 @@ const SENT_LARGEST: &[u8] = b"\x02\x00\x00\x00\x05\x30\xff\xff\xff\x7f";
 // A CONNECT of MQTT 3.1.1.
 const SENT_OLD_CONNECT: &[u8] = b"\x02\x00\x00\x00\x0e\x10\x0c\x00\x04MQTT\x04\x02\x00\x3c\x00\x00";
 
-// A session of seven events: a message is sent and acknowledged.
-const WHOLE_LOG: &[u8] = b"MQTR\x01\x00\x01\x00\
-    \x01\x00\x00\x00\x00\
-    \x02\x00\x00\x00\x0f\x10\x0d\x00\x04MQTT\x05\x02\x00\x3c\x00\x00\x00\
-    \x03\x00\x00\x00\x05\x20\x03\x00\x00\x00\
-    \x02\x00\x00\x00\x09\x32\x07\x00\x01a\x00\x01\x00x\
-    \x03\x00\x00\x00\x04\x40\x02\x00\x01\
-    \x05\x00\x00\x00\x00\
-    \x04\x00\x00\x00\x00";
-
 // A client takes an identifier that is in use: the list of events and the faults both grow.
 const TAKEN_TWICE: &[u8] = b"MQTR\x01\x00\x01\x00\
     \x01\x00\x00\x00\x00\
@@ -53,6 +46,8 @@ const TAKEN_TWICE: &[u8] = b"MQTR\x01\x00\x01\x00\
     \x02\x00\x00\x00\x09\x32\x07\x00\x01a\x00\x01\x00x\
     \x02\x00\x00\x00\x09\x32\x07\x00\x01a\x00\x01\x00x\
     \x03\x00\x00\x00\x04\x40\x02\x00\x01";
+
+const CHECK: [&str; 2] = ["mqjudge", "check"];
 
 const VERSION: &str = "mqjudge 0.1.0 (reads log version 1, judges 74 statements)\n";
 
@@ -124,53 +119,6 @@ static ROWS: [Row; 10] = [
     },
 ];
 
-// A reader that gives one byte a call, and fails after `fails_after` bytes.
-#[derive(Drop)]
-pub struct Trickle<'a> {
-    pub bytes: &'a [u8],
-    pub fails_after: Option<usize>,
-}
-
-impl Read for Trickle<'_> {
-    fn read(&mut self, buf: &mut [u8]) -> io::Result<usize> {
-        if self.fails_after == Some(0) {
-            return Err(ErrorKind::Other.into());
-        }
-        self.fails_after = self.fails_after.map(|left| left.saturating_sub(1));
-        if self.bytes.is_empty() || buf.is_empty() {
-            return Ok(0);
-        }
-        buf[0] = self.bytes[0];
-        self.bytes = &self.bytes[1..];
-        Ok(1)
-    }
-}
-
-// A writer that takes `room` bytes and then fails, as does its flush if `stays` says so.
-#[derive(Drop)]
-pub struct Narrow {
-    pub room: usize,
-    pub stays: bool,
-}
-
-impl Write for Narrow {
-    fn write(&mut self, buf: &[u8]) -> io::Result<usize> {
-        let taken = buf.len().min(self.room);
-        if taken == 0 {
-            return Err(ErrorKind::StorageFull.into());
-        }
-        self.room -= taken;
-        Ok(taken)
-    }
-
-    fn flush(&mut self) -> io::Result<()> {
-        if self.stays {
-            return Err(ErrorKind::BrokenPipe.into());
-        }
-        Ok(())
-    }
-}
-
 fn joined(alloc: Global, parts: &[&[u8]]) -> Result<Vec<u8>, AllocError> {
     let mut whole = Vec::new(alloc);
     for part in parts {
@@ -179,51 +127,10 @@ fn joined(alloc: Global, parts: &[&[u8]]) -> Result<Vec<u8>, AllocError> {
     Ok(whole)
 }
 
-// The result of a check of this input.
-#[derive(Drop)]
-pub struct Printed {
-    pub status: u8,
-    pub output: Vec<u8>,
-    pub error: Vec<u8>,
-}
-
-impl Printed {
-    // Whether it ended with this status and output, and without a message.
-    pub fn says(&self, status: u8, output: &str) -> bool {
-        self.status == status
-            && self.output.as_slice() == output.as_bytes()
-            && self.error.is_empty()
-    }
-}
-
-// The task that these words ask for, on one reading of a log or on none.
-pub fn task_of(alloc: Global, words: &[&str]) -> Result<Task, EarlyExit> {
-    match parse(alloc, words)? {
-        Work::Once(task) => Ok(task),
-        Work::Twice(_) => Err(EarlyExit::Usage(String::new(alloc))),
-    }
-}
-
-pub fn printed_of<R: Read>(alloc: Global, input: &mut R) -> Result<Printed, EarlyExit> {
-    let task = task_of(alloc, &["mqjudge", "check"])?;
-    let mut output = Vec::new(alloc);
-    let mut error = Vec::new(alloc);
-    let status = perform(alloc, &task, input, &mut output, &mut error);
-    Ok(Printed {
-        status,
-        output,
-        error,
-    })
-}
-
 // Whether a check of this log, read at once and then byte by byte, writes this and nothing else.
 pub fn is_printed(alloc: Global, log: &[u8], status: u8, report: &str) -> Result<bool, EarlyExit> {
-    let mut trickle = Trickle {
-        bytes: log,
-        fails_after: None,
-    };
-    let whole = printed_of(alloc, &mut &log[..])?;
-    let cut = printed_of(alloc, &mut trickle)?;
+    let whole = printed_by(alloc, &CHECK, &mut &log[..])?;
+    let cut = printed_by(alloc, &CHECK, &mut Trickle::of(log, None))?;
     Ok(whole.says(status, report) && cut.says(status, report))
 }
 
@@ -269,29 +176,13 @@ fn reads_packets_up_to_the_limit(rt: HostRuntime) -> Result<(), Fail> {
 #[test]
 fn reports_a_failed_read(rt: HostRuntime) -> Result<(), Fail> {
     for fails_after in [0, 3, 8] {
-        let mut input = Trickle {
-            bytes: HEADER,
-            fails_after: Some(fails_after),
-        };
-        let printed = printed_of(rt.alloc(), &mut input)?;
+        let mut input = Trickle::of(HEADER, Some(fails_after));
+        let printed = printed_by(rt.alloc(), &CHECK, &mut input)?;
         assert_eq!(rt; printed.status, FAILED);
         assert_eq!(rt; printed.error.as_slice(), &b"mqjudge: read failed\n"[..]);
         assert!(rt; printed.output.is_empty());
     }
     Ok(())
-}
-
-// Whether what these words ask for fails if the output has this little room, and reports that a write failed.
-pub fn is_failed_write(
-    alloc: Global,
-    words: &[&str],
-    log: &[u8],
-    mut output: Narrow,
-) -> Result<bool, EarlyExit> {
-    let task = task_of(alloc, words)?;
-    let mut error = Vec::new(alloc);
-    let status = perform(alloc, &task, &mut &log[..], &mut output, &mut error);
-    Ok(status == FAILED && error.as_slice() == &b"mqjudge: write failed\n"[..])
 }
 
 #[test]
@@ -305,7 +196,7 @@ fn reports_a_failed_write(rt: HostRuntime) -> Result<(), Fail> {
         (short, 100, true),
     ] {
         let output = Narrow { room, stays };
-        let failed = is_failed_write(rt.alloc(), &["mqjudge", "check"], log, output)?;
+        let failed = is_failed_write(rt.alloc(), &CHECK, log, output)?;
         assert!(rt; failed, "{room} bytes");
     }
     Ok(())
@@ -316,16 +207,7 @@ fn reports_a_failed_write(rt: HostRuntime) -> Result<(), Fail> {
 fn reports_want_of_memory(rt: HostRuntime) {
     let mut output = Cursor::new([0; 128]);
     let mut error = Cursor::new([0; 64]);
-    let status = match task_of(rt.alloc(), &["mqjudge", "check"]) {
-        Ok(task) => perform(
-            rt.alloc(),
-            &task,
-            &mut &TAKEN_TWICE[..],
-            &mut output,
-            &mut error,
-        ),
-        Err(why) => stop(&why, &mut output, &mut error),
-    };
+    let status = status_by(rt.alloc(), &CHECK, TAKEN_TWICE, &mut output, &mut error);
     let (report, complaint): (&[u8], &[u8]) = if status == FAULTY {
         (
             b"fault 5 S01 MQTT-2.2.1-3 decided 5 record 5 offset -\nfail 1 faults 6 events\n",
@@ -335,10 +217,7 @@ fn reports_want_of_memory(rt: HostRuntime) {
         assert_eq!(rt; status, FAILED);
         (b"", b"mqjudge: out of memory\n")
     };
-    assert_eq!(rt; output.position(), report.len() as u64);
-    assert!(rt; output.get_ref().starts_with(report));
-    assert_eq!(rt; error.position(), complaint.len() as u64);
-    assert!(rt; error.get_ref().starts_with(complaint));
+    assert!(rt; is_written(&output, report) && is_written(&error, complaint));
 }
 
 // Whether these words ask for a check of this file, or of the input, with these flags.
@@ -427,7 +306,7 @@ fn shows_help_and_the_version(rt: HostRuntime) -> Result<(), Fail> {
 }
 
 #[test]
-fn refuses_other_words(rt: HostRuntime) -> Result<(), Fail> {
+fn refuses_other_words(rt: HostRuntime) {
     let misuses: [(&[&str], &str); 7] = [
         (&[], "requires a subcommand"),
         (&["mqjudge"], "requires a subcommand"),
@@ -450,12 +329,8 @@ fn refuses_other_words(rt: HostRuntime) -> Result<(), Fail> {
         ),
     ];
     for (words, part) in misuses {
-        let Err(EarlyExit::Usage(text)) = parse(rt.alloc(), words) else {
-            return Err("taken".into());
-        };
-        assert!(rt; text.as_str().contains(part), "{words:?} tells {text}");
+        assert!(rt; is_misuse(rt.alloc(), words, part), "{words:?}");
     }
-    Ok(())
 }
 
 // Whether a stop ends with this status, this output and this message.
