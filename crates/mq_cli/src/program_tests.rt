@@ -1,4 +1,5 @@
 use crate::failure::Failure;
+use crate::harness::NESTED;
 use crate::host::Host;
 use crate::program::run;
 use std::alloc::Global;
@@ -16,9 +17,6 @@ const FAULTY: &[u8] = b"MQTR\x01\x00\x01\x00\
     \x02\x00\x00\x00\x0f\x10\x0d\x00\x04MQTT\x05\x02\x00\x3c\x00\x00\x00\
     \x03\x00\x00\x00\x05\x20\x03\x00\x00\x00\
     \x02\x00\x00\x00\x09\x32\x07\x00\x01a\x00\x00\x00x";
-
-// Two connections at once.
-const NESTED: &[u8] = b"MQTR\x01\x00\x01\x00\x01\x00\x00\x00\x00\x01\x00\x00\x00\x00";
 
 const PASS: &str = "pass 4 events\n";
 
@@ -92,158 +90,234 @@ impl Host for Desk {
     }
 }
 
-// The words, the file and standard input; and the status, the output and the errors.
-type Row = (
-    &'static [&'static str],
-    [&'static [u8]; 2],
-    u8,
-    &'static str,
-    &'static str,
-);
+// What the host has, and what the program does.
+struct Row {
+    words: &'static [&'static str],
+    file: &'static [u8],
+    input: &'static [u8],
+    status: u8,
+    output: &'static str,
+    error: &'static str,
+}
 
 static ROWS: [Row; 27] = [
-    (&["mqjudge", "check", "a.log"], [GOOD, FAULTY], 0, PASS, ""),
-    (&["mqjudge", "check", "a.log"], [FAULTY, GOOD], 1, FAIL, ""),
-    (
-        &["mqjudge", "check", "a.log"],
-        [NESTED, GOOD],
-        2,
-        REFUSED,
-        "",
-    ),
-    (
-        &["mqjudge", "check", "b.log"],
-        [GOOD, GOOD],
-        4,
-        "",
-        READ_FAILED,
-    ),
-    (&["mqjudge", "check"], [FAULTY, GOOD], 0, PASS, ""),
-    (&["mqjudge", "check", "-"], [FAULTY, GOOD], 0, PASS, ""),
-    (
-        &["mqjudge", "check", "./-"],
-        [GOOD, GOOD],
-        4,
-        "",
-        READ_FAILED,
-    ),
-    (
-        &["mqjudge", "check", "a.log", "b"],
-        [GOOD, GOOD],
-        3,
-        "",
-        MISUSE,
-    ),
-    (&["mqjudge", "show", "a.log"], [GOOD, NESTED], 0, LINES, ""),
-    (
-        &["mqjudge", "show", "a.log"],
-        [NESTED, GOOD],
-        2,
-        REFUSED_LINES,
-        "",
-    ),
-    (
-        &["mqjudge", "show", "b.log"],
-        [GOOD, GOOD],
-        4,
-        "",
-        READ_FAILED,
-    ),
-    (&["mqjudge", "show"], [NESTED, GOOD], 0, LINES, ""),
-    (&["mqjudge", "show", "-"], [NESTED, GOOD], 0, LINES, ""),
-    (
-        &["mqjudge", "packet", "C000"],
-        [GOOD, GOOD],
-        0,
-        "PINGREQ size 2\n",
-        "",
-    ),
-    (
-        &["mqjudge", "packet", "C100"],
-        [GOOD, GOOD],
-        1,
-        "BAD W01 offset 0\n",
-        "",
-    ),
-    (
-        &["mqjudge", "packet", "C"],
-        [GOOD, GOOD],
-        3,
-        "",
-        "mqjudge: not hex\n",
-    ),
-    (
-        &["mqjudge", "--version"],
-        [GOOD, GOOD],
-        0,
-        "mqjudge 0.1.0 (reads log version 1, judges 74 statements)\n",
-        "",
-    ),
-    (&[], [GOOD, GOOD], 4, "", READ_FAILED),
-    (
-        &["mqjudge", "check", "--json"],
-        [GOOD, b"MQTR\x01\x00\x01\x00"],
-        0,
-        "{\"events\":0,\"faults\":[],\"verdict\":\"pass\"}\n",
-        "",
-    ),
-    (
-        &["mqjudge", "check", "--json", "--summary"],
-        [GOOD, b"MQTR\x01\x00\x01"],
-        2,
-        "{\"at\":7,\"name\":\"Cut\",\"refused\":10}\n",
-        "",
-    ),
-    (
-        &["mqjudge", "check", "--json", "a.log"],
-        [FAULTY, GOOD],
-        1,
-        "{\"events\":4,\"faults\":[{\"citation\":\"sec-2.2.1\",\"code\":\"W09\",\"decided\":4,\
+    Row {
+        words: &["mqjudge", "check", "a.log"],
+        file: GOOD,
+        input: FAULTY,
+        status: 0,
+        output: PASS,
+        error: "",
+    },
+    Row {
+        words: &["mqjudge", "check", "a.log"],
+        file: FAULTY,
+        input: GOOD,
+        status: 1,
+        output: FAIL,
+        error: "",
+    },
+    Row {
+        words: &["mqjudge", "check", "a.log"],
+        file: NESTED,
+        input: GOOD,
+        status: 2,
+        output: REFUSED,
+        error: "",
+    },
+    Row {
+        words: &["mqjudge", "check", "b.log"],
+        file: GOOD,
+        input: GOOD,
+        status: 4,
+        output: "",
+        error: READ_FAILED,
+    },
+    Row {
+        words: &["mqjudge", "check"],
+        file: FAULTY,
+        input: GOOD,
+        status: 0,
+        output: PASS,
+        error: "",
+    },
+    Row {
+        words: &["mqjudge", "check", "-"],
+        file: FAULTY,
+        input: GOOD,
+        status: 0,
+        output: PASS,
+        error: "",
+    },
+    Row {
+        words: &["mqjudge", "check", "./-"],
+        file: GOOD,
+        input: GOOD,
+        status: 4,
+        output: "",
+        error: READ_FAILED,
+    },
+    Row {
+        words: &["mqjudge", "check", "a.log", "b"],
+        file: GOOD,
+        input: GOOD,
+        status: 3,
+        output: "",
+        error: MISUSE,
+    },
+    Row {
+        words: &["mqjudge", "show", "a.log"],
+        file: GOOD,
+        input: NESTED,
+        status: 0,
+        output: LINES,
+        error: "",
+    },
+    Row {
+        words: &["mqjudge", "show", "a.log"],
+        file: NESTED,
+        input: GOOD,
+        status: 2,
+        output: REFUSED_LINES,
+        error: "",
+    },
+    Row {
+        words: &["mqjudge", "show", "b.log"],
+        file: GOOD,
+        input: GOOD,
+        status: 4,
+        output: "",
+        error: READ_FAILED,
+    },
+    Row {
+        words: &["mqjudge", "show"],
+        file: NESTED,
+        input: GOOD,
+        status: 0,
+        output: LINES,
+        error: "",
+    },
+    Row {
+        words: &["mqjudge", "show", "-"],
+        file: NESTED,
+        input: GOOD,
+        status: 0,
+        output: LINES,
+        error: "",
+    },
+    Row {
+        words: &["mqjudge", "packet", "C000"],
+        file: GOOD,
+        input: GOOD,
+        status: 0,
+        output: "PINGREQ size 2\n",
+        error: "",
+    },
+    Row {
+        words: &["mqjudge", "packet", "C100"],
+        file: GOOD,
+        input: GOOD,
+        status: 1,
+        output: "BAD W01 offset 0\n",
+        error: "",
+    },
+    Row {
+        words: &["mqjudge", "packet", "C"],
+        file: GOOD,
+        input: GOOD,
+        status: 3,
+        output: "",
+        error: "mqjudge: not hex\n",
+    },
+    Row {
+        words: &["mqjudge", "--version"],
+        file: GOOD,
+        input: GOOD,
+        status: 0,
+        output: "mqjudge 0.1.0 (reads log version 1, judges 74 statements)\n",
+        error: "",
+    },
+    Row {
+        words: &[],
+        file: GOOD,
+        input: GOOD,
+        status: 4,
+        output: "",
+        error: READ_FAILED,
+    },
+    Row {
+        words: &["mqjudge", "check", "--json"],
+        file: GOOD,
+        input: b"MQTR\x01\x00\x01\x00",
+        status: 0,
+        output: "{\"events\":0,\"faults\":[],\"verdict\":\"pass\"}\n",
+        error: "",
+    },
+    Row {
+        words: &["mqjudge", "check", "--json", "--summary"],
+        file: GOOD,
+        input: b"MQTR\x01\x00\x01",
+        status: 2,
+        output: "{\"at\":7,\"name\":\"Cut\",\"refused\":10}\n",
+        error: "",
+    },
+    Row {
+        words: &["mqjudge", "check", "--json", "a.log"],
+        file: FAULTY,
+        input: GOOD,
+        status: 1,
+        output: "{\"events\":4,\"faults\":[{\"citation\":\"sec-2.2.1\",\"code\":\"W09\",\"decided\":4,\
         \"offset\":5,\"position\":4,\"record\":4}],\"verdict\":\"fail\"}\n",
-        "",
-    ),
-    (
-        &["mqjudge", "check", "--summary", "a.log"],
-        [FAULTY, GOOD],
-        1,
-        "W09 sec-2.2.1 faults 1 first 4 record 4\nfail 1 faults 4 events\n",
-        "",
-    ),
-    (
-        &["mqjudge", "check", "--summary", "a.log"],
-        [NESTED, GOOD],
-        2,
-        REFUSED,
-        "",
-    ),
-    (
-        &["mqjudge", "explain", "X99"],
-        [GOOD, GOOD],
-        3,
-        "",
-        "mqjudge: no statement X99\n",
-    ),
-    (
-        &["mqjudge", "explain", "w9"],
-        [GOOD, GOOD],
-        3,
-        "",
-        "mqjudge: no statement w9\n",
-    ),
-    (
-        &["mqjudge", "rules", "--role", "broker"],
-        [GOOD, GOOD],
-        3,
-        "",
-        "mqjudge: no role broker\n",
-    ),
-    (
-        &["mqjudge", "packet", "4"],
-        [GOOD, GOOD],
-        3,
-        "",
-        "mqjudge: not hex\n",
-    ),
+        error: "",
+    },
+    Row {
+        words: &["mqjudge", "check", "--summary", "a.log"],
+        file: FAULTY,
+        input: GOOD,
+        status: 1,
+        output: "W09 sec-2.2.1 faults 1 first 4 record 4\nfail 1 faults 4 events\n",
+        error: "",
+    },
+    Row {
+        words: &["mqjudge", "check", "--summary", "a.log"],
+        file: NESTED,
+        input: GOOD,
+        status: 2,
+        output: REFUSED,
+        error: "",
+    },
+    Row {
+        words: &["mqjudge", "explain", "X99"],
+        file: GOOD,
+        input: GOOD,
+        status: 3,
+        output: "",
+        error: "mqjudge: no statement X99\n",
+    },
+    Row {
+        words: &["mqjudge", "explain", "w9"],
+        file: GOOD,
+        input: GOOD,
+        status: 3,
+        output: "",
+        error: "mqjudge: no statement w9\n",
+    },
+    Row {
+        words: &["mqjudge", "rules", "--role", "broker"],
+        file: GOOD,
+        input: GOOD,
+        status: 3,
+        output: "",
+        error: "mqjudge: no role broker\n",
+    },
+    Row {
+        words: &["mqjudge", "packet", "4"],
+        file: GOOD,
+        input: GOOD,
+        status: 3,
+        output: "",
+        error: "mqjudge: not hex\n",
+    },
 ];
 
 const FAULTY_LINES: &str = "1 record 1 OPEN\n\
@@ -260,169 +334,192 @@ const NO_FILE: &str =
     "mqjudge: --faults reads the log twice, so it needs a FILE, not standard input\n";
 
 static REVIEWS: [Row; 14] = [
-    (
-        &["mqjudge", "show", "--faults", "a.log"],
-        [FAULTY, NESTED],
-        0,
-        FAULTY_LINES,
-        "",
-    ),
-    (
-        &["mqjudge", "show", "--faults", "--around", "1", "./a.log"],
-        [FAULTY, FAULTY],
-        4,
-        "",
-        READ_FAILED,
-    ),
-    (
-        &["mqjudge", "show", "--around", "0", "a.log", "--faults"],
-        [FAULTY, NESTED],
-        0,
-        NEAR_LINES,
-        "",
-    ),
-    (
-        &[
+    Row {
+        words: &["mqjudge", "show", "--faults", "a.log"],
+        file: FAULTY,
+        input: NESTED,
+        status: 0,
+        output: FAULTY_LINES,
+        error: "",
+    },
+    Row {
+        words: &["mqjudge", "show", "--faults", "--around", "1", "./a.log"],
+        file: FAULTY,
+        input: FAULTY,
+        status: 4,
+        output: "",
+        error: READ_FAILED,
+    },
+    Row {
+        words: &["mqjudge", "show", "--around", "0", "a.log", "--faults"],
+        file: FAULTY,
+        input: NESTED,
+        status: 0,
+        output: NEAR_LINES,
+        error: "",
+    },
+    Row {
+        words: &[
             "mqjudge",
             "show",
             "--faults",
             "--around=4294967295",
             "a.log",
         ],
-        [FAULTY, NESTED],
-        0,
-        FAULTY_LINES,
-        "",
-    ),
-    (
-        &["mqjudge", "show", "--faults", "a.log"],
-        [GOOD, FAULTY],
-        0,
-        LINES,
-        "",
-    ),
-    (
-        &["mqjudge", "show", "--faults", "a.log"],
-        [NESTED, GOOD],
-        2,
-        REFUSED,
-        "",
-    ),
-    (
-        &["mqjudge", "show", "--faults"],
-        [GOOD, GOOD],
-        3,
-        "",
-        NO_FILE,
-    ),
-    (
-        &["mqjudge", "show", "--faults", "-"],
-        [GOOD, GOOD],
-        3,
-        "",
-        NO_FILE,
-    ),
-    (
-        &["mqjudge", "show", "--around", "1", "a.log"],
-        [GOOD, GOOD],
-        3,
-        "",
-        "mqjudge: --around needs --faults\n",
-    ),
-    (
-        &["mqjudge", "show", "--around", "x"],
-        [GOOD, GOOD],
-        3,
-        "",
-        "mqjudge: --around needs --faults\n",
-    ),
-    (
-        &["mqjudge", "show", "--faults", "--around", "x", "a.log"],
-        [GOOD, GOOD],
-        3,
-        "",
-        "mqjudge: no number x\n",
-    ),
-    (
-        &["mqjudge", "show", "--faults", "--around=-1", "a.log"],
-        [GOOD, GOOD],
-        3,
-        "",
-        "mqjudge: no number -1\n",
-    ),
-    (
-        &[
+        file: FAULTY,
+        input: NESTED,
+        status: 0,
+        output: FAULTY_LINES,
+        error: "",
+    },
+    Row {
+        words: &["mqjudge", "show", "--faults", "a.log"],
+        file: GOOD,
+        input: FAULTY,
+        status: 0,
+        output: LINES,
+        error: "",
+    },
+    Row {
+        words: &["mqjudge", "show", "--faults", "a.log"],
+        file: NESTED,
+        input: GOOD,
+        status: 2,
+        output: REFUSED,
+        error: "",
+    },
+    Row {
+        words: &["mqjudge", "show", "--faults"],
+        file: GOOD,
+        input: GOOD,
+        status: 3,
+        output: "",
+        error: NO_FILE,
+    },
+    Row {
+        words: &["mqjudge", "show", "--faults", "-"],
+        file: GOOD,
+        input: GOOD,
+        status: 3,
+        output: "",
+        error: NO_FILE,
+    },
+    Row {
+        words: &["mqjudge", "show", "--around", "1", "a.log"],
+        file: GOOD,
+        input: GOOD,
+        status: 3,
+        output: "",
+        error: "mqjudge: --around needs --faults\n",
+    },
+    Row {
+        words: &["mqjudge", "show", "--around", "x"],
+        file: GOOD,
+        input: GOOD,
+        status: 3,
+        output: "",
+        error: "mqjudge: --around needs --faults\n",
+    },
+    Row {
+        words: &["mqjudge", "show", "--faults", "--around", "x", "a.log"],
+        file: GOOD,
+        input: GOOD,
+        status: 3,
+        output: "",
+        error: "mqjudge: no number x\n",
+    },
+    Row {
+        words: &["mqjudge", "show", "--faults", "--around=-1", "a.log"],
+        file: GOOD,
+        input: GOOD,
+        status: 3,
+        output: "",
+        error: "mqjudge: no number -1\n",
+    },
+    Row {
+        words: &[
             "mqjudge",
             "show",
             "--faults",
             "--around=4294967296",
             "a.log",
         ],
-        [GOOD, GOOD],
-        3,
-        "",
-        "mqjudge: no number 4294967296\n",
-    ),
-    (
-        &["mqjudge", "show", "--faults", "--around=", "a.log"],
-        [GOOD, GOOD],
-        3,
-        "",
-        "mqjudge: no number \n",
-    ),
+        file: GOOD,
+        input: GOOD,
+        status: 3,
+        output: "",
+        error: "mqjudge: no number 4294967296\n",
+    },
+    Row {
+        words: &["mqjudge", "show", "--faults", "--around=", "a.log"],
+        file: GOOD,
+        input: GOOD,
+        status: 3,
+        output: "",
+        error: "mqjudge: no number \n",
+    },
 ];
 
+// The host fails at these for want of memory.
+static UNREADABLE: [Row; 3] = [
+    Row {
+        words: &["mqjudge", "check", "b.log"],
+        file: GOOD,
+        input: GOOD,
+        status: 4,
+        output: "",
+        error: NO_MEMORY,
+    },
+    Row {
+        words: &["mqjudge", "show", "b.log"],
+        file: GOOD,
+        input: GOOD,
+        status: 4,
+        output: "",
+        error: NO_MEMORY,
+    },
+    Row {
+        words: &[],
+        file: GOOD,
+        input: GOOD,
+        status: 4,
+        output: "",
+        error: NO_MEMORY,
+    },
+];
 // Whether the program does this with the row's words, file and standard input; `failure` is why the host fails, if it does.
 fn does(alloc: Global, failure: Failure, row: &Row) -> bool {
-    let (words, [file, input], status, shown, printed) = *row;
     let desk = Desk {
         alloc,
-        words,
-        file,
-        input,
+        words: row.words,
+        file: row.file,
+        input: row.input,
         failure,
     };
     let mut output = Vec::new(alloc);
     let mut error = Vec::new(alloc);
-    run(alloc, &desk, &mut output, &mut error) == status
-        && output.as_slice() == shown.as_bytes()
-        && error.as_slice() == printed.as_bytes()
+    run(alloc, &desk, &mut output, &mut error) == row.status
+        && output.as_slice() == row.output.as_bytes()
+        && error.as_slice() == row.error.as_bytes()
 }
 
 #[test]
 fn does_what_the_words_ask_for(rt: HostRuntime) {
     for row in &ROWS {
-        assert!(rt; does(rt.alloc(), Failure::Read, row), "{:?}", row.0);
+        assert!(rt; does(rt.alloc(), Failure::Read, row), "{:?}", row.words);
     }
 }
 
 #[test]
 fn shows_the_faults_that_the_words_ask_for(rt: HostRuntime) {
     for row in &REVIEWS {
-        assert!(rt; does(rt.alloc(), Failure::Read, row), "{:?}", row.0);
+        assert!(rt; does(rt.alloc(), Failure::Read, row), "{:?}", row.words);
     }
 }
 
 #[test]
 fn names_what_the_host_failed_at(rt: HostRuntime) {
-    let rows: [Row; 3] = [
-        (
-            &["mqjudge", "check", "b.log"],
-            [GOOD, GOOD],
-            4,
-            "",
-            NO_MEMORY,
-        ),
-        (
-            &["mqjudge", "show", "b.log"],
-            [GOOD, GOOD],
-            4,
-            "",
-            NO_MEMORY,
-        ),
-        (&[], [GOOD, GOOD], 4, "", NO_MEMORY),
-    ];
-    for row in &rows {
-        assert!(rt; does(rt.alloc(), Failure::Memory, row), "{:?}", row.0);
+    for row in &UNREADABLE {
+        assert!(rt; does(rt.alloc(), Failure::Memory, row), "{:?}", row.words);
     }
 }
