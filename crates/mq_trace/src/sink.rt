@@ -13,6 +13,32 @@ use super::refusal::Refusal;
 use mq_packet::{Packet, Publish};
 
 /// Receives the events of a log, one after another.
+///
+/// A sink that can't go on returns a refusal, and the log is refused with it. No condition on logs is the sink's to check, so
+/// what it lacks is memory, or another means: `Refusal::Memory(0)` says so. It is at offset 0 because a sink doesn't know the
+/// bytes of the log; the tracer moves it to the byte that completed the event.
+///
+/// # Examples
+///
+/// A sink that counts the events:
+///
+/// ```
+/// #[derive(Drop)]
+/// struct Count(u32);
+///
+/// impl Sink for Count {
+///     ghost use Rattle.std.specs.Prelude.{⊤};
+///
+///     ghost agrees = { λ _ _. ⊤ };
+///
+///     ghost refuses = { λ _ _ _. ⊤ };
+///
+///     fn event(&mut self, _: Place3, _: Event<'_>) -> Result<(), Refusal> {
+///         self.0 = self.0.checked_add(1).ok_or(Refusal::Memory(0))?;
+///         Ok(())
+///     }
+/// }
+/// ```
 pub trait Sink {
     ghost use Rattle.mq_trace.specs.declared.refusal.Refusal.{Refusal};
 
