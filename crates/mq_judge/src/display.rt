@@ -141,6 +141,16 @@ impl<S: Sink + Failing> Feed<S> for Tracer {
 /// `Refused` if the log is refused, if the reader fails or hasn't ended after the last read, or if there is no memory. Exactly
 /// the lines of the events before the refused byte were then written. `Write` if a write failed: the writer returned an error,
 /// also one for an interruption, or took no byte. A beginning of the lines, but not all of them, was then written.
+///
+/// # Examples
+///
+/// ```
+/// let log = b"MQTR\x01\x00\x01\x00\x01\x00\x00\x00\x00\x04\x00\x00\x00\x00";
+/// let mut lines = Vec::new(rt.alloc());
+/// show(rt.alloc(), &mut log.as_slice(), &mut lines)?;
+/// let shown = b"1 record 1 OPEN\n2 record 2 CLOSE\n";
+/// assert_eq!(rt; lines.as_slice(), shown.as_slice());
+/// ```
 pub fn show<R: Read, W: Write>(
     alloc: Global,
     reader: &mut R,

@@ -42,6 +42,18 @@ pub struct Verdict {
 const HEADER_LENGTH: u64 = 8;
 
 /// Judges one log.
+///
+/// # Examples
+///
+/// ```
+/// let mut judge = Judge::new(rt.alloc(), Options::default());
+/// judge.feed(b"MQTR\x01\x00\x01\x00\x01\x00")?;
+/// judge.feed(b"\x00\x00\x00\x04\x00\x00\x00\x00")?;
+/// assert!(rt; judge.role() == Some(Role::Client));
+/// let verdict = judge.finish()?;
+/// assert_eq!(rt; verdict.events, 2);
+/// assert!(rt; verdict.faults.is_empty());
+/// ```
 #[derive(Drop)]
 pub struct Judge {
     alloc: Global,

@@ -25,6 +25,8 @@ pub use runner::{judge_reader, run, run_bounded};
 #[cfg(test)]
 mod display_tests;
 #[cfg(test)]
+mod example_tests;
+#[cfg(test)]
 mod harness;
 #[cfg(test)]
 mod log_tests;

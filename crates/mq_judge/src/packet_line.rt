@@ -124,6 +124,14 @@ fn write_finding<W: Write>(found: Finding, writer: &mut W) -> Result<(), RunFaul
 /// # Errors
 ///
 /// `Write` if a write failed: the writer returned an error, also one for an interruption, or took no byte. A beginning of the line was then written.
+///
+/// # Examples
+///
+/// ```
+/// let mut line = Vec::new(rt.alloc());
+/// assert!(rt; write_packet(b"\x40\x02\x00\x0a", &mut line)?);
+/// assert_eq!(rt; line.as_slice(), b"PUBACK size 4 id 10\n".as_slice());
+/// ```
 #[tactic(auto, unfolding(crate::specs::OnePacket::packet_report, crate::specs::OnePacket::is_one_packet))]
 pub fn write_packet<W: Write>(bytes: &[u8], writer: &mut W) -> Result<bool, RunFault>
     ensures ok { OnOk result (Appends (W.contents writer.old) (W.contents writer.new) (packet_report bytes.now)) }

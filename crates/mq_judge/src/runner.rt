@@ -22,6 +22,16 @@ use std::io::{Read, Write};
 /// # Errors
 ///
 /// As `run_bounded`.
+///
+/// # Examples
+///
+/// ```
+/// let log = b"MQTR\x01\x00\x01\x00\x01\x00\x00\x00\x00";
+/// let mut report = Vec::new(rt.alloc());
+/// let outcome = run(rt.alloc(), &mut log.as_slice(), &mut report, Form::Text)?;
+/// assert_eq!(rt; outcome, Outcome::Pass);
+/// assert_eq!(rt; report.as_slice(), b"pass 1 events\n".as_slice());
+/// ```
 pub fn run<R: Read, W: Write>(
     alloc: Global,
     reader: &mut R,
@@ -63,6 +73,14 @@ pub fn run_bounded<R: Read, W: Write>(
 /// # Errors
 ///
 /// Why the log is refused; `Read` if the reader fails, or hasn't ended after the last turn; `Memory` if the judge has no memory.
+///
+/// # Examples
+///
+/// ```
+/// let nested = b"MQTR\x01\x00\x01\x00\x01\x00\x00\x00\x00\x01";
+/// let refused = judge_reader(rt.alloc(), &mut nested.as_slice());
+/// assert!(rt; matches!(refused, Err(Refusal::Nested(13))));
+/// ```
 pub fn judge_reader<R: Read>(alloc: Global, reader: &mut R) -> Result<(Verdict, Role), Refusal>
     ensures { IfSome (R.remaining reader.old) (λ log. JudgesOver (λ v. v.events) (λ v. v.faults) log (R.remaining reader.new) result) }
 {

@@ -1,6 +1,7 @@
 //! Logs, and what a tracer emits for them: lines and refusals that were worked out by hand from the log's format.
 
 mod emission;
+mod examples;
 mod keeping;
 pub mod logs;
 mod refusals;

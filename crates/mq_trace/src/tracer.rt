@@ -13,6 +13,27 @@ use std::alloc::Global;
 use std::marker::Model;
 
 /// Reads a log that is fed in pieces, however it is cut, and emits each event to a sink when its last byte comes.
+///
+/// # Examples
+///
+/// ```
+/// let mut count = Count(0);
+/// let mut tracer = Tracer::new(rt.alloc(), 16_777_216);
+/// tracer.feed(b"MQTR\x01\x00\x01\x00\x01\x00", &mut count)?;
+/// tracer.feed(b"\x00\x00\x00\x04\x00\x00\x00\x00", &mut count)?;
+/// tracer.finish()?;
+/// assert_eq!(rt; count.0, 2);
+/// ```
+///
+/// A second OPEN on the connection is refused at its first byte:
+///
+/// ```
+/// let mut count = Count(0);
+/// let mut tracer = Tracer::new(rt.alloc(), 16_777_216);
+/// let nested = b"MQTR\x01\x00\x01\x00\x01\x00\x00\x00\x00\x01";
+/// assert_eq!(rt; tracer.feed(nested, &mut count), Err(Refusal::Nested(13)));
+/// assert_eq!(rt; count.0, 1);
+/// ```
 #[derive(Drop)]
 pub struct Tracer {
     refusal: Option<Refusal>,

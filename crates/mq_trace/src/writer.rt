@@ -39,6 +39,22 @@ impl Error for WriteFault {}
 ///
 /// A call in which a write fails has written a beginning of its header or record, but not all of it. Each later call fails with
 /// `Write` too, and writes nothing.
+///
+/// # Examples
+///
+/// The log of a client that sends a PINGREQ:
+///
+/// ```
+/// let mut log = TraceWriter::new(Vec::new(rt.alloc()));
+/// log.header(&Header {
+///     server: false,
+///     releases: true,
+/// })?;
+/// log.open()?;
+/// log.sent(b"\xc0\x00")?;
+/// let bytes = b"MQTR\x01\x00\x01\x00\x01\x00\x00\x00\x00\x02\x00\x00\x00\x02\xc0\x00";
+/// assert_eq!(rt; log.into_inner().as_slice(), bytes.as_slice());
+/// ```
 #[derive(Drop)]
 pub struct TraceWriter<W: Write> {
     writer: W,
