@@ -5,7 +5,11 @@ use Rattle.std.specs.Fmt.{decimal}
 use Rattle.std.proofs.lemmas.Fmt.{decimal_digit, decimal_step, decimal_nonempty}
 use Rattle.std.proofs.lemmas.List.{drop-set, set_split, drop_all, length-set}
 
--- a number below ten has one digit
+-- a number below ten is its digit
+pub digit_alone : (n : ℕ) → n < 10 → decimal n ≡ (48 + n) ∷ []
+digit_alone n small = decimal_digit n small
+
+-- it has one
 pub one_digit : (n : ℕ) → n < 10 → length (decimal n) ≡ 1
 one_digit n small = ap (λ (l : List ℕ). length l) (decimal_digit n small)
 

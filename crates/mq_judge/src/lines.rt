@@ -95,8 +95,34 @@ impl Lines {
     /// # Errors
     ///
     /// If there is no room for it. Nothing is then changed.
-    #[inline(never)]
+    #[inline(always)]
     pub fn put_number(&mut self, number: u32) -> fmt::Result
+        ensures puts { OnOk result (self.new ≡ self.old ++ decimal number) }
+        ensures full { IfErr result (λ _. (self.new ≡ self.old) × (8192 < length self.old + length (decimal number))) }
+        ensures short { length (decimal number) ≤ 10 }
+    {
+        if number < 10 {
+            self.put_digit(number)
+        } else {
+            self.put_digits(number)
+        }
+    }
+
+    // The same for a number of one digit.
+    #[inline(always)]
+    #[tactic(auto, using(crate::proofs::DigitLaws::digit_alone, crate::proofs::DigitLaws::one_digit))]
+    fn put_digit(&mut self, number: u32) -> fmt::Result
+        requires { number < 10 }
+        ensures puts { OnOk result (self.new ≡ self.old ++ decimal number) }
+        ensures full { IfErr result (λ _. (self.new ≡ self.old) × (8192 < length self.old + length (decimal number))) }
+        ensures short { length (decimal number) ≤ 10 }
+    {
+        self.put_bytes(&[b'0' + number as u8])
+    }
+
+    // The same for any number.
+    #[inline(never)]
+    fn put_digits(&mut self, number: u32) -> fmt::Result
         ensures puts { OnOk result (self.new ≡ self.old ++ decimal number) }
         ensures full { IfErr result (λ _. (self.new ≡ self.old) × (8192 < length self.old + length (decimal number))) }
         ensures short { length (decimal number) ≤ 10 }
