@@ -14,6 +14,7 @@ pub mod SizeLaws
 pub mod SpellingLaws
 pub mod ShortFormLaws
 pub mod BodyLaws
+pub mod BriefLaws
 pub mod ValidLaws
 pub mod WrittenLaws
 pub mod Places

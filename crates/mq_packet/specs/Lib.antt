@@ -18,3 +18,4 @@ pub mod ShortForms
 pub mod Growing
 pub mod Sizes
 pub mod Encoding
+pub mod Brief

@@ -4,6 +4,7 @@
 //! spells or which rule it breaks and where.
 #![tactic(auto)]
 
+mod brief;
 mod codes;
 mod cutting;
 mod decoding;
@@ -27,6 +28,9 @@ mod spelling_laws;
 mod validity;
 mod writing;
 
+pub use brief::{
+    decode_brief_acknowledgement, decode_brief_publish, decode_ping, has_no_properties,
+};
 pub use cutting::cut;
 pub use decoding::{decode, decode_publish};
 pub use fault::{BodyFault, DecodeFault};

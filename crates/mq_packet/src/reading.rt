@@ -25,10 +25,11 @@ use crate::rule::PacketRule;
 use acknowledgement::read_acknowledgement;
 use connack::read_connack;
 use connect::read_connect;
+pub use fields::SUCCESS;
 use fields::whole;
 pub use lists::check_filters;
 use mq_wire::Cursor;
-pub use publish::{names_topic, read_publish};
+pub use publish::{names_topic, read_brief_publish, read_publish};
 use reason_packet::read_reason_packet;
 pub use request::{read_answer, read_request};
 

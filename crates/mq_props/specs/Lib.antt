@@ -12,3 +12,4 @@ pub mod Pushing
 pub mod Views
 pub mod Making
 pub mod Props
+pub mod Empty

@@ -16,5 +16,5 @@ pub use buf::PropsBuf;
 pub use fault::{PropFault, PropReason, PushFault};
 pub use laws::{properties_are_exact, property_faults_are_exact};
 pub use prop::Prop;
-pub use props::{Props, PropsIter};
+pub use props::{Props, PropsIter, after_empty_list};
 pub use table::Place;

@@ -1,6 +1,6 @@
 //! A validated property list.
 
-ghost use Rattle.std.specs.Prelude.{◌≡◌, ℕ, ◌+◌, ◌≤◌, ◌<◌, ◌^◌, List, [], ◌∷◌, ◌++◌, length, IfOk, IfErr, IfSome, OnErr, IsOkAnd, MatchResult, MatchOption};
+ghost use Rattle.std.specs.Prelude.{◌≡◌, ℕ, ◌+◌, ◌≤◌, ◌<◌, ◌^◌, List, [], ◌∷◌, ◌++◌, length, IfOk, IfErr, IfSome, is_some, OnErr, IsOkAnd, MatchResult, MatchOption};
 ghost use Rattle.std.specs.Option.{option_map};
 ghost use Rattle.std.specs.Iterator.{YieldsFirstBy, item_count};
 ghost use Rattle.mq_wire.specs.Left.{past};
@@ -8,6 +8,7 @@ ghost use Rattle.mq_wire.specs.Spellings.{AreBytes, max_varint};
 ghost use Rattle.mq_props.specs.Values.{Property, body};
 ghost use Rattle.mq_props.specs.Allowed.{first_of, AreAllowed, Lists};
 ghost use Rattle.mq_props.specs.Breaks.{BreaksList};
+ghost use Rattle.mq_props.specs.Empty.{begins_with_zero};
 ghost use Rattle.mq_props.specs.Reading.{properties_on, list_on, item_on, items_on, items_of, ReadsFront};
 ghost use Rattle.mq_props.specs.Views.{item_view, value_view};
 ghost use Rattle.mq_props.specs.Props.{prop_view};
@@ -68,10 +69,11 @@ fn all_of<'a>(place: Place, at: usize, bytes: &'a [u8]) -> Result<Props<'a>, Pro
     Ok(Props { place, bytes })
 }
 
-// The bytes after the first one, if that is 0.
+/// The bytes after an empty property list, which is the byte 0, if they begin with one (MQTT 5.0, 2.2.2.1).
 #[inline(always)]
-fn behind_zero(bytes: &[u8]) -> Option<&[u8]>
-    ensures { IfSome result (λ behind. bytes.now ≡ 0 ∷ behind.now) }
+pub fn after_empty_list(bytes: &[u8]) -> Option<&[u8]>
+    ensures rest { IfSome result (λ rest. bytes.now ≡ 0 ∷ rest.now) }
+    ensures begins { is_some result ≡ begins_with_zero bytes.now }
 {
     match bytes {
         [0, behind @ ..] => Some(behind),
@@ -88,7 +90,7 @@ fn list_at<'a>(cursor: &mut Cursor<'a>, place: Place) -> Result<Props<'a>, PropF
     ensures bytes { AreBytes cursor.old.rest }
 {
     let at = cursor.at();
-    match behind_zero(rest_of(cursor)) {
+    match after_empty_list(rest_of(cursor)) {
         Some(behind) => {
             *cursor = Cursor::starting_at(behind, at + 1);
             Ok(Props::empty(place))

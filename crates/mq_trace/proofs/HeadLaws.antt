@@ -73,6 +73,11 @@ head_advances r direction number bytes sound head byte =
     subst (λ (l : List ℕ). Advances r (leaving (record r { at = r.at + 5 }) direction number) l []) (five_of bytes head.whole)
     (heads r direction (slice_index bytes 0) (slice_index bytes 1) (slice_index bytes 2) (slice_index bytes 3) (slice_index bytes 4) number bytes sound head (byte 1) (byte 2) (byte 3) refl head.spelled)
 
+pub head_taken : (r r1 : Reading) (direction : Direction) (number : ℕ) (bytes : List ℕ) → IsSound r → IsBodyHead r bytes direction number → ((i : ℕ) → slice_index bytes i < 256)
+    → r1 ≡ leaving (record r { at = r.at + 5 }) direction number → Advances r r1 (take 5 bytes) []
+head_taken r r1 direction number bytes sound head byte is =
+    subst (λ (x : Reading). Advances r x (take 5 bytes) []) (sym is) (head_advances r direction number bytes sound head byte)
+
 -- ---- a head that was taken in at once, and what comes after it
 
 one_sum : (n m : ℕ) → suc (n + m) ≡ suc n + m

@@ -7,6 +7,13 @@ use Rattle.mq_trace.specs.declared.deframer.Step.TheVariants as steps
 use Rattle.mq_trace.specs.Context.{StreamState}
 use Rattle.mq_trace.specs.Keeping.{IsShort, IsUnfinished}
 
+-- The bytes begin with a whole packet within the limit, of this size and with a fixed header of this length.
+pub record IsWhole (limit : ℕ) (bytes : List ℕ) (header size : ℕ) : Type 0 where
+  pub spelled : fixed_header_of bytes ≡ headers.Whole header size
+  pub frame : frame_size bytes ≡ Some size
+  pub within : size ≤ limit
+  pub bound : size ≤ header + 268435455
+
 -- What the next bytes of a direction are: a whole packet within the limit, with its fixed header's length; the beginning of one; more of an unfinished packet of this size; or a byte that may belong to a fixed header, of which at most four came.
 abbrev pub IsStep : StreamState → ℕ → List ℕ → Step → Type 0
 IsStep state limit bytes (steps.Whole header size) = (state.unfinished ≡ []) × (frame_size bytes ≡ Some size) × (size ≤ limit) × (fixed_header_of bytes ≡ headers.Whole header size) × (size ≤ header + 268435455)

@@ -2,7 +2,7 @@
 //!
 //! The path of a whole packet to the sink is inlined, so that the packet isn't moved; rare cases are functions of their own.
 
-ghost use Rattle.std.specs.Prelude.{◌≡◌, ◌+◌, ◌-◌, ◌<◌, ◌≤◌, ◌^◌, ◌++◌, ◌⊎◌, ℕ, ◌∷◌, [], List, Some, None, OnOk, OnErr, IfOk, IfErr, Err, length, take, drop, slice_index, option_map, true, false};
+ghost use Rattle.std.specs.Prelude.{◌≡◌, ◌+◌, ◌-◌, ◌<◌, ◌≤◌, ◌^◌, ◌++◌, ◌⊎◌, ℕ, ◌∷◌, [], List, Some, None, OnOk, OnErr, IfOk, IfSome, IfErr, IsTrue, Err, length, take, drop, slice_index, option_map, true, false};
 ghost use Rattle.mq_packet.specs.Stream.{frame_size, fixed_header_of};
 ghost use Rattle.mq_packet.specs.Decoding.{decoded};
 ghost use Rattle.mq_packet.specs.Reading.{view, Gives};
@@ -15,7 +15,7 @@ ghost use Rattle.mq_trace.specs.Hearing.{AreEvents, Declines, event_of, item_of}
 ghost use Rattle.mq_trace.specs.declared.event.Item.TheVariants as items;
 ghost use Rattle.mq_trace.specs.Emission.{NotEmitted, event_refusal, connections_with, next_placed};
 ghost use Rattle.mq_trace.specs.Keeping.{state_in, IsUnfinished};
-ghost use Rattle.mq_trace.specs.Settling.{IsByteMore, IsStep};
+ghost use Rattle.mq_trace.specs.Settling.{IsByteMore, IsStep, IsWhole};
 ghost use Rattle.mq_trace.specs.Flows.{going, flow_placed_with, flow_refused, flow_heard, flow_behind};
 ghost use Rattle.mq_trace.specs.Deframing.{body_context, flow_of, frame_event, frame_refusal, connections_then, FlowStops, FlowComes};
 
@@ -26,7 +26,8 @@ use super::refusal::Refusal;
 use super::sink::Sink;
 use bytes::BytesMut;
 use mq_packet::{
-    DecodeFault, FixedHeader, Packet, PacketRule, decode, decode_publish, fixed_header,
+    DecodeFault, FixedHeader, Packet, PacketRule, decode, decode_brief_acknowledgement,
+    decode_brief_publish, decode_ping, decode_publish, fixed_header, has_no_properties,
 };
 use std::alloc::Global;
 
@@ -85,6 +86,14 @@ impl Deframer {
     {
         self.unfinished.clear();
         self.lost = false;
+    }
+
+    /// Whether the direction is neither lost nor inside a packet.
+    #[inline(always)]
+    pub fn is_idle(&self) -> bool
+        ensures { IsTrue result → state_in self.now ≡ record { unfinished = []; lost = false } }
+    {
+        !self.lost && self.unfinished.is_empty()
     }
 
     /// Takes in the next bytes of the direction, up to the end of the packet that the first one belongs to, and returns how many.
@@ -411,6 +420,19 @@ impl Deframer {
     }
 }
 
+/// The lengths of the fixed header and of the packet, if the bytes begin with a whole one within the limit.
+#[inline(always)]
+pub fn whole_packet(limit: u32, bytes: &[u8]) -> Option<(usize, usize)>
+    ensures { IfSome result (λ lengths. IsWhole limit bytes.now lengths.0 lengths.1) }
+{
+    match fixed_header(bytes) {
+        FixedHeader::Whole { length, size } if size <= limit as usize && size <= bytes.len() => {
+            Some((length, size))
+        }
+        _ => None,
+    }
+}
+
 /// How many bytes the fixed header of a whole packet has.
 fn header_of(frame: &[u8]) -> usize
     requires { frame_size frame.now ≡ Some (length frame.now) }
@@ -429,7 +451,7 @@ fn header_of(frame: &[u8]) -> usize
 ///
 /// The refusal that applies at its last byte; the sink's own refusal.
 #[inline(always)]
-fn consume_whole<S: Sink>(
+pub fn consume_whole<S: Sink>(
     context: BodyContext,
     connections: &mut Connections,
     at: u64,
@@ -473,12 +495,52 @@ fn emit_frame<S: Sink>(
         (put (flow_placed_with (body_context context) (flow_of at (record { unfinished = []; lost = false }) connections.old) (frame_event context.direction frame.now)) []) sink.old sink.new refusal) }
 {
     match frame[0] {
+        0x30..0x32 if has_no_properties(&frame[header..]) => {
+            emit_brief_publish_frame(context, connections, at, header, frame, sink)
+        }
         0x30..0x40 => emit_publish_frame(context, connections, at, header, frame, sink),
+        0x40 => emit_puback_frame(context, connections, at, header, frame, sink),
+        0xC0..0xE0 => emit_ping_frame(context, connections, at, header, frame, sink),
         _ => emit_other_frame(context, connections, at, header, frame, sink),
     }
 }
 
-/// The same for a PUBLISH.
+/// The same for a PUBLISH of QoS 0 with no properties. Most have a plain Topic Name.
+#[inline(never)]
+fn emit_brief_publish_frame<S: Sink>(
+    context: BodyContext,
+    connections: &mut Connections,
+    at: u64,
+    header: usize,
+    frame: &[u8],
+    sink: &mut S,
+) -> Result<(), Refusal>
+    requires whole { fixed_header_of frame.now ≡ headers.Whole header (length frame.now) }
+    requires publish { (48 ≤ slice_index frame.now 0) × (slice_index frame.now 0 < 64) }
+    requires fits { length frame.now ≤ header + 268435455 }
+    ensures met { OnOk result (frame_refusal at (flow_of at (record { unfinished = []; lost = false }) connections.old) context.direction frame.now ≡ None) }
+    ensures kept { OnOk result (connections.new ≡ connections_then context.server connections.old (frame_event context.direction frame.now)) }
+    ensures heard { (earlier : List Placed) → S.agrees sink.old earlier
+        → AreEvents (put (flow_placed_with (body_context context) (flow_of at (record { unfinished = []; lost = false }) connections.old) (frame_event context.direction frame.now)) earlier)
+        → OnOk result (S.agrees sink.new (put (flow_placed_with (body_context context) (flow_of at (record { unfinished = []; lost = false }) connections.old) (frame_event context.direction frame.now)) earlier)) }
+    ensures err { IfErr result (λ refusal. NotEmitted (Declines S.agrees S.refuses) at (frame_refusal at (flow_of at (record { unfinished = []; lost = false }) connections.old) context.direction frame.now)
+        (put (flow_placed_with (body_context context) (flow_of at (record { unfinished = []; lost = false }) connections.old) (frame_event context.direction frame.now)) []) sink.old sink.new refusal) }
+{
+    match decode_brief_publish(frame[0], &frame[header..]) {
+        Some(publish) => emit_publish(
+            connections,
+            at,
+            context.record_no,
+            context.direction,
+            frame.len() as u32,
+            publish,
+            sink,
+        ),
+        None => emit_publish_frame(context, connections, at, header, frame, sink),
+    }
+}
+
+/// The same for any PUBLISH.
 #[inline(never)]
 fn emit_publish_frame<S: Sink>(
     context: BodyContext,
@@ -510,6 +572,60 @@ fn emit_publish_frame<S: Sink>(
             sink,
         ),
         Err(fault) => emit_fault(context, connections, at, header, frame, fault, sink),
+    }
+}
+
+/// The same for a PUBACK. Most are no more than a Packet Identifier. The first byte is a constant here, so that no other packet is
+/// possible.
+#[inline(never)]
+fn emit_puback_frame<S: Sink>(
+    context: BodyContext,
+    connections: &mut Connections,
+    at: u64,
+    header: usize,
+    frame: &[u8],
+    sink: &mut S,
+) -> Result<(), Refusal>
+    requires whole { fixed_header_of frame.now ≡ headers.Whole header (length frame.now) }
+    requires puback { slice_index frame.now 0 ≡ 64 }
+    requires fits { length frame.now ≤ header + 268435455 }
+    ensures met { OnOk result (frame_refusal at (flow_of at (record { unfinished = []; lost = false }) connections.old) context.direction frame.now ≡ None) }
+    ensures kept { OnOk result (connections.new ≡ connections_then context.server connections.old (frame_event context.direction frame.now)) }
+    ensures heard { (earlier : List Placed) → S.agrees sink.old earlier
+        → AreEvents (put (flow_placed_with (body_context context) (flow_of at (record { unfinished = []; lost = false }) connections.old) (frame_event context.direction frame.now)) earlier)
+        → OnOk result (S.agrees sink.new (put (flow_placed_with (body_context context) (flow_of at (record { unfinished = []; lost = false }) connections.old) (frame_event context.direction frame.now)) earlier)) }
+    ensures err { IfErr result (λ refusal. NotEmitted (Declines S.agrees S.refuses) at (frame_refusal at (flow_of at (record { unfinished = []; lost = false }) connections.old) context.direction frame.now)
+        (put (flow_placed_with (body_context context) (flow_of at (record { unfinished = []; lost = false }) connections.old) (frame_event context.direction frame.now)) []) sink.old sink.new refusal) }
+{
+    match decode_brief_acknowledgement(0x40, &frame[header..]) {
+        Some(packet) => emit_decoded(context, connections, at, header, frame, Ok(packet), sink),
+        None => emit_other_frame(context, connections, at, header, frame, sink),
+    }
+}
+
+/// The same for a PINGREQ or PINGRESP.
+#[inline(never)]
+fn emit_ping_frame<S: Sink>(
+    context: BodyContext,
+    connections: &mut Connections,
+    at: u64,
+    header: usize,
+    frame: &[u8],
+    sink: &mut S,
+) -> Result<(), Refusal>
+    requires whole { fixed_header_of frame.now ≡ headers.Whole header (length frame.now) }
+    requires fits { length frame.now ≤ header + 268435455 }
+    ensures met { OnOk result (frame_refusal at (flow_of at (record { unfinished = []; lost = false }) connections.old) context.direction frame.now ≡ None) }
+    ensures kept { OnOk result (connections.new ≡ connections_then context.server connections.old (frame_event context.direction frame.now)) }
+    ensures heard { (earlier : List Placed) → S.agrees sink.old earlier
+        → AreEvents (put (flow_placed_with (body_context context) (flow_of at (record { unfinished = []; lost = false }) connections.old) (frame_event context.direction frame.now)) earlier)
+        → OnOk result (S.agrees sink.new (put (flow_placed_with (body_context context) (flow_of at (record { unfinished = []; lost = false }) connections.old) (frame_event context.direction frame.now)) earlier)) }
+    ensures err { IfErr result (λ refusal. NotEmitted (Declines S.agrees S.refuses) at (frame_refusal at (flow_of at (record { unfinished = []; lost = false }) connections.old) context.direction frame.now)
+        (put (flow_placed_with (body_context context) (flow_of at (record { unfinished = []; lost = false }) connections.old) (frame_event context.direction frame.now)) []) sink.old sink.new refusal) }
+{
+    match decode_ping(frame[0], &frame[header..]) {
+        Some(packet) => emit_decoded(context, connections, at, header, frame, Ok(packet), sink),
+        None => emit_other_frame(context, connections, at, header, frame, sink),
     }
 }
 

@@ -14,9 +14,10 @@ ghost use Rattle.mq_trace.specs.Context.{fresh};
 ghost use Rattle.mq_trace.specs.Stepping.{err_of, behind_header, kind_refusal, kind_for, IsBodyHead, BeginsRecord, refused_first, in_head, marked, leaving, context_for, deframer_for, flow_for, redirected};
 ghost use Rattle.mq_trace.specs.Flows.{flow_refused, flow_heard, flow_behind};
 ghost use Rattle.mq_trace.specs.Deframing.{flow_of, FlowStops};
+ghost use Rattle.mq_trace.specs.Settling.{IsWhole};
 
 use super::connections::{Connections, emit};
-use super::deframer::{BodyContext, Deframer};
+use super::deframer::{BodyContext, Deframer, consume_whole, whole_packet};
 use super::event::Event;
 use super::header::{HEADER_LENGTH, Header, header_after, header_refusal};
 use super::kind::{Direction, LONGEST_BODY, RecordKind};
@@ -93,34 +94,52 @@ impl Reading {
         ensures comes { IfOk result (λ n. Comes S.agrees self.old self.new (take n bytes.now) sink.old sink.new) }
         ensures stops { IfErr result (λ refusal. StepStops (Declines S.agrees S.refuses) self.old bytes.now sink.old sink.new refusal) }
     {
-        let head = self.skip_head(bytes);
-        if head == bytes.len() {
-            return Ok(head);
+        match self.body_head(bytes) {
+            Some((direction, length)) => self.consume_record(direction, length, bytes, sink),
+            None => self.resume(bytes, sink),
         }
-        match self.go_on(&bytes[head..], sink) {
-            Ok(count) => Ok(head + count),
+    }
+
+    /// Takes in the head of a SENT or RECV that carries `left` bytes in this direction, and those of the first packet of its body: most
+    /// records are taken in so, in one step. Returns how many bytes it took.
+    ///
+    /// # Errors
+    ///
+    /// As `consume`.
+    #[inline(always)]
+    fn consume_record<S: Sink>(
+        &mut self,
+        direction: Direction,
+        left: u32,
+        bytes: &[u8],
+        sink: &mut S,
+    ) -> Result<usize, Refusal>
+        requires sound { IsSound self.old }
+        requires head { IsBodyHead self.old bytes.now direction left }
+        ensures count { IfOk result (λ n. (1 ≤ n) × (n ≤ length bytes.now)) }
+        ensures sound { OnOk result (IsSound self.new) }
+        ensures comes { IfOk result (λ n. Comes S.agrees self.old self.new (take n bytes.now) sink.old sink.new) }
+        ensures stops { IfErr result (λ refusal. StepStops (Declines S.agrees S.refuses) self.old bytes.now sink.old sink.new refusal) }
+    {
+        self.skip_head(direction, left);
+        if left == 0 || bytes.len() == HEAD_LENGTH {
+            return Ok(HEAD_LENGTH);
+        }
+        match self.consume_body(direction, left, &bytes[HEAD_LENGTH..], sink) {
+            Ok(count) => Ok(HEAD_LENGTH + count),
             Err(refusal) => Err(refusal),
         }
     }
 
-    /// Takes in the head of a SENT or RECV, where the next bytes are one and it meets no refusal: most records begin so. Answers how
-    /// many bytes it has, or 0.
+    /// Takes in the head of a SENT or RECV that carries `left` bytes in this direction.
     #[inline(always)]
-    fn skip_head(&mut self, bytes: &[u8]) -> usize
-        requires sound { IsSound self.old }
-        ensures count { result ≤ length bytes.now }
-        ensures sound { IsSound self.new }
-        ensures moved { self.new.at ≡ self.old.at + result }
-        ensures advances { Advances self.old self.new (take result bytes.now) [] }
+    fn skip_head(&mut self, direction: Direction, left: u32)
+        requires room { self.old.at + 5 < 2 ^ 64 }
+        requires numbered { self.old.records < 4294967295 }
+        ensures { self.new ≡ leaving (record self.old { at = self.old.at + 5 }) direction left }
     {
-        match self.body_head(bytes) {
-            Some((direction, length)) => {
-                self.at += HEAD_LENGTH as u64;
-                self.leave(direction, length);
-                HEAD_LENGTH
-            }
-            None => 0,
-        }
+        self.at += HEAD_LENGTH as u64;
+        self.leave(direction, left);
     }
 
     /// The direction and the length of the body, where the next bytes are the head of a SENT or RECV that meets no refusal.
@@ -153,12 +172,32 @@ impl Reading {
         self.stage.is_between() && self.connections.connected && self.records != u32::MAX
     }
 
-    /// Takes in the next bytes where no head of a SENT or RECV was taken in at once.
+    /// Takes in the next bytes, if they aren't the head of a SENT or RECV: of large packets most are in the middle of a body.
     ///
     /// # Errors
     ///
-    /// As `take`.
+    /// As `consume`.
     #[inline(always)]
+    fn resume<S: Sink>(&mut self, bytes: &[u8], sink: &mut S) -> Result<usize, Refusal>
+        requires some { 1 ≤ length bytes.now }
+        requires sound { IsSound self.old }
+        ensures count { IfOk result (λ n. (1 ≤ n) × (n ≤ length bytes.now)) }
+        ensures sound { OnOk result (IsSound self.new) }
+        ensures comes { IfOk result (λ n. Comes S.agrees self.old self.new (take n bytes.now) sink.old sink.new) }
+        ensures stops { IfErr result (λ refusal. StepStops (Declines S.agrees S.refuses) self.old bytes.now sink.old sink.new refusal) }
+    {
+        match self.stage {
+            Stage::Body { direction, left } => self.consume_body(direction, left, bytes, sink),
+            _ => self.go_on(bytes, sink),
+        }
+    }
+
+    /// The same wherever the log goes on.
+    ///
+    /// # Errors
+    ///
+    /// As `consume`.
+    #[inline(never)]
     fn go_on<S: Sink>(&mut self, bytes: &[u8], sink: &mut S) -> Result<usize, Refusal>
         requires some { 1 ≤ length bytes.now }
         requires sound { IsSound self.old }
@@ -559,12 +598,90 @@ impl Reading {
         ensures sound { OnOk result (IsUnfinished self.old.limit (state_in (deframer_for self.new direction))) }
         ensures stops { IfErr result (λ refusal. FlowStops (Declines S.agrees S.refuses) self.old.limit (context_for self.old direction) (flow_for self.old direction) body.now sink.old sink.new refusal) }
     {
-        let context = BodyContext {
-            direction,
-            server: self.header.server,
-            record_no: self.records + 1,
-            limit: self.limit,
-        };
+        match self.whole_packet(direction, body) {
+            Some((header, size)) => self.pass_whole(direction, header, size, body, sink),
+            None => self.pass_any(direction, body, sink),
+        }
+    }
+
+    /// The lengths of the fixed header and of the packet, if the direction's next bytes begin with a whole one within the limit.
+    #[inline(always)]
+    fn whole_packet(&self, direction: Direction, body: &[u8]) -> Option<(usize, usize)>
+        ensures { IfSome result (λ lengths. (state_in (deframer_for self.now direction) ≡ record { unfinished = []; lost = false }) × IsWhole self.now.limit body.now lengths.0 lengths.1) }
+    {
+        if !self.is_idle(direction) {
+            return None;
+        }
+        whole_packet(self.limit, body)
+    }
+
+    /// Whether the direction is neither lost nor inside a packet.
+    #[inline(always)]
+    fn is_idle(&self, direction: Direction) -> bool
+        ensures { IsTrue result → state_in (deframer_for self.now direction) ≡ record { unfinished = []; lost = false } }
+    {
+        match direction {
+            Direction::Sent => self.sent.is_idle(),
+            Direction::Recv => self.recv.is_idle(),
+        }
+    }
+
+    /// Passes on the whole packet that the bytes begin with, in a direction that is neither lost nor inside a packet.
+    #[inline(always)]
+    fn pass_whole<S: Sink>(
+        &mut self,
+        direction: Direction,
+        header: usize,
+        size: usize,
+        body: &[u8],
+        sink: &mut S,
+    ) -> Result<usize, Refusal>
+        requires idle { state_in (deframer_for self.old direction) ≡ record { unfinished = []; lost = false } }
+        requires whole { IsWhole self.old.limit body.now header size }
+        requires unfinished { IsUnfinished self.old.limit (state_in (deframer_for self.old direction)) }
+        requires room { self.old.at + length body.now < 2 ^ 64 }
+        requires numbered { self.old.records < 4294967295 }
+        ensures is { self.new ≡ record (redirected self.old direction (deframer_for self.new direction)) { connections = self.new.connections } }
+        ensures count { IfOk result (λ n. (1 ≤ n) × (n ≤ length body.now)) }
+        ensures unrefused { IfOk result (λ n. flow_refused self.old.limit (context_for self.old direction) (flow_for self.old direction) (take n body.now) ≡ None) }
+        ensures kept { IfOk result (λ n. flow_behind (context_for self.old direction) (flow_for self.old direction) (take n body.now) ≡ flow_of (self.old.at + n) (state_in (deframer_for self.new direction)) self.new.connections) }
+        ensures heard { (earlier : List Placed) → S.agrees sink.old earlier → IfOk result (λ n.
+            AreEvents (flow_heard (context_for self.old direction) (flow_for self.old direction) (take n body.now) ++ earlier)
+            → S.agrees sink.new (flow_heard (context_for self.old direction) (flow_for self.old direction) (take n body.now) ++ earlier)) }
+        ensures sound { OnOk result (IsUnfinished self.old.limit (state_in (deframer_for self.new direction))) }
+        ensures stops { IfErr result (λ refusal. FlowStops (Declines S.agrees S.refuses) self.old.limit (context_for self.old direction) (flow_for self.old direction) body.now sink.old sink.new refusal) }
+    {
+        let context = self.body_context(direction);
+        let frame = &body[..size];
+        match consume_whole(context, &mut self.connections, self.at, header, frame, sink) {
+            Ok(()) => Ok(size),
+            Err(refusal) => Err(refusal),
+        }
+    }
+
+    /// Passes on bytes that don't begin with a whole packet.
+    #[inline(never)]
+    fn pass_any<S: Sink>(
+        &mut self,
+        direction: Direction,
+        body: &[u8],
+        sink: &mut S,
+    ) -> Result<usize, Refusal>
+        requires some { 1 ≤ length body.now }
+        requires room { self.old.at + length body.now < 2 ^ 64 }
+        requires numbered { self.old.records < 4294967295 }
+        requires unfinished { IsUnfinished self.old.limit (state_in (deframer_for self.old direction)) }
+        ensures is { self.new ≡ record (redirected self.old direction (deframer_for self.new direction)) { connections = self.new.connections } }
+        ensures count { IfOk result (λ n. (1 ≤ n) × (n ≤ length body.now)) }
+        ensures unrefused { IfOk result (λ n. flow_refused self.old.limit (context_for self.old direction) (flow_for self.old direction) (take n body.now) ≡ None) }
+        ensures kept { IfOk result (λ n. flow_behind (context_for self.old direction) (flow_for self.old direction) (take n body.now) ≡ flow_of (self.old.at + n) (state_in (deframer_for self.new direction)) self.new.connections) }
+        ensures heard { (earlier : List Placed) → S.agrees sink.old earlier → IfOk result (λ n.
+            AreEvents (flow_heard (context_for self.old direction) (flow_for self.old direction) (take n body.now) ++ earlier)
+            → S.agrees sink.new (flow_heard (context_for self.old direction) (flow_for self.old direction) (take n body.now) ++ earlier)) }
+        ensures sound { OnOk result (IsUnfinished self.old.limit (state_in (deframer_for self.new direction))) }
+        ensures stops { IfErr result (λ refusal. FlowStops (Declines S.agrees S.refuses) self.old.limit (context_for self.old direction) (flow_for self.old direction) body.now sink.old sink.new refusal) }
+    {
+        let context = self.body_context(direction);
         let at = self.at;
         match direction {
             Direction::Sent => self
@@ -573,6 +690,20 @@ impl Reading {
             Direction::Recv => self
                 .recv
                 .consume(context, &mut self.connections, at, body, sink),
+        }
+    }
+
+    /// What stays the same while the record's body is read.
+    #[inline(always)]
+    fn body_context(&self, direction: Direction) -> BodyContext
+        requires { self.now.records < 4294967295 }
+        ensures { result ≡ record { direction = direction; server = self.now.header.server; record_no = self.now.records + 1; limit = self.now.limit } }
+    {
+        BodyContext {
+            direction,
+            server: self.header.server,
+            record_no: self.records + 1,
+            limit: self.limit,
         }
     }
 }

@@ -1,10 +1,11 @@
 //! The reader of PUBLISH (MQTT 5.0, section 3.3).
 
-ghost use Rattle.std.specs.Prelude.{◌≡◌, IfOk, if◌then◌else◌};
+ghost use Rattle.std.specs.Prelude.{◌≡◌, Ok, IfOk, IfSome, is_some, if◌then◌else◌};
 ghost use Rattle.mq_props.specs.declared.table.Place.TheVariants as places;
 ghost use Rattle.mq_packet.specs.declared.rule.PacketRule.TheVariants as rules;
 ghost use Rattle.mq_packet.specs.Entries.{publish, listed};
 ghost use Rattle.mq_packet.specs.Formats.{bad_first_byte, properties, alias_objection, names_topic, has_bits, qos_of, publish_format, publish_unacknowledged, publish_acknowledged, publish_from};
+ghost use Rattle.mq_packet.specs.Brief.{is_brief, is_brief_body};
 ghost use Rattle.mq_packet.specs.Decoding.{read, read_field};
 ghost use Rattle.mq_packet.specs.Reading.{ReadsField, Reads, publish_view};
 
@@ -13,7 +14,7 @@ use crate::packet::{Publish, Qos};
 use crate::protocol::{DUP, QOS, QOS_ONE, QOS_TWO, RETAIN};
 use crate::read_fault::ReadFault;
 use crate::rule::PacketRule;
-use mq_props::{Place, Props};
+use mq_props::{Place, Props, after_empty_list};
 use mq_wire::Cursor;
 
 /// Reads a PUBLISH with these flags (MQTT 5.0, section 3.3) from all that is left.
@@ -37,6 +38,43 @@ pub fn read_publish<'a>(flags: u8, cursor: Cursor<'a>) -> Result<Publish<'a>, Re
             rule: PacketRule::W07,
         }),
     }
+}
+
+/// Reads a PUBLISH with these flags from all that is left, if it has QoS 0, a plain Topic Name that isn't empty, and no properties,
+/// as most have. `None` for any other: [`read_publish`] reads it.
+#[inline(always)]
+pub fn read_brief_publish<'a>(flags: u8, cursor: Cursor<'a>) -> Option<Publish<'a>>
+    ensures brief { is_some result ≡ is_brief flags cursor.entry.rest }
+    ensures exact { IfSome result (λ p. read (publish_format flags) cursor.entry ≡ Ok (publish (publish_view p))) }
+{
+    if flags & QOS != 0 {
+        return None;
+    }
+    if flags & DUP != 0 {
+        return None;
+    }
+    read_brief(cursor, flags & RETAIN != 0)
+}
+
+#[inline(always)]
+fn read_brief<'a>(mut cursor: Cursor<'a>, retain: bool) -> Option<Publish<'a>>
+    ensures brief { is_some result ≡ is_brief_body cursor.entry.rest }
+    ensures exact { IfSome result (λ p. read (publish_unacknowledged retain) cursor.entry ≡ Ok (publish (publish_view p))) }
+{
+    let topic = cursor.plain_text()?;
+    if topic.is_empty() {
+        return None;
+    }
+    let payload = after_empty_list(cursor.rest())?;
+    Some(Publish {
+        duplicate: false,
+        qos: Qos::AtMostOnce,
+        retain,
+        topic,
+        identifier: None,
+        properties: Props::empty(Place::Publish),
+        payload,
+    })
 }
 
 #[inline(always)]

@@ -1,4 +1,4 @@
--- A PUBLISH is told as what it is.
+-- A PUBLISH is emitted as what it is.
 use Rattle.std.proofs.Common.{ℕ, Option, ◌<◌, ◌≤◌, [], false, length, sym, ap, rules, arith, length-take, length-drop}
 use Rattle.std.specs.Prelude.{unwrap_or}
 use Rattle.mq_packet.proofs.Exports.{size_above, header_few}

@@ -1,9 +1,8 @@
-use Rattle.std.proofs.Common.{◌≡◌, List, None, Some, refl, sym, ap, ◌∙◌, subst}
+use Rattle.std.proofs.Common.{◌≡◌, None, Some, refl, sym, ap, ◌∙◌, subst}
 use Rattle.mq_props.specs.declared.fault.PushFault.{PushFault}
 use Rattle.mq_props.specs.declared.fault.PushFault.TheVariants.{Memory}
 use Rattle.mq_props.specs.Table.{row_of}
-use Rattle.mq_props.specs.Values.{Property}
-use Rattle.mq_props.specs.Views.{Sees, item_view}
+use Rattle.mq_props.specs.Views.{item_view}
 use Rattle.mq_props.specs.Reading.{items_of}
 use Rattle.mq_props.specs.Listed.{Listed}
 use Rattle.mq_props.specs.Making.{Made}

@@ -1,0 +1,135 @@
+//! Packets in their shortest form, which are most packets of a log: a PUBLISH of QoS 0 with no properties, an acknowledgement that is
+//! no more than a Packet Identifier, PINGREQ and PINGRESP.
+//!
+//! Each is decoded by a function in which no other packet is possible, so that it takes no stack for others.
+
+ghost use Rattle.std.specs.Prelude.{◌≡◌, ◌≤◌, ◌<◌, IfSome, is_some, Ok, Some, length};
+ghost use Rattle.mq_packet.specs.declared.packet.Packet.TheVariants as packets;
+ghost use Rattle.mq_packet.specs.Brief.{has_no_properties, is_brief, is_brief_acknowledgement, is_ping};
+ghost use Rattle.mq_packet.specs.FirstBytes.{flags_in};
+ghost use Rattle.mq_packet.specs.Entries.{none_listed, acknowledgement_place};
+ghost use Rattle.mq_packet.specs.Decoding.{decoded};
+ghost use Rattle.mq_packet.specs.Reading.{view, HasReadLen};
+ghost use Rattle.mq_packet.specs.Sizes.{remaining_length};
+
+use crate::first_bytes::{PINGREQ, PINGRESP, PUBACK, PUBCOMP, PUBREC, PUBREL, flags};
+use crate::header::header_len;
+use crate::packet::{Acknowledgement, AcknowledgementKind, Packet, Publish};
+use crate::reading::{SUCCESS, read_brief_publish};
+use mq_props::{Props, after_empty_list};
+use mq_wire::Cursor;
+
+/// Whether the body of a PUBLISH of QoS 0 has a Topic Name that isn't cut short, and no properties (MQTT 5.0, section 3.3.2).
+#[inline(always)]
+pub fn has_no_properties(body: &[u8]) -> bool
+    requires { length body.now ≤ 268435455 }
+    ensures { result ≡ has_no_properties body.now }
+{
+    let mut cursor = Cursor::new(body);
+    match cursor.binary() {
+        Ok(_) => after_empty_list(cursor.rest()).is_some(),
+        Err(_) => false,
+    }
+}
+
+/// The PUBLISH that has this first byte and this body, if it has QoS 0, a plain Topic Name that isn't empty, and no properties, as
+/// most have: the packet that [`decode`](crate::decode) returns for them. `None` for any other packet, and for a fault.
+#[inline(always)]
+pub fn decode_brief_publish<'a>(first: u8, body: &'a [u8]) -> Option<Publish<'a>>
+    requires from { 48 ≤ first }
+    requires to { first < 64 }
+    requires bound { length body.now ≤ 268435455 }
+    ensures brief { is_some result ≡ is_brief (flags_in first) body.now }
+    ensures exact { IfSome result (λ publish. decoded first body.now ≡ Ok (view (packets.Publish publish))) }
+    ensures size { IfSome result (λ publish. remaining_length (packets.Publish publish) ≡ length body.now) }
+{
+    read_brief_body(first, body)
+}
+
+#[inline(always)]
+#[tactic(auto, unfolding(crate::specs::Decoding::decoded, crate::specs::Decoding::body_start))]
+fn read_brief_body<'a>(first: u8, body: &'a [u8]) -> Option<Publish<'a>>
+    requires from { 48 ≤ first }
+    requires to { first < 64 }
+    requires bound { length body.now ≤ 268435455 }
+    ensures brief { is_some result ≡ is_brief (flags_in first) body.now }
+    ensures exact { IfSome result (λ publish. decoded first body.now ≡ Ok (view (packets.Publish publish))) }
+{
+    let cursor = Cursor::starting_at(body, header_len(body.len() as u32));
+    read_brief_publish(flags(first), cursor)
+}
+
+/// The PUBACK, PUBREC, PUBREL or PUBCOMP that has this first byte and this body, if the body is no more than a Packet Identifier other
+/// than 0 (MQTT 5.0, sections 3.4 to 3.7): the packet that [`decode`](crate::decode) returns for them. `None` for any other packet, and for a fault.
+#[inline(always)]
+pub fn decode_brief_acknowledgement<'a>(first: u8, body: &[u8]) -> Option<Packet<'a>>
+    ensures brief { is_some result ≡ is_brief_acknowledgement first body.now }
+    ensures exact { IfSome result (λ packet. decoded first body.now ≡ Ok (view packet)) }
+    ensures size { IfSome result (λ packet. remaining_length packet ≡ length body.now) }
+{
+    read_brief_acknowledgement(first, body)
+}
+
+#[inline(always)]
+#[tactic(auto, using(crate::proofs::BriefLaws::brief_acknowledgement), unfolding(crate::specs::Decoding::decoded, crate::specs::Decoding::body_start))]
+fn read_brief_acknowledgement<'a>(first: u8, body: &[u8]) -> Option<Packet<'a>>
+    ensures brief { is_some result ≡ is_brief_acknowledgement first body.now }
+    ensures exact { IfSome result (λ packet. decoded first body.now ≡ Ok (view packet)) }
+    ensures read_len { IfSome result (λ packet. HasReadLen (length body.now) packet) }
+{
+    let [high, low] = *body else {
+        return None;
+    };
+    let identifier = u16::from_be_bytes([high, low]);
+    if identifier == 0 {
+        return None;
+    }
+    match first {
+        PUBACK => Some(Packet::Puback(success(identifier, AcknowledgementKind::Puback))),
+        PUBREC => Some(Packet::Pubrec(success(identifier, AcknowledgementKind::Pubrec))),
+        PUBREL => Some(Packet::Pubrel(success(identifier, AcknowledgementKind::Pubrel))),
+        PUBCOMP => Some(Packet::Pubcomp(success(identifier, AcknowledgementKind::Pubcomp))),
+        _ => None,
+    }
+}
+
+// An acknowledgement that was read as no more than a Packet Identifier.
+#[inline(always)]
+fn success<'a>(identifier: u16, kind: AcknowledgementKind) -> Acknowledgement<'a>
+    ensures { result ≡ record { identifier = identifier; code = 0; properties = none_listed (acknowledgement_place kind); read_len = Some 2 } }
+{
+    Acknowledgement {
+        identifier,
+        code: SUCCESS,
+        properties: Props::empty(kind.place()),
+        read_len: Some(2),
+    }
+}
+
+/// The PINGREQ or PINGRESP that has this first byte and this body, which is empty (MQTT 5.0, sections 3.12 and 3.13): the packet that
+/// [`decode`](crate::decode) returns for them. `None` for any other packet, and for a fault.
+#[inline(always)]
+pub fn decode_ping<'a>(first: u8, body: &[u8]) -> Option<Packet<'a>>
+    ensures brief { is_some result ≡ is_ping first body.now }
+    ensures exact { IfSome result (λ packet. decoded first body.now ≡ Ok (view packet)) }
+    ensures size { IfSome result (λ packet. remaining_length packet ≡ length body.now) }
+{
+    read_ping(first, body)
+}
+
+#[inline(always)]
+#[tactic(auto, unfolding(crate::specs::Decoding::decoded, crate::specs::Decoding::body_start))]
+fn read_ping<'a>(first: u8, body: &[u8]) -> Option<Packet<'a>>
+    ensures brief { is_some result ≡ is_ping first body.now }
+    ensures exact { IfSome result (λ packet. decoded first body.now ≡ Ok (view packet)) }
+    ensures read_len { IfSome result (λ packet. HasReadLen (length body.now) packet) }
+{
+    if !body.is_empty() {
+        return None;
+    }
+    match first {
+        PINGREQ => Some(Packet::Pingreq),
+        PINGRESP => Some(Packet::Pingresp),
+        _ => None,
+    }
+}

@@ -1,0 +1,62 @@
+-- A brief PUBLISH is emitted as what it is.
+use Rattle.std.proofs.Common.{ℕ, Option, ◌<◌, ◌≤◌, [], false, length, sym, ap, rules, arith, length-take, length-drop}
+use Rattle.std.specs.Prelude.{unwrap_or}
+use Rattle.mq_packet.proofs.Exports.{size_above, header_few}
+use Rattle.mq_packet.specs.declared.packet.Packet.TheVariants as packets
+use Rattle.mq_trace.specs.declared.event.Item.TheVariants as items
+use Rattle.mq_trace.specs.Deframing.{body_context}
+use Rattle.mq_trace.specs.Hearing.{Declines, item_of}
+use Rattle.mq_trace.proofs.ItemLaws.{frame_by_header, packet_sized, packet_item, emitted_met, emitted_kept, emitted_heard, emitted_err}
+use Rattle.mq_trace.proofs.deframer.emit_brief_publish_frame.Goals as goal
+
+pub bounds-frame-0 : goal.bounds-frame-0
+bounds-frame-0 g c =
+    let known = size_above c.args.frame.now c.args.header (length c.args.frame.now) c.requires.whole in
+    let inside : 0 < length c.args.frame.now = omega (arith, known.0, known.1) in
+    search rules
+
+pub slice_bounds-decode_brief_publish-count : goal.slice_bounds-decode_brief_publish-count
+slice_bounds-decode_brief_publish-count g c = (size_above c.args.frame.now c.args.header (length c.args.frame.now) c.requires.whole).1
+
+pub slice_bounds-decode_brief_publish-start : goal.slice_bounds-decode_brief_publish-start
+slice_bounds-decode_brief_publish-start g c =
+    let inside : c.args.header ≤ length c.args.frame.now = (size_above c.args.frame.now c.args.header (length c.args.frame.now) c.requires.whole).1 in
+    search rules
+
+pub decode_brief_publish-requires-clause-bound : goal.decode_brief_publish-requires-clause-bound
+decode_brief_publish-requires-clause-bound g c =
+    let known = size_above c.args.frame.now c.args.header (length c.args.frame.now) c.requires.whole in
+    simp (length-take, length-drop) (omega (arith, known.0, known.1, c.requires.fits))
+
+pub returns-in-Some-clause-met : goal.returns-in-Some-clause-met
+returns-in-Some-clause-met g c =
+    let is = packet_item c.args.frame.now c.args.header (packets.Publish c.in-Some.publish) (λ i. omega (arith, c.type_inv.frame i)) (sym c.requires.whole) c.in-Some.ensures.size c.in-Some.ensures.exact in
+    emitted_met g.S.Sink.agrees (Declines g.S.Sink.agrees g.S.Sink.refuses) c.emit_publish.result c.args.at (record { unfinished = []; lost = false }) c.args.connections.now (body_context c.args.context) c.args.frame.now (item_of (items.Packet (packets.Publish c.in-Some.publish))) is c.emit_publish.ensures.met
+
+pub returns-in-Some-clause-kept : goal.returns-in-Some-clause-kept
+returns-in-Some-clause-kept g c =
+    let is = packet_item c.args.frame.now c.args.header (packets.Publish c.in-Some.publish) (λ i. omega (arith, c.type_inv.frame i)) (sym c.requires.whole) c.in-Some.ensures.size c.in-Some.ensures.exact in
+    emitted_kept g.S.Sink.agrees (Declines g.S.Sink.agrees g.S.Sink.refuses) c.emit_publish.result c.args.at (record { unfinished = []; lost = false }) c.args.connections.now (body_context c.args.context) c.args.frame.now (item_of (items.Packet (packets.Publish c.in-Some.publish))) is c.emit_publish.new.connections (c.emit_publish.ensures.kept c.args.context.server)
+
+pub returns-in-Some-clause-heard : goal.returns-in-Some-clause-heard
+returns-in-Some-clause-heard g c =
+    let is = packet_item c.args.frame.now c.args.header (packets.Publish c.in-Some.publish) (λ i. omega (arith, c.type_inv.frame i)) (sym c.requires.whole) c.in-Some.ensures.size c.in-Some.ensures.exact in
+    emitted_heard g.S.Sink.agrees (Declines g.S.Sink.agrees g.S.Sink.refuses) c.emit_publish.result c.args.at (record { unfinished = []; lost = false }) c.args.connections.now (body_context c.args.context) c.args.frame.now (item_of (items.Packet (packets.Publish c.in-Some.publish))) is c.args.sink.now c.emit_publish.new.sink c.emit_publish.ensures.heard
+
+pub returns-in-Some-clause-err : goal.returns-in-Some-clause-err
+returns-in-Some-clause-err g c =
+    let is = packet_item c.args.frame.now c.args.header (packets.Publish c.in-Some.publish) (λ i. omega (arith, c.type_inv.frame i)) (sym c.requires.whole) c.in-Some.ensures.size c.in-Some.ensures.exact in
+    emitted_err g.S.Sink.agrees (Declines g.S.Sink.agrees g.S.Sink.refuses) c.emit_publish.result c.args.at (record { unfinished = []; lost = false }) c.args.connections.now (body_context c.args.context) c.args.frame.now (item_of (items.Packet (packets.Publish c.in-Some.publish))) is c.args.sink.now c.emit_publish.new.sink c.emit_publish.ensures.err
+
+pub overflow_cast-frame : goal.overflow_cast-frame
+overflow_cast-frame g c =
+    let known = size_above c.args.frame.now c.args.header (length c.args.frame.now) c.requires.whole in
+    let few : c.args.header ≤ 5 = header_few c.args.frame.now c.args.header (length c.args.frame.now) c.requires.whole in
+    omega (arith, few, c.requires.fits)
+
+pub emit_publish-requires : goal.emit_publish-requires
+emit_publish-requires g c =
+    let frame = c.args.frame.now in
+    let whole = frame_by_header frame c.args.header c.requires.whole in
+    let sized = packet_sized frame c.args.header (length frame) (packets.Publish c.in-Some.publish) (λ i. omega (arith, c.type_inv.frame i)) whole (sym c.requires.whole) c.in-Some.ensures.size in
+    sym (ap (λ (o : Option ℕ). unwrap_or o 0) sized)
