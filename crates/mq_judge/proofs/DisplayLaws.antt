@@ -27,8 +27,8 @@ trace-stops {S} agrees refuses limit log piece old new r was s =
   where
     go : Why agrees refuses limit log s.taken s.byte old new r
         → (IsRefusedByte limit (log ++ s.taken) s.byte r × agrees new (events (log ++ s.taken))) ⊎ ((own : Refusal) × refuses new (events (log ++ s.taken)) own)
-    go (inl met) = inl (inl met.met, met.heard was)
-    go (inr (inl lacks)) = inl (inr (lacks.is, inl lacks.needs), lacks.heard was)
+    go (inl met) = inl (inl met.met, met.receives was)
+    go (inr (inl lacks)) = inl (inr (lacks.is, inl lacks.needs), lacks.receives was)
     go (inr (inr own)) = inr (own.own, own.refused was)
 
 pub traces-follow : {S : Type 0} (agrees : S → List Placed → Type 0) (refuses : S → List Placed → Refusal → Type 0) (limit : ℕ) (log piece : List ℕ) (old new : S)
@@ -44,15 +44,15 @@ traces-stop agrees refuses limit log piece old new (Ok done) was t = tt
 traces-stop agrees refuses limit log piece old new (Err r) was t = trace-stops agrees refuses limit log piece old new r was t
 
 -- a piece was taken in, and the sink says whether it has failed
-pub told-follows : {E : Type 0} (told : Result (Unit {0}) E) (P : Type 0) → P → OnOk told P
-told-follows (Ok fine) P p = p
-told-follows (Err r) P p = tt
+pub result-follows : {E : Type 0} (answer : Result (Unit {0}) E) (P : Type 0) → P → OnOk answer P
+result-follows (Ok fine) P p = p
+result-follows (Err r) P p = tt
 
-pub told-stops : {S : Type 0} (agrees : S → List Placed → Type 0) (refuses : S → List Placed → Refusal → Type 0) (has_failed : S → Bool) (limit : ℕ) (log piece : List ℕ) (sink : S)
-    (told : Result (Unit {0}) Refusal) → refused limit (log ++ piece) ≡ None → agrees sink (events (log ++ piece)) → IfErr told (λ _. has_failed sink ≡ true)
-    → IfErr told (λ r. ShowStops agrees refuses has_failed limit sink log piece r)
-told-stops agrees refuses has_failed limit log piece sink (Ok fine) unrefused received failed = tt
-told-stops agrees refuses has_failed limit log piece sink (Err r) unrefused received failed =
+pub result-stops : {S : Type 0} (agrees : S → List Placed → Type 0) (refuses : S → List Placed → Refusal → Type 0) (has_failed : S → Bool) (limit : ℕ) (log piece : List ℕ) (sink : S)
+    (answer : Result (Unit {0}) Refusal) → refused limit (log ++ piece) ≡ None → agrees sink (events (log ++ piece)) → IfErr answer (λ _. has_failed sink ≡ true)
+    → IfErr answer (λ r. ShowStops agrees refuses has_failed limit sink log piece r)
+result-stops agrees refuses has_failed limit log piece sink (Ok fine) unrefused received failed = tt
+result-stops agrees refuses has_failed limit log piece sink (Err r) unrefused received failed =
     inr (record { unrefused = unrefused; received = received; failed = failed })
 
 -- all was written in the end
@@ -122,7 +122,7 @@ module _ {S : Type 0} (agrees : S → List Placed → Type 0) (refuses : S → L
         written = broken held (has_failed sink) now new lines (text (events all.log)) (sends (events all.log) all.followed.1) stopped;
       })
   show-unwritten new (Err r) all some stopped =
-      some-taken x y (some.log ++ some.piece) (λ l left. WritesBeginning text l held new) some.consumed (λ left. told left some.why)
+      some-taken x y (some.log ++ some.piece) (λ l left. WritesBeginning text l held new) some.consumed (λ left. by_why left some.why)
     where
       begun : (received : List Placed) → agrees sink received → AppendsBeginning held new (text received)
       begun received a = broken held (has_failed sink) now new lines (text received) (sends received a) stopped
@@ -131,22 +131,22 @@ module _ {S : Type 0} (agrees : S → List Placed → Type 0) (refuses : S → L
       state received (inl a) = a.1
       state received (inr own) = absurd (never received own.0 own.1)
 
-      told : (left : List ℕ) → WhySome some.log some.piece r → WritesBeginning text ((some.log ++ some.piece) ++ left) held new
-      told left (inl (inl s)) = record {
+      by_why : (left : List ℕ) → WhySome some.log some.piece r → WritesBeginning text ((some.log ++ some.piece) ++ left) held new
+      by_why left (inl (inl s)) = record {
         taken = some.log ++ s.taken;
         later = s.byte ∷ (s.later ++ left);
         is = pieces-are some.log some.piece s.taken (s.byte ∷ s.later) left s.is;
         unrefused = subst (λ (l : ℕ). refused l (some.log ++ s.taken) ≡ None) default s.unrefused;
         written = begun (events (some.log ++ s.taken)) (state (events (some.log ++ s.taken)) s.why);
       }
-      told left (inl (inr h)) = record {
+      by_why left (inl (inr h)) = record {
         taken = some.log ++ some.piece;
         later = left;
         is = refl;
         unrefused = subst (λ (l : ℕ). refused l (some.log ++ some.piece) ≡ None) default h.unrefused;
         written = begun (events (some.log ++ some.piece)) h.received;
       }
-      told left (inr (none, follows, within, is)) = record {
+      by_why left (inr (none, follows, within, is)) = record {
         taken = some.log;
         later = left;
         is = ap (λ (l : List ℕ). (some.log ++ l) ++ left) none ∙ ap (λ (l : List ℕ). l ++ left) (append-nil some.log);
@@ -158,13 +158,13 @@ module _ {S : Type 0} (agrees : S → List Placed → Type 0) (refuses : S → L
   pub show-refused : (new : Option (List ℕ)) (r : Refusal) → ShowsSome r → has_failed sink ≡ false → Appends now new lines
       → IfSome x (λ log. Shows text log y (Err (run_faults.Refused r)) held new)
   show-refused new r some fine last =
-      some-taken x y (some.log ++ some.piece) (λ l left. Shows text l left (Err (run_faults.Refused r)) held new) some.consumed (λ left. told left some.why)
+      some-taken x y (some.log ++ some.piece) (λ l left. Shows text l left (Err (run_faults.Refused r)) held new) some.consumed (λ left. by_why left some.why)
     where
       all : (received : List Placed) → agrees sink received → Appends held new (text received)
       all received a = written held (has_failed sink) now new lines (text received) (sends received a) fine last
 
-      told : (left : List ℕ) → WhySome some.log some.piece r → Shows text ((some.log ++ some.piece) ++ left) (Some left) (Err (run_faults.Refused r)) held new
-      told left (inl (inl s)) = elim s.why [
+      by_why : (left : List ℕ) → WhySome some.log some.piece r → Shows text ((some.log ++ some.piece) ++ left) (Some left) (Err (run_faults.Refused r)) held new
+      by_why left (inl (inl s)) = elim s.why [
         | inl (why, a) ↦ (
           record {
             taken = some.log ++ s.taken;
@@ -177,8 +177,8 @@ module _ {S : Type 0} (agrees : S → List Placed → Type 0) (refuses : S → L
         )
         | inr own ↦ absurd (never (events (some.log ++ s.taken)) own.0 own.1)
       ]
-      told left (inl (inr h)) = absurd (true≢false (sym h.failed ∙ fine))
-      told left (inr (none, follows, within, is)) = (
+      by_why left (inl (inr h)) = absurd (true≢false (sym h.failed ∙ fine))
+      by_why left (inr (none, follows, within, is)) = (
         record {
           taken = some.log;
           later = left;

@@ -76,8 +76,8 @@ why-refused : {S : Type 0} (noted : S → List Seen) (refuses : S → List Place
     → (limit : ℕ) (log taken : List ℕ) (byte : ℕ) (old new : S) (r : Refusal) → noted old ≡ map seen (events log)
     → Why (λ s received. noted s ≡ map seen received) refuses limit log taken byte old new r
     → IsRefusedByte limit (log ++ taken) byte r × (noted new ≡ map seen (events (log ++ taken)))
-why-refused noted refuses wants limit log taken byte old new r was (inl met) = (inl met.met, met.heard was)
-why-refused noted refuses wants limit log taken byte old new r was (inr (inl lacks)) = (inr (lacks.is, inl lacks.needs), lacks.heard was)
+why-refused noted refuses wants limit log taken byte old new r was (inl met) = (inl met.met, met.receives was)
+why-refused noted refuses wants limit log taken byte old new r was (inr (inl lacks)) = (inr (lacks.is, inl lacks.needs), lacks.receives was)
 why-refused noted refuses wants limit log taken byte old new r was (inr (inr own)) =
     let is = wants new (events (log ++ taken)) own.own (own.refused was) in
     (inr (own.is ∙ ap (λ o. moved o (length (log ++ taken))) is.0, inr (own.unmet, own.completes)), is.1)
@@ -186,16 +186,16 @@ where_ok (Ok x) e h = h
 where_ok (Err x) e h = absurd (cc)
 
 -- where the tested end isn't known, the header isn't whole
-pub untold : (log : List ℕ) → None ≡ tested_in log → is_cut_short log ≡ true
+pub cut_unnamed : (log : List ℕ) → None ≡ tested_in log → is_cut_short log ≡ true
 unfolding is_cut_short
-untold log h = go (nat_lt (length log) 8) _ h
+cut_unnamed log h = go (nat_lt (length log) 8) _ h
   where
     go : (b c : Bool) → None ≡ (if b then None else Some (tested_by log)) → (b || c) ≡ true
     go true c h = refl
     go false c h = absurd (cc)
 
-pub told_as : (log : List ℕ) (found : Tested) → Some found ≡ tested_in log → found ≡ tested_by log
-told_as log found h = go (nat_lt (length log) 8) h
+pub named_as : (log : List ℕ) (found : Tested) → Some found ≡ tested_in log → found ≡ tested_by log
+named_as log found h = go (nat_lt (length log) 8) h
   where
     go : (b : Bool) → Some found ≡ (if b then None else Some (tested_by log)) → found ≡ tested_by log
     go true h = absurd (cc)

@@ -94,12 +94,12 @@ pub ends_early : (first start end first' start' size : ℕ) → end < size → F
 ends_early first start end first' start' size early e = (let same : end ≡ size = ap end_in e in absurd (omega (arith, same, early)))
 
 -- Where none follow, they are one packet exactly where the body spells one.
-pub spelled_by_body : (bytes : List ℕ) (first start end : ℕ) (told : Bool) → CutsFrames (Frame first start end) bytes → length bytes ≤ end
-    → (told ≡ true) ↔ ((packet : Entry) × IsSpelled first (take (length bytes - start) (drop start bytes)) packet)
-    → (told ≡ true) ↔ IsOnePacket bytes
-spelled_by_body bytes first start end told frames all spells = (there, back)
+pub spelled_by_body : (bytes : List ℕ) (first start end : ℕ) (answer : Bool) → CutsFrames (Frame first start end) bytes → length bytes ≤ end
+    → (answer ≡ true) ↔ ((packet : Entry) × IsSpelled first (take (length bytes - start) (drop start bytes)) packet)
+    → (answer ≡ true) ↔ IsOnePacket bytes
+spelled_by_body bytes first start end answer frames all spells = (there, back)
   where
-    there : told ≡ true → IsOnePacket bytes
+    there : answer ≡ true → IsOnePacket bytes
     there e =
         (let P : ℕ → Type 0 = λ k. BeginsWithFrame bytes first start k in
         let cut : BeginsWithFrame bytes first start end = (frames first start end).0 refl in
@@ -114,7 +114,7 @@ spelled_by_body bytes first start end told frames all spells = (there, back)
           spelled = subst Q (body_taken bytes start ∙ frame_body bytes first start (length bytes) whole (omega arith)) found.1;
         })
 
-    back : IsOnePacket bytes → told ≡ true
+    back : IsOnePacket bytes → answer ≡ true
     back one =
         (let same : Frame first start end ≡ Frame one.first one.start (length bytes) = (frames one.first one.start (length bytes)).1 one.frame in
         let firsts : one.first ≡ first = sym (ap first_in same) in

@@ -122,19 +122,19 @@ run-refused-at-end {first} {x} {y} refusal took default why =
 pub run-stopped : {first : ℕ} {x y : Option (List ℕ)} {judge : Judged} (refusal : Refusal) → FedSome {S = Unit {0}} (λ j. j.limit) (λ j _. Follows j) (λ l j _. RefusesIn l j) first x y judge tt refusal → first ≡ default_limit
     → IfSome x (λ log. IsRefusedAt default_limit log y refusal)
 run-stopped {first} {x} {y} {judge} refusal fed default =
-    some-taken x y (fed.log ++ fed.piece) (λ l left. IsRefusedAt default_limit l left refusal) fed.consumed (λ left. told left fed.why)
+    some-taken x y (fed.log ++ fed.piece) (λ l left. IsRefusedAt default_limit l left refusal) fed.consumed (λ left. by_why left fed.why)
   where
-    told : (left : List ℕ) → RefusesIn first judge fed.log fed.piece refusal
+    by_why : (left : List ℕ) → RefusesIn first judge fed.log fed.piece refusal
         ⊎ ((fed.piece ≡ []) × Follows judge fed.log × (judge.limit ≡ first) × (refusal ≡ refusals.Read (length fed.log)))
         → IsRefusedAt default_limit ((fed.log ++ fed.piece) ++ left) (Some left) refusal
-    told left (inl (s, state)) = record {
+    by_why left (inl (s, state)) = record {
       taken = fed.log ++ s.taken;
       later = s.byte ∷ (s.later ++ left);
       is = pieces-are fed.log fed.piece s.taken (s.byte ∷ s.later) left s.is;
       unrefused = subst (λ (l : ℕ). refused l (fed.log ++ s.taken) ≡ None) default s.unrefused;
       why = inl (subst (λ (l : ℕ). IsRefusedByte l (fed.log ++ s.taken) s.byte refusal) default s.why);
     }
-    told left (inr (none, follows, within, is)) = record {
+    by_why left (inr (none, follows, within, is)) = record {
       taken = fed.log;
       later = left;
       is = ap (λ (l : List ℕ). (fed.log ++ l) ++ left) none ∙ ap (λ (l : List ℕ). l ++ left) (append-nil fed.log);

@@ -3,8 +3,8 @@ ghost use Rattle.std.specs.Prelude.{◌≡◌, ◌≤◌, ◌⊎◌, [], ◌∷�
 ghost use Rattle.mq_packet.specs.Entries.{publish as publish_entry};
 ghost use Rattle.mq_packet.specs.Reading.{publish_view};
 ghost use Rattle.mq_trace.specs.Events.{packet};
-ghost use Rattle.mq_trace.specs.Flows.{going};
-ghost use Rattle.mq_trace.specs.Hearing.{event_of, placed_at};
+ghost use Rattle.mq_trace.specs.Flows.{item_event};
+ghost use Rattle.mq_trace.specs.Reception.{event_of, placed_at};
 ghost use Rattle.mq_rules.specs.Notes.{note_keeps_text, note_of, seen};
 ghost use Rattle.mq_rules.specs.Moments.{IsPlaced};
 
@@ -63,8 +63,8 @@ impl Notes {
         size: u32,
         publish: Publish<'_>,
     ) -> Result<(), Memory>
-        ensures noted { OnOk result (reverse self.new.seen.items ≡ record { place = place; note = note_of (going direction (packet size (publish_entry (publish_view publish.entry)))) } ∷ reverse self.old.seen.items) }
-        ensures needed { OnErr result ((vec_capacity self.old.seen ≤ vec_len self.old.seen) ⊎ (note_keeps_text (note_of (going direction (packet size (publish_entry (publish_view publish.entry))))) ≡ true)) }
+        ensures noted { OnOk result (reverse self.new.seen.items ≡ record { place = place; note = note_of (item_event direction (packet size (publish_entry (publish_view publish.entry)))) } ∷ reverse self.old.seen.items) }
+        ensures needed { OnErr result ((vec_capacity self.old.seen ≤ vec_len self.old.seen) ⊎ (note_keeps_text (note_of (item_event direction (packet size (publish_entry (publish_view publish.entry))))) ≡ true)) }
         ensures unchanged { OnErr result (self.new.seen.items ≡ self.old.seen.items) }
     {
         if !is_brief(&publish) {
@@ -90,8 +90,8 @@ impl Notes {
         publish: Publish<'_>,
     ) -> Result<(), Memory>
         requires { length publish.topic.now ≤ 30 }
-        ensures noted { OnOk result (reverse self.new.seen.items ≡ record { place = place; note = note_of (going direction (packet size (publish_entry (publish_view publish.entry)))) } ∷ reverse self.old.seen.items) }
-        ensures needed { OnErr result ((vec_capacity self.old.seen ≤ vec_len self.old.seen) ⊎ (note_keeps_text (note_of (going direction (packet size (publish_entry (publish_view publish.entry))))) ≡ true)) }
+        ensures noted { OnOk result (reverse self.new.seen.items ≡ record { place = place; note = note_of (item_event direction (packet size (publish_entry (publish_view publish.entry)))) } ∷ reverse self.old.seen.items) }
+        ensures needed { OnErr result ((vec_capacity self.old.seen ≤ vec_len self.old.seen) ⊎ (note_keeps_text (note_of (item_event direction (packet size (publish_entry (publish_view publish.entry))))) ≡ true)) }
         ensures unchanged { OnErr result (self.new.seen.items ≡ self.old.seen.items) }
     {
         self.seen.reserve(1)?;
@@ -116,8 +116,8 @@ impl Notes {
         size: u32,
         publish: Publish<'_>,
     ) -> Result<(), Memory>
-        ensures noted { OnOk result (reverse self.new.seen.items ≡ record { place = place; note = note_of (going direction (packet size (publish_entry (publish_view publish.entry)))) } ∷ reverse self.old.seen.items) }
-        ensures needed { OnErr result ((vec_capacity self.old.seen ≤ vec_len self.old.seen) ⊎ (note_keeps_text (note_of (going direction (packet size (publish_entry (publish_view publish.entry))))) ≡ true)) }
+        ensures noted { OnOk result (reverse self.new.seen.items ≡ record { place = place; note = note_of (item_event direction (packet size (publish_entry (publish_view publish.entry)))) } ∷ reverse self.old.seen.items) }
+        ensures needed { OnErr result ((vec_capacity self.old.seen ≤ vec_len self.old.seen) ⊎ (note_keeps_text (note_of (item_event direction (packet size (publish_entry (publish_view publish.entry))))) ≡ true)) }
         ensures unchanged { OnErr result (self.new.seen.items ≡ self.old.seen.items) }
     {
         self.seen.reserve(1)?;

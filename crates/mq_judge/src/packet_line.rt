@@ -135,8 +135,8 @@ fn write_finding<W: Write>(found: Finding, writer: &mut W) -> Result<(), RunFaul
 #[tactic(auto, unfolding(crate::specs::OnePacket::packet_report, crate::specs::OnePacket::is_one_packet))]
 pub fn write_packet<W: Write>(bytes: &[u8], writer: &mut W) -> Result<bool, RunFault>
     ensures ok { OnOk result (Appends (W.contents writer.old) (W.contents writer.new) (packet_report bytes.now)) }
-    ensures answer { IfOk result (λ told. told ≡ is_one_packet bytes.now) }
-    ensures one_packet { IfOk result (λ told. (told ≡ true) ↔ IsOnePacket bytes.now) }
+    ensures answer { IfOk result (λ answer. answer ≡ is_one_packet bytes.now) }
+    ensures one_packet { IfOk result (λ answer. (answer ≡ true) ↔ IsOnePacket bytes.now) }
     ensures write { IfErr result (λ fault. (fault ≡ RunFault.Write)
         × AppendsBeginning (W.contents writer.old) (W.contents writer.new) (packet_report bytes.now)) }
 {

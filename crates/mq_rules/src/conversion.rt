@@ -9,8 +9,8 @@ ghost use Rattle.mq_packet.specs.Reading.{view, connect_view, publish_view};
 ghost use Rattle.mq_packet.specs.Sizes.{size_with, remaining_length};
 ghost use Rattle.mq_packet.specs.Entries.{publish as publish_entry};
 ghost use Rattle.mq_trace.specs.Events.{packet};
-ghost use Rattle.mq_trace.specs.Flows.{going};
-ghost use Rattle.mq_trace.specs.Hearing.{item_of, event_of};
+ghost use Rattle.mq_trace.specs.Flows.{item_event};
+ghost use Rattle.mq_trace.specs.Reception.{item_of, event_of};
 ghost use Rattle.mq_rules.specs.declared.packet_note.PacketFields.TheVariants as fields;
 ghost use Rattle.mq_rules.specs.Notes.{only_list, is_sent_direction, connect_note, connack_note, publish_note, packet_fields, properties_of, packet_note, item_note, note_of, request_fields, answer_fields, keeps_text, item_keeps_text, note_keeps_text};
 
@@ -411,8 +411,8 @@ impl Note {
         size: u32,
         publish: &Publish<'_>,
     ) -> Result<Note, Memory>
-        ensures exact { IfOk result (λ note. note ≡ note_of (going direction (packet size (publish_entry (publish_view publish.now))))) }
-        ensures needed { OnErr result (note_keeps_text (note_of (going direction (packet size (publish_entry (publish_view publish.now))))) ≡ true) }
+        ensures exact { IfOk result (λ note. note ≡ note_of (item_event direction (packet size (publish_entry (publish_view publish.now))))) }
+        ensures needed { OnErr result (note_keeps_text (note_of (item_event direction (packet size (publish_entry (publish_view publish.now))))) ≡ true) }
     {
         match kept_topic(alloc, direction, publish.topic) {
             Ok(topic) => Ok(Note::with_topic(direction, size, topic, publish)),
@@ -424,7 +424,7 @@ impl Note {
     #[inline(always)]
     pub fn of_short_publish(direction: Direction, size: u32, publish: &Publish<'_>) -> Note
         requires { length publish.now.topic.now ≤ 30 }
-        ensures { result ≡ note_of (going direction (packet size (publish_entry (publish_view publish.now)))) }
+        ensures { result ≡ note_of (item_event direction (packet size (publish_entry (publish_view publish.now)))) }
     {
         Note::with_topic(
             direction,
@@ -438,7 +438,7 @@ impl Note {
     /// noted.
     #[inline(always)]
     fn with_topic(direction: Direction, size: u32, topic: Text, publish: &Publish<'_>) -> Note
-        ensures { topic ≡ only_list (is_sent_direction direction) publish.now.topic.now → result ≡ note_of (going direction (packet size (publish_entry (publish_view publish.now)))) }
+        ensures { topic ≡ only_list (is_sent_direction direction) publish.now.topic.now → result ≡ note_of (item_event direction (packet size (publish_entry (publish_view publish.now)))) }
     {
         let properties = nonempty(&publish.properties);
         let note = ItemNote::Packet(PacketNote {

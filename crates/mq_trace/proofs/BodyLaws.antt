@@ -13,15 +13,15 @@ use Rattle.mq_trace.specs.declared.reading.Reading.{Reading}
 use Rattle.mq_trace.specs.Framing.{kind_of, direction_of, body_length}
 use Rattle.mq_trace.specs.Events.{Event, Placed}
 use Rattle.mq_trace.specs.Context.{so_far_in, so_far_for}
-use Rattle.mq_trace.specs.Runs.{behind, refused_in, heard_in}
-use Rattle.mq_trace.specs.Flows.{BodyContext, Flow, flow_event, flow_with, flow_after, flow_behind, flow_refused, flow_heard, context_in, flow_in, flowed}
-use Rattle.mq_trace.specs.Hearing.{AreEvents}
+use Rattle.mq_trace.specs.Runs.{behind, refused_in, events_by}
+use Rattle.mq_trace.specs.Flows.{BodyContext, Flow, flow_event, flow_with, flow_after, flow_behind, flow_refused, flow_events, context_in, flow_in, flowed}
+use Rattle.mq_trace.specs.Reception.{AreEvents}
 use Rattle.mq_trace.specs.Deframing.{flow_of, FlowWhy, FlowStops}
 use Rattle.mq_trace.specs.Keeping.{state_in, IsAt, context_of, begun_in, IsWithin, IsUnfinished, IsSound, Advances, Comes, StepStops}
 use Rattle.mq_trace.specs.Stepping.{context_for, deframer_for, flow_for, redirected, leaving, carried_on}
 use Rattle.mq_trace.proofs.FramingLaws.{body_length-append, kind_of-append}
 use Rattle.mq_trace.proofs.EndLaws.{left_sound}
-use Rattle.mq_trace.proofs.LiftLaws.{lifted-so_far, state_flowed, lifted-refused, lifted-heard, lifted-behind}
+use Rattle.mq_trace.proofs.LiftLaws.{lifted-so_far, state_flowed, lifted-refused, lifted-events, lifted-behind}
 
 context_same : (r : Reading) (direction : Direction) (part : List ℕ) → context_in (context_of r part) direction ≡ context_for r direction
 context_same r direction part = refl
@@ -91,10 +91,10 @@ module _ (r : Reading) (direction : Direction) (left : ℕ) (sound : IsSound r) 
       lifted-refused r.limit (context_of r part) direction bytes body_behind (body_goes part at) (body_is part at).3 (body_fits part bytes at short)
       ∙ ap (λ f. flow_refused r.limit (context_for r direction) f bytes) (flow_same r direction part)
 
-  pub body_heard : (part bytes : List ℕ) → IsAt r.stage part → length bytes ≤ left → heard_in (context_of r part) bytes ≡ flow_heard (context_for r direction) (flow_for r direction) bytes
-  body_heard part bytes at short =
-      lifted-heard (context_of r part) direction bytes body_behind (body_goes part at) (body_is part at).3 (body_fits part bytes at short)
-      ∙ ap (λ f. flow_heard (context_for r direction) f bytes) (flow_same r direction part)
+  pub body_events : (part bytes : List ℕ) → IsAt r.stage part → length bytes ≤ left → events_by (context_of r part) bytes ≡ flow_events (context_for r direction) (flow_for r direction) bytes
+  body_events part bytes at short =
+      lifted-events (context_of r part) direction bytes body_behind (body_goes part at) (body_is part at).3 (body_fits part bytes at short)
+      ∙ ap (λ f. flow_events (context_for r direction) f bytes) (flow_same r direction part)
 
   same_end : (n n' m m' : ℕ) → n + m ≡ n' + m' → (n == n') ≡ (m == m')
   same_end n n' m m' e = by_cases (m == m') refl
@@ -151,7 +151,7 @@ module _ (r : Reading) (direction : Direction) (left : ℕ) (sound : IsSound r) 
   pub body_steps : (bytes : List ℕ) (d : Deframer) (connections : Connections) (at : ℕ) → length bytes ≤ left
       → flow_refused r.limit (context_for r direction) (flow_for r direction) bytes ≡ None
       → flow_behind (context_for r direction) (flow_for r direction) bytes ≡ flow_of at (state_in d) connections
-      → Advances r (carried_on r direction at d connections (left - length bytes)) bytes (flow_heard (context_for r direction) (flow_for r direction) bytes)
+      → Advances r (carried_on r direction at d connections (left - length bytes)) bytes (flow_events (context_for r direction) (flow_for r direction) bytes)
   body_steps bytes d connections at short none kept = record {
     limit = limit_same r direction d;
     each = λ part is. (
@@ -161,7 +161,7 @@ module _ (r : Reading) (direction : Direction) (left : ℕ) (sound : IsSound r) 
       body_kept part bytes is short
           ∙ ap (λ f. flowed (context_of r part) direction (left - length bytes == 0) f bytes) kept
           ∙ flowed_context r direction part bytes d connections at (left - length bytes) (sym (ap (λ (f : Flow). f.connected) kept) ∙ connected_behind (context_for r direction) (flow_for r direction) bytes),
-      body_heard part bytes is short,
+      body_events part bytes is short,
     );
   }
 
@@ -182,12 +182,12 @@ module _ (r : Reading) (direction : Direction) (left : ℕ) (sound : IsSound r) 
         is = stop.is;
         each = λ part at. (
           body_refused part stop.taken at few ∙ stop.unrefused,
-          body_heard part stop.taken at few ∙ stop.unheard,
+          body_events part stop.taken at few ∙ stop.completes_none,
           (let so_far : List ℕ = so_far_for (behind (context_of r part) stop.taken) stop.byte in
-              subst (λ o. FlowWhy declines r.limit (r.at + length stop.taken) so_far o (heard_in (context_of r part) (stop.taken ++ stop.byte ∷ [])) old new refusal) (sym (body_refused part (stop.taken ++ stop.byte ∷ []) at last))
+              subst (λ o. FlowWhy declines r.limit (r.at + length stop.taken) so_far o (events_by (context_of r part) (stop.taken ++ stop.byte ∷ [])) old new refusal) (sym (body_refused part (stop.taken ++ stop.byte ∷ []) at last))
               (subst (λ h. FlowWhy declines r.limit (r.at + length stop.taken) so_far (flow_refused r.limit (context_for r direction) (flow_for r direction) (stop.taken ++ stop.byte ∷ [])) h old new refusal)
-              (sym (body_heard part (stop.taken ++ stop.byte ∷ []) at last))
-              (subst (λ t. FlowWhy declines r.limit (r.at + length stop.taken) t (flow_refused r.limit (context_for r direction) (flow_for r direction) (stop.taken ++ stop.byte ∷ [])) (flow_heard (context_for r direction) (flow_for r direction) (stop.taken ++ stop.byte ∷ [])) old new refusal)
+              (sym (body_events part (stop.taken ++ stop.byte ∷ []) at last))
+              (subst (λ t. FlowWhy declines r.limit (r.at + length stop.taken) t (flow_refused r.limit (context_for r direction) (flow_for r direction) (stop.taken ++ stop.byte ∷ [])) (flow_events (context_for r direction) (flow_for r direction) (stop.taken ++ stop.byte ∷ [])) old new refusal)
               (sym (body_so_far part stop.taken stop.byte at (omega arith))) stop.why))),
         );
       }
@@ -204,23 +204,23 @@ module _ (r : Reading) (direction : Direction) (left : ℕ) (sound : IsSound r) 
       → r1 ≡ record (redirected r direction (deframer_for r1 direction)) { connections = r1.connections } → r2 ≡ leaving (record r1 { at = r1.at + n }) direction (left - n)
       → flow_refused r.limit (context_for r direction) (flow_for r direction) (take n body) ≡ None
       → flow_behind (context_for r direction) (flow_for r direction) (take n body) ≡ flow_of (r.at + n) (state_in (deframer_for r1 direction)) r1.connections
-      → ((earlier : List Placed) → agrees old earlier → AreEvents (flow_heard (context_for r direction) (flow_for r direction) (take n body) ++ earlier) → agrees new (flow_heard (context_for r direction) (flow_for r direction) (take n body) ++ earlier))
+      → ((earlier : List Placed) → agrees old earlier → AreEvents (flow_events (context_for r direction) (flow_for r direction) (take n body) ++ earlier) → agrees new (flow_events (context_for r direction) (flow_for r direction) (take n body) ++ earlier))
       → Comes agrees r r2 (take n bytes) old new
   body_comes agrees bytes body rest n r1 r2 old new is within short passed went none kept emitted =
       let d = deframer_for r1 direction in
       let taken = length-take-le n body within in
       let few : length (take n body) ≤ left = omega arith in
-      let steps : Advances r (carried_on r direction (r.at + n) d r1.connections (left - length (take n body))) (take n body) (flow_heard (context_for r direction) (flow_for r direction) (take n body)) =
+      let steps : Advances r (carried_on r direction (r.at + n) d r1.connections (left - length (take n body))) (take n body) (flow_events (context_for r direction) (flow_for r direction) (take n body)) =
       body_steps (take n body) d r1.connections (r.at + n) few none kept in
-      let counted : Advances r (carried_on r direction (r.at + n) d r1.connections (left - n)) (take n body) (flow_heard (context_for r direction) (flow_for r direction) (take n body)) =
-      subst (λ m. Advances r (carried_on r direction (r.at + n) d r1.connections (left - m)) (take n body) (flow_heard (context_for r direction) (flow_for r direction) (take n body))) taken steps in
+      let counted : Advances r (carried_on r direction (r.at + n) d r1.connections (left - n)) (take n body) (flow_events (context_for r direction) (flow_for r direction) (take n body)) =
+      subst (λ m. Advances r (carried_on r direction (r.at + n) d r1.connections (left - m)) (take n body) (flow_events (context_for r direction) (flow_for r direction) (take n body))) taken steps in
       let ends : r2 ≡ carried_on r direction (r.at + n) d r1.connections (left - n) =
       went
       ∙ ap (λ m. leaving (record r1 { at = m + n }) direction (left - n)) (ap (λ (x : Reading). x.at) passed ∙ place_same r direction d)
       ∙ ap (λ (x : Reading). leaving (record x { at = r.at + n }) direction (left - n)) passed in
       let front : take n body ≡ take n bytes = sym (take-append-le n body rest within) ∙ ap (take n) (sym is) in
       subst (λ (l : List ℕ). Comes agrees r r2 l old new) front (record {
-        heard = flow_heard (context_for r direction) (flow_for r direction) (take n body);
-        advances = subst (λ (x : Reading). Advances r x (take n body) (flow_heard (context_for r direction) (flow_for r direction) (take n body))) (sym ends) counted;
+        completed = flow_events (context_for r direction) (flow_for r direction) (take n body);
+        advances = subst (λ (x : Reading). Advances r x (take n body) (flow_events (context_for r direction) (flow_for r direction) (take n body))) (sym ends) counted;
         emitted = emitted;
       })

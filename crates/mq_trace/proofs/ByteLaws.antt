@@ -15,13 +15,13 @@ use Rattle.mq_trace.specs.declared.deframer.BodyContext.{BodyContext as ContextI
 use Rattle.mq_trace.specs.Events.{Placed, lost}
 use Rattle.mq_trace.specs.Refusals.{first_standing}
 use Rattle.mq_trace.specs.Context.{StreamState, so_far_in, put}
-use Rattle.mq_trace.specs.Hearing.{AreEvents}
+use Rattle.mq_trace.specs.Reception.{AreEvents}
 use Rattle.mq_trace.specs.Emission.{event_refusal, connections_with, next_placed, RefusedBySink, NotEmitted}
-use Rattle.mq_trace.specs.Flows.{BodyContext, Flow, going, flow_placed_with, flow_behind, flow_refused, flow_heard}
+use Rattle.mq_trace.specs.Flows.{BodyContext, Flow, item_event, flow_placed_with, flow_behind, flow_refused, flow_events}
 use Rattle.mq_trace.specs.Deframing.{body_context, flow_of, frame_event, frame_refusal, connections_then, FlowWhy, FlowStops, FlowComes}
 use Rattle.mq_trace.specs.Keeping.{IsShort, IsUnfinished}
 use Rattle.mq_trace.specs.Settling.{IsByteMore}
-use Rattle.mq_trace.proofs.FlowLaws.{quiet-refused, quiet-heard, quiet-behind, short-refused, short-heard, short-behind, loses-refusal, loses-after, loses-placed, large-refusal, refused-one}
+use Rattle.mq_trace.proofs.FlowLaws.{quiet-refused, quiet-events, quiet-behind, short-refused, short-events, short-behind, loses-refusal, loses-after, loses-placed, large-refusal, refused-one}
 use Rattle.mq_trace.proofs.DeframerLaws.{going_on, flow_then, comes_of, stops_of}
 
 -- What a fixed header that one byte more makes whole says of its packet, unless it is refused: it isn't larger than the limit, and no more than it is there.
@@ -68,13 +68,13 @@ module _ {S : Type 0} (agrees : S → List Placed → Type 0) (declines : S → 
   before = flow_of at (going_on u) c
 
   -- What does nothing comes to what stays.
-  quiet_comes : (t : List ℕ) (gone : Bool) (sink : S) → IsByteMore limit u byte t → gone ≡ false → flow_refused limit (body_context context) before (byte ∷ []) ≡ None → flow_heard (body_context context) before (byte ∷ []) ≡ []
+  quiet_comes : (t : List ℕ) (gone : Bool) (sink : S) → IsByteMore limit u byte t → gone ≡ false → flow_refused limit (body_context context) before (byte ∷ []) ≡ None → flow_events (body_context context) before (byte ∷ []) ≡ []
       → flow_behind (body_context context) before (byte ∷ []) ≡ flow_of (at + 1) (going_on (u ++ byte ∷ [])) c
       → FlowComes agrees limit (body_context context) before (flow_of (at + 1) (record { unfinished = t; lost = gone }) c) (byte ∷ []) sink sink
-  quiet_comes t gone sink more there unrefused unheard kept = record {
+  quiet_comes t gone sink more there unrefused completes_none kept = record {
     unrefused = unrefused;
     kept = kept ∙ ap (λ (x : List ℕ). flow_of (at + 1) (going_on x) c) (sym more.is) ∙ ap (λ (b : Bool). flow_of (at + 1) (record { unfinished = t; lost = b }) c) (sym there);
-    emitted = λ earlier was are. subst (agrees sink) (sym (ap (λ (heard : List Placed). heard ++ earlier) unheard)) was;
+    emitted = λ earlier was are. subst (agrees sink) (sym (ap (λ (completed : List Placed). completed ++ earlier) completes_none)) was;
   }
 
   -- A byte after which the fixed header is short only stays.
@@ -84,7 +84,7 @@ module _ {S : Type 0} (agrees : S → List Placed → Type 0) (declines : S → 
       (let short' : fixed_header_of (u ++ byte ∷ []) ≡ headers.Short = ap fixed_header_of (sym more.is) ∙ short in
       quiet_comes t gone sink more there
       (short-refused limit (body_context context) before u (byte ∷ []) refl short')
-      (short-heard (body_context context) before u (byte ∷ []) refl short')
+      (short-events (body_context context) before u (byte ∷ []) refl short')
       (short-behind (body_context context) before u (byte ∷ []) refl short'))
 
   -- So does one that isn't the packet's last, if the packet isn't larger than the limit.
@@ -97,10 +97,10 @@ module _ {S : Type 0} (agrees : S → List Placed → Type 0) (declines : S → 
       let less' : length (u ++ byte ∷ []) < size = subst (λ (x : List ℕ). length x < size) more.is less in
       quiet_comes t gone sink more there
       (quiet-refused limit (body_context context) before u (byte ∷ []) header size refl whole' less' (inl known.within))
-      (quiet-heard (body_context context) before u (byte ∷ []) header size refl whole' less')
+      (quiet-events (body_context context) before u (byte ∷ []) header size refl whole' less')
       (quiet-behind (body_context context) before u (byte ∷ []) header size refl whole' less'))
 
-  -- The byte that tells a size over the limit is refused.
+  -- The byte that shows a size over the limit is refused.
   pub stops_large : (t : List ℕ) (sink : S) (header size : ℕ) → IsByteMore limit u byte t → fixed_header_of t ≡ headers.Whole header size → header ≡ length t → limit < size
       → FlowStops declines limit (body_context context) before (byte ∷ []) sink sink (refusals.TooLarge at)
   stops_large t sink header size more whole ends over =
@@ -110,7 +110,7 @@ module _ {S : Type 0} (agrees : S → List Placed → Type 0) (declines : S → 
         later = [];
         is = refl;
         unrefused = refl;
-        unheard = refl;
+        completes_none = refl;
         why = inl (
           refused-one limit (body_context context) before byte
               ∙ large-refusal limit (body_context context) before u byte header size refl (ap fixed_header_of (sym more.is) ∙ whole) (ends ∙ ap length more.is) over,
@@ -159,29 +159,29 @@ module _ {S : Type 0} (agrees : S → List Placed → Type 0) (declines : S → 
   is_gone : (t : List ℕ) → IsByteMore limit u byte t → fixed_header_of t ≡ headers.Lost → is_lost (u ++ byte ∷ []) ≡ true
   is_gone t more lost_there = header_lost (u ++ byte ∷ []) (ap fixed_header_of (sym more.is) ∙ lost_there)
 
-  lost_behind : is_lost (u ++ byte ∷ []) ≡ true → flow_behind (body_context context) before (byte ∷ []) ≡ flow_of (at + 1) lost_state (connections_with context.server c (going context.direction lost))
+  lost_behind : is_lost (u ++ byte ∷ []) ≡ true → flow_behind (body_context context) before (byte ∷ []) ≡ flow_of (at + 1) lost_state (connections_with context.server c (item_event context.direction lost))
   lost_behind l = loses-after (body_context context) before u byte refl l ∙ flow_then context (at + 1) lost_state c (Some lost)
 
-  lost_heard : is_lost (u ++ byte ∷ []) ≡ true → flow_heard (body_context context) before (byte ∷ []) ≡ next_placed c context.record_no (going context.direction lost) ∷ []
-  lost_heard l = ap (λ (o : Option Placed). put o []) (loses-placed (body_context context) before u byte refl l)
+  lost_events : is_lost (u ++ byte ∷ []) ≡ true → flow_events (body_context context) before (byte ∷ []) ≡ next_placed c context.record_no (item_event context.direction lost) ∷ []
+  lost_events l = ap (λ (o : Option Placed). put o []) (loses-placed (body_context context) before u byte refl l)
 
   -- What is lost isn't early.
-  lost_met : is_lost (u ++ byte ∷ []) ≡ true → flow_refused limit (body_context context) before (byte ∷ []) ≡ event_refusal at c (going context.direction lost)
+  lost_met : is_lost (u ++ byte ∷ []) ≡ true → flow_refused limit (body_context context) before (byte ∷ []) ≡ event_refusal at c (item_event context.direction lost)
   lost_met l = refused-one limit (body_context context) before byte ∙ loses-refusal limit (body_context context) before u byte refl l ∙ sym (in_time context.direction)
     where
-      in_time : (direction : Direction) → event_refusal at c (going direction lost) ≡ first_standing ((nat_le 4294967295 c.events, refusals.TooLong at) ∷ [])
+      in_time : (direction : Direction) → event_refusal at c (item_event direction lost) ≡ first_standing ((nat_le 4294967295 c.events, refusals.TooLong at) ∷ [])
       in_time directions.Sent = refl
       in_time directions.Recv = refl
 
   pub lost_comes : {A : Type 0} (r : Result A Refusal) (t : List ℕ) (c' : Connections) (old new : S) → IsByteMore limit u byte t → fixed_header_of t ≡ headers.Lost
-      → OnOk r ((event_refusal at c (going context.direction lost) ≡ None) × (c' ≡ connections_with context.server c (going context.direction lost)))
-      → ((earlier : List Placed) → agrees old earlier → AreEvents (next_placed c context.record_no (going context.direction lost) ∷ earlier) → OnOk r (agrees new (next_placed c context.record_no (going context.direction lost) ∷ earlier)))
+      → OnOk r ((event_refusal at c (item_event context.direction lost) ≡ None) × (c' ≡ connections_with context.server c (item_event context.direction lost)))
+      → ((earlier : List Placed) → agrees old earlier → AreEvents (next_placed c context.record_no (item_event context.direction lost) ∷ earlier) → OnOk r (agrees new (next_placed c context.record_no (item_event context.direction lost) ∷ earlier)))
       → OnOk r (FlowComes agrees limit (body_context context) before (flow_of (at + 1) lost_state c') (byte ∷ []) old new)
   lost_comes (Err refusal) t c' old new more lost_there ok emitted = tt
   lost_comes (Ok x) t c' old new more lost_there ok emitted =
       (let l : is_lost (u ++ byte ∷ []) ≡ true = is_gone t more lost_there in
-      let same : (earlier : List Placed) → flow_heard (body_context context) before (byte ∷ []) ++ earlier ≡ next_placed c context.record_no (going context.direction lost) ∷ earlier
-      = λ earlier. ap (λ (heard : List Placed). heard ++ earlier) (lost_heard l) in
+      let same : (earlier : List Placed) → flow_events (body_context context) before (byte ∷ []) ++ earlier ≡ next_placed c context.record_no (item_event context.direction lost) ∷ earlier
+      = λ earlier. ap (λ (completed : List Placed). completed ++ earlier) (lost_events l) in
       record {
         unrefused = lost_met l ∙ ok.0;
         kept = lost_behind l ∙ ap (λ (k : Connections). flow_of (at + 1) lost_state k) (sym ok.1);
@@ -189,7 +189,7 @@ module _ {S : Type 0} (agrees : S → List Placed → Type 0) (declines : S → 
       })
 
   pub lost_stops : {A : Type 0} (r : Result A Refusal) (t : List ℕ) (old new : S) → IsByteMore limit u byte t → fixed_header_of t ≡ headers.Lost
-      → IfErr r (λ refusal. NotEmitted declines at (event_refusal at c (going context.direction lost)) (next_placed c context.record_no (going context.direction lost) ∷ []) old new refusal)
+      → IfErr r (λ refusal. NotEmitted declines at (event_refusal at c (item_event context.direction lost)) (next_placed c context.record_no (item_event context.direction lost) ∷ []) old new refusal)
       → IfErr r (λ refusal. FlowStops declines limit (body_context context) before (byte ∷ []) old new refusal)
   lost_stops (Ok x) t old new more lost_there unemitted = tt
   lost_stops (Err refusal) t old new more lost_there unemitted =
@@ -201,15 +201,15 @@ module _ {S : Type 0} (agrees : S → List Placed → Type 0) (declines : S → 
         later = [];
         is = refl;
         unrefused = refl;
-        unheard = refl;
-        why = subst (λ (n : ℕ). FlowWhy declines limit n (so_far_in (going_on u) byte) (flow_refused limit (body_context context) before (byte ∷ [])) (flow_heard (body_context context) before (byte ∷ [])) old new refusal) here
-            (why_by (so_far_in (going_on u) byte) (flow_refused limit (body_context context) before (byte ∷ [])) (flow_heard (body_context context) before (byte ∷ [])) (lost_met l) (lost_heard l) unemitted);
+        completes_none = refl;
+        why = subst (λ (n : ℕ). FlowWhy declines limit n (so_far_in (going_on u) byte) (flow_refused limit (body_context context) before (byte ∷ [])) (flow_events (body_context context) before (byte ∷ [])) old new refusal) here
+            (why_by (so_far_in (going_on u) byte) (flow_refused limit (body_context context) before (byte ∷ [])) (flow_events (body_context context) before (byte ∷ [])) (lost_met l) (lost_events l) unemitted);
       })
     where
-      why_by : (so_far : List ℕ) (met : Option Refusal) (heard : List Placed) → met ≡ event_refusal at c (going context.direction lost) → heard ≡ next_placed c context.record_no (going context.direction lost) ∷ []
-          → NotEmitted declines at (event_refusal at c (going context.direction lost)) (next_placed c context.record_no (going context.direction lost) ∷ []) old new refusal → FlowWhy declines limit at so_far met heard old new refusal
-      why_by so_far met heard same one (inl x) = inl (same ∙ x.0, x.1)
-      why_by so_far met heard same one (inr x) = inr (inr (same ∙ x.0, ap length one, subst (λ (l : List Placed). RefusedBySink declines at l old new refusal) (sym one) x.1))
+      why_by : (so_far : List ℕ) (met : Option Refusal) (completed : List Placed) → met ≡ event_refusal at c (item_event context.direction lost) → completed ≡ next_placed c context.record_no (item_event context.direction lost) ∷ []
+          → NotEmitted declines at (event_refusal at c (item_event context.direction lost)) (next_placed c context.record_no (item_event context.direction lost) ∷ []) old new refusal → FlowWhy declines limit at so_far met completed old new refusal
+      why_by so_far met completed same one (inl x) = inl (same ∙ x.0, x.1)
+      why_by so_far met completed same one (inr x) = inr (inr (same ∙ x.0, ap length one, subst (λ (l : List Placed). RefusedBySink declines at l old new refusal) (sym one) x.1))
 
 -- What is kept after the byte is unfinished, if its packet isn't whole.
 pub sound_short : (limit : ℕ) (t : List ℕ) (gone : Bool) → gone ≡ false → fixed_header_of t ≡ headers.Short → IsUnfinished limit (record { unfinished = t; lost = gone })

@@ -1,4 +1,4 @@
--- What is kept of a log is enough to tell what its next byte does.
+-- What is kept of a log decides what its next byte does.
 use Rattle.std.proofs.Common.{◌≡◌, ℕ, ◌+◌, ◌-◌, ◌<◌, ◌≤◌, Bool, true, false, cond, nat_lt, List, [], ◌∷◌, ◌++◌, length, reverse, Option, Some, None, is_some, refl, sym, ◌∙◌, ap, arith, length-append}
 use Rattle.std.specs.Prelude.{◌==◌, if◌then◌else◌, slice_index}
 use Rattle.std.proofs.lemmas.List.{reverse-append, reverse-reverse, length-reverse, get_or_append_left, get_or_past, get_or-append_right}
@@ -13,7 +13,7 @@ use Rattle.mq_trace.specs.Framing.{header_by, kind_of, direction_of, begun_recor
 use Rattle.mq_trace.specs.Events.{Event, Placed, newest_record, part_at, packet_at, packet_by, event_in, event_at, with_event, events_back, events}
 use Rattle.mq_trace.specs.Connections.{has_open_connection, is_connack_seen}
 use Rattle.mq_trace.specs.Refusals.{Situation, situation, header_refusal, record_refusal, refusal_at, refused_back, refused}
-use Rattle.mq_trace.specs.Context.{StreamState, Context, fresh, state_of, state_then, so_far_by, so_far_for, context, situated, refusal_for, event_for, placed_with, placed_for, put, with_heard, after_header, after_part, after}
+use Rattle.mq_trace.specs.Context.{StreamState, Context, fresh, state_of, state_then, so_far_by, so_far_for, context, situated, refusal_for, event_for, placed_with, placed_for, put, with_completed, after_header, after_part, after}
 use Rattle.mq_trace.proofs.FramingLaws.{records-header, begun-header, begun-grow, length-begun-grow, whole-grow, rest-grow}
 use Rattle.mq_trace.proofs.StreamStateLaws.{state-nothing, state-then, so_far-kept}
 
@@ -78,7 +78,7 @@ event-kept log byte =
     event_by_length log byte (nat_lt (length log) 8) refl
     ∙ ap (λ n. if nat_lt n 8 then None else event_in ((context log).part ++ byte ∷ []) (so_far_for (context log) byte)) (sym (at_context log))
 
--- the situation of a byte, from the three of its parts that framing tells
+-- the situation of a byte, from the three of its parts that framing gives
 abbrev situated_with : List ℕ → List ℕ → ℕ → List ℕ → Situation
 situated_with log part record_no so_far = record {
   at = length log;
@@ -120,7 +120,7 @@ pub events-more : (log : List ℕ) (byte : ℕ) → events (log ++ byte ∷ []) 
 events-more log byte =
     events-grow log byte ∙ ap (λ o. with_event (length (begun_records (log ++ byte ∷ []))) o (events log)) (event-kept log byte)
 
--- a context from its parts, of which the last three are told by the events
+-- a context from its parts, of which the events give the last three
 abbrev context_with : ℕ → Header → List ℕ → ℕ → StreamState → StreamState → List Placed → Context
 context_with at header part whole sent recv log = record {
   at = at;
@@ -150,7 +150,7 @@ noted : (log : List ℕ) (byte : ℕ) (o : Option Event)
     (state_then directions.Sent (state_of (carried directions.Sent (begun_records log))) ((records log).rest ++ byte ∷ []) byte)
     (state_then directions.Recv (state_of (carried directions.Recv (begun_records log))) ((records log).rest ++ byte ∷ []) byte)
     (with_event (length (records log).whole + 1) o (events log))
-    ≡ with_heard (after_part (context log) ((records log).rest ++ byte ∷ []) byte) o
+    ≡ with_completed (after_part (context log) ((records log).rest ++ byte ∷ []) byte) o
 unfolding context
 noted log byte None = refl
 noted log byte (Some event) =
@@ -163,7 +163,7 @@ noted log byte (Some event) =
     let one_more : length (record { place = record { position = length (events log) + 1; record_no = length (records log).whole + 1 }; event = event } ∷ events log) ≡ length (events log) + 1 = omega arith in
     ap (λ n. record c { events = n }) one_more
 
-pub context-behind : (log : List ℕ) (byte : ℕ) → 8 ≤ length log → context (log ++ byte ∷ []) ≡ with_heard (after_part (context log) ((records log).rest ++ byte ∷ []) byte) (event_for (context log) byte)
+pub context-behind : (log : List ℕ) (byte : ℕ) → 8 ≤ length log → context (log ++ byte ∷ []) ≡ with_completed (after_part (context log) ((records log).rest ++ byte ∷ []) byte) (event_for (context log) byte)
 context-behind log byte h =
     let more = log ++ byte ∷ [] in
     let part = (records log).rest ++ byte ∷ [] in
@@ -263,18 +263,18 @@ unfolding event_for
 event_for-header log byte = ap (λ n. if nat_lt n 8 then None else event_in ((context log).part ++ byte ∷ []) (so_far_for (context log) byte)) (at_context log)
 
 kept_by : (log : List ℕ) (byte : ℕ) (b : Bool) → nat_lt (length log) 8 ≡ b
-    → context (log ++ byte ∷ []) ≡ (if b then after_header (context log) byte else with_heard (after_part (context log) ((context log).part ++ byte ∷ []) byte) (event_for (context log) byte))
+    → context (log ++ byte ∷ []) ≡ (if b then after_header (context log) byte else with_completed (after_part (context log) ((context log).part ++ byte ∷ []) byte) (event_for (context log) byte))
 kept_by log byte true is = header-kept log byte (ltb-true (length log) 8 is)
 kept_by log byte false is =
     context-behind log byte (ltb-false (length log) 8 is)
-    ∙ ap (λ part. with_heard (after_part (context log) (part ++ byte ∷ []) byte) (event_for (context log) byte)) (sym (part_context log))
+    ∙ ap (λ part. with_completed (after_part (context log) (part ++ byte ∷ []) byte) (event_for (context log) byte)) (sym (part_context log))
 
 -- What is kept of a log with one byte more is what that byte makes of what was kept.
 pub context-grow : (log : List ℕ) (byte : ℕ) → context (log ++ byte ∷ []) ≡ after (context log) byte
 unfolding after
 context-grow log byte =
     kept_by log byte (nat_lt (length log) 8) refl
-    ∙ ap (λ n. if nat_lt n 8 then after_header (context log) byte else with_heard (after_part (context log) ((context log).part ++ byte ∷ []) byte) (event_for (context log) byte)) (sym (at_context log))
+    ∙ ap (λ n. if nat_lt n 8 then after_header (context log) byte else with_completed (after_part (context log) ((context log).part ++ byte ∷ []) byte) (event_for (context log) byte)) (sym (at_context log))
 
 -- what is kept of no bytes
 pub context-nothing : context [] ≡ fresh

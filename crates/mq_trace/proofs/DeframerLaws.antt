@@ -20,25 +20,25 @@ use Rattle.mq_trace.specs.Refusals.{is_too_large, is_other_version}
 use Rattle.mq_trace.proofs.ItemLaws.{met_other}
 use Rattle.mq_trace.specs.Connections.{is_answer}
 use Rattle.mq_trace.specs.Context.{StreamState, so_far_in, put}
-use Rattle.mq_trace.specs.Hearing.{AreEvents}
+use Rattle.mq_trace.specs.Reception.{AreEvents}
 use Rattle.mq_trace.specs.Keeping.{IsShort, IsUnfinished}
 use Rattle.mq_trace.specs.Emission.{connections_with, RefusedBySink, NotEmitted}
-use Rattle.mq_trace.specs.Flows.{BodyContext, Flow, going, flow_refusal, flow_placed_with, flow_with, flow_behind, flow_refused, flow_heard}
+use Rattle.mq_trace.specs.Flows.{BodyContext, Flow, item_event, flow_refusal, flow_placed_with, flow_with, flow_behind, flow_refused, flow_events}
 use Rattle.mq_trace.specs.Deframing.{body_context, flow_of, frame_event, frame_refusal, connections_then, NeedsMemory, FlowWhy, FlowStops, FlowComes}
-use Rattle.mq_trace.proofs.FlowLaws.{lost-behind, HasLast, has_last, IsQuiet, until_last, quiet-refused, quiet-heard, quiet-behind, short-refused, short-heard, short-behind, complete-refused-within, complete-heard-frame, complete-behind-frame}
+use Rattle.mq_trace.proofs.FlowLaws.{lost-behind, HasLast, has_last, IsQuiet, until_last, quiet-refused, quiet-events, quiet-behind, short-refused, short-events, short-behind, complete-refused-within, complete-events-frame, complete-behind-frame}
 
 -- a direction that isn't lost, with these bytes of an unfinished packet
 abbrev pub going_on : List ℕ → StreamState
 going_on unfinished = record { unfinished = unfinished; lost = false }
 
 -- an item that goes either way neither begins nor ends a connection
-with_item : (server : Bool) (c : Connections) (direction : Direction) (item : Item) → connections_with server c (going direction item) ≡ record { events = c.events + 1; connected = c.connected; connack_seen = is_answer server (going direction item) || c.connack_seen }
+with_item : (server : Bool) (c : Connections) (direction : Direction) (item : Item) → connections_with server c (item_event direction item) ≡ record { events = c.events + 1; connected = c.connected; connack_seen = is_answer server (item_event direction item) || c.connack_seen }
 with_item server c directions.Sent item = refl
 with_item server c directions.Recv item = refl
 
 -- what is kept after an item, if there is one
 pub flow_then : (context : ContextInMemory) (at : ℕ) (state : StreamState) (c : Connections) (item : Option Item)
-    → flow_with (body_context context) (flow_of at state c) (option_map (going context.direction) item) ≡ flow_of at state (connections_then context.server c (option_map (going context.direction) item))
+    → flow_with (body_context context) (flow_of at state c) (option_map (item_event context.direction) item) ≡ flow_of at state (connections_then context.server c (option_map (item_event context.direction) item))
 flow_then context at state c None = refl
 flow_then context at state c (Some item) = ap (λ (k : Connections). flow_of at state k) (sym (with_item context.server c context.direction item))
 
@@ -52,7 +52,7 @@ placed_same : (context : BodyContext) (at at' : ℕ) (state state' : StreamState
 placed_same context at at' state state' c None = refl
 placed_same context at at' state state' c (Some event) = refl
 
-no_item : (direction : Direction) (item : Option Item) → option_map (going direction) item ≡ None → item ≡ None
+no_item : (direction : Direction) (item : Option Item) → option_map (item_event direction) item ≡ None → item ≡ None
 no_item direction None e = refl
 no_item direction (Some item) e = absurd (cc)
 
@@ -123,11 +123,11 @@ stops_memory declines limit context f (byte ∷ bytes) sink some open_yet small 
   later = bytes;
   is = refl;
   unrefused = refl;
-  unheard = refl;
+  completes_none = refl;
   why = inr (inl (ap (λ (n : ℕ). refusals.Memory n) (let here : f.at ≡ f.at + length {A = ℕ} [] = omega arith in here), refl, needs_memory limit f.state byte open_yet (small byte bytes refl)));
 }
 
--- A byte that ends a fixed header which tells a size over the limit is refused.
+-- A byte that ends a fixed header which says a size over the limit is refused.
 pub stops_over : {S : Type 0} (declines : S → S → List Placed → Refusal → Type 0) (limit : ℕ) (context : BodyContext) (f : Flow) (byte : ℕ) (sink : S) → f.state.lost ≡ false
     → is_too_large limit (f.state.unfinished ++ byte ∷ []) (fixed_header_of (f.state.unfinished ++ byte ∷ [])) ≡ true → FlowStops declines limit context f (byte ∷ []) sink sink (refusals.TooLarge f.at)
 unfolding flow_refusal
@@ -141,23 +141,23 @@ stops_over declines limit context f byte sink open_yet over =
       later = [];
       is = refl;
       unrefused = refl;
-      unheard = refl;
+      completes_none = refl;
       why = inl (ap (λ (o : Option Refusal). option_or o None) met, refl);
     })
 
 module _ {S : Type 0} (agrees : S → List Placed → Type 0) (declines : S → S → List Placed → Refusal → Type 0) (limit : ℕ) (context : ContextInMemory) (at last : ℕ) (c : Connections) (u bytes : List ℕ)
     (whole : frame_size (u ++ bytes) ≡ Some (length (u ++ bytes))) (some : 0 < length bytes) (is_last : last + 1 ≡ at + length bytes) (within : length (u ++ bytes) ≤ limit) where
-  -- The bytes that complete a packet come to what telling it comes to ..
+  -- The bytes that complete a packet come to what emitting it comes to ..
   pub completes : (c' : Connections) (old new : S) → frame_refusal last (flow_of last (going_on []) c) context.direction (u ++ bytes) ≡ None
       → c' ≡ connections_then context.server c (frame_event context.direction (u ++ bytes))
       → ((earlier : List Placed) → agrees old earlier → AreEvents (put (flow_placed_with (body_context context) (flow_of last (going_on []) c) (frame_event context.direction (u ++ bytes))) earlier)
       → agrees new (put (flow_placed_with (body_context context) (flow_of last (going_on []) c) (frame_event context.direction (u ++ bytes))) earlier))
       → FlowComes agrees limit (body_context context) (flow_of at (going_on u) c) (flow_of (at + length bytes) (going_on []) c') bytes old new
   completes c' old new met kept emitted =
-      (let heard : flow_heard (body_context context) (flow_of at (going_on u) c) bytes ≡ put (flow_placed_with (body_context context) (flow_of at (going_on u) c) (frame_event context.direction (u ++ bytes))) []
-      = complete-heard-frame (body_context context) (flow_of at (going_on u) c) u bytes refl whole some in
-      let same : (earlier : List Placed) → flow_heard (body_context context) (flow_of at (going_on u) c) bytes ++ earlier ≡ put (flow_placed_with (body_context context) (flow_of last (going_on []) c) (frame_event context.direction (u ++ bytes))) earlier
-      = λ earlier. ap (λ (l : List Placed). l ++ earlier) heard ∙ put_same (body_context context) at last (going_on u) (going_on []) c (frame_event context.direction (u ++ bytes)) earlier in
+      (let completed : flow_events (body_context context) (flow_of at (going_on u) c) bytes ≡ put (flow_placed_with (body_context context) (flow_of at (going_on u) c) (frame_event context.direction (u ++ bytes))) []
+      = complete-events-frame (body_context context) (flow_of at (going_on u) c) u bytes refl whole some in
+      let same : (earlier : List Placed) → flow_events (body_context context) (flow_of at (going_on u) c) bytes ++ earlier ≡ put (flow_placed_with (body_context context) (flow_of last (going_on []) c) (frame_event context.direction (u ++ bytes))) earlier
+      = λ earlier. ap (λ (l : List Placed). l ++ earlier) completed ∙ put_same (body_context context) at last (going_on u) (going_on []) c (frame_event context.direction (u ++ bytes)) earlier in
       record {
         unrefused = complete-refused-within limit (body_context context) (flow_of at (going_on u) c) u bytes last refl whole some is_last within ∙ met;
         kept = complete-behind-frame (body_context context) (flow_of at (going_on u) c) u bytes refl whole some
@@ -166,7 +166,7 @@ module _ {S : Type 0} (agrees : S → List Placed → Type 0) (declines : S → 
         emitted = λ earlier was are. subst (agrees new) (sym (same earlier)) (emitted earlier was (subst AreEvents (same earlier) are));
       })
 
-  -- .. and stop where telling it stops: at the last of them.
+  -- .. and stop where emitting it stops: at the last of them.
   pub stops_by : HasLast bytes → (old new : S) (refusal : Refusal)
       → NotEmitted declines last (frame_refusal last (flow_of last (going_on []) c) context.direction (u ++ bytes)) (put (flow_placed_with (body_context context) (flow_of last (going_on []) c) (frame_event context.direction (u ++ bytes))) []) old new refusal
       → FlowStops declines limit (body_context context) (flow_of at (going_on u) c) bytes old new refusal
@@ -183,34 +183,34 @@ module _ {S : Type 0} (agrees : S → List Placed → Type 0) (declines : S → 
       let here : last ≡ at + length cut.before = omega arith in
       let met : flow_refused limit (body_context context) f (cut.before ++ cut.byte ∷ []) ≡ frame_refusal last (flow_of last (going_on []) c) context.direction (u ++ bytes)
       = ap (flow_refused limit (body_context context) f) (sym joined) ∙ complete-refused-within limit (body_context context) f u bytes last refl whole some is_last within in
-      let heard : flow_heard (body_context context) f (cut.before ++ cut.byte ∷ []) ≡ put (flow_placed_with (body_context context) f (frame_event context.direction (u ++ bytes))) []
-      = ap (flow_heard (body_context context) f) (sym joined) ∙ complete-heard-frame (body_context context) f u bytes refl whole some in
+      let completed : flow_events (body_context context) f (cut.before ++ cut.byte ∷ []) ≡ put (flow_placed_with (body_context context) f (frame_event context.direction (u ++ bytes))) []
+      = ap (flow_events (body_context context) f) (sym joined) ∙ complete-events-frame (body_context context) f u bytes refl whole some in
       record {
         taken = cut.before;
         byte = cut.byte;
         later = [];
         is = joined;
         unrefused = quiet.refused;
-        unheard = quiet.heard;
+        completes_none = quiet.completed;
         why = subst (λ (n : ℕ). FlowWhy declines limit n (so_far_in (flow_behind (body_context context) f cut.before).state cut.byte) (flow_refused limit (body_context context) f (cut.before ++ cut.byte ∷ []))
-            (flow_heard (body_context context) f (cut.before ++ cut.byte ∷ [])) old new refusal) here
+            (flow_events (body_context context) f (cut.before ++ cut.byte ∷ [])) old new refusal) here
             (why_by (so_far_in (flow_behind (body_context context) f cut.before).state cut.byte) (flow_refused limit (body_context context) f (cut.before ++ cut.byte ∷ []))
-            (flow_heard (body_context context) f (cut.before ++ cut.byte ∷ [])) met (heard ∙ ap (λ (o : Option Placed). put o []) (placed_same (body_context context) at last (going_on u) (going_on []) c (frame_event context.direction (u ++ bytes)))) old new refusal unemitted);
+            (flow_events (body_context context) f (cut.before ++ cut.byte ∷ [])) met (completed ∙ ap (λ (o : Option Placed). put o []) (placed_same (body_context context) at last (going_on u) (going_on []) c (frame_event context.direction (u ++ bytes)))) old new refusal unemitted);
       })
     where
       -- what isn't met is an item, and is received
-      one_heard : (event : Option Event) → frame_event context.direction (u ++ bytes) ≡ event → frame_refusal last (flow_of last (going_on []) c) context.direction (u ++ bytes) ≡ None
+      one_completed : (event : Option Event) → frame_event context.direction (u ++ bytes) ≡ event → frame_refusal last (flow_of last (going_on []) c) context.direction (u ++ bytes) ≡ None
           → length (put (flow_placed_with (body_context context) (flow_of last (going_on []) c) (frame_event context.direction (u ++ bytes))) []) ≡ 1
-      one_heard None e none = let some : frame_refusal last (flow_of last (going_on []) c) context.direction (u ++ bytes) ≡ Some (refusals.OtherVersion last) = met_none last (flow_of last (going_on []) c) context.direction (u ++ bytes) e in absurd (cc)
-      one_heard (Some event) e none = ap (λ (o : Option Event). length (put (flow_placed_with (body_context context) (flow_of last (going_on []) c) o) [])) e
+      one_completed None e none = let some : frame_refusal last (flow_of last (going_on []) c) context.direction (u ++ bytes) ≡ Some (refusals.OtherVersion last) = met_none last (flow_of last (going_on []) c) context.direction (u ++ bytes) e in absurd (cc)
+      one_completed (Some event) e none = ap (λ (o : Option Event). length (put (flow_placed_with (body_context context) (flow_of last (going_on []) c) o) [])) e
 
-      why_by : (so_far : List ℕ) (met : Option Refusal) (heard : List Placed) → met ≡ frame_refusal last (flow_of last (going_on []) c) context.direction (u ++ bytes)
-          → heard ≡ (put (flow_placed_with (body_context context) (flow_of last (going_on []) c) (frame_event context.direction (u ++ bytes))) []) → (old new : S) (refusal : Refusal)
+      why_by : (so_far : List ℕ) (met : Option Refusal) (completed : List Placed) → met ≡ frame_refusal last (flow_of last (going_on []) c) context.direction (u ++ bytes)
+          → completed ≡ (put (flow_placed_with (body_context context) (flow_of last (going_on []) c) (frame_event context.direction (u ++ bytes))) []) → (old new : S) (refusal : Refusal)
           → NotEmitted declines last (frame_refusal last (flow_of last (going_on []) c) context.direction (u ++ bytes)) (put (flow_placed_with (body_context context) (flow_of last (going_on []) c) (frame_event context.direction (u ++ bytes))) []) old new refusal
-          → FlowWhy declines limit last so_far met heard old new refusal
-      why_by so_far met heard same one old new refusal (inl x) = inl (same ∙ x.0, x.1)
-      why_by so_far met heard same one old new refusal (inr x) =
-          inr (inr (same ∙ x.0, ap length one ∙ one_heard (frame_event context.direction (u ++ bytes)) refl x.0, subst (λ (l : List Placed). RefusedBySink declines last l old new refusal) (sym one) x.1))
+          → FlowWhy declines limit last so_far met completed old new refusal
+      why_by so_far met completed same one old new refusal (inl x) = inl (same ∙ x.0, x.1)
+      why_by so_far met completed same one old new refusal (inr x) =
+          inr (inr (same ∙ x.0, ap length one ∙ one_completed (frame_event context.direction (u ++ bytes)) refl x.0, subst (λ (l : List Placed). RefusedBySink declines last l old new refusal) (sym one) x.1))
 
   pub comes_of : {A : Type 0} (r : Result A Refusal) (c' : Connections) (old new : S) → OnOk r (frame_refusal last (flow_of last (going_on []) c) context.direction (u ++ bytes) ≡ None)
       → OnOk r (c' ≡ connections_then context.server c (frame_event context.direction (u ++ bytes)))
@@ -282,12 +282,12 @@ keeps agrees limit context at c state new_state bytes sink header size open_yet 
     let longer : length (state.unfinished ++ bytes) ≡ length state.unfinished + length bytes = length-append state.unfinished bytes in
     let stays : fixed_header_of (state.unfinished ++ bytes) ≡ headers.Whole header size = whole_stays state.unfinished bytes header size e in
     let is : state ≡ going_on state.unfinished = ap (λ (l : Bool). record { unfinished = state.unfinished; lost = l }) open_yet in
-    let heard : flow_heard context (flow_of at state c) bytes ≡ [] = quiet-heard context (flow_of at state c) state.unfinished bytes header size is stays (omega arith) in
+    let completed : flow_events context (flow_of at state c) bytes ≡ [] = quiet-events context (flow_of at state c) state.unfinished bytes header size is stays (omega arith) in
     record {
       unrefused = quiet-refused limit context (flow_of at state c) state.unfinished bytes header size is stays (omega arith) (inl bounds.1);
       kept = quiet-behind context (flow_of at state c) state.unfinished bytes header size is stays (omega arith)
           ∙ ap (λ (l : Bool). flow_of (at + length bytes) (record { unfinished = state.unfinished ++ bytes; lost = l }) c) (sym open_yet) ∙ ap (λ (h : StreamState). flow_of (at + length bytes) h c) (sym kept);
-      emitted = λ earlier was are. subst (λ (l : List Placed). agrees sink (l ++ earlier)) (sym heard) was;
+      emitted = λ earlier was are. subst (λ (l : List Placed). agrees sink (l ++ earlier)) (sym completed) was;
     })
 
 -- .. and it is unfinished still.
@@ -314,19 +314,19 @@ begins {S} agrees limit context at c state new_state bytes sink none open_yet ke
     kept_is : going_on bytes ≡ new_state
     kept_is = sym (kept ∙ ap (λ (u : List ℕ). record { unfinished = u ++ bytes; lost = state.lost }) none ∙ ap (λ (l : Bool). record { unfinished = bytes; lost = l }) open_yet)
 
-    comes : flow_refused limit context (flow_of at state c) bytes ≡ None → flow_heard context (flow_of at state c) bytes ≡ [] → flow_behind context (flow_of at state c) bytes ≡ flow_of (at + length bytes) (going_on bytes) c
+    comes : flow_refused limit context (flow_of at state c) bytes ≡ None → flow_events context (flow_of at state c) bytes ≡ [] → flow_behind context (flow_of at state c) bytes ≡ flow_of (at + length bytes) (going_on bytes) c
         → FlowComes agrees limit context (flow_of at state c) (flow_of (at + length bytes) new_state c) bytes sink sink
-    comes unrefused heard behind = record {
+    comes unrefused completed behind = record {
       unrefused = unrefused;
       kept = behind ∙ ap (λ (h : StreamState). flow_of (at + length bytes) h c) kept_is;
-      emitted = λ earlier was are. subst (λ (l : List Placed). agrees sink (l ++ earlier)) (sym heard) was;
+      emitted = λ earlier was are. subst (λ (l : List Placed). agrees sink (l ++ earlier)) (sym completed) was;
     }
 
     emitted : (front : FixedHeader) → fixed_header_of bytes ≡ front → IsShort limit bytes front → FlowComes agrees limit context (flow_of at state c) (flow_of (at + length bytes) new_state c) bytes sink sink
-    emitted headers.Short e few = comes (short-refused limit context (flow_of at state c) [] bytes is e) (short-heard context (flow_of at state c) [] bytes is e) (short-behind context (flow_of at state c) [] bytes is e)
+    emitted headers.Short e few = comes (short-refused limit context (flow_of at state c) [] bytes is e) (short-events context (flow_of at state c) [] bytes is e) (short-behind context (flow_of at state c) [] bytes is e)
     emitted headers.Lost e never = absurd never
     emitted (headers.Whole header size) e bounds = comes (quiet-refused limit context (flow_of at state c) [] bytes header size is e bounds.0 (inl bounds.1))
-        (quiet-heard context (flow_of at state c) [] bytes header size is e bounds.0) (quiet-behind context (flow_of at state c) [] bytes header size is e bounds.0)
+        (quiet-events context (flow_of at state c) [] bytes header size is e bounds.0) (quiet-behind context (flow_of at state c) [] bytes header size is e bounds.0)
 
 -- .. and it is unfinished.
 pub begins_unfinished : (limit : ℕ) (state new_state : StreamState) (bytes : List ℕ) → state.unfinished ≡ [] → state.lost ≡ false → new_state ≡ record { unfinished = state.unfinished ++ bytes; lost = state.lost }
@@ -351,7 +351,7 @@ stops_front declines limit context f n bytes old new refusal stops = record {
   later = stops.later ++ drop n bytes;
   is = sym (take-append-drop n bytes) ∙ ap (λ (t : List ℕ). t ++ drop n bytes) stops.is ∙ append_assoc stops.taken (stops.byte ∷ stops.later) (drop n bytes);
   unrefused = stops.unrefused;
-  unheard = stops.unheard;
+  completes_none = stops.completes_none;
   why = stops.why;
 }
 

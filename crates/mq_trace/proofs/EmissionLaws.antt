@@ -1,26 +1,26 @@
--- A step that tells a sink of an event, by what came of telling it.
+-- A step that emits an event to a sink, by what came of it.
 use Rattle.std.proofs.Common.{◌≡◌, ℕ, ◌+◌, List, [], ◌∷◌, ◌++◌, length, None, Result, Ok, Err, OnOk, IfErr, sym, subst}
 use Rattle.mq_trace.specs.declared.refusal.Refusal.{Refusal}
 use Rattle.mq_trace.specs.declared.reading.Reading.{Reading}
 use Rattle.mq_trace.specs.Events.{Event, Placed}
-use Rattle.mq_trace.specs.Hearing.{AreEvents}
+use Rattle.mq_trace.specs.Reception.{AreEvents}
 use Rattle.mq_trace.specs.Emission.{event_refusal, next_placed, NotEmitted}
 use Rattle.mq_trace.specs.Keeping.{Advances, Comes, StepStops}
 use Rattle.mq_trace.specs.Stepping.{marked}
 use Rattle.mq_trace.proofs.ReadingLaws.{comes_emission, comes_after, stops_after}
 use Rattle.mq_trace.proofs.StageLaws.{stops_unemitted}
-use Rattle.mq_trace.proofs.EndLaws.{Tells, emits_advances}
+use Rattle.mq_trace.proofs.EndLaws.{CompletesEvent, emits_advances}
 
-pub emitted_comes : {S A : Type 0} (agrees : S → List Placed → Type 0) (r r' : Reading) (b : ℕ) (event : Event) (old new : S) (result : Result A Refusal) → Tells r b event
+pub emitted_comes : {S A : Type 0} (agrees : S → List Placed → Type 0) (r r' : Reading) (b : ℕ) (event : Event) (old new : S) (result : Result A Refusal) → CompletesEvent r b event
     → OnOk result (event_refusal r.at r.connections event ≡ None) → OnOk result (r' ≡ marked r event)
     → ((earlier : List Placed) → agrees old earlier → AreEvents (next_placed r.connections (r.records + 1) event ∷ earlier) → OnOk result (agrees new (next_placed r.connections (r.records + 1) event ∷ earlier)))
     → OnOk result (Comes agrees r r' (b ∷ []) old new)
-emitted_comes agrees r r' b event old new (Ok a) emits met kept heard =
+emitted_comes agrees r r' b event old new (Ok a) emits met kept receives =
     subst (λ (x : Reading). Comes agrees r x (b ∷ []) old new) (sym kept)
-    (comes_emission agrees r (marked r event) (b ∷ []) old new (next_placed r.connections (r.records + 1) event) (emits_advances r b event emits met) heard)
-emitted_comes agrees r r' b event old new (Err refusal) emits met kept heard = tt
+    (comes_emission agrees r (marked r event) (b ∷ []) old new (next_placed r.connections (r.records + 1) event) (emits_advances r b event emits met) receives)
+emitted_comes agrees r r' b event old new (Err refusal) emits met kept receives = tt
 
-pub emitted_stops : {S A : Type 0} (declines : S → S → List Placed → Refusal → Type 0) (r : Reading) (b : ℕ) (event : Event) (old new : S) (result : Result A Refusal) → Tells r b event
+pub emitted_stops : {S A : Type 0} (declines : S → S → List Placed → Refusal → Type 0) (r : Reading) (b : ℕ) (event : Event) (old new : S) (result : Result A Refusal) → CompletesEvent r b event
     → IfErr result (λ refusal. NotEmitted declines r.at (event_refusal r.at r.connections event) (next_placed r.connections (r.records + 1) event ∷ []) old new refusal)
     → IfErr result (λ refusal. StepStops declines r (b ∷ []) old new refusal)
 emitted_stops declines r b event old new (Ok a) emits unemitted = tt

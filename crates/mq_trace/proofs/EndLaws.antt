@@ -14,7 +14,7 @@ use Rattle.mq_trace.specs.declared.reading.Reading.{Reading}
 use Rattle.mq_trace.specs.Framing.{kind_of, direction_of, body_length}
 use Rattle.mq_trace.specs.Events.{Event, opened, closed, rested, released, event_of_head}
 use Rattle.mq_trace.specs.Refusals.{first_standing, allows_length}
-use Rattle.mq_trace.specs.Context.{Context, refusal_for, event_for, placed_for, put, after, with_heard}
+use Rattle.mq_trace.specs.Context.{Context, refusal_for, event_for, placed_for, put, after, with_completed}
 use Rattle.mq_trace.specs.Emission.{event_refusal, next_placed}
 use Rattle.mq_trace.specs.Keeping.{state_in, spelled_from, IsAt, context_of, begun_in, IsUnfinished, IsSound, Advances}
 use Rattle.mq_trace.specs.Stepping.{marked, leaving}
@@ -23,12 +23,12 @@ use Rattle.mq_trace.proofs.FramingLaws.{body_length-append, kind_of-append}
 use Rattle.mq_trace.proofs.StageLaws.{one_step, begun_some, head_behind, head_room, head_is, head_long, head_opens}
 
 -- What a step that completes an event does with each part: what it meets, what is received, and what is kept.
-abbrev pub Tells : Reading → ℕ → Event → Type 0
-Tells r b event = (part : List ℕ) → IsAt r.stage part → (refusal_for r.limit (context_of r part) b ≡ event_refusal r.at r.connections event)
+abbrev pub CompletesEvent : Reading → ℕ → Event → Type 0
+CompletesEvent r b event = (part : List ℕ) → IsAt r.stage part → (refusal_for r.limit (context_of r part) b ≡ event_refusal r.at r.connections event)
     × (placed_for (context_of r part) b ≡ Some (next_placed r.connections (r.records + 1) event))
     × (after (context_of r part) b ≡ context_of (marked r event) [])
 
-pub emits_advances : (r : Reading) (b : ℕ) (event : Event) → Tells r b event → event_refusal r.at r.connections event ≡ None
+pub emits_advances : (r : Reading) (b : ℕ) (event : Event) → CompletesEvent r b event → event_refusal r.at r.connections event ≡ None
     → Advances r (marked r event) (b ∷ []) (next_placed r.connections (r.records + 1) event ∷ [])
 emits_advances r b event emits met = one_step r (marked r event) b (next_placed r.connections (r.records + 1) event ∷ []) refl (λ part at. (
     let emitted = emits part at in
@@ -48,7 +48,7 @@ marked_sound r event sound some few =
       recv = sound.recv;
     }
 
--- The length that a whole head tells.
+-- The length that a whole head says.
 fourth : (first : ℕ) (bytes : List ℕ) (b : ℕ) → length bytes ≡ 3 → body_length ((first ∷ bytes) ++ b ∷ []) ≡ spelled_from 0 bytes * 256 + b
 fourth first [] b e = absurd (omega arith)
 fourth first (x ∷ []) b e = absurd (omega arith)
@@ -100,7 +100,7 @@ module _ (r : Reading) (kind : RecordKind) (number b : ℕ) (sound : IsSound r) 
   ended_event : (part : List ℕ) → IsAt r.stage part → event_for (context_of r part) b ≡ event_of_head kind
   ended_event part at = fifth_event (context_of r part) b kind (head_behind r kind 3 number sound staged) (ended_four part at) (ended_kind part at)
 
-  ended_after : (part : List ℕ) → IsAt r.stage part → after (context_of r part) b ≡ with_heard (record (context_of r part) {
+  ended_after : (part : List ℕ) → IsAt r.stage part → after (context_of r part) b ≡ with_completed (record (context_of r part) {
     at = r.at + 1;
     part = cond (emitted == 0) [] (part ++ b ∷ []);
     records = cond (emitted == 0) (r.records + 1) r.records;
@@ -109,8 +109,8 @@ module _ (r : Reading) (kind : RecordKind) (number b : ℕ) (sound : IsSound r) 
       let c = context_of r part in
       let kept : ℕ → Context = λ m. record c { at = r.at + 1; part = cond (m == 0) [] (part ++ b ∷ []); records = cond (m == 0) (r.records + 1) r.records } in
       fifth_after c b (head_behind r kind 3 number sound staged) (ended_four part at) (head_opens r kind 3 number sound staged part at)
-      ∙ ap (λ m. with_heard (kept m) (event_for c b)) (ended_length part at)
-      ∙ ap (with_heard (kept emitted)) (ended_event part at)
+      ∙ ap (λ m. with_completed (kept m) (event_for c b)) (ended_length part at)
+      ∙ ap (with_completed (kept emitted)) (ended_event part at)
 
   allowed_refusal : allows_length (Some kind) emitted ≡ true → (part : List ℕ) → IsAt r.stage part → refusal_for r.limit (context_of r part) b ≡ head_refusal kind r.at r.connections
   allowed_refusal allowed part at =
@@ -122,15 +122,15 @@ module _ (r : Reading) (kind : RecordKind) (number b : ℕ) (sound : IsSound r) 
       ended_refusal part at ∙ ap (λ t. cond (not t) (Some (refusals.Length r.at)) (head_refusal kind r.at r.connections)) barred
 
   -- A record that is its head alone.
-  pub mark_emits : (event : Event) → event_of_head kind ≡ Some event → allows_length (Some kind) emitted ≡ true → Tells r b event
+  pub mark_emits : (event : Event) → event_of_head kind ≡ Some event → allows_length (Some kind) emitted ≡ true → CompletesEvent r b event
   mark_emits event is allowed part at =
       let c = context_of r part in
       let none = no_body kind event emitted is allowed in (
         allowed_refusal allowed part at ∙ head_meets kind event r.at r.connections is,
         placed_some c b event (ended_event part at ∙ is),
         ended_after part at
-            ∙ ap (λ m. with_heard (record c { at = r.at + 1; part = cond (m == 0) [] (part ++ b ∷ []); records = cond (m == 0) (r.records + 1) r.records }) (event_of_head kind)) none
-            ∙ ap (with_heard (record c { at = r.at + 1; part = []; records = r.records + 1 })) is,
+            ∙ ap (λ m. with_completed (record c { at = r.at + 1; part = cond (m == 0) [] (part ++ b ∷ []); records = cond (m == 0) (r.records + 1) r.records }) (event_of_head kind)) none
+            ∙ ap (with_completed (record c { at = r.at + 1; part = []; records = r.records + 1 })) is,
       )
 
   quiet_refusal : event_of_head kind ≡ None → allows_length (Some kind) emitted ≡ true → (part : List ℕ) → IsAt r.stage part → refusal_for r.limit (context_of r part) b ≡ None
@@ -144,7 +144,7 @@ module _ (r : Reading) (kind : RecordKind) (number b : ℕ) (sound : IsSound r) 
   }
   quiet_after is part at =
       ended_after part at
-      ∙ ap (with_heard (record (context_of r part) { at = r.at + 1; part = cond (emitted == 0) [] (part ++ b ∷ []); records = cond (emitted == 0) (r.records + 1) r.records })) is
+      ∙ ap (with_completed (record (context_of r part) { at = r.at + 1; part = cond (emitted == 0) [] (part ++ b ∷ []); records = cond (emitted == 0) (r.records + 1) r.records })) is
 
   longer : (part : List ℕ) → IsAt r.stage part → length (part ++ b ∷ []) ≡ 5
   longer part at = let l = length-append part (b ∷ []) in let four = ended_four part at in omega arith
@@ -277,7 +277,7 @@ split_six (p ∷ q ∷ s ∷ t ∷ u ∷ []) e = absurd (omega arith)
 split_six (p ∷ q ∷ s ∷ t ∷ u ∷ v ∷ []) e = (p ∷ q ∷ s ∷ t ∷ u ∷ [], v, refl, refl, refl)
 split_six (p ∷ q ∷ s ∷ t ∷ u ∷ v ∷ w ∷ part) e = absurd (omega arith)
 
-pub release_emits : (r : Reading) (high b : ℕ) → IsSound r → r.stage ≡ stages.Release (Some high) → Tells r b (released (from_be_bytes w16 (high ∷ b ∷ [])))
+pub release_emits : (r : Reading) (high b : ℕ) → IsSound r → r.stage ≡ stages.Release (Some high) → CompletesEvent r b (released (from_be_bytes w16 (high ∷ b ∷ [])))
 release_emits r high b sound staged part at =
     let c = context_of r part in
     let some : begun_in r.stage ≡ 6 = ap begun_in staged in

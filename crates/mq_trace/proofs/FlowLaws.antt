@@ -15,9 +15,9 @@ use Rattle.mq_trace.specs.declared.refusal.Refusal.TheVariants as refusals
 use Rattle.mq_trace.specs.Events.{lost, Item, Event, item_at, item_read, read_frame}
 use Rattle.mq_trace.specs.Refusals.{first_standing, is_too_large, is_other_version}
 use Rattle.mq_trace.specs.Context.{StreamState, so_far_in, state_after, put}
-use Rattle.mq_trace.specs.Flows.{BodyContext, Flow, going, comes_early, flow_event, flow_refusal, flow_placed, flow_placed_with, flow_with, flow_after, flow_behind, flow_refused, flow_heard}
+use Rattle.mq_trace.specs.Flows.{BodyContext, Flow, item_event, comes_early, flow_event, flow_refusal, flow_placed, flow_placed_with, flow_with, flow_after, flow_behind, flow_refused, flow_events}
 
--- What bytes leave after them, refuse and complete is told by any two parts of them.
+-- Any two parts of some bytes give what the bytes leave after them, refuse and complete.
 pub behind-append : (context : BodyContext) (f : Flow) (a b : List ℕ) → flow_behind context f (a ++ b) ≡ flow_behind context (flow_behind context f a) b
 behind-append context f [] b = refl
 behind-append context f (byte ∷ a) b = behind-append context (flow_after context f byte) a b
@@ -32,11 +32,11 @@ refused-append limit context f (byte ∷ a) b =
     ap (option_or (flow_refusal limit context f byte)) (refused-append limit context (flow_after context f byte) a b)
     ∙ option_or_assoc (flow_refusal limit context f byte) (flow_refused limit context (flow_after context f byte) a) (flow_refused limit context (flow_behind context (flow_after context f byte) a) b)
 
-pub heard-append : (context : BodyContext) (f : Flow) (a b : List ℕ) → flow_heard context f (a ++ b) ≡ flow_heard context (flow_behind context f a) b ++ flow_heard context f a
-heard-append context f [] b = sym (append-nil (flow_heard context f b))
-heard-append context f (byte ∷ a) b =
-    ap (λ heard. heard ++ put (flow_placed context f byte) []) (heard-append context (flow_after context f byte) a b)
-    ∙ append_assoc (flow_heard context (flow_behind context (flow_after context f byte) a) b) (flow_heard context (flow_after context f byte) a) (put (flow_placed context f byte) [])
+pub events-append : (context : BodyContext) (f : Flow) (a b : List ℕ) → flow_events context f (a ++ b) ≡ flow_events context (flow_behind context f a) b ++ flow_events context f a
+events-append context f [] b = sym (append-nil (flow_events context f b))
+events-append context f (byte ∷ a) b =
+    ap (λ completed. completed ++ put (flow_placed context f byte) []) (events-append context (flow_after context f byte) a b)
+    ∙ append_assoc (flow_events context (flow_behind context (flow_after context f byte) a) b) (flow_events context (flow_after context f byte) a) (put (flow_placed context f byte) [])
 
 -- the refusal of a byte, from its packet so far and its event
 abbrev refusal_with : ℕ → Flow → List ℕ → Option Event → Option Refusal
@@ -47,9 +47,9 @@ refusal_with limit f so_far event = first_standing (
     ∷ (is_some event && nat_le 4294967295 f.events, refusals.TooLong f.at)
     ∷ [])
 
-event_is : (context : BodyContext) (f : Flow) (byte : ℕ) (so_far : List ℕ) (item : Option Item) → so_far_in f.state byte ≡ so_far → item_at so_far ≡ item → flow_event context f byte ≡ option_map (going context.direction) item
+event_is : (context : BodyContext) (f : Flow) (byte : ℕ) (so_far : List ℕ) (item : Option Item) → so_far_in f.state byte ≡ so_far → item_at so_far ≡ item → flow_event context f byte ≡ option_map (item_event context.direction) item
 unfolding flow_event
-event_is context f byte so_far item e i = ap (λ t. option_map (going context.direction) (item_at t)) e ∙ ap (option_map (going context.direction)) i
+event_is context f byte so_far item e i = ap (λ t. option_map (item_event context.direction) (item_at t)) e ∙ ap (option_map (item_event context.direction)) i
 
 refusal_is : (limit : ℕ) (context : BodyContext) (f : Flow) (byte : ℕ) (so_far : List ℕ) (event : Option Event) → so_far_in f.state byte ≡ so_far → flow_event context f byte ≡ event
     → flow_refusal limit context f byte ≡ refusal_with limit f so_far event
@@ -69,7 +69,7 @@ placed_is context f byte event i = ap (flow_placed_with context f) i
 -- What bytes do that complete nothing and aren't refused.
 pub record IsQuiet (limit : ℕ) (context : BodyContext) (f : Flow) (bytes : List ℕ) (state : StreamState) : Type 0 where
   pub refused : flow_refused limit context f bytes ≡ None
-  pub heard : flow_heard context f bytes ≡ []
+  pub completed : flow_events context f bytes ≡ []
   pub behind : flow_behind context f bytes ≡ record f { at = f.at + length bytes; state = state }
 
 -- the same of one byte
@@ -79,7 +79,7 @@ record IsQuietByte (limit : ℕ) (context : BodyContext) (f : Flow) (byte : ℕ)
   behind : flow_after context f byte ≡ record f { at = f.at + 1; state = state }
 
 quiet_none : (limit : ℕ) (context : BodyContext) (f : Flow) (state : StreamState) → f.state ≡ state → IsQuiet limit context f [] state
-quiet_none limit context f state e = record { refused = refl; heard = refl; behind = ap (λ x. record f { state = x }) e ∙ ap (λ n. record f { at = n; state = state }) (let same : f.at ≡ f.at + length {A = ℕ} [] = omega arith in same) }
+quiet_none limit context f state e = record { refused = refl; completed = refl; behind = ap (λ x. record f { state = x }) e ∙ ap (λ n. record f { at = n; state = state }) (let same : f.at ≡ f.at + length {A = ℕ} [] = omega arith in same) }
 
 quiet_more : (limit : ℕ) (context : BodyContext) (f : Flow) (byte : ℕ) (bytes : List ℕ) (between state : StreamState)
     → IsQuietByte limit context f byte between → IsQuiet limit context (record f { at = f.at + 1; state = between }) bytes state → IsQuiet limit context f (byte ∷ bytes) state
@@ -87,9 +87,9 @@ quiet_more limit context f byte bytes between state one more =
     let counted : f.at + 1 + length bytes ≡ f.at + length (byte ∷ bytes) = omega arith in
     record {
       refused = ap (λ o. option_or o (flow_refused limit context (flow_after context f byte) bytes)) one.refused ∙ ap (λ g. flow_refused limit context g bytes) one.behind ∙ more.refused;
-      heard = ap (λ g. flow_heard context g bytes ++ put (flow_placed context f byte) []) one.behind
-          ∙ ap (λ placed. flow_heard context (record f { at = f.at + 1; state = between }) bytes ++ put placed []) one.placed
-          ∙ append-nil (flow_heard context (record f { at = f.at + 1; state = between }) bytes) ∙ more.heard;
+      completed = ap (λ g. flow_events context g bytes ++ put (flow_placed context f byte) []) one.behind
+          ∙ ap (λ placed. flow_events context (record f { at = f.at + 1; state = between }) bytes ++ put placed []) one.placed
+          ∙ append-nil (flow_events context (record f { at = f.at + 1; state = between }) bytes) ∙ more.completed;
       behind = ap (λ g. flow_behind context g bytes) one.behind ∙ more.behind ∙ ap (λ n. record f { at = n; state = state }) counted;
     }
 
@@ -124,8 +124,8 @@ lost_quiet limit context f (byte ∷ bytes) e = quiet_more limit context f byte 
 pub lost-refused : (limit : ℕ) (context : BodyContext) (f : Flow) (bytes : List ℕ) → f.state.lost ≡ true → flow_refused limit context f bytes ≡ None
 lost-refused limit context f bytes e = (lost_quiet limit context f bytes e).refused
 
-pub lost-heard : (context : BodyContext) (f : Flow) (bytes : List ℕ) → f.state.lost ≡ true → flow_heard context f bytes ≡ []
-lost-heard context f bytes e = (lost_quiet 0 context f bytes e).heard
+pub lost-events : (context : BodyContext) (f : Flow) (bytes : List ℕ) → f.state.lost ≡ true → flow_events context f bytes ≡ []
+lost-events context f bytes e = (lost_quiet 0 context f bytes e).completed
 
 pub lost-behind : (context : BodyContext) (f : Flow) (bytes : List ℕ) → f.state.lost ≡ true → flow_behind context f bytes ≡ record f { at = f.at + length bytes }
 lost-behind context f bytes e = (lost_quiet 0 context f bytes e).behind
@@ -243,61 +243,61 @@ short_quiet limit context f u (byte ∷ bytes) e short =
     (short_byte limit context f u byte e (short_before (u ++ byte ∷ []) bytes short'))
     (short_quiet limit context (record f { at = f.at + 1; state = going_on (u ++ byte ∷ []) }) (u ++ byte ∷ []) bytes refl short'))
 
--- Bytes of a packet that isn't whole with them do nothing but stay, unless its size, told by one of them, is over the limit.
+-- Bytes of a packet that isn't whole with them do nothing but stay, unless its size, which one of them shows, is over the limit.
 pub quiet-refused : (limit : ℕ) (context : BodyContext) (f : Flow) (u bytes : List ℕ) (header size : ℕ) → f.state ≡ record { unfinished = u; lost = false }
     → fixed_header_of (u ++ bytes) ≡ headers.Whole header size → length (u ++ bytes) < size → (size ≤ limit) ⊎ (header ≤ length u)
     → flow_refused limit context f bytes ≡ None
 quiet-refused limit context f u bytes header size e whole less may = (unfinished_quiet limit context f u bytes header size e whole less may).refused
 
-pub quiet-heard : (context : BodyContext) (f : Flow) (u bytes : List ℕ) (header size : ℕ) → f.state ≡ record { unfinished = u; lost = false }
+pub quiet-events : (context : BodyContext) (f : Flow) (u bytes : List ℕ) (header size : ℕ) → f.state ≡ record { unfinished = u; lost = false }
     → fixed_header_of (u ++ bytes) ≡ headers.Whole header size → length (u ++ bytes) < size
-    → flow_heard context f bytes ≡ []
-quiet-heard context f u bytes header size e whole less = (unfinished_quiet size context f u bytes header size e whole less (inl (omega arith))).heard
+    → flow_events context f bytes ≡ []
+quiet-events context f u bytes header size e whole less = (unfinished_quiet size context f u bytes header size e whole less (inl (omega arith))).completed
 
 pub quiet-behind : (context : BodyContext) (f : Flow) (u bytes : List ℕ) (header size : ℕ) → f.state ≡ record { unfinished = u; lost = false }
     → fixed_header_of (u ++ bytes) ≡ headers.Whole header size → length (u ++ bytes) < size
     → flow_behind context f bytes ≡ record f { at = f.at + length bytes; state = record { unfinished = u ++ bytes; lost = false } }
 quiet-behind context f u bytes header size e whole less = (unfinished_quiet size context f u bytes header size e whole less (inl (omega arith))).behind
 
--- The same where they don't tell its size.
+-- The same where they don't show its size.
 pub short-refused : (limit : ℕ) (context : BodyContext) (f : Flow) (u bytes : List ℕ) → f.state ≡ record { unfinished = u; lost = false } → fixed_header_of (u ++ bytes) ≡ headers.Short
     → flow_refused limit context f bytes ≡ None
 short-refused limit context f u bytes e short = (short_quiet limit context f u bytes e short).refused
 
-pub short-heard : (context : BodyContext) (f : Flow) (u bytes : List ℕ) → f.state ≡ record { unfinished = u; lost = false } → fixed_header_of (u ++ bytes) ≡ headers.Short
-    → flow_heard context f bytes ≡ []
-short-heard context f u bytes e short = (short_quiet 0 context f u bytes e short).heard
+pub short-events : (context : BodyContext) (f : Flow) (u bytes : List ℕ) → f.state ≡ record { unfinished = u; lost = false } → fixed_header_of (u ++ bytes) ≡ headers.Short
+    → flow_events context f bytes ≡ []
+short-events context f u bytes e short = (short_quiet 0 context f u bytes e short).completed
 
 pub short-behind : (context : BodyContext) (f : Flow) (u bytes : List ℕ) → f.state ≡ record { unfinished = u; lost = false } → fixed_header_of (u ++ bytes) ≡ headers.Short
     → flow_behind context f bytes ≡ record f { at = f.at + length bytes; state = record { unfinished = u ++ bytes; lost = false } }
 short-behind context f u bytes e short = (short_quiet 0 context f u bytes e short).behind
 
-lost_event : (context : BodyContext) (f : Flow) (u : List ℕ) (byte : ℕ) → f.state ≡ going_on u → is_lost (u ++ byte ∷ []) ≡ true → flow_event context f byte ≡ Some (going context.direction lost)
+lost_event : (context : BodyContext) (f : Flow) (u : List ℕ) (byte : ℕ) → f.state ≡ going_on u → is_lost (u ++ byte ∷ []) ≡ true → flow_event context f byte ≡ Some (item_event context.direction lost)
 lost_event context f u byte e l =
     event_is context f byte (u ++ byte ∷ []) (Some lost) (ap (λ state. so_far_in state byte) e) (item_by (u ++ byte ∷ []) true None l (lost_no_frame (u ++ byte ∷ []) l))
 
-lost_in_time : (direction : Direction) (f : Flow) → comes_early f (Some (going direction lost)) ≡ false
+lost_in_time : (direction : Direction) (f : Flow) → comes_early f (Some (item_event direction lost)) ≡ false
 lost_in_time directions.Sent f = refl
 lost_in_time directions.Recv f = refl
 
 -- Where it turns out with a byte that its packet has no size, the direction is lost.
 pub loses-event : (context : BodyContext) (f : Flow) (u : List ℕ) (byte : ℕ) → f.state ≡ record { unfinished = u; lost = false } → is_lost (u ++ byte ∷ []) ≡ true
-    → flow_event context f byte ≡ Some (going context.direction lost)
+    → flow_event context f byte ≡ Some (item_event context.direction lost)
 loses-event context f u byte e l = lost_event context f u byte e l
 
 pub loses-refusal : (limit : ℕ) (context : BodyContext) (f : Flow) (u : List ℕ) (byte : ℕ) → f.state ≡ record { unfinished = u; lost = false } → is_lost (u ++ byte ∷ []) ≡ true
     → flow_refusal limit context f byte ≡ first_standing ((nat_le 4294967295 f.events, refusals.TooLong f.at) ∷ [])
 loses-refusal limit context f u byte e l =
-    refusal_is limit context f byte (u ++ byte ∷ []) (Some (going context.direction lost)) (ap (λ state. so_far_in state byte) e) (lost_event context f u byte e l)
+    refusal_is limit context f byte (u ++ byte ∷ []) (Some (item_event context.direction lost)) (ap (λ state. so_far_in state byte) e) (lost_event context f u byte e l)
     ∙ rw (lost_header (u ++ byte ∷ []) l, lost_no_frame (u ++ byte ∷ []) l, lost_in_time context.direction f) refl
 
 pub loses-after : (context : BodyContext) (f : Flow) (u : List ℕ) (byte : ℕ) → f.state ≡ record { unfinished = u; lost = false } → is_lost (u ++ byte ∷ []) ≡ true
-    → flow_after context f byte ≡ flow_with context (record f { at = f.at + 1; state = record { unfinished = []; lost = true } }) (Some (going context.direction lost))
+    → flow_after context f byte ≡ flow_with context (record f { at = f.at + 1; state = record { unfinished = []; lost = true } }) (Some (item_event context.direction lost))
 loses-after context f u byte e l =
-    after_is context f byte (record { unfinished = []; lost = true }) (Some (going context.direction lost))
+    after_is context f byte (record { unfinished = []; lost = true }) (Some (item_event context.direction lost))
     (ap (λ state. state_after state byte) e ∙ state_by_front u byte true None l (lost_no_frame (u ++ byte ∷ []) l)) (lost_event context f u byte e l)
 
--- The byte that tells a size over the limit is refused.
+-- The byte that shows a size over the limit is refused.
 pub large-refusal : (limit : ℕ) (context : BodyContext) (f : Flow) (u : List ℕ) (byte header size : ℕ) → f.state ≡ record { unfinished = u; lost = false }
     → fixed_header_of (u ++ byte ∷ []) ≡ headers.Whole header size → header ≡ length (u ++ byte ∷ []) → limit < size
     → flow_refusal limit context f byte ≡ Some (refusals.TooLarge f.at)
@@ -306,8 +306,8 @@ large-refusal limit context f u byte header size e whole ends over =
     ∙ rw (whole, eq-eqb header (length (u ++ byte ∷ [])) ends, lt-ltb limit size over) refl
 
 pub loses-placed : (context : BodyContext) (f : Flow) (u : List ℕ) (byte : ℕ) → f.state ≡ record { unfinished = u; lost = false } → is_lost (u ++ byte ∷ []) ≡ true
-    → flow_placed context f byte ≡ flow_placed_with context f (Some (going context.direction lost))
-loses-placed context f u byte e l = placed_is context f byte (Some (going context.direction lost)) (lost_event context f u byte e l)
+    → flow_placed context f byte ≡ flow_placed_with context f (Some (item_event context.direction lost))
+loses-placed context f u byte e l = placed_is context f byte (Some (item_event context.direction lost)) (lost_event context f u byte e l)
 
 -- One byte is refused as the only one of its list.
 pub refused-one : (limit : ℕ) (context : BodyContext) (f : Flow) (byte : ℕ) → flow_refused limit context f (byte ∷ []) ≡ flow_refusal limit context f byte
@@ -317,7 +317,7 @@ refused-one limit context f byte = or_none (flow_refusal limit context f byte)
     or_none (Some refusal) = refl
     or_none None = refl
 
--- A header that is told by more bytes than its packet has is told by its packet.
+-- A header that more bytes than its packet's show is shown by its packet.
 pub header_stood : (a c : List ℕ) (header size : ℕ) → fixed_header_of (a ++ c) ≡ headers.Whole header size → size ≤ length a → fixed_header_of a ≡ headers.Whole header size
 header_stood a c header size e fit =
     let longer : length (a ++ c) ≡ length a + length c = length-append a c in
@@ -328,7 +328,7 @@ header_stood a c header size e fit =
 
 -- the event that a whole frame is
 abbrev frame_event : BodyContext → List ℕ → Option Event
-frame_event context frame = option_map (going context.direction) (item_read (length frame) (slice_index frame 0) (read_frame frame))
+frame_event context frame = option_map (item_event context.direction) (item_read (length frame) (slice_index frame 0) (read_frame frame))
 
 -- the lines for a byte that completes a packet
 abbrev frame_lines : Flow → List ℕ → Option Event → ℕ → Option Refusal
@@ -411,13 +411,13 @@ module _ (context : BodyContext) (f : Flow) (u p : List ℕ) (byte : ℕ) (e : f
   same_place None = refl
   same_place (Some event) = refl
 
-  all_heard : flow_heard context f (p ++ byte ∷ []) ≡ put (flow_placed_with context f (frame_event context ((u ++ p) ++ byte ∷ []))) []
-  all_heard =
+  all_events : flow_events context f (p ++ byte ∷ []) ≡ put (flow_placed_with context f (frame_event context ((u ++ p) ++ byte ∷ []))) []
+  all_events =
       let quiet : IsQuiet size context f p (going_on (u ++ p)) = until_last size (inl (omega arith)) in
-      heard-append context f p (byte ∷ [])
-      ∙ ap (λ heard. flow_heard context (flow_behind context f p) (byte ∷ []) ++ heard) quiet.heard
-      ∙ append-nil (flow_heard context (flow_behind context f p) (byte ∷ []))
-      ∙ ap (λ g. flow_heard context g (byte ∷ [])) quiet.behind
+      events-append context f p (byte ∷ [])
+      ∙ ap (λ completed. flow_events context (flow_behind context f p) (byte ∷ []) ++ completed) quiet.completed
+      ∙ append-nil (flow_events context (flow_behind context f p) (byte ∷ []))
+      ∙ ap (λ g. flow_events context g (byte ∷ [])) quiet.behind
       ∙ ap (λ placed. put placed []) (placed_is context before byte (frame_event context ((u ++ p) ++ byte ∷ [])) (last_event context before (u ++ p) byte refl last_whole)
       ∙ same_place (frame_event context ((u ++ p) ++ byte ∷ [])))
 
@@ -457,8 +457,8 @@ pub complete-refused : (limit : ℕ) (context : BodyContext) (f : Flow) (u bytes
     → fixed_header_of (u ++ bytes) ≡ headers.Whole header size → size ≡ length (u ++ bytes) → 0 < length bytes → at + 1 ≡ f.at + length bytes → (size ≤ limit) ⊎ (header ≤ length u)
     → flow_refused limit context f bytes ≡ first_standing (
     (is_other_version (read_frame (u ++ bytes)), refusals.OtherVersion at)
-    ∷ (comes_early f (option_map (going context.direction) (item_read (length (u ++ bytes)) (slice_index (u ++ bytes) 0) (read_frame (u ++ bytes)))), refusals.Early at)
-    ∷ (is_some (option_map (going context.direction) (item_read (length (u ++ bytes)) (slice_index (u ++ bytes) 0) (read_frame (u ++ bytes)))) && nat_le 4294967295 f.events, refusals.TooLong at)
+    ∷ (comes_early f (option_map (item_event context.direction) (item_read (length (u ++ bytes)) (slice_index (u ++ bytes) 0) (read_frame (u ++ bytes)))), refusals.Early at)
+    ∷ (is_some (option_map (item_event context.direction) (item_read (length (u ++ bytes)) (slice_index (u ++ bytes) 0) (read_frame (u ++ bytes)))) && nat_le 4294967295 f.events, refusals.TooLong at)
     ∷ [])
 complete-refused limit context f u bytes header size at e known all some last may =
     let cut : HasLast bytes = has_last bytes some in
@@ -470,20 +470,20 @@ complete-refused limit context f u bytes header size at e known all some last ma
     ∙ ap (λ t. frame_lines f t (frame_event context t) (f.at + length cut.before)) frame
     ∙ ap (frame_lines f (u ++ bytes) (frame_event context (u ++ bytes))) place
 
-pub complete-heard : (context : BodyContext) (f : Flow) (u bytes : List ℕ) (header size : ℕ) → f.state ≡ record { unfinished = u; lost = false }
+pub complete-events : (context : BodyContext) (f : Flow) (u bytes : List ℕ) (header size : ℕ) → f.state ≡ record { unfinished = u; lost = false }
     → fixed_header_of (u ++ bytes) ≡ headers.Whole header size → size ≡ length (u ++ bytes) → 0 < length bytes
-    → flow_heard context f bytes ≡ put (flow_placed_with context f (option_map (going context.direction) (item_read (length (u ++ bytes)) (slice_index (u ++ bytes) 0) (read_frame (u ++ bytes))))) []
-complete-heard context f u bytes header size e known all some =
+    → flow_events context f bytes ≡ put (flow_placed_with context f (option_map (item_event context.direction) (item_read (length (u ++ bytes)) (slice_index (u ++ bytes) 0) (read_frame (u ++ bytes))))) []
+complete-events context f u bytes header size e known all some =
     let cut : HasLast bytes = has_last bytes some in
     let frame : (u ++ cut.before) ++ cut.byte ∷ [] ≡ u ++ bytes = rejoined u bytes cut.before cut.byte cut.joined in
-    ap (flow_heard context f) cut.joined
-    ∙ all_heard context f u cut.before cut.byte e header size (ap fixed_header_of frame ∙ known) (all ∙ ap length (sym frame))
+    ap (flow_events context f) cut.joined
+    ∙ all_events context f u cut.before cut.byte e header size (ap fixed_header_of frame ∙ known) (all ∙ ap length (sym frame))
     ∙ ap (λ t. put (flow_placed_with context f (frame_event context t)) []) frame
 
 pub complete-behind : (context : BodyContext) (f : Flow) (u bytes : List ℕ) (header size : ℕ) → f.state ≡ record { unfinished = u; lost = false }
     → fixed_header_of (u ++ bytes) ≡ headers.Whole header size → size ≡ length (u ++ bytes) → 0 < length bytes
     → flow_behind context f bytes ≡ flow_with context (record f { at = f.at + length bytes; state = record { unfinished = []; lost = false } })
-    (option_map (going context.direction) (item_read (length (u ++ bytes)) (slice_index (u ++ bytes) 0) (read_frame (u ++ bytes))))
+    (option_map (item_event context.direction) (item_read (length (u ++ bytes)) (slice_index (u ++ bytes) 0) (read_frame (u ++ bytes))))
 complete-behind context f u bytes header size e known all some =
     let cut : HasLast bytes = has_last bytes some in
     let frame : (u ++ cut.before) ++ cut.byte ∷ [] ≡ u ++ bytes = rejoined u bytes cut.before cut.byte cut.joined in
@@ -497,24 +497,24 @@ pub complete-refused-within : (limit : ℕ) (context : BodyContext) (f : Flow) (
     → frame_size (u ++ bytes) ≡ Some (length (u ++ bytes)) → 0 < length bytes → at + 1 ≡ f.at + length bytes → length (u ++ bytes) ≤ limit
     → flow_refused limit context f bytes ≡ first_standing (
     (is_other_version (read_frame (u ++ bytes)), refusals.OtherVersion at)
-    ∷ (comes_early f (option_map (going context.direction) (item_read (length (u ++ bytes)) (slice_index (u ++ bytes) 0) (read_frame (u ++ bytes)))), refusals.Early at)
-    ∷ (is_some (option_map (going context.direction) (item_read (length (u ++ bytes)) (slice_index (u ++ bytes) 0) (read_frame (u ++ bytes)))) && nat_le 4294967295 f.events, refusals.TooLong at)
+    ∷ (comes_early f (option_map (item_event context.direction) (item_read (length (u ++ bytes)) (slice_index (u ++ bytes) 0) (read_frame (u ++ bytes)))), refusals.Early at)
+    ∷ (is_some (option_map (item_event context.direction) (item_read (length (u ++ bytes)) (slice_index (u ++ bytes) 0) (read_frame (u ++ bytes)))) && nat_le 4294967295 f.events, refusals.TooLong at)
     ∷ [])
 complete-refused-within limit context f u bytes at e whole some last within =
     let found : (header : ℕ) × (fixed_header_of (u ++ bytes) ≡ headers.Whole header (length (u ++ bytes))) × (length (u ++ bytes) ≤ length (u ++ bytes)) = header_from_frame (u ++ bytes) (length (u ++ bytes)) whole in
     complete-refused limit context f u bytes found.0 (length (u ++ bytes)) at e found.1 refl some last (inl within)
 
-pub complete-heard-frame : (context : BodyContext) (f : Flow) (u bytes : List ℕ) → f.state ≡ record { unfinished = u; lost = false }
+pub complete-events-frame : (context : BodyContext) (f : Flow) (u bytes : List ℕ) → f.state ≡ record { unfinished = u; lost = false }
     → frame_size (u ++ bytes) ≡ Some (length (u ++ bytes)) → 0 < length bytes
-    → flow_heard context f bytes ≡ put (flow_placed_with context f (option_map (going context.direction) (item_read (length (u ++ bytes)) (slice_index (u ++ bytes) 0) (read_frame (u ++ bytes))))) []
-complete-heard-frame context f u bytes e whole some =
+    → flow_events context f bytes ≡ put (flow_placed_with context f (option_map (item_event context.direction) (item_read (length (u ++ bytes)) (slice_index (u ++ bytes) 0) (read_frame (u ++ bytes))))) []
+complete-events-frame context f u bytes e whole some =
     let found : (header : ℕ) × (fixed_header_of (u ++ bytes) ≡ headers.Whole header (length (u ++ bytes))) × (length (u ++ bytes) ≤ length (u ++ bytes)) = header_from_frame (u ++ bytes) (length (u ++ bytes)) whole in
-    complete-heard context f u bytes found.0 (length (u ++ bytes)) e found.1 refl some
+    complete-events context f u bytes found.0 (length (u ++ bytes)) e found.1 refl some
 
 pub complete-behind-frame : (context : BodyContext) (f : Flow) (u bytes : List ℕ) → f.state ≡ record { unfinished = u; lost = false }
     → frame_size (u ++ bytes) ≡ Some (length (u ++ bytes)) → 0 < length bytes
     → flow_behind context f bytes ≡ flow_with context (record f { at = f.at + length bytes; state = record { unfinished = []; lost = false } })
-    (option_map (going context.direction) (item_read (length (u ++ bytes)) (slice_index (u ++ bytes) 0) (read_frame (u ++ bytes))))
+    (option_map (item_event context.direction) (item_read (length (u ++ bytes)) (slice_index (u ++ bytes) 0) (read_frame (u ++ bytes))))
 complete-behind-frame context f u bytes e whole some =
     let found : (header : ℕ) × (fixed_header_of (u ++ bytes) ≡ headers.Whole header (length (u ++ bytes))) × (length (u ++ bytes) ≤ length (u ++ bytes)) = header_from_frame (u ++ bytes) (length (u ++ bytes)) whole in
     complete-behind context f u bytes found.0 (length (u ++ bytes)) e found.1 refl some

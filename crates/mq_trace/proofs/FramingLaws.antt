@@ -18,7 +18,7 @@ body_length-append a c h =
     let four : 4 ≤ length (drop 1 a) = omega arith in
     rw (drop-append-le 1 a c one, take-append-le 4 (drop 1 a) c four) refl
 
--- a record of this size, told by the tests
+-- a record of this size, as the tests find it
 abbrev size_if : Bool → Bool → ℕ → Option ℕ
 size_if headless whole n = if headless then None else (if whole then Some n else None)
 
@@ -29,7 +29,7 @@ record_size-from a h =
     ap (λ b. size_if b (nat_le (5 + body_length a) (length a)) (5 + body_length a)) (le-ltb (length a) 5 five)
     ∙ ap (λ b. size_if false b (5 + body_length a)) (le-leb (5 + body_length a) (length a) h)
 
--- what a whole record tells of itself
+-- what a whole record says of itself
 pub record IsRecord (a : List ℕ) (n : ℕ) : Type 0 where
   pub size : n ≡ 5 + body_length a
   pub within : 5 + body_length a ≤ length a
@@ -122,7 +122,7 @@ pub rest-grow : (log : List ℕ) (byte : ℕ) → 8 ≤ length log
     → (records (log ++ byte ∷ [])).rest ≡ cond (is_some (record_size ((records log).rest ++ byte ∷ []))) [] ((records log).rest ++ byte ∷ [])
 rest-grow log byte h = ap (λ (p : Pieces). p.rest) (records-grow log byte h) ∙ rest_grown (record_size ((records log).rest ++ byte ∷ [])) (records log) byte
 
--- the kind of a record is told by its first byte
+-- the first byte of a record says its kind
 pub kind_of-append : (a c : List ℕ) → 0 < length a → kind_of (a ++ c) ≡ kind_of a
 unfolding kind_of
 kind_of-append [] c h = absurd (omega arith)

@@ -1,4 +1,4 @@
--- What a whole packet is, and what telling it meets.
+-- What a whole packet is, and what emitting it meets.
 use Rattle.std.proofs.Common.{◌≡◌, ℕ, ◌-◌, ◌<◌, ◌≤◌, Bool, true, false, List, [], ◌∷◌, length, take, drop, take_all, Option, Some, None, Result, Ok, Err, refl, sym, ap, ◌∙◌, subst, inl, arith}
 use Rattle.std.specs.Prelude.{slice_index, unwrap_or, option_map, OnOk, IfErr}
 use Rattle.std.proofs.lemmas.List.{length-drop}
@@ -19,8 +19,8 @@ use Rattle.mq_trace.specs.declared.connections.Connections.{Connections}
 use Rattle.mq_trace.specs.Events.{Item, Placed, packet, item_read, read_frame}
 use Rattle.mq_trace.specs.Refusals.{is_other_version}
 use Rattle.mq_trace.specs.Context.{StreamState, put}
-use Rattle.mq_trace.specs.Flows.{BodyContext, going, flow_placed_with}
-use Rattle.mq_trace.specs.Hearing.{AreEvents}
+use Rattle.mq_trace.specs.Flows.{BodyContext, item_event, flow_placed_with}
+use Rattle.mq_trace.specs.Reception.{AreEvents}
 use Rattle.mq_trace.specs.Emission.{event_refusal, connections_with, next_placed, NotEmitted}
 use Rattle.mq_trace.specs.Deframing.{flow_of, frame_event, frame_refusal, connections_then}
 
@@ -84,22 +84,22 @@ met_read at n b state c direction item (Ok entry) e = refl
 met_read at n b state c direction item (Err (Broken fault)) e = refl
 met_read at n b state c direction item (Err (OtherVersion version)) e = absurd (cc)
 
-frame_event_is : (direction : Direction) (frame : List ℕ) (item : Item) → item_read (length frame) (slice_index frame 0) (read_frame frame) ≡ Some item → frame_event direction frame ≡ Some (going direction item)
-frame_event_is direction frame item e = ap (option_map (going direction)) e
+frame_event_is : (direction : Direction) (frame : List ℕ) (item : Item) → item_read (length frame) (slice_index frame 0) (read_frame frame) ≡ Some item → frame_event direction frame ≡ Some (item_event direction item)
+frame_event_is direction frame item e = ap (option_map (item_event direction)) e
 
 pub met_item : (at : ℕ) (state : StreamState) (c : Connections) (direction : Direction) (frame : List ℕ) (item : Item) → item_read (length frame) (slice_index frame 0) (read_frame frame) ≡ Some item
-    → frame_refusal at (flow_of at state c) direction frame ≡ event_refusal at c (going direction item)
+    → frame_refusal at (flow_of at state c) direction frame ≡ event_refusal at c (item_event direction item)
 met_item at state c direction frame item e =
     (let other : is_other_version (read_frame frame) ≡ false = met_read at (length frame) (slice_index frame 0) state c direction item (read_frame frame) e in
-    let event : frame_event direction frame ≡ Some (going direction item) = frame_event_is direction frame item e in
+    let event : frame_event direction frame ≡ Some (item_event direction item) = frame_event_is direction frame item e in
     rw (other, event) refl)
 
 pub kept_item : (server : Bool) (c : Connections) (direction : Direction) (frame : List ℕ) (item : Item) → item_read (length frame) (slice_index frame 0) (read_frame frame) ≡ Some item
-    → connections_then server c (frame_event direction frame) ≡ connections_with server c (going direction item)
+    → connections_then server c (frame_event direction frame) ≡ connections_with server c (item_event direction item)
 kept_item server c direction frame item e = ap (connections_then server c) (frame_event_is direction frame item e)
 
 pub placed_item : (at : ℕ) (context : BodyContext) (state : StreamState) (c : Connections) (frame : List ℕ) (item : Item) → item_read (length frame) (slice_index frame 0) (read_frame frame) ≡ Some item
-    → flow_placed_with context (flow_of at state c) (frame_event context.direction frame) ≡ Some (next_placed c context.record_no (going context.direction item))
+    → flow_placed_with context (flow_of at state c) (frame_event context.direction frame) ≡ Some (next_placed c context.record_no (item_event context.direction item))
 placed_item at context state c frame item e = ap (flow_placed_with context (flow_of at state c)) (frame_event_is context.direction frame item e)
 
 -- A frame that is no item is of another protocol version.
@@ -111,25 +111,25 @@ other_read n b (Err (OtherVersion version)) e = refl
 pub met_other : (frame : List ℕ) → item_read (length frame) (slice_index frame 0) (read_frame frame) ≡ None → is_other_version (read_frame frame) ≡ true
 met_other frame e = other_read (length frame) (slice_index frame 0) (read_frame frame) e
 
--- Who was told of an item was told of the frame that is it.
+-- A sink that received an item received the frame that is it.
 module _ {S : Type 0} (agrees : S → List Placed → Type 0) (declines : S → S → List Placed → Refusal → Type 0) {A : Type 0} (r : Result A Refusal) (at : ℕ) (state : StreamState) (c : Connections) (context : BodyContext) (frame : List ℕ) (item : Item)
     (e : item_read (length frame) (slice_index frame 0) (read_frame frame) ≡ Some item) where
-  pub emitted_met : OnOk r (event_refusal at c (going context.direction item) ≡ None) → OnOk r (frame_refusal at (flow_of at state c) context.direction frame ≡ None)
+  pub emitted_met : OnOk r (event_refusal at c (item_event context.direction item) ≡ None) → OnOk r (frame_refusal at (flow_of at state c) context.direction frame ≡ None)
   emitted_met = subst (λ (m : Option Refusal). OnOk r (m ≡ None)) (sym (met_item at state c context.direction frame item e))
 
-  pub emitted_kept : (c' : Connections) → OnOk r (c' ≡ connections_with context.server c (going context.direction item)) → OnOk r (c' ≡ connections_then context.server c (frame_event context.direction frame))
+  pub emitted_kept : (c' : Connections) → OnOk r (c' ≡ connections_with context.server c (item_event context.direction item)) → OnOk r (c' ≡ connections_then context.server c (frame_event context.direction frame))
   emitted_kept c' = subst (λ (then' : Connections). OnOk r (c' ≡ then')) (sym (kept_item context.server c context.direction frame item e))
 
-  pub emitted_heard : (old new : S) → ((earlier : List Placed) → agrees old earlier → AreEvents (next_placed c context.record_no (going context.direction item) ∷ earlier) → OnOk r (agrees new (next_placed c context.record_no (going context.direction item) ∷ earlier)))
+  pub emitted_receives : (old new : S) → ((earlier : List Placed) → agrees old earlier → AreEvents (next_placed c context.record_no (item_event context.direction item) ∷ earlier) → OnOk r (agrees new (next_placed c context.record_no (item_event context.direction item) ∷ earlier)))
       → (earlier : List Placed) → agrees old earlier → AreEvents (put (flow_placed_with context (flow_of at state c) (frame_event context.direction frame)) earlier)
       → OnOk r (agrees new (put (flow_placed_with context (flow_of at state c) (frame_event context.direction frame)) earlier))
-  emitted_heard old new = subst (λ (o : Option Placed). (earlier : List Placed) → agrees old earlier → AreEvents (put o earlier) → OnOk r (agrees new (put o earlier))) (sym (placed_item at context state c frame item e))
+  emitted_receives old new = subst (λ (o : Option Placed). (earlier : List Placed) → agrees old earlier → AreEvents (put o earlier) → OnOk r (agrees new (put o earlier))) (sym (placed_item at context state c frame item e))
 
-  pub emitted_err : (old new : S) → IfErr r (λ refusal. NotEmitted declines at (event_refusal at c (going context.direction item)) (next_placed c context.record_no (going context.direction item) ∷ []) old new refusal)
+  pub emitted_err : (old new : S) → IfErr r (λ refusal. NotEmitted declines at (event_refusal at c (item_event context.direction item)) (next_placed c context.record_no (item_event context.direction item) ∷ []) old new refusal)
       → IfErr r (λ refusal. NotEmitted declines at (frame_refusal at (flow_of at state c) context.direction frame) (put (flow_placed_with context (flow_of at state c) (frame_event context.direction frame)) []) old new refusal)
   emitted_err old new unemitted =
       subst (λ (o : Option Placed). IfErr r (λ refusal. NotEmitted declines at (frame_refusal at (flow_of at state c) context.direction frame) (put o []) old new refusal)) (sym (placed_item at context state c frame item e))
-      (subst (λ (m : Option Refusal). IfErr r (λ refusal. NotEmitted declines at m (next_placed c context.record_no (going context.direction item) ∷ []) old new refusal)) (sym (met_item at state c context.direction frame item e)) unemitted)
+      (subst (λ (m : Option Refusal). IfErr r (λ refusal. NotEmitted declines at m (next_placed c context.record_no (item_event context.direction item) ∷ []) old new refusal)) (sym (met_item at state c context.direction frame item e)) unemitted)
 
 -- A frame of another version is refused as that.
 pub other_met : {S : Type 0} (declines : S → S → List Placed → Refusal → Type 0) {completed : List Placed} (at : ℕ) (state : StreamState) (c : Connections) (direction : Direction) (frame : List ℕ) (sink : S) → item_read (length frame) (slice_index frame 0) (read_frame frame) ≡ None

@@ -15,7 +15,7 @@ use Rattle.mq_trace.specs.Framing.{kind_of, direction_of, opens, if_direction, r
 use Rattle.mq_trace.specs.Events.{Item, Event, Placed, lost, opened, closed, rested, sent, received, released, item_at, packet_with, event_by, event_in, events}
 use Rattle.mq_trace.specs.Connections.{begins_connection}
 use Rattle.mq_trace.specs.Context.{Context, context, so_far_by, so_far_for, event_for, placed_with, placed_for, put}
-use Rattle.mq_trace.specs.Joined.{opened_records, joined, if_some, frame_item, frame_items, stream_items, opened_events, item_going, connection_items}
+use Rattle.mq_trace.specs.Joined.{opened_records, joined, if_some, frame_item, frame_items, stream_items, opened_events, directed_item, connection_items}
 use Rattle.mq_trace.proofs.PiecesLaws.{grown, pieces-grow, nothing_cut}
 use Rattle.mq_trace.proofs.FramingLaws.{body_byte, if_direction-nothing, if_direction-append, kind_of-append, begun-grow, begun-header, rest-grow, record_size-is}
 use Rattle.mq_trace.proofs.StreamStateLaws.{frame_settles, nothing_lost}
@@ -334,20 +334,20 @@ opened_kept (r ∷ rest) byte whole is = ap (λ k. cond (opens k) (opened_record
 -- the items of an event that go this way
 abbrev event_items : Direction → Option Event → List Item
 event_items direction None = []
-event_items direction (Some event) = if_some (item_going direction event)
+event_items direction (Some event) = if_some (directed_item direction event)
 
-abbrev if_going : Direction → Option Direction → List Item → List Item
-if_going directions.Sent (Some directions.Sent) items = items
-if_going directions.Recv (Some directions.Recv) items = items
-if_going _ _ items = []
+abbrev items_if : Direction → Option Direction → List Item → List Item
+items_if directions.Sent (Some directions.Sent) items = items
+items_if directions.Recv (Some directions.Recv) items = items
+items_if _ _ items = []
 
-marks_nothing : (direction : Direction) (event : Event) (items : List Item) (t : Bool) → item_going direction event ≡ None → event_items direction (if t then Some event else None) ≡ if_going direction None items
+marks_nothing : (direction : Direction) (event : Event) (items : List Item) (t : Bool) → directed_item direction event ≡ None → event_items direction (if t then Some event else None) ≡ items_if direction None items
 marks_nothing directions.Sent event items true none = ap if_some none
 marks_nothing directions.Recv event items true none = ap if_some none
 marks_nothing directions.Sent event items false none = refl
 marks_nothing directions.Recv event items false none = refl
 
-event_items_by : (kind : Option RecordKind) (direction : Direction) (part so_far : List ℕ) → event_items direction (event_by kind part so_far) ≡ if_going direction (direction_of kind) (if_some (item_at so_far))
+event_items_by : (kind : Option RecordKind) (direction : Direction) (part so_far : List ℕ) → event_items direction (event_by kind part so_far) ≡ items_if direction (direction_of kind) (if_some (item_at so_far))
 event_items_by None directions.Sent part so_far = refl
 event_items_by None directions.Recv part so_far = refl
 event_items_by (Some kinds.Open) directions.Sent part so_far = marks_nothing directions.Sent opened (if_some (item_at so_far)) (length part == 5) refl
@@ -360,14 +360,14 @@ event_items_by (Some kinds.Release) directions.Sent part so_far = marks_nothing 
 event_items_by (Some kinds.Release) directions.Recv part so_far = marks_nothing directions.Recv (released (from_be_bytes w16 (drop 5 part))) (if_some (item_at so_far)) (length part == 7) refl
 event_items_by (Some kinds.Sent) direction part so_far = by direction (item_at so_far)
   where
-    by : (direction : Direction) (item : Option Item) → event_items direction (option_map sent item) ≡ if_going direction (Some directions.Sent) (if_some item)
+    by : (direction : Direction) (item : Option Item) → event_items direction (option_map sent item) ≡ items_if direction (Some directions.Sent) (if_some item)
     by directions.Sent None = refl
     by directions.Sent (Some item) = refl
     by directions.Recv None = refl
     by directions.Recv (Some item) = refl
 event_items_by (Some kinds.Recv) direction part so_far = by direction (item_at so_far)
   where
-    by : (direction : Direction) (item : Option Item) → event_items direction (option_map received item) ≡ if_going direction (Some directions.Recv) (if_some item)
+    by : (direction : Direction) (item : Option Item) → event_items direction (option_map received item) ≡ items_if direction (Some directions.Recv) (if_some item)
     by directions.Sent None = refl
     by directions.Sent (Some item) = refl
     by directions.Recv None = refl
@@ -385,7 +385,7 @@ items_put number direction c (Some event) past = refl
 items_more : (number : ℕ) (direction : Direction) (log : List ℕ) (byte : ℕ) → 8 ≤ length log
     → connection_items number direction (events (log ++ byte ∷ []))
     ≡ connection_items number direction (events log) ++ cond (opened_events (events (log ++ byte ∷ [])) == number)
-    (if_going direction (direction_of (kind_of ((records log).rest ++ byte ∷ []))) (if_some (item_at (so_far_for (context log) byte)))) []
+    (items_if direction (direction_of (kind_of ((records log).rest ++ byte ∷ []))) (if_some (item_at (so_far_for (context log) byte)))) []
 items_more number direction log byte h =
     let part : List ℕ = (records log).rest ++ byte ∷ [] in
     let before : List Item = connection_items number direction (events log) in
@@ -462,20 +462,20 @@ module _ (number : ℕ) (direction : Direction) (log : List ℕ) (byte : ℕ) (b
   other_byte = nothing_put (stream_items (stream carried_so)) (m == number) ∙ ap (λ bytes. stream_items (stream bytes)) (sym (nothing_put carried_so (n == number)))
 
   byte_goes : (g : Bool) → nat_lt 5 (length part) ≡ g → (each : Direction) → each ≡ direction → (w : Option Direction) → direction_of (kind_of part) ≡ w
-      → stream_items (stream carried_so) ++ cond (m == number) (if_going each w (if_some item_so)) [] ≡ stream_items (stream (carried_so ++ cond (n == number) (cond g (if_direction each w (byte ∷ [])) []) []))
+      → stream_items (stream carried_so) ++ cond (m == number) (items_if each w (if_some item_so)) [] ≡ stream_items (stream (carried_so ++ cond (n == number) (cond g (if_direction each w (byte ∷ [])) []) []))
   byte_goes false g each same w is =
       let none : item_so ≡ None = ap item_at (so_far_is ∙ ap (λ t. cond t (so_far_by (direction_of (kind_of part)) (context log) byte) []) g) ∙ nothing_item in
-      ap (λ o. stream_items (stream carried_so) ++ cond (m == number) (if_going each w (if_some o)) []) none
-      ∙ ap (λ items. stream_items (stream carried_so) ++ cond (m == number) items []) (going_nothing each w)
+      ap (λ o. stream_items (stream carried_so) ++ cond (m == number) (items_if each w (if_some o)) []) none
+      ∙ ap (λ items. stream_items (stream carried_so) ++ cond (m == number) items []) (items_if_nothing each w)
       ∙ other_byte
     where
-      going_nothing : (each : Direction) (w : Option Direction) → if_going each w [] ≡ []
-      going_nothing directions.Sent None = refl
-      going_nothing directions.Sent (Some directions.Sent) = refl
-      going_nothing directions.Sent (Some directions.Recv) = refl
-      going_nothing directions.Recv None = refl
-      going_nothing directions.Recv (Some directions.Sent) = refl
-      going_nothing directions.Recv (Some directions.Recv) = refl
+      items_if_nothing : (each : Direction) (w : Option Direction) → items_if each w [] ≡ []
+      items_if_nothing directions.Sent None = refl
+      items_if_nothing directions.Sent (Some directions.Sent) = refl
+      items_if_nothing directions.Sent (Some directions.Recv) = refl
+      items_if_nothing directions.Recv None = refl
+      items_if_nothing directions.Recv (Some directions.Sent) = refl
+      items_if_nothing directions.Recv (Some directions.Recv) = refl
   byte_goes true g directions.Sent same None is = other_byte
   byte_goes true g directions.Sent same (Some directions.Recv) is = other_byte
   byte_goes true g directions.Recv same None is = other_byte
@@ -486,7 +486,7 @@ module _ (number : ℕ) (direction : Direction) (log : List ℕ) (byte : ℕ) (b
   byte_more : connection_items number direction (events log) ≡ stream_items (stream carried_so) → connection_items number direction (events (log ++ byte ∷ [])) ≡ stream_items (stream (joined number direction (begun_records (log ++ byte ∷ []))))
   byte_more before =
       items_more number direction log byte behind
-      ∙ ap (λ items. items ++ cond (m == number) (if_going direction (direction_of (kind_of part)) (if_some item_so)) []) before
+      ∙ ap (λ items. items ++ cond (m == number) (items_if direction (direction_of (kind_of part)) (if_some item_so)) []) before
       ∙ byte_goes (nat_lt 5 (length part)) refl direction refl (direction_of (kind_of part)) refl
       ∙ ap (λ bytes. stream_items (stream bytes)) (sym (joined_more number direction log byte behind))
 

@@ -14,9 +14,9 @@ use Rattle.mq_trace.specs.declared.refusal.Refusal.TheVariants as refusals
 use Rattle.mq_trace.specs.Framing.{kind_of, body_length, record_size, direction_of, opens}
 use Rattle.mq_trace.specs.Events.{Item, Event, item_at, event_by, event_in, read_frame}
 use Rattle.mq_trace.specs.Refusals.{first_standing, allows_length, is_open_kind, needs_connection, is_release_kind, is_too_large, is_other_version, is_early, record_refusal, header_refusal}
-use Rattle.mq_trace.specs.Context.{StreamState, Context, state_for, so_far_in, so_far_by, so_far_for, situated, state_after, state_by, state_then, with_heard, after_header, after_part, after, put, placed_with, placed_for, refusal_for, event_for}
-use Rattle.mq_trace.specs.Runs.{behind, refused_in, heard_in}
-use Rattle.mq_trace.specs.Flows.{BodyContext, Flow, going, comes_early, flow_event, flow_refusal, flow_placed, flow_placed_with, flow_with, flow_after, flow_behind, flow_refused, flow_heard, context_in, flow_in, state_behind, flowed}
+use Rattle.mq_trace.specs.Context.{StreamState, Context, state_for, so_far_in, so_far_by, so_far_for, situated, state_after, state_by, state_then, with_completed, after_header, after_part, after, put, placed_with, placed_for, refusal_for, event_for}
+use Rattle.mq_trace.specs.Runs.{behind, refused_in, events_by}
+use Rattle.mq_trace.specs.Flows.{BodyContext, Flow, item_event, comes_early, flow_event, flow_refusal, flow_placed, flow_placed_with, flow_with, flow_after, flow_behind, flow_refused, flow_events, context_in, flow_in, state_behind, flowed}
 
 -- A record that carries packets opens no connection, and its events are what its packets are.
 pub opens_none : (kind : Option RecordKind) (direction : Direction) → direction_of kind ≡ Some direction → opens kind ≡ false
@@ -28,16 +28,16 @@ opens_none (Some kinds.Close) direction e = refl
 opens_none (Some kinds.Rest) direction e = refl
 opens_none (Some kinds.Release) direction e = refl
 
-event_going : (kind : Option RecordKind) (direction : Direction) (part so_far : List ℕ) → direction_of kind ≡ Some direction → event_by kind part so_far ≡ option_map (going direction) (item_at so_far)
-event_going None direction part so_far e = absurd (cc)
-event_going (Some kinds.Open) direction part so_far e = absurd (cc)
-event_going (Some kinds.Sent) directions.Sent part so_far e = refl
-event_going (Some kinds.Sent) directions.Recv part so_far e = absurd (cc)
-event_going (Some kinds.Recv) directions.Sent part so_far e = absurd (cc)
-event_going (Some kinds.Recv) directions.Recv part so_far e = refl
-event_going (Some kinds.Close) direction part so_far e = absurd (cc)
-event_going (Some kinds.Rest) direction part so_far e = absurd (cc)
-event_going (Some kinds.Release) direction part so_far e = absurd (cc)
+event_by_item : (kind : Option RecordKind) (direction : Direction) (part so_far : List ℕ) → direction_of kind ≡ Some direction → event_by kind part so_far ≡ option_map (item_event direction) (item_at so_far)
+event_by_item None direction part so_far e = absurd (cc)
+event_by_item (Some kinds.Open) direction part so_far e = absurd (cc)
+event_by_item (Some kinds.Sent) directions.Sent part so_far e = refl
+event_by_item (Some kinds.Sent) directions.Recv part so_far e = absurd (cc)
+event_by_item (Some kinds.Recv) directions.Sent part so_far e = absurd (cc)
+event_by_item (Some kinds.Recv) directions.Recv part so_far e = refl
+event_by_item (Some kinds.Close) direction part so_far e = absurd (cc)
+event_by_item (Some kinds.Rest) direction part so_far e = absurd (cc)
+event_by_item (Some kinds.Release) direction part so_far e = absurd (cc)
 
 -- the head of a record stays, whatever follows
 kind_stays : (part more : List ℕ) → 5 ≤ length part → kind_of (part ++ more) ≡ kind_of part
@@ -54,7 +54,7 @@ body_stays (k ∷ p ∷ q ∷ []) b h = absurd (omega arith)
 body_stays (k ∷ p ∷ q ∷ r ∷ []) b h = absurd (omega arith)
 body_stays (k ∷ p ∷ q ∷ r ∷ s ∷ part) b h = refl
 
--- the refusal of a byte of a record, with what is told by how far the record is, and the event
+-- the refusal of a byte of a record, with what follows from how far the record is, and the event
 abbrev lines : ℕ → Context → List ℕ → List ℕ → Bool → Bool → Bool → Option Event → Option Refusal
 lines limit c part so_far first head early event = first_standing (
     (first && is_none (kind_of part), refusals.Kind c.at)
@@ -100,7 +100,7 @@ state_same directions.Recv directions.Recv c byte = refl
 
 -- what is kept after a byte of a record, from what it makes of each part
 abbrev kept : Context → List ℕ → Bool → StreamState → StreamState → Option Event → Context
-kept c part whole sent recv event = with_heard (record c {
+kept c part whole sent recv event = with_completed (record c {
   at = c.at + 1;
   part = cond whole [] part;
   records = cond whole (c.records + 1) c.records;
@@ -109,8 +109,8 @@ kept c part whole sent recv event = with_heard (record c {
 }) event
 
 kept_flowed : (c : Context) (direction : Direction) (byte : ℕ) (whole : Bool) (item : Option Item)
-    → kept c (c.part ++ byte ∷ []) whole (state_behind directions.Sent direction (state_after (state_for c direction) byte) c.sent) (state_behind directions.Recv direction (state_after (state_for c direction) byte) c.recv) (option_map (going direction) item)
-    ≡ flowed c direction whole (flow_with (context_in c direction) (record (flow_in c direction) { at = c.at + 1; state = state_after (state_for c direction) byte }) (option_map (going direction) item)) (byte ∷ [])
+    → kept c (c.part ++ byte ∷ []) whole (state_behind directions.Sent direction (state_after (state_for c direction) byte) c.sent) (state_behind directions.Recv direction (state_after (state_for c direction) byte) c.recv) (option_map (item_event direction) item)
+    ≡ flowed c direction whole (flow_with (context_in c direction) (record (flow_in c direction) { at = c.at + 1; state = state_after (state_for c direction) byte }) (option_map (item_event direction) item)) (byte ∷ [])
 kept_flowed c direction byte whole None = refl
 kept_flowed c directions.Sent byte whole (Some item) = refl
 kept_flowed c directions.Recv byte whole (Some item) = refl
@@ -149,12 +149,12 @@ module _ (c : Context) (direction : Direction) (byte : ℕ) (behind_header : 8 �
   unfolding event_for event_in flow_event
   event_is =
       ap (λ b. if b then None else event_by (kind_of part) part (so_far_for c byte)) (le-ltb c.at 8 behind_header)
-      ∙ event_going (kind_of part) direction part (so_far_for c byte) goes_on
-      ∙ ap (λ t. option_map (going direction) (item_at t)) so_far_is
+      ∙ event_by_item (kind_of part) direction part (so_far_for c byte) goes_on
+      ∙ ap (λ t. option_map (item_event direction) (item_at t)) so_far_is
 
   event_within : event_in part (so_far_for c byte) ≡ flow_event context flow byte
   unfolding event_in flow_event
-  event_within = event_going (kind_of part) direction part (so_far_for c byte) goes_on ∙ ap (λ t. option_map (going direction) (item_at t)) so_far_is
+  event_within = event_by_item (kind_of part) direction part (so_far_for c byte) goes_on ∙ ap (λ t. option_map (item_event direction) (item_at t)) so_far_is
 
   by_lines : (limit : ℕ) → record_refusal limit (situated c byte)
       ≡ lines limit c part (so_far_for c byte) (length part == 1) (length part == 5) (is_early (situated c byte) (event_in part (so_far_for c byte))) (event_in part (so_far_for c byte))
@@ -203,11 +203,11 @@ module _ (c : Context) (direction : Direction) (byte : ℕ) (behind_header : 8 �
       ∙ ap (nat_le (5 + body_length c.part)) l
       ∙ just_whole (length c.part) (5 + body_length c.part) less
 
-  flow_after_is : flow_after context flow byte ≡ flow_with context (record flow { at = c.at + 1; state = state_after (state_for c direction) byte }) (option_map (going direction) (item_at (so_far_in (state_for c direction) byte)))
+  flow_after_is : flow_after context flow byte ≡ flow_with context (record flow { at = c.at + 1; state = state_after (state_for c direction) byte }) (option_map (item_event direction) (item_at (so_far_in (state_for c direction) byte)))
   unfolding flow_after flow_event
   flow_after_is = refl
 
-  flow_event_is : flow_event context flow byte ≡ option_map (going direction) (item_at (so_far_in (state_for c direction) byte))
+  flow_event_is : flow_event context flow byte ≡ option_map (item_event direction) (item_at (so_far_in (state_for c direction) byte))
   unfolding flow_event
   flow_event_is = refl
 
@@ -215,7 +215,7 @@ module _ (c : Context) (direction : Direction) (byte : ℕ) (behind_header : 8 �
   after_lifted : length c.part < 5 + body_length c.part → after c byte ≡ flowed c direction (length c.part + 1 == 5 + body_length c.part) (flow_after context flow byte) (byte ∷ [])
   unfolding after
   after_lifted less =
-      ap (λ b. if b then after_header c byte else with_heard (after_part c part byte) (event_for c byte)) (le-ltb c.at 8 behind_header)
+      ap (λ b. if b then after_header c byte else with_completed (after_part c part byte) (event_for c byte)) (le-ltb c.at 8 behind_header)
       ∙ ap (λ h. kept c part (is_some (record_size part)) h (state_then directions.Recv c.recv part byte) (event_for c byte)) (state_is directions.Sent)
       ∙ ap (λ h. kept c part (is_some (record_size part)) (state_behind directions.Sent direction (state_after (state_for c direction) byte) c.sent) h (event_for c byte)) (state_is directions.Recv)
       ∙ ap (λ b. kept c part b (state_behind directions.Sent direction (state_after (state_for c direction) byte) c.sent) (state_behind directions.Recv direction (state_after (state_for c direction) byte) c.recv) (event_for c byte)) (whole_is less)
@@ -339,18 +339,18 @@ lifted-refused limit c direction (byte ∷ next ∷ bytes) behind_header goes th
     ∙ ap (λ g. flow_refused limit (context_in c direction) g (next ∷ bytes)) (then_flows c direction byte next bytes behind_header goes there fits))
 
 -- .. complete what they do there ..
-pub lifted-heard : (c : Context) (direction : Direction) (bytes : List ℕ) → 8 ≤ c.at → direction_of (kind_of c.part) ≡ Some direction → 5 ≤ length c.part
-    → length c.part + length bytes ≤ 5 + body_length c.part → heard_in c bytes ≡ flow_heard (context_in c direction) (flow_in c direction) bytes
-lifted-heard c direction [] behind_header goes there fits = refl
-lifted-heard c direction (byte ∷ []) behind_header goes there fits = ap (λ placed. put placed []) (lifted-placed c direction byte behind_header goes there)
-lifted-heard c direction (byte ∷ next ∷ bytes) behind_header goes there fits =
-    ap (λ placed. heard_in (after c byte) (next ∷ bytes) ++ put placed []) (lifted-placed c direction byte behind_header goes there)
-    ∙ ap (λ heard. heard ++ put (flow_placed (context_in c direction) (flow_in c direction) byte) [])
-    (ap (λ k. heard_in k (next ∷ bytes)) (then_is c direction byte next bytes behind_header goes there fits)
-    ∙ lifted-heard (then_kept c direction byte next bytes behind_header goes there fits) direction (next ∷ bytes)
+pub lifted-events : (c : Context) (direction : Direction) (bytes : List ℕ) → 8 ≤ c.at → direction_of (kind_of c.part) ≡ Some direction → 5 ≤ length c.part
+    → length c.part + length bytes ≤ 5 + body_length c.part → events_by c bytes ≡ flow_events (context_in c direction) (flow_in c direction) bytes
+lifted-events c direction [] behind_header goes there fits = refl
+lifted-events c direction (byte ∷ []) behind_header goes there fits = ap (λ placed. put placed []) (lifted-placed c direction byte behind_header goes there)
+lifted-events c direction (byte ∷ next ∷ bytes) behind_header goes there fits =
+    ap (λ placed. events_by (after c byte) (next ∷ bytes) ++ put placed []) (lifted-placed c direction byte behind_header goes there)
+    ∙ ap (λ completed. completed ++ put (flow_placed (context_in c direction) (flow_in c direction) byte) [])
+    (ap (λ k. events_by k (next ∷ bytes)) (then_is c direction byte next bytes behind_header goes there fits)
+    ∙ lifted-events (then_kept c direction byte next bytes behind_header goes there fits) direction (next ∷ bytes)
     (then_at c direction byte next bytes behind_header goes there fits) (then_goes c direction byte next bytes behind_header goes there fits)
     (then_there c direction byte next bytes behind_header goes there fits) (then_fits c direction byte next bytes behind_header goes there fits)
-    ∙ ap (λ g. flow_heard (context_in c direction) g (next ∷ bytes)) (then_flows c direction byte next bytes behind_header goes there fits))
+    ∙ ap (λ g. flow_events (context_in c direction) g (next ∷ bytes)) (then_flows c direction byte next bytes behind_header goes there fits))
 
 -- .. and leave what they leave there.
 pub lifted-behind : (c : Context) (direction : Direction) (bytes : List ℕ) → 8 ≤ c.at → direction_of (kind_of c.part) ≡ Some direction → 5 ≤ length c.part

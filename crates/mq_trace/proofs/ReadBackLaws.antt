@@ -6,7 +6,7 @@ use Rattle.std.proofs.lemmas.Nat.{from_be_bytes-to_be_bytes_4}
 use Rattle.mq_trace.specs.Framing.{kind_of, body_length, record_size}
 use Rattle.mq_trace.specs.Writing.{Record, open_record, close_record, rest_record, sent_record, received_record, release_record, bit_byte, record_kind, record_body, record_bytes, framed}
 
--- a record of this size, told by the tests
+-- a record of this size, as the tests find it
 abbrev size_if : Bool → Bool → ℕ → Option ℕ
 size_if headless whole n = if headless then None else (if whole then Some n else None)
 

@@ -7,11 +7,11 @@ use Rattle.mq_trace.specs.declared.refusal.Refusal.{Refusal}
 use Rattle.mq_trace.specs.declared.reading.Reading.{Reading}
 use Rattle.mq_trace.specs.Events.{Placed}
 use Rattle.mq_trace.specs.Context.{so_far_for}
-use Rattle.mq_trace.specs.Runs.{behind, refused_in, heard_in}
-use Rattle.mq_trace.specs.Hearing.{AreEvents}
+use Rattle.mq_trace.specs.Runs.{behind, refused_in, events_by}
+use Rattle.mq_trace.specs.Reception.{AreEvents}
 use Rattle.mq_trace.specs.Deframing.{FlowWhy}
 use Rattle.mq_trace.specs.Keeping.{context_of, Advances, Comes, StepStops}
-use Rattle.mq_trace.proofs.RunLaws.{behind_append, refused_append, heard_append}
+use Rattle.mq_trace.proofs.RunLaws.{behind_append, refused_append, events_append}
 
 -- One step after another.
 pub advanced : (r r1 r2 : Reading) (a b : List ℕ) (h k : List Placed) → Advances r r1 a h → Advances r1 r2 b k → Advances r r2 (a ++ b) (k ++ h)
@@ -28,16 +28,16 @@ advanced r r1 r2 a b h k first second = record {
             ∙ ap (λ limit. refused_in limit (context_of r1 f.0) b) (sym first.limit)
             ∙ g.2,
         behind_append (context_of r part) a b ∙ ap (λ c. behind c b) f.3 ∙ g.3,
-        heard_append (context_of r part) a b ∙ ap (λ c. heard_in c b ++ heard_in (context_of r part) a) f.3 ∙ ap (λ past. past ++ heard_in (context_of r part) a) g.4 ∙ ap (λ past. k ++ past) f.4,
+        events_append (context_of r part) a b ∙ ap (λ c. events_by c b ++ events_by (context_of r part) a) f.3 ∙ ap (λ past. past ++ events_by (context_of r part) a) g.4 ∙ ap (λ past. k ++ past) f.4,
       ));
 }
 
--- A quiet step and one that is told.
+-- A quiet step, and one that completes an event.
 pub comes_after : {S : Type 0} (agrees : S → List Placed → Type 0) (r r1 r2 : Reading) (a b : List ℕ) (old new : S)
     → Advances r r1 a [] → Comes agrees r1 r2 b old new → Comes agrees r r2 (a ++ b) old new
 comes_after agrees r r1 r2 a b old new quiet comes = record {
-  heard = comes.heard;
-  advances = (let both = advanced r r1 r2 a b [] comes.heard quiet comes.advances in rw append-nil at both);
+  completed = comes.completed;
+  advances = (let both = advanced r r1 r2 a b [] comes.completed quiet comes.advances in rw append-nil at both);
   emitted = comes.emitted;
 }
 
@@ -45,16 +45,16 @@ comes_after agrees r r1 r2 a b old new quiet comes = record {
 pub comes_quietly : {S : Type 0} (agrees : S → List Placed → Type 0) (r r1 : Reading) (a : List ℕ) (sink : S)
     → Advances r r1 a [] → Comes agrees r r1 a sink sink
 comes_quietly agrees r r1 a sink quiet = record {
-  heard = [];
+  completed = [];
   advances = quiet;
   emitted = λ earlier agree are. agree;
 }
 
--- A step that tells one event.
+-- A step that completes one event.
 pub comes_emission : {S : Type 0} (agrees : S → List Placed → Type 0) (r r1 : Reading) (a : List ℕ) (old new : S) (e : Placed)
     → Advances r r1 a (e ∷ []) → ((earlier : List Placed) → agrees old earlier → AreEvents (e ∷ earlier) → agrees new (e ∷ earlier)) → Comes agrees r r1 a old new
 comes_emission agrees r r1 a old new e step emitted = record {
-  heard = e ∷ [];
+  completed = e ∷ [];
   advances = step;
   emitted = emitted;
 }
@@ -76,27 +76,27 @@ stops_after declines r r1 a b old new refusal quiet moved stop = record {
       ∙ ap (λ o. option_or o (refused_in r.limit (behind c a) bytes)) f.2
       ∙ ap (λ d. refused_in r.limit d bytes) f.3
       ∙ ap (λ limit. refused_in limit (context_of r1 f.0) bytes) (sym quiet.limit) in
-      let heard : (bytes : List ℕ) → heard_in c (a ++ bytes) ≡ heard_in (context_of r1 f.0) bytes = λ bytes.
-      heard_append c a bytes
-      ∙ ap (λ d. heard_in d bytes ++ heard_in c a) f.3
-      ∙ ap (λ past. heard_in (context_of r1 f.0) bytes ++ past) f.4
-      ∙ append-nil (heard_in (context_of r1 f.0) bytes) in
+      let completed : (bytes : List ℕ) → events_by c (a ++ bytes) ≡ events_by (context_of r1 f.0) bytes = λ bytes.
+      events_append c a bytes
+      ∙ ap (λ d. events_by d bytes ++ events_by c a) f.3
+      ∙ ap (λ past. events_by (context_of r1 f.0) bytes ++ past) f.4
+      ∙ append-nil (events_by (context_of r1 f.0) bytes) in
       let last : (a ++ stop.taken) ++ stop.byte ∷ [] ≡ a ++ (stop.taken ++ stop.byte ∷ []) = append_assoc a stop.taken (stop.byte ∷ []) in
       let whole = stop.taken ++ stop.byte ∷ [] in
       let place : r1.at + length stop.taken ≡ r.at + length (a ++ stop.taken) = (let l = length-append a stop.taken in omega arith) in (
         refused stop.taken ∙ g.0,
-        heard stop.taken ∙ g.1,
-        same_why declines old new refusal quiet.limit place (ap (λ d. so_far_for d stop.byte) (sym (behind_append c a stop.taken ∙ ap (λ d. behind d stop.taken) f.3))) (sym (refused whole) ∙ ap (refused_in r.limit c) (sym last)) (sym (heard whole) ∙ ap (heard_in c) (sym last)) g.2,
+        completed stop.taken ∙ g.1,
+        same_why declines old new refusal quiet.limit place (ap (λ d. so_far_for d stop.byte) (sym (behind_append c a stop.taken ∙ ap (λ d. behind d stop.taken) f.3))) (sym (refused whole) ∙ ap (refused_in r.limit c) (sym last)) (sym (completed whole) ∙ ap (events_by c) (sym last)) g.2,
       ));
 }
   where
-    same_why : {S : Type 0} (declines : S → S → List Placed → Refusal → Type 0) (old new : S) (refusal : Refusal) {limit limit' at at' : ℕ} {so_far so_far' : List ℕ} {met met' : Option Refusal} {heard heard' : List Placed}
-        → limit ≡ limit' → at ≡ at' → so_far ≡ so_far' → met ≡ met' → heard ≡ heard' → FlowWhy declines limit at so_far met heard old new refusal → FlowWhy declines limit' at' so_far' met' heard' old new refusal
-    same_why declines old new refusal {limit} {limit'} {at} {at'} {so_far} {so_far'} {met} {met'} {heard} {heard'} m p w q s why =
-        subst (λ n. FlowWhy declines n at' so_far' met' heard' old new refusal) m
-        (subst (λ n. FlowWhy declines limit n so_far' met' heard' old new refusal) p
-        (subst (λ t. FlowWhy declines limit at t met' heard' old new refusal) w
-        (subst (λ o. FlowWhy declines limit at so_far o heard' old new refusal) q
+    same_why : {S : Type 0} (declines : S → S → List Placed → Refusal → Type 0) (old new : S) (refusal : Refusal) {limit limit' at at' : ℕ} {so_far so_far' : List ℕ} {met met' : Option Refusal} {completed completed' : List Placed}
+        → limit ≡ limit' → at ≡ at' → so_far ≡ so_far' → met ≡ met' → completed ≡ completed' → FlowWhy declines limit at so_far met completed old new refusal → FlowWhy declines limit' at' so_far' met' completed' old new refusal
+    same_why declines old new refusal {limit} {limit'} {at} {at'} {so_far} {so_far'} {met} {met'} {completed} {completed'} m p w q s why =
+        subst (λ n. FlowWhy declines n at' so_far' met' completed' old new refusal) m
+        (subst (λ n. FlowWhy declines limit n so_far' met' completed' old new refusal) p
+        (subst (λ t. FlowWhy declines limit at t met' completed' old new refusal) w
+        (subst (λ o. FlowWhy declines limit at so_far o completed' old new refusal) q
         (subst (λ l. FlowWhy declines limit at so_far met l old new refusal) s why))))
 
 -- It doesn't matter what follows.

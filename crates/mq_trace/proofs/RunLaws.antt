@@ -6,7 +6,7 @@ use Rattle.mq_trace.specs.declared.refusal.Refusal.{Refusal}
 use Rattle.mq_trace.specs.Events.{Placed, events}
 use Rattle.mq_trace.specs.Refusals.{refused}
 use Rattle.mq_trace.specs.Context.{Context, context, refusal_for, placed_for, put, after}
-use Rattle.mq_trace.specs.Runs.{behind, refused_in, heard_in}
+use Rattle.mq_trace.specs.Runs.{behind, refused_in, events_by}
 use Rattle.mq_trace.proofs.ContextLaws.{refused-grow, refusal-kept, events-kept, context-grow}
 
 pub option_or-assoc : {A : Type 0} (a b c : Option A) → option_or (option_or a b) c ≡ option_or a (option_or b c)
@@ -23,11 +23,11 @@ refused_append limit c (byte ∷ a) b =
     ap (option_or (refusal_for limit c byte)) (refused_append limit (after c byte) a b)
     ∙ sym (option_or-assoc (refusal_for limit c byte) (refused_in limit (after c byte) a) (refused_in limit (behind (after c byte) a) b))
 
-pub heard_append : (c : Context) (a b : List ℕ) → heard_in c (a ++ b) ≡ heard_in (behind c a) b ++ heard_in c a
-heard_append c [] b = sym (append-nil (heard_in c b))
-heard_append c (byte ∷ a) b =
-    ap (λ events. events ++ put (placed_for c byte) []) (heard_append (after c byte) a b)
-    ∙ append_assoc (heard_in (behind (after c byte) a) b) (heard_in (after c byte) a) (put (placed_for c byte) [])
+pub events_append : (c : Context) (a b : List ℕ) → events_by c (a ++ b) ≡ events_by (behind c a) b ++ events_by c a
+events_append c [] b = sym (append-nil (events_by c b))
+events_append c (byte ∷ a) b =
+    ap (λ events. events ++ put (placed_for c byte) []) (events_append (after c byte) a b)
+    ∙ append_assoc (events_by (behind (after c byte) a) b) (events_by (after c byte) a) (put (placed_for c byte) [])
 
 -- bytes after a log, one after the other
 more : (log : List ℕ) (byte : ℕ) (bytes : List ℕ) → log ++ byte ∷ bytes ≡ (log ++ byte ∷ []) ++ bytes
@@ -57,14 +57,14 @@ put_front : (o : Option Placed) (log : List Placed) → put o log ≡ put o [] +
 put_front None log = refl
 put_front (Some e) log = refl
 
-pub events_run : (log bytes : List ℕ) → events (log ++ bytes) ≡ heard_in (context log) bytes ++ events log
+pub events_run : (log bytes : List ℕ) → events (log ++ bytes) ≡ events_by (context log) bytes ++ events log
 events_run log [] = ap events (append-nil log)
 events_run log (byte ∷ bytes) =
     ap events (more log byte bytes)
     ∙ events_run (log ++ byte ∷ []) bytes
-    ∙ ap (λ c. heard_in c bytes ++ events (log ++ byte ∷ [])) (context-grow log byte)
-    ∙ ap (λ past. heard_in (after (context log) byte) bytes ++ past) (events-kept log byte ∙ put_front (placed_for (context log) byte) (events log))
-    ∙ sym (append_assoc (heard_in (after (context log) byte) bytes) (put (placed_for (context log) byte) []) (events log))
+    ∙ ap (λ c. events_by c bytes ++ events (log ++ byte ∷ [])) (context-grow log byte)
+    ∙ ap (λ past. events_by (after (context log) byte) bytes ++ past) (events-kept log byte ∙ put_front (placed_for (context log) byte) (events log))
+    ∙ sym (append_assoc (events_by (after (context log) byte) bytes) (put (placed_for (context log) byte) []) (events log))
 
 -- Nothing is refused of a log whose bytes were not refused before, nor these ..
 pub passes : (limit : ℕ) (log bytes : List ℕ) → refused limit log ≡ None → refused_in limit (context log) bytes ≡ None → refused limit (log ++ bytes) ≡ None

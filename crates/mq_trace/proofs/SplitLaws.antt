@@ -11,16 +11,16 @@ use Rattle.mq_trace.specs.declared.kind.Direction.{Direction}
 use Rattle.mq_trace.specs.declared.kind.Direction.TheVariants as directions
 use Rattle.mq_trace.specs.Framing.{kind_named, kind_of, body_length, record_size, direction_of, opens, records}
 use Rattle.mq_trace.specs.Events.{Event, Placed, item_at, event_in, event_of_head, events}
-use Rattle.mq_trace.specs.Context.{Context, emptied, context, so_far_in, so_far_by, so_far_for, state_after, with_heard, after_header, after_part, after, put, placed_with, placed_for, event_for}
-use Rattle.mq_trace.specs.Runs.{behind, heard_in}
-use Rattle.mq_trace.specs.Flows.{BodyContext, Flow, going, flow_event, flow_placed, flow_placed_with, flow_with, flow_after, flow_behind, flow_heard, context_in, flow_in, flowed}
+use Rattle.mq_trace.specs.Context.{Context, emptied, context, so_far_in, so_far_by, so_far_for, state_after, with_completed, after_header, after_part, after, put, placed_with, placed_for, event_for}
+use Rattle.mq_trace.specs.Runs.{behind, events_by}
+use Rattle.mq_trace.specs.Flows.{BodyContext, Flow, item_event, flow_event, flow_placed, flow_placed_with, flow_with, flow_after, flow_behind, flow_events, context_in, flow_in, flowed}
 use Rattle.mq_trace.specs.Writing.{sent_record, received_record, record_bytes, framed}
 use Rattle.mq_trace.specs.Splitting.{but_record}
 use Rattle.mq_trace.proofs.ContextLaws.{part_context, at_context}
-use Rattle.mq_trace.proofs.FlowLaws.{behind-append, heard-append}
-use Rattle.mq_trace.proofs.LiftLaws.{lifted-heard, lifted-behind}
-use Rattle.mq_trace.proofs.RunLaws.{behind_append, heard_append, events_run}
-use Rattle.mq_trace.proofs.StepLaws.{first_event, first_after, middle_heard, middle_behind, fifth_event, fifth_after, fifth_length}
+use Rattle.mq_trace.proofs.FlowLaws.{behind-append, events-append}
+use Rattle.mq_trace.proofs.LiftLaws.{lifted-events, lifted-behind}
+use Rattle.mq_trace.proofs.RunLaws.{behind_append, events_append, events_run}
+use Rattle.mq_trace.proofs.StepLaws.{first_event, first_after, middle_events, middle_behind, fifth_event, fifth_after, fifth_length}
 
 -- how many bytes came with the head of a record, where so many came before it
 abbrev behind_head : ℕ → ℕ
@@ -52,25 +52,25 @@ event_counted c at count byte h h' =
     ∙ sym (event_known c byte h)
 
 -- .. nor does what is kept after it, but for themselves.
-after_known : (c : Context) (byte : ℕ) → 8 ≤ c.at → after c byte ≡ with_heard (after_part c (c.part ++ byte ∷ []) byte) (event_for c byte)
+after_known : (c : Context) (byte : ℕ) → 8 ≤ c.at → after c byte ≡ with_completed (after_part c (c.part ++ byte ∷ []) byte) (event_for c byte)
 unfolding after
-after_known c byte h = ap (λ t. if t then after_header c byte else with_heard (after_part c (c.part ++ byte ∷ []) byte) (event_for c byte)) (le-ltb c.at 8 h)
+after_known c byte h = ap (λ t. if t then after_header c byte else with_completed (after_part c (c.part ++ byte ∷ []) byte) (event_for c byte)) (le-ltb c.at 8 h)
 
 abbrev count_after : Context → ℕ → ℕ → ℕ
 count_after c count byte = cond (is_some (record_size (c.part ++ byte ∷ []))) (count + 1) count
 
-with_counted : (c : Context) (at count : ℕ) (event : Option Event) → with_heard (counted c at count) event ≡ counted (with_heard c event) at count
+with_counted : (c : Context) (at count : ℕ) (event : Option Event) → with_completed (counted c at count) event ≡ counted (with_completed c event) at count
 with_counted c at count None = refl
 with_counted c at count (Some event) = refl
 
 after_counted : (c : Context) (at count byte : ℕ) → 8 ≤ c.at → 8 ≤ at → after (counted c at count) byte ≡ counted (after c byte) (at + 1) (count_after c count byte)
 after_counted c at count byte h h' =
     after_known (counted c at count) byte h'
-    ∙ ap (with_heard (after_part (counted c at count) (c.part ++ byte ∷ []) byte)) (event_counted c at count byte h h')
+    ∙ ap (with_completed (after_part (counted c at count) (c.part ++ byte ∷ []) byte)) (event_counted c at count byte h h')
     ∙ with_counted (after_part c (c.part ++ byte ∷ []) byte) (at + 1) (count_after c count byte) (event_for c byte)
     ∙ ap (λ d. counted d (at + 1) (count_after c count byte)) (sym (after_known c byte h))
 
-with_at : (c : Context) (event : Option Event) → (with_heard c event).at ≡ c.at
+with_at : (c : Context) (event : Option Event) → (with_completed c event).at ≡ c.at
 with_at c None = refl
 with_at c (Some event) = refl
 
@@ -97,13 +97,13 @@ both_same a a' b b' e f =
     ∙ ap (λ t. map but_record a' ++ t) f
     ∙ sym (map-append but_record a' b')
 
-heard_counted : (c : Context) (at count : ℕ) (bytes : List ℕ) → 8 ≤ c.at → 8 ≤ at → map but_record (heard_in (counted c at count) bytes) ≡ map but_record (heard_in c bytes)
-heard_counted c at count [] h h' = refl
-heard_counted c at count (byte ∷ bytes) h h' =
+events_counted : (c : Context) (at count : ℕ) (bytes : List ℕ) → 8 ≤ c.at → 8 ≤ at → map but_record (events_by (counted c at count) bytes) ≡ map but_record (events_by c bytes)
+events_counted c at count [] h h' = refl
+events_counted c at count (byte ∷ bytes) h h' =
     let next : (after c byte).at ≡ c.at + 1 = after_at c byte h in
-    both_same (heard_in (after (counted c at count) byte) bytes) (heard_in (after c byte) bytes) (put (placed_for (counted c at count) byte) []) (put (placed_for c byte) [])
-    (ap (λ d. map but_record (heard_in d bytes)) (after_counted c at count byte h h')
-    ∙ heard_counted (after c byte) (at + 1) (count_after c count byte) bytes (omega arith) (omega arith))
+    both_same (events_by (after (counted c at count) byte) bytes) (events_by (after c byte) bytes) (put (placed_for (counted c at count) byte) []) (put (placed_for c byte) [])
+    (ap (λ d. map but_record (events_by d bytes)) (after_counted c at count byte h h')
+    ∙ events_counted (after c byte) (at + 1) (count_after c count byte) bytes (omega arith) (omega arith))
     (placed_counted c at count byte h h')
 
 -- the same within a body: the number of the record, and how many bytes of the log came
@@ -120,7 +120,7 @@ flow_with_moved around f count at (Some event) = refl
 flow_after_moved : (around : BodyContext) (f : Flow) (count at byte : ℕ) → flow_after (numbered around count) (moved f at) byte ≡ moved (flow_after around f byte) (at + 1)
 unfolding flow_after flow_event
 flow_after_moved around f count at byte =
-    flow_with_moved around (record f { at = f.at + 1; state = state_after f.state byte }) count (at + 1) (option_map (going around.direction) (item_at (so_far_in f.state byte)))
+    flow_with_moved around (record f { at = f.at + 1; state = state_after f.state byte }) count (at + 1) (option_map (item_event around.direction) (item_at (so_far_in f.state byte)))
 
 flow_placed_same : (around : BodyContext) (f : Flow) (count at : ℕ) (event : Option Event)
     → map but_record (put (flow_placed_with (numbered around count) (moved f at) event) []) ≡ map but_record (put (flow_placed_with around f event) [])
@@ -130,16 +130,16 @@ flow_placed_same around f count at (Some event) = refl
 flow_placed_moved : (around : BodyContext) (f : Flow) (count at byte : ℕ)
     → map but_record (put (flow_placed (numbered around count) (moved f at) byte) []) ≡ map but_record (put (flow_placed around f byte) [])
 unfolding flow_placed flow_event
-flow_placed_moved around f count at byte = flow_placed_same around f count at (option_map (going around.direction) (item_at (so_far_in f.state byte)))
+flow_placed_moved around f count at byte = flow_placed_same around f count at (option_map (item_event around.direction) (item_at (so_far_in f.state byte)))
 
-flow_heard_moved : (around : BodyContext) (f : Flow) (count at : ℕ) (bytes : List ℕ)
-    → map but_record (flow_heard (numbered around count) (moved f at) bytes) ≡ map but_record (flow_heard around f bytes)
-flow_heard_moved around f count at [] = refl
-flow_heard_moved around f count at (byte ∷ bytes) =
-    both_same (flow_heard (numbered around count) (flow_after (numbered around count) (moved f at) byte) bytes) (flow_heard around (flow_after around f byte) bytes)
+flow_events_moved : (around : BodyContext) (f : Flow) (count at : ℕ) (bytes : List ℕ)
+    → map but_record (flow_events (numbered around count) (moved f at) bytes) ≡ map but_record (flow_events around f bytes)
+flow_events_moved around f count at [] = refl
+flow_events_moved around f count at (byte ∷ bytes) =
+    both_same (flow_events (numbered around count) (flow_after (numbered around count) (moved f at) byte) bytes) (flow_events around (flow_after around f byte) bytes)
     (put (flow_placed (numbered around count) (moved f at) byte) []) (put (flow_placed around f byte) [])
-    (ap (λ g. map but_record (flow_heard (numbered around count) g bytes)) (flow_after_moved around f count at byte)
-    ∙ flow_heard_moved around (flow_after around f byte) count (at + 1) bytes)
+    (ap (λ g. map but_record (flow_events (numbered around count) g bytes)) (flow_after_moved around f count at byte)
+    ∙ flow_events_moved around (flow_after around f byte) count (at + 1) bytes)
     (flow_placed_moved around f count at byte)
 
 -- after these bytes the flow stands at this place, where it began at that one
@@ -245,20 +245,20 @@ module _ (c : Context) (direction : Direction) (x y z w : ℕ) (h : 8 ≤ c.at) 
   head_behind =
       ap (λ d. after d w) four_is
       ∙ fifth_after begun_four w (omega arith) refl (unopened direction (x ∷ y ∷ z ∷ []))
-      ∙ ap (with_heard (headed (body_length head == 0))) five_event
+      ∙ ap (with_completed (headed (body_length head == 0))) five_event
 
   placed_none : (d : Context) (b : ℕ) → event_for d b ≡ None → put (placed_for d b) [] ≡ []
   unfolding placed_for
   placed_none d b e = ap (λ o. put (placed_with d o) []) e
 
-  head_heard : heard_in c head ≡ []
-  head_heard =
+  head_events : events_by c head ≡ []
+  head_events =
       ap (λ t. t ++ put (placed_for c (direction_byte direction)) [])
-      (heard_append (after c (direction_byte direction)) (x ∷ y ∷ z ∷ []) (w ∷ [])
-      ∙ ap (λ d. heard_in d (w ∷ []) ++ heard_in (after c (direction_byte direction)) (x ∷ y ∷ z ∷ [])) four_is
-      ∙ ap (λ t. t ++ heard_in (after c (direction_byte direction)) (x ∷ y ∷ z ∷ [])) (placed_none begun_four w five_event)
-      ∙ ap (λ d. heard_in d (x ∷ y ∷ z ∷ [])) first_is
-      ∙ middle_heard begun_one (direction_byte direction) x y z (omega arith) refl (unopened direction []))
+      (events_append (after c (direction_byte direction)) (x ∷ y ∷ z ∷ []) (w ∷ [])
+      ∙ ap (λ d. events_by d (w ∷ []) ++ events_by (after c (direction_byte direction)) (x ∷ y ∷ z ∷ [])) four_is
+      ∙ ap (λ t. t ++ events_by (after c (direction_byte direction)) (x ∷ y ∷ z ∷ [])) (placed_none begun_four w five_event)
+      ∙ ap (λ d. events_by d (x ∷ y ∷ z ∷ [])) first_is
+      ∙ middle_events begun_one (direction_byte direction) x y z (omega arith) refl (unopened direction []))
       ∙ placed_none c (direction_byte direction) (first_event c (direction_byte direction) h none)
 
 -- the direction after the head of a record
@@ -295,18 +295,18 @@ record_behind c direction x y z w (byte ∷ bytes) h none emitted =
     (eq-eqb (5 + length (byte ∷ bytes)) (5 + body_length (head c direction x y z w h none)) (omega arith))
     ∙ ap (λ f. whole_behind c direction (flow_behind (context_in c direction) f (byte ∷ bytes))) (entered_same c direction x y z w h none)
 
-record_heard : (c : Context) (direction : Direction) (x y z w : ℕ) (body : List ℕ) → 8 ≤ c.at → c.part ≡ [] → from_be_bytes w32 (x ∷ y ∷ z ∷ w ∷ []) ≡ length body
-    → heard_in c (direction_byte direction ∷ x ∷ y ∷ z ∷ w ∷ body) ≡ flow_heard (context_in c direction) (entered c direction) body
-record_heard c direction x y z w [] h none emitted = head_heard c direction x y z w h none
-record_heard c direction x y z w (byte ∷ bytes) h none emitted =
+record_events : (c : Context) (direction : Direction) (x y z w : ℕ) (body : List ℕ) → 8 ≤ c.at → c.part ≡ [] → from_be_bytes w32 (x ∷ y ∷ z ∷ w ∷ []) ≡ length body
+    → events_by c (direction_byte direction ∷ x ∷ y ∷ z ∷ w ∷ body) ≡ flow_events (context_in c direction) (entered c direction) body
+record_events c direction x y z w [] h none emitted = head_events c direction x y z w h none
+record_events c direction x y z w (byte ∷ bytes) h none emitted =
     let long : body_length (direction_byte direction ∷ x ∷ y ∷ z ∷ w ∷ []) ≡ length (byte ∷ bytes) = fifth_length (direction_byte direction) x y z w ∙ emitted in
-    heard_append c (head c direction x y z w h none) (byte ∷ bytes)
-    ∙ ap (λ t. heard_in (behind c (head c direction x y z w h none)) (byte ∷ bytes) ++ t) (head_heard c direction x y z w h none)
-    ∙ append-nil (heard_in (behind c (head c direction x y z w h none)) (byte ∷ bytes))
-    ∙ ap (λ k. heard_in k (byte ∷ bytes)) (head_behind c direction x y z w h none
+    events_append c (head c direction x y z w h none) (byte ∷ bytes)
+    ∙ ap (λ t. events_by (behind c (head c direction x y z w h none)) (byte ∷ bytes) ++ t) (head_events c direction x y z w h none)
+    ∙ append-nil (events_by (behind c (head c direction x y z w h none)) (byte ∷ bytes))
+    ∙ ap (λ k. events_by k (byte ∷ bytes)) (head_behind c direction x y z w h none
     ∙ ap (headed c direction x y z w h none) (ne_eqb (body_length (head c direction x y z w h none)) 0 (λ e. omega arith)))
-    ∙ lifted-heard (headed c direction x y z w h none false) direction (byte ∷ bytes) (omega arith) (ap direction_of (direction_kind_of direction (x ∷ y ∷ z ∷ w ∷ [])) ∙ direction_goes direction) (omega arith) (omega arith)
-    ∙ ap (λ f. flow_heard (context_in c direction) f (byte ∷ bytes)) (entered_same c direction x y z w h none)
+    ∙ lifted-events (headed c direction x y z w h none false) direction (byte ∷ bytes) (omega arith) (ap direction_of (direction_kind_of direction (x ∷ y ∷ z ∷ w ∷ [])) ∙ direction_goes direction) (omega arith) (omega arith)
+    ∙ ap (λ f. flow_events (context_in c direction) f (byte ∷ bytes)) (entered_same c direction x y z w h none)
 
 -- the same of the bytes of a record
 abbrev emitted_in : ℕ → ℕ → ℕ
@@ -317,10 +317,10 @@ framed_behind : (c : Context) (direction : Direction) (body : List ℕ) → 8 �
 framed_behind c direction body h none fits =
     record_behind c direction (emitted_in (length body) 0) (emitted_in (length body) 1) (emitted_in (length body) 2) (emitted_in (length body) 3) body h none (from_be_bytes-to_be_bytes_4 (length body) fits)
 
-framed_heard : (c : Context) (direction : Direction) (body : List ℕ) → 8 ≤ c.at → c.part ≡ [] → length body < 2 ^ 32
-    → heard_in c (framed (direction_byte direction) body) ≡ flow_heard (context_in c direction) (entered c direction) body
-framed_heard c direction body h none fits =
-    record_heard c direction (emitted_in (length body) 0) (emitted_in (length body) 1) (emitted_in (length body) 2) (emitted_in (length body) 3) body h none (from_be_bytes-to_be_bytes_4 (length body) fits)
+framed_events : (c : Context) (direction : Direction) (body : List ℕ) → 8 ≤ c.at → c.part ≡ [] → length body < 2 ^ 32
+    → events_by c (framed (direction_byte direction) body) ≡ flow_events (context_in c direction) (entered c direction) body
+framed_events c direction body h none fits =
+    record_events c direction (emitted_in (length body) 0) (emitted_in (length body) 1) (emitted_in (length body) 2) (emitted_in (length body) 3) body h none (from_be_bytes-to_be_bytes_4 (length body) fits)
 
 -- A second record of the same direction goes on where the first one ended ..
 entered_again : (c : Context) (direction : Direction) (g : Flow) → g.connected ≡ c.connected → entered (whole_behind c direction g) direction ≡ moved g (behind_head g.at)
@@ -380,50 +380,50 @@ module _ (c : Context) (direction : Direction) (a b : List ℕ) (h : 8 ≤ c.at)
       ∙ ap (whole_behind (whole_behind c direction amid) direction) (flow_behind_moved around amid (c.records + 1 + 1) (behind_head amid.at) b)
       ∙ behind_again c direction amid ended end_place
 
-  second_heard : map but_record (heard_in (whole_behind c direction amid) (framed (direction_byte direction) b)) ≡ map but_record (flow_heard around amid b)
-  second_heard =
-      ap (map but_record) (framed_heard (whole_behind c direction amid) direction b amid_at refl second_fits
-      ∙ ap (λ f. flow_heard (numbered around (c.records + 1 + 1)) f b) entered_amid)
-      ∙ flow_heard_moved around amid (c.records + 1 + 1) (behind_head amid.at) b
+  second_events : map but_record (events_by (whole_behind c direction amid) (framed (direction_byte direction) b)) ≡ map but_record (flow_events around amid b)
+  second_events =
+      ap (map but_record) (framed_events (whole_behind c direction amid) direction b amid_at refl second_fits
+      ∙ ap (λ f. flow_events (numbered around (c.records + 1 + 1)) f b) entered_amid)
+      ∙ flow_events_moved around amid (c.records + 1 + 1) (behind_head amid.at) b
 
-  one_heard : heard_in c (framed (direction_byte direction) (a ++ b)) ≡ flow_heard around amid b ++ flow_heard around (entered c direction) a
-  one_heard = framed_heard c direction (a ++ b) h none fits ∙ heard-append around (entered c direction) a b
+  one_completed : events_by c (framed (direction_byte direction) (a ++ b)) ≡ flow_events around amid b ++ flow_events around (entered c direction) a
+  one_completed = framed_events c direction (a ++ b) h none fits ∙ events-append around (entered c direction) a b
 
-  two_heard : (later : List ℕ) → heard_in c (framed (direction_byte direction) a ++ (framed (direction_byte direction) b ++ later))
-      ≡ (heard_in (counted (whole_behind c direction ended) end_place (c.records + 1 + 1)) later ++ heard_in (whole_behind c direction amid) (framed (direction_byte direction) b)) ++ flow_heard around (entered c direction) a
-  two_heard later =
-      heard_append c (framed (direction_byte direction) a) (framed (direction_byte direction) b ++ later)
-      ∙ ap (λ d. heard_in d (framed (direction_byte direction) b ++ later) ++ heard_in c (framed (direction_byte direction) a)) first_behind
-      ∙ ap (λ t. t ++ heard_in c (framed (direction_byte direction) a)) (heard_append (whole_behind c direction amid) (framed (direction_byte direction) b) later
-      ∙ ap (λ d. heard_in d later ++ heard_in (whole_behind c direction amid) (framed (direction_byte direction) b)) second_behind)
-      ∙ ap (λ t. (heard_in (counted (whole_behind c direction ended) end_place (c.records + 1 + 1)) later ++ heard_in (whole_behind c direction amid) (framed (direction_byte direction) b)) ++ t)
-      (framed_heard c direction a h none first_fits)
+  two_events : (later : List ℕ) → events_by c (framed (direction_byte direction) a ++ (framed (direction_byte direction) b ++ later))
+      ≡ (events_by (counted (whole_behind c direction ended) end_place (c.records + 1 + 1)) later ++ events_by (whole_behind c direction amid) (framed (direction_byte direction) b)) ++ flow_events around (entered c direction) a
+  two_events later =
+      events_append c (framed (direction_byte direction) a) (framed (direction_byte direction) b ++ later)
+      ∙ ap (λ d. events_by d (framed (direction_byte direction) b ++ later) ++ events_by c (framed (direction_byte direction) a)) first_behind
+      ∙ ap (λ t. t ++ events_by c (framed (direction_byte direction) a)) (events_append (whole_behind c direction amid) (framed (direction_byte direction) b) later
+      ∙ ap (λ d. events_by d later ++ events_by (whole_behind c direction amid) (framed (direction_byte direction) b)) second_behind)
+      ∙ ap (λ t. (events_by (counted (whole_behind c direction ended) end_place (c.records + 1 + 1)) later ++ events_by (whole_behind c direction amid) (framed (direction_byte direction) b)) ++ t)
+      (framed_events c direction a h none first_fits)
 
-  whole_heard : (later : List ℕ) → heard_in c (framed (direction_byte direction) (a ++ b) ++ later)
-      ≡ (heard_in (whole_behind c direction ended) later ++ flow_heard around amid b) ++ flow_heard around (entered c direction) a
-  whole_heard later =
-      heard_append c (framed (direction_byte direction) (a ++ b)) later
-      ∙ ap (λ d. heard_in d later ++ heard_in c (framed (direction_byte direction) (a ++ b))) one_behind
-      ∙ ap (λ t. heard_in (whole_behind c direction ended) later ++ t) one_heard
-      ∙ sym (append_assoc (heard_in (whole_behind c direction ended) later) (flow_heard around amid b) (flow_heard around (entered c direction) a))
+  whole_events : (later : List ℕ) → events_by c (framed (direction_byte direction) (a ++ b) ++ later)
+      ≡ (events_by (whole_behind c direction ended) later ++ flow_events around amid b) ++ flow_events around (entered c direction) a
+  whole_events later =
+      events_append c (framed (direction_byte direction) (a ++ b)) later
+      ∙ ap (λ d. events_by d later ++ events_by c (framed (direction_byte direction) (a ++ b))) one_behind
+      ∙ ap (λ t. events_by (whole_behind c direction ended) later ++ t) one_completed
+      ∙ sym (append_assoc (events_by (whole_behind c direction ended) later) (flow_events around amid b) (flow_events around (entered c direction) a))
 
   -- What is received of both is the same but for the numbers of the records.
-  split_heard : (later : List ℕ) → map but_record (heard_in c (framed (direction_byte direction) (a ++ b) ++ later))
-      ≡ map but_record (heard_in c (framed (direction_byte direction) a ++ (framed (direction_byte direction) b ++ later)))
-  split_heard later =
+  split_completed : (later : List ℕ) → map but_record (events_by c (framed (direction_byte direction) (a ++ b) ++ later))
+      ≡ map but_record (events_by c (framed (direction_byte direction) a ++ (framed (direction_byte direction) b ++ later)))
+  split_completed later =
       let far = ended_place in
       let start = amid_place in
       let grows = place_grows (behind_head amid.at) b in
-      ap (map but_record) (whole_heard later)
-      ∙ both_same (heard_in (whole_behind c direction ended) later ++ flow_heard around amid b)
-      (heard_in (counted (whole_behind c direction ended) end_place (c.records + 1 + 1)) later ++ heard_in (whole_behind c direction amid) (framed (direction_byte direction) b))
-      (flow_heard around (entered c direction) a) (flow_heard around (entered c direction) a)
-      (both_same (heard_in (whole_behind c direction ended) later) (heard_in (counted (whole_behind c direction ended) end_place (c.records + 1 + 1)) later)
-      (flow_heard around amid b) (heard_in (whole_behind c direction amid) (framed (direction_byte direction) b))
-      (sym (heard_counted (whole_behind c direction ended) end_place (c.records + 1 + 1) later (omega arith) (omega arith)))
-      (sym second_heard))
+      ap (map but_record) (whole_events later)
+      ∙ both_same (events_by (whole_behind c direction ended) later ++ flow_events around amid b)
+      (events_by (counted (whole_behind c direction ended) end_place (c.records + 1 + 1)) later ++ events_by (whole_behind c direction amid) (framed (direction_byte direction) b))
+      (flow_events around (entered c direction) a) (flow_events around (entered c direction) a)
+      (both_same (events_by (whole_behind c direction ended) later) (events_by (counted (whole_behind c direction ended) end_place (c.records + 1 + 1)) later)
+      (flow_events around amid b) (events_by (whole_behind c direction amid) (framed (direction_byte direction) b))
+      (sym (events_counted (whole_behind c direction ended) end_place (c.records + 1 + 1) later (omega arith) (omega arith)))
+      (sym second_events))
       refl
-      ∙ ap (map but_record) (sym (two_heard later))
+      ∙ ap (map but_record) (sym (two_events later))
 
 -- Splitting such a record, after a log of whole records, changes the events in the numbers of their records alone.
 split_behind : (direction : Direction) (before later a b : List ℕ) → 8 ≤ length before → (records before).rest ≡ [] → length (a ++ b) < 2 ^ 32
@@ -431,9 +431,9 @@ split_behind : (direction : Direction) (before later a b : List ℕ) → 8 ≤ l
 split_behind direction before later a b long whole fits =
     let at : (context before).at ≡ length before = at_context before in
     ap (map but_record) (events_run before (framed (direction_byte direction) (a ++ b) ++ later))
-    ∙ both_same (heard_in (context before) (framed (direction_byte direction) (a ++ b) ++ later)) (heard_in (context before) (framed (direction_byte direction) a ++ (framed (direction_byte direction) b ++ later)))
+    ∙ both_same (events_by (context before) (framed (direction_byte direction) (a ++ b) ++ later)) (events_by (context before) (framed (direction_byte direction) a ++ (framed (direction_byte direction) b ++ later)))
     (events before) (events before)
-    (split_heard (context before) direction a b (omega arith) (part_context before ∙ whole) fits later)
+    (split_completed (context before) direction a b (omega arith) (part_context before ∙ whole) fits later)
     refl
     ∙ ap (map but_record) (sym (events_run before (framed (direction_byte direction) a ++ (framed (direction_byte direction) b ++ later))))
 

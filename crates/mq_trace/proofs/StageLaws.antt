@@ -14,7 +14,7 @@ use Rattle.mq_trace.specs.Framing.{kind_named, kind_of, opens}
 use Rattle.mq_trace.specs.Events.{Placed}
 use Rattle.mq_trace.specs.Refusals.{header_refusal, first_standing, is_open_kind, needs_connection, is_release_kind}
 use Rattle.mq_trace.specs.Context.{StreamState, Context, emptied, so_far_for, refusal_for, placed_for, put, after}
-use Rattle.mq_trace.specs.Runs.{behind, refused_in, heard_in}
+use Rattle.mq_trace.specs.Runs.{behind, refused_in, events_by}
 use Rattle.mq_trace.specs.Emission.{NotEmitted, RefusedBySink}
 use Rattle.mq_trace.specs.Deframing.{FlowWhy}
 use Rattle.mq_trace.specs.Keeping.{state_in, spelled_from, IsAt, context_of, begun_in, IsWithin, IsUnfinished, IsSound, Advances, StepStops}
@@ -24,11 +24,11 @@ use Rattle.mq_trace.proofs.FramingLaws.{kind_of-append}
 use Rattle.mq_trace.proofs.ReadingLaws.{advanced}
 
 -- One byte's step.
-pub one_step : (r r' : Reading) (b : ℕ) (heard : List Placed) → r'.limit ≡ r.limit
+pub one_step : (r r' : Reading) (b : ℕ) (completed : List Placed) → r'.limit ≡ r.limit
     → ((part : List ℕ) → IsAt r.stage part → (part' : List ℕ) × IsAt r'.stage part' × (refusal_for r.limit (context_of r part) b ≡ None)
-    × (after (context_of r part) b ≡ context_of r' part') × (put (placed_for (context_of r part) b) [] ≡ heard))
-    → Advances r r' (b ∷ []) heard
-one_step r r' b heard same each = record {
+    × (after (context_of r part) b ≡ context_of r' part') × (put (placed_for (context_of r part) b) [] ≡ completed))
+    → Advances r r' (b ∷ []) completed
+one_step r r' b completed same each = record {
   limit = same;
   each = λ part at. (
       let f = each part at in
@@ -47,7 +47,7 @@ stops_refused declines r b sink refusal each = record {
   each = λ part at. (refl, refl, inl (ap (λ o. option_or o None) (each part at), refl));
 }
 
--- One byte that completes an event that isn't told.
+-- One byte that completes an event that isn't emitted.
 pub stops_unemitted : {S : Type 0} (declines : S → S → List Placed → Refusal → Type 0) (r : Reading) (b : ℕ) (met : Option Refusal) (e : Placed) (old new : S) (refusal : Refusal)
     → ((part : List ℕ) → IsAt r.stage part → (refusal_for r.limit (context_of r part) b ≡ met) × (placed_for (context_of r part) b ≡ Some e))
     → NotEmitted declines r.at met (e ∷ []) old new refusal → StepStops declines r (b ∷ []) old new refusal
@@ -63,7 +63,7 @@ stops_unemitted {S} declines r b met e old new refusal each unemitted = record {
     place = omega arith
 
     why : (part : List ℕ) → IsAt r.stage part → NotEmitted declines r.at met (e ∷ []) old new refusal
-        → FlowWhy declines r.limit (r.at + length {A = ℕ} []) (so_far_for (context_of r part) b) (refused_in r.limit (context_of r part) (b ∷ [])) (heard_in (context_of r part) (b ∷ [])) old new refusal
+        → FlowWhy declines r.limit (r.at + length {A = ℕ} []) (so_far_for (context_of r part) b) (refused_in r.limit (context_of r part) (b ∷ [])) (events_by (context_of r part) (b ∷ [])) old new refusal
     why part at (inl emitted) = let f = each part at in inl (ap (λ o. option_or o None) (f.0 ∙ emitted.0), emitted.1)
     why part at (inr emitted) =
         let f = each part at in

@@ -14,8 +14,8 @@ use Rattle.mq_trace.specs.declared.refusal.Refusal.TheVariants as refusals
 use Rattle.mq_trace.specs.Framing.{kind_named, kind_of, body_length, record_size, opens, direction_of}
 use Rattle.mq_trace.specs.Events.{Event, opened, closed, rested, released, sent, received, item_at, event_by, event_in, event_of_head}
 use Rattle.mq_trace.specs.Refusals.{Situation, header_refusal, record_refusal, first_standing, is_early, allows_length, is_open_kind, is_release_kind, needs_connection}
-use Rattle.mq_trace.specs.Context.{StreamState, Context, emptied, so_far_by, so_far_for, situated, refusal_for, event_for, placed_with, placed_for, state_by, state_then, with_heard, after_header, after_part, after, put}
-use Rattle.mq_trace.specs.Runs.{behind, refused_in, heard_in}
+use Rattle.mq_trace.specs.Context.{StreamState, Context, emptied, so_far_by, so_far_for, situated, refusal_for, event_for, placed_with, placed_for, state_by, state_then, with_completed, after_header, after_part, after, put}
+use Rattle.mq_trace.specs.Runs.{behind, refused_in, events_by}
 use Rattle.mq_trace.proofs.FramingLaws.{body_length-append, kind_of-append}
 
 -- A byte of the log's header.
@@ -33,7 +33,7 @@ header_placed c b h = ap (placed_with c) (header_event c b h)
 
 pub header_after : (c : Context) (b : ℕ) → c.at < 8 → after c b ≡ after_header c b
 unfolding after
-header_after c b h = ap (λ t. if t then after_header c b else with_heard (after_part c (c.part ++ b ∷ []) b) (event_for c b)) (lt-ltb c.at 8 h)
+header_after c b h = ap (λ t. if t then after_header c b else with_completed (after_part c (c.part ++ b ∷ []) b) (event_for c b)) (lt-ltb c.at 8 h)
 
 -- no bytes are no item
 no_item : item_at [] ≡ None
@@ -53,7 +53,7 @@ situation_with c part = record {
   connack_seen = c.connack_seen;
 }
 
--- the refusal lines of such a byte, all tests told
+-- the refusal lines of such a byte, with the answers of all tests
 abbrev lines_with : Context → List ℕ → (first ends : Bool) → Option RecordKind → Option Event → (long : Bool) → List (Bool × Refusal)
 lines_with c part first ends kind event long =
     (first && is_none kind, refusals.Kind c.at)
@@ -117,7 +117,7 @@ event_with c b part h is none =
     ∙ ap (λ bytes. event_in bytes (so_far_for c b)) is
     ∙ ap (event_in part) none
 
--- what is kept after a byte of a record, its tests told
+-- what is kept after a byte of a record, with its tests' answers
 abbrev settled_with : Context → List ℕ → (whole : Bool) → StreamState → StreamState → Context
 settled_with c part whole s r = record c {
   at = c.at + 1;
@@ -129,16 +129,16 @@ settled_with c part whole s r = record c {
 
 after_with : (c : Context) (b : ℕ) (part : List ℕ) (whole : Bool) (s r : StreamState) (event : Option Event) → 8 ≤ c.at → c.part ++ b ∷ [] ≡ part
     → is_some (record_size part) ≡ whole → state_then directions.Sent c.sent part b ≡ s → state_then directions.Recv c.recv part b ≡ r → event_for c b ≡ event
-    → after c b ≡ with_heard (settled_with c part whole s r) event
+    → after c b ≡ with_completed (settled_with c part whole s r) event
 unfolding after
-after_with c b part whole s r event h is w sent_is recv_is heard =
+after_with c b part whole s r event h is w sent_is recv_is completed =
     let kept = settled_with c part in
-    ap (λ t. if t then after_header c b else with_heard (after_part c (c.part ++ b ∷ []) b) (event_for c b)) (le-ltb c.at 8 h)
-    ∙ ap (λ bytes. with_heard (after_part c bytes b) (event_for c b)) is
-    ∙ ap (λ t. with_heard (kept t (state_then directions.Sent c.sent part b) (state_then directions.Recv c.recv part b)) (event_for c b)) w
-    ∙ ap (λ state. with_heard (kept whole state (state_then directions.Recv c.recv part b)) (event_for c b)) sent_is
-    ∙ ap (λ state. with_heard (kept whole s state) (event_for c b)) recv_is
-    ∙ ap (with_heard (kept whole s r)) heard
+    ap (λ t. if t then after_header c b else with_completed (after_part c (c.part ++ b ∷ []) b) (event_for c b)) (le-ltb c.at 8 h)
+    ∙ ap (λ bytes. with_completed (after_part c bytes b) (event_for c b)) is
+    ∙ ap (λ t. with_completed (kept t (state_then directions.Sent c.sent part b) (state_then directions.Recv c.recv part b)) (event_for c b)) w
+    ∙ ap (λ state. with_completed (kept whole state (state_then directions.Recv c.recv part b)) (event_for c b)) sent_is
+    ∙ ap (λ state. with_completed (kept whole s state) (event_for c b)) recv_is
+    ∙ ap (with_completed (kept whole s r)) completed
 
 -- A record's head belongs to no packet, ..
 head_packet : (c : Context) (b : ℕ) → length c.part ≤ 4 → so_far_for c b ≡ []
@@ -326,22 +326,22 @@ middle_refused limit c k x y z h is opening =
     (ap (λ d. refusal_for limit d z) (step_twice c k x y h is opening) ∙ middle_refusal limit (head_at c (c.at + 2) (k ∷ x ∷ y ∷ [])) z (omega arith) (omega arith) (omega arith))
     refl))
 
-nothing_heard : (c : Context) (b : ℕ) (bytes : List ℕ) → event_for c b ≡ None → heard_in (after c b) bytes ≡ [] → heard_in c (b ∷ bytes) ≡ []
-nothing_heard c b bytes none later =
+nothing_completed : (c : Context) (b : ℕ) (bytes : List ℕ) → event_for c b ≡ None → events_by (after c b) bytes ≡ [] → events_by c (b ∷ bytes) ≡ []
+nothing_completed c b bytes none later =
     ap (λ events. events ++ put (placed_for c b) []) later ∙ ap (λ o. put o []) (placed_none c b none)
 
-pub middle_heard : (c : Context) (k x y z : ℕ) → 8 ≤ c.at → c.part ≡ k ∷ [] → (opens (kind_of c.part) ≡ true → (c.sent ≡ emptied) × (c.recv ≡ emptied))
-    → heard_in c (x ∷ y ∷ z ∷ []) ≡ []
-middle_heard c k x y z h is opening =
+pub middle_events : (c : Context) (k x y z : ℕ) → 8 ≤ c.at → c.part ≡ k ∷ [] → (opens (kind_of c.part) ≡ true → (c.sent ≡ emptied) × (c.recv ≡ emptied))
+    → events_by c (x ∷ y ∷ z ∷ []) ≡ []
+middle_events c k x y z h is opening =
     let l : length c.part ≡ 1 = ap length is in
-    nothing_heard c x (y ∷ z ∷ []) (middle_event c x h (omega arith) (omega arith))
-    (nothing_heard (after c x) y (z ∷ [])
+    nothing_completed c x (y ∷ z ∷ []) (middle_event c x h (omega arith) (omega arith))
+    (nothing_completed (after c x) y (z ∷ [])
     (ap (λ d. event_for d y) (step_one c k x h is opening) ∙ middle_event (head_at c (c.at + 1) (k ∷ x ∷ [])) y (omega arith) (omega arith) (omega arith))
-    (nothing_heard (after (after c x) y) z []
+    (nothing_completed (after (after c x) y) z []
     (ap (λ d. event_for d z) (step_twice c k x y h is opening) ∙ middle_event (head_at c (c.at + 2) (k ∷ x ∷ y ∷ [])) z (omega arith) (omega arith) (omega arith))
     refl))
 
--- The fifth byte of a record, which ends its head: the length that the head tells, ..
+-- The fifth byte of a record, which ends its head: the length that the head says, ..
 pub fifth_length : (k x y z b : ℕ) → body_length (k ∷ x ∷ y ∷ z ∷ b ∷ []) ≡ from_be_bytes w32 (x ∷ y ∷ z ∷ b ∷ [])
 unfolding body_length
 fifth_length k x y z b = refl
@@ -406,7 +406,7 @@ bodiless n m five true is = let none = eqb-true n 0 is in le-leb (5 + n) m (omeg
 bodiless n m five false is = let some = eqb-false n 0 is in lt-leb (5 + n) m (omega (arith, some))
 
 pub fifth_after : (c : Context) (b : ℕ) → 8 ≤ c.at → length c.part ≡ 4 → (opens (kind_of c.part) ≡ true → (c.sent ≡ emptied) × (c.recv ≡ emptied))
-    → after c b ≡ with_heard (record c {
+    → after c b ≡ with_completed (record c {
       at = c.at + 1;
       part = cond (body_length (c.part ++ b ∷ []) == 0) [] (c.part ++ b ∷ []);
       records = cond (body_length (c.part ++ b ∷ []) == 0) (c.records + 1) c.records;
@@ -508,7 +508,7 @@ release_low_refusal limit c b head first h kind is five =
     (ne_eqb (length part) 1 (λ e. omega arith)) (ne_eqb (length part) 5 (λ e. omega arith)) more (release_low_in c b head first kind is five) refl
 
 pub release_low_after : (c : Context) (b : ℕ) (head : List ℕ) (first : ℕ) → 8 ≤ c.at → kind_of c.part ≡ Some kinds.Release → body_length c.part ≡ 2 → c.part ≡ head ++ first ∷ [] → length head ≡ 5
-    → after c b ≡ with_heard (record c { at = c.at + 1; part = []; records = c.records + 1 }) (Some (released (from_be_bytes w16 (first ∷ b ∷ []))))
+    → after c b ≡ with_completed (record c { at = c.at + 1; part = []; records = c.records + 1 }) (Some (released (from_be_bytes w16 (first ∷ b ∷ []))))
 release_low_after c b head first h kind two is five =
     let part = c.part ++ b ∷ [] in
     let l = one_longer c b in

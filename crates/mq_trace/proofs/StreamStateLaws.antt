@@ -67,19 +67,19 @@ state-grow h byte =
     ∙ sym (after_with rest byte (is_lost rest) refl)
 
 -- a byte that goes one way, seen from either direction
-state_going : (direction : Direction) (carries : Option Direction) (h : List ℕ) (byte : ℕ) → state_of (h ++ if_direction direction carries (byte ∷ [])) ≡ state_by direction carries (state_of h) byte
-state_going directions.Sent None h byte = ap state_of (append-nil h)
-state_going directions.Sent (Some directions.Sent) h byte = state-grow h byte
-state_going directions.Sent (Some directions.Recv) h byte = ap state_of (append-nil h)
-state_going directions.Recv None h byte = ap state_of (append-nil h)
-state_going directions.Recv (Some directions.Sent) h byte = ap state_of (append-nil h)
-state_going directions.Recv (Some directions.Recv) h byte = state-grow h byte
+state_carried : (direction : Direction) (carries : Option Direction) (h : List ℕ) (byte : ℕ) → state_of (h ++ if_direction direction carries (byte ∷ [])) ≡ state_by direction carries (state_of h) byte
+state_carried directions.Sent None h byte = ap state_of (append-nil h)
+state_carried directions.Sent (Some directions.Sent) h byte = state-grow h byte
+state_carried directions.Sent (Some directions.Recv) h byte = ap state_of (append-nil h)
+state_carried directions.Recv None h byte = ap state_of (append-nil h)
+state_carried directions.Recv (Some directions.Sent) h byte = ap state_of (append-nil h)
+state_carried directions.Recv (Some directions.Recv) h byte = state-grow h byte
 
 state_moved : (direction : Direction) (h : List ℕ) (part : List ℕ) (byte : ℕ) (o b : Bool)
     → state_of (cond o [] (h ++ cond b (if_direction direction (direction_of (kind_of part)) (byte ∷ [])) []))
     ≡ cond o (record { unfinished = []; lost = false }) (cond b (state_by direction (direction_of (kind_of part)) (state_of h) byte) (state_of h))
 state_moved direction h part byte true b = state-nothing
-state_moved direction h part byte false true = state_going direction (direction_of (kind_of part)) h byte
+state_moved direction h part byte false true = state_carried direction (direction_of (kind_of part)) h byte
 state_moved direction h part byte false false = ap state_of (append-nil h)
 
 -- one byte more of the log

@@ -14,13 +14,13 @@ use Rattle.mq_trace.specs.Events.{Event, Placed, events, event_at, packet_at}
 use Rattle.mq_trace.specs.Refusals.{refused, refusal_at, is_cut_short}
 use Rattle.mq_trace.specs.Refusing.{moved}
 use Rattle.mq_trace.specs.Context.{Context, context, fresh, so_far_for, event_for, placed_for, placed_with, put}
-use Rattle.mq_trace.specs.Runs.{behind, refused_in, heard_in}
-use Rattle.mq_trace.specs.Hearing.{AreEvents, Declines}
+use Rattle.mq_trace.specs.Runs.{behind, refused_in, events_by}
+use Rattle.mq_trace.specs.Reception.{AreEvents, Declines}
 use Rattle.mq_trace.specs.Deframing.{NeedsMemory, FlowWhy}
 use Rattle.mq_trace.specs.Keeping.{IsAt, context_of, Comes, StepStops}
-use Rattle.mq_trace.specs.Tracing.{HasRead, HasHeard, Why, Stops, is_between}
+use Rattle.mq_trace.specs.Tracing.{HasRead, HasReceived, Why, Stops, is_between}
 use Rattle.mq_trace.proofs.ContextLaws.{at_context, part_context, context_is, context-nothing, refused-nothing, packet-kept, header-so_far, event-kept, refused-grow}
-use Rattle.mq_trace.proofs.RunLaws.{heard_append, context_run, events_run, passes, stops}
+use Rattle.mq_trace.proofs.RunLaws.{events_append, context_run, events_run, passes, stops}
 
 -- A reader that keeps a log and comes on with some bytes keeps the log with these bytes after it.
 pub keeps_on : {S : Type 0} (agrees : S → List Placed → Type 0) (r r' : Reading) (log bytes : List ℕ) (old new : S) → HasRead r log → Comes agrees r r' bytes old new → HasRead r' (log ++ bytes)
@@ -35,11 +35,11 @@ keeps_on agrees r r' log bytes old new keeps comes =
     })
 
 -- A sink that had received the events of the log has received those of the longer log then.
-pub hears_on : {S : Type 0} (agrees : S → List Placed → Type 0) (r r' : Reading) (log bytes : List ℕ) (old new : S) → HasRead r log → Comes agrees r r' bytes old new → HasHeard agrees log bytes old new
-hears_on agrees r r' log bytes old new keeps comes =
+pub receives_on : {S : Type 0} (agrees : S → List Placed → Type 0) (r r' : Reading) (log bytes : List ℕ) (old new : S) → HasRead r log → Comes agrees r r' bytes old new → HasReceived agrees log bytes old new
+receives_on agrees r r' log bytes old new keeps comes =
     (let step = comes.advances.each keeps.part keeps.stands in
-    let longer : events (log ++ bytes) ≡ comes.heard ++ events log
-    = events_run log bytes ∙ ap (λ (l : List Placed). l ++ events log) (ap (λ (c : Context). heard_in c bytes) keeps.kept ∙ step.4) in
+    let longer : events (log ++ bytes) ≡ comes.completed ++ events log
+    = events_run log bytes ∙ ap (λ (l : List Placed). l ++ events log) (ap (λ (c : Context). events_by c bytes) keeps.kept ∙ step.4) in
     let next = keeps_on agrees r r' log bytes old new keeps comes in
     λ was. subst (agrees new) (sym longer) (comes.emitted (events log) was (record { limit = r'.limit; log = log ++ bytes; unrefused = next.unrefused; are = sym longer })))
 
@@ -52,7 +52,7 @@ some_event : (c : Context) (byte : ℕ) → length (put (placed_for c byte) []) 
 unfolding placed_for
 some_event c byte one = some_placed c (event_for c byte) one
 
--- A byte of a packet, as what is kept tells it, is one in the log.
+-- A byte of a packet, by what is kept, is one in the log.
 packet_there : (limit : ℕ) (log : List ℕ) (byte : ℕ) → NeedsMemory limit (so_far_for (context log) byte) → NeedsMemory limit (packet_at log byte)
 packet_there limit log byte needs = by_length (nat_lt (length log) 8) refl
   where
@@ -67,15 +67,15 @@ packet_there limit log byte needs = by_length (nat_lt (length log) 8) refl
 -- What stops a step stops the log.
 module _ {S : Type 0} (agrees : S → List Placed → Type 0) (refuses : S → List Placed → Refusal → Type 0) (r : Reading) (log : List ℕ) (keeps : HasRead r log) where
   -- the byte after these bytes
-  module _ (taken : List ℕ) (byte : ℕ) (unrefused : refused_in r.limit (context_of r keeps.part) taken ≡ None) (unheard : heard_in (context_of r keeps.part) taken ≡ []) where
+  module _ (taken : List ℕ) (byte : ℕ) (unrefused : refused_in r.limit (context_of r keeps.part) taken ≡ None) (completes_none : events_by (context_of r keeps.part) taken ≡ []) where
     taken_in : refused r.limit (log ++ taken) ≡ None
     taken_in = passes r.limit log taken keeps.unrefused (ap (λ (c : Context). refused_in r.limit c taken) keeps.kept ∙ unrefused)
 
     same_events : events (log ++ taken) ≡ events log
-    same_events = events_run log taken ∙ ap (λ (l : List Placed). l ++ events log) (ap (λ (c : Context). heard_in c taken) keeps.kept ∙ unheard)
+    same_events = events_run log taken ∙ ap (λ (l : List Placed). l ++ events log) (ap (λ (c : Context). events_by c taken) keeps.kept ∙ completes_none)
 
-    heard_nothing : (old new : S) → new ≡ old → HasHeard agrees log taken old new
-    heard_nothing old new same = λ was. subst (agrees new) (sym same_events) (subst (λ (s : S). agrees s (events log)) (sym same) was)
+    received_nothing : (old new : S) → new ≡ old → HasReceived agrees log taken old new
+    received_nothing old new same = λ was. subst (agrees new) (sym same_events) (subst (λ (s : S). agrees s (events log)) (sym same) was)
 
     offset : length (log ++ taken) ≡ r.at + length taken
     offset = length-append log taken ∙ ap (λ (n : ℕ). n + length taken) (sym (at_context log) ∙ ap (λ (c : Context). c.at) keeps.kept)
@@ -87,11 +87,11 @@ module _ {S : Type 0} (agrees : S → List Placed → Type 0) (refuses : S → L
         ∙ stops r.limit log (taken ++ byte ∷ []) refusal keeps.unrefused (ap (λ (c : Context). refused_in r.limit c (taken ++ byte ∷ [])) keeps.kept ∙ met) in
         ap (λ (o : Option Refusal). option_or o (refusal_at r.limit (log ++ taken) byte)) (sym taken_in) ∙ sym (refused-grow r.limit (log ++ taken) byte) ∙ all)
 
-    completed : length (heard_in (context_of r keeps.part) (taken ++ byte ∷ [])) ≡ 1 → is_some (event_at (log ++ taken) byte) ≡ true
+    completed : length (events_by (context_of r keeps.part) (taken ++ byte ∷ [])) ≡ 1 → is_some (event_at (log ++ taken) byte) ≡ true
     completed one =
         (let c = context_of r keeps.part in
-        let split : heard_in c (taken ++ byte ∷ []) ≡ put (placed_for (behind c taken) byte) []
-        = heard_append c taken (byte ∷ []) ∙ ap (λ (l : List Placed). (put (placed_for (behind c taken) byte) []) ++ l) unheard ∙ append-nil (put (placed_for (behind c taken) byte) []) in
+        let split : events_by c (taken ++ byte ∷ []) ≡ put (placed_for (behind c taken) byte) []
+        = events_append c taken (byte ∷ []) ∙ ap (λ (l : List Placed). (put (placed_for (behind c taken) byte) []) ++ l) completes_none ∙ append-nil (put (placed_for (behind c taken) byte) []) in
         let event : is_some (event_for (behind c taken) byte) ≡ true = some_event (behind c taken) byte (sym (ap length split) ∙ one) in
         ap is_some (event-kept (log ++ taken) byte ∙ ap (λ (k : Context). event_for k byte) (context_run log taken ∙ ap (λ (k : Context). behind k taken) keeps.kept)) ∙ event)
 
@@ -113,20 +113,20 @@ module _ {S : Type 0} (agrees : S → List Placed → Type 0) (refuses : S → L
         packet_there r.limit (log ++ taken) byte (subst (λ (c : Context). NeedsMemory r.limit (so_far_for c byte)) (sym kept) needs))
 
     -- What the byte completes follows the events of the log.
-    follows_here : refused_in r.limit (context_of r keeps.part) (taken ++ byte ∷ []) ≡ None → AreEvents (heard_in (context_of r keeps.part) (taken ++ byte ∷ []) ++ events log)
+    follows_here : refused_in r.limit (context_of r keeps.part) (taken ++ byte ∷ []) ≡ None → AreEvents (events_by (context_of r keeps.part) (taken ++ byte ∷ []) ++ events log)
     follows_here none = record {
       limit = r.limit;
       log = log ++ (taken ++ byte ∷ []);
       unrefused = passes_here none;
-      are = sym (events_run log (taken ++ byte ∷ []) ∙ ap (λ (l : List Placed). l ++ events log) (ap (λ (c : Context). heard_in c (taken ++ byte ∷ [])) keeps.kept));
+      are = sym (events_run log (taken ++ byte ∷ []) ∙ ap (λ (l : List Placed). l ++ events log) (ap (λ (c : Context). events_by c (taken ++ byte ∷ [])) keeps.kept));
     }
 
     pub why_here : (old new : S) (refusal : Refusal) → FlowWhy (Declines agrees refuses) r.limit (r.at + length taken) (so_far_for (behind (context_of r keeps.part) taken) byte)
         (refused_in r.limit (context_of r keeps.part) (taken ++ byte ∷ []))
-        (heard_in (context_of r keeps.part) (taken ++ byte ∷ [])) old new refusal → Why agrees refuses r.limit log taken byte old new refusal
-    why_here old new refusal (inl x) = inl (record { met = refused_here refusal x.0; heard = heard_nothing old new x.1 })
+        (events_by (context_of r keeps.part) (taken ++ byte ∷ [])) old new refusal → Why agrees refuses r.limit log taken byte old new refusal
+    why_here old new refusal (inl x) = inl (record { met = refused_here refusal x.0; receives = received_nothing old new x.1 })
     why_here old new refusal (inr (inl x)) =
-        inr (inl (record { is = x.0 ∙ ap (λ (n : ℕ). refusals.Memory n) (sym offset); needs = needs_here x.2; heard = heard_nothing old new x.1 }))
+        inr (inl (record { is = x.0 ∙ ap (λ (n : ℕ). refusals.Memory n) (sym offset); needs = needs_here x.2; receives = received_nothing old new x.1 }))
     why_here old new refusal (inr (inr x)) =
         inr (inr (record {
           unmet = unmet_here x.0;
@@ -153,7 +153,7 @@ pub record Goes {S : Type 0} (agrees : S → List Placed → Type 0) (first now 
   pub done : List ℕ
   pub is : piece ≡ done ++ rest
   pub limit : now.limit ≡ first.limit
-  pub each : (log : List ℕ) → HasRead first log → HasRead now (log ++ done) × HasHeard agrees log done old new
+  pub each : (log : List ℕ) → HasRead first log → HasRead now (log ++ done) × HasReceived agrees log done old new
 
 pub begins : {S : Type 0} (agrees : S → List Placed → Type 0) (r : Reading) (piece : List ℕ) (sink : S) → Goes agrees r r piece piece sink sink
 begins agrees r piece sink = record {
@@ -173,33 +173,33 @@ goes_on agrees first now next piece rest n old mid new goes comes = record {
       let before = goes.each log keeps in
       let assoc : (log ++ goes.done) ++ take n rest ≡ log ++ (goes.done ++ take n rest) = append_assoc log goes.done (take n rest) in (
         subst (HasRead next) assoc (keeps_on agrees now next (log ++ goes.done) (take n rest) mid new before.0 comes),
-        λ was. subst (λ (l : List ℕ). agrees new (events l)) assoc (hears_on agrees now next (log ++ goes.done) (take n rest) mid new before.0 comes (before.1 was)),
+        λ was. subst (λ (l : List ℕ). agrees new (events l)) assoc (receives_on agrees now next (log ++ goes.done) (take n rest) mid new before.0 comes (before.1 was)),
       ));
 }
 
 -- At its end the loop has taken in the whole piece.
 pub ends_kept : {S : Type 0} (agrees : S → List Placed → Type 0) (first now : Reading) (piece rest : List ℕ) (old new : S) → Goes agrees first now piece rest old new → rest ≡ []
-    → (log : List ℕ) → HasRead first log → HasRead now (log ++ piece) × HasHeard agrees log piece old new
+    → (log : List ℕ) → HasRead first log → HasRead now (log ++ piece) × HasReceived agrees log piece old new
 ends_kept agrees first now piece rest old new goes none log keeps =
     (let all : goes.done ≡ piece = sym (goes.is ∙ ap (λ (l : List ℕ). goes.done ++ l) none ∙ append-nil goes.done) in
     let here = goes.each log keeps in
-    (subst (λ (l : List ℕ). HasRead now (log ++ l)) all here.0, subst (λ (l : List ℕ). HasHeard agrees log l old new) all here.1))
+    (subst (λ (l : List ℕ). HasRead now (log ++ l)) all here.0, subst (λ (l : List ℕ). HasReceived agrees log l old new) all here.1))
 
 -- Why a byte isn't taken in after some bytes, seen from before them.
 why_joined : {S : Type 0} (agrees : S → List Placed → Type 0) (refuses : S → List Placed → Refusal → Type 0) (limit : ℕ) (log done taken : List ℕ) (byte : ℕ) (old mid new : S) (refusal : Refusal)
-    → HasHeard agrees log done old mid → Why agrees refuses limit (log ++ done) taken byte mid new refusal → Why agrees refuses limit log (done ++ taken) byte old new refusal
+    → HasReceived agrees log done old mid → Why agrees refuses limit (log ++ done) taken byte mid new refusal → Why agrees refuses limit log (done ++ taken) byte old new refusal
 why_joined agrees refuses limit log done taken byte old mid new refusal before (inl x) =
     (let assoc : (log ++ done) ++ taken ≡ log ++ (done ++ taken) = append_assoc log done taken in
     inl (record {
       met = subst (λ (l : List ℕ). refusal_at limit l byte ≡ Some refusal) assoc x.met;
-      heard = λ was. subst (λ (l : List ℕ). agrees new (events l)) assoc (x.heard (before was));
+      receives = λ was. subst (λ (l : List ℕ). agrees new (events l)) assoc (x.receives (before was));
     }))
 why_joined agrees refuses limit log done taken byte old mid new refusal before (inr (inl x)) =
     (let assoc : (log ++ done) ++ taken ≡ log ++ (done ++ taken) = append_assoc log done taken in
     inr (inl (record {
       is = subst (λ (l : List ℕ). refusal ≡ refusals.Memory (length l)) assoc x.is;
       needs = subst (λ (l : List ℕ). NeedsMemory limit (packet_at l byte)) assoc x.needs;
-      heard = λ was. subst (λ (l : List ℕ). agrees new (events l)) assoc (x.heard (before was));
+      receives = λ was. subst (λ (l : List ℕ). agrees new (events l)) assoc (x.receives (before was));
     })))
 why_joined agrees refuses limit log done taken byte old mid new refusal before (inr (inr x)) =
     (let assoc : (log ++ done) ++ taken ≡ log ++ (done ++ taken) = append_assoc log done taken in

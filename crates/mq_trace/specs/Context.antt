@@ -134,9 +134,9 @@ state_then direction state part byte = cond (opens (kind_of part)) (record { unf
     (cond (nat_lt 5 (length part)) (state_by direction (direction_of (kind_of part)) state byte) state)
 
 -- what is kept after one more event, if there is one
-abbrev pub with_heard : Context → Option Event → Context
-with_heard c None = c
-with_heard c (Some event) = record c {
+abbrev pub with_completed : Context → Option Event → Context
+with_completed c None = c
+with_completed c (Some event) = record c {
   events = c.events + 1;
   connected = begins_connection event || (not (ends_connection event) && c.connected);
   connack_seen = is_answer c.header.server event || (not (begins_connection event) && c.connack_seen);
@@ -164,4 +164,4 @@ after_part c part byte = record c {
 
 -- what is kept after the next byte
 unfoldable pub after : Context → ℕ → Context
-after c byte = if nat_lt c.at 8 then after_header c byte else with_heard (after_part c (c.part ++ byte ∷ []) byte) (event_for c byte)
+after c byte = if nat_lt c.at 8 then after_header c byte else with_completed (after_part c (c.part ++ byte ∷ []) byte) (event_for c byte)

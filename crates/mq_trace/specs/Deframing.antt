@@ -9,8 +9,8 @@ use Rattle.mq_trace.specs.declared.deframer.BodyContext.{BodyContext as ContextI
 use Rattle.mq_trace.specs.Events.{Event, Placed, item_read, read_frame}
 use Rattle.mq_trace.specs.Refusals.{first_standing, is_too_large, is_other_version}
 use Rattle.mq_trace.specs.Context.{StreamState, so_far_in}
-use Rattle.mq_trace.specs.Hearing.{AreEvents}
-use Rattle.mq_trace.specs.Flows.{BodyContext, Flow, going, comes_early, flow_refused, flow_behind, flow_heard}
+use Rattle.mq_trace.specs.Reception.{AreEvents}
+use Rattle.mq_trace.specs.Flows.{BodyContext, Flow, item_event, comes_early, flow_refused, flow_behind, flow_events}
 use Rattle.mq_trace.specs.Emission.{connections_with, RefusedBySink}
 
 abbrev pub body_context : ContextInMemory → BodyContext
@@ -21,7 +21,7 @@ flow_of at state c = record { at = at; state = state; events = c.events; connect
 
 -- the event of a whole packet
 abbrev pub frame_event : Direction → List ℕ → Option Event
-frame_event direction frame = option_map (going direction) (item_read (length frame) (slice_index frame 0) (read_frame frame))
+frame_event direction frame = option_map (item_event direction) (item_read (length frame) (slice_index frame 0) (read_frame frame))
 
 -- the refusal that applies at the last byte of a whole packet
 abbrev pub frame_refusal : ℕ → Flow → Direction → List ℕ → Option Refusal
@@ -56,11 +56,11 @@ pub record FlowStops {S : Type 0} (declines : S → S → List Placed → Refusa
   pub later : List ℕ
   pub is : bytes ≡ taken ++ byte ∷ later
   pub unrefused : flow_refused limit context f taken ≡ None
-  pub unheard : flow_heard context f taken ≡ []
-  pub why : FlowWhy declines limit (f.at + length taken) (so_far_in (flow_behind context f taken).state byte) (flow_refused limit context f (taken ++ byte ∷ [])) (flow_heard context f (taken ++ byte ∷ [])) old new refusal
+  pub completes_none : flow_events context f taken ≡ []
+  pub why : FlowWhy declines limit (f.at + length taken) (so_far_in (flow_behind context f taken).state byte) (flow_refused limit context f (taken ++ byte ∷ [])) (flow_events context f (taken ++ byte ∷ [])) old new refusal
 
 -- These bytes bring a direction from one state to another: none of them is refused, and a sink that had received what came before has received the events too that they complete.
 pub record FlowComes {S : Type 0} (agrees : S → List Placed → Type 0) (limit : ℕ) (context : BodyContext) (f f' : Flow) (bytes : List ℕ) (old new : S) : Type 0 where
   pub unrefused : flow_refused limit context f bytes ≡ None
   pub kept : flow_behind context f bytes ≡ f'
-  pub emitted : (earlier : List Placed) → agrees old earlier → AreEvents (flow_heard context f bytes ++ earlier) → agrees new (flow_heard context f bytes ++ earlier)
+  pub emitted : (earlier : List Placed) → agrees old earlier → AreEvents (flow_events context f bytes ++ earlier) → agrees new (flow_events context f bytes ++ earlier)

@@ -26,13 +26,13 @@ pub record Flow : Type 0 where
   pub connack_seen : Bool
 
 -- the event of an item in this direction
-abbrev pub going : Direction → Item → Event
-going directions.Sent item = sent item
-going directions.Recv item = received item
+abbrev pub item_event : Direction → Item → Event
+item_event directions.Sent item = sent item
+item_event directions.Recv item = received item
 
 -- the event that the next byte completes
 unfoldable pub flow_event : BodyContext → Flow → ℕ → Option Event
-flow_event context f byte = option_map (going context.direction) (item_at (so_far_in f.state byte))
+flow_event context f byte = option_map (item_event context.direction) (item_at (so_far_in f.state byte))
 
 -- the event needs the CONNACK of its open connection, and that hasn't come
 abbrev pub comes_early : Flow → Option Event → Bool
@@ -74,9 +74,9 @@ abbrev pub flow_refused : ℕ → BodyContext → Flow → List ℕ → Option R
 flow_refused limit context f [] = None
 flow_refused limit context f (byte ∷ bytes) = option_or (flow_refusal limit context f byte) (flow_refused limit context (flow_after context f byte) bytes)
 
-abbrev pub flow_heard : BodyContext → Flow → List ℕ → List Placed
-flow_heard context f [] = []
-flow_heard context f (byte ∷ bytes) = flow_heard context (flow_after context f byte) bytes ++ put (flow_placed context f byte) []
+abbrev pub flow_events : BodyContext → Flow → List ℕ → List Placed
+flow_events context f [] = []
+flow_events context f (byte ∷ bytes) = flow_events context (flow_after context f byte) bytes ++ put (flow_placed context f byte) []
 
 -- the direction that a body carries, from what is kept of the log
 abbrev pub context_in : Context → Direction → BodyContext

@@ -44,12 +44,12 @@ opened_events [] = 0
 opened_events (e ∷ past) = cond (begins_connection e.event) (opened_events past + 1) (opened_events past)
 
 -- the item of an event, if it is in this direction
-abbrev pub item_going : Direction → Event → Option Item
-item_going directions.Sent (sent item) = Some item
-item_going directions.Recv (received item) = Some item
-item_going _ _ = None
+abbrev pub directed_item : Direction → Event → Option Item
+directed_item directions.Sent (sent item) = Some item
+directed_item directions.Recv (received item) = Some item
+directed_item _ _ = None
 
 -- the items of the events of one direction of the connection of this number, in order; the newest event comes first
 abbrev pub connection_items : ℕ → Direction → List Placed → List Item
 connection_items number direction [] = []
-connection_items number direction (e ∷ past) = connection_items number direction past ++ cond (opened_events (e ∷ past) == number) (if_some (item_going direction e.event)) []
+connection_items number direction (e ∷ past) = connection_items number direction past ++ cond (opened_events (e ∷ past) == number) (if_some (directed_item direction e.event)) []

@@ -12,8 +12,8 @@ use Rattle.mq_packet.specs.Stream.{fixed_header_of}
 use Rattle.mq_trace.specs.Framing.{kind_of, direction_of, body_length}
 use Rattle.mq_trace.specs.Events.{Placed}
 use Rattle.mq_trace.specs.Context.{StreamState, Context, so_far_for}
-use Rattle.mq_trace.specs.Runs.{behind, refused_in, heard_in}
-use Rattle.mq_trace.specs.Hearing.{AreEvents}
+use Rattle.mq_trace.specs.Runs.{behind, refused_in, events_by}
+use Rattle.mq_trace.specs.Reception.{AreEvents}
 use Rattle.mq_trace.specs.Deframing.{FlowWhy}
 use Rattle.mq_trace.specs.declared.refusal.Refusal.{Refusal}
 
@@ -87,16 +87,16 @@ pub record IsSound (r : Reading) : Type 0 where
   pub recv : IsUnfinished r.limit (state_in r.recv)
 
 -- These bytes bring a reader from one state to another: none of them is refused, and they complete these events, the newest first.
-pub record Advances (r r' : Reading) (bytes : List ℕ) (heard : List Placed) : Type 0 where
+pub record Advances (r r' : Reading) (bytes : List ℕ) (completed : List Placed) : Type 0 where
   pub limit : r'.limit ≡ r.limit
   pub each : (part : List ℕ) → IsAt r.stage part → (part' : List ℕ) × IsAt r'.stage part' × (refused_in r.limit (context_of r part) bytes ≡ None)
-      × (behind (context_of r part) bytes ≡ context_of r' part') × (heard_in (context_of r part) bytes ≡ heard)
+      × (behind (context_of r part) bytes ≡ context_of r' part') × (events_by (context_of r part) bytes ≡ completed)
 
 -- These bytes bring a reader from one state to another, and a sink that had received the earlier events has also received those that the bytes complete.
 pub record Comes {S : Type 0} (agrees : S → List Placed → Type 0) (r r' : Reading) (bytes : List ℕ) (old new : S) : Type 0 where
-  pub heard : List Placed
-  pub advances : Advances r r' bytes heard
-  pub emitted : (earlier : List Placed) → agrees old earlier → AreEvents (heard ++ earlier) → agrees new (heard ++ earlier)
+  pub completed : List Placed
+  pub advances : Advances r r' bytes completed
+  pub emitted : (earlier : List Placed) → agrees old earlier → AreEvents (completed ++ earlier) → agrees new (completed ++ earlier)
 
 -- These bytes aren't all taken in: one of them isn't, and none before it is refused or completes anything.
 pub record StepStops {S : Type 0} (declines : S → S → List Placed → Refusal → Type 0) (r : Reading) (bytes : List ℕ) (old new : S) (refusal : Refusal) : Type 0 where
@@ -104,5 +104,5 @@ pub record StepStops {S : Type 0} (declines : S → S → List Placed → Refusa
   pub byte : ℕ
   pub later : List ℕ
   pub is : bytes ≡ taken ++ byte ∷ later
-  pub each : (part : List ℕ) → IsAt r.stage part → (refused_in r.limit (context_of r part) taken ≡ None) × (heard_in (context_of r part) taken ≡ [])
-      × FlowWhy declines r.limit (r.at + length taken) (so_far_for (behind (context_of r part) taken) byte) (refused_in r.limit (context_of r part) (taken ++ byte ∷ [])) (heard_in (context_of r part) (taken ++ byte ∷ [])) old new refusal
+  pub each : (part : List ℕ) → IsAt r.stage part → (refused_in r.limit (context_of r part) taken ≡ None) × (events_by (context_of r part) taken ≡ [])
+      × FlowWhy declines r.limit (r.at + length taken) (so_far_for (behind (context_of r part) taken) byte) (refused_in r.limit (context_of r part) (taken ++ byte ∷ [])) (events_by (context_of r part) (taken ++ byte ∷ [])) old new refusal

@@ -4,7 +4,7 @@ pub mod Deframing
 pub mod Events
 pub mod Flows
 pub mod Framing
-pub mod Hearing
+pub mod Reception
 pub mod Joined
 pub mod Keeping
 pub mod Pieces

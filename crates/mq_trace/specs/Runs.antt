@@ -16,6 +16,6 @@ refused_in limit c [] = None
 refused_in limit c (byte ∷ bytes) = option_or (refusal_for limit c byte) (refused_in limit (after c byte) bytes)
 
 -- the events that these bytes complete, the newest first
-abbrev pub heard_in : Context → List ℕ → List Placed
-heard_in c [] = []
-heard_in c (byte ∷ bytes) = heard_in (after c byte) bytes ++ put (placed_for c byte) []
+abbrev pub events_by : Context → List ℕ → List Placed
+events_by c [] = []
+events_by c (byte ∷ bytes) = events_by (after c byte) bytes ++ put (placed_for c byte) []

@@ -30,19 +30,19 @@ pub record IsTracedTo (tracer : Traced) (log : List ℕ) : Type 0 where
   pub keeps : HasRead tracer.reading log
 
 -- A sink that had received the events of the log has received those of the log with these bytes after it.
-abbrev pub HasHeard : {S : Type 0} → (S → List Placed → Type 0) → List ℕ → List ℕ → S → S → Type 0
-HasHeard agrees log bytes old new = agrees old (events log) → agrees new (events (log ++ bytes))
+abbrev pub HasReceived : {S : Type 0} → (S → List Placed → Type 0) → List ℕ → List ℕ → S → S → Type 0
+HasReceived agrees log bytes old new = agrees old (events log) → agrees new (events (log ++ bytes))
 
 -- The byte after these is refused: this is the lowest of the refusals whose conditions apply at it. The sink has received all events before the byte, and none of it.
 pub record IsRefused {S : Type 0} (agrees : S → List Placed → Type 0) (limit : ℕ) (log bytes : List ℕ) (byte : ℕ) (old new : S) (refusal : Refusal) : Type 0 where
   pub met : refusal_at limit (log ++ bytes) byte ≡ Some refusal
-  pub heard : HasHeard agrees log bytes old new
+  pub receives : HasReceived agrees log bytes old new
 
 -- There was no memory for the byte after these, which belongs to a packet and doesn't show it to be too large. The sink has received all events before the byte, and none of it.
 pub record LacksMemory {S : Type 0} (agrees : S → List Placed → Type 0) (limit : ℕ) (log bytes : List ℕ) (byte : ℕ) (old new : S) (refusal : Refusal) : Type 0 where
   pub is : refusal ≡ refusals.Memory (length (log ++ bytes))
   pub needs : NeedsMemory limit (packet_at (log ++ bytes) byte)
-  pub heard : HasHeard agrees log bytes old new
+  pub receives : HasReceived agrees log bytes old new
 
 -- The sink refused the event that the byte after these completes, at which no refusal's condition applies. If it had received the events of the log, it is in
 -- the state of having refused after all events before the byte.
@@ -72,7 +72,7 @@ pub record Stops {S : Type 0} (agrees : S → List Placed → Type 0) (refuses :
 
 -- What feeding a piece after a log returns.
 abbrev pub TracesPiece : {S : Type 0} → (S → List Placed → Type 0) → (S → List Placed → Refusal → Type 0) → ℕ → List ℕ → List ℕ → S → S → Result (Unit {0}) Refusal → Type 0
-TracesPiece agrees refuses limit log piece old new (Ok _) = (refused limit (log ++ piece) ≡ None) × HasHeard agrees log piece old new
+TracesPiece agrees refuses limit log piece old new (Ok _) = (refused limit (log ++ piece) ≡ None) × HasReceived agrees log piece old new
 TracesPiece agrees refuses limit log piece old new (Err refusal) = Stops agrees refuses limit log piece old new refusal
 
 -- What ending a log that wasn't refused returns.

@@ -5,10 +5,10 @@ ghost use Rattle.mq_packet.specs.Entries.{PublishFields, publish};
 ghost use Rattle.mq_packet.specs.Sizes.{size_with, remaining_length};
 ghost use Rattle.mq_packet.specs.declared.packet.Packet.TheVariants as packets;
 ghost use Rattle.mq_trace.specs.Events.{Placed, packet};
-ghost use Rattle.mq_trace.specs.Flows.{going};
+ghost use Rattle.mq_trace.specs.Flows.{item_event};
 ghost use Rattle.mq_trace.specs.declared.event.Item.TheVariants as items;
 ghost use Rattle.mq_trace.specs.Connections.{begins_connection, ends_connection, is_answer, needs_answer, is_packet, is_connack, is_session_entry};
-ghost use Rattle.mq_trace.specs.Hearing.{AreEvents, Declines, event_of, item_of};
+ghost use Rattle.mq_trace.specs.Reception.{AreEvents, Declines, event_of, item_of};
 ghost use Rattle.mq_trace.specs.Emission.{event_refusal, connections_with, next_placed, NotEmitted, RefusedBySink};
 
 use super::event::{Event, Item};
@@ -45,7 +45,7 @@ pub fn emit<S: Sink>(
     sink: &mut S,
 ) -> Result<(), Refusal>
     ensures ok { OnOk result ((event_refusal at connections.old (event_of event.entry) ≡ None) × (connections.new ≡ connections_with server connections.old (event_of event.entry))) }
-    ensures heard { (earlier : List Placed) → S.agrees sink.old earlier → AreEvents (next_placed connections.old record_no (event_of event.entry) ∷ earlier)
+    ensures receives { (earlier : List Placed) → S.agrees sink.old earlier → AreEvents (next_placed connections.old record_no (event_of event.entry) ∷ earlier)
         → OnOk result (S.agrees sink.new (next_placed connections.old record_no (event_of event.entry) ∷ earlier)) }
     ensures err { IfErr result (λ refusal. NotEmitted (Declines S.agrees S.refuses) at (event_refusal at connections.old (event_of event.entry)) (next_placed connections.old record_no (event_of event.entry) ∷ []) sink.old sink.new refusal) }
 {
@@ -72,11 +72,11 @@ pub fn emit_publish<S: Sink>(
     sink: &mut S,
 ) -> Result<(), Refusal>
     requires { size ≡ unwrap_or (size_with (remaining_length (packets.Publish publish))) 0 }
-    ensures met { OnOk result (event_refusal at connections.old (going direction (item_of (items.Packet (packets.Publish publish.entry)))) ≡ None) }
-    ensures kept { (server : Bool) → OnOk result (connections.new ≡ connections_with server connections.old (going direction (item_of (items.Packet (packets.Publish publish.entry))))) }
-    ensures heard { (earlier : List Placed) → S.agrees sink.old earlier → AreEvents (next_placed connections.old record_no (going direction (item_of (items.Packet (packets.Publish publish.entry)))) ∷ earlier)
-        → OnOk result (S.agrees sink.new (next_placed connections.old record_no (going direction (item_of (items.Packet (packets.Publish publish.entry)))) ∷ earlier)) }
-    ensures err { IfErr result (λ refusal. NotEmitted (Declines S.agrees S.refuses) at (event_refusal at connections.old (going direction (item_of (items.Packet (packets.Publish publish.entry))))) (next_placed connections.old record_no (going direction (item_of (items.Packet (packets.Publish publish.entry)))) ∷ []) sink.old sink.new refusal) }
+    ensures met { OnOk result (event_refusal at connections.old (item_event direction (item_of (items.Packet (packets.Publish publish.entry)))) ≡ None) }
+    ensures kept { (server : Bool) → OnOk result (connections.new ≡ connections_with server connections.old (item_event direction (item_of (items.Packet (packets.Publish publish.entry))))) }
+    ensures receives { (earlier : List Placed) → S.agrees sink.old earlier → AreEvents (next_placed connections.old record_no (item_event direction (item_of (items.Packet (packets.Publish publish.entry)))) ∷ earlier)
+        → OnOk result (S.agrees sink.new (next_placed connections.old record_no (item_event direction (item_of (items.Packet (packets.Publish publish.entry)))) ∷ earlier)) }
+    ensures err { IfErr result (λ refusal. NotEmitted (Declines S.agrees S.refuses) at (event_refusal at connections.old (item_event direction (item_of (items.Packet (packets.Publish publish.entry))))) (next_placed connections.old record_no (item_event direction (item_of (items.Packet (packets.Publish publish.entry)))) ∷ []) sink.old sink.new refusal) }
 {
     match publish_refusal(*connections, at) {
         Some(met) => Err(met),
@@ -87,7 +87,7 @@ pub fn emit_publish<S: Sink>(
 /// The refusal that applies to a PUBLISH that the byte at this offset completes.
 #[inline(always)]
 fn publish_refusal(connections: Connections, at: u64) -> Option<Refusal>
-    ensures met { (direction : Direction) (size : ℕ) (fields : PublishFields) → result ≡ event_refusal at connections (going direction (packet size (publish fields))) }
+    ensures met { (direction : Direction) (size : ℕ) (fields : PublishFields) → result ≡ event_refusal at connections (item_event direction (packet size (publish fields))) }
     ensures room { result ≡ None → connections.events < 4294967295 }
 {
     if connections.connected && !connections.connack_seen {
@@ -116,10 +116,10 @@ fn emit_next_publish<S: Sink>(
 ) -> Result<(), Refusal>
     requires room { connections.old.events < 4294967295 }
     requires size { size ≡ unwrap_or (size_with (remaining_length (packets.Publish publish))) 0 }
-    ensures kept { (server : Bool) → OnOk result (connections.new ≡ connections_with server connections.old (going direction (item_of (items.Packet (packets.Publish publish.entry))))) }
-    ensures heard { (earlier : List Placed) → S.agrees sink.old earlier → AreEvents (next_placed connections.old record_no (going direction (item_of (items.Packet (packets.Publish publish.entry)))) ∷ earlier)
-        → OnOk result (S.agrees sink.new (next_placed connections.old record_no (going direction (item_of (items.Packet (packets.Publish publish.entry)))) ∷ earlier)) }
-    ensures err { IfErr result (λ refusal. RefusedBySink (Declines S.agrees S.refuses) at (next_placed connections.old record_no (going direction (item_of (items.Packet (packets.Publish publish.entry)))) ∷ []) sink.old sink.new refusal) }
+    ensures kept { (server : Bool) → OnOk result (connections.new ≡ connections_with server connections.old (item_event direction (item_of (items.Packet (packets.Publish publish.entry))))) }
+    ensures receives { (earlier : List Placed) → S.agrees sink.old earlier → AreEvents (next_placed connections.old record_no (item_event direction (item_of (items.Packet (packets.Publish publish.entry)))) ∷ earlier)
+        → OnOk result (S.agrees sink.new (next_placed connections.old record_no (item_event direction (item_of (items.Packet (packets.Publish publish.entry)))) ∷ earlier)) }
+    ensures err { IfErr result (λ refusal. RefusedBySink (Declines S.agrees S.refuses) at (next_placed connections.old record_no (item_event direction (item_of (items.Packet (packets.Publish publish.entry)))) ∷ []) sink.old sink.new refusal) }
 {
     let place = Place3 {
         position: connections.events + 1,
@@ -173,7 +173,7 @@ fn emit_next<S: Sink>(
 ) -> Result<(), Refusal>
     requires { connections.old.events < 4294967295 }
     ensures ok { OnOk result (connections.new ≡ connections_with server connections.old (event_of event.entry)) }
-    ensures heard { (earlier : List Placed) → S.agrees sink.old earlier → AreEvents (next_placed connections.old record_no (event_of event.entry) ∷ earlier)
+    ensures receives { (earlier : List Placed) → S.agrees sink.old earlier → AreEvents (next_placed connections.old record_no (event_of event.entry) ∷ earlier)
         → OnOk result (S.agrees sink.new (next_placed connections.old record_no (event_of event.entry) ∷ earlier)) }
     ensures err { IfErr result (λ refusal. RefusedBySink (Declines S.agrees S.refuses) at (next_placed connections.old record_no (event_of event.entry) ∷ []) sink.old sink.new refusal) }
 {

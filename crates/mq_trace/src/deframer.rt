@@ -11,16 +11,16 @@ ghost use Rattle.mq_packet.specs.declared.header.FixedHeader.TheVariants as head
 ghost use Rattle.mq_trace.specs.Refusals.{is_too_large};
 ghost use Rattle.mq_trace.specs.Events.{Placed, bad, lost, item_read, read_frame};
 ghost use Rattle.mq_trace.specs.Context.{put};
-ghost use Rattle.mq_trace.specs.Hearing.{AreEvents, Declines, event_of, item_of};
+ghost use Rattle.mq_trace.specs.Reception.{AreEvents, Declines, event_of, item_of};
 ghost use Rattle.mq_trace.specs.declared.event.Item.TheVariants as items;
 ghost use Rattle.mq_trace.specs.Emission.{NotEmitted, event_refusal, connections_with, next_placed};
 ghost use Rattle.mq_trace.specs.Keeping.{state_in, IsUnfinished};
 ghost use Rattle.mq_trace.specs.Settling.{IsByteMore, IsStep, IsWhole};
-ghost use Rattle.mq_trace.specs.Flows.{going, flow_placed_with, flow_refused, flow_heard, flow_behind};
+ghost use Rattle.mq_trace.specs.Flows.{item_event, flow_placed_with, flow_refused, flow_events, flow_behind};
 ghost use Rattle.mq_trace.specs.Deframing.{body_context, flow_of, frame_event, frame_refusal, connections_then, FlowStops, FlowComes};
 
 use super::connections::{Connections, emit, emit_publish};
-use super::event::{Item, going};
+use super::event::{Item, item_event};
 use super::kind::Direction;
 use super::refusal::Refusal;
 use super::sink::Sink;
@@ -117,9 +117,9 @@ impl Deframer {
         ensures count { IfOk result (λ n. (1 ≤ n) × (n ≤ length bytes.now)) }
         ensures unrefused { IfOk result (λ n. flow_refused context.limit (body_context context) (flow_of at (state_in self.old) connections.old) (take n bytes.now) ≡ None) }
         ensures kept { IfOk result (λ n. flow_behind (body_context context) (flow_of at (state_in self.old) connections.old) (take n bytes.now) ≡ flow_of (at + n) (state_in self.new) connections.new) }
-        ensures heard { (earlier : List Placed) → S.agrees sink.old earlier → IfOk result (λ n.
-            AreEvents (flow_heard (body_context context) (flow_of at (state_in self.old) connections.old) (take n bytes.now) ++ earlier)
-            → S.agrees sink.new (flow_heard (body_context context) (flow_of at (state_in self.old) connections.old) (take n bytes.now) ++ earlier)) }
+        ensures receives { (earlier : List Placed) → S.agrees sink.old earlier → IfOk result (λ n.
+            AreEvents (flow_events (body_context context) (flow_of at (state_in self.old) connections.old) (take n bytes.now) ++ earlier)
+            → S.agrees sink.new (flow_events (body_context context) (flow_of at (state_in self.old) connections.old) (take n bytes.now) ++ earlier)) }
         ensures sound { OnOk result (IsUnfinished context.limit (state_in self.new)) }
         ensures stops { IfErr result (λ refusal. FlowStops (Declines S.agrees S.refuses) context.limit (body_context context) (flow_of at (state_in self.old) connections.old) bytes.now sink.old sink.new refusal) }
     {
@@ -278,7 +278,7 @@ impl Deframer {
         ensures empty { OnOk result (state_in self.new ≡ record { unfinished = []; lost = self.old.lost }) }
         ensures met { OnOk result (frame_refusal at (flow_of at (record { unfinished = []; lost = false }) connections.old) context.direction self.old.unfinished.items ≡ None) }
         ensures kept { OnOk result (connections.new ≡ connections_then context.server connections.old (frame_event context.direction self.old.unfinished.items)) }
-        ensures heard { (earlier : List Placed) → S.agrees sink.old earlier
+        ensures receives { (earlier : List Placed) → S.agrees sink.old earlier
             → AreEvents (put (flow_placed_with (body_context context) (flow_of at (record { unfinished = []; lost = false }) connections.old) (frame_event context.direction self.old.unfinished.items)) earlier)
             → OnOk result (S.agrees sink.new (put (flow_placed_with (body_context context) (flow_of at (record { unfinished = []; lost = false }) connections.old) (frame_event context.direction self.old.unfinished.items)) earlier)) }
         ensures err { IfErr result (λ refusal. NotEmitted (Declines S.agrees S.refuses) at (frame_refusal at (flow_of at (record { unfinished = []; lost = false }) connections.old) context.direction self.old.unfinished.items)
@@ -402,10 +402,10 @@ impl Deframer {
         sink: &mut S,
     ) -> Result<(), Refusal>
         ensures gone { state_in self.new ≡ record { unfinished = []; lost = true } }
-        ensures ok { OnOk result ((event_refusal at connections.old (going context.direction lost) ≡ None) × (connections.new ≡ connections_with context.server connections.old (going context.direction lost))) }
-        ensures heard { (earlier : List Placed) → S.agrees sink.old earlier → AreEvents (next_placed connections.old context.record_no (going context.direction lost) ∷ earlier)
-            → OnOk result (S.agrees sink.new (next_placed connections.old context.record_no (going context.direction lost) ∷ earlier)) }
-        ensures err { IfErr result (λ refusal. NotEmitted (Declines S.agrees S.refuses) at (event_refusal at connections.old (going context.direction lost)) (next_placed connections.old context.record_no (going context.direction lost) ∷ []) sink.old sink.new refusal) }
+        ensures ok { OnOk result ((event_refusal at connections.old (item_event context.direction lost) ≡ None) × (connections.new ≡ connections_with context.server connections.old (item_event context.direction lost))) }
+        ensures receives { (earlier : List Placed) → S.agrees sink.old earlier → AreEvents (next_placed connections.old context.record_no (item_event context.direction lost) ∷ earlier)
+            → OnOk result (S.agrees sink.new (next_placed connections.old context.record_no (item_event context.direction lost) ∷ earlier)) }
+        ensures err { IfErr result (λ refusal. NotEmitted (Declines S.agrees S.refuses) at (event_refusal at connections.old (item_event context.direction lost)) (next_placed connections.old context.record_no (item_event context.direction lost) ∷ []) sink.old sink.new refusal) }
     {
         self.unfinished.clear();
         self.lost = true;
@@ -414,7 +414,7 @@ impl Deframer {
             context.server,
             at,
             context.record_no,
-            going(context.direction, Item::Lost),
+            item_event(context.direction, Item::Lost),
             sink,
         )
     }
@@ -488,7 +488,7 @@ fn emit_frame<S: Sink>(
     requires fits { length frame.now ≤ header + 268435455 }
     ensures met { OnOk result (frame_refusal at (flow_of at (record { unfinished = []; lost = false }) connections.old) context.direction frame.now ≡ None) }
     ensures kept { OnOk result (connections.new ≡ connections_then context.server connections.old (frame_event context.direction frame.now)) }
-    ensures heard { (earlier : List Placed) → S.agrees sink.old earlier
+    ensures receives { (earlier : List Placed) → S.agrees sink.old earlier
         → AreEvents (put (flow_placed_with (body_context context) (flow_of at (record { unfinished = []; lost = false }) connections.old) (frame_event context.direction frame.now)) earlier)
         → OnOk result (S.agrees sink.new (put (flow_placed_with (body_context context) (flow_of at (record { unfinished = []; lost = false }) connections.old) (frame_event context.direction frame.now)) earlier)) }
     ensures err { IfErr result (λ refusal. NotEmitted (Declines S.agrees S.refuses) at (frame_refusal at (flow_of at (record { unfinished = []; lost = false }) connections.old) context.direction frame.now)
@@ -520,7 +520,7 @@ fn emit_brief_publish_frame<S: Sink>(
     requires fits { length frame.now ≤ header + 268435455 }
     ensures met { OnOk result (frame_refusal at (flow_of at (record { unfinished = []; lost = false }) connections.old) context.direction frame.now ≡ None) }
     ensures kept { OnOk result (connections.new ≡ connections_then context.server connections.old (frame_event context.direction frame.now)) }
-    ensures heard { (earlier : List Placed) → S.agrees sink.old earlier
+    ensures receives { (earlier : List Placed) → S.agrees sink.old earlier
         → AreEvents (put (flow_placed_with (body_context context) (flow_of at (record { unfinished = []; lost = false }) connections.old) (frame_event context.direction frame.now)) earlier)
         → OnOk result (S.agrees sink.new (put (flow_placed_with (body_context context) (flow_of at (record { unfinished = []; lost = false }) connections.old) (frame_event context.direction frame.now)) earlier)) }
     ensures err { IfErr result (λ refusal. NotEmitted (Declines S.agrees S.refuses) at (frame_refusal at (flow_of at (record { unfinished = []; lost = false }) connections.old) context.direction frame.now)
@@ -555,7 +555,7 @@ fn emit_publish_frame<S: Sink>(
     requires fits { length frame.now ≤ header + 268435455 }
     ensures met { OnOk result (frame_refusal at (flow_of at (record { unfinished = []; lost = false }) connections.old) context.direction frame.now ≡ None) }
     ensures kept { OnOk result (connections.new ≡ connections_then context.server connections.old (frame_event context.direction frame.now)) }
-    ensures heard { (earlier : List Placed) → S.agrees sink.old earlier
+    ensures receives { (earlier : List Placed) → S.agrees sink.old earlier
         → AreEvents (put (flow_placed_with (body_context context) (flow_of at (record { unfinished = []; lost = false }) connections.old) (frame_event context.direction frame.now)) earlier)
         → OnOk result (S.agrees sink.new (put (flow_placed_with (body_context context) (flow_of at (record { unfinished = []; lost = false }) connections.old) (frame_event context.direction frame.now)) earlier)) }
     ensures err { IfErr result (λ refusal. NotEmitted (Declines S.agrees S.refuses) at (frame_refusal at (flow_of at (record { unfinished = []; lost = false }) connections.old) context.direction frame.now)
@@ -591,7 +591,7 @@ fn emit_puback_frame<S: Sink>(
     requires fits { length frame.now ≤ header + 268435455 }
     ensures met { OnOk result (frame_refusal at (flow_of at (record { unfinished = []; lost = false }) connections.old) context.direction frame.now ≡ None) }
     ensures kept { OnOk result (connections.new ≡ connections_then context.server connections.old (frame_event context.direction frame.now)) }
-    ensures heard { (earlier : List Placed) → S.agrees sink.old earlier
+    ensures receives { (earlier : List Placed) → S.agrees sink.old earlier
         → AreEvents (put (flow_placed_with (body_context context) (flow_of at (record { unfinished = []; lost = false }) connections.old) (frame_event context.direction frame.now)) earlier)
         → OnOk result (S.agrees sink.new (put (flow_placed_with (body_context context) (flow_of at (record { unfinished = []; lost = false }) connections.old) (frame_event context.direction frame.now)) earlier)) }
     ensures err { IfErr result (λ refusal. NotEmitted (Declines S.agrees S.refuses) at (frame_refusal at (flow_of at (record { unfinished = []; lost = false }) connections.old) context.direction frame.now)
@@ -617,7 +617,7 @@ fn emit_ping_frame<S: Sink>(
     requires fits { length frame.now ≤ header + 268435455 }
     ensures met { OnOk result (frame_refusal at (flow_of at (record { unfinished = []; lost = false }) connections.old) context.direction frame.now ≡ None) }
     ensures kept { OnOk result (connections.new ≡ connections_then context.server connections.old (frame_event context.direction frame.now)) }
-    ensures heard { (earlier : List Placed) → S.agrees sink.old earlier
+    ensures receives { (earlier : List Placed) → S.agrees sink.old earlier
         → AreEvents (put (flow_placed_with (body_context context) (flow_of at (record { unfinished = []; lost = false }) connections.old) (frame_event context.direction frame.now)) earlier)
         → OnOk result (S.agrees sink.new (put (flow_placed_with (body_context context) (flow_of at (record { unfinished = []; lost = false }) connections.old) (frame_event context.direction frame.now)) earlier)) }
     ensures err { IfErr result (λ refusal. NotEmitted (Declines S.agrees S.refuses) at (frame_refusal at (flow_of at (record { unfinished = []; lost = false }) connections.old) context.direction frame.now)
@@ -643,7 +643,7 @@ fn emit_other_frame<S: Sink>(
     requires fits { length frame.now ≤ header + 268435455 }
     ensures met { OnOk result (frame_refusal at (flow_of at (record { unfinished = []; lost = false }) connections.old) context.direction frame.now ≡ None) }
     ensures kept { OnOk result (connections.new ≡ connections_then context.server connections.old (frame_event context.direction frame.now)) }
-    ensures heard { (earlier : List Placed) → S.agrees sink.old earlier
+    ensures receives { (earlier : List Placed) → S.agrees sink.old earlier
         → AreEvents (put (flow_placed_with (body_context context) (flow_of at (record { unfinished = []; lost = false }) connections.old) (frame_event context.direction frame.now)) earlier)
         → OnOk result (S.agrees sink.new (put (flow_placed_with (body_context context) (flow_of at (record { unfinished = []; lost = false }) connections.old) (frame_event context.direction frame.now)) earlier)) }
     ensures err { IfErr result (λ refusal. NotEmitted (Declines S.agrees S.refuses) at (frame_refusal at (flow_of at (record { unfinished = []; lost = false }) connections.old) context.direction frame.now)
@@ -669,7 +669,7 @@ fn emit_decoded<S: Sink>(
     requires size { IfOk read (λ packet. remaining_length packet ≡ length (take (length frame.now - header) (drop header frame.now))) }
     ensures met { OnOk result (frame_refusal at (flow_of at (record { unfinished = []; lost = false }) connections.old) context.direction frame.now ≡ None) }
     ensures kept { OnOk result (connections.new ≡ connections_then context.server connections.old (frame_event context.direction frame.now)) }
-    ensures heard { (earlier : List Placed) → S.agrees sink.old earlier
+    ensures receives { (earlier : List Placed) → S.agrees sink.old earlier
         → AreEvents (put (flow_placed_with (body_context context) (flow_of at (record { unfinished = []; lost = false }) connections.old) (frame_event context.direction frame.now)) earlier)
         → OnOk result (S.agrees sink.new (put (flow_placed_with (body_context context) (flow_of at (record { unfinished = []; lost = false }) connections.old) (frame_event context.direction frame.now)) earlier)) }
     ensures err { IfErr result (λ refusal. NotEmitted (Declines S.agrees S.refuses) at (frame_refusal at (flow_of at (record { unfinished = []; lost = false }) connections.old) context.direction frame.now)
@@ -696,7 +696,7 @@ fn emit_fault<S: Sink>(
     requires exact { decoded (slice_index frame.now 0) (take (length frame.now - header) (drop header frame.now)) ≡ Err fault }
     ensures met { OnOk result (frame_refusal at (flow_of at (record { unfinished = []; lost = false }) connections.old) context.direction frame.now ≡ None) }
     ensures kept { OnOk result (connections.new ≡ connections_then context.server connections.old (frame_event context.direction frame.now)) }
-    ensures heard { (earlier : List Placed) → S.agrees sink.old earlier
+    ensures receives { (earlier : List Placed) → S.agrees sink.old earlier
         → AreEvents (put (flow_placed_with (body_context context) (flow_of at (record { unfinished = []; lost = false }) connections.old) (frame_event context.direction frame.now)) earlier)
         → OnOk result (S.agrees sink.new (put (flow_placed_with (body_context context) (flow_of at (record { unfinished = []; lost = false }) connections.old) (frame_event context.direction frame.now)) earlier)) }
     ensures err { IfErr result (λ refusal. NotEmitted (Declines S.agrees S.refuses) at (frame_refusal at (flow_of at (record { unfinished = []; lost = false }) connections.old) context.direction frame.now)
@@ -725,18 +725,18 @@ fn emit_packet<S: Sink>(
     packet: Packet<'_>,
     sink: &mut S,
 ) -> Result<(), Refusal>
-    ensures met { OnOk result (event_refusal at connections.old (going context.direction (item_of (items.Packet packet.entry))) ≡ None) }
-    ensures kept { OnOk result (connections.new ≡ connections_with context.server connections.old (going context.direction (item_of (items.Packet packet.entry)))) }
-    ensures heard { (earlier : List Placed) → S.agrees sink.old earlier → AreEvents (next_placed connections.old context.record_no (going context.direction (item_of (items.Packet packet.entry))) ∷ earlier)
-        → OnOk result (S.agrees sink.new (next_placed connections.old context.record_no (going context.direction (item_of (items.Packet packet.entry))) ∷ earlier)) }
-    ensures err { IfErr result (λ refusal. NotEmitted (Declines S.agrees S.refuses) at (event_refusal at connections.old (going context.direction (item_of (items.Packet packet.entry)))) (next_placed connections.old context.record_no (going context.direction (item_of (items.Packet packet.entry))) ∷ []) sink.old sink.new refusal) }
+    ensures met { OnOk result (event_refusal at connections.old (item_event context.direction (item_of (items.Packet packet.entry))) ≡ None) }
+    ensures kept { OnOk result (connections.new ≡ connections_with context.server connections.old (item_event context.direction (item_of (items.Packet packet.entry)))) }
+    ensures receives { (earlier : List Placed) → S.agrees sink.old earlier → AreEvents (next_placed connections.old context.record_no (item_event context.direction (item_of (items.Packet packet.entry))) ∷ earlier)
+        → OnOk result (S.agrees sink.new (next_placed connections.old context.record_no (item_event context.direction (item_of (items.Packet packet.entry))) ∷ earlier)) }
+    ensures err { IfErr result (λ refusal. NotEmitted (Declines S.agrees S.refuses) at (event_refusal at connections.old (item_event context.direction (item_of (items.Packet packet.entry)))) (next_placed connections.old context.record_no (item_event context.direction (item_of (items.Packet packet.entry))) ∷ []) sink.old sink.new refusal) }
 {
     emit(
         connections,
         context.server,
         at,
         context.record_no,
-        going(context.direction, Item::Packet(packet)),
+        item_event(context.direction, Item::Packet(packet)),
         sink,
     )
 }
@@ -752,11 +752,11 @@ fn emit_bad<S: Sink>(
     place: u32,
     sink: &mut S,
 ) -> Result<(), Refusal>
-    ensures met { OnOk result (event_refusal at connections.old (going context.direction (bad first rule place)) ≡ None) }
-    ensures kept { OnOk result (connections.new ≡ connections_with context.server connections.old (going context.direction (bad first rule place))) }
-    ensures heard { (earlier : List Placed) → S.agrees sink.old earlier → AreEvents (next_placed connections.old context.record_no (going context.direction (bad first rule place)) ∷ earlier)
-        → OnOk result (S.agrees sink.new (next_placed connections.old context.record_no (going context.direction (bad first rule place)) ∷ earlier)) }
-    ensures err { IfErr result (λ refusal. NotEmitted (Declines S.agrees S.refuses) at (event_refusal at connections.old (going context.direction (bad first rule place))) (next_placed connections.old context.record_no (going context.direction (bad first rule place)) ∷ []) sink.old sink.new refusal) }
+    ensures met { OnOk result (event_refusal at connections.old (item_event context.direction (bad first rule place)) ≡ None) }
+    ensures kept { OnOk result (connections.new ≡ connections_with context.server connections.old (item_event context.direction (bad first rule place))) }
+    ensures receives { (earlier : List Placed) → S.agrees sink.old earlier → AreEvents (next_placed connections.old context.record_no (item_event context.direction (bad first rule place)) ∷ earlier)
+        → OnOk result (S.agrees sink.new (next_placed connections.old context.record_no (item_event context.direction (bad first rule place)) ∷ earlier)) }
+    ensures err { IfErr result (λ refusal. NotEmitted (Declines S.agrees S.refuses) at (event_refusal at connections.old (item_event context.direction (bad first rule place))) (next_placed connections.old context.record_no (item_event context.direction (bad first rule place)) ∷ []) sink.old sink.new refusal) }
 {
     let item = Item::Bad {
         first,
@@ -768,7 +768,7 @@ fn emit_bad<S: Sink>(
         context.server,
         at,
         context.record_no,
-        going(context.direction, item),
+        item_event(context.direction, item),
         sink,
     )
 }

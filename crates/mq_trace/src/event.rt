@@ -1,8 +1,8 @@
 //! What a log's bytes complete: an event at a time.
 
 ghost use Rattle.std.specs.Prelude.{◌≡◌};
-ghost use Rattle.mq_trace.specs.Flows.{going};
-ghost use Rattle.mq_trace.specs.Hearing.{event_of, item_of};
+ghost use Rattle.mq_trace.specs.Flows.{item_event};
+ghost use Rattle.mq_trace.specs.Reception.{event_of, item_of};
 
 use super::kind::Direction;
 use mq_packet::{Packet, PacketRule};
@@ -46,8 +46,8 @@ pub enum Event<'a> {
 
 /// The event of an item in this direction.
 #[inline(always)]
-pub fn going(direction: Direction, item: Item<'_>) -> Event<'_>
-    ensures { event_of result ≡ going direction (item_of item.entry) }
+pub fn item_event(direction: Direction, item: Item<'_>) -> Event<'_>
+    ensures { event_of result ≡ item_event direction (item_of item.entry) }
 {
     match direction {
         Direction::Sent => Event::Sent(item),

@@ -8,11 +8,11 @@ ghost use Rattle.mq_trace.specs.declared.kind.RecordKind.TheVariants as kinds;
 ghost use Rattle.mq_trace.specs.declared.stage.Stage.TheVariants as stages;
 ghost use Rattle.mq_trace.specs.Framing.{kind_named, opens};
 ghost use Rattle.mq_trace.specs.Events.{Placed};
-ghost use Rattle.mq_trace.specs.Hearing.{AreEvents, Declines, event_of};
+ghost use Rattle.mq_trace.specs.Reception.{AreEvents, Declines, event_of};
 ghost use Rattle.mq_trace.specs.Emission.{event_refusal, next_placed, NotEmitted};
 ghost use Rattle.mq_trace.specs.Context.{fresh};
 ghost use Rattle.mq_trace.specs.Stepping.{err_of, behind_header, kind_refusal, kind_for, IsBodyHead, BeginsRecord, refused_first, in_head, marked, leaving, context_for, deframer_for, flow_for, redirected};
-ghost use Rattle.mq_trace.specs.Flows.{flow_refused, flow_heard, flow_behind};
+ghost use Rattle.mq_trace.specs.Flows.{flow_refused, flow_events, flow_behind};
 ghost use Rattle.mq_trace.specs.Deframing.{flow_of, FlowStops};
 ghost use Rattle.mq_trace.specs.Settling.{IsWhole};
 
@@ -481,7 +481,7 @@ impl Reading {
         requires numbered { self.old.records < 4294967295 }
         ensures met { OnOk result (event_refusal self.old.at self.old.connections (event_of event.entry) ≡ None) }
         ensures kept { OnOk result (self.new ≡ marked self.old (event_of event.entry)) }
-        ensures heard { (earlier : List Placed) → S.agrees sink.old earlier → AreEvents (next_placed self.old.connections (self.old.records + 1) (event_of event.entry) ∷ earlier)
+        ensures receives { (earlier : List Placed) → S.agrees sink.old earlier → AreEvents (next_placed self.old.connections (self.old.records + 1) (event_of event.entry) ∷ earlier)
             → OnOk result (S.agrees sink.new (next_placed self.old.connections (self.old.records + 1) (event_of event.entry) ∷ earlier)) }
         ensures err { IfErr result (λ refusal. NotEmitted (Declines S.agrees S.refuses) self.old.at (event_refusal self.old.at self.old.connections (event_of event.entry)) (next_placed self.old.connections (self.old.records + 1) (event_of event.entry) ∷ []) sink.old sink.new refusal) }
     {
@@ -592,9 +592,9 @@ impl Reading {
         ensures count { IfOk result (λ n. (1 ≤ n) × (n ≤ length body.now)) }
         ensures unrefused { IfOk result (λ n. flow_refused self.old.limit (context_for self.old direction) (flow_for self.old direction) (take n body.now) ≡ None) }
         ensures kept { IfOk result (λ n. flow_behind (context_for self.old direction) (flow_for self.old direction) (take n body.now) ≡ flow_of (self.old.at + n) (state_in (deframer_for self.new direction)) self.new.connections) }
-        ensures heard { (earlier : List Placed) → S.agrees sink.old earlier → IfOk result (λ n.
-            AreEvents (flow_heard (context_for self.old direction) (flow_for self.old direction) (take n body.now) ++ earlier)
-            → S.agrees sink.new (flow_heard (context_for self.old direction) (flow_for self.old direction) (take n body.now) ++ earlier)) }
+        ensures receives { (earlier : List Placed) → S.agrees sink.old earlier → IfOk result (λ n.
+            AreEvents (flow_events (context_for self.old direction) (flow_for self.old direction) (take n body.now) ++ earlier)
+            → S.agrees sink.new (flow_events (context_for self.old direction) (flow_for self.old direction) (take n body.now) ++ earlier)) }
         ensures sound { OnOk result (IsUnfinished self.old.limit (state_in (deframer_for self.new direction))) }
         ensures stops { IfErr result (λ refusal. FlowStops (Declines S.agrees S.refuses) self.old.limit (context_for self.old direction) (flow_for self.old direction) body.now sink.old sink.new refusal) }
     {
@@ -645,9 +645,9 @@ impl Reading {
         ensures count { IfOk result (λ n. (1 ≤ n) × (n ≤ length body.now)) }
         ensures unrefused { IfOk result (λ n. flow_refused self.old.limit (context_for self.old direction) (flow_for self.old direction) (take n body.now) ≡ None) }
         ensures kept { IfOk result (λ n. flow_behind (context_for self.old direction) (flow_for self.old direction) (take n body.now) ≡ flow_of (self.old.at + n) (state_in (deframer_for self.new direction)) self.new.connections) }
-        ensures heard { (earlier : List Placed) → S.agrees sink.old earlier → IfOk result (λ n.
-            AreEvents (flow_heard (context_for self.old direction) (flow_for self.old direction) (take n body.now) ++ earlier)
-            → S.agrees sink.new (flow_heard (context_for self.old direction) (flow_for self.old direction) (take n body.now) ++ earlier)) }
+        ensures receives { (earlier : List Placed) → S.agrees sink.old earlier → IfOk result (λ n.
+            AreEvents (flow_events (context_for self.old direction) (flow_for self.old direction) (take n body.now) ++ earlier)
+            → S.agrees sink.new (flow_events (context_for self.old direction) (flow_for self.old direction) (take n body.now) ++ earlier)) }
         ensures sound { OnOk result (IsUnfinished self.old.limit (state_in (deframer_for self.new direction))) }
         ensures stops { IfErr result (λ refusal. FlowStops (Declines S.agrees S.refuses) self.old.limit (context_for self.old direction) (flow_for self.old direction) body.now sink.old sink.new refusal) }
     {
@@ -675,9 +675,9 @@ impl Reading {
         ensures count { IfOk result (λ n. (1 ≤ n) × (n ≤ length body.now)) }
         ensures unrefused { IfOk result (λ n. flow_refused self.old.limit (context_for self.old direction) (flow_for self.old direction) (take n body.now) ≡ None) }
         ensures kept { IfOk result (λ n. flow_behind (context_for self.old direction) (flow_for self.old direction) (take n body.now) ≡ flow_of (self.old.at + n) (state_in (deframer_for self.new direction)) self.new.connections) }
-        ensures heard { (earlier : List Placed) → S.agrees sink.old earlier → IfOk result (λ n.
-            AreEvents (flow_heard (context_for self.old direction) (flow_for self.old direction) (take n body.now) ++ earlier)
-            → S.agrees sink.new (flow_heard (context_for self.old direction) (flow_for self.old direction) (take n body.now) ++ earlier)) }
+        ensures receives { (earlier : List Placed) → S.agrees sink.old earlier → IfOk result (λ n.
+            AreEvents (flow_events (context_for self.old direction) (flow_for self.old direction) (take n body.now) ++ earlier)
+            → S.agrees sink.new (flow_events (context_for self.old direction) (flow_for self.old direction) (take n body.now) ++ earlier)) }
         ensures sound { OnOk result (IsUnfinished self.old.limit (state_in (deframer_for self.new direction))) }
         ensures stops { IfErr result (λ refusal. FlowStops (Declines S.agrees S.refuses) self.old.limit (context_for self.old direction) (flow_for self.old direction) body.now sink.old sink.new refusal) }
     {

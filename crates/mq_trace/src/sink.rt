@@ -4,9 +4,9 @@ ghost use Rattle.std.specs.Prelude.{List, ◌∷◌, ◌≡◌, OnOk, IfErr, unw
 ghost use Rattle.mq_packet.specs.Sizes.{size_with, remaining_length};
 ghost use Rattle.mq_packet.specs.declared.packet.Packet.TheVariants as packets;
 ghost use Rattle.mq_trace.specs.Events.{Placed};
-ghost use Rattle.mq_trace.specs.Hearing.{AreEvents, placed_at, published_at};
+ghost use Rattle.mq_trace.specs.Reception.{AreEvents, placed_at, published_at};
 
-use super::event::{Event, Item, going};
+use super::event::{Event, Item, item_event};
 use super::kind::Direction;
 use super::place::Place3;
 use super::refusal::Refusal;
@@ -54,7 +54,7 @@ pub trait Sink {
     /// The sink's own refusal. Its byte doesn't matter: the tracer replaces it by that of the byte that completed the event. The
     /// sink receives no further events.
     fn event(&mut self, place: Place3, event: Event<'_>) -> Result<(), Refusal>
-        ensures heard { (earlier : List Placed) → agrees self.old earlier → AreEvents (placed_at place event.entry ∷ earlier)
+        ensures receives { (earlier : List Placed) → agrees self.old earlier → AreEvents (placed_at place event.entry ∷ earlier)
             → OnOk result (agrees self.new (placed_at place event.entry ∷ earlier)) }
         ensures refused { (earlier : List Placed) → agrees self.old earlier → AreEvents (placed_at place event.entry ∷ earlier)
             → IfErr result (λ refusal. refuses self.new earlier refusal) };
@@ -74,7 +74,7 @@ pub trait Sink {
         publish: Publish<'_>,
     ) -> Result<(), Refusal>
         requires { size ≡ unwrap_or (size_with (remaining_length (packets.Publish publish))) 0 }
-        ensures heard { (earlier : List Placed) → agrees self.old earlier → AreEvents (published_at place direction publish.entry ∷ earlier)
+        ensures receives { (earlier : List Placed) → agrees self.old earlier → AreEvents (published_at place direction publish.entry ∷ earlier)
             → OnOk result (agrees self.new (published_at place direction publish.entry ∷ earlier)) }
         ensures refused { (earlier : List Placed) → agrees self.old earlier → AreEvents (published_at place direction publish.entry ∷ earlier)
             → IfErr result (λ refusal. refuses self.new earlier refusal) }
@@ -82,7 +82,7 @@ pub trait Sink {
         let _ = size;
         self.event(
             place,
-            going(direction, Item::Packet(Packet::Publish(publish))),
+            item_event(direction, Item::Packet(Packet::Publish(publish))),
         )
     }
 }

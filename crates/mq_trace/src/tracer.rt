@@ -3,7 +3,7 @@
 ghost use Rattle.std.specs.Prelude.{◌≡◌, ℕ, ◌+◌, ◌*◌, ◌≤◌, List, [], ◌++◌, ◌||◌, not, nat_lt, length, Some, None, Err, IfErr, IfSome, OnOk, if◌then◌else◌};
 ghost use Rattle.mq_trace.specs.Framing.{header_by};
 ghost use Rattle.mq_trace.specs.Keeping.{IsSound};
-ghost use Rattle.mq_trace.specs.Tracing.{IsTracedTo, TracesPiece, Ends, HasRead, HasHeard, Stops, is_between};
+ghost use Rattle.mq_trace.specs.Tracing.{IsTracedTo, TracesPiece, Ends, HasRead, HasReceived, Stops, is_between};
 
 use super::header::{HEADER_LENGTH, Header};
 use super::reading::Reading;
@@ -152,7 +152,7 @@ fn consume<S: Sink>(reading: &mut Reading, piece: &[u8], sink: &mut S) -> Result
     ensures sound { OnOk result (IsSound reading.new) }
     ensures limit { OnOk result (reading.new.limit ≡ reading.old.limit) }
     ensures keeps { (log : List ℕ) → HasRead reading.old log → OnOk result (HasRead reading.new (log ++ piece.now)) }
-    ensures heard { (log : List ℕ) → HasRead reading.old log → OnOk result (HasHeard S.agrees log piece.now sink.old sink.new) }
+    ensures receives { (log : List ℕ) → HasRead reading.old log → OnOk result (HasReceived S.agrees log piece.now sink.old sink.new) }
     ensures stops { (log : List ℕ) → HasRead reading.old log → IfErr result (λ refusal. Stops S.agrees S.refuses reading.old.limit log piece.now sink.old sink.new refusal) }
 {
     let mut rest = piece;

@@ -6,7 +6,7 @@ ghost use Rattle.mq_judge.specs.Outgoing.{Puts};
 ghost use Rattle.mq_judge.specs.Display.{decided_words, fault_note, fault_notes, event_text_after, is_near, noted_line, offset_words, shown_line, statement_words, text_if};
 ghost use Rattle.mq_judge.specs.Views.{annotation_of};
 ghost use Rattle.mq_rules.specs.FaultKeys.{faults_at};
-ghost use Rattle.mq_trace.specs.Hearing.{placed_at};
+ghost use Rattle.mq_trace.specs.Reception.{placed_at};
 
 use super::outgoing::Outgoing;
 use super::view::{put_event_line, put_long_line};

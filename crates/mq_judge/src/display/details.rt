@@ -10,7 +10,7 @@ ghost use Rattle.mq_packet.specs.Reading.{view, connect_view, publish_view, will
 ghost use Rattle.mq_judge.specs.Details.{detail_text, item_details, packet_words, connect_words, publish_words, will_words, user_words, password_words, property_words, filter_words, option_words, code_words};
 ghost use Rattle.mq_judge.specs.ItemText.{behind_spaces};
 ghost use Rattle.mq_judge.specs.Outgoing.{Puts};
-ghost use Rattle.mq_trace.specs.Hearing.{event_of, item_of};
+ghost use Rattle.mq_trace.specs.Reception.{event_of, item_of};
 
 mod detail;
 mod laws;

@@ -4,7 +4,7 @@ ghost use Rattle.mq_judge.specs.Outgoing.{Carries, Puts};
 ghost use Rattle.mq_judge.specs.Display.{event_line, event_text, event_words, long_line};
 ghost use Rattle.mq_judge.specs.Views.{StandsAfter, text_by};
 ghost use Rattle.mq_trace.specs.Events.{Placed};
-ghost use Rattle.mq_trace.specs.Hearing.{event_of, placed_at};
+ghost use Rattle.mq_trace.specs.Reception.{event_of, placed_at};
 
 use super::super::lines::Lines;
 use super::super::report::item::put_item;

@@ -1,6 +1,6 @@
 //! The text of what is sent or received.
 ghost use Rattle.std.specs.Prelude.{◌≡◌, ◌<◌, ◌≤◌, ◌+◌, ◌++◌, Some, IfErr, OnOk, length};
-ghost use Rattle.mq_trace.specs.Hearing.{item_of};
+ghost use Rattle.mq_trace.specs.Reception.{item_of};
 ghost use Rattle.mq_rules.specs.Notes.{qos_number};
 ghost use Rattle.mq_judge.specs.ItemText.{type_name, identifier_of, qos_and_dup, flag_number, delivery_words, identifier_words, behind_spaces, packet_rule_code, packet_text, broken_text, item_text};
 

@@ -17,7 +17,7 @@ pub struct Lines {
     pub text: String,
     numbered: bool,
     room: u32,
-    pub heard: u32,
+    pub count: u32,
 }
 
 impl Lines {
@@ -26,7 +26,7 @@ impl Lines {
             text: String::new(alloc),
             numbered,
             room,
-            heard: 0,
+            count: 0,
         }
     }
 
@@ -70,8 +70,8 @@ impl Sink for Lines {
     ghost refuses = { λ _ _ _. ⊤ };
 
     fn event(&mut self, place: Place3, event: Event<'_>) -> Result<(), Refusal> {
-        self.heard = self.heard.saturating_add(1);
-        if self.heard > self.room {
+        self.count = self.count.saturating_add(1);
+        if self.count > self.room {
             return Err(Refusal::Memory(0));
         }
         self.write(place, &event).map_err(|_| Refusal::Memory(0))

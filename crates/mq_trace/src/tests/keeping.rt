@@ -74,7 +74,7 @@ fn stops_where_its_sink_refuses(rt: HostRuntime) -> Result<(), Fail> {
                 assert_eq!(rt; tracer.feed(b"", &mut emitted), refused);
                 assert_eq!(rt; tracer.finish(), refused);
             }
-            assert_eq!(rt; emitted.heard, room + 1);
+            assert_eq!(rt; emitted.count, room + 1);
         }
     }
     Ok(())
@@ -101,7 +101,7 @@ fn keeps_unfinished_packets_alone(rt: HostRuntime) -> Result<(), Fail> {
         assert_eq!(rt; tracer.pending(), pending, "behind {piece:?}");
     }
     assert_eq!(rt; tracer.finish(), Ok(()));
-    assert_eq!(rt; emitted.heard, 8);
+    assert_eq!(rt; emitted.count, 8);
     Ok(())
 }
 
@@ -144,7 +144,7 @@ fn counts_many_events(rt: HostRuntime) -> Result<(), Fail> {
     let mut emitted = Lines::new(rt.alloc(), true, u32::MAX);
     let ended = trace(&rt, &mut tracer, LIMIT, log.as_slice(), 8192, &mut emitted);
     assert_eq!(rt; ended, Ok(()));
-    assert_eq!(rt; emitted.heard, 70_003);
+    assert_eq!(rt; emitted.count, 70_003);
     assert!(rt;
         emitted
             .text

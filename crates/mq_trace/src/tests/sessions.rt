@@ -235,7 +235,7 @@ fn emitted_of(
     let mut tracer = Tracer::new(rt.alloc(), LIMIT);
     let mut emitted = Lines::new(rt.alloc(), true, u32::MAX);
     let ended = trace(rt, &mut tracer, LIMIT, log, 5, &mut emitted);
-    (emitted.heard as usize, tracer.header(), ended)
+    (emitted.count as usize, tracer.header(), ended)
 }
 
 /// Each beginning of a log of 76 bytes is cut short, unless it ends after a record.

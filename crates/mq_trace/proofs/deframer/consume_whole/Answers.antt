@@ -2,14 +2,14 @@
 use Rattle.std.proofs.Common.{[], arith}
 use Rattle.mq_trace.proofs.ItemLaws.{frame_by_header}
 use Rattle.mq_trace.proofs.DeframerLaws.{comes_of, stops_of}
-use Rattle.mq_trace.specs.Hearing.{Declines}
+use Rattle.mq_trace.specs.Reception.{Declines}
 use Rattle.mq_trace.proofs.deframer.consume_whole.Goals as goal
 
 pub returns-clause-comes : goal.returns-clause-comes
 returns-clause-comes g c =
     comes_of g.S.Sink.agrees (Declines g.S.Sink.agrees g.S.Sink.refuses) c.args.context.limit c.args.context c.args.at _ c.args.connections.now [] c.args.frame.now
     (frame_by_header c.args.frame.now c.args.header c.requires.whole) (omega (arith, c.requires.some)) (omega (arith, c.requires.some)) c.requires.within
-    c.emit_frame.result c.emit_frame.new.connections c.args.sink.now c.emit_frame.new.sink c.emit_frame.ensures.met c.emit_frame.ensures.kept c.emit_frame.ensures.heard
+    c.emit_frame.result c.emit_frame.new.connections c.args.sink.now c.emit_frame.new.sink c.emit_frame.ensures.met c.emit_frame.ensures.kept c.emit_frame.ensures.receives
 
 pub returns-clause-stops : goal.returns-clause-stops
 returns-clause-stops g c =

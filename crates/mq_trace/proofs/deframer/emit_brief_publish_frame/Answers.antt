@@ -5,8 +5,8 @@ use Rattle.mq_packet.proofs.Exports.{size_above, header_few}
 use Rattle.mq_packet.specs.declared.packet.Packet.TheVariants as packets
 use Rattle.mq_trace.specs.declared.event.Item.TheVariants as items
 use Rattle.mq_trace.specs.Deframing.{body_context}
-use Rattle.mq_trace.specs.Hearing.{Declines, item_of}
-use Rattle.mq_trace.proofs.ItemLaws.{frame_by_header, packet_sized, packet_item, emitted_met, emitted_kept, emitted_heard, emitted_err}
+use Rattle.mq_trace.specs.Reception.{Declines, item_of}
+use Rattle.mq_trace.proofs.ItemLaws.{frame_by_header, packet_sized, packet_item, emitted_met, emitted_kept, emitted_receives, emitted_err}
 use Rattle.mq_trace.proofs.deframer.emit_brief_publish_frame.Goals as goal
 
 pub bounds-frame-0 : goal.bounds-frame-0
@@ -38,10 +38,10 @@ returns-in-Some-clause-kept g c =
     let is = packet_item c.args.frame.now c.args.header (packets.Publish c.in-Some.publish) (λ i. omega (arith, c.type_inv.frame i)) (sym c.requires.whole) c.in-Some.ensures.size c.in-Some.ensures.exact in
     emitted_kept g.S.Sink.agrees (Declines g.S.Sink.agrees g.S.Sink.refuses) c.emit_publish.result c.args.at (record { unfinished = []; lost = false }) c.args.connections.now (body_context c.args.context) c.args.frame.now (item_of (items.Packet (packets.Publish c.in-Some.publish))) is c.emit_publish.new.connections (c.emit_publish.ensures.kept c.args.context.server)
 
-pub returns-in-Some-clause-heard : goal.returns-in-Some-clause-heard
-returns-in-Some-clause-heard g c =
+pub returns-in-Some-clause-receives : goal.returns-in-Some-clause-receives
+returns-in-Some-clause-receives g c =
     let is = packet_item c.args.frame.now c.args.header (packets.Publish c.in-Some.publish) (λ i. omega (arith, c.type_inv.frame i)) (sym c.requires.whole) c.in-Some.ensures.size c.in-Some.ensures.exact in
-    emitted_heard g.S.Sink.agrees (Declines g.S.Sink.agrees g.S.Sink.refuses) c.emit_publish.result c.args.at (record { unfinished = []; lost = false }) c.args.connections.now (body_context c.args.context) c.args.frame.now (item_of (items.Packet (packets.Publish c.in-Some.publish))) is c.args.sink.now c.emit_publish.new.sink c.emit_publish.ensures.heard
+    emitted_receives g.S.Sink.agrees (Declines g.S.Sink.agrees g.S.Sink.refuses) c.emit_publish.result c.args.at (record { unfinished = []; lost = false }) c.args.connections.now (body_context c.args.context) c.args.frame.now (item_of (items.Packet (packets.Publish c.in-Some.publish))) is c.args.sink.now c.emit_publish.new.sink c.emit_publish.ensures.receives
 
 pub returns-in-Some-clause-err : goal.returns-in-Some-clause-err
 returns-in-Some-clause-err g c =

@@ -1,9 +1,9 @@
--- A whole packet is told as what it is.
+-- A whole packet is emitted as what it is.
 use Rattle.std.proofs.Common.{[], false, sym, arith}
 use Rattle.mq_trace.specs.declared.event.Item.TheVariants as items
 use Rattle.mq_trace.specs.Deframing.{body_context}
-use Rattle.mq_trace.specs.Hearing.{Declines, item_of}
-use Rattle.mq_trace.proofs.ItemLaws.{packet_item, emitted_met, emitted_kept, emitted_heard, emitted_err}
+use Rattle.mq_trace.specs.Reception.{Declines, item_of}
+use Rattle.mq_trace.proofs.ItemLaws.{packet_item, emitted_met, emitted_kept, emitted_receives, emitted_err}
 use Rattle.mq_trace.proofs.deframer.emit_decoded.Goals as goal
 
 pub returns-in-Ok-clause-met : goal.returns-in-Ok-clause-met
@@ -16,10 +16,10 @@ returns-in-Ok-clause-kept g c =
     let is = packet_item c.args.frame.now c.args.header c.in-Ok.packet (λ i. omega (arith, c.type_inv.frame i)) (sym c.requires.whole) (rw c.in-Ok.is at c.requires.size) (rw c.in-Ok.is at c.requires.exact) in
     emitted_kept g.S.Sink.agrees (Declines g.S.Sink.agrees g.S.Sink.refuses) c.emit_packet.result c.args.at (record { unfinished = []; lost = false }) c.args.connections.now (body_context c.args.context) c.args.frame.now (item_of (items.Packet c.in-Ok.packet)) is c.emit_packet.new.connections c.emit_packet.ensures.kept
 
-pub returns-in-Ok-clause-heard : goal.returns-in-Ok-clause-heard
-returns-in-Ok-clause-heard g c =
+pub returns-in-Ok-clause-receives : goal.returns-in-Ok-clause-receives
+returns-in-Ok-clause-receives g c =
     let is = packet_item c.args.frame.now c.args.header c.in-Ok.packet (λ i. omega (arith, c.type_inv.frame i)) (sym c.requires.whole) (rw c.in-Ok.is at c.requires.size) (rw c.in-Ok.is at c.requires.exact) in
-    emitted_heard g.S.Sink.agrees (Declines g.S.Sink.agrees g.S.Sink.refuses) c.emit_packet.result c.args.at (record { unfinished = []; lost = false }) c.args.connections.now (body_context c.args.context) c.args.frame.now (item_of (items.Packet c.in-Ok.packet)) is c.args.sink.now c.emit_packet.new.sink c.emit_packet.ensures.heard
+    emitted_receives g.S.Sink.agrees (Declines g.S.Sink.agrees g.S.Sink.refuses) c.emit_packet.result c.args.at (record { unfinished = []; lost = false }) c.args.connections.now (body_context c.args.context) c.args.frame.now (item_of (items.Packet c.in-Ok.packet)) is c.args.sink.now c.emit_packet.new.sink c.emit_packet.ensures.receives
 
 pub returns-in-Ok-clause-err : goal.returns-in-Ok-clause-err
 returns-in-Ok-clause-err g c =

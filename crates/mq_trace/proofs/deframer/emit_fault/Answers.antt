@@ -1,10 +1,10 @@
--- A whole packet with a fault is told as what it is.
+-- A whole packet with a fault is emitted as what it is.
 use Rattle.std.proofs.Common.{◌<◌, [], false, Err, length, sym, ap, ◌∙◌, arith, rules}
 use Rattle.mq_packet.proofs.Exports.{size_above}
 use Rattle.mq_packet.specs.declared.fault.DecodeFault.TheVariants as faults
 use Rattle.mq_trace.specs.Deframing.{body_context}
-use Rattle.mq_trace.specs.Hearing.{Declines}
-use Rattle.mq_trace.proofs.ItemLaws.{fault_item, emitted_met, emitted_kept, emitted_heard, emitted_err, other_met}
+use Rattle.mq_trace.specs.Reception.{Declines}
+use Rattle.mq_trace.proofs.ItemLaws.{fault_item, emitted_met, emitted_kept, emitted_receives, emitted_err, other_met}
 use Rattle.mq_trace.proofs.deframer.emit_fault.Goals as goal
 
 pub bounds-frame-0 : goal.bounds-frame-0
@@ -23,10 +23,10 @@ returns-in-Broken-clause-kept g c =
     let is = fault_item c.args.frame.now c.args.header (faults.Broken c.in-Broken.broken) (sym c.requires.whole) (c.requires.exact ∙ ap Err c.in-Broken.is) in
     emitted_kept g.S.Sink.agrees (Declines g.S.Sink.agrees g.S.Sink.refuses) c.emit_bad.result c.args.at (record { unfinished = []; lost = false }) c.args.connections.now (body_context c.args.context) c.args.frame.now _ is c.emit_bad.new.connections c.emit_bad.ensures.kept
 
-pub returns-in-Broken-clause-heard : goal.returns-in-Broken-clause-heard
-returns-in-Broken-clause-heard g c =
+pub returns-in-Broken-clause-receives : goal.returns-in-Broken-clause-receives
+returns-in-Broken-clause-receives g c =
     let is = fault_item c.args.frame.now c.args.header (faults.Broken c.in-Broken.broken) (sym c.requires.whole) (c.requires.exact ∙ ap Err c.in-Broken.is) in
-    emitted_heard g.S.Sink.agrees (Declines g.S.Sink.agrees g.S.Sink.refuses) c.emit_bad.result c.args.at (record { unfinished = []; lost = false }) c.args.connections.now (body_context c.args.context) c.args.frame.now _ is c.args.sink.now c.emit_bad.new.sink c.emit_bad.ensures.heard
+    emitted_receives g.S.Sink.agrees (Declines g.S.Sink.agrees g.S.Sink.refuses) c.emit_bad.result c.args.at (record { unfinished = []; lost = false }) c.args.connections.now (body_context c.args.context) c.args.frame.now _ is c.args.sink.now c.emit_bad.new.sink c.emit_bad.ensures.receives
 
 pub returns-in-Broken-clause-err : goal.returns-in-Broken-clause-err
 returns-in-Broken-clause-err g c =

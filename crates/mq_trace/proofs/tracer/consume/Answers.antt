@@ -21,7 +21,7 @@ returns-clause-keeps g c = λ log keeps.
     (ends_kept g.S.Sink.agrees c.args.reading.now c.loop-rest.reading c.args.piece.now c.loop-rest.rest.now c.args.sink.now c.loop-rest.sink c.loop-rest.invariant.0
     (nothing_left c.loop-rest.rest.now c.is_empty.result c.is_empty.ensures c.loop-rest-test.false) log keeps).0
 
-pub returns-clause-heard : goal.returns-clause-heard
-returns-clause-heard g c = λ log keeps.
+pub returns-clause-receives : goal.returns-clause-receives
+returns-clause-receives g c = λ log keeps.
     (ends_kept g.S.Sink.agrees c.args.reading.now c.loop-rest.reading c.args.piece.now c.loop-rest.rest.now c.args.sink.now c.loop-rest.sink c.loop-rest.invariant.0
     (nothing_left c.loop-rest.rest.now c.is_empty.result c.is_empty.ensures c.loop-rest-test.false) log keeps).1

@@ -1,11 +1,11 @@
 use Rattle.std.proofs.Common.{◌∙◌, ◌∷◌, List, ℕ, sym, subst}
 use Rattle.mq_trace.specs.Events.{Placed}
-use Rattle.mq_trace.specs.Hearing.{placed_at}
+use Rattle.mq_trace.specs.Reception.{placed_at}
 use Rattle.mq_judge.specs.Outgoing.{Carries}
 use Rattle.mq_judge.proofs.display.DisplaySink.event.Goals as goal
 
-pub returns-clause-heard : goal.returns-clause-heard
-returns-clause-heard g c = λ earlier agrees are.
+pub returns-clause-receives : goal.returns-clause-receives
+returns-clause-receives g c = λ earlier agrees are.
     let before = subst (λ (t : List Placed → List ℕ). Carries g.W.Write.contents g.K.Given.held (t earlier) c.args.self.now.out.now) (sym agrees.1) agrees.3 in
     let after = c.put.ensures.puts g.K.Given.held earlier agrees.2 before in (
       c.put.ensures.writer ∙ agrees.0,

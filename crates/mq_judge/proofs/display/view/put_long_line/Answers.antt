@@ -1,5 +1,5 @@
 use Rattle.std.proofs.Common.{◌∷◌, [], sym, append_assoc}
-use Rattle.mq_trace.specs.Hearing.{placed_at}
+use Rattle.mq_trace.specs.Reception.{placed_at}
 use Rattle.mq_judge.specs.Details.{detail_text}
 use Rattle.mq_judge.specs.Display.{event_words}
 use Rattle.mq_judge.proofs.OutgoingLaws.{puts_three}

@@ -11,7 +11,7 @@ use Rattle.mq_rules.specs.Faults.{Grows}
 use Rattle.mq_judge.specs.Chosen.{is_judged}
 use Rattle.mq_rules.specs.FaultKeys.{fault_at, key_cmp}
 use Rattle.mq_judge.specs.Judging.{Judged, Follows, judge_of}
-use Rattle.mq_judge.proofs.JudgeLaws.{untold, told_as, counted, faults-of, where_ok}
+use Rattle.mq_judge.proofs.JudgeLaws.{cut_unnamed, named_as, counted, faults-of, where_ok}
 use Rattle.mq_judge.proofs.judge.Judge.finish.Goals as goal
 
 pub returns-in_err-finish-clause-verdict : goal.returns-in_err-finish-clause-verdict
@@ -27,7 +27,7 @@ returns-in_default-clause-verdict c = λ log h.
     let k : Follows (judge_of c.self.inside.limit c.self.inside.tested c.self.inside.tracer (reverse c.self.inside.notes.seen.items)) log
     = subst (λ (j : Judged). Follows j log) (sym c.self.view_is) h in
     let traced : IsTracedTo c.finish.new.self log = subst (λ (t : Traced). IsTracedTo t log) (sym c.in_ok-finish.ensures.same) k.traced in
-    inl (untold log (sym c.in_default.is ∙ k.knows.tested), ap refusals.Cut (c.byte_count-at.ensures log traced))
+    inl (cut_unnamed log (sym c.in_default.is ∙ k.knows.tested), ap refusals.Cut (c.byte_count-at.ensures log traced))
 
 pub returns-in_err-map_err-clause-verdict : goal.returns-in_err-map_err-clause-verdict
 returns-in_err-map_err-clause-verdict c = λ log h.
@@ -46,7 +46,7 @@ returns-clause-verdict c = λ log h.
     = subst (λ (j : Judged). Follows j log) (sym c.self.view_is) h in
     let unrefused = k.traced.keeps.unrefused in
     let judged : is_ok c.judge_all-judged.result ≡ true = sym c.map_err.ensures.variant ∙ ap is_ok c.in_ok-map_err.was in
-    let whom = told_as log c.in-Some.tested (sym c.in-Some.is ∙ k.knows.tested) in
+    let whom = named_as log c.in-Some.tested (sym c.in-Some.is ∙ k.knows.tested) in
     let grown = subst (λ (s : List Seen). IsPlaced (reverse s) → IsInOrder c.in-Some.tested.role (reverse s)
     → OnOk c.judge_all-judged.result (Grows (is_judged c.in-Some.tested) c.in-Some.tested (reverse s) c.new-faults.result c.judge_all-judged.new.faults))
     c.as_slice.ensures.value c.judge_all-judged.ensures in (

@@ -4,7 +4,7 @@ use Rattle.mq_packet.specs.Stream.{fixed_header_of}
 use Rattle.mq_trace.specs.Keeping.{state_in}
 use Rattle.mq_trace.specs.Deframing.{body_context, flow_of}
 use Rattle.mq_trace.proofs.ByteLaws.{whole_frame, comes_short, comes_more, stops_large, frame_comes, frame_stops, lost_comes, lost_stops, sound_short, sound_more, sound_nothing, kept_to, always, emptied_to}
-use Rattle.mq_trace.specs.Hearing.{Declines}
+use Rattle.mq_trace.specs.Reception.{Declines}
 use Rattle.mq_trace.proofs.deframer.Deframer.check_header.Goals as goal
 use Rattle.mq_trace.proofs.deframer.Deframer.check_header.Goals.{else-length-len-via-then-length-len+else-size-context, else-length-len-via-else-length-len}
 
@@ -26,7 +26,7 @@ returns-in-Lost-clause-comes g c = λ before byte more.
     (record { unfinished = []; lost = true }) (state_in c.mark_lost.new.self) c.mark_lost.new.connections (byte ∷ []) c.args.sink.now c.mark_lost.new.sink
     (always c.mark_lost.result (state_in c.mark_lost.new.self) (record { unfinished = []; lost = true }) c.mark_lost.ensures.gone)
     (lost_comes g.S.Sink.agrees (Declines g.S.Sink.agrees g.S.Sink.refuses) c.args.context.limit c.args.context c.args.at c.args.connections.now before byte
-    c.mark_lost.result c.args.self.now.unfinished.items c.mark_lost.new.connections c.args.sink.now c.mark_lost.new.sink more (ap fixed_header_of (sym c.as_slice.ensures) ∙ sym c.in-Lost.ensures.exact) c.mark_lost.ensures.ok c.mark_lost.ensures.heard)
+    c.mark_lost.result c.args.self.now.unfinished.items c.mark_lost.new.connections c.args.sink.now c.mark_lost.new.sink more (ap fixed_header_of (sym c.as_slice.ensures) ∙ sym c.in-Lost.ensures.exact) c.mark_lost.ensures.ok c.mark_lost.ensures.receives)
 
 pub returns-in-Lost-clause-sound : goal.returns-in-Lost-clause-sound
 returns-in-Lost-clause-sound g c = λ before byte more.
@@ -55,7 +55,7 @@ returns-then-size-len-clause-comes g c = λ before byte more.
     (emptied_to c.emit_buffered.result (state_in c.emit_buffered.new.self) c.args.self.now.lost c.requires.kept c.emit_buffered.ensures.empty)
     (frame_comes g.S.Sink.agrees (Declines g.S.Sink.agrees g.S.Sink.refuses) c.args.context.limit c.args.context c.args.at c.args.connections.now before byte
     c.emit_buffered.result c.args.self.now.unfinished.items c.in-Whole.length c.in-Whole.size c.emit_buffered.new.connections c.args.sink.now c.emit_buffered.new.sink more
-    (ap fixed_header_of (sym c.as_slice.ensures) ∙ sym c.in-Whole.ensures.exact) may (c.if-size-len.true ∙ c.len-else-length-len.ensures.value) c.emit_buffered.ensures.met c.emit_buffered.ensures.kept c.emit_buffered.ensures.heard)
+    (ap fixed_header_of (sym c.as_slice.ensures) ∙ sym c.in-Whole.ensures.exact) may (c.if-size-len.true ∙ c.len-else-length-len.ensures.value) c.emit_buffered.ensures.met c.emit_buffered.ensures.kept c.emit_buffered.ensures.receives)
 
 pub returns-then-size-len-clause-sound : goal.returns-then-size-len-clause-sound
 returns-then-size-len-clause-sound g c = λ before byte more.

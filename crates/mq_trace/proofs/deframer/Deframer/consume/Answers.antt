@@ -5,10 +5,10 @@ use Rattle.mq_trace.specs.Events.{Placed}
 use Rattle.mq_trace.specs.Context.{StreamState}
 use Rattle.mq_trace.specs.Keeping.{state_in}
 use Rattle.mq_trace.specs.declared.refusal.Refusal.{Refusal}
-use Rattle.mq_trace.specs.Hearing.{Declines, AreEvents}
-use Rattle.mq_trace.specs.Flows.{flow_behind, flow_refused, flow_heard}
+use Rattle.mq_trace.specs.Reception.{Declines, AreEvents}
+use Rattle.mq_trace.specs.Flows.{flow_behind, flow_refused, flow_events}
 use Rattle.mq_trace.specs.Deframing.{body_context, flow_of, FlowStops}
-use Rattle.mq_trace.proofs.FlowLaws.{lost-refused, lost-heard}
+use Rattle.mq_trace.proofs.FlowLaws.{lost-refused, lost-events}
 use Rattle.mq_trace.proofs.DeframerLaws.{frame_front, header_front, first_front, lost_kept, stops_front, stops_memory, small_first, empty_state, begins, begins_unfinished}
 use Rattle.mq_trace.proofs.deframer.Deframer.consume.Goals as goal
 
@@ -18,10 +18,10 @@ returns-then-self-clause-unrefused g c = lost-refused c.args.context.limit (body
 pub returns-then-self-clause-kept : goal.returns-then-self-clause-kept
 returns-then-self-clause-kept g c = lost_kept (body_context c.args.context) c.args.at (state_in c.args.self.now) c.args.connections.now c.args.bytes.now c.if-self.true
 
-pub returns-then-self-clause-heard : goal.returns-then-self-clause-heard
-returns-then-self-clause-heard g c = λ earlier was are.
+pub returns-then-self-clause-receives : goal.returns-then-self-clause-receives
+returns-then-self-clause-receives g c = λ earlier was are.
     subst (λ (l : List Placed). g.S.Sink.agrees c.args.sink.now (l ++ earlier))
-    (sym (lost-heard (body_context c.args.context) (flow_of c.args.at (state_in c.args.self.now) c.args.connections.now) (take (length c.args.bytes.now) c.args.bytes.now) c.if-self.true)) was
+    (sym (lost-events (body_context c.args.context) (flow_of c.args.at (state_in c.args.self.now) c.args.connections.now) (take (length c.args.bytes.now) c.args.bytes.now) c.if-self.true)) was
 
 pub slice_bounds-consume_whole-end : goal.slice_bounds-consume_whole-end
 slice_bounds-consume_whole-end g c = sym (frame_front c.args.bytes.now c.in-Whole.size c.in-Whole.ensures.1).2
@@ -72,12 +72,12 @@ returns-in-Ok-buffer-clause-kept g c =
     c.in-Beginning.ensures.0 c.if-self.false c.in-Ok-buffer.ensures.ok c.in-Beginning.ensures.1 in
     ap (flow_behind (body_context c.args.context) (flow_of c.args.at (state_in c.args.self.now) c.args.connections.now)) (take_all (length c.args.bytes.now) c.args.bytes.now (omega arith)) ∙ comes.kept
 
-pub returns-in-Ok-buffer-clause-heard : goal.returns-in-Ok-buffer-clause-heard
-returns-in-Ok-buffer-clause-heard g c =
+pub returns-in-Ok-buffer-clause-receives : goal.returns-in-Ok-buffer-clause-receives
+returns-in-Ok-buffer-clause-receives g c =
     let comes = begins g.S.Sink.agrees c.args.context.limit (body_context c.args.context) c.args.at c.args.connections.now (state_in c.args.self.now) (state_in c.buffer.new.self) c.args.bytes.now c.args.sink.now
     c.in-Beginning.ensures.0 c.if-self.false c.in-Ok-buffer.ensures.ok c.in-Beginning.ensures.1 in
-    subst (λ (t : List ℕ). (earlier : List Placed) → g.S.Sink.agrees c.args.sink.now earlier → AreEvents (flow_heard (body_context c.args.context) (flow_of c.args.at (state_in c.args.self.now) c.args.connections.now) t ++ earlier)
-    → g.S.Sink.agrees c.args.sink.now (flow_heard (body_context c.args.context) (flow_of c.args.at (state_in c.args.self.now) c.args.connections.now) t ++ earlier))
+    subst (λ (t : List ℕ). (earlier : List Placed) → g.S.Sink.agrees c.args.sink.now earlier → AreEvents (flow_events (body_context c.args.context) (flow_of c.args.at (state_in c.args.self.now) c.args.connections.now) t ++ earlier)
+    → g.S.Sink.agrees c.args.sink.now (flow_events (body_context c.args.context) (flow_of c.args.at (state_in c.args.self.now) c.args.connections.now) t ++ earlier))
     (sym (take_all (length c.args.bytes.now) c.args.bytes.now (omega arith))) comes.emitted
 
 pub returns-in-Ok-buffer-clause-sound : goal.returns-in-Ok-buffer-clause-sound

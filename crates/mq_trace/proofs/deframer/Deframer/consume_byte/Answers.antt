@@ -8,7 +8,7 @@ use Rattle.mq_packet.specs.Stream.{fixed_header_of}
 use Rattle.mq_trace.specs.Refusals.{is_too_large}
 use Rattle.mq_trace.proofs.DeframerLaws.{IsSmall, stops_memory, stops_over}
 use Rattle.mq_trace.proofs.ByteLaws.{one_more, still_there}
-use Rattle.mq_trace.specs.Hearing.{Declines}
+use Rattle.mq_trace.specs.Reception.{Declines}
 use Rattle.mq_trace.proofs.deframer.Deframer.consume_byte.Goals as goal
 
 pub returns-in-Ok-clause-comes : goal.returns-in-Ok-clause-comes

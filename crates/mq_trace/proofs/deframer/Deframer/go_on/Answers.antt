@@ -6,7 +6,7 @@ use Rattle.mq_trace.specs.Context.{StreamState}
 use Rattle.mq_trace.specs.Deframing.{body_context, flow_of, FlowStops, FlowComes}
 use Rattle.mq_trace.specs.Keeping.{state_in, IsUnfinished}
 use Rattle.mq_trace.proofs.DeframerLaws.{keeps, keeps_unfinished, whole_with, stops_front, stops_memory, small_more, nothing_unfinished, short_is}
-use Rattle.mq_trace.specs.Hearing.{Declines}
+use Rattle.mq_trace.specs.Reception.{Declines}
 use Rattle.mq_trace.proofs.deframer.Deframer.go_on.Goals as goal
 
 pub complete-requires-clause-whole : goal.complete-requires-clause-whole

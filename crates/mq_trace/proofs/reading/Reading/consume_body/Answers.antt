@@ -3,7 +3,7 @@ use Rattle.std.proofs.lemmas.List.{take-append-drop, length-take}
 use Rattle.mq_trace.specs.Keeping.{StepStops}
 use Rattle.mq_trace.proofs.ReadingLaws.{stops_longer}
 use Rattle.mq_trace.proofs.BodyLaws.{body_comes, body_stops}
-use Rattle.mq_trace.specs.Hearing.{Declines}
+use Rattle.mq_trace.specs.Reception.{Declines}
 use Rattle.mq_trace.proofs.reading.Reading.consume_body.Goals as goal
 
 within : (m n left : ℕ) (bytes : List ℕ) → m ≡ min n left → length (take m bytes) ≤ left
@@ -16,7 +16,7 @@ returns-in-Ok-clause-comes g c =
     let m = c.min.result in
     let bytes = c.args.bytes.now in
     body_comes r c.args.direction c.args.left c.requires.sound c.requires.within g.S.Sink.agrees bytes (take m bytes) (drop m bytes) c.in-Ok.count c.pass_on.new.self _ _ _ (sym (take-append-drop m bytes)) s.count.1
-    (within m (length bytes) c.args.left bytes c.min.ensures) s.is c.leave.ensures s.unrefused s.kept s.heard
+    (within m (length bytes) c.args.left bytes c.min.ensures) s.is c.leave.ensures s.unrefused s.kept s.receives
 
 pub returns-in-Err-clause-stops : goal.returns-in-Err-clause-stops
 returns-in-Err-clause-stops g c =

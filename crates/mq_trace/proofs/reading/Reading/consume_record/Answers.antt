@@ -1,6 +1,6 @@
 use Rattle.std.proofs.Common.{arith, take, ap}
 use Rattle.mq_trace.specs.declared.reading.Reading.{Reading}
-use Rattle.mq_trace.specs.Hearing.{Declines}
+use Rattle.mq_trace.specs.Reception.{Declines}
 use Rattle.mq_trace.proofs.ReadingLaws.{comes_quietly}
 use Rattle.mq_trace.proofs.TracingLaws.{rest_same}
 use Rattle.mq_trace.proofs.HeadLaws.{head_taken, comes_behind, stops_behind}

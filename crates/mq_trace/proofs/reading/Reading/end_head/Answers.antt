@@ -10,7 +10,7 @@ use Rattle.mq_trace.specs.Refusals.{allows_length}
 use Rattle.mq_trace.proofs.ReadingLaws.{comes_quietly}
 use Rattle.mq_trace.proofs.StageLaws.{stops_refused}
 use Rattle.mq_trace.proofs.EndLaws.{length_refused, body_advances}
-use Rattle.mq_trace.specs.Hearing.{Declines}
+use Rattle.mq_trace.specs.Reception.{Declines}
 use Rattle.mq_trace.proofs.reading.Reading.end_head.Goals as goal
 
 pub returns-then-not-allows-clause-stops : goal.returns-then-not-allows-clause-stops

@@ -5,7 +5,7 @@ use Rattle.mq_trace.specs.Refusals.{allows_length}
 use Rattle.mq_trace.proofs.ReadingLaws.{comes_quietly}
 use Rattle.mq_trace.proofs.EndLaws.{mark_emits, release_advances}
 use Rattle.mq_trace.proofs.EmissionLaws.{emitted_comes, emitted_stops}
-use Rattle.mq_trace.specs.Hearing.{Declines}
+use Rattle.mq_trace.specs.Reception.{Declines}
 use Rattle.mq_trace.proofs.reading.Reading.end_other.Goals as goal
 
 pub returns-in-Open-clause-comes : goal.returns-in-Open-clause-comes
@@ -13,7 +13,7 @@ returns-in-Open-clause-comes g c =
     let r = c.args.self.now in
     let allowed = c.requires.allowed in
     let s = c.end_mark.ensures in
-    emitted_comes g.S.Sink.agrees r _ c.args.byte opened _ _ _ (mark_emits r c.args.kind c.args.length c.args.byte c.requires.sound c.requires.within opened (ap event_of_head c.in-Open.is) allowed) s.met s.kept s.heard
+    emitted_comes g.S.Sink.agrees r _ c.args.byte opened _ _ _ (mark_emits r c.args.kind c.args.length c.args.byte c.requires.sound c.requires.within opened (ap event_of_head c.in-Open.is) allowed) s.met s.kept s.receives
 
 pub returns-in-Open-clause-stops : goal.returns-in-Open-clause-stops
 returns-in-Open-clause-stops g c =
@@ -27,7 +27,7 @@ returns-in-Close-clause-comes g c =
     let r = c.args.self.now in
     let allowed = c.requires.allowed in
     let s = c.end_mark-in-Close.ensures in
-    emitted_comes g.S.Sink.agrees r _ c.args.byte closed _ _ _ (mark_emits r c.args.kind c.args.length c.args.byte c.requires.sound c.requires.within closed (ap event_of_head c.in-Close.is) allowed) s.met s.kept s.heard
+    emitted_comes g.S.Sink.agrees r _ c.args.byte closed _ _ _ (mark_emits r c.args.kind c.args.length c.args.byte c.requires.sound c.requires.within closed (ap event_of_head c.in-Close.is) allowed) s.met s.kept s.receives
 
 pub returns-in-Close-clause-stops : goal.returns-in-Close-clause-stops
 returns-in-Close-clause-stops g c =
@@ -41,7 +41,7 @@ returns-in-Rest-clause-comes g c =
     let r = c.args.self.now in
     let allowed = c.requires.allowed in
     let s = c.end_mark-in-Rest.ensures in
-    emitted_comes g.S.Sink.agrees r _ c.args.byte rested _ _ _ (mark_emits r c.args.kind c.args.length c.args.byte c.requires.sound c.requires.within rested (ap event_of_head c.in-Rest.is) allowed) s.met s.kept s.heard
+    emitted_comes g.S.Sink.agrees r _ c.args.byte rested _ _ _ (mark_emits r c.args.kind c.args.length c.args.byte c.requires.sound c.requires.within rested (ap event_of_head c.in-Rest.is) allowed) s.met s.kept s.receives
 
 pub returns-in-Rest-clause-stops : goal.returns-in-Rest-clause-stops
 returns-in-Rest-clause-stops g c =

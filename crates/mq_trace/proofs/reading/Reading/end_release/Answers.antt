@@ -1,9 +1,9 @@
 use Rattle.std.proofs.Common.{arith, ◌≡◌, ◌∷◌, [], subst}
 use Rattle.std.specs.Int.{w16, from_be_bytes}
 use Rattle.mq_trace.specs.Events.{released}
-use Rattle.mq_trace.proofs.EndLaws.{Tells, release_emits}
+use Rattle.mq_trace.proofs.EndLaws.{CompletesEvent, release_emits}
 use Rattle.mq_trace.proofs.EmissionLaws.{emitted_comes, emitted_stops}
-use Rattle.mq_trace.specs.Hearing.{Declines}
+use Rattle.mq_trace.specs.Reception.{Declines}
 use Rattle.mq_trace.proofs.reading.Reading.end_release.Goals as goal
 
 pub returns-clause-comes : goal.returns-clause-comes
@@ -11,13 +11,13 @@ returns-clause-comes g c =
     let r = c.args.self.now in
     let s = c.end_mark.ensures in
     let same : from_be_bytes w16 (c.args.high ∷ c.args.low ∷ []) ≡ c.from_be_bytes.result = omega (arith, c.from_be_bytes.ensures) in
-    let emits : Tells r c.args.low (released c.from_be_bytes.result) = subst (λ n. Tells r c.args.low (released n)) same (release_emits r c.args.high c.args.low c.requires.sound c.requires.within) in
-    emitted_comes g.S.Sink.agrees r _ c.args.low (released c.from_be_bytes.result) _ _ _ emits s.met s.kept s.heard
+    let emits : CompletesEvent r c.args.low (released c.from_be_bytes.result) = subst (λ n. CompletesEvent r c.args.low (released n)) same (release_emits r c.args.high c.args.low c.requires.sound c.requires.within) in
+    emitted_comes g.S.Sink.agrees r _ c.args.low (released c.from_be_bytes.result) _ _ _ emits s.met s.kept s.receives
 
 pub returns-clause-stops : goal.returns-clause-stops
 returns-clause-stops g c =
     let r = c.args.self.now in
     let s = c.end_mark.ensures in
     let same : from_be_bytes w16 (c.args.high ∷ c.args.low ∷ []) ≡ c.from_be_bytes.result = omega (arith, c.from_be_bytes.ensures) in
-    let emits : Tells r c.args.low (released c.from_be_bytes.result) = subst (λ n. Tells r c.args.low (released n)) same (release_emits r c.args.high c.args.low c.requires.sound c.requires.within) in
+    let emits : CompletesEvent r c.args.low (released c.from_be_bytes.result) = subst (λ n. CompletesEvent r c.args.low (released n)) same (release_emits r c.args.high c.args.low c.requires.sound c.requires.within) in
     emitted_stops (Declines g.S.Sink.agrees g.S.Sink.refuses) r c.args.low (released c.from_be_bytes.result) _ _ _ emits s.err

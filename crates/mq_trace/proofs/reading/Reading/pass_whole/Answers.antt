@@ -1,7 +1,7 @@
 -- A whole packet at the front of a body.
 use Rattle.std.proofs.Common.{◌≡◌, ◌+◌, false, ℕ, [], length, arith, sym, subst, ap, ◌∙◌, take, refl}
 use Rattle.mq_trace.specs.Context.{StreamState}
-use Rattle.mq_trace.specs.Hearing.{Declines}
+use Rattle.mq_trace.specs.Reception.{Declines}
 use Rattle.mq_trace.specs.Flows.{flow_behind}
 use Rattle.mq_trace.specs.Keeping.{state_in, IsUnfinished}
 use Rattle.mq_trace.specs.Deframing.{body_context, flow_of, FlowStops, FlowComes}

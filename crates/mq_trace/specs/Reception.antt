@@ -6,43 +6,43 @@ use Rattle.mq_packet.specs.Reading.{view}
 use Rattle.mq_packet.specs.Sizes.{size_with, remaining_length}
 use Rattle.mq_trace.specs.declared.place.Place3.{Place3}
 use Rattle.mq_trace.specs.declared.refusal.Refusal.{Refusal}
-use Rattle.mq_trace.specs.declared.event.Item.{Item as HeardItem}
+use Rattle.mq_trace.specs.declared.event.Item.{Item as EmittedItem}
 use Rattle.mq_trace.specs.declared.event.Item.TheVariants as items
-use Rattle.mq_trace.specs.declared.event.Event.{Event as HeardEvent}
-use Rattle.mq_trace.specs.declared.event.Event.TheVariants as heard
+use Rattle.mq_trace.specs.declared.event.Event.{Event as EmittedEvent}
+use Rattle.mq_trace.specs.declared.event.Event.TheVariants as emitted
 use Rattle.mq_trace.specs.declared.kind.Direction.{Direction}
-use Rattle.mq_trace.specs.Flows.{going}
+use Rattle.mq_trace.specs.Flows.{item_event}
 use Rattle.mq_trace.specs.Events.{Item, Event, Placed, packet, bad, lost, opened, closed, rested, released, sent, received, events}
 use Rattle.mq_trace.specs.Refusals.{refused}
 
 -- an item and an event, apart from where their bytes are in memory
-abbrev pub item_of : HeardItem → Item
+abbrev pub item_of : EmittedItem → Item
 item_of (items.Packet p) = packet (unwrap_or (size_with (remaining_length p)) 0) (view p)
 item_of (items.Bad first rule at) = bad first rule at
 item_of items.Lost = lost
 
-abbrev pub event_of : HeardEvent → Event
-event_of heard.Open = opened
-event_of heard.Close = closed
-event_of heard.Rest = rested
-event_of (heard.Release identifier) = released identifier
-event_of (heard.Sent item) = sent (item_of item)
-event_of (heard.Recv item) = received (item_of item)
+abbrev pub event_of : EmittedEvent → Event
+event_of emitted.Open = opened
+event_of emitted.Close = closed
+event_of emitted.Rest = rested
+event_of (emitted.Release identifier) = released identifier
+event_of (emitted.Sent item) = sent (item_of item)
+event_of (emitted.Recv item) = received (item_of item)
 
 -- the event at its place
-abbrev pub placed_at : Place3 → HeardEvent → Placed
+abbrev pub placed_at : Place3 → EmittedEvent → Placed
 placed_at place event = record { place = place; event = event_of event }
 
 -- the event of a PUBLISH in this direction, at its place
 abbrev pub published_at : Place3 → Direction → Publish → Placed
-published_at place direction p = record { place = place; event = going direction (item_of (items.Packet (packets.Publish p))) }
+published_at place direction p = record { place = place; event = item_event direction (item_of (items.Packet (packets.Publish p))) }
 
 -- These are the events of some log that isn't refused, the newest first.
-pub record AreEvents (heard : List Placed) : Type 0 where
+pub record AreEvents (placed : List Placed) : Type 0 where
   pub limit : ℕ
   pub log : List ℕ
   pub unrefused : refused limit log ≡ None
-  pub are : heard ≡ events log
+  pub are : placed ≡ events log
 
 -- A sink refused these events: if it had received some earlier events, which these follow in a log, it is in the state of having refused after the earlier ones.
 abbrev pub Declines : {S : Type 0} → (S → List Placed → Type 0) → (S → List Placed → Refusal → Type 0) → S → S → List Placed → Refusal → Type 0
