@@ -14,7 +14,7 @@ use Rattle.mq_rules.specs.Connections.{begun, latest_fate, session, has_session,
 use Rattle.mq_plain.specs.Lookback.{answer_by}
 use Rattle.mq_rules.proofs.Exports.{differ, and_false}
 
--- what an event tells by itself, and else whether the session begins there, and else what stands before it
+-- the answer of an event by itself, else whether the session begins there, else the answer of what comes before it
 pub asked_back : (starts ends : Moment → Bool) (role : Role) (f : Option Fate) (e : Seen) (past : List Seen)
     → since starts ends (session role f (e ∷ past))
     ≡ unwrap_or (answer_by (has_session role f e past && starts (newest e past)) (has_session role f e past && ends (newest e past)))
@@ -37,7 +37,7 @@ asked_back starts ends role f e past = go (has_session role f e past) (starts (n
     go true false false o n p q = rw (p, q) (after o n)
     go false a b o n p q = after o n
 
--- the same, by what the code found; where the event tells nothing, what stands before it does
+-- the same, by what the code found; where the event gives no answer, what comes before it does
 pub asked_on : (starts ends : Moment → Bool) (role : Role) (f g : Option Fate) (e : Seen) (past : List Seen) (begun starting ending : Bool)
     → starting ≡ (has_session role f e past && starts (newest e past)) → ending ≡ (has_session role f e past && ends (newest e past))
     → answer_by starting ending ≡ None → begun ≡ (is_open e.note && begins f) → begun ≡ false → g ≡ cond (is_open e.note) (latest_fate role past) f

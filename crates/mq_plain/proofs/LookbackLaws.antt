@@ -95,7 +95,7 @@ accepted_back role f e past = go (is_open e.note) (accepted f)
     go true a = refl
     go false a = refl
 
--- what is known of all connections up to an event tells of a RELEASE whether it is in a session
+-- by what is known of all connections up to an event, whether a RELEASE is in a session
 pub in_known : (role : Role) (f : Option Fate) (any : Bool) (e : Seen) (past : List Seen) → any ≡ any_accepted role f (e ∷ past)
     → (accepted f || (is_release e.note && (voided f && any))) ≡ has_session role f e past
 in_known role f any e past is = ap (λ b. accepted f || (is_release e.note && (voided f && b))) is ∙ go e.note

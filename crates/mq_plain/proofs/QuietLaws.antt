@@ -1,5 +1,5 @@
 -- At a quiet event no statement on a session turns out false, nor at a REST before which nothing asks.
-use Rattle.std.proofs.Common.{◌≡◌, ℕ, ◌+◌, Bool, true, false, cond, ◌&&◌, ◌||◌, not, nat_lt, zero, List, [], ◌∷◌, length, Option, Some, None, refl, ap, sym, ◌∙◌, arith, ◌==◌, ◌⊎◌, inl, inr}
+use Rattle.std.proofs.Common.{◌≡◌, ℕ, ◌+◌, Bool, true, false, cond, ◌&&◌, ◌||◌, not, nat_lt, List, [], ◌∷◌, length, Option, Some, None, refl, ap, sym, ◌∙◌, arith, ◌==◌, ◌⊎◌, inl, inr}
 use Rattle.std.specs.Prelude.{is_some}
 use Rattle.std.specs.Option.{option_and_then, option_or}
 use Rattle.std.proofs.lemmas.Bool.Decides.{nat_tests}
@@ -215,7 +215,7 @@ IsNever bound (on_bytes bytes) m = ⊥
 IsNever bound (on_past breaks) m = ⊥
 IsNever bound (in_session breaks) m = bound ≡ true → (f : Fate) → breaks f m ≡ false
 IsNever bound (at_release breaks) m = bound ≡ true → (f : Fate) → breaks f m ≡ false
-IsNever bound (at_rest tells) m = (k : Moment) → asks (note k) ≡ false → tells m k ≡ false
+IsNever bound (at_rest shows_it) m = (k : Moment) → asks (note k) ≡ false → shows_it m k ≡ false
 
 none-passes : {A : Type 0} (test : A → Bool) (o : Option A) → o ≡ None → is_some_and test o ≡ false
 none-passes test None h = refl
@@ -319,9 +319,9 @@ never-turns tested rule (at_release breaks) e past k says quiet order h =
     in_order-releases tested rule breaks e past says order k
     ∙ ap (λ b. is_next past k && b) (nowhere (binds rule tested) (λ f. breaks f (newest e past)) (latest_fate tested.role past) h)
     ∙ and_false (is_next past k)
-never-turns tested rule (at_rest tells) e past k says quiet order h =
+never-turns tested rule (at_rest shows_it) e past k says quiet order h =
     ap (λ s. binds rule tested && shows tested.role s e past k) says
-    ∙ ap (λ b. binds rule tested && b) (nothing-shown tested.role e past k (tells (newest e past)) h quiet)
+    ∙ ap (λ b. binds rule tested && b) (nothing-shown tested.role e past k (shows_it (newest e past)) h quiet)
     ∙ and_false (binds rule tested)
 
 quiet-idle : (role : Role) (e : Seen) (past : List Seen) → is_quiet role e.note ≡ true → IsIdle role e past

@@ -27,7 +27,7 @@ use Rattle.mq_plain.specs.Blames.{place_at, decided_by, Blames, BlamesWithin}
 
 -- ---- one place after another
 
--- one place more is told where none before it has its position
+-- one place more is given where none before it has its position
 place_at-more : (places : List Place3) (i k : ℕ) (d : Place3) → i < length places
     → place_at k (take (suc i) places) ≡ option_or (place_at k (take i places)) (cond (k == (get_or places i d).position) (Some (get_or places i d)) None)
 place_at-more [] i k d h = absurd (omega arith)
@@ -39,7 +39,7 @@ place_at-more (p ∷ places) (suc i) k d h = go (k == p.position) (let lt : i < 
     go true rest = refl
     go false rest = rest
 
--- what a beginning of the list tells, the list tells
+-- what a beginning of the list shows, the list shows
 place_at-later : (places : List Place3) (i k : ℕ) (p : Place3) → place_at k (take i places) ≡ Some p → place_at k places ≡ Some p
 place_at-later [] zero k p h = h
 place_at-later [] (suc i) k p h = h
@@ -103,13 +103,13 @@ and-last : (a b c : Bool) → (a && (b && c)) ≡ ((a && b) && c)
 and-last true b c = refl
 and-last false b c = refl
 
-news-rest : (tested : Tested) (rule : Rule) (tells : Moment → Moment → Bool) (e : Seen) (past : List Seen) (k : ℕ) (r : Rule) → statement tested.role rule ≡ at_rest tells
-    → news (λ q. same_rule q rule) tested e past k r ≡ cond (same_rule r rule) (shown_fault (binds rule tested && is_binding tested.role (newest e past)) (tells (newest e past)) past k) None
+news-rest : (tested : Tested) (rule : Rule) (shows_it : Moment → Moment → Bool) (e : Seen) (past : List Seen) (k : ℕ) (r : Rule) → statement tested.role rule ≡ at_rest shows_it
+    → news (λ q. same_rule q rule) tested e past k r ≡ cond (same_rule r rule) (shown_fault (binds rule tested && is_binding tested.role (newest e past)) (shows_it (newest e past)) past k) None
 unfolding turns shown_fault
-news-rest tested rule tells e past k r says = go (same_rule r rule) refl
+news-rest tested rule shows_it e past k r says = go (same_rule r rule) refl
   where
     test : Moment → Bool
-    test = tells (newest e past)
+    test = shows_it (newest e past)
 
     judged : Bool
     judged = binds rule tested && is_binding tested.role (newest e past)
@@ -133,12 +133,12 @@ news-rest tested rule tells e past k r says = go (same_rule r rule) refl
         ∙ fault_shown (moment past k) refl judged
 
 -- where it isn't judged, or the event is no REST that binds, nothing is added
-pub rest-none : (tested : Tested) (rule : Rule) (tells : Moment → Moment → Bool) (e : Seen) (past : List Seen) (faults : FaultMap) → statement tested.role rule ≡ at_rest tells
+pub rest-none : (tested : Tested) (rule : Rule) (shows_it : Moment → Moment → Bool) (e : Seen) (past : List Seen) (faults : FaultMap) → statement tested.role rule ≡ at_rest shows_it
     → (binds rule tested && is_binding tested.role (newest e past)) ≡ false → GrowsBy (λ r. same_rule r rule) tested e past faults faults
 unfolding shown_fault
-rest-none tested rule tells e past faults says none = record {
-  each = λ k r. sym (ap (option_or (fault_at faults k r)) (news-rest tested rule tells e past k r says
-      ∙ ap (λ b. cond (same_rule r rule) (shown_fault b (tells (newest e past)) past k) None) none ∙ nothing (same_rule r rule)) ∙ option_or-none (fault_at faults k r));
+rest-none tested rule shows_it e past faults says none = record {
+  each = λ k r. sym (ap (option_or (fault_at faults k r)) (news-rest tested rule shows_it e past k r says
+      ∙ ap (λ b. cond (same_rule r rule) (shown_fault b (shows_it (newest e past)) past k) None) none ∙ nothing (same_rule r rule)) ∙ option_or-none (fault_at faults k r));
 }
 
 same_turned : (a b : ℕ) → (a == b) ≡ (b == a)
@@ -183,32 +183,32 @@ shown-places test past places k shown = go (place_at k places) refl (moment past
         ap (λ q. Some (decided_by (length past + 1) q)) (sym place)
         ∙ ap (λ b. cond {A = Option Fault} b (Some (record { decided = length past + 1; record_no = m.event.place.record_no; offset = None })) None) same
 
-news-shown : (tested : Tested) (rule : Rule) (tells : Moment → Moment → Bool) (e : Seen) (past : List Seen) (places : List Place3) (decided k : ℕ) (r : Rule) → statement tested.role rule ≡ at_rest tells
-    → (binds rule tested && is_binding tested.role (newest e past)) ≡ true → decided ≡ length past + 1 → IsShown (tells (newest e past)) past places
+news-shown : (tested : Tested) (rule : Rule) (shows_it : Moment → Moment → Bool) (e : Seen) (past : List Seen) (places : List Place3) (decided k : ℕ) (r : Rule) → statement tested.role rule ≡ at_rest shows_it
+    → (binds rule tested && is_binding tested.role (newest e past)) ≡ true → decided ≡ length past + 1 → IsShown (shows_it (newest e past)) past places
     → cond (same_rule r rule) (option_map (decided_by decided) (place_at k places)) None ≡ news (λ q. same_rule q rule) tested e past k r
-news-shown tested rule tells e past places decided k r says judged at shown =
+news-shown tested rule shows_it e past places decided k r says judged at shown =
     ap (λ n. cond (same_rule r rule) (option_map (decided_by n) (place_at k places)) None) at
-    ∙ ap (λ o. cond (same_rule r rule) o None) (shown-places (tells (newest e past)) past places k shown)
-    ∙ ap (λ b. cond (same_rule r rule) (shown_fault b (tells (newest e past)) past k) None) (sym judged)
-    ∙ sym (news-rest tested rule tells e past k r says)
+    ∙ ap (λ o. cond (same_rule r rule) o None) (shown-places (shows_it (newest e past)) past places k shown)
+    ∙ ap (λ b. cond (same_rule r rule) (shown_fault b (shows_it (newest e past)) past k) None) (sym judged)
+    ∙ sym (news-rest tested rule shows_it e past k r says)
 
 -- so the faults grow by what the REST shows
-pub rest-shown : (tested : Tested) (rule : Rule) (tells : Moment → Moment → Bool) (e : Seen) (past : List Seen) (places : List Place3) (decided : ℕ) (old new : FaultMap) → statement tested.role rule ≡ at_rest tells
-    → (binds rule tested && is_binding tested.role (newest e past)) ≡ true → decided ≡ length past + 1 → IsShown (tells (newest e past)) past places
+pub rest-shown : (tested : Tested) (rule : Rule) (shows_it : Moment → Moment → Bool) (e : Seen) (past : List Seen) (places : List Place3) (decided : ℕ) (old new : FaultMap) → statement tested.role rule ≡ at_rest shows_it
+    → (binds rule tested && is_binding tested.role (newest e past)) ≡ true → decided ≡ length past + 1 → IsShown (shows_it (newest e past)) past places
     → Blames rule decided places old new → GrowsBy (λ r. same_rule r rule) tested e past old new
-rest-shown tested rule tells e past places decided old new says judged at shown blames = record {
-  each = λ k r. blames.each k r ∙ ap (option_or (fault_at old k r)) (news-shown tested rule tells e past places decided k r says judged at shown);
+rest-shown tested rule shows_it e past places decided old new says judged at shown blames = record {
+  each = λ k r. blames.each k r ∙ ap (option_or (fault_at old k r)) (news-shown tested rule shows_it e past places decided k r says judged at shown);
 }
 
-pub rest-within : (tested : Tested) (rule : Rule) (tells : Moment → Moment → Bool) (e : Seen) (past : List Seen) (places : List Place3) (decided : ℕ) (old new : FaultMap) → statement tested.role rule ≡ at_rest tells
-    → (binds rule tested && is_binding tested.role (newest e past)) ≡ true → decided ≡ length past + 1 → IsShown (tells (newest e past)) past places
+pub rest-within : (tested : Tested) (rule : Rule) (shows_it : Moment → Moment → Bool) (e : Seen) (past : List Seen) (places : List Place3) (decided : ℕ) (old new : FaultMap) → statement tested.role rule ≡ at_rest shows_it
+    → (binds rule tested && is_binding tested.role (newest e past)) ≡ true → decided ≡ length past + 1 → IsShown (shows_it (newest e past)) past places
     → BlamesWithin rule decided places old new → GrowsByWithin (λ r. same_rule r rule) tested e past old new
-rest-within tested rule tells e past places decided old new says judged at shown blames = record { each = λ k r. go k r (blames.each k r) }
+rest-within tested rule shows_it e past places decided old new says judged at shown blames = record { each = λ k r. go k r (blames.each k r) }
   where
     go : (k : ℕ) (r : Rule) → (fault_at new k r ≡ fault_at old k r) ⊎ (fault_at new k r ≡ option_or (fault_at old k r) (cond (same_rule r rule) (option_map (decided_by decided) (place_at k places)) None))
         → (fault_at new k r ≡ fault_at old k r) ⊎ (fault_at new k r ≡ option_or (fault_at old k r) (news (λ q. same_rule q rule) tested e past k r))
     go k r (inl same) = inl same
-    go k r (inr more) = inr (more ∙ ap (option_or (fault_at old k r)) (news-shown tested rule tells e past places decided k r says judged at shown))
+    go k r (inr more) = inr (more ∙ ap (option_or (fault_at old k r)) (news-shown tested rule shows_it e past places decided k r says judged at shown))
 
 -- ---- whether it is judged
 

@@ -76,15 +76,15 @@ length-before seen i lt = length-reverse (take i seen) ∙ length-take-le i seen
 pub shown-step : (test : Moment → Bool) (seen : List Seen) (i : ℕ) (e : Seen) (passes : Bool) (places new : List Place3) → IsPlaced (reverse seen) → i < length seen → e ≡ get_or seen i e
     → passes ≡ test (newest e (reverse (take i seen))) → new ≡ cond passes (places ++ e.place ∷ []) places
     → IsShown test (reverse (take i seen)) places → IsShown test (reverse (take (i + 1) seen)) new
-shown-step test seen i e passes places new placed lt is told grown shown =
+shown-step test seen i e passes places new placed lt is passed grown shown =
     let past = reverse (take i seen) in
     let front : reverse (take (i + 1) seen) ≡ e ∷ past = newest-at seen i e lt is in
     let spot : IsPlaced (e ∷ past) = subst IsPlaced front (placed-beginning seen (i + 1) placed) in
-    subst (λ log. IsShown test log new) (sym front) (go passes told grown spot.0)
+    subst (λ log. IsShown test log new) (sym front) (go passes passed grown spot.0)
   where
     go : (b : Bool) → b ≡ test (newest e (reverse (take i seen))) → new ≡ cond b (places ++ e.place ∷ []) places → e.place.position ≡ length (reverse (take i seen)) + 1 → IsShown test (e ∷ reverse (take i seen)) new
-    go true told grown at = subst (λ ps. IsShown test (e ∷ reverse (take i seen)) ps) (sym grown) (shown-more test e (reverse (take i seen)) places at (sym told) shown)
-    go false told grown at = subst (λ ps. IsShown test (e ∷ reverse (take i seen)) ps) (sym grown) (shown-same test e (reverse (take i seen)) places (sym told) shown)
+    go true passed grown at = subst (λ ps. IsShown test (e ∷ reverse (take i seen)) ps) (sym grown) (shown-more test e (reverse (take i seen)) places at (sym passed) shown)
+    go false passed grown at = subst (λ ps. IsShown test (e ∷ reverse (take i seen)) ps) (sym grown) (shown-same test e (reverse (take i seen)) places (sym passed) shown)
 
 -- two tests that agree at the moments of the log show the same
 pub shown-alike : (one other : Moment → Bool) (past : List Seen) (places : List Place3) → ((k : ℕ) (m : Moment) → moment past k ≡ Some m → one m ≡ other m) → IsShown one past places → IsShown other past places

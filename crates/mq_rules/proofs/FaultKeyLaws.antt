@@ -1,9 +1,9 @@
--- Marks are in a total order, which tells all of them apart, and a tree map is the finite map of its entries.
+-- Keys of faults are in a total order, in which no two keys are equal, and a tree map is the finite map of its entries.
 use Rattle.std.proofs.Common.{◌≡◌, ℕ, Bool, true, false, cond, not, ◌&&◌, ◌||◌, nat_le, nat_lt, arith, ap₂, List, [], ◌∷◌, length, Option, Some, None, refl, sym, ap, subst, ◌∙◌, ◌==◌, nat_eq}
 use Rattle.std.specs.Prelude.{T, is_some, Result, Ok, Err, OnErr}
 use Rattle.std.specs.declared.cmp.Ordering.{Ordering}
 use Rattle.std.specs.declared.cmp.Ordering.TheVariants.{Less, Equal, Greater}
-use Rattle.std.specs.Ordering.{is_eq, is_le, is_lt, eq_by_cmp, nat_cmp, ordering_then}
+use Rattle.std.specs.Ordering.{is_eq, is_le, is_lt, eq_by_cmp, ordering_then}
 use Rattle.std.specs.Cmp.{IsTotalOrder, eq_by_cmp_equiv}
 use Rattle.std.specs.Prelude.{option_map}
 use Rattle.std.specs.List.{AllByRecursion, filter, find as find_by}
@@ -146,7 +146,7 @@ fault_at-with_fault m p k s r f =
     go true e h i = subst (λ (o : Option Fault). cond h o (Some f) ≡ option_or o (Some f)) (get_tied keys_total m q key (equal_of (key_cmp q key) e)) (there (get m key) h i)
     go false e h i = alike h (get m q) ∙ sym (option_or-none (get m q))
 
--- where the positions are one, what is told of them is one
+-- where the positions are one, what is found of them is one
 pub same_told : (k p : ℕ) (b : Bool) (f : ℕ → Fault) → cond ((k == p) && b) (Some (f p)) None ≡ cond ((k == p) && b) (Some (f k)) None
 same_told k p b f = go (k == p) refl
   where

@@ -1,4 +1,4 @@
--- What is kept of a connection tells of the next event what the statements on the past of a connection say of it.
+-- By what is kept of a connection, which statements on the past of a connection are false at the next event.
 use Rattle.std.proofs.Common.{◌≡◌, ℕ, Bool, true, false, cond, ◌&&◌, ◌||◌, ◌+◌, ◌==◌, ◌⊎◌, inl, inr, not, length, List, [], ◌∷◌, Option, Some, None, refl, ap, sym, ◌∙◌}
 use Rattle.std.specs.BTreeSet.{contains}
 use Rattle.std.specs.Ordering.{nat_cmp}
@@ -49,8 +49,8 @@ among-picked (v ∷ vs) rule = go v.1 (same_rule rule v.0) ∙ ap (pick (same_ru
     go false true = refl
     go false false = refl
 
-told_by : Role → ConnectionState → (ℕ → Bool) → Note → Rule → Bool
-told_by role s aliases n rule =
+found_by : Role → ConnectionState → (ℕ → Bool) → Note → Rule → Bool
+found_by role s aliases n rule =
     picked (item_verdicts role s (sent_item n)) rule
     || (picked (packet_verdicts role s (sent_packet n)) rule
     || (picked (publish_verdicts role s aliases (sent_publish n)) rule
@@ -58,9 +58,9 @@ told_by role s aliases n rule =
     || (picked (disconnect_verdicts role s (sent_disconnect n)) rule
     || (picked (rest_verdicts role s (is_rest n)) rule || false)))))
 
-told-told_by : (role : Role) (s : ConnectionState) (aliases : ℕ → Bool) (n : Note) (rule : Rule) → is_found role s aliases n rule ≡ told_by role s aliases n rule
-unfolding told_by
-told-told_by role s aliases n rule = λ i.
+found-found_by : (role : Role) (s : ConnectionState) (aliases : ℕ → Bool) (n : Note) (rule : Rule) → is_found role s aliases n rule ≡ found_by role s aliases n rule
+unfolding found_by
+found-found_by role s aliases n rule = λ i.
     among-picked (item_verdicts role s (sent_item n)) rule i
     || (among-picked (packet_verdicts role s (sent_packet n)) rule i
     || (among-picked (publish_verdicts role s aliases (sent_publish n)) rule i
@@ -98,8 +98,8 @@ some-or p q (m ∷ ms) = go (p m) (q m) (some p ms) (some q ms) ∙ ap (λ b. (p
 
 -- for a client, statement by statement; of those that aren't listed both sides are false
 client-finds : (releases : Bool) (e : Seen) (past : List Seen) (rule : Rule)
-    → told_by Client (kept Client past) (is_alias_set past) e.note rule ≡ (past_says (statement Client rule) (newest e past) && binds rule (client releases))
-unfolding told_by picked pick past_says kept is_alias_set found_line lines line_of breaks_C01 breaks_C02 breaks_C03 breaks_C11 breaks_C13 breaks_C14 breaks_C15 breaks_C16 breaks_C17 breaks_C18 breaks_C20 breaks_C23 breaks_C04 breaks_C05 breaks_C06 breaks_C07 breaks_C08 breaks_C09 breaks_C10 breaks_C12 breaks_C19 breaks_C21 breaks_C22
+    → found_by Client (kept Client past) (is_alias_set past) e.note rule ≡ (past_says (statement Client rule) (newest e past) && binds rule (client releases))
+unfolding found_by picked pick past_says kept is_alias_set found_line lines line_of breaks_C01 breaks_C02 breaks_C03 breaks_C11 breaks_C13 breaks_C14 breaks_C15 breaks_C16 breaks_C17 breaks_C18 breaks_C20 breaks_C23 breaks_C04 breaks_C05 breaks_C06 breaks_C07 breaks_C08 breaks_C09 breaks_C10 breaks_C12 breaks_C19 breaks_C21 breaks_C22
 client-finds releases e past C01 = last (breaks_C01 Client (newest e past))
 client-finds releases e past C02 = last (breaks_C02 (newest e past))
 client-finds releases e past C03 = last (breaks_C03 (newest e past))
@@ -126,8 +126,8 @@ client-finds releases e past C23 = last (breaks_C23 Client (newest e past))
 client-finds releases e past _ = refl
 
 server-finds : (releases : Bool) (e : Seen) (past : List Seen) (rule : Rule)
-    → told_by Server (kept Server past) (is_alias_set past) e.note rule ≡ (past_says (statement Server rule) (newest e past) && binds rule (server releases))
-unfolding told_by picked pick past_says kept is_alias_set found_line lines line_of breaks_C01 breaks_C02 breaks_C03 breaks_C11 breaks_C13 breaks_C14 breaks_C15 breaks_C16 breaks_C17 breaks_C18 breaks_C20 breaks_C23 breaks_C04 breaks_C05 breaks_C06 breaks_C07 breaks_C08 breaks_C09 breaks_C10 breaks_C12 breaks_C19 breaks_C21 breaks_C22
+    → found_by Server (kept Server past) (is_alias_set past) e.note rule ≡ (past_says (statement Server rule) (newest e past) && binds rule (server releases))
+unfolding found_by picked pick past_says kept is_alias_set found_line lines line_of breaks_C01 breaks_C02 breaks_C03 breaks_C11 breaks_C13 breaks_C14 breaks_C15 breaks_C16 breaks_C17 breaks_C18 breaks_C20 breaks_C23 breaks_C04 breaks_C05 breaks_C06 breaks_C07 breaks_C08 breaks_C09 breaks_C10 breaks_C12 breaks_C19 breaks_C21 breaks_C22
 server-finds releases e past C01 = last (breaks_C01 Server (newest e past))
 server-finds releases e past C02 = sym (and_false (breaks_C02 (newest e past)))
 server-finds releases e past C03 = sym (and_false (breaks_C03 (newest e past)))
@@ -158,15 +158,15 @@ server-finds releases e past _ = refl
 -- ---- faults
 
 -- what a statement on the past says at the newest moment is what turns out to fail there
-told_news : (s : Statement) (binds_it told : Bool) (role : Role) (e : Seen) (past : List Seen) (k : ℕ) → e.place.position ≡ length past + 1 → told ≡ (past_says s (newest e past) && binds_it)
-    → at_place e.place k told
+found_news : (s : Statement) (binds_it found : Bool) (role : Role) (e : Seen) (past : List Seen) (k : ℕ) → e.place.position ≡ length past + 1 → found ≡ (past_says s (newest e past) && binds_it)
+    → at_place e.place k found
     ≡ cond {A = Option Fault} (is_by_past s && (binds_it && shows role s e past k)) (Some (record { decided = length past + 1; record_no = record_of (moment (e ∷ past) k); offset = offset_of s (moment (e ∷ past) k) })) None
 unfolding past_says
-told_news (on_bytes rule) b told role e past k placed is = ap (at_place e.place k) is ∙ nothing_at e.place k
-told_news (in_session breaks) b told role e past k placed is = ap (at_place e.place k) is ∙ nothing_at e.place k
-told_news (at_release breaks) b told role e past k placed is = ap (at_place e.place k) is ∙ nothing_at e.place k
-told_news (at_rest test) b told role e past k placed is = ap (at_place e.place k) is ∙ nothing_at e.place k
-told_news (on_past breaks) b told role e past k placed is =
+found_news (on_bytes rule) b found role e past k placed is = ap (at_place e.place k) is ∙ nothing_at e.place k
+found_news (in_session breaks) b found role e past k placed is = ap (at_place e.place k) is ∙ nothing_at e.place k
+found_news (at_release breaks) b found role e past k placed is = ap (at_place e.place k) is ∙ nothing_at e.place k
+found_news (at_rest test) b found role e past k placed is = ap (at_place e.place k) is ∙ nothing_at e.place k
+found_news (on_past breaks) b found role e past k placed is =
     ap (at_place e.place k) is
     ∙ ap (λ n. cond {A = Option Fault} ((k == n) && (breaks (newest e past) && b)) (Some (record { decided = n; record_no = e.place.record_no; offset = None })) None) placed
     ∙ go (k == length past + 1) b (breaks (newest e past))
@@ -180,19 +180,19 @@ told_news (on_past breaks) b told role e past k placed is =
     go false true w = refl
     go false false w = refl
 
--- what is kept tells at an event exactly the statements on the past that are false there
+-- by what is kept, exactly the statements on the past that are false at an event are found there
 finds : (tested : Tested) (e : Seen) (past : List Seen) (rule : Rule)
     → is_found tested.role (kept tested.role past) (is_alias_set past) e.note rule ≡ (past_says (statement tested.role rule) (newest e past) && binds rule tested)
-finds tested e past rule = told-told_by tested.role (kept tested.role past) (is_alias_set past) e.note rule ∙ go tested.role tested.releases
+finds tested e past rule = found-found_by tested.role (kept tested.role past) (is_alias_set past) e.note rule ∙ go tested.role tested.releases
   where
-    go : (role : Role) (releases : Bool) → told_by role (kept role past) (is_alias_set past) e.note rule ≡ (past_says (statement role rule) (newest e past) && binds rule (record { role = role; releases = releases }))
+    go : (role : Role) (releases : Bool) → found_by role (kept role past) (is_alias_set past) e.note rule ≡ (past_says (statement role rule) (newest e past) && binds rule (record { role = role; releases = releases }))
     go Client releases = client-finds releases e past rule
     go Server releases = server-finds releases e past rule
 
 pub at_place-news : (tested : Tested) (e : Seen) (past : List Seen) (k : ℕ) (rule : Rule) → e.place.position ≡ length past + 1
     → at_place e.place k (is_found tested.role (kept tested.role past) (is_alias_set past) e.note rule) ≡ news (is_on_past tested) tested e past k rule
 unfolding turns
-at_place-news tested e past k rule placed = told_news (statement tested.role rule) (binds rule tested) (is_found tested.role (kept tested.role past) (is_alias_set past) e.note rule) tested.role e past k placed (finds tested e past rule)
+at_place-news tested e past k rule placed = found_news (statement tested.role rule) (binds rule tested) (is_found tested.role (kept tested.role past) (is_alias_set past) e.note rule) tested.role e past k placed (finds tested e past rule)
 
 -- the faults of an event that was judged, in full or in part
 pub grows-judged : (tested : Tested) (e : Seen) (past : List Seen) (old new : FaultMap) → e.place.position ≡ length past + 1
@@ -208,10 +208,10 @@ grows-judged_within tested e past old new placed h = record { each = λ k rule. 
     go k rule (inl same) = inl same
     go k rule (inr more) = inr (more ∙ ap (option_or (fault_at old k rule)) (at_place-news tested e past k rule placed))
 
--- what the state of Conn tells is what is kept
-pub told-kept : (conn : Conn) (tested : Tested) (past : List Seen) (n : Note) → Agrees conn tested past
+-- what is found by the state of Conn is what is found by what is kept
+pub found-kept : (conn : Conn) (tested : Tested) (past : List Seen) (n : Note) → Agrees conn tested past
     → (rule : Rule) → is_found conn.role conn.state (contains nat_cmp conn.aliases) n rule ≡ is_found tested.role (kept tested.role past) (is_alias_set past) n rule
-told-kept conn tested past n here rule = λ i. is_found (here.same_role i) (here.same_state i) (λ alias. here.same_aliases alias i) n rule
+found-kept conn tested past n here rule = λ i. is_found (here.same_role i) (here.same_state i) (λ alias. here.same_aliases alias i) n rule
 
 -- ---- what is kept, with one event more
 
@@ -234,10 +234,10 @@ StepWithin conn place n old new = (tested : Tested) (past : List Seen) → Agree
 pub step-within : (conn : Conn) (place : Place3) (n : Note) (old new : FaultMap) → JudgesWithin (is_found conn.role conn.state (contains nat_cmp conn.aliases) n) place old new → StepWithin conn place n old new
 step-within conn place n old new h = λ tested past here placed.
     grows-judged_within tested (record { place = place; note = n }) past old new placed
-    (within-same (is_found conn.role conn.state (contains nat_cmp conn.aliases) n) (is_found tested.role (kept tested.role past) (is_alias_set past) n) place old new (told-kept conn tested past n here) h)
+    (within-same (is_found conn.role conn.state (contains nat_cmp conn.aliases) n) (is_found tested.role (kept tested.role past) (is_alias_set past) n) place old new (found-kept conn tested past n here) h)
 
 pub step-grows : (conn : Conn) (tested : Tested) (place : Place3) (n : Note) (past : List Seen) (old new : FaultMap) → Agrees conn tested past → place.position ≡ length past + 1
     → Judges (is_found conn.role conn.state (contains nat_cmp conn.aliases) n) place old new → GrowsBy (is_on_past tested) tested (record { place = place; note = n }) past old new
 step-grows conn tested place n past old new here placed h =
     grows-judged tested (record { place = place; note = n }) past old new placed
-    (judges-same (is_found conn.role conn.state (contains nat_cmp conn.aliases) n) (is_found tested.role (kept tested.role past) (is_alias_set past) n) place old new (told-kept conn tested past n here) h)
+    (judges-same (is_found conn.role conn.state (contains nat_cmp conn.aliases) n) (is_found tested.role (kept tested.role past) (is_alias_set past) n) place old new (found-kept conn tested past n here) h)

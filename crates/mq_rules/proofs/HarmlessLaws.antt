@@ -92,7 +92,7 @@ not-larger role s size below = go (size_limit role s) (subst (λ b. nat_lt size 
     go None below = refl
     go (Some most) below = grind (arith, nat_tests)
 
--- ---- what is told of a harmless packet that is sent
+-- ---- what is found of a harmless packet that is sent
 
 any-item : (role : Role) (s : ConnectionState) (p : PacketNote) → may_go_on role s ≡ true → is_harmless_in p.fields ≡ true → is_any_broken (item_verdicts role s (Some (items.Packet p))) ≡ false
 any-item Client s p on t =
@@ -156,14 +156,14 @@ judges-publish role s aliases (Pubrel identifier code) place faults t = no_publi
 judges-publish role s aliases (Pubcomp identifier code) place faults t = no_publish role s aliases place faults
 judges-publish role s aliases _ place faults t = absurd (cc)
 
--- ---- what is told of a harmless event
+-- ---- what is found of a harmless event
 
 rests-not : (role : Role) (s : ConnectionState) (place : Place3) (faults : FaultMap) → Judges (is_among (rest_verdicts role s false)) place faults faults
 rests-not role s place faults = judges-none place faults
 
-sent-told : (role : Role) (s : ConnectionState) (aliases : ℕ → Bool) (p : PacketNote) (place : Place3) (faults : FaultMap) → is_harmless (size_bound role s) (notes.Sent (items.Packet p)) ≡ true
+sent-found : (role : Role) (s : ConnectionState) (aliases : ℕ → Bool) (p : PacketNote) (place : Place3) (faults : FaultMap) → is_harmless (size_bound role s) (notes.Sent (items.Packet p)) ≡ true
     → Judges (is_found role s aliases (notes.Sent (items.Packet p))) place faults faults
-sent-told role s aliases p place faults t =
+sent-found role s aliases p place faults t =
     let first = both_true (nat_lt p.size (size_bound role s)) (not (p.has_reason_string || p.has_user_property) && is_harmless_in p.fields) t in
     let second = both_true (not (p.has_reason_string || p.has_user_property)) (is_harmless_in p.fields) first.1 in
     let u = harmless-ordinary p.fields second.1 in
@@ -175,16 +175,16 @@ sent-told role s aliases p place faults t =
     (subst (λ (o : Option (Option ℕ)). Judges (is_among (disconnect_verdicts role s o)) place faults faults) (sym (no-disconnect p.fields u)) (no_disconnect role s place faults))
     (rests-not role s place faults)
 
-received-told : (role : Role) (s : ConnectionState) (aliases : ℕ → Bool) (p : PacketNote) (place : Place3) (faults : FaultMap) → Judges (is_found role s aliases (notes.Recv (items.Packet p))) place faults faults
-received-told role s aliases p place faults =
+received-found : (role : Role) (s : ConnectionState) (aliases : ℕ → Bool) (p : PacketNote) (place : Place3) (faults : FaultMap) → Judges (is_found role s aliases (notes.Recv (items.Packet p))) place faults faults
+received-found role s aliases p place faults =
     judged-all role s aliases (notes.Recv (items.Packet p)) place faults faults faults faults faults faults faults
     (no_item role s place faults) (no_packet role s place faults) (no_publish role s aliases place faults) (no_connack role s place faults) (no_disconnect role s place faults) (rests-not role s place faults)
 
-harmless-told : (role : Role) (s : ConnectionState) (aliases : ℕ → Bool) (n : Note) (place : Place3) (faults : FaultMap) → is_harmless (size_bound role s) n ≡ true
+harmless-found : (role : Role) (s : ConnectionState) (aliases : ℕ → Bool) (n : Note) (place : Place3) (faults : FaultMap) → is_harmless (size_bound role s) n ≡ true
     → Judges (is_found role s aliases n) place faults faults
-harmless-told role s aliases (notes.Sent (items.Packet p)) place faults t = sent-told role s aliases p place faults t
-harmless-told role s aliases (notes.Recv (items.Packet p)) place faults t = received-told role s aliases p place faults
-harmless-told role s aliases _ place faults t = absurd (cc)
+harmless-found role s aliases (notes.Sent (items.Packet p)) place faults t = sent-found role s aliases p place faults t
+harmless-found role s aliases (notes.Recv (items.Packet p)) place faults t = received-found role s aliases p place faults
+harmless-found role s aliases _ place faults t = absurd (cc)
 
 -- ---- what a harmless event leaves as it is
 
@@ -231,4 +231,4 @@ pub harmless-grows : (conn : Conn) (tested : Tested) (e : Seen) (past : List See
     → Agrees conn tested past → e.place.position ≡ length past + 1 → GrowsBy (is_on_past tested) tested e past faults faults
 harmless-grows conn tested e past faults bound is t here placed =
     step-grows conn tested e.place e.note past faults faults here placed
-    (harmless-told conn.role conn.state (contains nat_cmp conn.aliases) e.note e.place faults (subst (λ b. is_harmless b e.note ≡ true) is t))
+    (harmless-found conn.role conn.state (contains nat_cmp conn.aliases) e.note e.place faults (subst (λ b. is_harmless b e.note ≡ true) is t))

@@ -14,7 +14,7 @@ use Rattle.mq_rules.specs.FaultKeys.{FaultMap}
 use Rattle.mq_rules.specs.Keeping.{item_verdicts, packet_verdicts, publish_verdicts, connack_verdicts, disconnect_verdicts, rest_verdicts, is_among, is_found, Judges, JudgesWithin}
 use Rattle.mq_rules.proofs.GrowLaws.{judges-none, judges-same, judges-then, within-first, within-second}
 
--- ---- nothing is told of what the event is not
+-- ---- nothing is found of what the event is not
 
 pub no_item : (role : Role) (s : ConnectionState) (place : Place3) (faults : FaultMap) → Judges (is_among (item_verdicts role s None)) place faults faults
 no_item Client s place faults = judges-none place faults
@@ -44,7 +44,7 @@ no_disconnect Server s place faults = judges-none place faults
 pub clients_connack : (s : ConnectionState) (connack : Option ConnackNote) (place : Place3) (faults : FaultMap) → Judges (is_among (connack_verdicts Client s connack)) place faults faults
 clients_connack s connack place faults = judges-none place faults
 
--- ---- the parts of what is told
+-- ---- the parts of what is found
 
 abbrev from_rest : Role → ConnectionState → (ℕ → Bool) → Note → Rule → Bool
 from_rest role s aliases n rule = is_among (rest_verdicts role s (is_rest n)) rule || false

@@ -62,7 +62,7 @@ fn is_asked<X: Exchange>(role: Role, fate: Fate, identifier: u16, before: &[Seen
     let mut is_latest = true;
     while let Some((event, rest)) = earlier.split_last() {
         let is_in = is_accepted(fate);
-        if let Some(answer) = told_by::<X>(is_in, is_latest, identifier, &event.note) {
+        if let Some(answer) = answer_of_event::<X>(is_in, is_latest, identifier, &event.note) {
             return answer;
         }
         if begins_at(fate, &event.note) {
@@ -77,7 +77,7 @@ fn is_asked<X: Exchange>(role: Role, fate: Fate, identifier: u16, before: &[Seen
 
 /// What an event decides by itself, if its connection is accepted: it is a cause under the identifier, or an answer on the latest
 /// connection.
-fn told_by<X: Exchange>(is_in: bool, is_latest: bool, identifier: u16, note: &Note) -> Option<bool>
+fn answer_of_event<X: Exchange>(is_in: bool, is_latest: bool, identifier: u16, note: &Note) -> Option<bool>
     ensures { result ≡ answer_by (is_in && is_id identifier (X.exchange.cause note.now)) (is_in && (is_id identifier (X.exchange.answer note.now) && is_latest)) }
 {
     if !is_in {

@@ -29,7 +29,7 @@ loop-event-preserved g c =
     let ends : (is_in && (is_id i (x.answer e.note) && c.loop-event.is_latest)) ≡ (has_session c.args.role f e (reverse rest) && (is_id i (x.answer e.note) && (begun (e ∷ reverse rest) == n)))
     = ap (λ b. b && (is_id i (x.answer e.note) && c.loop-event.is_latest)) accepts ∙ answers_in x.answer laws.is_sent c.args.role f e (reverse rest) i c.loop-event.is_latest
     ∙ ap (λ b. has_session c.args.role f e (reverse rest) && (is_id i (x.answer e.note) && b)) latest in
-    let none : answer_by (is_in && is_id i (x.cause e.note)) (is_in && (is_id i (x.answer e.note) && c.loop-event.is_latest)) ≡ None = sym c.told_by.ensures ∙ c.in_default-told_by.is in
+    let none : answer_by (is_in && is_id i (x.cause e.note)) (is_in && (is_id i (x.answer e.note) && c.loop-event.is_latest)) ≡ None = sym c.answer_of_event.ensures ∙ c.in_default-answer_of_event.is in
     record {
       left = sym (ap (λ es. since (causes x i) (λ m. answers x i m && (number m == n)) (session c.args.role f es)) front
           ∙ asked_on (causes x i) (λ m. answers x i m && (number m == n)) c.args.role f c.fate_before-fate.result e (reverse rest) c.begins_at.result
