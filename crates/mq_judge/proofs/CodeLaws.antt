@@ -1,5 +1,5 @@
 -- A statement on a packet's bytes has the code of its rule.
-use Rattle.std.proofs.Common.{◌≡◌, List, ℕ, ap}
+use Rattle.std.proofs.Common.{◌≡◌, ap}
 use Rattle.mq_packet.specs.declared.rule.PacketRule.{PacketRule}
 use Rattle.mq_rules.specs.declared.role.Role.TheVariants.{Client}
 use Rattle.mq_rules.specs.declared.rule.Rule.{Rule}

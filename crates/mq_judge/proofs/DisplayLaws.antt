@@ -1,5 +1,5 @@
 -- A show that took in all, or was stopped.
-use Rattle.std.proofs.Common.{◌≡◌, ℕ, Bool, true, false, true≢false, ◌⊎◌, inl, inr, List, [], ◌∷◌, ◌++◌, length, Option, Some, None, Result, Ok, Err, OnOk, IfErr, IfSome, refl, sym, ap, subst, MutBor, ◌∙◌, append_assoc, append-nil}
+use Rattle.std.proofs.Common.{◌≡◌, ℕ, Bool, true, false, true≢false, ◌⊎◌, inl, inr, List, [], ◌∷◌, ◌++◌, length, Option, Some, None, Result, Ok, Err, OnOk, IfErr, IfSome, refl, sym, ap, subst, MutBor, ◌∙◌, append-nil}
 use Rattle.std.specs.Io.KnownBytes.{Appends}
 use Rattle.mq_trace.specs.declared.refusal.Refusal.{Refusal}
 use Rattle.mq_trace.specs.declared.refusal.Refusal.TheVariants as refusals
@@ -14,8 +14,8 @@ use Rattle.mq_judge.specs.Runner.{default_limit}
 use Rattle.mq_judge.specs.Outgoing.{Sends}
 use Rattle.mq_judge.specs.Display.{Shows, WritesBeginning}
 use Rattle.mq_judge.specs.Stopping.{IsRefusedByte}
-use Rattle.mq_judge.specs.Tracing.{TraceStops, HasFailedIn, ShowStops}
-use Rattle.mq_trace.proofs.Exports.{events-nothing, appends-nothing, last-written, stopped-in-last}
+use Rattle.mq_judge.specs.Tracing.{TraceStops, ShowStops}
+use Rattle.mq_trace.proofs.Exports.{appends-nothing, last-written, stopped-in-last}
 use Rattle.mq_trace.specs.Writing.{AppendsBeginning}
 use Rattle.mq_judge.proofs.FeedingLaws.{whole-taken, some-taken, pieces-are}
 

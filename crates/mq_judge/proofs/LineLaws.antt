@@ -1,7 +1,7 @@
 -- Texts that are written into a list by calls.
 use Rattle.std.specs.Fmt.{WritesText, WritesInCalls, with_newline}
 use Rattle.std.proofs.lemmas.Fmt.{contents_after_writes}
-use Rattle.std.proofs.Common.{◌≡◌, ℕ, IfSome, OnOk, Result, Ok, Err, List, [], ◌++◌, Option, Some, None}
+use Rattle.std.proofs.Common.{◌≡◌, ℕ, IfSome, OnOk, Result, Ok, Err, List, ◌++◌, Option, Some, None}
 use Rattle.mq_judge.specs.Report.{line}
 
 -- what was written into a list by calls stands at its end

@@ -18,7 +18,7 @@ use Rattle.mq_rules.specs.FaultKeys.{FaultMap}
 use Rattle.mq_judge.specs.Report.{report, report_on, FailsToReport}
 use Rattle.mq_judge.specs.Feeding.{FedAll, FedSome}
 use Rattle.mq_judge.specs.Stopping.{IsRefusedByte, IsRefusedEnd, IsRefusedAt}
-use Rattle.mq_judge.specs.Runner.{default_limit, found_in, outcome_of, IsJudged, IsVerdictOn, JudgesOver, RunsOver}
+use Rattle.mq_judge.specs.Runner.{default_limit, outcome_of, IsJudged, IsVerdictOn, RunsOver}
 use Rattle.mq_judge.proofs.JudgeLaws.{unrefused}
 use Rattle.mq_judge.proofs.FeedingLaws.{whole-taken, some-taken, pieces-are}
 use Rattle.mq_judge.specs.Chosen.{is_judged}

@@ -1,5 +1,5 @@
 -- The text of a report in each form, and the line that is written instead for a log that is refused.
-use Rattle.std.specs.Prelude.{◌≡◌, ℕ, Bool, true, false, ◌<◌, ◌==◌, List, [], ◌∷◌, ◌++◌, length, map, codes, decimal, Option, Some, None, if◌then◌else◌}
+use Rattle.std.specs.Prelude.{◌≡◌, ℕ, Bool, true, false, ◌==◌, List, [], ◌∷◌, ◌++◌, length, map, codes, decimal, Option, Some, None, if◌then◌else◌}
 use Rattle.std.specs.List.{filter, flat_map}
 use Rattle.serde_json.specs.Data.{Data, null, number, unsigned, string, array, object, Items, member, no_members}
 use Rattle.serde_json.specs.View.{items_of}

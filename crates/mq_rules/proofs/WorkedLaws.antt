@@ -1,23 +1,20 @@
 -- Short logs whose faults are computed from the definitions.
-use Rattle.std.proofs.Common.{◌≡◌, ◌-◌, ℕ, refl, Bool, true, false, List, [], ◌∷◌, Option, Some, None}
+use Rattle.std.proofs.Common.{◌≡◌, ◌-◌, ℕ, refl, Bool, true, false, List, [], ◌∷◌, Some, None}
 use Rattle.mq_packet.specs.declared.packet.Qos.TheVariants as quality
-use Rattle.mq_rules.specs.declared.role.Role.TheVariants.{Client, Server}
+use Rattle.mq_rules.specs.declared.role.Role.TheVariants.{Client}
 use Rattle.mq_rules.specs.declared.role.Tested.{Tested}
-use Rattle.mq_rules.specs.declared.rule.Rule.{Rule}
-use Rattle.mq_rules.specs.declared.rule.Rule.TheVariants.{C11, C23, S01, S03, E1R}
+use Rattle.mq_rules.specs.declared.rule.Rule.TheVariants.{S01, E1R}
 use Rattle.mq_rules.specs.declared.note.Note.{Note}
 use Rattle.mq_rules.specs.declared.note.Note.TheVariants as notes
 use Rattle.mq_rules.specs.declared.note.ItemNote.TheVariants as items
 use Rattle.mq_rules.specs.declared.note.Seen.{Seen}
 use Rattle.mq_rules.specs.declared.packet_note.PacketFields.{PacketFields}
 use Rattle.mq_rules.specs.declared.packet_note.PacketFields.TheVariants as fields
-use Rattle.mq_rules.specs.Statements.{fails, breaks_bytes}
+use Rattle.mq_rules.specs.Statements.{fails}
 use Rattle.mq_rules.specs.Rules.{found_line, lines, line_of}
-use Rattle.mq_rules.specs.Pasts.{breaks_C11, breaks_C23}
-use Rattle.mq_rules.specs.Identifiers.{breaks_S01, breaks_S03}
-use Rattle.mq_rules.specs.Exchanges.{breaks_A, shows_R}
+use Rattle.mq_rules.specs.Identifiers.{breaks_S01}
+use Rattle.mq_rules.specs.Exchanges.{shows_R}
 use Rattle.mq_rules.specs.Connections.{is_binding}
-use Rattle.mq_rules.specs.Faults.{fault_in}
 
 abbrev pub sends : PacketFields → Note
 sends f = notes.Sent (items.Packet (record { size = 9; has_reason_string = false; has_user_property = false; fields = f }))

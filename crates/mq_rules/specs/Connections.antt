@@ -1,16 +1,15 @@
 -- Network connections and sessions (MQTT 5.0, sections 3.1.2.4, 3.2 and 4.1).
-use Rattle.std.specs.Prelude.{ℕ, suc, zero, ◌≡◌, ◌<◌, ◌≤◌, ◌==◌, ◌⊎◌, Bool, true, false, ◌&&◌, ◌||◌, not, cond, List, [], ◌∷◌, Option, Some, None, is_some, is_none, unwrap_or}
+use Rattle.std.specs.Prelude.{ℕ, suc, zero, ◌≡◌, ◌<◌, ◌≤◌, ◌==◌, ◌⊎◌, Bool, true, false, ◌&&◌, ◌||◌, not, cond, List, [], ◌∷◌, Option, Some, is_some, is_none, unwrap_or}
 use Rattle.std.specs.Option.{option_and_then, option_or}
 use Rattle.mq_rules.specs.declared.role.Role.{Role}
 use Rattle.mq_rules.specs.declared.fate.Fate.{Fate}
 use Rattle.mq_rules.specs.declared.fate.Fate.TheVariants.{Void, New, Resumed}
-use Rattle.mq_rules.specs.declared.note.Note.{Note}
 use Rattle.mq_rules.specs.declared.note.Seen.{Seen}
 use Rattle.mq_rules.specs.declared.packet_note.ConnectNote.{ConnectNote}
 use Rattle.mq_rules.specs.declared.packet_note.ConnackNote.{ConnackNote}
 use Rattle.mq_rules.specs.Words.{is_some_and}
 use Rattle.mq_rules.specs.Notes.{is_open, is_close, is_rest, is_release, is_broken, sent_item, received_item, sent_fields, received_fields, disconnect_in, connect_of, connack_of, client_disconnect, decides, needs_session}
-use Rattle.mq_rules.specs.Moments.{Moment, newest, note, moments, Among, some, since, those, earliest, count}
+use Rattle.mq_rules.specs.Moments.{Moment, newest, note, moments, some, since, those, earliest, count}
 
 -- ---- connections
 

@@ -1,14 +1,13 @@
 -- Exchanges: what is received is a cause, and what is sent for it an answer (E1 to E7). Each statement says when it is false at a moment k whose connection is
 -- accepted and has the fate f.
-use Rattle.std.specs.Prelude.{ℕ, ◌==◌, nat_lt, Bool, true, false, ◌&&◌, ◌||◌, not, List, Option, Some, None, is_some}
-use Rattle.mq_packet.specs.declared.packet.PacketType.TheVariants as types
+use Rattle.std.specs.Prelude.{ℕ, ◌==◌, nat_lt, Bool, ◌&&◌, not, Option, is_some}
 use Rattle.mq_rules.specs.declared.role.Role.{Role}
 use Rattle.mq_rules.specs.declared.fate.Fate.{Fate}
 use Rattle.mq_rules.specs.declared.note.Note.{Note}
 use Rattle.mq_rules.specs.Words.{is_some_and, is_id}
 use Rattle.mq_rules.specs.Notes.{received_once_acknowledged, received_exactly_once, sent_as, received_as, puback_in, pubrec_in, accepting_pubrec_in, pubrel_in, pubcomp_in, subscribe_in, suback_in, unsubscribe_in, unsuback_in, is_sent_pingresp, is_received_pingreq}
 use Rattle.mq_rules.specs.Moments.{Moment, note, is_same, is_after, some, since, earliest_since, count}
-use Rattle.mq_rules.specs.Connections.{number, connection, session, is_binding}
+use Rattle.mq_rules.specs.Connections.{number, connection, is_binding}
 use Rattle.mq_rules.specs.Identifiers.{session_before}
 
 -- An exchange: under which identifier an event is a cause, and under which it is an answer.

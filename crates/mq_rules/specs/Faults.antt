@@ -1,5 +1,5 @@
 -- The failing pairs of a log, each with where it was decided.
-use Rattle.std.specs.Prelude.{ℕ, ◌≡◌, ◌⊎◌, ◌+◌, cond, Bool, ◌||◌, ◌&&◌, List, [], ◌∷◌, length, Option, Some, None, option_map}
+use Rattle.std.specs.Prelude.{ℕ, ◌≡◌, ◌⊎◌, ◌+◌, cond, Bool, List, [], ◌∷◌, length, Option, Some, None, option_map}
 use Rattle.std.specs.Option.{option_and_then, option_or}
 use Rattle.std.specs.List.{flat_map, filter_map, range_with_len}
 use Rattle.mq_rules.specs.declared.role.Role.{Role}

@@ -1,13 +1,12 @@
 -- Packet Identifiers, resends and the send quota (S01 to S07). Each statement says when it is false at a moment k whose connection is accepted and has the fate f.
-use Rattle.std.specs.Prelude.{ℕ, ◌+◌, ◌-◌, ◌==◌, nat_le, nat_lt, Bool, true, false, ◌&&◌, ◌||◌, not, cond, List, [], ◌∷◌, length, Option, Some, None, is_some}
+use Rattle.std.specs.Prelude.{ℕ, ◌+◌, nat_le, nat_lt, Bool, true, ◌&&◌, ◌||◌, not, List, ◌∷◌, Option, Some, None, is_some}
 use Rattle.std.specs.Option.{option_and_then, option_or}
 use Rattle.mq_rules.specs.declared.role.Role.{Role}
 use Rattle.mq_rules.specs.declared.role.Role.TheVariants.{Client, Server}
 use Rattle.mq_rules.specs.declared.fate.Fate.{Fate}
 use Rattle.mq_rules.specs.declared.note.Note.{Note}
-use Rattle.mq_rules.specs.declared.packet_note.PublishNote.{PublishNote}
 use Rattle.mq_rules.specs.Words.{is_some_and, is_id}
-use Rattle.mq_rules.specs.Notes.{opener_of, resend_of, delivery_of, closer_of, sent_publish, is_exactly_once, sent_as, received_as, pubrel_in, accepting_pubrec_in, subscribe_in, suback_in, unsubscribe_in, unsuback_in, connack_of}
+use Rattle.mq_rules.specs.Notes.{opener_of, resend_of, delivery_of, closer_of, sent_publish, is_exactly_once, sent_as, received_as, pubrel_in, accepting_pubrec_in, subscribe_in, suback_in, unsubscribe_in, unsuback_in}
 use Rattle.mq_rules.specs.Moments.{Moment, position, note, moments, is_same, some, since, those, latest, count, some_stretch}
 use Rattle.mq_rules.specs.Connections.{number, connection, fate, latest_fate, resumed, voided, session}
 use Rattle.mq_rules.specs.Pasts.{peer_receive_maximum, peer_maximum_packet_size, connack_before}

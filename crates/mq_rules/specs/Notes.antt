@@ -1,7 +1,6 @@
 -- What the statements look at in one event, and what one event is to them.
-use Rattle.std.specs.Prelude.{ℕ, ◌/◌, ◌==◌, nat_le, nat_lt, Bool, true, false, ◌&&◌, ◌||◌, not, cond, if◌then◌else◌, List, [], ◌∷◌, length, map, Option, Some, None, is_some, unwrap_or, option_map}
+use Rattle.std.specs.Prelude.{ℕ, ◌/◌, ◌==◌, nat_le, Bool, true, false, ◌&&◌, ◌||◌, not, cond, if◌then◌else◌, List, [], ◌∷◌, length, map, Option, Some, None, is_some, unwrap_or, option_map}
 use Rattle.std.specs.Option.{option_and_then}
-use Rattle.mq_props.specs.Listed.{Listed}
 use Rattle.mq_props.specs.Values.{Property}
 use Rattle.mq_props.specs.First.{first_byte, first_two_bytes, first_four_bytes, first_varint, first_text, first_pair}
 use Rattle.mq_packet.specs.declared.packet.Qos.{Qos}

@@ -1,19 +1,16 @@
 -- Statements on the past of a connection (C01 to C23). They are judged on every connection; each says when it is false at a moment, by what comes before
 -- it on its connection. In C01 to C06 bytes that break a rule count by their type; elsewhere only packets count.
-use Rattle.std.specs.Prelude.{ℕ, ◌-◌, ◌==◌, nat_le, nat_lt, Bool, true, false, ◌&&◌, ◌||◌, not, List, [], ◌∷◌, length, Option, Some, None, is_some, is_none, unwrap_or}
+use Rattle.std.specs.Prelude.{ℕ, ◌-◌, ◌==◌, nat_lt, Bool, true, ◌&&◌, ◌||◌, not, length, Option, is_some, unwrap_or}
 use Rattle.std.specs.Option.{option_and_then}
 use Rattle.std.specs.List.{list_any}
 use Rattle.mq_packet.specs.declared.packet.PacketType.TheVariants as types
 use Rattle.mq_rules.specs.declared.role.Role.{Role}
 use Rattle.mq_rules.specs.declared.role.Role.TheVariants.{Client, Server}
 use Rattle.mq_rules.specs.declared.note.Note.{Note}
-use Rattle.mq_rules.specs.declared.packet_note.PacketNote.{PacketNote}
-use Rattle.mq_rules.specs.declared.packet_note.PacketFields.{PacketFields}
-use Rattle.mq_rules.specs.declared.packet_note.PublishNote.{PublishNote}
 use Rattle.mq_rules.specs.declared.packet_note.ConnectNote.{ConnectNote}
 use Rattle.mq_rules.specs.declared.packet_note.ConnackNote.{ConnackNote}
 use Rattle.mq_rules.specs.Words.{is_some_and, is_id, only}
-use Rattle.mq_rules.specs.Notes.{is_rest, is_typed, sent_item, sent_packet, sent_fields, sent_publish, sent_disconnect, sent_connack, publish_in, connack_in, disconnect_in, is_of_type, foreign_types, sends_type, receives_type, refuses, may_explain, resumed_by, qos_number}
+use Rattle.mq_rules.specs.Notes.{is_rest, is_typed, sent_item, sent_packet, sent_publish, sent_disconnect, sent_connack, foreign_types, sends_type, receives_type, refuses, may_explain, resumed_by, qos_number}
 use Rattle.mq_rules.specs.Moments.{Moment, note, some}
 use Rattle.mq_rules.specs.Connections.{begun, connection, first_connect, first_connack, is_alive_after}
 

@@ -1,5 +1,5 @@
 -- Releases of QoS 2 messages for onward delivery (L1 to L3; MQTT 5.0, section 4.3.3), if the log records them.
-use Rattle.std.specs.Prelude.{ℕ, ◌==◌, Bool, true, false, ◌&&◌, ◌||◌, not, List, Option, Some, None}
+use Rattle.std.specs.Prelude.{ℕ, Bool, ◌&&◌, ◌||◌, not, Option}
 use Rattle.mq_rules.specs.declared.role.Role.{Role}
 use Rattle.mq_rules.specs.declared.fate.Fate.{Fate}
 use Rattle.mq_rules.specs.Words.{is_some_and, is_id}

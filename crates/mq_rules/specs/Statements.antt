@@ -1,5 +1,5 @@
 -- The chosen statements of MQTT 5.0: one line each, and where each is false.
-use Rattle.std.specs.Prelude.{ℕ, ◌==◌, Bool, true, false, ◌&&◌, ◌||◌, not, cond, List, [], ◌∷◌, Option, Some, None, is_some, option_map}
+use Rattle.std.specs.Prelude.{ℕ, Bool, true, false, ◌&&◌, List, Option, Some}
 use denote.Enum.Bare.{sameb}
 use Rattle.mq_packet.specs.declared.rule.PacketRule.{PacketRule}
 use Rattle.mq_packet.specs.declared.rule.PacketRule.TheVariants as packets
@@ -13,7 +13,7 @@ use Rattle.mq_rules.specs.declared.note.Seen.{Seen}
 use Rattle.mq_rules.specs.Words.{is_some_and}
 use Rattle.mq_rules.specs.Notes.{sent_fault}
 use Rattle.mq_rules.specs.Moments.{Moment, note, moments, moment, some, is_after}
-use Rattle.mq_rules.specs.Connections.{number, begun, fate, fate_under, accepts, is_binding}
+use Rattle.mq_rules.specs.Connections.{number, fate, fate_under, accepts, is_binding}
 use Rattle.mq_rules.specs.Pasts.{breaks_C01, breaks_C02, breaks_C03, breaks_C04, breaks_C05, breaks_C06, breaks_C07, breaks_C08, breaks_C09, breaks_C10, breaks_C11, breaks_C12, breaks_C13, breaks_C14, breaks_C15, breaks_C16, breaks_C17, breaks_C18, breaks_C19, breaks_C20, breaks_C21, breaks_C22, breaks_C23}
 use Rattle.mq_rules.specs.Identifiers.{breaks_S01, breaks_S02, breaks_S03, breaks_S04, breaks_S05, shows_S06, breaks_S07}
 use Rattle.mq_rules.specs.Exchanges.{publish_puback, publish_pubrec, pubrec_pubrel, pubrel_pubcomp, subscribe_suback, unsubscribe_unsuback, breaks_A, breaks_O, shows_R, breaks_E7R}

@@ -1,5 +1,4 @@
 use Rattle.std.proofs.Common.{None}
-use Rattle.std.specs.FinMap as map
 use Rattle.std.proofs.lemmas.Result.{err_from_is_err_and}
 use Rattle.mq_judge.proofs.RunnerLaws.{run-reports, run-stops-writing}
 use Rattle.mq_judge.proofs.runner.run_bounded.Goals as goal

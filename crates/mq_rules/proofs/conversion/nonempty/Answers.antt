@@ -1,4 +1,4 @@
-use Rattle.std.proofs.Common.{rules, ◌≡◌, ℕ, length, sym, ◌∙◌}
+use Rattle.std.proofs.Common.{rules, ◌≡◌, length, sym, ◌∙◌}
 use Rattle.std.proofs.lemmas.List.{nil_from_length}
 use Rattle.mq_rules.proofs.PropertyLaws.{none_from_no_bytes}
 use Rattle.mq_rules.proofs.conversion.nonempty.Goals as goal

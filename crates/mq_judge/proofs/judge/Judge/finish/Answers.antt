@@ -1,9 +1,8 @@
-use Rattle.std.proofs.Common.{◌≡◌, ℕ, List, length, reverse, sym, ◌∙◌, ap, subst, inl, inr, true, is_ok, OnOk, rules}
+use Rattle.std.proofs.Common.{◌≡◌, List, length, reverse, sym, ◌∙◌, ap, subst, inl, inr, true, is_ok, OnOk, rules}
 use Rattle.std.specs.FinMap.{get-empty}
 use Rattle.std.proofs.lemmas.Result.{err_from_is_err_and}
 use Rattle.mq_trace.specs.declared.refusal.Refusal.TheVariants as refusals
 use Rattle.mq_trace.specs.Tracing.{Traced, IsTracedTo}
-use Rattle.mq_rules.specs.declared.rule.Rule.{Rule}
 use Rattle.mq_rules.specs.declared.note.Seen.{Seen}
 use Rattle.mq_rules.specs.Moments.{IsPlaced}
 use Rattle.mq_rules.specs.Connections.{IsInOrder}

@@ -1,4 +1,4 @@
-use Rattle.std.proofs.Common.{◌≡◌, ◌∙◌}
+use Rattle.std.proofs.Common.{◌∙◌}
 use Rattle.mq_rules.specs.declared.role.Role.TheVariants.{Client}
 use Rattle.mq_judge.proofs.CodeLaws.{code_is}
 use Rattle.mq_judge.proofs.report.item.rule_code.Goals as goal

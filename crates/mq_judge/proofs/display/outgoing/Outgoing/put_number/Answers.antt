@@ -1,4 +1,4 @@
-use Rattle.std.proofs.Common.{[], refl, decimal, arith}
+use Rattle.std.proofs.Common.{[], refl, decimal}
 use Rattle.std.proofs.lemmas.Fmt.{decimal_nonempty}
 use Rattle.mq_judge.proofs.OutgoingLaws.{puts_two, sends_or_fails}
 use Rattle.mq_judge.proofs.display.outgoing.Outgoing.put_number.Goals as goal
