@@ -2,6 +2,9 @@
 use Rattle.std.specs.Prelude.{◌≡◌, ℕ, ◌+◌, Bool, true, false, nat_le, nat_lt, ◌&&◌, List, [], ◌∷◌, ◌++◌, codes, decimal, Option, Some, None, Result, Ok, Err, if◌then◌else◌}
 use Rattle.std.specs.List.{flat_map, list_any}
 use Rattle.std.specs.Io.KnownBytes.{Appends}
+use Rattle.mq_trace.specs.declared.kind.Direction.{Direction}
+use Rattle.mq_trace.specs.declared.kind.Direction.TheVariants.{Sent, Recv}
+use Rattle.mq_trace.specs.declared.place.Place3.{Place3}
 use Rattle.mq_trace.specs.Events.{Event, Placed, opened, closed, rested, released, sent, received, events}
 use Rattle.mq_trace.specs.Refusals.{refused}
 use Rattle.mq_trace.specs.Refusing.{spaced}
@@ -16,7 +19,8 @@ use Rattle.mq_rules.specs.Rules.{code_of, citation_of}
 use Rattle.mq_judge.specs.declared.report.RunFault.{RunFault}
 use Rattle.mq_judge.specs.declared.report.RunFault.TheVariants as run_faults
 use Rattle.mq_judge.specs.Details.{detail_text}
-use Rattle.mq_judge.specs.ItemText.{item_text}
+use Rattle.mq_judge.specs.declared.report.summary.PacketSummary.{PacketSummary}
+use Rattle.mq_judge.specs.ItemText.{item_text, packet_text}
 use Rattle.mq_judge.specs.Report.{line}
 use Rattle.mq_judge.specs.Runner.{default_limit, IsJudged}
 use Rattle.mq_judge.specs.Stopping.{IsRefusedAt}
@@ -39,6 +43,16 @@ event_words placed = spaced (decimal placed.place.position ∷ codes "record" �
 -- the line of an event
 abbrev pub event_line : Placed → List ℕ
 event_line placed = line (event_words placed)
+
+-- the word for a direction
+abbrev pub direction_word : Direction → List ℕ
+direction_word Sent = codes "SENT"
+direction_word Recv = codes "RECV"
+
+-- the line of a packet of this size in this direction, at its place, from what a line says of it
+abbrev pub packet_line : Place3 → Direction → PacketSummary → ℕ → List ℕ
+packet_line place direction packet size =
+    line (spaced (decimal place.position ∷ codes "record" ∷ decimal place.record_no ∷ direction_word direction ∷ packet_text packet size ∷ []))
 
 -- the line of an event with what else its packet says
 abbrev pub long_line : Placed → List ℕ

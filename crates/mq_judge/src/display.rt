@@ -19,8 +19,9 @@ use self::view::View;
 use super::feeding::{Feed, feed_all};
 use super::judge::Options;
 use super::report::RunFault;
+use mq_packet::Packet;
 use mq_rules::{Faults, Role};
-use mq_trace::{Event, Place3, Refusal, Sink, Tracer};
+use mq_trace::{Direction, Event, Place3, Refusal, Sink, Tracer};
 use std::alloc::Global;
 use std::io::{Read, Write};
 use std::marker::{Brand, PhantomData};
@@ -101,6 +102,19 @@ impl<W: Write, K: Given> Sink for Display<'_, '_, '_, W, K> {
     #[inline(always)]
     fn event(&mut self, place: Place3, event: Event<'_>) -> Result<(), Refusal> {
         self.view.put(self.out, place, &event);
+        Ok(())
+    }
+
+    #[inline(always)]
+    fn packet(
+        &mut self,
+        place: Place3,
+        direction: Direction,
+        size: u32,
+        packet: Packet<'_>,
+    ) -> Result<(), Refusal> {
+        self.view
+            .put_packet(self.out, place, direction, size, packet);
         Ok(())
     }
 }

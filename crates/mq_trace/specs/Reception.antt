@@ -1,7 +1,6 @@
 -- What a sink receives of a log.
 use Rattle.std.specs.Prelude.{◌≡◌, ℕ, List, ◌++◌, None, unwrap_or}
-use Rattle.mq_packet.specs.declared.packet.Publish.{Publish}
-use Rattle.mq_packet.specs.declared.packet.Packet.TheVariants as packets
+use Rattle.mq_packet.specs.declared.packet.Packet.{Packet}
 use Rattle.mq_packet.specs.Reading.{view}
 use Rattle.mq_packet.specs.Sizes.{size_with, remaining_length}
 use Rattle.mq_trace.specs.declared.place.Place3.{Place3}
@@ -33,9 +32,9 @@ event_of (emitted.Recv item) = received (item_of item)
 abbrev pub placed_at : Place3 → EmittedEvent → Placed
 placed_at place event = record { place = place; event = event_of event }
 
--- the event of a PUBLISH in this direction, at its place
-abbrev pub published_at : Place3 → Direction → Publish → Placed
-published_at place direction p = record { place = place; event = item_event direction (item_of (items.Packet (packets.Publish p))) }
+-- the event of a packet in this direction, at its place
+abbrev pub packet_event_at : Place3 → Direction → Packet → Placed
+packet_event_at place direction p = record { place = place; event = item_event direction (item_of (items.Packet p)) }
 
 -- These are the events of some log that isn't refused, the newest first.
 pub record AreEvents (placed : List Placed) : Type 0 where

@@ -2,6 +2,7 @@
 
 ghost use Rattle.std.specs.Prelude.{◌≡◌, ◌+◌, ℕ, Bool, [], ◌∷◌, ◌<◌, ◌&&◌, not, List, Some, None, OnOk, IfErr, unwrap_or};
 ghost use Rattle.mq_packet.specs.Entries.{PublishFields, publish};
+ghost use Rattle.mq_packet.specs.Reading.{view};
 ghost use Rattle.mq_packet.specs.Sizes.{size_with, remaining_length};
 ghost use Rattle.mq_packet.specs.declared.packet.Packet.TheVariants as packets;
 ghost use Rattle.mq_trace.specs.Events.{Placed, packet};
@@ -134,6 +135,124 @@ fn emit_next_publish<S: Sink>(
     }
 }
 
+/// Emits the next event, a packet of `size` bytes in this direction, as any event is emitted.
+///
+/// # Errors
+///
+/// As for any event.
+#[inline(always)]
+pub fn emit_packet<S: Sink>(
+    connections: &mut Connections,
+    server: bool,
+    at: u64,
+    record_no: u32,
+    direction: Direction,
+    size: u32,
+    packet: Packet<'_>,
+    sink: &mut S,
+) -> Result<(), Refusal>
+    requires { size ≡ unwrap_or (size_with (remaining_length packet)) 0 }
+    ensures met { OnOk result (event_refusal at connections.old (item_event direction (item_of (items.Packet packet.entry))) ≡ None) }
+    ensures kept { OnOk result (connections.new ≡ connections_with server connections.old (item_event direction (item_of (items.Packet packet.entry)))) }
+    ensures receives { (earlier : List Placed) → S.agrees sink.old earlier → AreEvents (next_placed connections.old record_no (item_event direction (item_of (items.Packet packet.entry))) ∷ earlier)
+        → OnOk result (S.agrees sink.new (next_placed connections.old record_no (item_event direction (item_of (items.Packet packet.entry))) ∷ earlier)) }
+    ensures err { IfErr result (λ refusal. NotEmitted (Declines S.agrees S.refuses) at (event_refusal at connections.old (item_event direction (item_of (items.Packet packet.entry)))) (next_placed connections.old record_no (item_event direction (item_of (items.Packet packet.entry))) ∷ []) sink.old sink.new refusal) }
+{
+    match packet_refusal(*connections, at, &packet) {
+        Some(met) => Err(met),
+        None => emit_next_packet(connections, server, at, record_no, direction, size, packet, sink),
+    }
+}
+
+/// The refusal that applies to a packet that the byte at this offset completes.
+#[inline(always)]
+fn packet_refusal(connections: Connections, at: u64, packet: &Packet<'_>) -> Option<Refusal>
+    ensures met { (direction : Direction) → result ≡ event_refusal at connections (item_event direction (item_of (items.Packet packet.now))) }
+    ensures room { result ≡ None → connections.events < 4294967295 }
+{
+    if is_early_packet(connections, packet) {
+        Some(Refusal::Early(at))
+    } else if connections.events == u32::MAX {
+        Some(Refusal::TooLong(at))
+    } else {
+        None
+    }
+}
+
+/// Whether the packet needs its connection's CONNACK, while that hasn't come.
+#[inline(always)]
+fn is_early_packet(connections: Connections, packet: &Packet<'_>) -> bool
+    ensures { (direction : Direction) → result ≡ (needs_answer (item_event direction (item_of (items.Packet packet.now))) && (connections.connected && not connections.connack_seen)) }
+{
+    is_session_packet(packet) && connections.connected && !connections.connack_seen
+}
+
+/// Emits the next event, a packet to which no refusal applies.
+///
+/// # Errors
+///
+/// The sink's own refusal, at this byte.
+#[inline(always)]
+fn emit_next_packet<S: Sink>(
+    connections: &mut Connections,
+    server: bool,
+    at: u64,
+    record_no: u32,
+    direction: Direction,
+    size: u32,
+    packet: Packet<'_>,
+    sink: &mut S,
+) -> Result<(), Refusal>
+    requires room { connections.old.events < 4294967295 }
+    requires size { size ≡ unwrap_or (size_with (remaining_length packet)) 0 }
+    ensures kept { OnOk result (connections.new ≡ connections_with server connections.old (item_event direction (item_of (items.Packet packet.entry)))) }
+    ensures receives { (earlier : List Placed) → S.agrees sink.old earlier → AreEvents (next_placed connections.old record_no (item_event direction (item_of (items.Packet packet.entry))) ∷ earlier)
+        → OnOk result (S.agrees sink.new (next_placed connections.old record_no (item_event direction (item_of (items.Packet packet.entry))) ∷ earlier)) }
+    ensures err { IfErr result (λ refusal. RefusedBySink (Declines S.agrees S.refuses) at (next_placed connections.old record_no (item_event direction (item_of (items.Packet packet.entry))) ∷ []) sink.old sink.new refusal) }
+{
+    let place = Place3 {
+        position: connections.events + 1,
+        record_no,
+    };
+    let next = connections_with_packet(*connections, server, direction, &packet);
+    match sink.packet(place, direction, size, packet) {
+        Ok(()) => {
+            *connections = next;
+            Ok(())
+        }
+        Err(refusal) => Err(refusal.moved_to(at)),
+    }
+}
+
+/// What is kept after one more event, which is a packet: it doesn't begin or end a connection.
+#[inline(always)]
+fn connections_with_packet(
+    connections: Connections,
+    server: bool,
+    direction: Direction,
+    packet: &Packet<'_>,
+) -> Connections
+    requires { connections.events < 4294967295 }
+    ensures { result ≡ connections_with server connections (item_event direction (item_of (items.Packet packet.now))) }
+{
+    Connections {
+        events: connections.events + 1,
+        connected: connections.connected,
+        connack_seen: is_answer_packet(server, direction, packet) || connections.connack_seen,
+    }
+}
+
+/// Whether a packet in this direction is a CONNACK from the server.
+#[inline(always)]
+fn is_answer_packet(server: bool, direction: Direction, packet: &Packet<'_>) -> bool
+    ensures { result ≡ is_answer server (item_event direction (item_of (items.Packet packet.now))) }
+{
+    match direction {
+        Direction::Sent => server && is_connack_packet(packet),
+        Direction::Recv => !server && is_connack_packet(packet),
+    }
+}
+
 /// The refusal that applies to an event that the byte at this offset completes.
 #[inline(always)]
 fn event_refusal(connections: Connections, at: u64, event: &Event<'_>) -> Option<Refusal>
@@ -254,34 +373,52 @@ fn is_connack(item: &Item<'_>) -> bool
     ensures { result ≡ is_packet is_connack (item_of item.now) }
 {
     match item {
-        Item::Packet(Packet::Connack(_)) => true,
+        Item::Packet(packet) => is_connack_packet(packet),
+        Item::Bad { .. } | Item::Lost => false,
+    }
+}
+
+#[inline(always)]
+fn is_connack_packet(packet: &Packet<'_>) -> bool
+    ensures { result ≡ is_connack (view packet.now) }
+{
+    match packet {
+        Packet::Connack(_) => true,
         _ => false,
     }
 }
 
-/// Whether the item is a PUBLISH, a SUBSCRIBE, an UNSUBSCRIBE, or what acknowledges one (MQTT 5.0, section 4.1).
+/// Whether the item is a session packet.
 #[inline(always)]
 fn needs_session(item: &Item<'_>) -> bool
     ensures { result ≡ is_packet is_session_entry (item_of item.now) }
 {
     match item {
-        Item::Packet(packet) => match packet {
-            Packet::Publish(_)
-            | Packet::Puback(_)
-            | Packet::Pubrec(_)
-            | Packet::Pubrel(_)
-            | Packet::Pubcomp(_)
-            | Packet::Subscribe(_)
-            | Packet::Suback(_)
-            | Packet::Unsubscribe(_)
-            | Packet::Unsuback(_) => true,
-            Packet::Connect(_)
-            | Packet::Connack(_)
-            | Packet::Pingreq
-            | Packet::Pingresp
-            | Packet::Disconnect(_)
-            | Packet::Auth(_) => false,
-        },
+        Item::Packet(packet) => is_session_packet(packet),
         Item::Bad { .. } | Item::Lost => false,
+    }
+}
+
+/// Whether the packet is a PUBLISH, a SUBSCRIBE, an UNSUBSCRIBE, or what acknowledges one (MQTT 5.0, section 4.1).
+#[inline(always)]
+fn is_session_packet(packet: &Packet<'_>) -> bool
+    ensures { result ≡ is_session_entry (view packet.now) }
+{
+    match packet {
+        Packet::Publish(_)
+        | Packet::Puback(_)
+        | Packet::Pubrec(_)
+        | Packet::Pubrel(_)
+        | Packet::Pubcomp(_)
+        | Packet::Subscribe(_)
+        | Packet::Suback(_)
+        | Packet::Unsubscribe(_)
+        | Packet::Unsuback(_) => true,
+        Packet::Connect(_)
+        | Packet::Connack(_)
+        | Packet::Pingreq
+        | Packet::Pingresp
+        | Packet::Disconnect(_)
+        | Packet::Auth(_) => false,
     }
 }

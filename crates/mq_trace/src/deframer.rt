@@ -19,7 +19,7 @@ ghost use Rattle.mq_trace.specs.Settling.{IsByteMore, IsStep, IsWhole};
 ghost use Rattle.mq_trace.specs.Flows.{item_event, flow_placed_with, flow_refused, flow_events, flow_behind};
 ghost use Rattle.mq_trace.specs.Deframing.{body_context, flow_of, frame_event, frame_refusal, connections_then, FlowStops, FlowComes};
 
-use super::connections::{Connections, emit, emit_publish};
+use super::connections::{Connections, emit, emit_packet, emit_publish};
 use super::event::{Item, item_event};
 use super::kind::Direction;
 use super::refusal::Refusal;
@@ -665,6 +665,7 @@ fn emit_decoded<S: Sink>(
     sink: &mut S,
 ) -> Result<(), Refusal>
     requires whole { fixed_header_of frame.now ≡ headers.Whole header (length frame.now) }
+    requires fits { length frame.now ≤ header + 268435455 }
     requires exact { Gives view read (decoded (slice_index frame.now 0) (take (length frame.now - header) (drop header frame.now))) }
     requires size { IfOk read (λ packet. remaining_length packet ≡ length (take (length frame.now - header) (drop header frame.now))) }
     ensures met { OnOk result (frame_refusal at (flow_of at (record { unfinished = []; lost = false }) connections.old) context.direction frame.now ≡ None) }
@@ -676,7 +677,16 @@ fn emit_decoded<S: Sink>(
         (put (flow_placed_with (body_context context) (flow_of at (record { unfinished = []; lost = false }) connections.old) (frame_event context.direction frame.now)) []) sink.old sink.new refusal) }
 {
     match read {
-        Ok(packet) => emit_packet(context, connections, at, packet, sink),
+        Ok(packet) => emit_packet(
+            connections,
+            context.server,
+            at,
+            context.record_no,
+            context.direction,
+            frame.len() as u32,
+            packet,
+            sink,
+        ),
         Err(fault) => emit_fault(context, connections, at, header, frame, fault, sink),
     }
 }
@@ -714,31 +724,6 @@ fn emit_fault<S: Sink>(
         ),
         DecodeFault::OtherVersion(_) => Err(Refusal::OtherVersion(at)),
     }
-}
-
-/// Emits a packet.
-#[inline(always)]
-fn emit_packet<S: Sink>(
-    context: BodyContext,
-    connections: &mut Connections,
-    at: u64,
-    packet: Packet<'_>,
-    sink: &mut S,
-) -> Result<(), Refusal>
-    ensures met { OnOk result (event_refusal at connections.old (item_event context.direction (item_of (items.Packet packet.entry))) ≡ None) }
-    ensures kept { OnOk result (connections.new ≡ connections_with context.server connections.old (item_event context.direction (item_of (items.Packet packet.entry)))) }
-    ensures receives { (earlier : List Placed) → S.agrees sink.old earlier → AreEvents (next_placed connections.old context.record_no (item_event context.direction (item_of (items.Packet packet.entry))) ∷ earlier)
-        → OnOk result (S.agrees sink.new (next_placed connections.old context.record_no (item_event context.direction (item_of (items.Packet packet.entry))) ∷ earlier)) }
-    ensures err { IfErr result (λ refusal. NotEmitted (Declines S.agrees S.refuses) at (event_refusal at connections.old (item_event context.direction (item_of (items.Packet packet.entry)))) (next_placed connections.old context.record_no (item_event context.direction (item_of (items.Packet packet.entry))) ∷ []) sink.old sink.new refusal) }
-{
-    emit(
-        connections,
-        context.server,
-        at,
-        context.record_no,
-        item_event(context.direction, Item::Packet(packet)),
-        sink,
-    )
 }
 
 /// Emits a packet with this first byte, which breaks a rule at this offset.

@@ -4,7 +4,7 @@ ghost use Rattle.std.specs.Prelude.{List, ◌∷◌, ◌≡◌, OnOk, IfErr, unw
 ghost use Rattle.mq_packet.specs.Sizes.{size_with, remaining_length};
 ghost use Rattle.mq_packet.specs.declared.packet.Packet.TheVariants as packets;
 ghost use Rattle.mq_trace.specs.Events.{Placed};
-ghost use Rattle.mq_trace.specs.Reception.{AreEvents, placed_at, published_at};
+ghost use Rattle.mq_trace.specs.Reception.{AreEvents, placed_at, packet_event_at};
 
 use super::event::{Event, Item, item_event};
 use super::kind::Direction;
@@ -59,8 +59,32 @@ pub trait Sink {
         ensures refused { (earlier : List Placed) → agrees self.old earlier → AreEvents (placed_at place event.entry ∷ earlier)
             → IfErr result (λ refusal. refuses self.new earlier refusal) };
 
-    /// Receives the next event, a PUBLISH of `size` bytes in this direction. By default it calls `event`; a sink may have a
-    /// quicker way, since most packets of a log are PUBLISHes, and an event is several times as large as a PUBLISH.
+    /// Receives the next event, a packet of `size` bytes in this direction. By default it calls `event`; a sink may have a quicker
+    /// way, since an event that it looks into lies in memory, and its packet's size has to be found again.
+    ///
+    /// # Errors
+    ///
+    /// As in `event`.
+    #[inline(always)]
+    fn packet(
+        &mut self,
+        place: Place3,
+        direction: Direction,
+        size: u32,
+        packet: Packet<'_>,
+    ) -> Result<(), Refusal>
+        requires { size ≡ unwrap_or (size_with (remaining_length packet)) 0 }
+        ensures receives { (earlier : List Placed) → agrees self.old earlier → AreEvents (packet_event_at place direction packet.entry ∷ earlier)
+            → OnOk result (agrees self.new (packet_event_at place direction packet.entry ∷ earlier)) }
+        ensures refused { (earlier : List Placed) → agrees self.old earlier → AreEvents (packet_event_at place direction packet.entry ∷ earlier)
+            → IfErr result (λ refusal. refuses self.new earlier refusal) }
+    {
+        let _ = size;
+        self.event(place, item_event(direction, Item::Packet(packet)))
+    }
+
+    /// Receives the next event, a PUBLISH of `size` bytes in this direction. By default it calls `packet`; a sink may have a
+    /// quicker way, since most packets of a log are PUBLISHes, and a packet is several times as large as a PUBLISH.
     ///
     /// # Errors
     ///
@@ -74,15 +98,11 @@ pub trait Sink {
         publish: Publish<'_>,
     ) -> Result<(), Refusal>
         requires { size ≡ unwrap_or (size_with (remaining_length (packets.Publish publish))) 0 }
-        ensures receives { (earlier : List Placed) → agrees self.old earlier → AreEvents (published_at place direction publish.entry ∷ earlier)
-            → OnOk result (agrees self.new (published_at place direction publish.entry ∷ earlier)) }
-        ensures refused { (earlier : List Placed) → agrees self.old earlier → AreEvents (published_at place direction publish.entry ∷ earlier)
+        ensures receives { (earlier : List Placed) → agrees self.old earlier → AreEvents (packet_event_at place direction (packets.Publish publish.entry) ∷ earlier)
+            → OnOk result (agrees self.new (packet_event_at place direction (packets.Publish publish.entry) ∷ earlier)) }
+        ensures refused { (earlier : List Placed) → agrees self.old earlier → AreEvents (packet_event_at place direction (packets.Publish publish.entry) ∷ earlier)
             → IfErr result (λ refusal. refuses self.new earlier refusal) }
     {
-        let _ = size;
-        self.event(
-            place,
-            item_event(direction, Item::Packet(Packet::Publish(publish))),
-        )
+        self.packet(place, direction, size, Packet::Publish(publish))
     }
 }

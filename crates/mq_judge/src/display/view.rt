@@ -1,17 +1,20 @@
 //! What is shown of an event: its line, or more.
-ghost use Rattle.std.specs.Prelude.{◌≡◌, ◌+◌, ◌<◌, ◌≤◌, ◌∷◌, ◌++◌, ℕ, List, Option, IfErr, OnOk, length};
+ghost use Rattle.std.specs.Prelude.{◌≡◌, ◌+◌, ◌<◌, ◌≤◌, ◌∷◌, ◌++◌, ℕ, List, Option, IfErr, OnOk, length, unwrap_or};
+ghost use Rattle.mq_packet.specs.Sizes.{size_with, remaining_length};
 ghost use Rattle.mq_judge.specs.Outgoing.{Carries, Puts};
-ghost use Rattle.mq_judge.specs.Display.{event_line, event_text, event_words, long_line};
+ghost use Rattle.mq_judge.specs.Display.{direction_word, event_line, event_text, event_words, long_line, packet_line};
 ghost use Rattle.mq_judge.specs.Views.{StandsAfter, text_by};
 ghost use Rattle.mq_trace.specs.Events.{Placed};
-ghost use Rattle.mq_trace.specs.Reception.{event_of, placed_at};
+ghost use Rattle.mq_trace.specs.Reception.{event_of, packet_event_at, placed_at};
 
 use super::super::lines::Lines;
-use super::super::report::item::put_item;
+use super::super::report::item::{put_item, put_packet};
+use super::super::report::summary::PacketSummary;
 use super::annotated::Annotated;
 use super::details::put_details;
 use super::outgoing::Outgoing;
-use mq_trace::{Event, Place3};
+use mq_packet::Packet;
+use mq_trace::{Direction, Event, Item, Place3};
 use std::fmt;
 use std::io::Write;
 
@@ -41,6 +44,116 @@ impl View<'_> {
             View::Long => put_long_line(out, place, event),
             View::Annotated(annotated) => annotated.put(out, place, event),
         }
+    }
+
+    /// Appends what is shown of the next event, which is a packet of `size` bytes in this direction and has this place. Its line is
+    /// made from what it says of the packet, so that the packet needn't lie in memory.
+    #[inline(always)]
+    pub fn put_packet<W: Write>(
+        &mut self,
+        out: &mut Outgoing<'_, W>,
+        place: Place3,
+        direction: Direction,
+        size: u32,
+        packet: Packet<'_>,
+    )
+        requires { size ≡ unwrap_or (size_with (remaining_length packet)) 0 }
+        ensures text { text_by self.new ≡ text_by self.old }
+        ensures writer { out.new.writer.ghost_name ≡ out.old.writer.ghost_name }
+        ensures stands { (earlier : List Placed) → StandsAfter earlier self.old → StandsAfter (packet_event_at place direction packet.entry ∷ earlier) self.new }
+        ensures puts { (held : Option (List ℕ)) (earlier : List Placed) → StandsAfter earlier self.old → Carries W.contents held (text_by self.old earlier) out.old
+            → Carries W.contents held (text_by self.old (packet_event_at place direction packet.entry ∷ earlier)) out.new }
+    {
+        match self {
+            View::Brief => put_packet_line(out, place, direction, PacketSummary::of(&packet), size),
+            _ => self.put_whole_packet(out, place, direction, packet),
+        }
+    }
+
+    /// The same by any view. It stays apart, and takes the packet by value: one that another function looks at lies in memory.
+    #[inline(never)]
+    fn put_whole_packet<W: Write>(
+        &mut self,
+        out: &mut Outgoing<'_, W>,
+        place: Place3,
+        direction: Direction,
+        packet: Packet<'_>,
+    )
+        ensures text { text_by self.new ≡ text_by self.old }
+        ensures writer { out.new.writer.ghost_name ≡ out.old.writer.ghost_name }
+        ensures stands { (earlier : List Placed) → StandsAfter earlier self.old → StandsAfter (packet_event_at place direction packet.entry ∷ earlier) self.new }
+        ensures puts { (held : Option (List ℕ)) (earlier : List Placed) → StandsAfter earlier self.old → Carries W.contents held (text_by self.old earlier) out.old
+            → Carries W.contents held (text_by self.old (packet_event_at place direction packet.entry ∷ earlier)) out.new }
+    {
+        let item = Item::Packet(packet);
+        match direction {
+            Direction::Sent => self.put(out, place, &Event::Sent(item)),
+            Direction::Recv => self.put(out, place, &Event::Recv(item)),
+        }
+    }
+}
+
+/// Appends the line of a packet of `size` bytes in this direction, at its place.
+#[inline(always)]
+fn put_packet_line<W: Write>(
+    out: &mut Outgoing<'_, W>,
+    place: Place3,
+    direction: Direction,
+    packet: PacketSummary,
+    size: u32,
+)
+    ensures { Puts W.contents out.old (packet_line place direction packet size) out.new }
+{
+    out.make_room();
+    put_summary_line(&mut out.lines, place, direction, packet, size);
+}
+
+// Appends that line to those that wait, for which there is room.
+#[inline(always)]
+fn put_summary_line(
+    lines: &mut Lines,
+    place: Place3,
+    direction: Direction,
+    packet: PacketSummary,
+    size: u32,
+)
+    requires { length lines.old + 128 ≤ 8192 }
+    ensures { lines.new ≡ lines.old ++ packet_line place direction packet size }
+{
+    try_put_summary_line(lines, place, direction, packet, size).unwrap()
+}
+
+// Appends that line to those that wait, if there is room for it.
+#[inline(always)]
+fn try_put_summary_line(
+    lines: &mut Lines,
+    place: Place3,
+    direction: Direction,
+    packet: PacketSummary,
+    size: u32,
+) -> fmt::Result
+    ensures puts { OnOk result (lines.new ≡ lines.old ++ packet_line place direction packet size) }
+    ensures full { IfErr result (λ _. 8192 < length lines.old + 128) }
+{
+    lines.put_number(place.position)?;
+    lines.put(" record ")?;
+    lines.put_number(place.record_no)?;
+    lines.put(" ")?;
+    lines.put(direction_word(direction))?;
+    lines.put(" ")?;
+    put_packet(lines, packet, size)?;
+    lines.put("\n")
+}
+
+// The word for a direction.
+#[inline(always)]
+fn direction_word(direction: Direction) -> &'static str
+    ensures word { result.now ≡ direction_word direction }
+    ensures short { length result.now ≡ 4 }
+{
+    match direction {
+        Direction::Sent => "SENT",
+        Direction::Recv => "RECV",
     }
 }
 

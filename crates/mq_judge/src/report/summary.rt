@@ -74,6 +74,7 @@ pub enum PacketSummary {
 
 impl PacketSummary {
     /// What a line says of this packet.
+    #[inline(always)]
     pub fn of(packet: &Packet<'_>) -> PacketSummary
         ensures { result ≡ packet_summary (view packet.now) }
     {
