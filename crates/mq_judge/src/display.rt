@@ -148,7 +148,7 @@ impl<S: Sink + Failing> Feed<S> for Tracer {
 /// `CLOSE`, `REST`, `RELEASE <id>`, or `SENT ` or `RECV ` with what `write_packet` writes of the item: `<TYPE> size <n>`, with
 /// ` qos <q> dup <d>` for a PUBLISH and ` id <i>` if there is a Packet Identifier; `BAD <code> offset <n>` if it breaks a rule;
 /// `LOST` if the rest of the direction can't be parsed. Lines are buffered in 8,192 bytes, and all are written before it
-/// returns. It reads at most 4,294,967,295 times, and at most 8,192 bytes each time.
+/// returns. It reads at most 4,294,967,295 times, and at most 65,536 bytes each time.
 ///
 /// # Errors
 ///
@@ -263,7 +263,8 @@ fn show_all<R: Read, W: Write, K: Given>(
     ensures writer { display.new.out.now.writer.ghost_name ≡ display.old.out.now.writer.ghost_name }
     ensures shows { IfSome (R.remaining reader.old) (λ log. Shows K.text log (R.remaining reader.new) result K.held (W.contents display.new.out.now.writer.now)) }
 {
-    let fed = feed_all(tracer, display, reader, turns);
+    let mut buffer = [0; 65_536];
+    let fed = feed_all(tracer, display, reader, &mut buffer, turns);
     display.out.write_last()?;
     match fed {
         Ok(()) => end(tracer),

@@ -1,5 +1,5 @@
 //! Feeding a log from a reader, piece by piece, to whatever takes it in.
-ghost use Rattle.std.specs.Prelude.{◌≡◌, [], ◌++◌, ℕ, List, OnOk, IfErr};
+ghost use Rattle.std.specs.Prelude.{◌≡◌, ◌<◌, ◌≤◌, [], ◌++◌, ℕ, List, OnOk, IfErr, length};
 ghost use Rattle.mq_judge.specs.Feeding.{FedAll, FedSome, HaltsAt};
 
 use super::turns::Turns;
@@ -38,7 +38,8 @@ enum Halt {
     RanOut(u64),
 }
 
-/// Feeds all that a reader gives, at most 8,192 bytes a turn, for at most `turns` turns. An interrupted read is retried, in a turn of its own.
+/// Feeds all that a reader gives, at most as many bytes a turn as the buffer holds, for at most `turns` turns. The buffer holds 1 to
+/// 65,536 bytes; what was in it doesn't matter. An interrupted read is retried, in a turn of its own.
 ///
 /// # Errors
 ///
@@ -47,14 +48,16 @@ pub fn feed_all<R: Read, S, F: Feed<S>>(
     feeder: &mut F,
     sink: &mut S,
     reader: &mut R,
+    buffer: &mut [u8],
     turns: u32,
 ) -> Result<(), Refusal>
-    requires { F.follows feeder.old sink.old [] }
+    requires room { (0 < length buffer.old) × (length buffer.old ≤ 65536) }
+    requires follows { F.follows feeder.old sink.old [] }
     ensures all { OnOk result (FedAll F.limit F.follows (F.limit feeder.old) (R.remaining reader.old) (R.remaining reader.new) feeder.new sink.new) }
     ensures some { IfErr result (FedSome F.limit F.follows F.stops (F.limit feeder.old) (R.remaining reader.old) (R.remaining reader.new) feeder.new sink.new) }
 {
     let mut turns = Turns::new(turns);
-    match take_turns(feeder, sink, reader, &mut turns) {
+    match take_turns(feeder, sink, reader, buffer, &mut turns) {
         Ok(()) => Ok(()),
         Err(Halt::Refused(refusal)) => Err(refusal),
         Err(Halt::Failed(fed) | Halt::RanOut(fed)) => Err(Refusal::Read(fed)),
@@ -66,16 +69,17 @@ fn take_turns<R: Read, S, F: Feed<S>>(
     feeder: &mut F,
     sink: &mut S,
     reader: &mut R,
+    buffer: &mut [u8],
     turns: &mut Turns,
 ) -> Result<(), Halt>
-    requires { F.follows feeder.old sink.old [] }
+    requires room { (0 < length buffer.old) × (length buffer.old ≤ 65536) }
+    requires follows { F.follows feeder.old sink.old [] }
     ensures all { OnOk result (FedAll F.limit F.follows (F.limit feeder.old) (R.remaining reader.old) (R.remaining reader.new) feeder.new sink.new) }
     ensures some { IfErr result (HaltsAt (FedSome F.limit F.follows F.stops (F.limit feeder.old) (R.remaining reader.old) (R.remaining reader.new) feeder.new sink.new) turns.new.left) }
 {
-    let mut buffer = [0; 8192];
     let mut fed = 0;
     'turns: while turns.are_left() {
-        match turns.read(reader, &mut buffer) {
+        match turns.read(reader, buffer) {
             Ok(0) => return Ok(()),
             Ok(count) => {
                 match feeder.feed(sink, &buffer[..count]) {

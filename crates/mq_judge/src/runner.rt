@@ -96,7 +96,8 @@ fn judge_bounded<R: Read>(
     ensures { IfSome (R.remaining reader.old) (λ log. JudgesOver (λ v. v.events) (λ v. v.faults) log (R.remaining reader.new) result) }
 {
     let mut judge = Judge::new(alloc, Options::default());
-    feed_all(&mut judge, &mut (), reader, turns)?;
+    let mut buffer = [0; 8192];
+    feed_all(&mut judge, &mut (), reader, &mut buffer, turns)?;
     let role = judge.role();
     let verdict = judge.finish()?;
     Ok((verdict, role.unwrap()))

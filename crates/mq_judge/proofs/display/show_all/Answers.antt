@@ -1,6 +1,6 @@
-use Rattle.std.proofs.Common.{◌≡◌, ◌∙◌, [], List, sym, ap, subst}
+use Rattle.std.proofs.Common.{◌≡◌, ◌∙◌, List, sym, ap, subst}
 use Rattle.std.proofs.lemmas.Result.{err_from_is_err_and}
-use Rattle.mq_trace.specs.Events.{Placed, events}
+use Rattle.mq_trace.specs.Events.{Placed}
 use Rattle.mq_trace.specs.declared.refusal.Refusal.{Refusal}
 use Rattle.mq_trace.proofs.Exports.{events-nothing}
 use Rattle.mq_judge.specs.Outgoing.{Carries}
@@ -21,8 +21,8 @@ agrees g s received = (s.out.now.writer.ghost_name ≡ g.K.Given.name) × (text_
 abbrev refuses : (g : given.Over) → Sink g → List Placed → Refusal → Type 0
 refuses g s received own = ⊥
 
-pub feed_all-fed-requires : goal.feed_all-fed-requires
-feed_all-fed-requires g c =
+pub feed_all-fed-requires-clause-follows : goal.feed_all-fed-requires-clause-follows
+feed_all-fed-requires-clause-follows g c =
     let fresh = c.requires.fresh in
     let s = c.args.display.now in (
       c.requires.follows.0,
