@@ -44,6 +44,7 @@ pub struct Trickle<'a> {
 }
 
 impl Trickle<'_> {
+    /// A reader that gives these bytes, and fails before the byte of this index, if that is some.
     pub fn of(bytes: &[u8], fails_after: Option<usize>) -> Trickle<'_> {
         Trickle { bytes, fails_after }
     }

@@ -165,6 +165,7 @@ pub struct Failing {
 }
 
 impl Failing {
+    /// A writer that fails once it has taken `room` bytes, with an error of this kind; with `None`, by taking no byte.
     pub fn after(alloc: Global, room: usize, error: Option<ErrorKind>) -> Failing {
         Failing {
             taken: Vec::new(alloc),
