@@ -42,20 +42,16 @@ fn topics(rt: HostRuntime) {
 }
 
 #[test]
-fn property_lists(rt: HostRuntime) -> Result<(), Fail> {
+fn properties(rt: HostRuntime) -> Result<(), Fail> {
     let mut cursor = Cursor::new(&[3, 0x21, 0, 20]);
     let props = Props::read(&mut cursor, Place::Connect)?;
     assert_eq!(rt; props.get_receive_maximum(), Some(20));
     assert_eq!(rt; props.get_topic_alias_maximum(), None);
+    Ok(())
+}
 
-    let mut list = PropsBuf::new(rt.alloc(), Place::Connack);
-    list.push(&Prop::ServerKeepAlive(30))?;
-    assert_eq!(rt;
-        list.push(&Prop::ServerKeepAlive(60)),
-        Err(PushFault::Repeated)
-    );
-    assert_eq!(rt; list.as_props().as_bytes(), [0x13, 0, 30].as_slice());
-
+#[test]
+fn each_property(rt: HostRuntime) -> Result<(), Fail> {
     let mut cursor = Cursor::new(&[3, 0x21, 0, 20]);
     let mut props = Props::read(&mut cursor, Place::Connect)?.iter();
     assert!(rt; matches!(props.next(), Some(Prop::ReceiveMaximum(20))));
@@ -64,11 +60,26 @@ fn property_lists(rt: HostRuntime) -> Result<(), Fail> {
 }
 
 #[test]
-fn control_packets(rt: HostRuntime) -> Result<(), Fail> {
+fn pushed_properties(rt: HostRuntime) -> Result<(), Fail> {
+    let mut list = PropsBuf::new(rt.alloc(), Place::Connack);
+    list.push(&Prop::ServerKeepAlive(30))?;
+    assert_eq!(rt;
+        list.push(&Prop::ServerKeepAlive(60)),
+        Err(PushFault::Repeated)
+    );
+    assert_eq!(rt; list.as_props().as_bytes(), [0x13, 0, 30].as_slice());
+    Ok(())
+}
+
+#[test]
+fn fixed_headers(rt: HostRuntime) {
     let whole = FixedHeader::Whole { length: 2, size: 4 };
     assert_eq!(rt; fixed_header(&[0x40, 2]), whole);
     assert_eq!(rt; fixed_header(&[0x40]), FixedHeader::Short);
+}
 
+#[test]
+fn frames(rt: HostRuntime) {
     let puback = Cut::Frame {
         first: 0x40,
         body_start: 2,
@@ -76,21 +87,32 @@ fn control_packets(rt: HostRuntime) -> Result<(), Fail> {
     };
     assert_eq!(rt; cut(&[0x40, 2, 0, 10, 0xC0]), puback);
     assert_eq!(rt; cut(&[0xC0]), Cut::Need);
+}
 
+#[test]
+fn decoded_packets(rt: HostRuntime) -> Result<(), Fail> {
     let packet = decode(0x40, &[0, 10])?;
     assert_eq!(rt; packet.kind(), PacketType::Puback);
     match decode(0x40, &[0, 0]) {
         Err(DecodeFault::Broken(fault)) => assert_eq!(rt; fault.rule, PacketRule::W09),
         _ => assert!(rt; false),
     }
+    Ok(())
+}
 
+#[test]
+fn topic_filters(rt: HostRuntime) -> Result<(), Fail> {
     let filters = Filters::of(b"\x00\x03a/b\x01", true).ok_or("no filters")?;
     let wanted = Filter {
         filter: "a/b",
         options: Some(1),
     };
     assert_eq!(rt; filters.iter().next(), Some(wanted));
+    Ok(())
+}
 
+#[test]
+fn encoded_packets(rt: HostRuntime) -> Result<(), Fail> {
     let packet = decode(0xE0, &[0x04, 0x00])?;
     let mut out = Vec::new(rt.alloc());
     if is_valid(&packet) {

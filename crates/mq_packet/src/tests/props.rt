@@ -208,20 +208,14 @@ fn first_other(list: &mut PropsBuf, rows: &[(Prop<'_>, Result<(), PushFault>)]) 
 }
 
 #[test]
-fn what_a_list_takes(rt: HostRuntime) -> Result<(), Fail> {
-    use PushFault::{NotAllowed, Repeated, TooLong, Value};
+fn what_a_list_refuses(rt: HostRuntime) {
+    use PushFault::{NotAllowed, Value};
     let mut list = PropsBuf::new(rt.alloc(), Publish);
-    let long = vec![in rt.alloc(); b'a'; 65_536]?;
-    let text = str::from_utf8(&long)?;
-    let short = str::from_utf8(&long[1..])?;
     let refused = first_other(
         &mut list,
         &[
             (Prop::TopicAlias(0), Err(Value)),
             (Prop::ReceiveMaximum(5), Err(NotAllowed)),
-            (Prop::ContentType(text), Err(TooLong)),
-            (Prop::UserProperty("a", text), Err(TooLong)),
-            (Prop::CorrelationData(&long), Err(TooLong)),
             (Prop::ResponseTopic("a/#"), Err(Value)),
             (Prop::ContentType("\0"), Err(Value)),
             (Prop::UserProperty("a", "\0"), Err(Value)),
@@ -231,6 +225,31 @@ fn what_a_list_takes(rt: HostRuntime) -> Result<(), Fail> {
     );
     assert_eq!(rt; refused, None);
     assert_eq!(rt; list.as_props().as_bytes().len(), 0);
+}
+
+#[test]
+fn the_longest_text_in_a_list(rt: HostRuntime) -> Result<(), Fail> {
+    use PushFault::TooLong;
+    let long = vec![in rt.alloc(); b'a'; 65_536]?;
+    let text = str::from_utf8(&long)?;
+    let mut list = PropsBuf::new(rt.alloc(), Publish);
+    let other = first_other(
+        &mut list,
+        &[
+            (Prop::ContentType(text), Err(TooLong)),
+            (Prop::UserProperty("a", text), Err(TooLong)),
+            (Prop::CorrelationData(&long), Err(TooLong)),
+            (Prop::ContentType(str::from_utf8(&long[1..])?), Ok(())),
+        ],
+    );
+    assert_eq!(rt; other, None);
+    Ok(())
+}
+
+#[test]
+fn what_a_list_takes(rt: HostRuntime) {
+    use PushFault::Repeated;
+    let mut list = PropsBuf::new(rt.alloc(), Publish);
     let taken = first_other(
         &mut list,
         &[
@@ -244,15 +263,12 @@ fn what_a_list_takes(rt: HostRuntime) -> Result<(), Fail> {
         ],
     );
     assert_eq!(rt; taken, None);
-    let props = list.as_props();
     let bytes: &[u8] = &[
         0x23, 0, 1, 0x26, 0, 1, b'a', 0, 1, b'b', 0x26, 0, 1, b'a', 0, 1, b'b', 0x0B, 0xFF, 0xFF,
         0xFF, 0x7F, 0x0B, 0xAC, 0x02,
     ];
-    assert_eq!(rt; props.as_bytes(), bytes);
-    assert_eq!(rt; props.place(), Publish);
-    assert_eq!(rt; list.push(&Prop::ContentType(short)), Ok(()));
-    Ok(())
+    assert_eq!(rt; list.as_props().as_bytes(), bytes);
+    assert_eq!(rt; list.as_props().place(), Publish);
 }
 
 #[test]
