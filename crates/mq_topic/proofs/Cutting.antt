@@ -1,5 +1,5 @@
 -- A filter is judged level by level, as it is cut at its first `/`.
-use Rattle.std.proofs.Common.{◌≡◌, ℕ, ◌<◌, Bool, true, false, eqb, List, [], ◌∷◌, length, Option, None, Some, Bor, refl, sym, ap, ◌∙◌, arith, lit<}
+use Rattle.std.proofs.Common.{◌≡◌, ℕ, ◌<◌, Bool, true, false, eqb, List, [], ◌∷◌, length, Option, None, Some, refl, sym, ap, ◌∙◌, arith}
 use Rattle.std.specs.List.{All, position_or_len, before_first, after_first}
 use Rattle.std.proofs.lemmas.List.Splits.{slice_split_first, slice_split_none, length-slice_split}
 use Rattle.std.proofs.lemmas.List.Sums.{fails_before_first}

@@ -1,5 +1,5 @@
 -- Topic Names and Topic Filters as lists of levels (MQTT 5.0, 4.7). A text is its bytes: 35 is `#`, 43 is `+`, 47 is `/`.
-use Rattle.std.specs.Prelude.{ℕ, Bool, true, false, ◌&&◌, ◌||◌, not, List, [], ◌∷◌, length, Option, Some, None, ◌==◌, if◌then◌else◌}
+use Rattle.std.specs.Prelude.{ℕ, Bool, true, false, ◌&&◌, not, List, [], ◌∷◌, length, Option, Some, None, ◌==◌, if◌then◌else◌}
 use Rattle.std.specs.List.{slice_split, list_any, list_all}
 use Rattle.std.specs.Option.{option_or}
 use Rattle.mq_topic.specs.declared.filter.FilterFault.{FilterFault}

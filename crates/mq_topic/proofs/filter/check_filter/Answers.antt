@@ -1,8 +1,7 @@
-use Rattle.std.proofs.Common.{◌≡◌, true, Some, None, MatchResult, lit<, refl, ap, sym, ◌∙◌, rules}
+use Rattle.std.proofs.Common.{◌≡◌, true, Some, lit<, sym, ◌∙◌, rules}
 use Rattle.std.proofs.lemmas.Str.Pattern.{split_once_first}
 use Rattle.std.proofs.lemmas.Result.{err_from_is_err_and}
-use Rattle.std.specs.Option.{option_or}
-use Rattle.mq_topic.specs.Levels.{filter_fault, first_fault, levels_of, level_fault}
+use Rattle.mq_topic.specs.Levels.{filter_fault, level_fault}
 use Rattle.mq_topic.proofs.Cutting.{IsCut, first_fault-last, filter_fault-some, cut_good, cut_bad}
 use Rattle.mq_topic.proofs.filter.check_filter.Goals as goal
 
