@@ -1,14 +1,14 @@
 //! What is noted of the events of a log.
 ghost use Rattle.std.specs.Prelude.{◌≡◌, ◌≤◌, ◌⊎◌, [], ◌∷◌, length, reverse, true, vec_len, vec_capacity, IsTrue, OnOk, OnErr};
 ghost use Rattle.mq_packet.specs.Entries.{publish as publish_entry};
-ghost use Rattle.mq_packet.specs.Reading.{publish_view};
-ghost use Rattle.mq_trace.specs.Events.{packet};
+ghost use Rattle.mq_packet.specs.Reading.{publish_view, view};
+ghost use Rattle.mq_trace.specs.Events.{packet, packet as packet_item};
 ghost use Rattle.mq_trace.specs.Flows.{item_event};
 ghost use Rattle.mq_trace.specs.Reception.{event_of, placed_at};
 ghost use Rattle.mq_rules.specs.Notes.{note_keeps_text, note_of, seen};
 ghost use Rattle.mq_rules.specs.Moments.{IsPlaced};
 
-use mq_packet::Publish;
+use mq_packet::{Packet, Publish};
 use mq_rules::{Memory, Note, Seen, Text};
 use mq_trace::{Direction, Event, Place3, Refusal, Sink};
 use std::alloc::Global;
@@ -49,7 +49,30 @@ impl Notes {
         Ok(())
     }
 
-    /// Notes the next event, which is a PUBLISH of so many bytes, goes this way, and stands at this place. Most have a short Topic
+    /// Notes the next event, which is a packet of so many bytes, goes this way, and has this place.
+    ///
+    /// # Errors
+    ///
+    /// `Memory` if there is no room for one more note, or none for a text that the note keeps. The notes are then unchanged.
+    #[inline(always)]
+    fn note_packet(
+        &mut self,
+        place: Place3,
+        direction: Direction,
+        size: u32,
+        packet: &Packet<'_>,
+    ) -> Result<(), Memory>
+        ensures noted { OnOk result (reverse self.new.seen.items ≡ record { place = place; note = note_of (item_event direction (packet_item size (view packet.now))) } ∷ reverse self.old.seen.items) }
+        ensures needed { OnErr result ((vec_capacity self.old.seen ≤ vec_len self.old.seen) ⊎ (note_keeps_text (note_of (item_event direction (packet_item size (view packet.now)))) ≡ true)) }
+        ensures unchanged { OnErr result (self.new.seen.items ≡ self.old.seen.items) }
+    {
+        self.seen.reserve(1)?;
+        let note = Note::of_packet(self.alloc, direction, size, packet)?;
+        self.seen.push_reserved(Seen { place, note });
+        Ok(())
+    }
+
+    /// Notes the next event, which is a PUBLISH of so many bytes, goes this way, and has this place. Most have a short Topic
     /// Name and no properties: the note of one is made in its place.
     ///
     /// # Errors
@@ -158,6 +181,20 @@ impl Sink for Notes {
     #[inline(always)]
     fn event(&mut self, place: Place3, event: Event<'_>) -> Result<(), Refusal> {
         match self.note(place, &event) {
+            Ok(()) => Ok(()),
+            Err(Memory) => Err(Refusal::Memory(0)),
+        }
+    }
+
+    #[inline(always)]
+    fn packet(
+        &mut self,
+        place: Place3,
+        direction: Direction,
+        size: u32,
+        packet: Packet<'_>,
+    ) -> Result<(), Refusal> {
+        match self.note_packet(place, direction, size, &packet) {
             Ok(()) => Ok(()),
             Err(Memory) => Err(Refusal::Memory(0)),
         }

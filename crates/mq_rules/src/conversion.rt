@@ -8,7 +8,7 @@ ghost use Rattle.mq_packet.specs.declared.packet.RequestKind.TheVariants as requ
 ghost use Rattle.mq_packet.specs.Reading.{view, connect_view, publish_view};
 ghost use Rattle.mq_packet.specs.Sizes.{size_with, remaining_length};
 ghost use Rattle.mq_packet.specs.Entries.{publish as publish_entry};
-ghost use Rattle.mq_trace.specs.Events.{packet};
+ghost use Rattle.mq_trace.specs.Events.{packet, packet as packet_item};
 ghost use Rattle.mq_trace.specs.Flows.{item_event};
 ghost use Rattle.mq_trace.specs.Reception.{item_of, event_of};
 ghost use Rattle.mq_rules.specs.declared.packet_note.PacketFields.TheVariants as fields;
@@ -346,8 +346,7 @@ fn properties_in<'p, 'a>(packet: &'p Packet<'a>) -> Option<&'p Props<'a>>
 }
 
 impl PacketNote {
-    /// What the statements look at in this packet, which went this way. The size is 0 if no Remaining Length can say it, which can't
-    /// be for a packet that was read.
+    /// What the statements look at in this packet of `size` bytes, which went this way.
     ///
     /// # Errors
     ///
@@ -356,15 +355,16 @@ impl PacketNote {
     pub fn of(
         alloc: Global,
         direction: Direction,
+        size: u32,
         packet: &Packet<'_>,
     ) -> Result<PacketNote, Memory>
-        ensures exact { IfOk result (λ note. note ≡ packet_note direction (unwrap_or (size_with (remaining_length packet.now)) 0) (view packet.now)) }
+        ensures exact { IfOk result (λ note. note ≡ packet_note direction size (view packet.now)) }
         ensures needed { OnErr result (keeps_text (packet_fields direction (view packet.now)) ≡ true) }
     {
         let fields = PacketFields::of(alloc, direction, packet)?;
         let properties = properties_in(packet);
         Ok(PacketNote {
-            size: packet.size().unwrap_or(0),
+            size,
             has_reason_string: has_reason_string(properties),
             has_user_property: has_user_property(properties),
             fields,
@@ -373,7 +373,7 @@ impl PacketNote {
 }
 
 impl ItemNote {
-    /// What the statements look at in this item, which went this way.
+    /// What the statements look at in this item, which went this way. A packet that was read has a size.
     ///
     /// # Errors
     ///
@@ -385,7 +385,8 @@ impl ItemNote {
     {
         match item {
             Item::Packet(packet) => {
-                let note = PacketNote::of(alloc, direction, packet)?;
+                let size = packet.size().unwrap_or(0);
+                let note = PacketNote::of(alloc, direction, size, packet)?;
                 Ok(ItemNote::Packet(note))
             }
             Item::Bad { first, rule, at } => Ok(ItemNote::Bad {
@@ -399,6 +400,28 @@ impl ItemNote {
 }
 
 impl Note {
+    /// What the statements look at in this packet of `size` bytes, which went this way.
+    ///
+    /// # Errors
+    ///
+    /// `Memory` if there is no memory for a text that is kept.
+    #[inline(always)]
+    pub fn of_packet(
+        alloc: Global,
+        direction: Direction,
+        size: u32,
+        packet: &Packet<'_>,
+    ) -> Result<Note, Memory>
+        ensures exact { IfOk result (λ note. note ≡ note_of (item_event direction (packet_item size (view packet.now)))) }
+        ensures needed { OnErr result (note_keeps_text (note_of (item_event direction (packet_item size (view packet.now)))) ≡ true) }
+    {
+        let note = ItemNote::Packet(PacketNote::of(alloc, direction, size, packet)?);
+        match direction {
+            Direction::Sent => Ok(Note::Sent(note)),
+            Direction::Recv => Ok(Note::Recv(note)),
+        }
+    }
+
     /// What the statements look at in a PUBLISH of `size` bytes, which went this way.
     ///
     /// # Errors
