@@ -160,7 +160,16 @@ pub fn emit_packet<S: Sink>(
 {
     match packet_refusal(*connections, at, &packet) {
         Some(met) => Err(met),
-        None => emit_next_packet(connections, server, at, record_no, direction, size, packet, sink),
+        None => emit_next_packet(
+            connections,
+            server,
+            at,
+            record_no,
+            direction,
+            size,
+            packet,
+            sink,
+        ),
     }
 }
 

@@ -77,7 +77,12 @@ fn is_asked<X: Exchange>(role: Role, fate: Fate, identifier: u16, before: &[Seen
 
 /// What an event decides by itself, if its connection is accepted: it is a cause under the identifier, or an answer on the latest
 /// connection.
-fn answer_of_event<X: Exchange>(is_in: bool, is_latest: bool, identifier: u16, note: &Note) -> Option<bool>
+fn answer_of_event<X: Exchange>(
+    is_in: bool,
+    is_latest: bool,
+    identifier: u16,
+    note: &Note,
+) -> Option<bool>
     ensures { result ≡ answer_by (is_in && is_id identifier (X.exchange.cause note.now)) (is_in && (is_id identifier (X.exchange.answer note.now) && is_latest)) }
 {
     if !is_in {
