@@ -63,8 +63,14 @@ def measure(command: list[str], folder: Path, seconds: int, gigabytes: int) -> M
         )
         signal.signal(signal.SIGALRM, lambda *_: os.killpg(process.pid, signal.SIGKILL))
         signal.alarm(seconds)
-        _, status, usage = os.wait4(process.pid, 0)
-        signal.alarm(0)
+        try:
+            _, status, usage = os.wait4(process.pid, 0)
+        except BaseException:
+            # What is measured has a session of its own, and would run on.
+            os.killpg(process.pid, signal.SIGKILL)
+            raise
+        finally:
+            signal.alarm(0)
         wall = time.monotonic() - start
     process.returncode = os.waitstatus_to_exitcode(status)
     if process.returncode < 0:
@@ -172,6 +178,7 @@ def main() -> None:
     words.add_argument("--instructions", action="store_true", help="count instructions an event by callgrind instead")
     words.add_argument("--messages", type=int, default=4000, help="of each log whose instructions are counted (default 4000)")
     given = words.parse_args()
+    signal.signal(signal.SIGTERM, lambda *_: sys.exit(143))
     if given.instructions:
         print_instructions(given.kinds, given.mqjudge.absolute(), given.messages)
         return
