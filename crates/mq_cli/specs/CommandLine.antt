@@ -22,10 +22,14 @@ flag name = record (new_rule name) { long = Some name; action = Some SetTrue }
 abbrev pub check_command : App
 check_command = with_rule (with_rule (with_rule (new_app (codes "check")) (new_rule (codes "FILE"))) (flag (codes "json"))) (flag (codes "summary"))
 
+-- `--around N`
+abbrev pub around_option : Rule
+around_option = record (new_rule (codes "N")) { long = Some (codes "around") }
+
 -- `show [--long] [--faults] [--around N] [FILE]`
 abbrev pub show_command : App
 show_command = with_rule (with_rule (with_rule (with_rule (new_app (codes "show")) (new_rule (codes "FILE"))) (flag (codes "long"))) (flag (codes "faults")))
-    (record (new_rule (codes "N")) { long = Some (codes "around") })
+    around_option
 
 -- `packet HEX`
 abbrev pub packet_command : App

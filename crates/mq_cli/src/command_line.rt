@@ -2,7 +2,7 @@
 ghost use Rattle.std.specs.Prelude.{◌≡◌, [], Some, codes, false, IfOk, IfErr, map, option_map, string_bytes};
 ghost use Rattle.clap.specs.Words.{HasKind, Kinds, app_of, new_rule, rule_of, subcommand_of, subcommand_rows_of};
 ghost use Rattle.clap.specs.declared.builder.command.Command.TheViews.{out-Command};
-ghost use Rattle.mq_cli.specs.CommandLine.{StopsFor, check_command, check_request, explain_command};
+ghost use Rattle.mq_cli.specs.CommandLine.{StopsFor, around_option, check_command, check_request, explain_command};
 ghost use Rattle.mq_cli.specs.CommandLine.{explain_request, word_faults, flag, is_true, mqjudge, packet_command, packet_request};
 ghost use Rattle.mq_cli.specs.CommandLine.{path_named, path_of, request_by, request_of, rules_command};
 ghost use Rattle.mq_cli.specs.CommandLine.{rules_request, show_command, show_request};
@@ -250,16 +250,23 @@ fn show_command<'a>(alloc: Global) -> Result<Command<'a>, AllocError>
         "faults",
         "Show the faults under their events; reads FILE twice",
     );
-    let around = Arg::new(alloc, "N")
-        .help("With --faults: only the events within N positions of a fault")
-        .long("around");
     Command::new(alloc, "show")
         .about("Shows each event of a log")
         .after_help(SHOW_HELP)
         .arg(log_operand(alloc))?
         .arg(long)?
         .arg(faults)?
-        .arg(around)
+        .arg(around_option(alloc))
+}
+
+// The option `--around N` of `show`.
+fn around_option<'a>(alloc: Global) -> Arg<'a>
+    ensures rule { rule_of result ≡ around_option }
+    ensures local { result.global ≡ false }
+{
+    Arg::new(alloc, "N")
+        .help("With --faults: only the events within N positions of a fault")
+        .long("around")
 }
 
 // The operand that names a log.
