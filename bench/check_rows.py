@@ -1,5 +1,5 @@
 #!/usr/bin/env python3
-"""Holds the worked logs of mq_cli's tests against reference.py: each must get the report that stands beside it.
+"""Holds the worked logs of mq_judge's tests against reference.py: each must get the report that stands beside it.
 
 usage: bench/check_rows.py
 """
@@ -12,7 +12,7 @@ from pathlib import Path
 sys.dont_write_bytecode = True  # the repository stays as it is
 import reference
 
-FOLDER = Path(__file__).resolve().parent.parent / "crates/mq_cli/src/statement_tests"
+FOLDER = Path(__file__).resolve().parent.parent / "crates/mq_judge/src/statement_tests"
 TEXT = r'("(?:[^"\\]|\\.)*")'
 TABLE = re.compile(r'pub const \w+: &str = "\\\n(.*?)";', re.DOTALL)
 HEADERS = {"client": "000100", "server": "010100", "silent-client": "000000"}

@@ -22,8 +22,6 @@ mod review_tests;
 mod reviewing;
 #[cfg(test)]
 mod show_tests;
-#[cfg(test)]
-mod statement_tests;
 mod tasks;
 #[cfg(test)]
 mod tests;

@@ -31,4 +31,6 @@ mod harness;
 #[cfg(test)]
 mod log_tests;
 #[cfg(test)]
+mod statement_tests;
+#[cfg(test)]
 mod tests;

@@ -13,11 +13,11 @@ use std::io::Read;
 use std::test::Fail;
 
 // The expected result for a log: a report with a pass or a fail, or a refusal.
-const PASSED: Option<Outcome> = Some(Outcome::Pass);
+pub const PASSED: Option<Outcome> = Some(Outcome::Pass);
 
-const FAULTY: Option<Outcome> = Some(Outcome::Fail);
+pub const FAULTY: Option<Outcome> = Some(Outcome::Fail);
 
-const REFUSED: Option<Outcome> = None;
+pub const REFUSED: Option<Outcome> = None;
 
 // A log's records, and the expected result.
 struct Row {
@@ -598,7 +598,7 @@ fn reports<R: Read>(
 }
 
 // The same for a log that is read at once, and then byte by byte.
-fn is_reported(
+pub fn is_reported(
     alloc: Global,
     log: &[u8],
     outcome: Option<Outcome>,

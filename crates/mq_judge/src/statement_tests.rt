@@ -1,5 +1,5 @@
 //! Worked logs: for each statement, and each end that it binds, a log that breaks it and the nearest one that doesn't, with
-//! the whole text that `check` writes for it. Each is written from the statement's words, and not from what the program does.
+//! the whole report on it. Each is written from the statement's words, and not from what the program does.
 //!
 //! A log is a row of words. The first names the tested end: `client` or `server`, or `silent-client` if no releases are
 //! recorded. Each other word is a record: `OPEN`, `CLOSE`, `REST`, `RELEASE:1`, and `>CONNECT` or `<CONNACK` for bytes that
@@ -21,12 +21,12 @@ mod shapes;
 mod subscriptions;
 mod worked;
 
-use crate::failure::{FAULTY, PASSED, REFUSED};
 use crate::harness::add_record;
-use crate::tests::is_printed;
-use hex::decode;
+use crate::log_tests::{FAULTY, PASSED, REFUSED, is_reported};
+use crate::report::Outcome;
 use packets::PACKETS;
 use std::alloc::{AllocError, Global};
+use std::str;
 use std::test::Fail;
 
 // The hexadecimal digits that a word names, or the word itself.
@@ -39,6 +39,26 @@ fn digits_of(word: &'static str) -> &'static str {
     word
 }
 
+// The byte that these two hexadecimal digits are.
+fn byte_of(pair: &[u8]) -> Option<u8> {
+    match str::from_utf8(pair) {
+        Ok(digits) if pair.len() == 2 => u8::from_str_radix(digits, 16).ok(),
+        _ => None,
+    }
+}
+
+// The bytes that these hexadecimal digits are, two each.
+fn bytes_of(alloc: Global, digits: &str) -> Result<Vec<u8>, AllocError> {
+    let mut bytes = Vec::new(alloc);
+    for pair in digits.as_bytes().chunks(2) {
+        match byte_of(pair) {
+            Some(byte) => bytes.push(byte)?,
+            None => return Err(AllocError),
+        }
+    }
+    Ok(bytes)
+}
+
 // Appends what was sent or received to the log.
 fn add_bytes(
     alloc: Global,
@@ -46,10 +66,8 @@ fn add_bytes(
     kind: u8,
     word: &'static str,
 ) -> Result<(), AllocError> {
-    match decode(alloc, digits_of(word)) {
-        Ok(bytes) => add_record(log, kind, bytes.as_slice()),
-        Err(_) => Err(AllocError),
-    }
+    let bytes = bytes_of(alloc, digits_of(word))?;
+    add_record(log, kind, &bytes)
 }
 
 // Appends what the word says to the log: its header, or a record.
@@ -82,8 +100,8 @@ fn log_of(alloc: Global, words: &'static str) -> Result<Vec<u8>, AllocError> {
     Ok(log)
 }
 
-// The status that a report is written with.
-fn status_of(report: &str) -> u8 {
+// The outcome of a judging that writes this report.
+fn outcome_of(report: &str) -> Option<Outcome> {
     if report.starts_with("pass") {
         PASSED
     } else if report.starts_with("refused") {
@@ -106,7 +124,7 @@ fn report_of(alloc: Global, lines: &'static str) -> Result<String, AllocError> {
 fn is_judged_so(alloc: Global, words: &'static str, lines: &'static str) -> Result<bool, Fail> {
     let log = log_of(alloc, words)?;
     let report = report_of(alloc, lines)?;
-    Ok(is_printed(alloc, &log, status_of(report.as_str()), report.as_str())?)
+    is_reported(alloc, &log, outcome_of(report.as_str()), report.as_str())
 }
 
 // Whether the log of a row is judged as the row says. A row has three parts.
