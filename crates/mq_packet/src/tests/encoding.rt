@@ -8,25 +8,42 @@ use mq_props::{Place, Prop, Props};
 use std::alloc::Global;
 use std::test::Fail;
 
-// A packet of this type with this code and no properties, if it may leave these out.
-fn bare<'a>(kind: PacketType, code: u8) -> Option<Packet<'a>> {
-    let none = Props::empty;
+// The place of the properties of a packet that may leave out its code.
+fn place_of(kind: PacketType) -> Option<Place> {
     match kind {
-        PacketType::Puback => Some(Packet::Puback(acknowledgement(1, code, none(Place::Puback)))),
-        PacketType::Pubrec => Some(Packet::Pubrec(acknowledgement(1, code, none(Place::Pubrec)))),
-        PacketType::Pubrel => Some(Packet::Pubrel(acknowledgement(1, code, none(Place::Pubrel)))),
-        PacketType::Pubcomp => Some(Packet::Pubcomp(acknowledgement(
-            1,
-            code,
-            none(Place::Pubcomp),
-        ))),
-        PacketType::Disconnect => Some(Packet::Disconnect(reason_packet(
-            code,
-            none(Place::Disconnect),
-        ))),
-        PacketType::Auth => Some(Packet::Auth(reason_packet(code, none(Place::Auth)))),
+        PacketType::Puback => Some(Place::Puback),
+        PacketType::Pubrec => Some(Place::Pubrec),
+        PacketType::Pubrel => Some(Place::Pubrel),
+        PacketType::Pubcomp => Some(Place::Pubcomp),
+        PacketType::Disconnect => Some(Place::Disconnect),
+        PacketType::Auth => Some(Place::Auth),
         _ => None,
     }
+}
+
+// The packet of this type with these fields, if its code may be left out.
+fn with_fields<'a>(
+    kind: PacketType,
+    answer: Acknowledgement<'a>,
+    reason: ReasonPacket<'a>,
+) -> Option<Packet<'a>> {
+    match kind {
+        PacketType::Puback => Some(Packet::Puback(answer)),
+        PacketType::Pubrec => Some(Packet::Pubrec(answer)),
+        PacketType::Pubrel => Some(Packet::Pubrel(answer)),
+        PacketType::Pubcomp => Some(Packet::Pubcomp(answer)),
+        PacketType::Disconnect => Some(Packet::Disconnect(reason)),
+        PacketType::Auth => Some(Packet::Auth(reason)),
+        _ => None,
+    }
+}
+
+// A packet of this type with this code and no properties, if it may leave these out.
+fn bare<'a>(kind: PacketType, code: u8) -> Option<Packet<'a>> {
+    let place = place_of(kind)?;
+    let answer = acknowledgement(1, code, Props::empty(place));
+    let reason = reason_packet(code, Props::empty(place));
+    with_fields(kind, answer, reason)
 }
 
 // Whether that packet is written as these bytes, and its size is their number.
