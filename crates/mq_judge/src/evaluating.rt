@@ -6,7 +6,7 @@ ghost use Rattle.mq_rules.specs.Faults.{Grows};
 ghost use Rattle.mq_judge.specs.Chosen.{is_judged};
 
 use mq_plain::plain_sessions;
-use mq_rules::{Faults, Memory, Seen, Tested, plain_c, plain_w};
+use mq_rules::{Faults, Memory, Seen, Tested, plain_connections};
 use std::alloc::Global;
 
 /// Judges the events of a log, the oldest first, by all 74 statements: those on the bytes of packets, on the past
@@ -23,7 +23,6 @@ pub fn judge_all(
 ) -> Result<(), Memory>
     ensures { IsPlaced (reverse seen.now) → IsInOrder tested.role (reverse seen.now) → OnOk result (Grows (is_judged tested) tested (reverse seen.now) faults.old faults.new) }
 {
-    plain_w(alloc, tested, seen, faults)?;
-    plain_c(alloc, tested, seen, faults)?;
+    plain_connections(alloc, tested, seen, faults)?;
     plain_sessions(alloc, tested, seen, faults)
 }

@@ -1,5 +1,5 @@
 -- Judging the events of a list one after another: what comes before each of them, and the faults that one event adds.
-use Rattle.std.proofs.Common.{◌≡◌, ℕ, zero, suc, ◌+◌, ◌<◌, ◌==◌, Bool, true, false, cond, ◌&&◌, ◌||◌, List, [], ◌∷◌, ◌++◌, length, take, drop, get_or, Option, Some, None, refl, ap, sym, ◌∙◌, subst, arith, ◌⊎◌, inl, inr}
+use Rattle.std.proofs.Common.{◌≡◌, ℕ, zero, suc, ◌+◌, ◌<◌, ◌==◌, Bool, true, false, cond, ◌&&◌, ◌||◌, List, [], ◌∷◌, ◌++◌, length, take, drop, get_or, Option, Some, None, refl, ap, sym, ◌∙◌, subst, arith}
 use Rattle.std.specs.Prelude.{is_some, reverse}
 use mathlib.Core.List.{reverse_aux}
 use Rattle.std.proofs.lemmas.Bool.{eqb-true}
@@ -23,8 +23,8 @@ use Rattle.mq_rules.specs.Statements.{statement, in_session, at_release}
 use Rattle.mq_rules.specs.Steps.{turns, JudgedAtOnce}
 use Rattle.mq_rules.specs.FaultKeys.{FaultMap, fault_at, judged}
 use Rattle.mq_rules.specs.Faults.{offset_of, reported}
-use Rattle.mq_rules.specs.Keeping.{news, GrowsBy, GrowsByWithin}
-use Rattle.mq_rules.proofs.Exports.{and_false, or-turn, option_or-none, fault_at-judged, latest_fate-next, in_order-turns, in_order-releases}
+use Rattle.mq_rules.specs.Keeping.{GrowsBy}
+use Rattle.mq_rules.proofs.Exports.{and_false, or-turn, fault_at-judged, latest_fate-next, in_order-turns, in_order-releases}
 use Rattle.mq_plain.specs.declared.turn.Turn.{Turn}
 use Rattle.mq_plain.specs.Events.{ComesNext, asks, some_asks}
 
@@ -150,49 +150,6 @@ release-at_once turn rule breaks e past bound broken comes says binds_it broken_
     in_order-releases turn.tested rule breaks e past says comes.is_in_order k
     ∙ ap (λ b. is_next past k && b) (sym (broken_so ∙ ap (λ b. b && is_some_and (λ f. breaks f (newest e past)) turn.fate) binds_it
     ∙ ap (λ d. binds rule turn.tested && is_some_and (λ f. breaks f (newest e past)) d) comes.is_decided))
-
--- ---- two evaluators one after the other
-
-both_added : (o : Option Fault) (a b t : Bool) (x : Fault) → option_or (option_or o (cond (a && t) (Some x) None)) (cond (b && t) (Some x) None) ≡ option_or o (cond ((a || b) && t) (Some x) None)
-both_added (Some y) a b t x = refl
-both_added None true true true x = refl
-both_added None true false true x = refl
-both_added None true true false x = refl
-both_added None true false false x = refl
-both_added None false b t x = refl
-
--- some statements, and then others
-pub grows-then : (f g : Rule → Bool) (tested : Tested) (e : Seen) (past : List Seen) (old mid new : FaultMap)
-    → GrowsBy f tested e past old mid → GrowsBy g tested e past mid new → GrowsBy (λ r. f r || g r) tested e past old new
-grows-then f g tested e past old mid new p q = record {
-  each = λ k r. q.each k r ∙ ap (λ o. option_or o (news g tested e past k r)) (p.each k r)
-      ∙ both_added (fault_at old k r) (f r) (g r) (turns tested e past k r) (reported tested.role (moment (e ∷ past) k) r (length past + 1));
-}
-
--- what the first ones may have added, both may
-first_may : (c d t : Bool) (x o : Option Fault) (f : Fault) → (x ≡ o) ⊎ (x ≡ option_or o (cond (c && t) (Some f) None)) → (x ≡ o) ⊎ (x ≡ option_or o (cond ((c || d) && t) (Some f) None))
-first_may c d t x o f (inl same) = inl same
-first_may true d t x o f (inr more) = inr more
-first_may false d t x o f (inr more) = inl (more ∙ option_or-none o)
-
-pub first-within : (f g : Rule → Bool) (tested : Tested) (e : Seen) (past : List Seen) (old new : FaultMap)
-    → GrowsByWithin f tested e past old new → GrowsByWithin (λ r. f r || g r) tested e past old new
-first-within f g tested e past old new p = record {
-  each = λ k r. first_may (f r) (g r) (turns tested e past k r) (fault_at new k r) (fault_at old k r) (reported tested.role (moment (e ∷ past) k) r (length past + 1)) (p.each k r);
-}
-
--- what the second ones may have added to all that the first ones did, both may
-second_may : (c d t : Bool) (x y o : Option Fault) (f : Fault) → y ≡ option_or o (cond (c && t) (Some f) None) → (x ≡ y) ⊎ (x ≡ option_or y (cond (d && t) (Some f) None))
-    → (x ≡ o) ⊎ (x ≡ option_or o (cond ((c || d) && t) (Some f) None))
-second_may true d t x y o f first (inl same) = inr (same ∙ first)
-second_may false d t x y o f first (inl same) = inl (same ∙ first ∙ option_or-none o)
-second_may c d t x y o f first (inr more) = inr (more ∙ ap (λ z. option_or z (cond (d && t) (Some f) None)) first ∙ both_added o c d t f)
-
-pub second-within : (f g : Rule → Bool) (tested : Tested) (e : Seen) (past : List Seen) (old mid new : FaultMap)
-    → GrowsBy f tested e past old mid → GrowsByWithin g tested e past mid new → GrowsByWithin (λ r. f r || g r) tested e past old new
-second-within f g tested e past old mid new p q = record {
-  each = λ k r. second_may (f r) (g r) (turns tested e past k r) (fault_at new k r) (fault_at mid k r) (fault_at old k r) (reported tested.role (moment (e ∷ past) k) r (length past + 1)) (p.each k r) (q.each k r);
-}
 
 -- ---- the fate of the latest connection
 

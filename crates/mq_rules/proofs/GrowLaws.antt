@@ -219,3 +219,34 @@ within-step chosen tested e past first old now was more = record { each = λ k r
     go k rule (inr grown) = inr (grown ∙ ap (λ o. option_or o (news chosen tested e past k rule)) (was.each k rule)
         ∙ one_more (fault_at first k rule) (chosen rule) (fault_in tested past k rule) (turns tested e past k rule) (reported tested.role (moment (e ∷ past) k) rule (length past + 1))
         ∙ ap (λ o. option_or (fault_at first k rule) (cond (chosen rule) o None)) (sym (fault_in-step tested e past k rule)))
+
+-- ---- some statements at an event, and then others
+
+both_added : (o : Option Fault) (a b t : Bool) (x : Fault) → option_or (option_or o (cond (a && t) (Some x) None)) (cond (b && t) (Some x) None) ≡ option_or o (cond ((a || b) && t) (Some x) None)
+both_added (Some y) a b t x = refl
+both_added None true true true x = refl
+both_added None true false true x = refl
+both_added None true true false x = refl
+both_added None true false false x = refl
+both_added None false b t x = refl
+
+-- some statements, and then others
+pub grows-then : (f g : Rule → Bool) (tested : Tested) (e : Seen) (past : List Seen) (old mid new : FaultMap)
+    → GrowsBy f tested e past old mid → GrowsBy g tested e past mid new → GrowsBy (λ r. f r || g r) tested e past old new
+grows-then f g tested e past old mid new p q = record {
+  each = λ k r. q.each k r ∙ ap (λ o. option_or o (news g tested e past k r)) (p.each k r)
+      ∙ both_added (fault_at old k r) (f r) (g r) (turns tested e past k r) (reported tested.role (moment (e ∷ past) k) r (length past + 1));
+}
+
+-- what the second ones may have added to all that the first ones did, both may
+second_may : (c d t : Bool) (x y o : Option Fault) (f : Fault) → y ≡ option_or o (cond (c && t) (Some f) None) → (x ≡ y) ⊎ (x ≡ option_or y (cond (d && t) (Some f) None))
+    → (x ≡ o) ⊎ (x ≡ option_or o (cond ((c || d) && t) (Some f) None))
+second_may true d t x y o f first (inl same) = inr (same ∙ first)
+second_may false d t x y o f first (inl same) = inl (same ∙ first ∙ option_or-none o)
+second_may c d t x y o f first (inr more) = inr (more ∙ ap (λ z. option_or z (cond (d && t) (Some f) None)) first ∙ both_added o c d t f)
+
+pub second-within : (f g : Rule → Bool) (tested : Tested) (e : Seen) (past : List Seen) (old mid new : FaultMap)
+    → GrowsBy f tested e past old mid → GrowsByWithin g tested e past mid new → GrowsByWithin (λ r. f r || g r) tested e past old new
+second-within f g tested e past old mid new p q = record {
+  each = λ k r. second_may (f r) (g r) (turns tested e past k r) (fault_at new k r) (fault_at mid k r) (fault_at old k r) (reported tested.role (moment (e ∷ past) k) r (length past + 1)) (p.each k r) (q.each k r);
+}

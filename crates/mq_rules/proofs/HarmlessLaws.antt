@@ -25,7 +25,7 @@ use Rattle.mq_rules.specs.declared.packet_note.PublishNote.{PublishNote}
 use Rattle.mq_rules.specs.declared.conn.Conn.{Conn}
 use Rattle.mq_rules.specs.declared.conn.state.ConnectionState.{ConnectionState}
 use Rattle.mq_rules.specs.Words.{is_id, is_some_and, only}
-use Rattle.mq_rules.specs.Notes.{is_open, fields_type, foreign_types, publish_in, resumed_by, may_explain, is_acknowledged, qos_number}
+use Rattle.mq_rules.specs.Notes.{is_open, sent_fault, fields_type, foreign_types, publish_in, resumed_by, may_explain, is_acknowledged, qos_number}
 use Rattle.mq_rules.specs.Pasts.{set_alias}
 use Rattle.mq_rules.specs.Statements.{is_on_past}
 use Rattle.mq_rules.specs.FaultKeys.{FaultMap}
@@ -220,6 +220,12 @@ harmless-alias bound (notes.Sent (items.Packet p)) alias b t =
     sym (ap (λ o. b || is_id alias o) (sets-none p.fields second.1) ∙ or_false b)
 harmless-alias bound (notes.Recv (items.Packet p)) alias b t = sym (or_false b)
 harmless-alias bound _ alias b t = absurd (cc)
+
+-- a harmless event breaks no rule on bytes
+pub harmless-unbroken : (bound : ℕ) (n : Note) → is_harmless bound n ≡ true → sent_fault n ≡ None
+harmless-unbroken bound (notes.Sent (items.Packet p)) t = refl
+harmless-unbroken bound (notes.Recv (items.Packet p)) t = refl
+harmless-unbroken bound _ t = absurd (cc)
 
 pub harmless-agrees : (conn : Conn) (tested : Tested) (e : Seen) (past : List Seen) (bound : ℕ) → bound ≡ size_bound conn.role conn.state → is_harmless bound e.note ≡ true
     → Agrees conn tested past → Agrees conn tested (e ∷ past)

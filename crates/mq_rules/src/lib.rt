@@ -14,6 +14,7 @@ mod faults;
 mod laws;
 mod naming;
 mod note;
+mod one_pass;
 mod packet_note;
 mod plain;
 mod position_laws;
@@ -38,6 +39,7 @@ pub use laws::{
 };
 pub use naming::each_statement_is_named;
 pub use note::{ItemNote, Note, Seen};
+pub use one_pass::plain_connections;
 pub use packet_note::{ConnackNote, ConnectNote, PacketFields, PacketNote, PublishNote};
 pub use plain::{plain_c, plain_w};
 pub use position_laws::{

@@ -69,7 +69,7 @@ pub fn plain_c(
 /// # Errors
 ///
 /// `Memory` if there is no memory for a fault. The faults are then unchanged.
-fn judge_bytes(event: &Seen, faults: &mut Faults) -> Result<(), Memory>
+pub(crate) fn judge_bytes(event: &Seen, faults: &mut Faults) -> Result<(), Memory>
     ensures ok { OnOk result ((tested : TheTested) (past : List TheSeen) → event.now.place.position ≡ length past + 1 → GrowsBy (is_on_bytes tested) tested event.now past faults.old faults.new) }
     ensures unchanged { OnErr result (faults.new ≡ faults.old) }
 {

@@ -10,8 +10,9 @@ pub returns : goal.returns
 returns c = λ placed in_order.
     let tested = c.args.tested in
     let log = reverse c.args.seen.now in
-    let w = c.args.faults.now in
-    let bytes_past = grown_then (is_on_bytes tested) (is_on_past tested) tested log w c.plain_w.new.faults c.plain_c.new.faults (c.in_ok-plain_w.ensures.ok placed) (c.in_ok-plain_c.ensures.ok placed) in
-    on_ok c.plain_sessions.result (Grows is_plain_rule tested log c.plain_c.new.faults c.plain_sessions.new.faults) (Grows (is_judged tested) tested log w c.plain_sessions.new.faults)
-    (λ p. all_grown tested log w c.plain_sessions.new.faults (grown_then (λ r. is_on_bytes tested r || is_on_past tested r) is_plain_rule tested log w c.plain_c.new.faults c.plain_sessions.new.faults bytes_past p))
+    let first = c.args.faults.now in
+    let last = c.plain_sessions.new.faults in
+    let middle = c.plain_connections.new.faults in
+    on_ok c.plain_sessions.result (Grows is_plain_rule tested log middle last) (Grows (is_judged tested) tested log first last)
+    (λ p. all_grown tested log first last (grown_then (λ r. is_on_bytes tested r || is_on_past tested r) is_plain_rule tested log first middle last (c.in_ok-plain_connections.ensures.ok placed) p))
     (c.plain_sessions.ensures.ok placed in_order)
