@@ -1,7 +1,10 @@
 //! What the tests share: logs, a reader that gives a log in pieces, and a writer that fails.
+use crate::report::{Form, Outcome, RunFault, write_refused};
+use crate::runner::run;
 use std::alloc::{AllocError, Global};
 use std::io;
 use std::io::{ErrorKind, Read, Write};
+use std::test::Fail;
 
 /// The header of a log of a client, in which releases are recorded.
 pub const HEADER: &[u8] = b"MQTR\x01\x00\x01\x00";
@@ -195,4 +198,51 @@ impl Write for Failing {
     fn flush(&mut self) -> io::Result<()> {
         Ok(())
     }
+}
+
+/// The outcome of judging a log in which nothing is wrong.
+pub const PASSED: Option<Outcome> = Some(Outcome::Pass);
+
+/// The outcome of judging a log that has faults.
+pub const FAULTY: Option<Outcome> = Some(Outcome::Fail);
+
+/// What stands for the outcome of a log that is refused.
+pub const REFUSED: Option<Outcome> = None;
+
+// Whether judging what the reader gives has this outcome, and writes this report; for a refused log that is its line.
+fn reports<R: Read>(
+    alloc: Global,
+    reader: &mut R,
+    outcome: Option<Outcome>,
+    report: &str,
+) -> Result<bool, Fail> {
+    let mut written = Vec::new(alloc);
+    let answer = match run(alloc, reader, &mut written, Form::Text) {
+        Ok(outcome) => Some(outcome),
+        Err(RunFault::Refused(refusal)) => {
+            write_refused(alloc, &refusal, Form::Text, &mut written).map_err(
+                |_| "the line was not written",
+            )?;
+            None
+        }
+        Err(RunFault::Write | RunFault::Memory) => return Ok(false),
+    };
+    Ok(answer == outcome && written.as_slice() == report.as_bytes())
+}
+
+/// Whether judging the log has this outcome, and writes this report, if it is read at once and if it is read byte by byte. For
+/// a log that is refused, the report is its line.
+///
+/// # Errors
+///
+/// `Fail` if there is no memory, or that line can't be written.
+pub fn is_reported(
+    alloc: Global,
+    log: &[u8],
+    outcome: Option<Outcome>,
+    report: &str,
+) -> Result<bool, Fail> {
+    let whole = reports(alloc, &mut &log[..], outcome, report)?;
+    let cut = reports(alloc, &mut Pieces::single(log), outcome, report)?;
+    Ok(whole && cut)
 }

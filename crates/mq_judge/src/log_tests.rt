@@ -2,22 +2,13 @@
 use super::harness::Part::{Close, Open, Recv, Release, Rest, Sent};
 use super::harness::{
     AUTH, CLIENT, CONNACK, CONNACK_RESUMED, CONNECT, CONNECT_AGAIN, CONNECT_ANEW, CONNECT_OF_C,
-    DISCONNECT, PINGREQ, PINGRESP, PUBACK, PUBCOMP, PUBLISH_ONCE, PUBLISH_TWICE,
-    PUBLISH_UNIDENTIFIED, PUBREC, PUBREC_WITHOUT_READERS, PUBREL, Part, Pieces, REFUSING_CONNACK,
-    REFUSING_PUBREC, SERVER, SUBACK, SUBSCRIBE, UNSUBACK, UNSUBSCRIBE, log_of,
+    DISCONNECT, FAULTY, PASSED, PINGREQ, PINGRESP, PUBACK, PUBCOMP, PUBLISH_ONCE, PUBLISH_TWICE,
+    PUBLISH_UNIDENTIFIED, PUBREC, PUBREC_WITHOUT_READERS, PUBREL, Part, REFUSED, REFUSING_CONNACK,
+    REFUSING_PUBREC, SERVER, SUBACK, SUBSCRIBE, UNSUBACK, UNSUBSCRIBE, is_reported, log_of,
 };
-use super::report::{Form, Outcome, RunFault, write_refused};
-use super::runner::run;
+use super::report::Outcome;
 use std::alloc::{AllocError, Global};
-use std::io::Read;
 use std::test::Fail;
-
-// The expected result for a log: a report with a pass or a fail, or a refusal.
-pub const PASSED: Option<Outcome> = Some(Outcome::Pass);
-
-pub const FAULTY: Option<Outcome> = Some(Outcome::Fail);
-
-pub const REFUSED: Option<Outcome> = None;
 
 // A log's records, and the expected result.
 struct Row {
@@ -575,39 +566,6 @@ static BROKEN: [Broken; 23] = [
         also: None,
     },
 ];
-
-// Whether judging what the reader gives has this outcome, and writes this report; for a refused log that is its line.
-fn reports<R: Read>(
-    alloc: Global,
-    reader: &mut R,
-    outcome: Option<Outcome>,
-    report: &str,
-) -> Result<bool, Fail> {
-    let mut written = Vec::new(alloc);
-    let answer = match run(alloc, reader, &mut written, Form::Text) {
-        Ok(outcome) => Some(outcome),
-        Err(RunFault::Refused(refusal)) => {
-            write_refused(alloc, &refusal, Form::Text, &mut written).map_err(
-                |_| "the line was not written",
-            )?;
-            None
-        }
-        Err(RunFault::Write | RunFault::Memory) => return Ok(false),
-    };
-    Ok(answer == outcome && written.as_slice() == report.as_bytes())
-}
-
-// The same for a log that is read at once, and then byte by byte.
-pub fn is_reported(
-    alloc: Global,
-    log: &[u8],
-    outcome: Option<Outcome>,
-    report: &str,
-) -> Result<bool, Fail> {
-    let whole = reports(alloc, &mut &log[..], outcome, report)?;
-    let cut = reports(alloc, &mut Pieces::single(log), outcome, report)?;
-    Ok(whole && cut)
-}
 
 #[test]
 fn judges_packets_whole_and_byte_by_byte(rt: HostRuntime) -> Result<(), Fail> {

@@ -21,8 +21,7 @@ mod shapes;
 mod subscriptions;
 mod worked;
 
-use crate::harness::add_record;
-use crate::log_tests::{FAULTY, PASSED, REFUSED, is_reported};
+use crate::harness::{FAULTY, PASSED, REFUSED, add_record, is_reported};
 use crate::report::Outcome;
 use packets::PACKETS;
 use std::alloc::{AllocError, Global};
