@@ -280,7 +280,7 @@ class Half:
 
     @property
     def may_have_more(self) -> bool:
-        """The end may have sent more than was captured: what is under way holds back what comes behind it."""
+        """The end may have sent more than was captured: what is under way holds back what comes after it."""
         is_under_way = self.acknowledged < self.size or self.is_window_shut
         return bool(self.held) or (is_under_way and not self.has_ended and not self.is_tls_over)
 
@@ -354,7 +354,7 @@ class Stream:
     def lose_missing(self) -> None:
         """Gives the connection up for the bytes that the capture lacks."""
         ends = [end for end in End if self._lacks(end)]
-        lacking = [f"bytes of the {end.value} behind its first {self._halves[end].size}" for end in ends]
+        lacking = [f"bytes of the {end.value} after its first {self._halves[end].size}" for end in ends]
         self.lose(f"the capture lacks {' and '.join(lacking) or 'acknowledgements'}")
 
     def lose(self, why: str) -> None:

@@ -261,7 +261,7 @@ class ByHand(Case):
         self.assertEqual(
             self.told,
             [
-                "10.0.0.2:40000 to 10.0.0.1:1883: the capture lacks bytes of the server behind its first 13",
+                "10.0.0.2:40000 to 10.0.0.1:1883: the capture lacks bytes of the server after its first 13",
                 NOT_SEEN,
                 "not recorded: c resumes a session that began before the recording",
             ],
@@ -407,7 +407,7 @@ class ByHand(Case):
             with self.subTest(number):
                 self.wire, self.logs = Wire(), self.folder / str(number)
                 talk = Conversation(self.wire, "10.0.0.2").accepted()
-                if number == 0:  # what the client sent isn't acknowledged: more may wait behind it
+                if number == 0:  # what the client sent isn't acknowledged: more may come after it
                     talk.client(PINGREQ, arrives=False)
                 elif number == 1:  # the server takes nothing
                     talk.send(End.SERVER, window=0)
@@ -498,7 +498,7 @@ class Order(unittest.TestCase):
             for number in range(1, 400):
                 capture.take(Segment(time=1, sender=End.CLIENT, flags=ACK, sequence=5 + 65_536 * number, **blank))
             capture.finish()
-            self.assertEqual(told[0], "c to s: the capture lacks bytes of the client behind its first 0")
+            self.assertEqual(told[0], "c to s: the capture lacks bytes of the client after its first 0")
 
     def test_servers(self) -> None:
         self.assertTrue(parse_server("10.0.0.1:1883").is_at("10.0.0.1", 1883))

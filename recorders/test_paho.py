@@ -202,7 +202,7 @@ class Scripted(Case):
         self.rounds(client)
         self.assertEqual(self.tail(2), [f"RECV {PINGRESP}", "REST"])
 
-    def test_rest_before_a_disconnect_and_none_behind_it(self) -> None:
+    def test_rest_before_a_disconnect_and_none_after_it(self) -> None:
         client = self.connected()
         client.disconnect()
         self.rounds(client, 2)

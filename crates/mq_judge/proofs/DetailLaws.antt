@@ -7,16 +7,16 @@ use Rattle.mq_packet.specs.Entries.{ConnectFields, WillFields}
 use Rattle.mq_rules.specs.Notes.{qos_number}
 use Rattle.mq_judge.specs.Details.{with_prefix, property_after, property_name, value_words, quoted, flag_text, size_text}
 use Rattle.mq_judge.specs.declared.display.outgoing.Outgoing.{Outgoing}
-use Rattle.mq_judge.specs.ItemText.{behind_spaces}
+use Rattle.mq_judge.specs.ItemText.{with_spaces}
 use Rattle.mq_judge.specs.Outgoing.{Puts}
 use Rattle.mq_judge.proofs.OutgoingLaws.{puts_nothing, puts_two}
 
 -- words after words
-pub behind_spaces_append : (xs ys : List (List ℕ)) → behind_spaces (xs ++ ys) ≡ behind_spaces xs ++ behind_spaces ys
-behind_spaces_append [] ys = refl
-behind_spaces_append (word ∷ words) ys =
-    ap (λ (l : List ℕ). 32 ∷ (word ++ l)) (behind_spaces_append words ys)
-    ∙ ap (λ (l : List ℕ). 32 ∷ l) (sym (append_assoc word (behind_spaces words) (behind_spaces ys)))
+pub with_spaces_append : (xs ys : List (List ℕ)) → with_spaces (xs ++ ys) ≡ with_spaces xs ++ with_spaces ys
+with_spaces_append [] ys = refl
+with_spaces_append (word ∷ words) ys =
+    ap (λ (l : List ℕ). 32 ∷ (word ++ l)) (with_spaces_append words ys)
+    ∙ ap (λ (l : List ℕ). 32 ∷ l) (sym (append_assoc word (with_spaces words) (with_spaces ys)))
 
 -- what the next item of a list gives
 next_mapped : {X A : Type 0} (f : X → List A) (xs : List X) (i : ℕ) (d : X) → i < length xs → flat_map f (take (i + 1) xs) ≡ flat_map f (take i xs) ++ f (get_or xs i d)
@@ -56,24 +56,24 @@ module _ {W : Type 0} (contents : W → Option (List ℕ)) where
 
 -- words were put after words
 module _ {W : Type 0} (contents : W → Option (List ℕ)) (old now new : Outgoing W) where
-  pub puts_words : (xs ys : List (List ℕ)) → Puts contents old (behind_spaces xs) now → Puts contents now (behind_spaces ys) new
-      → Puts contents old (behind_spaces (xs ++ ys)) new
-  puts_words xs ys p q = puts_two contents old now new (behind_spaces xs) (behind_spaces ys) (behind_spaces (xs ++ ys)) p q (sym (behind_spaces_append xs ys))
+  pub puts_words : (xs ys : List (List ℕ)) → Puts contents old (with_spaces xs) now → Puts contents now (with_spaces ys) new
+      → Puts contents old (with_spaces (xs ++ ys)) new
+  puts_words xs ys p q = puts_two contents old now new (with_spaces xs) (with_spaces ys) (with_spaces (xs ++ ys)) p q (sym (with_spaces_append xs ys))
 
   -- those of the next item of a list
-  pub puts_next : {X : Type 0} (f : X → List (List ℕ)) (xs : List X) (i : ℕ) (d : X) → i < length xs → Puts contents old (behind_spaces (flat_map f (take i xs))) now
-      → Puts contents now (behind_spaces (f (get_or xs i d))) new → Puts contents old (behind_spaces (flat_map f (take (i + 1) xs))) new
+  pub puts_next : {X : Type 0} (f : X → List (List ℕ)) (xs : List X) (i : ℕ) (d : X) → i < length xs → Puts contents old (with_spaces (flat_map f (take i xs))) now
+      → Puts contents now (with_spaces (f (get_or xs i d))) new → Puts contents old (with_spaces (flat_map f (take (i + 1) xs))) new
   puts_next f xs i d within p q =
-      subst (λ (l : List (List ℕ)). Puts contents old (behind_spaces l) new) (sym (next_mapped f xs i d within))
+      subst (λ (l : List (List ℕ)). Puts contents old (with_spaces l) new) (sym (next_mapped f xs i d within))
       (puts_words (flat_map f (take i xs)) (f (get_or xs i d)) p q)
 
   -- those of the first of the items that are left
   pub puts_first : {X : Type 0} (f : X → List (List ℕ)) (all : List ℕ) (x : X) (before after : List X) → before ≡ x ∷ after
-      → PutsSome contents old all (behind_spaces (flat_map f before)) now → Puts contents now (behind_spaces (f x)) new
-      → PutsSome contents old all (behind_spaces (flat_map f after)) new
+      → PutsSome contents old all (with_spaces (flat_map f before)) now → Puts contents now (with_spaces (f x)) new
+      → PutsSome contents old all (with_spaces (flat_map f after)) new
   puts_first f all x before after is so_far p =
-      puts_some_more contents old now new all (behind_spaces (f x)) (behind_spaces (flat_map f after))
-      (subst (λ (l : List ℕ). PutsSome contents old all l now) (ap (λ l. behind_spaces (flat_map f l)) is ∙ behind_spaces_append (f x) (flat_map f after)) so_far) p
+      puts_some_more contents old now new all (with_spaces (f x)) (with_spaces (flat_map f after))
+      (subst (λ (l : List ℕ). PutsSome contents old all l now) (ap (λ l. with_spaces (flat_map f l)) is ∙ with_spaces_append (f x) (flat_map f after)) so_far) p
 
 -- what stands before the properties of a CONNECT, and of its Will
 abbrev pub connect_fields : ConnectFields → List (List ℕ)
@@ -85,4 +85,4 @@ will_fields will = codes "will-topic" ∷ quoted will.topic ∷ codes "will-payl
     ∷ codes "will-retain" ∷ flag_text will.retain ∷ []
 
 -- for tactics: details that were put one after another
-pub ruleset detailing = (behind_spaces_append, puts_words, puts_some_begin, puts_some_more, puts_some_end)
+pub ruleset detailing = (with_spaces_append, puts_words, puts_some_begin, puts_some_more, puts_some_end)

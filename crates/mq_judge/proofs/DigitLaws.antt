@@ -55,12 +55,12 @@ digit_written number rest at digits so_far low small =
     let some : 1 ≤ length (decimal (rest / 10)) = decimal_nonempty (rest / 10) (omega arith) in
     let before : drop (at - 1) (set digits (at - 1) (48 + rest % 10)) ≡ (48 + rest % 10) ∷ drop (at - 1 + 1) digits =
     drop-set digits (at - 1) (48 + rest % 10) (omega (arith, so_far.room, so_far.some)) in
-    let behind : drop (at - 1 + 1) digits ≡ drop at digits = ap (λ (k : ℕ). drop k digits) (omega (arith, so_far.some)) in
+    let following : drop (at - 1 + 1) digits ≡ drop at digits = ap (λ (k : ℕ). drop k digits) (omega (arith, so_far.some)) in
     let last : decimal rest ≡ decimal (rest / 10) ++ ((48 + rest % 10) ∷ []) = decimal_step rest low small in
     record {
       count = omega (arith, so_far.count, more);
       parts = so_far.parts ∙ ap (λ (l : List ℕ). l ++ drop at digits) last ∙ append_assoc (decimal (rest / 10)) ((48 + rest % 10) ∷ []) (drop at digits)
-          ∙ ap (λ (l : List ℕ). decimal (rest / 10) ++ l) (ap (λ (l : List ℕ). (48 + rest % 10) ∷ l) (sym behind) ∙ sym before);
+          ∙ ap (λ (l : List ℕ). decimal (rest / 10) ++ l) (ap (λ (l : List ℕ). (48 + rest % 10) ∷ l) (sym following) ∙ sym before);
       some = omega (arith, so_far.count, more, some);
       room = rw length-set (omega (arith, so_far.room));
     }

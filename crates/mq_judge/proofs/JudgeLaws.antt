@@ -12,7 +12,7 @@ use Rattle.mq_trace.specs.Events.{Placed, events, events_back}
 use Rattle.mq_trace.specs.Refusals.{refused, is_cut_short}
 use Rattle.mq_trace.specs.Refusing.{moved}
 use Rattle.mq_trace.specs.Tracing.{Traced, IsTracedTo, TracesPiece, Why}
-use Rattle.mq_trace.proofs.Exports.{header-behind}
+use Rattle.mq_trace.proofs.Exports.{header-unchanged}
 use Rattle.mq_rules.specs.declared.note.Seen.{Seen}
 use Rattle.mq_rules.specs.declared.role.Tested.{Tested}
 use Rattle.mq_rules.specs.declared.rule.Rule.{Rule}
@@ -57,7 +57,7 @@ header-stays log [] long = ap header_by (append-nil log)
 header-stays log (byte ∷ more) long =
     ap header_by (sym (append_assoc log (byte ∷ []) more))
     ∙ header-stays (log ++ byte ∷ []) more (omega (arith, length-append log (byte ∷ [])))
-    ∙ header-behind log byte long
+    ∙ header-unchanged log byte long
 
 pub named-stays : (log more : List ℕ) → 8 ≤ length log → tested_in (log ++ more) ≡ tested_in log
 named-stays log more long =

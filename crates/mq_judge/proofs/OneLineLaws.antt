@@ -9,7 +9,7 @@ use Rattle.mq_props.specs.Listed.{Listed}
 use Rattle.mq_packet.specs.Entries.{Entry, ConnectFields, PublishFields, WillFields, AskedFilter, connect, connack, publish, acknowledgement, request, answer, pingreq, pingresp, disconnect, auth}
 use Rattle.mq_trace.specs.Events.{Event, Item, packet as whole_item, bad as broken_item, lost as lost_item, opened, closed, rested, released, sent, received}
 use Rattle.mq_rules.specs.Notes.{qos_number}
-use Rattle.mq_judge.specs.ItemText.{flag_number, behind_spaces}
+use Rattle.mq_judge.specs.ItemText.{flag_number, with_spaces}
 use Rattle.mq_judge.specs.OneLine.{is_on_one_line}
 use Rattle.mq_judge.specs.Details.{hex_digits, is_quoting, is_control, escaped, quoted, reason_text, flag_text, size_text, property_names, name_beside, property_name, value_words, with_prefix, property_after, properties_after, property_words, will_words, user_words, password_words, connect_words, publish_words, option_words, filter_words, code_words, packet_words, item_details, detail_text}
 
@@ -78,11 +78,11 @@ quoted_fits : (words : List ℕ) → is_on_one_line (quoted words) ≡ true
 quoted_fits words = both (flat_map escaped words) (34 ∷ []) (all_mapped (λ byte. nat_le 32 byte) escaped escaped_fits words) refl
 
 -- words with a space before each
-spaces_fit : (words : List (List ℕ)) → list_all is_on_one_line words ≡ true → is_on_one_line (behind_spaces words) ≡ true
+spaces_fit : (words : List (List ℕ)) → list_all is_on_one_line words ≡ true → is_on_one_line (with_spaces words) ≡ true
 spaces_fit [] p = refl
 spaces_fit (word ∷ words) p =
     let parts : (is_on_one_line word ≡ true) × (list_all is_on_one_line words ≡ true) = and_parts (is_on_one_line word) (list_all is_on_one_line words) p in
-    both word (behind_spaces words) parts.0 (spaces_fit words parts.1)
+    both word (with_spaces words) parts.0 (spaces_fit words parts.1)
 
 first : (word : List ℕ) (words : List (List ℕ)) → is_on_one_line word ≡ true → list_all is_on_one_line words ≡ true → list_all is_on_one_line (word ∷ words) ≡ true
 first word words p q = and_from (is_on_one_line word) (list_all is_on_one_line words) p q

@@ -13,11 +13,11 @@ use Rattle.mq_wire.specs.Spellings.{varint_spelling}
 use Rattle.mq_judge.specs.OnePacket.{IsOnePacket}
 
 -- after the spelling of a length stands the rest
-behind_length : (first : ℕ) (spelling rest bytes : List ℕ) (start : ℕ) → bytes ≡ first ∷ (spelling ++ rest) → start ≡ 1 + length spelling → drop start bytes ≡ rest
-behind_length first spelling rest bytes start is at =
+after_length : (first : ℕ) (spelling rest bytes : List ℕ) (start : ℕ) → bytes ≡ first ∷ (spelling ++ rest) → start ≡ 1 + length spelling → drop start bytes ≡ rest
+after_length first spelling rest bytes start is at =
     (let next : start ≡ suc (length spelling) = omega (arith, at) in
-    let behind : drop (suc (length spelling)) (first ∷ (spelling ++ rest)) ≡ rest = drop-append_seam spelling rest in
-    ap (λ (l : List ℕ). drop start l) is ∙ ap (λ (k : ℕ). drop k (first ∷ (spelling ++ rest))) next ∙ behind)
+    let trailing : drop (suc (length spelling)) (first ∷ (spelling ++ rest)) ≡ rest = drop-append_seam spelling rest in
+    ap (λ (l : List ℕ). drop start l) is ∙ ap (λ (k : ℕ). drop k (first ∷ (spelling ++ rest))) next ∙ trailing)
 
 counted : (first : ℕ) (spelling rest bytes : List ℕ) (start : ℕ) → bytes ≡ first ∷ (spelling ++ rest) → start ≡ 1 + length spelling → length bytes ≡ start + length rest
 counted first spelling rest bytes start is at =
@@ -26,18 +26,18 @@ counted first spelling rest bytes start is at =
     omega (arith, sum, whole, at))
 
 -- Where the parts of a frame at the front of some bytes lie.
-pub record Lies (bytes body behind : List ℕ) (start end : ℕ) : Type 0 where
-  pub rest : drop start bytes ≡ body ++ behind
-  pub size : length bytes ≡ end + length behind
+pub record Lies (bytes body trailing : List ℕ) (start end : ℕ) : Type 0 where
+  pub rest : drop start bytes ≡ body ++ trailing
+  pub size : length bytes ≡ end + length trailing
   pub body_size : end ≡ start + length body
 
-pub frame_lies : (bytes : List ℕ) (first start end : ℕ) → (h : BeginsWithFrame bytes first start end) → Lies bytes h.body h.behind start end
+pub frame_lies : (bytes : List ℕ) (first start end : ℕ) → (h : BeginsWithFrame bytes first start end) → Lies bytes h.body h.trailing start end
 unfolding body_start
 frame_lies bytes first start end h =
-    (let sum : length (h.body ++ h.behind) ≡ length h.body + length h.behind = length-append h.body h.behind in
-    let all : length bytes ≡ start + length (h.body ++ h.behind) = counted first _ (h.body ++ h.behind) bytes start h.is h.start_is in
+    (let sum : length (h.body ++ h.trailing) ≡ length h.body + length h.trailing = length-append h.body h.trailing in
+    let all : length bytes ≡ start + length (h.body ++ h.trailing) = counted first _ (h.body ++ h.trailing) bytes start h.is h.start_is in
     record {
-      rest = behind_length first _ (h.body ++ h.behind) bytes start h.is h.start_is;
+      rest = after_length first _ (h.body ++ h.trailing) bytes start h.is h.start_is;
       size = omega (arith, sum, all, h.end_is);
       body_size = h.end_is;
     })
@@ -53,7 +53,7 @@ frame_ends bytes first start end h all = (let lies = frame_lies bytes first star
 pub frame_body : (bytes : List ℕ) (first start end : ℕ) → (h : BeginsWithFrame bytes first start end) → length bytes ≤ end → drop start bytes ≡ h.body
 frame_body bytes first start end h all =
     (let lies = frame_lies bytes first start end h in
-    let none : h.behind ≡ [] = nothing h.behind (omega (arith, lies.size)) in
+    let none : h.trailing ≡ [] = nothing h.trailing (omega (arith, lies.size)) in
     lies.rest ∙ ap (λ (l : List ℕ). h.body ++ l) none ∙ append-nil h.body)
 
 -- as the code takes it

@@ -9,7 +9,7 @@ use Rattle.mq_props.specs.Listed.{Listed}
 use Rattle.mq_packet.specs.Entries.{Entry, ConnectFields, PublishFields, WillFields, AskedFilter, connect, connack, publish, acknowledgement, request, answer, pingreq, pingresp, disconnect, auth}
 use Rattle.mq_trace.specs.Events.{Event, Item, packet as whole_item, sent, received}
 use Rattle.mq_rules.specs.Notes.{qos_number}
-use Rattle.mq_judge.specs.ItemText.{flag_number, behind_spaces}
+use Rattle.mq_judge.specs.ItemText.{flag_number, with_spaces}
 
 -- the two hexadecimal digits of a byte, in capitals
 abbrev pub hex_digits : ℕ → List ℕ
@@ -174,4 +174,4 @@ details _ = []
 
 -- and as its line has them, each word with a space before it
 abbrev pub detail_text : Event → List ℕ
-detail_text event = behind_spaces (details event)
+detail_text event = with_spaces (details event)

@@ -60,9 +60,9 @@ identifier_words None = []
 identifier_words (Some identifier) = codes "id" ∷ decimal identifier ∷ []
 
 -- words with a space before each
-abbrev pub behind_spaces : List (List ℕ) → List ℕ
-behind_spaces [] = []
-behind_spaces (word ∷ words) = 32 ∷ (word ++ behind_spaces words)
+abbrev pub with_spaces : List (List ℕ) → List ℕ
+with_spaces [] = []
+with_spaces (word ∷ words) = 32 ∷ (word ++ with_spaces words)
 
 -- a packet: its type and its size in bytes, of a PUBLISH the QoS and the DUP flag, and the Packet Identifier, if it has one
 abbrev pub packet_text : PacketSummary → ℕ → List ℕ

@@ -18,7 +18,7 @@ text_by Long = long_lines_of
 text_by (Annotated a) = annotated (annotation_of a)
 
 -- The view's state after these events: a view with faults knows whether the next event that is left out would begin a gap.
-abbrev pub StandsAfter : List Placed → View → Type 0
-StandsAfter earlier Brief = ⊤
-StandsAfter earlier Long = ⊤
-StandsAfter earlier (Annotated a) = a.begins_gap ≡ begins_gap a.around (map.entries a.faults.now) earlier
+abbrev pub IsStateAfter : List Placed → View → Type 0
+IsStateAfter earlier Brief = ⊤
+IsStateAfter earlier Long = ⊤
+IsStateAfter earlier (Annotated a) = a.begins_gap ≡ begins_gap a.around (map.entries a.faults.now) earlier

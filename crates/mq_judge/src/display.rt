@@ -3,7 +3,7 @@ ghost use Rattle.std.specs.Prelude.{◌≡◌, Bool, true, false, IfSome, OnOk, 
 ghost use Rattle.std.specs.FinMap as map;
 ghost use Rattle.mq_judge.specs.Runner.{default_limit};
 ghost use Rattle.mq_judge.specs.Display.{Annotation, Shows, annotated, short_lines_of, long_lines_of};
-ghost use Rattle.mq_judge.specs.Views.{StandsAfter, text_by};
+ghost use Rattle.mq_judge.specs.Views.{IsStateAfter, text_by};
 ghost use Rattle.mq_trace.specs.Refusals.{is_cut_short};
 ghost use Rattle.mq_trace.specs.Tracing.{IsTracedTo};
 ghost use Rattle.mq_trace.specs.declared.refusal.Refusal.TheVariants as refusals;
@@ -90,11 +90,11 @@ impl<'a, 'b, 'f, W, K> Drop for Display<'a, 'b, 'f, W, K> {
 impl<W: Write, K: Given> Sink for Display<'_, '_, '_, W, K> {
     ghost use Rattle.std.specs.Prelude.{◌≡◌};
     ghost use Rattle.mq_judge.specs.Outgoing.{Carries};
-    ghost use Rattle.mq_judge.specs.Views.{StandsAfter, text_by};
+    ghost use Rattle.mq_judge.specs.Views.{IsStateAfter, text_by};
 
     // What was written and what waits are the text of the events; or a write failed, and what was written is a beginning of it.
     ghost agrees = { λ display received. (display.out.now.writer.ghost_name ≡ K.name) × (text_by display.view ≡ K.text)
-        × StandsAfter received display.view × Carries W.contents K.held (K.text received) display.out.now
+        × IsStateAfter received display.view × Carries W.contents K.held (K.text received) display.out.now
         × (display.out.ghost_name ≡ K.direction) };
 
     ghost refuses = { λ _ _ _. ⊥ };
@@ -232,7 +232,7 @@ fn show_by<R: Read, W: Write>(
     out: &mut Outgoing<'_, W>,
 ) -> Result<(), RunFault>
     requires empty { text_by view [] ≡ [] }
-    requires fresh { (out.old.failed ≡ false) × (out.old.lines ≡ []) × StandsAfter [] view }
+    requires fresh { (out.old.failed ≡ false) × (out.old.lines ≡ []) × IsStateAfter [] view }
     ensures same { out.new.writer.ghost_name ≡ out.old.writer.ghost_name }
     ensures shows { IfSome (R.remaining reader.old) (λ log. Shows (text_by view.entry) log (R.remaining reader.new) result (W.contents out.old.writer.now) (W.contents out.new.writer.now)) }
 {
@@ -257,7 +257,7 @@ fn show_all<R: Read, W: Write, K: Given>(
     requires held { W.contents display.old.out.now.writer.now ≡ K.held }
     requires text { text_by display.old.view ≡ K.text }
     requires empty { K.text [] ≡ [] }
-    requires fresh { (display.old.out.now.failed ≡ false) × (display.old.out.now.lines ≡ []) × StandsAfter [] display.old.view }
+    requires fresh { (display.old.out.now.failed ≡ false) × (display.old.out.now.lines ≡ []) × IsStateAfter [] display.old.view }
     requires follows { IsTracedTo tracer.old [] × (tracer.old.reading.limit ≡ default_limit) }
     ensures direction { display.new.out.ghost_name ≡ display.old.out.ghost_name }
     ensures writer { display.new.out.now.writer.ghost_name ≡ display.old.out.now.writer.ghost_name }

@@ -206,7 +206,7 @@ pub const PASSED: Option<Outcome> = Some(Outcome::Pass);
 /// The outcome of judging a log that has faults.
 pub const FAULTY: Option<Outcome> = Some(Outcome::Fail);
 
-/// What stands for the outcome of a log that is refused.
+/// In place of an outcome, for a log that is refused.
 pub const REFUSED: Option<Outcome> = None;
 
 // Whether judging what the reader gives has this outcome, and writes this report; for a refused log that is its line.

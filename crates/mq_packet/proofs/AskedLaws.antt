@@ -6,7 +6,7 @@ use Rattle.mq_wire.specs.Spellings.{text_spelling}
 use Rattle.mq_wire.proofs.Exports.{text_exact}
 use Rattle.mq_packet.specs.Entries.{AskedFilter}
 use Rattle.mq_packet.specs.Asking.{AreOptions, IsAsked, options_spelling, asked_spelling}
-use Rattle.mq_packet.specs.Elements.{asked_with, asked_behind, asked_at}
+use Rattle.mq_packet.specs.Elements.{asked_with, asked_after, asked_at}
 
 abbrev pub some : {A : Type 0} → A → Option A
 some x = Some x
@@ -35,7 +35,7 @@ asked_at_spelled asks f rest is =
     let text : List ℕ = text_spelling f.filter in
     let more : List ℕ = options_spelling f.options ++ rest in
     let parts : asked_spelling f ++ rest ≡ text ++ more = append_assoc text (options_spelling f.options) rest in
-    ap (λ (bytes : List ℕ). asked_behind asks bytes (text_at bytes)) parts
-    ∙ ap (asked_behind asks (text ++ more)) (text_exact.all f.filter more is.text)
+    ap (λ (bytes : List ℕ). asked_after asks bytes (text_at bytes)) parts
+    ∙ ap (asked_after asks (text ++ more)) (text_exact.all f.filter more is.text)
     ∙ ap (asked_with asks f.filter) (drop_at text more (length text) refl)
     ∙ with_spelled asks f.filter f.options rest is.options

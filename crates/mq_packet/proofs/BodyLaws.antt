@@ -6,7 +6,7 @@ use Rattle.std.proofs.lemmas.Slice.Eq.{bytes_eq-Decides}
 use Rattle.mq_wire.specs.declared.fault.Reason.{Reason}
 use Rattle.mq_wire.specs.declared.fault.Reason.TheVariants as reasons
 use Rattle.mq_wire.specs.Fields.{varint_at}
-use Rattle.mq_wire.specs.Spellings.{AreBytes, IsVarint, Stands, text_spelling, binary_spelling, two_bytes_spelling, varint_spelling}
+use Rattle.mq_wire.specs.Spellings.{AreBytes, IsVarint, BeginsWith, text_spelling, binary_spelling, two_bytes_spelling, varint_spelling}
 use Rattle.mq_wire.proofs.Exports.{varint_exact}
 use Rattle.mq_wire.specs.Left.{Gives}
 use Rattle.mq_props.specs.declared.table.Place.TheVariants as places
@@ -242,15 +242,15 @@ pub size_of_frame : (frame : List ℕ) (header size : ℕ) (packet : Packet) →
     → remaining_length packet ≡ length (drop header frame) → size_with (remaining_length packet) ≡ Some (length frame)
 unfolding fixed_header_of
 size_of_frame [] header size packet known e exact is = cc
-size_of_frame (b ∷ behind) header size packet known e exact is = by_number (varint_at behind) refl e
+size_of_frame (b ∷ trailing) header size packet known e exact is = by_number (varint_at trailing) refl e
   where
-    by_number : (read : Result (ℕ × ℕ) Reason) → varint_at behind ≡ read → header_with read ≡ Whole header size → size_with (remaining_length packet) ≡ Some (length (b ∷ behind))
+    by_number : (read : Result (ℕ × ℕ) Reason) → varint_at trailing ≡ read → header_with read ≡ Whole header size → size_with (remaining_length packet) ≡ Some (length (b ∷ trailing))
     by_number (Ok x) found h =
-        (let stands : Stands IsVarint varint_spelling behind x.0 x.1 = varint_exact.only behind x.0 x.1 (λ i. known (suc i)) found in
+        (let stands : BeginsWith IsVarint varint_spelling trailing x.0 x.1 = varint_exact.only trailing x.0 x.1 (λ i. known (suc i)) found in
         let header_is : 1 + x.1 ≡ header = ap header_in h in
         let size_is : 1 + x.1 + x.0 ≡ size = ap size_in h in
-        let remaining : remaining_length packet ≡ x.0 = is ∙ omega (arith, length-drop header (b ∷ behind), header_is, size_is, exact) in
-        let whole : 1 + length (varint_spelling x.0) + x.0 ≡ length (b ∷ behind) = omega (arith, stands.taken, size_is, exact) in
+        let remaining : remaining_length packet ≡ x.0 = is ∙ omega (arith, length-drop header (b ∷ trailing), header_is, size_is, exact) in
+        let whole : 1 + length (varint_spelling x.0) + x.0 ≡ length (b ∷ trailing) = omega (arith, stands.taken, size_is, exact) in
         ap size_with remaining
         ∙ ap (λ (t : Bool). if t then Some (1 + length (varint_spelling x.0) + x.0) else None) (le-leb x.0 268435455 stands.value)
         ∙ ap (λ (k : ℕ). Some k) whole)

@@ -49,9 +49,9 @@ connack_spelled session_present code list ok e =
     let value : IsValueOf (properties places.Connack) list.items = list_value places.Connack list ok parts.0 in
     subst (λ (l : Listed). Spells connack_format (bit 1 session_present ∷ code ∷ list_spelling list.items) (connack session_present code l)) (listed_is places.Connack list parts.0) (flagged session_present value parts.1))
   where
-    behind : (s : Bool) → IsValueOf (properties places.Connack) list.items → is_code connack_codes code ≡ true
+    trailing : (s : Bool) → IsValueOf (properties places.Connack) list.items → is_code connack_codes code ≡ true
         → Spells (field byte (code_objection connack_codes) (λ c. field (properties places.Connack) any_value (λ l. done (connack s c (listed places.Connack l))))) (code ∷ list_spelling list.items) (connack s code (listed places.Connack list.items))
-    behind s value known = (
+    trailing s value known = (
       code,
       list_spelling list.items,
       record { is_value = code_value connack_codes code refl known; spelled = refl },
@@ -60,8 +60,8 @@ connack_spelled session_present code list ok e =
     )
 
     flagged : (s : Bool) → IsValueOf (properties places.Connack) list.items → is_code connack_codes code ≡ true → Spells connack_format (bit 1 s ∷ code ∷ list_spelling list.items) (connack s code (listed places.Connack list.items))
-    flagged true value known = (1, code ∷ list_spelling list.items, record { is_value = omega arith; spelled = refl }, refl, behind true value known)
-    flagged false value known = (0, code ∷ list_spelling list.items, record { is_value = omega arith; spelled = refl }, refl, behind false value known)
+    flagged true value known = (1, code ∷ list_spelling list.items, record { is_value = omega arith; spelled = refl }, refl, trailing true value known)
+    flagged false value known = (0, code ∷ list_spelling list.items, record { is_value = omega arith; spelled = refl }, refl, trailing false value known)
 
 -- What is written of a Reason Code and properties is one of their spellings.
 reason_ends : (code : ℕ) (items : List Property) → SpellsEnd code items (reason_spelling code items)
@@ -183,17 +183,17 @@ some_asked [] e = absurd (cc)
 some_asked (asked ∷ filters) e = λ (none : (asked ∷ filters) ≡ []). cc
 
 -- What begins with a Packet Identifier and properties is spelled by them, and by what spells the rest.
-identified_spells : (place : Place) (next : ℕ × Listed → Format) (identifier : ℕ) (list : Listed) (behind : List ℕ) (make : Listed → Entry) → IsIdentified identifier list
-    → same_place list.place place ≡ true → is_identifier identifier ≡ true → Spells (next (identifier, listed place list.items)) behind (make (listed place list.items))
-    → Spells (identified place next) (two_bytes_spelling identifier ++ (list_spelling list.items ++ behind)) (make list)
+identified_spells : (place : Place) (next : ℕ × Listed → Format) (identifier : ℕ) (list : Listed) (trailing : List ℕ) (make : Listed → Entry) → IsIdentified identifier list
+    → same_place list.place place ≡ true → is_identifier identifier ≡ true → Spells (next (identifier, listed place list.items)) trailing (make (listed place list.items))
+    → Spells (identified place next) (two_bytes_spelling identifier ++ (list_spelling list.items ++ trailing)) (make list)
 unfolding identified
-identified_spells place next identifier list behind make ok there known spells =
-    subst (λ (l : Listed). Spells (identified place next) (two_bytes_spelling identifier ++ (list_spelling list.items ++ behind)) (make l)) (listed_is place list there) (
+identified_spells place next identifier list trailing make ok there known spells =
+    subst (λ (l : Listed). Spells (identified place next) (two_bytes_spelling identifier ++ (list_spelling list.items ++ trailing)) (make l)) (listed_is place list there) (
       identifier,
-      list_spelling list.items ++ behind,
+      list_spelling list.items ++ trailing,
       record { is_value = ok.bound; spelled = refl },
       unobjected (is_identifier identifier) rules.W09 known,
-      (list.items, behind, record { is_value = list_value place list ok.properties there; spelled = refl }, refl, spells),
+      (list.items, trailing, record { is_value = list_value place list ok.properties there; spelled = refl }, refl, spells),
     )
 
 request_spells : (kind : RequestKind) (identifier : ℕ) (list : Listed) (filters : List AskedFilter) → IsRequest identifier list filters → valid_request kind identifier list filters ≡ true

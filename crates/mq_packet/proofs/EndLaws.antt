@@ -27,19 +27,19 @@ abbrev pub AreCodes : List ℕ → Type 0
 AreCodes table = list_all (λ c. nat_lt c 256) table ≡ true
 
 -- A Reason Code and properties, each left out where it may be.
-abbrev pub behind_code : Place → (ℕ → Listed → Entry) → ℕ → Format
-behind_code place make code = at_end (done (make code (none_listed place))) (field (properties place) any_value (λ list. done (make code (listed place list))))
+abbrev pub after_code : Place → (ℕ → Listed → Entry) → ℕ → Format
+after_code place make code = at_end (done (make code (none_listed place))) (field (properties place) any_value (λ list. done (make code (listed place list))))
 
 abbrev pub coded : List ℕ → Place → (ℕ → Listed → Entry) → Format
-coded table place make = at_end (done (make 0 (none_listed place))) (field byte (code_objection table) (λ code. behind_code place make code))
+coded table place make = at_end (done (make 0 (none_listed place))) (field byte (code_objection table) (λ code. after_code place make code))
 
-list_spells : (place : Place) (make : ℕ → Listed → Entry) (code : ℕ) (items : List Property) (l : List ℕ) → IsValueOf (properties place) items → l ≡ list_spelling items → Spells (behind_code place make code) l (make code (listed place items))
+list_spells : (place : Place) (make : ℕ → Listed → Entry) (code : ℕ) (items : List Property) (l : List ℕ) → IsValueOf (properties place) items → l ≡ list_spelling items → Spells (after_code place make code) l (make code (listed place items))
 list_spells place make code items [] ok e =
     absurd (omega (arith, varint_some (length (properties_spelling items)), length-append (varint_spelling (length (properties_spelling items))) (properties_spelling items), ap (length {A = ℕ}) e))
 list_spells place make code items (b ∷ l) ok e = (items, [], record { is_value = ok; spelled = e ∙ sym (append-nil (list_spelling items)) }, refl, (refl, refl))
 
 module _ (table : List ℕ) (bytes : AreCodes table) (place : Place) (make : ℕ → Listed → Entry) where
-  code_spells : (code : ℕ) (items : List Property) (l : List ℕ) → is_code table code ≡ true → Spells (behind_code place make code) l (make code (listed place items)) → Spells (coded table place make) (code ∷ l) (make code (listed place items))
+  code_spells : (code : ℕ) (items : List Property) (l : List ℕ) → is_code table code ≡ true → Spells (after_code place make code) l (make code (listed place items)) → Spells (coded table place make) (code ∷ l) (make code (listed place items))
   code_spells code items l known h = (code, l, record { is_value = code_value table code bytes known; spelled = refl }, unobjected (is_code table code) rules.W13 known, h)
 
   end_spells : (code : ℕ) (items : List Property) (end : List ℕ) → IsValueOf (properties place) items → is_code table code ≡ true → SpellsEnd code items end → Spells (coded table place make) end (make code (listed place items))

@@ -8,7 +8,7 @@ use Rattle.mq_wire.specs.Left.{Left, placed}
 use Rattle.mq_wire.specs.Fields.{text_at}
 use Rattle.mq_wire.specs.FieldTypes.{FieldType, one_byte, two_byte_integer, utf8_string, binary_data}
 use Rattle.mq_wire.specs.Misspelled.{RefusesMisspelled}
-use Rattle.mq_wire.specs.Spellings.{AreBytes, Stands, IsExact}
+use Rattle.mq_wire.specs.Spellings.{AreBytes, BeginsWith, IsExact}
 use Rattle.mq_wire.specs.Plain.{is_plain, is_plain_byte}
 use Rattle.mq_wire.proofs.Exports.{placed_ok, placed_err, both, byte_exact, two_bytes_exact, text_exact, binary_exact, byte_misspelled, two_bytes_misspelled, text_misspelled, binary_misspelled}
 use Rattle.mq_topic.specs.Levels.{is_name}
@@ -31,7 +31,7 @@ left_from at bytes = record { at = at; rest = bytes }
 -- What stands at the front of these bytes: the value, spelled, and this left after it.
 pub record Front (kind : Kind) (at : ℕ) (bytes : List ℕ) (value : ValueOf kind) (new : Left) : Type 0 where
   pub begin : Begin kind bytes value new.rest
-  pub behind : new ≡ left_from (at + length (spelling kind value)) new.rest
+  pub trailing : new ≡ left_from (at + length (spelling kind value)) new.rest
 
 -- a field that was read
 abbrev pub given : {A : Type 0} → A → Result A DecodeFault
@@ -70,7 +70,7 @@ wire_front : {X : Type 0} {read : List ℕ → Result (X × ℕ) Reason} {Values
     → Values value × (bytes ≡ spells value ++ new.rest) × (new ≡ left_from (at + length (spells value)) new.rest)
 wire_front {X} {read} {Values} {spells} exact at bytes value new known e =
     let size = placed_ok (left_from at bytes) (read bytes) value new (spelled_ok (placed (left_from at bytes) (read bytes)) (value, new) e) in
-    let stands : Stands Values spells bytes value size.0 = exact.only bytes value size.0 known size.1 in
+    let stands : BeginsWith Values spells bytes value size.0 = exact.only bytes value size.0 known size.1 in
     let rest : new.rest ≡ drop size.0 bytes = ap (λ (l : Left). l.rest) size.2 in (
       stands.value,
       stands.spelled ∙ ap (λ (l : List ℕ). spells value ++ l) (sym rest),
@@ -81,35 +81,35 @@ wire_front {X} {read} {Values} {spells} exact at bytes value new known e =
 wire_read : {X : Type 0} {read : List ℕ → Result (X × ℕ) Reason} {Values : X → Type 0} {spells : X → List ℕ} → IsExact read Values spells → (at : ℕ) (bytes : List ℕ) (value : X) (left : List ℕ) → Values value → bytes ≡ spells value ++ left
     → spelled (placed (left_from at bytes) (read bytes)) ≡ Ok (value, left_from (at + length (spells value)) left)
 wire_read {X} {read} {Values} {spells} exact at bytes value left good is =
-    let behind : drop (length (spells value)) bytes ≡ left = ap (drop (length (spells value))) is ∙ drop_at (spells value) left (length (spells value)) refl in
+    let trailing : drop (length (spells value)) bytes ≡ left = ap (drop (length (spells value))) is ∙ drop_at (spells value) left (length (spells value)) refl in
     ap (λ (r : Result (X × ℕ) Reason). spelled (placed (left_from at bytes) r)) (ap read is ∙ exact.all value left good)
-    ∙ ap (λ (l : List ℕ). given (value, left_from (at + length (spells value)) l)) behind
+    ∙ ap (λ (l : List ℕ). given (value, left_from (at + length (spells value)) l)) trailing
 
 list_front : (place : Place) (at : ℕ) (bytes : List ℕ) (value : List Property) (new : Left) → AreBytes bytes → list_on place (left_from at bytes) ≡ Ok (value, new) → Front (properties place) at bytes value new
 list_front place at bytes value new known e =
     let found : Listing place (left_from at bytes) value new = list_found place (left_from at bytes) value new known e in
     let parts : bytes ≡ spelling (properties place) value ++ new.rest = found.parts ∙ ap (λ (front : List ℕ). front ++ new.rest) found.lists.spelled in
     let taken : length found.bytes ≡ length (spelling (properties place) value) = ap (λ (l : List ℕ). length l) found.lists.spelled in
-    let rest : new.rest ≡ drop (length found.bytes) bytes = ap (λ (l : Left). l.rest) found.behind in
+    let rest : new.rest ≡ drop (length found.bytes) bytes = ap (λ (l : Left). l.rest) found.following in
     record {
       begin = record { is_value = (found.lists.allowed, found.lists.bound); spelled = parts };
-      behind = found.behind ∙ ap (λ (k : ℕ). left_from (at + k) (drop (length found.bytes) bytes)) taken ∙ ap (λ (l : List ℕ). left_from (at + length (spelling (properties place) value)) l) (sym rest);
+      trailing = found.following ∙ ap (λ (k : ℕ). left_from (at + k) (drop (length found.bytes) bytes)) taken ∙ ap (λ (l : List ℕ). left_from (at + length (spelling (properties place) value)) l) (sym rest);
     }
 
 list_read : (place : Place) (at : ℕ) (bytes : List ℕ) (value : List Property) (left : List ℕ) → Begin (properties place) bytes value left → list_on place (left_from at bytes) ≡ Ok (value, left_from (at + length (spelling (properties place) value)) left)
 list_read place at bytes value left begin =
     let lists : Lists place value (spelling (properties place) value) = record { spelled = refl; bound = begin.is_value.1; allowed = begin.is_value.0 } in
     let size : ℕ = length (spelling (properties place) value) in
-    let behind : drop size bytes ≡ left = ap (drop size) begin.spelled ∙ drop_at (spelling (properties place) value) left size refl in
+    let trailing : drop size bytes ≡ left = ap (drop size) begin.spelled ∙ drop_at (spelling (properties place) value) left size refl in
     list_only place (left_from at bytes) value (spelling (properties place) value) left lists begin.spelled
-    ∙ ap (λ (l : List ℕ). Ok (value, left_from (at + length (spelling (properties place) value)) l)) behind
+    ∙ ap (λ (l : List ℕ). Ok (value, left_from (at + length (spelling (properties place) value)) l)) trailing
 
 -- A field that is read stands spelled at the front.
 pub field_found : (kind : Kind) (at : ℕ) (bytes : List ℕ) (value : ValueOf kind) (new : Left) → AreBytes bytes → field_on kind (left_from at bytes) ≡ Ok (value, new) → Front kind at bytes value new
-field_found byte at bytes value new known e = let h = wire_front byte_exact at bytes value new known e in record { begin = record { is_value = h.0; spelled = h.1 }; behind = h.2 }
-field_found two_bytes at bytes value new known e = let h = wire_front two_bytes_exact at bytes value new known e in record { begin = record { is_value = h.0; spelled = h.1 }; behind = h.2 }
-field_found text at bytes value new known e = let h = wire_front text_exact at bytes value new known e in record { begin = record { is_value = h.0; spelled = h.1 }; behind = h.2 }
-field_found binary at bytes value new known e = let h = wire_front binary_exact at bytes value new known e in record { begin = record { is_value = h.0; spelled = h.1 }; behind = h.2 }
+field_found byte at bytes value new known e = let h = wire_front byte_exact at bytes value new known e in record { begin = record { is_value = h.0; spelled = h.1 }; trailing = h.2 }
+field_found two_bytes at bytes value new known e = let h = wire_front two_bytes_exact at bytes value new known e in record { begin = record { is_value = h.0; spelled = h.1 }; trailing = h.2 }
+field_found text at bytes value new known e = let h = wire_front text_exact at bytes value new known e in record { begin = record { is_value = h.0; spelled = h.1 }; trailing = h.2 }
+field_found binary at bytes value new known e = let h = wire_front binary_exact at bytes value new known e in record { begin = record { is_value = h.0; spelled = h.1 }; trailing = h.2 }
 field_found (properties place) at bytes value new known e = list_front place at bytes value new known (list_ok (list_on place (left_from at bytes)) (value, new) e)
 
 -- A value that stands spelled at the front is read.

@@ -14,7 +14,7 @@ use Rattle.mq_packet.specs.declared.rule.PacketRule.{PacketRule}
 use Rattle.mq_packet.specs.declared.rule.PacketRule.TheVariants as rules
 use Rattle.mq_packet.specs.Entries.{AskedFilter}
 use Rattle.mq_packet.specs.Formats.{Kind, byte, text, ValueOf, Objection, unless_broken, is_filter, filter_objection, are_options, options_objection}
-use Rattle.mq_packet.specs.Decoding.{broken, field_on, unless, read_field, some_options, options_on, with_options, options_behind, filter_on, filters_within, filters_on}
+use Rattle.mq_packet.specs.Decoding.{broken, field_on, unless, read_field, some_options, options_on, with_options, options_after, filter_on, filters_within, filters_on}
 use Rattle.mq_packet.specs.Asking.{AreOptions, IsAsked, options_spelling, asked_spelling, filters_spelling, AreAsked, AreListed, AreFilters}
 use Rattle.mq_packet.specs.Spelled.{spelling, Begin, FailsField, FailsOptions, FailsFilter, BadFilter}
 use Rattle.mq_packet.specs.Elements.{asked_at, read_or_none, filters_in, AreRead}
@@ -102,7 +102,7 @@ options_taken true at bytes known x e =
     let made : Option ℕ × Left = (Some y.0.0, y.0.1) in
     let front = field_taken byte options_objection at bytes known y.0.0 y.0.1 y.1 in
     subst (TakesOptions true at bytes) (given_is made x y.2)
-    ((y.0.0, refl, front.0.begin.is_value, unbroken (are_options y.0.0) rules.W17 front.1), front.0.begin.spelled, front.0.behind)
+    ((y.0.0, refl, front.0.begin.is_value, unbroken (are_options y.0.0) rules.W17 front.1), front.0.begin.spelled, front.0.trailing)
 
 options_fail : (asks : Bool) (at : ℕ) (bytes : List ℕ) → AreBytes bytes → (fault : DecodeFault) → options_on asks (left_from at bytes) ≡ Err fault → FailsOptions asks at bytes fault
 options_fail false at bytes known fault e = absurd cc
@@ -131,22 +131,22 @@ options_spelled true at (Some options) rest is =
 record TakesFilter (asks : Bool) (at : ℕ) (bytes : List ℕ) (x : AskedFilter × Left) : Type 0 where
   asked : IsAsked asks x.0
   parts : bytes ≡ asked_spelling x.0 ++ x.1.rest
-  behind : x.1 ≡ left_from (at + length (asked_spelling x.0)) x.1.rest
+  trailing : x.1 ≡ left_from (at + length (asked_spelling x.0)) x.1.rest
 
 filter_taken : (asks : Bool) (at : ℕ) (bytes : List ℕ) → AreBytes bytes → (x : AskedFilter × Left) → filter_on asks (left_from at bytes) ≡ Ok x → TakesFilter asks at bytes x
 filter_taken asks at bytes known x e =
-    let y = bind_ok (read_field text filter_objection (left_from at bytes)) (options_behind asks) x e in
+    let y = bind_ok (read_field text filter_objection (left_from at bytes)) (options_after asks) x e in
     let z = bind_ok (options_on asks y.0.1) (with_options y.0.0) x y.2 in
     let front = field_taken text filter_objection at bytes known y.0.0 y.0.1 y.1 in
     let more = options_taken asks y.0.1.at y.0.1.rest (AreBytes-after (text_spelling y.0.0) y.0.1.rest bytes known front.0.begin.spelled) z.0 z.1 in
     let filter : AskedFilter = record { filter = y.0.0; options = z.0.0 } in
     let made : AskedFilter × Left = (filter, z.0.1) in
     let size : length (asked_spelling filter) ≡ length (text_spelling y.0.0) + length (options_spelling z.0.0) = length-append (text_spelling y.0.0) (options_spelling z.0.0) in
-    let place : y.0.1.at + length (options_spelling z.0.0) ≡ at + length (asked_spelling filter) = omega (arith, size, ap (λ (l : Left). l.at) front.0.behind) in
+    let place : y.0.1.at + length (options_spelling z.0.0) ≡ at + length (asked_spelling filter) = omega (arith, size, ap (λ (l : Left). l.at) front.0.trailing) in
     let here : TakesFilter asks at bytes made = record {
       asked = record { text = front.0.begin.is_value; filter = unbroken (is_filter y.0.0) rules.W15 front.1; options = more.0 };
       parts = front.0.begin.spelled ∙ ap (λ (l : List ℕ). text_spelling y.0.0 ++ l) more.1 ∙ sym (append_assoc (text_spelling y.0.0) (options_spelling z.0.0) z.0.1.rest);
-      behind = more.2 ∙ ap (λ (n : ℕ). left_from n z.0.1.rest) place;
+      trailing = more.2 ∙ ap (λ (n : ℕ). left_from n z.0.1.rest) place;
     } in
     subst (TakesFilter asks at bytes) (given_is made x z.2) here
 
@@ -158,24 +158,24 @@ filter_shorter_by : (asks : Bool) (at : ℕ) (bytes : List ℕ) (x : AskedFilter
 filter_shorter_by asks at bytes x h = omega (arith, ap (λ (l : List ℕ). length l) h.parts, length-append (asked_spelling x.0) x.1.rest, filter_some x.0)
 
 filter_fails : (asks : Bool) (at : ℕ) (bytes : List ℕ) → AreBytes bytes → (fault : DecodeFault) → filter_on asks (left_from at bytes) ≡ Err fault → FailsFilter asks at bytes fault
-filter_fails asks at bytes known fault e = by_text (bind_err (read_field text filter_objection (left_from at bytes)) (options_behind asks) fault e)
+filter_fails asks at bytes known fault e = by_text (bind_err (read_field text filter_objection (left_from at bytes)) (options_after asks) fault e)
   where
     by_options : (y : List ℕ × Left) → Front text at bytes y.0 y.1 → filter_objection y.0 ≡ None → FailedSo (options_on asks y.1) (with_options y.0) fault → FailsFilter asks at bytes fault
     by_options y front none (inl h) =
         (let wrong : FailsOptions asks y.1.at y.1.rest fault = options_fail asks y.1.at y.1.rest (AreBytes-after (text_spelling y.0) y.1.rest bytes known front.begin.spelled) fault h in
-        inr (y.0, y.1.rest, front.begin, none, subst (λ (n : ℕ). FailsOptions asks n y.1.rest fault) (ap (λ (l : Left). l.at) front.behind) wrong))
+        inr (y.0, y.1.rest, front.begin, none, subst (λ (n : ℕ). FailsOptions asks n y.1.rest fault) (ap (λ (l : Left). l.at) front.trailing) wrong))
     by_options y front none (inr h) = absurd (let never = h.2 in cc)
 
-    by_text : FailedSo (read_field text filter_objection (left_from at bytes)) (options_behind asks) fault → FailsFilter asks at bytes fault
+    by_text : FailedSo (read_field text filter_objection (left_from at bytes)) (options_after asks) fault → FailsFilter asks at bytes fault
     by_text (inl h) = inl (field_fails text filter_objection at bytes known fault h)
     by_text (inr h) =
         (let front = field_taken text filter_objection at bytes known h.0.0 h.0.1 h.1 in
         by_options h.0 front.0 front.1 (bind_err (options_on asks h.0.1) (with_options h.0.0) fault h.2))
 
 fail_filter : (asks : Bool) (at : ℕ) (bytes : List ℕ) → AreBytes bytes → (fault : DecodeFault) → FailsFilter asks at bytes fault → filter_on asks (left_from at bytes) ≡ failed fault
-fail_filter asks at bytes known fault (inl h) = ap (λ (r : Result (List ℕ × Left) DecodeFault). r >>= options_behind asks) (fails_field text filter_objection at bytes known fault h)
+fail_filter asks at bytes known fault (inl h) = ap (λ (r : Result (List ℕ × Left) DecodeFault). r >>= options_after asks) (fails_field text filter_objection at bytes known fault h)
 fail_filter asks at bytes known fault (inr h) =
-    ap (λ (r : Result (List ℕ × Left) DecodeFault). r >>= options_behind asks) (good_field text filter_objection at bytes h.0 h.1 h.2 h.3)
+    ap (λ (r : Result (List ℕ × Left) DecodeFault). r >>= options_after asks) (good_field text filter_objection at bytes h.0 h.1 h.2 h.3)
     ∙ ap (λ (r : Result (Option ℕ × Left) DecodeFault). r >>= with_options h.0) (fail_options asks (at + length (text_spelling h.0)) h.1 (AreBytes-after (text_spelling h.0) h.1 bytes known h.2.spelled) fault h.4)
 
 -- A filter is read at the front of its spelling.
@@ -186,7 +186,7 @@ filter_spelled asks at f rest is =
     let begin : Begin text (asked_spelling f ++ rest) f.filter more = record { is_value = is.text; spelled = append_assoc (text_spelling f.filter) (options_spelling f.options) rest } in
     let size : length (asked_spelling f) ≡ length (text_spelling f.filter) + length (options_spelling f.options) = length-append (text_spelling f.filter) (options_spelling f.options) in
     let place : inside + length (options_spelling f.options) ≡ at + length (asked_spelling f) = omega (arith, size) in
-    ap (λ (r : Result (List ℕ × Left) DecodeFault). r >>= options_behind asks) (good_field text filter_objection at (asked_spelling f ++ rest) f.filter more begin (unobjected (is_filter f.filter) rules.W15 is.filter))
+    ap (λ (r : Result (List ℕ × Left) DecodeFault). r >>= options_after asks) (good_field text filter_objection at (asked_spelling f ++ rest) f.filter more begin (unobjected (is_filter f.filter) rules.W15 is.filter))
     ∙ ap (λ (r : Result (Option ℕ × Left) DecodeFault). r >>= with_options f.filter) (options_spelled asks inside f.options rest is.options)
     ∙ ap (λ (n : ℕ). given (f, left_from n rest)) place
 
@@ -228,26 +228,26 @@ after_first f fs (Ok others) = refl
 after_first f fs (Err fault) = refl
 
 -- Filters that may be are read, and then what follows them.
-within_behind : (n : ℕ) (asks : Bool) (at : ℕ) (fs : List AskedFilter) (rest : List ℕ) → AllByRecursion (IsAsked asks) fs → length (filters_spelling fs ++ rest) ≤ n
+within_after : (n : ℕ) (asks : Bool) (at : ℕ) (fs : List AskedFilter) (rest : List ℕ) → AllByRecursion (IsAsked asks) fs → length (filters_spelling fs ++ rest) ≤ n
     → (m : ℕ) × (length rest ≤ m) × (filters_within n asks (left_from at (filters_spelling fs ++ rest)) ≡ (filters_within m asks (left_from (at + length (filters_spelling fs)) rest) >>= after fs))
-within_behind n asks at [] rest each enough =
+within_after n asks at [] rest each enough =
     let place : at ≡ at + 0 = omega arith in
     (n, enough, after_none (filters_within n asks (left_from at rest)) ∙ ap (λ (k : ℕ). filters_within n asks (left_from k rest) >>= after []) place)
-within_behind zero asks at (f ∷ fs) rest each enough =
+within_after zero asks at (f ∷ fs) rest each enough =
     absurd (omega (arith, enough, length-append (asked_spelling f ++ filters_spelling fs) rest, length-append (asked_spelling f) (filters_spelling fs), filter_some f))
-within_behind (suc n) asks at (f ∷ fs) rest each enough =
-    let behind : List ℕ = filters_spelling fs ++ rest in
+within_after (suc n) asks at (f ∷ fs) rest each enough =
+    let trailing : List ℕ = filters_spelling fs ++ rest in
     let there : ℕ = at + length (asked_spelling f) in
-    let parts : filters_spelling (f ∷ fs) ++ rest ≡ asked_spelling f ++ behind = append_assoc (asked_spelling f) (filters_spelling fs) rest in
-    let size : length (asked_spelling f ++ behind) ≡ length (asked_spelling f) + length behind = length-append (asked_spelling f) behind in
-    let whole : length (filters_spelling (f ∷ fs) ++ rest) ≡ length (asked_spelling f ++ behind) = ap (λ (l : List ℕ). length l) parts in
-    let more = within_behind n asks there fs rest each.1 (omega (arith, enough, whole, size, filter_some f)) in
+    let parts : filters_spelling (f ∷ fs) ++ rest ≡ asked_spelling f ++ trailing = append_assoc (asked_spelling f) (filters_spelling fs) rest in
+    let size : length (asked_spelling f ++ trailing) ≡ length (asked_spelling f) + length trailing = length-append (asked_spelling f) trailing in
+    let whole : length (filters_spelling (f ∷ fs) ++ rest) ≡ length (asked_spelling f ++ trailing) = ap (λ (l : List ℕ). length l) parts in
+    let more = within_after n asks there fs rest each.1 (omega (arith, enough, whole, size, filter_some f)) in
     let place : there + length (filters_spelling fs) ≡ at + length (filters_spelling (f ∷ fs)) = omega (arith, length-append (asked_spelling f) (filters_spelling fs)) in (
       more.0,
       more.1,
       ap (λ (bytes : List ℕ). filters_within (suc n) asks (left_from at bytes)) parts
-          ∙ step n asks (left_from at (asked_spelling f ++ behind)) (λ e. omega (arith, ap (λ (l : List ℕ). length l) e, size, filter_some f))
-          ∙ ap (λ (r : Result (AskedFilter × Left) DecodeFault). r >>= onwards n asks) (filter_spelled asks at f behind each.0)
+          ∙ step n asks (left_from at (asked_spelling f ++ trailing)) (λ e. omega (arith, ap (λ (l : List ℕ). length l) e, size, filter_some f))
+          ∙ ap (λ (r : Result (AskedFilter × Left) DecodeFault). r >>= onwards n asks) (filter_spelled asks at f trailing each.0)
           ∙ ap (λ (r : Result (List AskedFilter) DecodeFault). r >>= first_of f) more.2
           ∙ after_first f fs (filters_within more.0 asks (left_from (there + length (filters_spelling fs)) rest))
           ∙ ap (λ (k : ℕ). filters_within more.0 asks (left_from k rest) >>= after (f ∷ fs)) place,
@@ -267,7 +267,7 @@ on_some asks left some = ap (λ (t : Bool). if t then Err (broken left.at rules.
 within_all : (n : ℕ) (asks : Bool) (at : ℕ) (fs : List AskedFilter) → AllByRecursion (IsAsked asks) fs → length (filters_spelling fs) ≤ n → filters_within n asks (left_from at (filters_spelling fs)) ≡ given fs
 within_all n asks at fs each enough =
     let whole : filters_spelling fs ≡ filters_spelling fs ++ [] = sym (append-nil (filters_spelling fs)) in
-    let read = within_behind n asks at fs [] each (omega (arith, enough, ap (λ (l : List ℕ). length l) whole)) in
+    let read = within_after n asks at fs [] each (omega (arith, enough, ap (λ (l : List ℕ). length l) whole)) in
     ap (λ (bytes : List ℕ). filters_within n asks (left_from at bytes)) whole
     ∙ read.2
     ∙ ap (λ (r : Result (List AskedFilter) DecodeFault). r >>= after fs) (finish read.0 asks (at + length (filters_spelling fs)))
@@ -288,16 +288,16 @@ filters_none asks left none = rw none refl
 pub filters_bad : (asks : Bool) (left : Left) (fault : DecodeFault) → AreBytes left.rest → BadFilter asks left.at left.rest fault → filters_on asks left ≡ Err fault
 filters_bad asks left fault known h =
     let there : ℕ = left.at + length (filters_spelling h.good) in
-    let read = within_behind (length left.rest) asks left.at h.good h.others h.each (omega (arith, ap (λ (l : List ℕ). length l) h.parts)) in
+    let read = within_after (length left.rest) asks left.at h.good h.others h.each (omega (arith, ap (λ (l : List ℕ). length l) h.parts)) in
     let refused : filter_on asks (left_from there h.others) ≡ failed fault = fail_filter asks there h.others (AreBytes-after (filters_spelling h.good) h.others left.rest known h.parts) fault h.refused in
-    on_some asks left (λ e. h.some (nothing_behind (filters_spelling h.good) h.others (sym h.parts ∙ e)))
+    on_some asks left (λ e. h.some (nothing_after (filters_spelling h.good) h.others (sym h.parts ∙ e)))
     ∙ ap (λ (bytes : List ℕ). filters_within (length left.rest) asks (left_from left.at bytes)) h.parts
     ∙ read.2
     ∙ ap (λ (r : Result (List AskedFilter) DecodeFault). r >>= after h.good) (stops read.0 there h.others read.1 h.some refused)
   where
-    nothing_behind : (front back : List ℕ) → front ++ back ≡ [] → back ≡ []
-    nothing_behind [] back e = e
-    nothing_behind (a ∷ front) back e = absurd cc
+    nothing_after : (front back : List ℕ) → front ++ back ≡ [] → back ≡ []
+    nothing_after [] back e = e
+    nothing_after (a ∷ front) back e = absurd cc
 
     stops : (m there : ℕ) (others : List ℕ) → length others ≤ m → others ≢ [] → filter_on asks (left_from there others) ≡ failed fault → filters_within m asks (left_from there others) ≡ failed fault
     stops zero there others enough some e = absurd (some (nil_at others (omega (arith, enough))))
@@ -314,7 +314,7 @@ module _ (asks : Bool) (at : ℕ) (bytes : List ℕ) where
   one_more : (x : AskedFilter × Left) → TakesFilter asks at bytes x → (r : Result (List AskedFilter) DecodeFault) → ComeTo asks x.1.at x.1.rest r → ComeTo asks at bytes (r >>= first_of x.0)
   one_more x first (Ok fs) h = ((first.asked, h.0), first.parts ∙ ap (λ (l : List ℕ). asked_spelling x.0 ++ l) h.1)
   one_more x first (Err fault) h =
-      let place : x.1.at + length (filters_spelling h.good) ≡ at + length (filters_spelling (x.0 ∷ h.good)) = omega (arith, ap (λ (l : Left). l.at) first.behind, length-append (asked_spelling x.0) (filters_spelling h.good)) in
+      let place : x.1.at + length (filters_spelling h.good) ≡ at + length (filters_spelling (x.0 ∷ h.good)) = omega (arith, ap (λ (l : Left). l.at) first.trailing, length-append (asked_spelling x.0) (filters_spelling h.good)) in
       record {
         good = x.0 ∷ h.good;
         each = (first.asked, h.each);
@@ -459,7 +459,7 @@ module _ (asks : Bool) (start left : Left) (known : AreBytes start.rest) (at : G
             ∙ ap (λ (rest : List ℕ). filters_spelling at.before ++ rest) first.parts
             ∙ sym (append_assoc (filters_spelling at.before) (asked_spelling f) new.rest)
             ∙ ap (λ (front : List ℕ). front ++ new.rest) (sym grown);
-        place = omega (arith, at.place, size, ap (λ (l : Left). l.at) first.behind);
+        place = omega (arith, at.place, size, ap (λ (l : Left). l.at) first.trailing);
         some = λ none. absurd (more_some at.before f none);
       }
 

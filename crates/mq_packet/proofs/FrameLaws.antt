@@ -6,7 +6,7 @@ use Rattle.std.proofs.lemmas.List.{length-take-le, take-append-drop}
 use Rattle.mq_wire.specs.declared.fault.Reason.{Reason}
 use Rattle.mq_wire.specs.declared.fault.Reason.TheVariants as reasons
 use Rattle.mq_wire.specs.Fields.{varint_at}
-use Rattle.mq_wire.specs.Spellings.{AreBytes, IsVarint, Stands, varint_spelling}
+use Rattle.mq_wire.specs.Spellings.{AreBytes, IsVarint, BeginsWith, varint_spelling}
 use Rattle.mq_wire.proofs.Exports.{AreBytes-drop, varint_exact}
 use Rattle.mq_packet.specs.declared.header.FixedHeader.{FixedHeader}
 use Rattle.mq_packet.specs.declared.header.FixedHeader.TheVariants as headers
@@ -31,69 +31,69 @@ end_in (Frame first start end) = end
 end_in _ = 0
 
 -- A number after the first byte, and as many bytes after it, are a frame.
-module _ (b : ℕ) (behind : List ℕ) (n taken : ℕ) (known : AreBytes behind) (read : varint_at behind ≡ Ok (n, taken)) (fits : 1 + taken + n ≤ length (b ∷ behind)) where
-  body_fits : n ≤ length (drop taken behind)
-  body_fits = omega (arith, fits, length-drop taken behind)
+module _ (b : ℕ) (trailing : List ℕ) (n taken : ℕ) (known : AreBytes trailing) (read : varint_at trailing ≡ Ok (n, taken)) (fits : 1 + taken + n ≤ length (b ∷ trailing)) where
+  body_fits : n ≤ length (drop taken trailing)
+  body_fits = omega (arith, fits, length-drop taken trailing)
 
-  body_length : length (take n (drop taken behind)) ≡ n
-  body_length = length-take-le n (drop taken behind) body_fits
+  body_length : length (take n (drop taken trailing)) ≡ n
+  body_length = length-take-le n (drop taken trailing) body_fits
 
-  spelled : Stands IsVarint varint_spelling behind n taken
-  spelled = varint_exact.only behind n taken known read
+  spelled : BeginsWith IsVarint varint_spelling trailing n taken
+  spelled = varint_exact.only trailing n taken known read
 
-  is_frame : BeginsWithFrame (b ∷ behind) b (1 + taken) (1 + taken + n)
+  is_frame : BeginsWithFrame (b ∷ trailing) b (1 + taken) (1 + taken + n)
   unfolding body_start
   is_frame =
-      (let size : length (take n (drop taken behind)) ≡ n = body_length in
-      let parts : take n (drop taken behind) ++ drop n (drop taken behind) ≡ drop taken behind = take-append-drop n (drop taken behind) in
-      let whole : behind ≡ varint_spelling n ++ (take n (drop taken behind) ++ drop n (drop taken behind)) = spelled.spelled ∙ ap (λ (l : List ℕ). varint_spelling n ++ l) (sym parts) in
+      (let size : length (take n (drop taken trailing)) ≡ n = body_length in
+      let parts : take n (drop taken trailing) ++ drop n (drop taken trailing) ≡ drop taken trailing = take-append-drop n (drop taken trailing) in
+      let whole : trailing ≡ varint_spelling n ++ (take n (drop taken trailing) ++ drop n (drop taken trailing)) = spelled.spelled ∙ ap (λ (l : List ℕ). varint_spelling n ++ l) (sym parts) in
       record {
-        body = take n (drop taken behind);
-        behind = drop n (drop taken behind);
+        body = take n (drop taken trailing);
+        trailing = drop n (drop taken trailing);
         small = omega (arith, size, spelled.value);
-        is = ap (λ (l : List ℕ). b ∷ l) (whole ∙ ap (λ (k : ℕ). varint_spelling k ++ (take n (drop taken behind) ++ drop n (drop taken behind))) (sym size));
+        is = ap (λ (l : List ℕ). b ∷ l) (whole ∙ ap (λ (k : ℕ). varint_spelling k ++ (take n (drop taken trailing) ++ drop n (drop taken trailing))) (sym size));
         start_is = ap (λ (k : ℕ). 1 + k) (spelled.taken ∙ ap (λ (k : ℕ). length (varint_spelling k)) (sym size));
         end_is = ap (λ (k : ℕ). 1 + taken + k) (sym size);
       })
 
 -- A frame comes of a number.
-cut_at : (b : ℕ) (behind : List ℕ) (read : Result (ℕ × ℕ) Reason) → varint_at behind ≡ read → AreBytes behind → (first start end : ℕ) → cut_by (b ∷ behind) (header_with read) ≡ Frame first start end → BeginsWithFrame (b ∷ behind) first start end
-cut_at b behind (Ok x) e known first start end h =
-    elim (nat_le (1 + x.1 + x.0) (length (b ∷ behind))) as (λ t. nat_le (1 + x.1 + x.0) (length (b ∷ behind)) ≡ t → (if t then Frame b (1 + x.1) (1 + x.1 + x.0) else Need) ≡ Frame first start end → BeginsWithFrame (b ∷ behind) first start end) [
-      | true ↦ λ fits h. (let fit : 1 + x.1 + x.0 ≤ length (b ∷ behind) = leb-true (1 + x.1 + x.0) (length (b ∷ behind)) fits in
-          let frame : BeginsWithFrame (b ∷ behind) b (1 + x.1) (1 + x.1 + x.0) = is_frame b behind x.0 x.1 known e fit in
-          let P : ℕ → Type 0 = λ k. BeginsWithFrame (b ∷ behind) k (1 + x.1) (1 + x.1 + x.0) in
-          let Q : ℕ → Type 0 = λ k. BeginsWithFrame (b ∷ behind) first k (1 + x.1 + x.0) in
-          let R : ℕ → Type 0 = λ k. BeginsWithFrame (b ∷ behind) first start k in
+cut_at : (b : ℕ) (trailing : List ℕ) (read : Result (ℕ × ℕ) Reason) → varint_at trailing ≡ read → AreBytes trailing → (first start end : ℕ) → cut_by (b ∷ trailing) (header_with read) ≡ Frame first start end → BeginsWithFrame (b ∷ trailing) first start end
+cut_at b trailing (Ok x) e known first start end h =
+    elim (nat_le (1 + x.1 + x.0) (length (b ∷ trailing))) as (λ t. nat_le (1 + x.1 + x.0) (length (b ∷ trailing)) ≡ t → (if t then Frame b (1 + x.1) (1 + x.1 + x.0) else Need) ≡ Frame first start end → BeginsWithFrame (b ∷ trailing) first start end) [
+      | true ↦ λ fits h. (let fit : 1 + x.1 + x.0 ≤ length (b ∷ trailing) = leb-true (1 + x.1 + x.0) (length (b ∷ trailing)) fits in
+          let frame : BeginsWithFrame (b ∷ trailing) b (1 + x.1) (1 + x.1 + x.0) = is_frame b trailing x.0 x.1 known e fit in
+          let P : ℕ → Type 0 = λ k. BeginsWithFrame (b ∷ trailing) k (1 + x.1) (1 + x.1 + x.0) in
+          let Q : ℕ → Type 0 = λ k. BeginsWithFrame (b ∷ trailing) first k (1 + x.1 + x.0) in
+          let R : ℕ → Type 0 = λ k. BeginsWithFrame (b ∷ trailing) first start k in
           subst R (ap end_in h) (subst Q (ap start_in h) (subst P (ap first_in h) frame)))
       | false ↦ λ fits h. (cc)
     ] refl h
-cut_at b behind (Err reasons.Short) e known first start end h = (cc)
-cut_at b behind (Err reasons.Overlong) e known first start end h = (cc)
-cut_at b behind (Err reasons.NotUtf8) e known first start end h = (cc)
-cut_at b behind (Err reasons.Nul) e known first start end h = (cc)
+cut_at b trailing (Err reasons.Short) e known first start end h = (cc)
+cut_at b trailing (Err reasons.Overlong) e known first start end h = (cc)
+cut_at b trailing (Err reasons.NotUtf8) e known first start end h = (cc)
+cut_at b trailing (Err reasons.Nul) e known first start end h = (cc)
 
 pub frame_begins : (bytes : List ℕ) → AreBytes bytes → (first start end : ℕ) → cut_of bytes ≡ Frame first start end → BeginsWithFrame bytes first start end
 unfolding cut_of fixed_header_of
 frame_begins [] known first start end h = (cc)
-frame_begins (b ∷ behind) known first start end h = cut_at b behind (varint_at behind) refl (AreBytes-drop 1 (b ∷ behind) known) first start end h
+frame_begins (b ∷ trailing) known first start end h = cut_at b trailing (varint_at trailing) refl (AreBytes-drop 1 (b ∷ trailing) known) first start end h
 
 -- What begins with a frame is cut so.
-cut_frame : (first : ℕ) (body behind : List ℕ) → length body ≤ 268435455 → cut_of (first ∷ (varint_spelling (length body) ++ (body ++ behind))) ≡ Frame first (1 + length (varint_spelling (length body))) (1 + length (varint_spelling (length body)) + length body)
+cut_frame : (first : ℕ) (body trailing : List ℕ) → length body ≤ 268435455 → cut_of (first ∷ (varint_spelling (length body) ++ (body ++ trailing))) ≡ Frame first (1 + length (varint_spelling (length body))) (1 + length (varint_spelling (length body)) + length body)
 unfolding cut_of fixed_header_of
-cut_frame first body behind small =
+cut_frame first body trailing small =
     (let size : ℕ = length body in
-    let all : List ℕ = varint_spelling (length body) ++ (body ++ behind) in
-    let read : varint_at (varint_spelling (length body) ++ (body ++ behind)) ≡ Ok (length body, length (varint_spelling (length body))) = varint_exact.all (length body) (body ++ behind) small in
-    let counted : length (varint_spelling (length body) ++ (body ++ behind)) ≡ length (varint_spelling (length body)) + (length body + length behind) = simp length-append in
-    let fits : 1 + length (varint_spelling (length body)) + length body ≤ length (first ∷ (varint_spelling (length body) ++ (body ++ behind))) = omega (arith, counted) in
-    ap (λ (r : Result (ℕ × ℕ) Reason). cut_by (first ∷ (varint_spelling (length body) ++ (body ++ behind))) (header_with r)) read
-    ∙ ap (λ (t : Bool). if t then Frame first (1 + length (varint_spelling (length body))) (1 + length (varint_spelling (length body)) + length body) else Need) (le-leb (1 + length (varint_spelling (length body)) + length body) (length (first ∷ (varint_spelling (length body) ++ (body ++ behind)))) fits))
+    let all : List ℕ = varint_spelling (length body) ++ (body ++ trailing) in
+    let read : varint_at (varint_spelling (length body) ++ (body ++ trailing)) ≡ Ok (length body, length (varint_spelling (length body))) = varint_exact.all (length body) (body ++ trailing) small in
+    let counted : length (varint_spelling (length body) ++ (body ++ trailing)) ≡ length (varint_spelling (length body)) + (length body + length trailing) = simp length-append in
+    let fits : 1 + length (varint_spelling (length body)) + length body ≤ length (first ∷ (varint_spelling (length body) ++ (body ++ trailing))) = omega (arith, counted) in
+    ap (λ (r : Result (ℕ × ℕ) Reason). cut_by (first ∷ (varint_spelling (length body) ++ (body ++ trailing))) (header_with r)) read
+    ∙ ap (λ (t : Bool). if t then Frame first (1 + length (varint_spelling (length body))) (1 + length (varint_spelling (length body)) + length body) else Need) (le-leb (1 + length (varint_spelling (length body)) + length body) (length (first ∷ (varint_spelling (length body) ++ (body ++ trailing)))) fits))
 
 pub begins_cut : (bytes : List ℕ) (first start end : ℕ) → BeginsWithFrame bytes first start end → cut_of bytes ≡ Frame first start end
 unfolding body_start
 begins_cut bytes first start end h =
-    (let frame : cut_of (first ∷ (varint_spelling (length h.body) ++ (h.body ++ h.behind))) ≡ Frame first (1 + length (varint_spelling (length h.body))) (1 + length (varint_spelling (length h.body)) + length h.body) = cut_frame first h.body h.behind h.small in
+    (let frame : cut_of (first ∷ (varint_spelling (length h.body) ++ (h.body ++ h.trailing))) ≡ Frame first (1 + length (varint_spelling (length h.body))) (1 + length (varint_spelling (length h.body)) + length h.body) = cut_frame first h.body h.trailing h.small in
     let begin : 1 + length (varint_spelling (length h.body)) ≡ start = sym h.start_is in
     let finish : start + length h.body ≡ end = sym h.end_is in
     ap cut_of h.is ∙ frame ∙ ap (λ (k : ℕ). Frame first k (k + length h.body)) begin ∙ ap (λ (k : ℕ). Frame first start k) finish)

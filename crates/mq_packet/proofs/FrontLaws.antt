@@ -6,15 +6,15 @@ use Rattle.std.proofs.lemmas.List.{append-nil, drop_at, length-replicate}
 use Rattle.mq_wire.specs.declared.fault.Reason.{Reason}
 use Rattle.mq_wire.specs.declared.fault.Reason.TheVariants as reasons
 use Rattle.mq_wire.specs.Fields.{varint_at}
-use Rattle.mq_wire.specs.Misspelled.{IsCutShort, NoneStands}
-use Rattle.mq_wire.specs.Spellings.{AreBytes, IsVarint, Stands, varint_spelling}
+use Rattle.mq_wire.specs.Misspelled.{IsCutShort, BeginsWithNone}
+use Rattle.mq_wire.specs.Spellings.{AreBytes, IsVarint, BeginsWith, varint_spelling}
 use Rattle.mq_wire.proofs.Exports.{AreBytes-drop, varint_refused, varint_exact}
 use Rattle.mq_packet.specs.declared.frame.Cut.{Cut}
 use Rattle.mq_packet.specs.declared.frame.Cut.TheVariants.{Need, Frame, Lost}
 use Rattle.mq_packet.specs.Stream.{header_with, fixed_header_of, remaining_length_at, is_overlong, is_lost}
 use Rattle.mq_packet.specs.Decoding.{body_start}
 use Rattle.mq_packet.specs.Frames.{BeginsWithFrame, cut_by, cut_of}
-use Rattle.mq_packet.specs.Fronts.{IsBeginning, BeginsWithNumber, IsPrefixOfNumber, IsLost, StandsAtFront}
+use Rattle.mq_packet.specs.Fronts.{IsBeginning, BeginsWithNumber, IsPrefixOfNumber, IsLost, IsCutOf}
 use Rattle.mq_packet.proofs.StreamLaws.{is_lost_stays}
 use Rattle.mq_packet.proofs.FrameLaws.{end_in, frame_begins, begins_cut, lost_exactly}
 
@@ -25,7 +25,7 @@ zeros n = replicate n 0
 -- ---- lost
 
 -- A number that stands at the front, in the words of a reading.
-number_stands : (bytes : List ℕ) (h : BeginsWithNumber bytes) → Stands IsVarint varint_spelling bytes h.number (length (varint_spelling h.number))
+number_stands : (bytes : List ℕ) (h : BeginsWithNumber bytes) → BeginsWith IsVarint varint_spelling bytes h.number (length (varint_spelling h.number))
 number_stands bytes h =
     record {
       value = h.small;
@@ -33,14 +33,14 @@ number_stands bytes h =
       spelled = h.is ∙ ap (λ (l : List ℕ). varint_spelling h.number ++ l) (sym (drop_at (varint_spelling h.number) h.following (length (varint_spelling h.number)) refl) ∙ ap (drop (length (varint_spelling h.number))) (sym h.is));
     }
 
-no_number_from : (bytes : List ℕ) → NoneStands IsVarint varint_spelling bytes → ¬ BeginsWithNumber bytes
+no_number_from : (bytes : List ℕ) → BeginsWithNone IsVarint varint_spelling bytes → ¬ BeginsWithNumber bytes
 no_number_from bytes none h = none h.number (length (varint_spelling h.number)) (number_stands bytes h)
 
-none_from : (bytes : List ℕ) → ¬ BeginsWithNumber bytes → NoneStands IsVarint varint_spelling bytes
+none_from : (bytes : List ℕ) → ¬ BeginsWithNumber bytes → BeginsWithNone IsVarint varint_spelling bytes
 none_from bytes never n taken h = never (record { number = n; following = drop taken bytes; small = h.value; is = h.spelled })
 
 -- A prefix of a number is cut short, or is all of it.
-no_prefix_from : (bytes : List ℕ) → (¬ IsCutShort IsVarint varint_spelling bytes) → NoneStands IsVarint varint_spelling bytes → ¬ IsPrefixOfNumber bytes
+no_prefix_from : (bytes : List ℕ) → (¬ IsCutShort IsVarint varint_spelling bytes) → BeginsWithNone IsVarint varint_spelling bytes → ¬ IsPrefixOfNumber bytes
 no_prefix_from bytes not_cut none h = by_missing h.missing h.whole
   where
     by_missing : (missing : List ℕ) → varint_spelling h.number ≡ bytes ++ missing → ⊥
@@ -60,9 +60,9 @@ overlong_is (Err reasons.Nul) e = absurd (cc)
 lost_front : (bytes : List ℕ) → AreBytes bytes → is_lost bytes ≡ true → IsLost bytes
 unfolding is_lost
 lost_front [] known e = absurd (cc)
-lost_front (b ∷ behind) known e =
-    (let none = (varint_refused.overlong behind (AreBytes-drop 1 (b ∷ behind) known)).0 (overlong_is (varint_at behind) e) in
-    record { first = b; following = behind; is = refl; no_number = no_number_from behind none.1; no_prefix = no_prefix_from behind none.0 none.1 })
+lost_front (b ∷ trailing) known e =
+    (let none = (varint_refused.overlong trailing (AreBytes-drop 1 (b ∷ trailing) known)).0 (overlong_is (varint_at trailing) e) in
+    record { first = b; following = trailing; is = refl; no_number = no_number_from trailing none.1; no_prefix = no_prefix_from trailing none.0 none.1 })
 
 front_lost : (bytes : List ℕ) → AreBytes bytes → IsLost bytes → is_lost bytes ≡ true
 unfolding is_lost
@@ -74,8 +74,8 @@ front_lost bytes known h =
 -- ---- the beginning of a packet
 
 -- A number whose bytes aren't all there.
-module _ (b : ℕ) (behind : List ℕ) where
-  cut_number : IsCutShort IsVarint varint_spelling behind → IsBeginning (b ∷ behind)
+module _ (b : ℕ) (trailing : List ℕ) where
+  cut_number : IsCutShort IsVarint varint_spelling trailing → IsBeginning (b ∷ trailing)
   cut_number h =
       (let size : length (zeros h.value) ≡ h.value = length-replicate h.value 0 in
       record {
@@ -84,43 +84,43 @@ module _ (b : ℕ) (behind : List ℕ) where
         missing = h.missing ++ zeros h.value;
         small = omega (arith, size, h.is_value);
         some_missing = omega (arith, length-append h.missing (zeros h.value), h.some_missing);
-        whole = ap (λ (l : List ℕ). b ∷ l) (ap (λ (n : ℕ). varint_spelling n ++ zeros h.value) size ∙ (ap (λ (l : List ℕ). l ++ zeros h.value) h.whole ∙ append_assoc behind h.missing (zeros h.value)));
+        whole = ap (λ (l : List ℕ). b ∷ l) (ap (λ (n : ℕ). varint_spelling n ++ zeros h.value) size ∙ (ap (λ (l : List ℕ). l ++ zeros h.value) h.whole ∙ append_assoc trailing h.missing (zeros h.value)));
       })
 
   -- A number, and not as many bytes after it.
-  cut_body : (n taken : ℕ) → AreBytes behind → varint_at behind ≡ Ok (n, taken) → length (b ∷ behind) < 1 + taken + n → IsBeginning (b ∷ behind)
+  cut_body : (n taken : ℕ) → AreBytes trailing → varint_at trailing ≡ Ok (n, taken) → length (b ∷ trailing) < 1 + taken + n → IsBeginning (b ∷ trailing)
   cut_body n taken known read lacks =
-      (let stands : Stands IsVarint varint_spelling behind n taken = varint_exact.only behind n taken known read in
-      let front : length behind ≡ length (varint_spelling n) + length (drop taken behind) = ap (length {A = ℕ}) stands.spelled ∙ length-append (varint_spelling n) (drop taken behind) in
-      let filled : length (zeros (n - length (drop taken behind))) ≡ n - length (drop taken behind) = length-replicate (n - length (drop taken behind)) 0 in
-      let whole : length (drop taken behind ++ zeros (n - length (drop taken behind))) ≡ length (drop taken behind) + length (zeros (n - length (drop taken behind))) = length-append (drop taken behind) (zeros (n - length (drop taken behind))) in
-      let size : length (drop taken behind ++ zeros (n - length (drop taken behind))) ≡ n = omega (arith, filled, whole, front, stands.taken, lacks) in
+      (let stands : BeginsWith IsVarint varint_spelling trailing n taken = varint_exact.only trailing n taken known read in
+      let front : length trailing ≡ length (varint_spelling n) + length (drop taken trailing) = ap (length {A = ℕ}) stands.spelled ∙ length-append (varint_spelling n) (drop taken trailing) in
+      let filled : length (zeros (n - length (drop taken trailing))) ≡ n - length (drop taken trailing) = length-replicate (n - length (drop taken trailing)) 0 in
+      let whole : length (drop taken trailing ++ zeros (n - length (drop taken trailing))) ≡ length (drop taken trailing) + length (zeros (n - length (drop taken trailing))) = length-append (drop taken trailing) (zeros (n - length (drop taken trailing))) in
+      let size : length (drop taken trailing ++ zeros (n - length (drop taken trailing))) ≡ n = omega (arith, filled, whole, front, stands.taken, lacks) in
       record {
         first = b;
-        body = drop taken behind ++ zeros (n - length (drop taken behind));
-        missing = zeros (n - length (drop taken behind));
+        body = drop taken trailing ++ zeros (n - length (drop taken trailing));
+        missing = zeros (n - length (drop taken trailing));
         small = omega (arith, size, stands.value);
         some_missing = omega (arith, filled, front, stands.taken, lacks);
-        whole = ap (λ (l : List ℕ). b ∷ l) (ap (λ (k : ℕ). varint_spelling k ++ (drop taken behind ++ zeros (n - length (drop taken behind)))) size
-            ∙ (sym (append_assoc (varint_spelling n) (drop taken behind) (zeros (n - length (drop taken behind)))) ∙ ap (λ (l : List ℕ). l ++ zeros (n - length (drop taken behind))) (sym stands.spelled)));
+        whole = ap (λ (l : List ℕ). b ∷ l) (ap (λ (k : ℕ). varint_spelling k ++ (drop taken trailing ++ zeros (n - length (drop taken trailing)))) size
+            ∙ (sym (append_assoc (varint_spelling n) (drop taken trailing) (zeros (n - length (drop taken trailing)))) ∙ ap (λ (l : List ℕ). l ++ zeros (n - length (drop taken trailing))) (sym stands.spelled)));
       })
 
-  need_at : (read : Result (ℕ × ℕ) Reason) → varint_at behind ≡ read → AreBytes behind → cut_by (b ∷ behind) (header_with read) ≡ Need → IsBeginning (b ∷ behind)
+  need_at : (read : Result (ℕ × ℕ) Reason) → varint_at trailing ≡ read → AreBytes trailing → cut_by (b ∷ trailing) (header_with read) ≡ Need → IsBeginning (b ∷ trailing)
   need_at (Ok x) e known h =
-      elim (nat_le (1 + x.1 + x.0) (length (b ∷ behind))) as (λ t. nat_le (1 + x.1 + x.0) (length (b ∷ behind)) ≡ t → (if t then Frame b (1 + x.1) (1 + x.1 + x.0) else Need) ≡ Need → IsBeginning (b ∷ behind)) [
+      elim (nat_le (1 + x.1 + x.0) (length (b ∷ trailing))) as (λ t. nat_le (1 + x.1 + x.0) (length (b ∷ trailing)) ≡ t → (if t then Frame b (1 + x.1) (1 + x.1 + x.0) else Need) ≡ Need → IsBeginning (b ∷ trailing)) [
         | true ↦ λ fits h. absurd (cc)
-        | false ↦ λ fits h. cut_body x.0 x.1 known e (leb-false (1 + x.1 + x.0) (length (b ∷ behind)) fits)
+        | false ↦ λ fits h. cut_body x.0 x.1 known e (leb-false (1 + x.1 + x.0) (length (b ∷ trailing)) fits)
       ] refl h
-  need_at (Err reasons.Short) e known h = cut_number ((varint_refused.short behind known).0 e)
+  need_at (Err reasons.Short) e known h = cut_number ((varint_refused.short trailing known).0 e)
   need_at (Err reasons.Overlong) e known h = absurd (cc)
-  need_at (Err reasons.NotUtf8) e known h = absurd (elim (varint_refused.only_so behind reasons.NotUtf8 e) [ inl short ↦ cc | inr over ↦ cc ])
-  need_at (Err reasons.Nul) e known h = absurd (elim (varint_refused.only_so behind reasons.Nul e) [ inl short ↦ cc | inr over ↦ cc ])
+  need_at (Err reasons.NotUtf8) e known h = absurd (elim (varint_refused.only_so trailing reasons.NotUtf8 e) [ inl short ↦ cc | inr over ↦ cc ])
+  need_at (Err reasons.Nul) e known h = absurd (elim (varint_refused.only_so trailing reasons.Nul e) [ inl short ↦ cc | inr over ↦ cc ])
 
 need_begins : (bytes : List ℕ) → AreBytes bytes → cut_of bytes ≡ Need → IsBeginning bytes
 unfolding cut_of fixed_header_of
 need_begins [] known h =
     record { first = 0; body = []; missing = 0 ∷ (varint_spelling 0 ++ []); small = omega arith; some_missing = omega arith; whole = refl }
-need_begins (b ∷ behind) known h = need_at b behind (varint_at behind) refl (AreBytes-drop 1 (b ∷ behind) known) h
+need_begins (b ∷ trailing) known h = need_at b trailing (varint_at trailing) refl (AreBytes-drop 1 (b ∷ trailing) known) h
 
 -- The packet of which the bytes are the beginning.
 module _ (bytes : List ℕ) (h : IsBeginning bytes) where
@@ -128,7 +128,7 @@ module _ (bytes : List ℕ) (h : IsBeginning bytes) where
   packet_begins =
       record {
         body = h.body;
-        behind = [];
+        trailing = [];
         small = h.small;
         is = sym h.whole ∙ ap (λ (l : List ℕ). h.first ∷ (varint_spelling (length h.body) ++ l)) (sym (append-nil h.body));
         start_is = refl;
@@ -154,17 +154,17 @@ module _ (bytes : List ℕ) (h : IsBeginning bytes) where
   frame_fits : (first start end : ℕ) → BeginsWithFrame bytes first start end → end ≤ length bytes
   unfolding body_start
   frame_fits first start end frame =
-      (let whole : length bytes ≡ length (first ∷ (varint_spelling (length frame.body) ++ (frame.body ++ frame.behind))) = ap (length {A = ℕ}) frame.is in
-      omega (arith, whole, frame.start_is, frame.end_is, length-append (varint_spelling (length frame.body)) (frame.body ++ frame.behind), length-append frame.body frame.behind))
+      (let whole : length bytes ≡ length (first ∷ (varint_spelling (length frame.body) ++ (frame.body ++ frame.trailing))) = ap (length {A = ℕ}) frame.is in
+      omega (arith, whole, frame.start_is, frame.end_is, length-append (varint_spelling (length frame.body)) (frame.body ++ frame.trailing), length-append frame.body frame.trailing))
 
   not_frame : AreBytes bytes → (first start end : ℕ) → cut_of bytes ≡ Frame first start end → ⊥
   not_frame known first start end e =
       (let frame : BeginsWithFrame bytes first start end = frame_begins bytes known first start end e in
       let longer : BeginsWithFrame (bytes ++ h.missing) first start end = record {
         body = frame.body;
-        behind = frame.behind ++ h.missing;
+        trailing = frame.trailing ++ h.missing;
         small = frame.small;
-        is = ap (λ (l : List ℕ). l ++ h.missing) frame.is ∙ ap (λ (l : List ℕ). first ∷ l) (append_assoc (varint_spelling (length frame.body)) (frame.body ++ frame.behind) h.missing ∙ ap (λ (l : List ℕ). varint_spelling (length frame.body) ++ l) (append_assoc frame.body frame.behind h.missing));
+        is = ap (λ (l : List ℕ). l ++ h.missing) frame.is ∙ ap (λ (l : List ℕ). first ∷ l) (append_assoc (varint_spelling (length frame.body)) (frame.body ++ frame.trailing) h.missing ∙ ap (λ (l : List ℕ). varint_spelling (length frame.body) ++ l) (append_assoc frame.body frame.trailing h.missing));
         start_is = frame.start_is;
         end_is = frame.end_is;
       } in
@@ -181,20 +181,20 @@ module _ (bytes : List ℕ) (h : IsBeginning bytes) where
 
 -- ---- which of the three
 
-pub front_of_cut : (bytes : List ℕ) → AreBytes bytes → (cut : Cut) → cut_of bytes ≡ cut → StandsAtFront bytes cut
+pub front_of_cut : (bytes : List ℕ) → AreBytes bytes → (cut : Cut) → cut_of bytes ≡ cut → IsCutOf bytes cut
 front_of_cut bytes known Need e = need_begins bytes known e
 front_of_cut bytes known (Frame first start end) e = frame_begins bytes known first start end e
 front_of_cut bytes known Lost e = lost_front bytes known ((lost_exactly bytes (cut_of bytes) refl).0 e)
 
-pub cut_of_front : (bytes : List ℕ) → AreBytes bytes → (cut : Cut) → StandsAtFront bytes cut → cut_of bytes ≡ cut
+pub cut_of_front : (bytes : List ℕ) → AreBytes bytes → (cut : Cut) → IsCutOf bytes cut → cut_of bytes ≡ cut
 cut_of_front bytes known Need h = begins_need bytes h known
 cut_of_front bytes known (Frame first start end) h = begins_cut bytes first start end h
 cut_of_front bytes known Lost h = (lost_exactly bytes (cut_of bytes) refl).1 (front_lost bytes known h)
 
-pub cut_exactly : (bytes : List ℕ) → AreBytes bytes → (cut : Cut) → (cut_of bytes ≡ cut) ↔ StandsAtFront bytes cut
+pub cut_exactly : (bytes : List ℕ) → AreBytes bytes → (cut : Cut) → (cut_of bytes ≡ cut) ↔ IsCutOf bytes cut
 cut_exactly bytes known cut = (front_of_cut bytes known cut, cut_of_front bytes known cut)
 
-pub one_front : (bytes : List ℕ) → AreBytes bytes → (cut : Cut) × StandsAtFront bytes cut × ((other : Cut) → StandsAtFront bytes other → cut ≡ other)
+pub one_front : (bytes : List ℕ) → AreBytes bytes → (cut : Cut) × IsCutOf bytes cut × ((other : Cut) → IsCutOf bytes other → cut ≡ other)
 one_front bytes known = (cut_of bytes, front_of_cut bytes known (cut_of bytes) refl, cut_of_front bytes known)
 
 -- ---- lost, by what may follow

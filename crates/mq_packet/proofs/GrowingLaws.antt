@@ -20,8 +20,8 @@ pub lacks_first : (capacity : ℕ) (held first rest : List ℕ) → LacksRoom ca
 lacks_first capacity held first rest lacks = record { is = omega (arith, lacks.is, length-append first rest) }
 
 -- after the first part
-pub lacks_behind : (capacity more : ℕ) (held behind first rest : List ℕ) → behind ≡ held ++ first → capacity ≤ more → LacksRoom more behind rest → LacksRoom capacity held (first ++ rest)
-lacks_behind capacity more held behind first rest is le lacks =
+pub lacks_after : (capacity more : ℕ) (held trailing first rest : List ℕ) → trailing ≡ held ++ first → capacity ≤ more → LacksRoom more trailing rest → LacksRoom capacity held (first ++ rest)
+lacks_after capacity more held trailing first rest is le lacks =
     record { is = omega (arith, ap length is, length-append held first, length-append first rest, le, lacks.is) }
 
 -- at a byte
@@ -29,8 +29,8 @@ pub lacks_byte : (capacity byte : ℕ) (held rest : List ℕ) → LacksRoom capa
 lacks_byte capacity byte held rest lacks = record { is = omega (arith, lacks.is) }
 
 -- after a byte
-pub lacks_behind_byte : (capacity more byte : ℕ) (held behind rest : List ℕ) → behind ≡ held ++ byte ∷ [] → capacity ≤ more → LacksRoom more behind rest → LacksRoom capacity held (byte ∷ rest)
-lacks_behind_byte capacity more byte held behind rest is le lacks =
+pub lacks_after_byte : (capacity more byte : ℕ) (held trailing rest : List ℕ) → trailing ≡ held ++ byte ∷ [] → capacity ≤ more → LacksRoom more trailing rest → LacksRoom capacity held (byte ∷ rest)
+lacks_after_byte capacity more byte held trailing rest is le lacks =
     record { is = omega (arith, ap length is, length-append held (byte ∷ []), le, lacks.is) }
 
 -- ---- the fields

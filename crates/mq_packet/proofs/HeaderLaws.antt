@@ -58,10 +58,10 @@ header_takes n header size _ all e = absurd (cc)
 -- A fixed header that was short, and is whole with one byte more, ends with that byte.
 pub ends_header : (a : List ℕ) (byte header size : ℕ) → fixed_header_of a ≡ headers.Short → fixed_header_of (a ++ byte ∷ []) ≡ headers.Whole header size → header ≡ length (a ++ byte ∷ [])
 unfolding fixed_header_of varint_at
-ends_header [] byte header size short whole = absurd (nothing_behind whole)
+ends_header [] byte header size short whole = absurd (nothing_after whole)
   where
-    nothing_behind : header_with (remaining_length_at (byte ∷ [])) ≡ headers.Whole header size → ⊥
-    nothing_behind e = (cc)
+    nothing_after : header_with (remaining_length_at (byte ∷ [])) ≡ headers.Whole header size → ⊥
+    nothing_after e = (cc)
 ends_header (first ∷ a) byte header size short whole =
     (let all : header ≡ 1 + length (a ++ byte ∷ []) = header_takes (length (a ++ byte ∷ [])) header size (varint_at (a ++ byte ∷ [])) (number_takes a byte short) whole in
     let same : 1 + length (a ++ byte ∷ []) ≡ length ((first ∷ a) ++ byte ∷ []) = omega arith in

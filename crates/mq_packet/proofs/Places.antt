@@ -18,7 +18,7 @@ use Rattle.mq_packet.specs.declared.fault.DecodeFault.{DecodeFault}
 use Rattle.mq_packet.specs.declared.fault.DecodeFault.TheVariants.{Broken, OtherVersion}
 use Rattle.mq_packet.specs.Entries.{Entry, AskedFilter}
 use Rattle.mq_packet.specs.Formats.{Kind, byte, two_bytes, text, binary, properties, ValueOf, Objection, breaks, other_version, is_code, filter_objection, options_objection, Format, done, rest, all_codes, all_filters, bad_first_byte, field, at_end, format_of}
-use Rattle.mq_packet.specs.Decoding.{broken, objected, spelled, spelled_list, field_on, unless, read_field, codes_on, some_options, options_on, with_options, options_behind, filter_on, filters_within, filters_on, read}
+use Rattle.mq_packet.specs.Decoding.{broken, objected, spelled, spelled_list, field_on, unless, read_field, codes_on, some_options, options_on, with_options, options_after, filter_on, filters_within, filters_on, read}
 use Rattle.mq_packet.proofs.Readings.{by_field, by_objection}
 
 -- The place after the last byte that is left.
@@ -47,8 +47,8 @@ list_end place left ps new e =
     let size : named.0 ≤ length left.rest = subst (λ (r : Result (ℕ × ℕ) Reason). taken_by r ≤ length left.rest) named.1 (varint_within left.rest) in
     let first : end_of len.0.1 ≡ end_of (past left named.0) = ap end_of named.2 in
     let made : List Property × Left = (read.0, past len.0.1 len.0.0) in
-    let behind : end_of (past len.0.1 len.0.0) ≡ end_of new = ap (λ (x : List Property × Left). end_of x.1) (done_is made (ps, new) read.2) in
-    omega (arith, first, behind, enough, size, length-drop len.0.0 len.0.1.rest, length-drop named.0 left.rest)
+    let trailing : end_of (past len.0.1 len.0.0) ≡ end_of new = ap (λ (x : List Property × Left). end_of x.1) (done_is made (ps, new) read.2) in
+    omega (arith, first, trailing, enough, size, length-drop len.0.0 len.0.1.rest, length-drop named.0 left.rest)
 
 list_ends : (place : Place) (left : Left) (r : Result (List Property × Left) PropFault) → list_on place left ≡ r → Ends (end_of left) (spelled_list r)
 list_ends place left (Ok x) e = list_end place left x.0 x.1 e
@@ -139,8 +139,8 @@ options_on_end : (asks : Bool) (left : Left) → Ends (end_of left) (options_on 
 options_on_end false left = omega arith
 options_on_end true left = byte_end (end_of left) (read_field byte options_objection left) (read_ends byte options_objection left)
 
-text_end : (asks : Bool) (last : ℕ) (found : Result (List ℕ × Left) DecodeFault) → Ends last found → Ends last (found >>= options_behind asks)
-text_end asks last (Ok x) h = ends_before (end_of x.1) last (options_behind asks x) h (options_end (end_of x.1) x.0 (options_on asks x.1) (options_on_end asks x.1))
+text_end : (asks : Bool) (last : ℕ) (found : Result (List ℕ × Left) DecodeFault) → Ends last found → Ends last (found >>= options_after asks)
+text_end asks last (Ok x) h = ends_before (end_of x.1) last (options_after asks x) h (options_end (end_of x.1) x.0 (options_on asks x.1) (options_on_end asks x.1))
 text_end asks last (Err (Broken fault)) h = h
 text_end asks last (Err (OtherVersion version)) h = tt
 

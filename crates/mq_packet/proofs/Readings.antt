@@ -48,7 +48,7 @@ module _ (kind : Kind) (objection : ValueOf kind → Option Objection) (next : V
       (let there : ℕ = at + length (spelling kind x.0) in
       let P : Left → Type 0 = λ l. Is (next x.0) there x.1.rest (read (next x.0) l) in
       let found : P (left_from there x.1.rest) = later x.0 there x.1.rest (AreBytes-after (spelling kind x.0) x.1.rest bytes known front.begin.spelled) in
-      good_next x.0 x.1.rest front.begin none (read (next x.0) x.1) (subst P (sym front.behind) found))
+      good_next x.0 x.1.rest front.begin none (read (next x.0) x.1) (subst P (sym front.trailing) found))
   spelled_is later x front (Some why) some = inr (inl (why, (x.0, x.1.rest, front.begin, some), refl))
 
   field_is : ((value : ValueOf kind) → IsRead (next value)) → (found : Result (ValueOf kind × Left) DecodeFault) → field_on kind (left_from at bytes) ≡ found → Is (field kind objection next) at bytes (by_field kind objection next at found)

@@ -96,14 +96,14 @@ two_ends code items one two (inr (inr a)) (inr (inl b)) = inr (none_is items a.0
 two_ends code items one two (inr (inr a)) (inr (inr b)) = inl (a.2 ∙ sym b.2)
 
 -- After the same bytes they are the same to each other.
-short_behind : (front short long : List ℕ) → IsShortFor short long → IsShortFor (front ++ short) (front ++ long)
-short_behind front short long (inl e) = inl (ap (λ (l : List ℕ). front ++ l) e ∙ sym (append_assoc front short (0 ∷ [])))
-short_behind front short long (inr e) = inr (ap (λ (l : List ℕ). front ++ l) e ∙ sym (append_assoc front short (0 ∷ 0 ∷ [])))
+short_after : (front short long : List ℕ) → IsShortFor short long → IsShortFor (front ++ short) (front ++ long)
+short_after front short long (inl e) = inl (ap (λ (l : List ℕ). front ++ l) e ∙ sym (append_assoc front short (0 ∷ [])))
+short_after front short long (inr e) = inr (ap (λ (l : List ℕ). front ++ l) e ∙ sym (append_assoc front short (0 ∷ 0 ∷ [])))
 
-ends_behind : (items : List Property) (front one two : List ℕ) → TwoEnds items one two → TwoEnds items (front ++ one) (front ++ two)
-ends_behind items front one two (inl e) = inl (ap (λ (l : List ℕ). front ++ l) e)
-ends_behind items front one two (inr (none, inl short)) = inr (none, inl (short_behind front one two short))
-ends_behind items front one two (inr (none, inr short)) = inr (none, inr (short_behind front two one short))
+ends_after : (items : List Property) (front one two : List ℕ) → TwoEnds items one two → TwoEnds items (front ++ one) (front ++ two)
+ends_after items front one two (inl e) = inl (ap (λ (l : List ℕ). front ++ l) e)
+ends_after items front one two (inr (none, inl short)) = inr (none, inl (short_after front one two short))
+ends_after items front one two (inr (none, inr short)) = inr (none, inr (short_after front two one short))
 
 -- What two bodies of one packet are to each other.
 abbrev TwoBodies : Entry → List ℕ → List ℕ → Type 0
@@ -114,7 +114,7 @@ two_bodies (connect fields) body other h k = inl (h ∙ sym k)
 two_bodies (connack session_present code list) body other h k = inl (h ∙ sym k)
 two_bodies (publish fields) body other h k = inl (h ∙ sym k)
 two_bodies (acknowledgement kind identifier code list) body other h k =
-    (let found : TwoEnds list.items (two_bytes_spelling identifier ++ h.0) (two_bytes_spelling identifier ++ k.0) = ends_behind list.items (two_bytes_spelling identifier) h.0 k.0 (two_ends code list.items h.0 k.0 h.2 k.2) in
+    (let found : TwoEnds list.items (two_bytes_spelling identifier ++ h.0) (two_bytes_spelling identifier ++ k.0) = ends_after list.items (two_bytes_spelling identifier) h.0 k.0 (two_ends code list.items h.0 k.0 h.2 k.2) in
     let there : TwoEnds list.items body (two_bytes_spelling identifier ++ k.0) = subst (λ (b : List ℕ). TwoEnds list.items b (two_bytes_spelling identifier ++ k.0)) (sym h.1) found in
     subst (λ (b : List ℕ). TwoEnds list.items body b) (sym k.1) there)
 two_bodies (request kind identifier list filters) body other h k = inl (h ∙ sym k)
@@ -224,11 +224,11 @@ module _ (first : ℕ) (body : List ℕ) (entry : Entry) (known : AreBytes body)
 -- The body of a frame that is written.
 body_found : (first size : ℕ) (body more : List ℕ) → size ≡ length (varint_spelling (length body)) → take (1 + size + length body - (1 + size)) (drop (1 + size) ((first ∷ (varint_spelling (length body) ++ body)) ++ more)) ≡ body
 body_found first size body more size_is =
-    (let behind : drop (1 + size) ((first ∷ (varint_spelling (length body) ++ body)) ++ more) ≡ body ++ more =
+    (let trailing : drop (1 + size) ((first ∷ (varint_spelling (length body) ++ body)) ++ more) ≡ body ++ more =
     ap (drop (1 + size)) (ap (λ (l : List ℕ). first ∷ l) (append_assoc (varint_spelling (length body)) body more))
     ∙ drop_at (first ∷ varint_spelling (length body)) (body ++ more) (1 + size) (omega (arith, size_is)) in
     let count : 1 + size + length body - (1 + size) ≡ length body = omega arith in
-    ap (λ (l : List ℕ). take (1 + size + length body - (1 + size)) l) behind
+    ap (λ (l : List ℕ). take (1 + size + length body - (1 + size)) l) trailing
     ∙ (ap (λ (n : ℕ). take n (body ++ more)) count
     ∙ take_at body more (length body) refl))
 

@@ -12,7 +12,7 @@ list_length items = length-append (varint_spelling (length (properties_spelling 
 
 pub will_length : (will : WillFields) → length (will_spelling will) ≡ length (list_spelling will.properties.items) + length (text_spelling will.topic) + length (binary_spelling will.payload)
 will_length will =
-    (let behind : length (text_spelling will.topic ++ binary_spelling will.payload) ≡ length (text_spelling will.topic) + length (binary_spelling will.payload) = length-append (text_spelling will.topic) (binary_spelling will.payload) in
+    (let trailing : length (text_spelling will.topic ++ binary_spelling will.payload) ≡ length (text_spelling will.topic) + length (binary_spelling will.payload) = length-append (text_spelling will.topic) (binary_spelling will.payload) in
     let whole : length (list_spelling will.properties.items ++ (text_spelling will.topic ++ binary_spelling will.payload)) ≡ length (list_spelling will.properties.items) + length (text_spelling will.topic ++ binary_spelling will.payload) = length-append (list_spelling will.properties.items) (text_spelling will.topic ++ binary_spelling will.payload) in
     omega arith)
 

@@ -44,9 +44,9 @@ varint_longer [] = tt
 varint_longer (d ∷ c) = chosen (LongerThan 0) (nat_lt d 128) (Ok (d, 1)) (second_byte (d - 128) c) (omega arith) (second_longer 0 (d - 128) c (omega arith))
 
 -- A byte before others that settle: it is the last of a number, or they go on.
-first_settled : (there behind d : ℕ) (last before after : Result (ℕ × ℕ) Reason) → behind ≡ there → Settled behind before after
+first_settled : (there trailing d : ℕ) (last before after : Result (ℕ × ℕ) Reason) → trailing ≡ there → Settled trailing before after
     → Settled there (if nat_lt d 128 then last else before) (if nat_lt d 128 then last else after)
-first_settled there behind d last before after same settled =
+first_settled there trailing d last before after same settled =
     chosen_both (Settled there) (nat_lt d 128) last before after (inl refl) (subst (λ (k : ℕ). Settled k before after) same settled)
 
 fourth_settled : (n : ℕ) (a c : List ℕ) → Settled (3 + length a) (fourth_byte n a) (fourth_byte n (a ++ c))
@@ -211,7 +211,7 @@ size_above a header size e = by_number (remaining_length_at a) e
 pub header_few : (a : List ℕ) (header size : ℕ) → fixed_header_of a ≡ Whole header size → header ≤ 5
 unfolding fixed_header_of
 header_few [] header size e = (cc)
-header_few (first ∷ behind) header size e = by_number (varint_at behind) (varint_length behind) e
+header_few (first ∷ trailing) header size e = by_number (varint_at trailing) (varint_length trailing) e
   where
     by_number : (r : Result (ℕ × ℕ) Reason) → OneToFour r → header_with r ≡ Whole header size → header ≤ 5
     by_number (Ok x) bounds e = (let h : 1 + x.1 ≡ header = cc in omega (arith, h, bounds.1))

@@ -225,16 +225,16 @@ version_connects first body version = format_shows first (body_start (length bod
 
 -- ---- such bytes have another version
 
-connect_versions : (at version : ℕ) (behind : List ℕ) → IsByte version → version ≢ 5 → Fails connect_format at (text_spelling (codes "MQTT") ++ (version ∷ behind)) (OtherVersion version)
-connect_versions at version behind small other =
+connect_versions : (at version : ℕ) (trailing : List ℕ) → IsByte version → version ≢ 5 → Fails connect_format at (text_spelling (codes "MQTT") ++ (version ∷ trailing)) (OtherVersion version)
+connect_versions at version trailing small other =
     (let name : IsText (codes "MQTT") = text_value (codes "MQTT") (IsUtf8-from_ascii (codes "MQTT") name_ascii) refl in
     let objects : version_objection version ≡ Some (other_version version) = ap (λ (t : Bool). if t then None else Some (other_version version)) (ne_eqb version 5 other) in
     inr (inr (
       codes "MQTT",
-      version ∷ behind,
+      version ∷ trailing,
       record { is_value = name; spelled = refl },
       refl,
-      inr (inl (other_version version, (version, behind, record { is_value = small; spelled = refl }, objects), refl)),
+      inr (inl (other_version version, (version, trailing, record { is_value = small; spelled = refl }, objects), refl)),
     )))
 
 connects_version : (first : ℕ) (body : List ℕ) (version : ℕ) → IsConnectOfVersion first body version → IsOtherVersion first body version

@@ -26,7 +26,7 @@ unfolding canonical
 begins entry more small =
     record {
       body = canonical_body entry;
-      behind = more;
+      trailing = more;
       small = small;
       is = ap (λ (l : List ℕ). first_byte_of entry ∷ l) (append_assoc (varint_spelling (length (canonical_body entry))) (canonical_body entry) more);
       start_is = refl;

@@ -93,12 +93,12 @@ options_on true left = read_field byte options_objection left >>= some_options
 abbrev pub with_options : List ℕ → Option ℕ × Left → Result (AskedFilter × Left) DecodeFault
 with_options filter x = Ok (record { filter = filter; options = x.0 }, x.1)
 
-abbrev pub options_behind : Bool → List ℕ × Left → Result (AskedFilter × Left) DecodeFault
-options_behind asks x = options_on asks x.1 >>= with_options x.0
+abbrev pub options_after : Bool → List ℕ × Left → Result (AskedFilter × Left) DecodeFault
+options_after asks x = options_on asks x.1 >>= with_options x.0
 
 -- The filter at the front of what is left, with its options if they are asked for (3.8.3, 3.10.3).
 abbrev pub filter_on : Bool → Left → Result (AskedFilter × Left) DecodeFault
-filter_on asks left = read_field text filter_objection left >>= options_behind asks
+filter_on asks left = read_field text filter_objection left >>= options_after asks
 
 -- All that is left as filters. Each takes at least one byte, so n bytes have at most n.
 abbrev pub filters_within : ℕ → Bool → Left → Result (List AskedFilter) DecodeFault

@@ -20,13 +20,13 @@ asked_with false filter left = Some (record { filter = filter; options = None },
 asked_with true filter [] = None
 asked_with true filter (options ∷ left) = Some (record { filter = filter; options = Some options }, left)
 
-abbrev pub asked_behind : Bool → List ℕ → Result (List ℕ × ℕ) Reason → Option (AskedFilter × List ℕ)
-asked_behind asks bytes (Ok x) = asked_with asks x.0 (drop x.1 bytes)
-asked_behind asks bytes (Err reason) = None
+abbrev pub asked_after : Bool → List ℕ → Result (List ℕ × ℕ) Reason → Option (AskedFilter × List ℕ)
+asked_after asks bytes (Ok x) = asked_with asks x.0 (drop x.1 bytes)
+asked_after asks bytes (Err reason) = None
 
 -- The filter at the front of the bytes, if there is one, and what is left after it.
 unfoldable pub asked_at : Bool → List ℕ → Option (AskedFilter × List ℕ)
-asked_at asks bytes = asked_behind asks bytes (text_at bytes)
+asked_at asks bytes = asked_after asks bytes (text_at bytes)
 
 -- The filters that are read, or none.
 abbrev pub read_or_none : Result (List AskedFilter) DecodeFault → List AskedFilter

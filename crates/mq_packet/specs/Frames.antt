@@ -12,9 +12,9 @@ use Rattle.mq_packet.specs.Decoding.{body_start}
 -- shortest spelling of the body's length, and the body (2.1.1, 2.1.4).
 pub record BeginsWithFrame (bytes : List ℕ) (first start end : ℕ) : Type 0 where
   pub body : List ℕ
-  pub behind : List ℕ
+  pub trailing : List ℕ
   pub small : IsVarint (length body)
-  pub is : bytes ≡ first ∷ (varint_spelling (length body) ++ (body ++ behind))
+  pub is : bytes ≡ first ∷ (varint_spelling (length body) ++ (body ++ trailing))
   pub start_is : start ≡ body_start (length body)
   pub end_is : end ≡ start + length body
 

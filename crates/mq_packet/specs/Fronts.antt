@@ -37,8 +37,8 @@ pub record IsLost (bytes : List ℕ) : Type 0 where
   pub no_number : ¬ BeginsWithNumber following
   pub no_prefix : ¬ IsPrefixOfNumber following
 
--- What each cut means for the bytes.
-abbrev pub StandsAtFront : List ℕ → Cut → Type 0
-StandsAtFront bytes Need = IsBeginning bytes
-StandsAtFront bytes (Frame first start end) = BeginsWithFrame bytes first start end
-StandsAtFront bytes Lost = IsLost bytes
+-- What each cut says of the bytes.
+abbrev pub IsCutOf : List ℕ → Cut → Type 0
+IsCutOf bytes Need = IsBeginning bytes
+IsCutOf bytes (Frame first start end) = BeginsWithFrame bytes first start end
+IsCutOf bytes Lost = IsLost bytes

@@ -10,7 +10,7 @@ use Rattle.mq_packet.specs.declared.header.FixedHeader.TheVariants.{Short, Lost,
 -- The Remaining Length after the first byte, and how many bytes spell it (2.1.4).
 abbrev pub remaining_length_at : List ℕ → Result (ℕ × ℕ) Reason
 remaining_length_at [] = Err reasons.Short
-remaining_length_at (first ∷ behind) = varint_at behind
+remaining_length_at (first ∷ rest) = varint_at rest
 
 -- The fixed header with this Remaining Length: the first byte and the bytes that spell it, and the packet's size.
 abbrev pub header_with : Result (ℕ × ℕ) Reason → FixedHeader

@@ -5,7 +5,7 @@ ghost use Rattle.mq_wire.specs.Spellings.{AreBytes};
 ghost use Rattle.mq_packet.specs.declared.frame.Cut.{Cut};
 ghost use Rattle.mq_packet.specs.declared.frame.Cut.TheVariants.{Need, Frame, Lost};
 ghost use Rattle.mq_packet.specs.Frames.{BeginsWithFrame, cut_of};
-ghost use Rattle.mq_packet.specs.Fronts.{IsBeginning, IsLost, StandsAtFront};
+ghost use Rattle.mq_packet.specs.Fronts.{IsBeginning, IsLost, IsCutOf};
 
 /// The bytes at the front of a stream begin with a whole packet, are the beginning of one, or are lost: exactly one of the three,
 /// and that is how they are cut (MQTT 5.0, sections 2.1.4 and 1.5.5).
@@ -21,7 +21,7 @@ pub fn each_front_is_one_of_three()
     // That is so exactly if they can't be the beginning of a packet, whatever follows.
     ensures never { (bytes : List ℕ) → AreBytes bytes → IsLost bytes ↔ ((more : List ℕ) (first start end : ℕ) → ¬ BeginsWithFrame (bytes ++ more) first start end) }
     // Exactly one of the three holds.
-    ensures one { (bytes : List ℕ) → AreBytes bytes → (cut : Cut) × StandsAtFront bytes cut × ((other : Cut) → StandsAtFront bytes other → cut ≡ other) }
+    ensures one { (bytes : List ℕ) → AreBytes bytes → (cut : Cut) × IsCutOf bytes cut × ((other : Cut) → IsCutOf bytes other → cut ≡ other) }
 {}
 
 /// Short examples, computed from the definitions alone (MQTT 5.0, sections 2.1.4 and 1.5.5).

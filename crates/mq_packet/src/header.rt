@@ -37,10 +37,10 @@ pub fn fixed_header(bytes: &[u8]) -> FixedHeader
     ensures exact { result ≡ fixed_header_of bytes.now }
     ensures bounds { HasBounds result }
 {
-    let [_, behind @ ..] = bytes else {
+    let [_, rest @ ..] = bytes else {
         return FixedHeader::Short;
     };
-    let mut cursor = Cursor::new(behind);
+    let mut cursor = Cursor::new(rest);
     match cursor.varint() {
         Ok(remaining) => {
             let length = 1 + cursor.at();

@@ -39,7 +39,7 @@ fn number(place: Place) -> u8
     place as u8
 }
 
-fn stands_in(list: &Props<'_>, place: Place) -> bool
+fn belongs_to(list: &Props<'_>, place: Place) -> bool
     ensures { result ≡ same_place list.now.place place }
 {
     number(list.place()) == number(place)
@@ -55,7 +55,7 @@ fn are_codes(table: &[u8], codes: &[u8]) -> bool
 fn is_will(will: &Will<'_>) -> bool
     ensures { result ≡ valid_will (will_view will.now) }
 {
-    stands_in(&will.properties, Place::Will) && is_text(will.topic) && is_binary(will.payload)
+    belongs_to(&will.properties, Place::Will) && is_text(will.topic) && is_binary(will.payload)
 }
 
 fn is_will_if_there(will: &Option<Will<'_>>) -> bool
@@ -89,7 +89,7 @@ fn is_binary_if_there(bytes: Option<&[u8]>) -> bool
 fn is_connect(packet: &Connect<'_>) -> bool
     ensures { result ≡ valid (view (Packet.Connect packet.now)) }
 {
-    stands_in(&packet.properties, Place::Connect)
+    belongs_to(&packet.properties, Place::Connect)
         && is_text(packet.client_identifier)
         && is_will_if_there(&packet.will)
         && is_text_if_there(packet.user_name)
@@ -100,7 +100,7 @@ fn is_connect(packet: &Connect<'_>) -> bool
 fn is_connack(packet: &Connack<'_>) -> bool
     ensures { result ≡ valid (view (Packet.Connack packet.now)) }
 {
-    stands_in(&packet.properties, Place::Connack) && is_code(&CONNACK_CODES, packet.code)
+    belongs_to(&packet.properties, Place::Connack) && is_code(&CONNACK_CODES, packet.code)
 }
 
 // A PUBLISH has a Packet Identifier exactly if its QoS is above 0, and only then may it have DUP 1.
@@ -119,7 +119,7 @@ fn fits_qos(duplicate: bool, qos: Qos, identifier: Option<u16>) -> bool
 fn is_publish(packet: &Publish<'_>) -> bool
     ensures { result ≡ valid (view (Packet.Publish packet.now)) }
 {
-    stands_in(&packet.properties, Place::Publish)
+    belongs_to(&packet.properties, Place::Publish)
         && fits_qos(packet.duplicate, packet.qos, packet.identifier)
         && is_text(packet.topic)
         && check_name(packet.topic)
@@ -130,14 +130,14 @@ fn is_publish(packet: &Publish<'_>) -> bool
 fn is_reason_packet(kind: ReasonPacketKind, packet: &ReasonPacket<'_>) -> bool
     ensures { result ≡ valid_reason_packet kind packet.now.code packet.now.properties }
 {
-    stands_in(&packet.properties, kind.place()) && is_code(kind.codes(), packet.code)
+    belongs_to(&packet.properties, kind.place()) && is_code(kind.codes(), packet.code)
 }
 
 #[tactic(auto, unfolding(crate::specs::Valid::valid_acknowledgement))]
 fn is_acknowledgement(kind: AcknowledgementKind, packet: &Acknowledgement<'_>) -> bool
     ensures { result ≡ valid_acknowledgement kind packet.now.identifier packet.now.code packet.now.properties }
 {
-    stands_in(&packet.properties, kind.place())
+    belongs_to(&packet.properties, kind.place())
         && packet.identifier != 0
         && is_code(kind.codes(), packet.code)
 }
@@ -154,7 +154,7 @@ fn are_filters(asks: bool, filters: &Filters<'_>) -> bool
 fn is_request(kind: RequestKind, packet: &Request<'_>) -> bool
     ensures { result ≡ valid_request kind packet.now.identifier packet.now.properties packet.now.filters }
 {
-    stands_in(&packet.properties, kind.place())
+    belongs_to(&packet.properties, kind.place())
         && packet.identifier != 0
         && are_filters(kind.has_options(), &packet.filters)
 }
@@ -163,7 +163,7 @@ fn is_request(kind: RequestKind, packet: &Request<'_>) -> bool
 fn is_answer(kind: RequestKind, packet: &Answer<'_>) -> bool
     ensures { result ≡ valid_answer kind packet.now.identifier packet.now.properties packet.now.codes }
 {
-    stands_in(&packet.properties, kind.answer_place())
+    belongs_to(&packet.properties, kind.answer_place())
         && packet.identifier != 0
         && are_codes(kind.answer_codes(), packet.codes.as_bytes())
 }

@@ -29,7 +29,7 @@ use mq_wire::PutFault;
 use puts::{put_byte, put_length};
 
 // Appends the packet, whose body has this length.
-#[tactic(auto, using(crate::proofs::GrowingLaws::lacks_first, crate::proofs::GrowingLaws::lacks_behind, crate::proofs::GrowingLaws::lacks_byte, crate::proofs::GrowingLaws::lacks_behind_byte), unfolding(crate::specs::Canonical::canonical))]
+#[tactic(auto, using(crate::proofs::GrowingLaws::lacks_first, crate::proofs::GrowingLaws::lacks_after, crate::proofs::GrowingLaws::lacks_byte, crate::proofs::GrowingLaws::lacks_after_byte), unfolding(crate::specs::Canonical::canonical))]
 fn put_packet(out: &mut Vec<u8>, packet: &Packet<'_>, len: u32) -> Result<(), PutFault>
     requires len { len ≡ length (canonical_body (view packet.now)) }
     requires bound { len ≤ max_varint }

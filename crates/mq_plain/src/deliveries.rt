@@ -135,7 +135,7 @@ fn is_sharing(role: Role, fate: Fate, before: &[Seen]) -> bool
 
 // ---- the standing filters of a SUBSCRIBE
 
-/// Whether a filter of a SUBSCRIBE stands, matches the topic and has at least this ceiling, given its Reason Code if there is one
+/// Whether a filter of a SUBSCRIBE is granted, matches the topic and has at least this ceiling, given its Reason Code if there is one
 /// (MQTT 5.0, section 3.9.3).
 fn allows_topic(topic: &str, least: u8, filter: &NotedFilter, code: Option<u8>) -> bool
     ensures { result ≡ allows_by topic.now least filter.now code }
@@ -164,7 +164,7 @@ fn next_code(codes: &[u8]) -> (Option<u8>, &[u8])
     }
 }
 
-/// Whether one of these filters stands and allows the topic, given the Reason Codes of the SUBACK.
+/// Whether one of these filters is granted and allows the topic, given the Reason Codes of the SUBACK.
 fn any_allows(topic: &str, least: u8, filters: &[NotedFilter], codes: &[u8]) -> bool
     ensures { result ≡ list_any (allows topic.now least) (granted filters.now codes.now) }
 {

@@ -68,7 +68,7 @@ pub fn earliest_on_connection<'a, S: NoteTest, E: NoteTest>(
 
 /// Whether in the current session after these events, if the latest connection has this fate, the event that was found
 /// is in it, and no later one passes the test.
-pub fn stands_in_session<E: NoteTest>(
+pub fn still_applies<E: NoteTest>(
     role: Role,
     fate: Option<Fate>,
     found: Found<'_>,

@@ -7,7 +7,7 @@ ghost use Rattle.mq_rules.specs.Releases.{breaks_L1, breaks_L2, breaks_L3};
 ghost use Rattle.mq_plain.specs.Lookback.{is_brought_after, is_released_after, first_brought_after, lapses_after};
 ghost use Rattle.mq_plain.specs.Finding.{moment_of};
 
-use crate::earliest::{Found, earliest_in_session, stands_in_session};
+use crate::earliest::{Found, earliest_in_session, still_applies};
 use crate::judging::SessionStatement;
 use crate::lookback::NoteTest;
 use crate::releasing::ReleaseStatement;
@@ -161,7 +161,7 @@ fn may_lapse(role: Role, fate: Fate, identifier: u16, first: Found<'_>, before: 
     if may_expire(&first.event.note) {
         return true;
     }
-    !stands_in_session(
+    !still_applies(
         role,
         Some(fate),
         first,

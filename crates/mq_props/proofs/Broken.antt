@@ -12,7 +12,7 @@ use Rattle.mq_wire.proofs.Exports.{AreBytes-take, AreBytes-after, varint_misspel
 use Rattle.mq_props.specs.declared.fault.PropFault.{PropFault}
 use Rattle.mq_props.specs.declared.table.Place.{Place}
 use Rattle.mq_props.specs.Values.{Property, value_spelling, property_spelling, body}
-use Rattle.mq_props.specs.Allowed.{AllowedBehind}
+use Rattle.mq_props.specs.Allowed.{AllowedAfter}
 use Rattle.mq_props.specs.Breaks.{LongLength, BadProperty, BreaksList}
 use Rattle.mq_props.specs.Reading.{from_wire, within_length, property_on, properties_within, properties_on, list_on}
 use Rattle.mq_props.proofs.BadFieldLemmas.{named_on, breaks_property}
@@ -29,51 +29,51 @@ abbrev going_on : ℕ → Place → List Property → Result (Property × Left) 
 going_on fuel place before r = r >>= λ x. properties_within fuel place (before ++ x.0 ∷ []) x.1
 
 -- the good properties are read, and the one after them is refused
-refused_behind : (fuel : ℕ) (place : Place) (before good : List Property) (at : ℕ) (others : List ℕ) (fault : PropFault) → length (body good ++ others) ≤ fuel → 0 < length others → AllowedBehind place before good
+refused_after : (fuel : ℕ) (place : Place) (before good : List Property) (at : ℕ) (others : List ℕ) (fault : PropFault) → length (body good ++ others) ≤ fuel → 0 < length others → AllowedAfter place before good
     → property_on place (before ++ good) (left_at (at + length (body good)) others) ≡ Err fault → properties_within fuel place before (left_at at (body good ++ others)) ≡ failed fault
-refused_behind zero place before good at others fault enough some allowed e = absurd (omega (arith, enough, some, length-append (body good) others))
-refused_behind (suc fuel) place before [] at others fault enough some allowed e =
+refused_after zero place before good at others fault enough some allowed e = absurd (omega (arith, enough, some, length-append (body good) others))
+refused_after (suc fuel) place before [] at others fault enough some allowed e =
     let here : at ≡ at + 0 = omega arith in
     let first : property_on place before (left_at at others) ≡ failed fault =
     ap (λ (ps : List Property). property_on place ps (left_at at others)) (sym (append-nil before)) ∙ ap (λ (n : ℕ). property_on place (before ++ []) (left_at n others)) here ∙ e in
     rw (some_bytes others some) (ap (going_on fuel place before) first)
-refused_behind (suc fuel) place before (p ∷ good) at others fault enough some allowed e =
+refused_after (suc fuel) place before (p ∷ good) at others fault enough some allowed e =
     let more : List ℕ = body good ++ others in
     let whole : body (p ∷ good) ++ others ≡ property_spelling p ++ more = ap (λ (front : List ℕ). front ++ others) (flat_map-cons property_spelling p good) ∙ append_assoc (property_spelling p) (body good) others in
     let size : length (property_spelling p) ≡ length (varint_spelling p.id) + length (value_spelling p.value) = length-append (varint_spelling p.id) (value_spelling p.value) in
-    let behind : at + length (varint_spelling p.id) + length (value_spelling p.value) + length (body good) ≡ at + length (body (p ∷ good)) =
+    let following : at + length (varint_spelling p.id) + length (value_spelling p.value) + length (body good) ≡ at + length (body (p ∷ good)) =
     omega (arith, size, ap length (flat_map-cons property_spelling p good), length-append (property_spelling p) (body good)) in
     let first : property_on place before (left_at at (body (p ∷ good) ++ others)) ≡ done (p, after at p more) = ap (λ (bytes : List ℕ). property_on place before (left_at at bytes)) whole ∙ property_read place before p at more allowed.0 in
     let less : length more ≤ fuel = omega (arith, enough, spelling_some place before p allowed.0, ap length whole, length-append (property_spelling p) more) in
-    let next = refused_behind fuel place (before ++ p ∷ []) good (at + length (varint_spelling p.id) + length (value_spelling p.value)) others fault less some allowed.1
+    let next = refused_after fuel place (before ++ p ∷ []) good (at + length (varint_spelling p.id) + length (value_spelling p.value)) others fault less some allowed.1
     (ap (λ (ps : List Property). property_on place ps (left_at (at + length (varint_spelling p.id) + length (value_spelling p.value) + length (body good)) others)) (append_assoc before (p ∷ []) good)
-    ∙ ap (λ (n : ℕ). property_on place (before ++ p ∷ good) (left_at n others)) behind ∙ e) in
+    ∙ ap (λ (n : ℕ). property_on place (before ++ p ∷ good) (left_at n others)) following ∙ e) in
     rw (some_bytes (body (p ∷ good) ++ others) (omega (arith, some, length-append (body (p ∷ good)) others))) (ap (going_on fuel place before) first ∙ next)
 
-refused_all : (place : Place) (good : List Property) (at : ℕ) (others : List ℕ) (fault : PropFault) → 0 < length others → AllowedBehind place [] good
+refused_all : (place : Place) (good : List Property) (at : ℕ) (others : List ℕ) (fault : PropFault) → 0 < length others → AllowedAfter place [] good
     → property_on place good (left_at (at + length (body good)) others) ≡ Err fault → properties_on place [] (left_at at (body good ++ others)) ≡ failed fault
 unfolding properties_on
-refused_all place good at others fault some allowed e = refused_behind (length (body good ++ others)) place [] good at others fault (omega arith) some allowed e
+refused_all place good at others fault some allowed e = refused_after (length (body good ++ others)) place [] good at others fault (omega arith) some allowed e
 
 -- the list whose length was read
 abbrev list_of_length : Place → Left → Result (ℕ × Left) WireFault → Result (List Property × Left) PropFault
 list_of_length place left r = from_wire r >>= λ len. within_length left len.0 len.1 >>= λ inside. properties_on place [] inside >>= λ ps. Ok (ps, past len.1 len.0)
 
 abbrev list_inside : Place → Left → Result Left PropFault → Result (List Property × Left) PropFault
-list_inside place behind r = r >>= λ inside. properties_on place [] inside >>= λ ps. Ok (ps, behind)
+list_inside place following r = r >>= λ inside. properties_on place [] inside >>= λ ps. Ok (ps, following)
 
 abbrev list_from : Left → Result (List Property) PropFault → Result (List Property × Left) PropFault
-list_from behind r = r >>= λ ps. Ok (ps, behind)
+list_from following r = r >>= λ ps. Ok (ps, following)
 
 long_list : (place : Place) (left : Left) (fault : PropFault) → LongLength left fault → list_of_length place left (placed left (varint_at left.rest)) ≡ failed fault
 long_list place left fault long =
     ap (list_of_length place left) (named_on left long.len long.inside long.numbered) ∙ rw (lt-ltb (length long.inside.rest) long.len long.passes) (ap failed (sym long.is))
 
 -- the bytes that the length counts
-counted_inside : (start inside : Left) (counts behind : List ℕ) → inside.rest ≡ counts ++ behind → within_length start (length counts) inside ≡ done (left_at inside.at counts)
-counted_inside start inside counts behind is =
-    let enough : length counts ≤ length inside.rest = omega (arith, ap length is, length-append counts behind) in
-    rw (le-ltb (length inside.rest) (length counts) enough) (ap (λ (bytes : List ℕ). done (left_at inside.at bytes)) (ap (take (length counts)) is ∙ take_at counts behind (length counts) refl))
+counted_inside : (start inside : Left) (counts following : List ℕ) → inside.rest ≡ counts ++ following → within_length start (length counts) inside ≡ done (left_at inside.at counts)
+counted_inside start inside counts following is =
+    let enough : length counts ≤ length inside.rest = omega (arith, ap length is, length-append counts following) in
+    rw (le-ltb (length inside.rest) (length counts) enough) (ap (λ (bytes : List ℕ). done (left_at inside.at bytes)) (ap (take (length counts)) is ∙ take_at counts following (length counts) refl))
 
 -- the others are bytes
 others_fit : (place : Place) (left : Left) (fault : PropFault) (bad : BadProperty place left fault) → AreBytes left.rest → AreBytes bad.others

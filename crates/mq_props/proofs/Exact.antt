@@ -7,7 +7,7 @@ use Rattle.std.proofs.lemmas.List.{drop_at, append-nil}
 use Rattle.mq_wire.specs.declared.fault.WireFault.{WireFault}
 use Rattle.mq_wire.specs.Left.{Left, placed}
 use Rattle.mq_wire.specs.Fields.{varint_at, ◌>>=◌}
-use Rattle.mq_wire.specs.Spellings.{AreBytes, IsVarint, varint_spelling, Stands}
+use Rattle.mq_wire.specs.Spellings.{AreBytes, IsVarint, varint_spelling, BeginsWith}
 use Rattle.mq_wire.proofs.Exports.{AreBytes-drop, varint_exact}
 use Rattle.mq_props.specs.declared.fault.PropFault.{PropFault}
 use Rattle.mq_props.specs.declared.fault.PropReason.{PropReason}
@@ -15,7 +15,7 @@ use Rattle.mq_props.specs.declared.table.Place.{Place}
 use Rattle.mq_props.specs.declared.table.ValueType.{ValueType}
 use Rattle.mq_props.specs.Table.{Line, row_of}
 use Rattle.mq_props.specs.Values.{Value, Property, value_spelling, property_spelling, body}
-use Rattle.mq_props.specs.Allowed.{is_repeated, is_wild, IsAllowed, AllowedBehind, AreAllowed}
+use Rattle.mq_props.specs.Allowed.{is_repeated, is_wild, IsAllowed, AllowedAfter, AreAllowed}
 use Rattle.mq_props.specs.Reading.{from_wire, judged_at, value_on, admitted, valued, property_on, properties_within, properties_on, item_valued, item_known, item_named, item_on, items_within, items_on, items_of}
 use Rattle.mq_props.specs.Listed.{IsList}
 use Rattle.mq_props.proofs.Finding.{line_known, known_below}
@@ -28,20 +28,20 @@ use Rattle.mq_props.proofs.Steps.{Found, property_on_ok, found_shorter, bind_ok,
 pub record Spells (left : Left) (p : Property) (new : Left) : Type 0 where
   pub spelled : left.rest ≡ property_spelling p ++ new.rest
   pub fits : AreBytes new.rest
-  pub behind : new.at ≡ left.at + length (property_spelling p)
+  pub following : new.at ≡ left.at + length (property_spelling p)
 
 pub found_spells : (place : Place) (before : List Property) (left : Left) (p : Property) (new : Left) → AreBytes left.rest → Found place before left p new → Spells left p new × IsAllowed place before p
 found_spells place before left p new fits found =
-    let named : Stands IsVarint varint_spelling left.rest p.id found.size = varint_exact.only left.rest p.id found.size fits found.named in
-    let behind_fits : AreBytes (drop found.size left.rest) = AreBytes-drop found.size left.rest fits in
-    let value : Stands (IsOf found.line.kind) value_spelling (drop found.size left.rest) p.value found.more = (value_exact found.line.kind).only (drop found.size left.rest) p.value found.more behind_fits found.value in
-    let rest_is : new.rest ≡ drop found.more (drop found.size left.rest) = ap (λ (l : Left). l.rest) found.behind in
+    let named : BeginsWith IsVarint varint_spelling left.rest p.id found.size = varint_exact.only left.rest p.id found.size fits found.named in
+    let after_fits : AreBytes (drop found.size left.rest) = AreBytes-drop found.size left.rest fits in
+    let value : BeginsWith (IsOf found.line.kind) value_spelling (drop found.size left.rest) p.value found.more = (value_exact found.line.kind).only (drop found.size left.rest) p.value found.more after_fits found.value in
+    let rest_is : new.rest ≡ drop found.more (drop found.size left.rest) = ap (λ (l : Left). l.rest) found.following in
     let parts : left.rest ≡ property_spelling p ++ drop found.more (drop found.size left.rest) =
     named.spelled ∙ ap (λ (bytes : List ℕ). varint_spelling p.id ++ bytes) value.spelled ∙ sym (append_assoc (varint_spelling p.id) (value_spelling p.value) (drop found.more (drop found.size left.rest))) in (
       record {
         spelled = subst (λ (bytes : List ℕ). left.rest ≡ property_spelling p ++ bytes) (sym rest_is) parts;
-        fits = subst (λ (bytes : List ℕ). AreBytes bytes) (sym rest_is) (AreBytes-drop found.more (drop found.size left.rest) behind_fits);
-        behind = omega (arith, ap (λ (l : Left). l.at) found.behind, named.taken, value.taken, length-append (varint_spelling p.id) (value_spelling p.value));
+        fits = subst (λ (bytes : List ℕ). AreBytes bytes) (sym rest_is) (AreBytes-drop found.more (drop found.size left.rest) after_fits);
+        following = omega (arith, ap (λ (l : Left). l.at) found.following, named.taken, value.taken, length-append (varint_spelling p.id) (value_spelling p.value));
       },
       record {
         line = found.line;
@@ -56,11 +56,11 @@ found_spells place before left p new fits found =
     )
 
 -- properties that were read after others
-record ReadBehind (place : Place) (before : List Property) (bytes : List ℕ) (all : List Property) : Type 0 where
+record ReadAfter (place : Place) (before : List Property) (bytes : List ℕ) (all : List Property) : Type 0 where
   ps : List Property
   whole : all ≡ before ++ ps
   spelled : bytes ≡ body ps
-  allowed : AllowedBehind place before ps
+  allowed : AllowedAfter place before ps
 
 nil_from : (bytes : List ℕ) → eqb (length bytes) 0 ≡ true → bytes ≡ []
 nil_from [] e = refl
@@ -70,9 +70,9 @@ nil_of : (bytes : List ℕ) → length bytes ≤ 0 → bytes ≡ []
 nil_of [] le = refl
 nil_of (a ∷ bytes) le = absurd (omega (arith, le))
 
-read_behind : (fuel : ℕ) (place : Place) (before : List Property) (left : Left) (all : List Property) → AreBytes left.rest → length left.rest ≤ fuel → properties_within fuel place before left ≡ Ok all → ReadBehind place before left.rest all
-read_behind zero place before left all fits enough e = record { ps = []; whole = sym (done_is before all e) ∙ sym (append-nil before); spelled = nil_of left.rest enough; allowed = tt }
-read_behind (suc fuel) place before left all fits enough e =
+read_after : (fuel : ℕ) (place : Place) (before : List Property) (left : Left) (all : List Property) → AreBytes left.rest → length left.rest ≤ fuel → properties_within fuel place before left ≡ Ok all → ReadAfter place before left.rest all
+read_after zero place before left all fits enough e = record { ps = []; whole = sym (done_is before all e) ∙ sym (append-nil before); spelled = nil_of left.rest enough; allowed = tt }
+read_after (suc fuel) place before left all fits enough e =
     elim (cases_Bool (eqb (length left.rest) 0)) [
       | inl none ↦
           let same : before ≡ all = done_is before all (rw none at e) in
@@ -81,7 +81,7 @@ read_behind (suc fuel) place before left all fits enough e =
           let x = bind_ok (property_on place before left) (λ x. properties_within fuel place (before ++ x.0 ∷ []) x.1) all (rw some at e) in
           let found = property_on_ok place before left x.0.0 x.0.1 x.1 in
           let here = found_spells place before left x.0.0 x.0.1 fits found in
-          let more = read_behind fuel place (before ++ x.0.0 ∷ []) x.0.1 all here.0.fits (omega (arith, found_shorter place before left x.0.0 x.0.1 found, enough)) x.2 in
+          let more = read_after fuel place (before ++ x.0.0 ∷ []) x.0.1 all here.0.fits (omega (arith, found_shorter place before left x.0.0 x.0.1 found, enough)) x.2 in
           record {
             ps = x.0.0 ∷ more.ps;
             whole = more.whole ∙ append_assoc before (x.0.0 ∷ []) more.ps;
@@ -142,13 +142,13 @@ unfolding property_on
 property_read place before p at rest is =
     let inside : List ℕ = value_spelling p.value ++ rest in
     let start : Left = left_at at (varint_spelling p.id ++ inside) in
-    let behind : Left = left_at (at + length (varint_spelling p.id)) inside in
-    let with_value : Line → Value × Left → Result (Property × Left) PropFault = λ line value. judged_at behind.at (valued place line value.0) >>= λ property. Ok (property, value.1) in
+    let following : Left = left_at (at + length (varint_spelling p.id)) inside in
+    let with_value : Line → Value × Left → Result (Property × Left) PropFault = λ line value. judged_at following.at (valued place line value.0) >>= λ property. Ok (property, value.1) in
     ap (λ (bytes : List ℕ). property_on place before (left_at at bytes)) (parts p rest)
     ∙ ap (λ (r : Result (ℕ × Left) WireFault). from_wire r >>= λ id. judged_at start.at (admitted place before (row_of id.0)) >>= λ line. from_wire (value_on line.kind id.1) >>= λ value. judged_at id.1.at (valued place line value.0) >>= λ property. Ok (property, value.1)) (named_read at p.id inside (id_fits place before p is))
-    ∙ ap (λ (r : Result Line PropReason). judged_at start.at r >>= λ line. from_wire (value_on line.kind behind) >>= with_value line) (admits place before p is)
+    ∙ ap (λ (r : Result Line PropReason). judged_at start.at r >>= λ line. from_wire (value_on line.kind following) >>= with_value line) (admits place before p is)
     ∙ ap (λ (r : Result (Value × Left) WireFault). from_wire r >>= with_value is.line) (value_read (at + length (varint_spelling p.id)) is.line.kind p.value rest (is.typed, is.valid))
-    ∙ ap (λ (r : Result Property PropReason). judged_at behind.at r >>= λ property. done (property, after at p rest)) (values place before p is)
+    ∙ ap (λ (r : Result Property PropReason). judged_at following.at r >>= λ property. done (property, after at p rest)) (values place before p is)
 
 abbrev some_item : Property × Left → Option (Property × Left)
 some_item x = Some x
@@ -157,10 +157,10 @@ item_read : (place : Place) (before : List Property) (p : Property) (at : ℕ) (
 unfolding item_on
 item_read place before p at rest is =
     let inside : List ℕ = value_spelling p.value ++ rest in
-    let behind : Left = left_at (at + length (varint_spelling p.id)) inside in
+    let following : Left = left_at (at + length (varint_spelling p.id)) inside in
     ap (λ (bytes : List ℕ). item_on (left_at at bytes)) (parts p rest)
     ∙ ap item_named (named_read at p.id inside (id_fits place before p is))
-    ∙ ap (λ (line : Option Line). item_known line behind) is.known
+    ∙ ap (λ (line : Option Line). item_known line following) is.known
     ∙ ap (item_valued is.line) (value_read (at + length (varint_spelling p.id)) is.line.kind p.value rest (is.typed, is.valid))
     ∙ ap (λ (id : ℕ). some_item (record { id = id; value = p.value }, after at p rest)) (line_known p.id is.line is.known)
 
@@ -177,7 +177,7 @@ fuel_left place before p ps (suc less) is enough = (less, refl, omega (arith, en
 pub some_bytes : (bytes : List ℕ) → 0 < length bytes → eqb (length bytes) 0 ≡ false
 some_bytes bytes lt = ne_eqb (length bytes) 0 (λ e. omega (arith, e, lt))
 
-properties_read : (fuel : ℕ) (place : Place) (before ps : List Property) (at : ℕ) → length (body ps) ≤ fuel → AllowedBehind place before ps → properties_within fuel place before (left_at at (body ps)) ≡ done (before ++ ps)
+properties_read : (fuel : ℕ) (place : Place) (before ps : List Property) (at : ℕ) → length (body ps) ≤ fuel → AllowedAfter place before ps → properties_within fuel place before (left_at at (body ps)) ≡ done (before ++ ps)
 properties_read zero place before [] at enough allowed = ap done (sym (append-nil before))
 properties_read (suc fuel) place before [] at enough allowed = ap done (sym (append-nil before))
 properties_read zero place before (p ∷ ps) at enough allowed = absurd (omega (arith, (fuel_left place before p ps zero allowed.0 enough).1))
@@ -189,7 +189,7 @@ properties_read (suc fuel) place before (p ∷ ps) at enough allowed =
     let rest = properties_read fuel place (before ++ p ∷ []) ps (at + length (varint_spelling p.id) + length (value_spelling p.value)) (omega (arith, fuel_is.1, fuel_is.2)) allowed.1 in
     rw some (ap (λ (r : Result (Property × Left) PropFault). r >>= λ x. properties_within fuel place (before ++ x.0 ∷ []) x.1) first ∙ rest ∙ ap done (append_assoc before (p ∷ []) ps))
 
-items_read : (fuel : ℕ) (place : Place) (before ps : List Property) (at : ℕ) → length (body ps) ≤ fuel → AllowedBehind place before ps → items_within fuel (left_at at (body ps)) ≡ ps
+items_read : (fuel : ℕ) (place : Place) (before ps : List Property) (at : ℕ) → length (body ps) ≤ fuel → AllowedAfter place before ps → items_within fuel (left_at at (body ps)) ≡ ps
 unfolding item_on varint_at
 items_read zero place before [] at enough allowed = refl
 items_read (suc fuel) place before [] at enough allowed = refl
@@ -211,7 +211,7 @@ items_of-body place ps allowed = items_read (length (body ps)) place [] ps 0 (om
 pub properties_only : (place : Place) (at : ℕ) (bytes : List ℕ) (ps : List Property) → AreBytes bytes → properties_on place [] (left_at at bytes) ≡ Ok ps → (bytes ≡ body ps) × AreAllowed place ps
 unfolding properties_on
 properties_only place at bytes ps fits e =
-    let found = read_behind (length bytes) place [] (left_at at bytes) ps fits (omega arith) e in
+    let found = read_after (length bytes) place [] (left_at at bytes) ps fits (omega arith) e in
     let same : found.ps ≡ ps = sym found.whole in
     subst (λ (qs : List Property). (bytes ≡ body qs) × AreAllowed place qs) same (found.spelled, found.allowed)
 

@@ -4,7 +4,7 @@ use Rattle.mq_wire.specs.declared.fault.Reason.{Reason}
 use Rattle.mq_wire.specs.declared.fault.Reason.TheVariants.{Short, Overlong}
 use Rattle.mq_wire.specs.Left.{Left, placed}
 use Rattle.mq_wire.specs.Fields.{byte_at, two_bytes_at, four_bytes_at, varint_at, text_at, binary_at, pair_at, ended_by, second_byte, third_byte, fourth_byte}
-use Rattle.mq_wire.specs.Spellings.{IsByte, IsTwoBytes, IsFourBytes, IsVarint, IsText, IsBinary, IsPair, byte_spelling, two_bytes_spelling, four_bytes_spelling, varint_spelling, text_spelling, binary_spelling, pair_spelling, Stands, IsExact}
+use Rattle.mq_wire.specs.Spellings.{IsByte, IsTwoBytes, IsFourBytes, IsVarint, IsText, IsBinary, IsPair, byte_spelling, two_bytes_spelling, four_bytes_spelling, varint_spelling, text_spelling, binary_spelling, pair_spelling, BeginsWith, IsExact}
 use Rattle.mq_wire.proofs.Exports.{byte_exact, two_bytes_exact, four_bytes_exact, binary_exact, text_exact, pair_exact, varint_exact}
 use Rattle.mq_props.specs.declared.table.ValueType.{ValueType}
 use Rattle.mq_props.specs.declared.table.ValueType.TheVariants as types
@@ -68,12 +68,12 @@ mapped_exact {X} kind make IsX spelling read makes exact = record {
   only = λ bytes v n fits e.
       let found = mapped_ok make (read bytes) v n e in
       let stands = exact.only bytes found.0 n fits found.1 in
-      let here : Stands (IsOf kind) value_spelling bytes (make found.0) n = record {
+      let here : BeginsWith (IsOf kind) value_spelling bytes (make found.0) n = record {
         value = makes.made found.0 stands.value;
         taken = stands.taken ∙ ap length (sym (makes.spelled found.0));
         spelled = stands.spelled ∙ ap (λ (front : List ℕ). front ++ drop n bytes) (sym (makes.spelled found.0));
       } in
-      subst (λ (w : Value). Stands (IsOf kind) value_spelling bytes w n) found.2 here;
+      subst (λ (w : Value). BeginsWith (IsOf kind) value_spelling bytes w n) found.2 here;
   all = λ v rest is.
       let x = makes.each v is in
       let same : spelling x.0 ≡ value_spelling v = sym (makes.spelled x.0) ∙ ap value_spelling x.1 in

@@ -53,7 +53,7 @@ unfolding row_of has_kind
 line_kind id line known = found-any (λ (row : Line). eqb row.id id) (λ (row : Line). eqb (kind_number row.kind) (kind_number line.kind) && eqb row.id id) rows line (kind_same line.kind line.id id (line_known id line known)) known
 
 -- a property that stands at the front of what is left
-pub record StandsFirst (left : Left) (x : Property × Left) : Type 0 where
+pub record ComesFirst (left : Left) (x : Property × Left) : Type 0 where
   pub typed : has_kind (value_type x.0.value) x.0.id ≡ true
   pub shorter : length x.1.rest < length left.rest
 
@@ -63,28 +63,28 @@ some x = Some x
 some_is : {A : Type 0} (x y : A) → some x ≡ some y → x ≡ y
 some_is x y e = cc
 
-valued_first : (left behind : Left) (line : Line) (r : Result (Value × Left) WireFault) (x : Property × Left) → length behind.rest < length left.rest → has_kind line.kind line.id ≡ true → value_on line.kind behind ≡ r → item_valued line r ≡ Some x → StandsFirst left x
-valued_first left behind line (Err fault) x less kind is e = absurd cc
-valued_first left behind line (Ok value) x less kind is e =
-    let reads = value_reads line.kind behind value.0 value.1 is in
+valued_first : (left following : Left) (line : Line) (r : Result (Value × Left) WireFault) (x : Property × Left) → length following.rest < length left.rest → has_kind line.kind line.id ≡ true → value_on line.kind following ≡ r → item_valued line r ≡ Some x → ComesFirst left x
+valued_first left following line (Err fault) x less kind is e = absurd cc
+valued_first left following line (Ok value) x less kind is e =
+    let reads = value_reads line.kind following value.0 value.1 is in
     let made : Property × Left = (record { id = line.id; value = value.0 }, value.1) in
-    subst (λ (y : Property × Left). StandsFirst left y) (some_is made x e)
+    subst (λ (y : Property × Left). ComesFirst left y) (some_is made x e)
     (record { typed = rw reads.typed kind; shorter = omega (arith, less, reads.within) })
 
-known_first : (left behind : Left) (id : ℕ) (o : Option Line) (x : Property × Left) → length behind.rest < length left.rest → row_of id ≡ o → item_known o behind ≡ Some x → StandsFirst left x
-known_first left behind id None x less is e = absurd cc
-known_first left behind id (Some line) x less is e =
+known_first : (left following : Left) (id : ℕ) (o : Option Line) (x : Property × Left) → length following.rest < length left.rest → row_of id ≡ o → item_known o following ≡ Some x → ComesFirst left x
+known_first left following id None x less is e = absurd cc
+known_first left following id (Some line) x less is e =
     let kind : has_kind line.kind line.id ≡ true = rw (line_known id line is) (line_kind id line is) in
-    valued_first left behind line (value_on line.kind behind) x less kind refl e
+    valued_first left following line (value_on line.kind following) x less kind refl e
 
-named_first : (left : Left) (r : Result (ℕ × Left) WireFault) (x : Property × Left) → placed left (varint_at left.rest) ≡ r → item_named r ≡ Some x → StandsFirst left x
+named_first : (left : Left) (r : Result (ℕ × Left) WireFault) (x : Property × Left) → placed left (varint_at left.rest) ≡ r → item_named r ≡ Some x → ComesFirst left x
 named_first left (Err fault) x is e = absurd cc
 named_first left (Ok id) x is e =
     let read = placed_ok left (varint_at left.rest) id.0 id.1 is in
     let taken = varint_taken left.rest (id.0, read.0) read.1 in
     known_first left id.1 id.0 (row_of id.0) x (omega (arith, taken.0, taken.1, ap (λ (l : Left). length l.rest) read.2, length-drop read.0 left.rest)) refl e
 
-pub item_first : (left : Left) (x : Property × Left) → item_on left ≡ Some x → StandsFirst left x
+pub item_first : (left : Left) (x : Property × Left) → item_on left ≡ Some x → ComesFirst left x
 unfolding item_on
 item_first left x e = named_first left (placed left (varint_at left.rest)) x refl e
 

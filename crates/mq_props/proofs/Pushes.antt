@@ -12,7 +12,7 @@ use Rattle.mq_props.specs.declared.prop.Prop.{Prop}
 use Rattle.mq_props.specs.Props.{prop_view}
 use Rattle.mq_props.specs.Table.{Line, row_of, is_listed}
 use Rattle.mq_props.specs.Values.{Value, Property, IsValue, value_type, value_spelling, property_spelling, body}
-use Rattle.mq_props.specs.Allowed.{is_repeated, in_range, is_wild, IsAllowed, AllowedBehind, AreAllowed}
+use Rattle.mq_props.specs.Allowed.{is_repeated, in_range, is_wild, IsAllowed, AllowedAfter, AreAllowed}
 use Rattle.mq_props.specs.Reading.{items_of, items_on}
 use Rattle.mq_props.specs.declared.seen.Seen.{Seen}
 use Rattle.mq_props.specs.Views.{Sees}
@@ -105,7 +105,7 @@ writes_by list p (Some line) e = let t = taken_by list p line e in record { no_n
 pub writes : (list : Listed) (p : Property) → push_fault_by_line list p.value (row_of p.id) ≡ None → Writes p.value
 writes list p e = writes_by list p (row_of p.id) e
 
-allowed-push : (place : Place) (before ps : List Property) (p : Property) → AllowedBehind place before ps → IsAllowed place (before ++ ps) p → AllowedBehind place before (ps ++ p ∷ [])
+allowed-push : (place : Place) (before ps : List Property) (p : Property) → AllowedAfter place before ps → IsAllowed place (before ++ ps) p → AllowedAfter place before (ps ++ p ∷ [])
 allowed-push place before [] p allowed is = (subst (λ (all : List Property). IsAllowed place all p) (append-nil before) is, tt)
 allowed-push place before (q ∷ ps) p allowed is =
     (allowed.0, allowed-push place (before ++ q ∷ []) ps p allowed.1 (subst (λ (all : List Property). IsAllowed place all p) (sym (append_assoc before (q ∷ []) ps)) is))
@@ -169,14 +169,14 @@ pub no_room : (capacity size id : ℕ) (v : Value) → id < 128 → capacity < s
 no_room capacity size id v small lt = omega (arith, lt, ap length (id_spelled id small), length-append (varint_spelling id) (value_spelling v))
 
 -- no room for the value after it
-pub no_room_behind : (capacity more size behind id : ℕ) (v : Value) → id < 128 → capacity ≤ more → behind ≡ size + 1 → more < behind + length (value_spelling v) → capacity < size + length (property_spelling (record { id = id; value = v }))
-no_room_behind capacity more size behind id v small le is lt =
+pub no_room_after : (capacity more size following id : ℕ) (v : Value) → id < 128 → capacity ≤ more → following ≡ size + 1 → more < following + length (value_spelling v) → capacity < size + length (property_spelling (record { id = id; value = v }))
+no_room_after capacity more size following id v small le is lt =
     omega (arith, le, is, lt, ap length (id_spelled id small), length-append (varint_spelling id) (value_spelling v))
 
-pub room_behind : (result : Result (Unit {0}) PushFault) (capacity more size behind id : ℕ) (v : Value) → id < 128 → capacity ≤ more → behind ≡ size + 1 → OnErr result (more < behind + length (value_spelling v))
+pub room_after : (result : Result (Unit {0}) PushFault) (capacity more size following id : ℕ) (v : Value) → id < 128 → capacity ≤ more → following ≡ size + 1 → OnErr result (more < following + length (value_spelling v))
     → OnErr result (capacity < size + length (property_spelling (record { id = id; value = v })))
-room_behind (Ok u) capacity more size behind id v small le is lacks = tt
-room_behind (Err fault) capacity more size behind id v small le is lacks = no_room_behind capacity more size behind id v small le is lacks
+room_after (Ok u) capacity more size following id v small le is lacks = tt
+room_after (Err fault) capacity more size following id v small le is lacks = no_room_after capacity more size following id v small le is lacks
 
 -- ---- as the call leaves the list
 

@@ -68,7 +68,7 @@ pub record Found (place : Place) (before : List Property) (left : Left) (p : Pro
   pub once : is_repeated place before p.id ≡ false
   pub more : ℕ
   pub value : value_at line.kind (drop size left.rest) ≡ Ok (p.value, more)
-  pub behind : new ≡ past (past left size) more
+  pub following : new ≡ past (past left size) more
   pub ranged : in_range line.range p.value ≡ true
   pub plain : is_wild place p.id p.value ≡ false
 
@@ -76,7 +76,7 @@ pub record Found (place : Place) (before : List Property) (left : Left) (p : Pro
 found_from : (place : Place) (before : List Property) (left : Left) (id size more : ℕ) (line : Line) (v : Value) (new : Left) → varint_at left.rest ≡ Ok (id, size) → Admits place before (row_of id) line
     → value_at line.kind (drop size left.rest) ≡ Ok (v, more) → new ≡ past (past left size) more → in_range line.range v ≡ true → is_wild place line.id v ≡ false
     → Found place before left (record { id = line.id; value = v }) new
-found_from place before left id size more line v new named admits value behind ranged plain =
+found_from place before left id size more line v new named admits value following ranged plain =
     let same : line.id ≡ id = line_known id line admits.known in
     record {
       size = size;
@@ -88,7 +88,7 @@ found_from place before left id size more line v new named admits value behind r
       once = admits.once;
       more = more;
       value = value;
-      behind = behind;
+      following = following;
       ranged = ranged;
       plain = plain;
     }
@@ -107,8 +107,8 @@ property_on_ok place before left p new e =
     let is = choose_ok (in_range line.0.range value.0.0) (is_wild place line.0.id value.0.0) made property.0 Wildcard BadValue (judged_ok id.0.1.at (valued place line.0 value.0.0) property.0 property.1) in
     let rest_is : id.0.1.rest ≡ drop named.0 left.rest = ap (λ (l : Left). l.rest) named.2 in
     let value_read : value_at line.0.kind (drop named.0 left.rest) ≡ Ok (value.0.0, read.0) = subst (λ (bytes : List ℕ). value_at line.0.kind bytes ≡ Ok (value.0.0, read.0)) rest_is read.1 in
-    let behind : value.0.1 ≡ past (past left named.0) read.0 = read.2 ∙ ap (λ (l : Left). past l read.0) named.2 in
-    let here = found_from place before left id.0.0 named.0 read.0 line.0 value.0.0 value.0.1 named.1 admits value_read behind is.0 is.1 in
+    let following : value.0.1 ≡ past (past left named.0) read.0 = read.2 ∙ ap (λ (l : Left). past l read.0) named.2 in
+    let here = found_from place before left id.0.0 named.0 read.0 line.0 value.0.0 value.0.1 named.1 admits value_read following is.0 is.1 in
     let whole : Property × Left = (property.0, value.0.1) in
     subst (λ (x : Property × Left). Found place before left x.0 x.1) (done_is whole (p, new) property.2)
     (subst (λ (q : Property). Found place before left q value.0.1) is.2 here)
@@ -117,7 +117,7 @@ property_on_ok place before left p new e =
 pub found_shorter : (place : Place) (before : List Property) (left : Left) (p : Property) (new : Left) → Found place before left p new → length new.rest < length left.rest
 found_shorter place before left p new found =
     let some = varint_taken left.rest (p.id, found.size) found.named in
-    rw found.behind (omega (arith, some.0, some.1, length-drop found.more (drop found.size left.rest), length-drop found.size left.rest))
+    rw found.following (omega (arith, some.0, some.1, length-drop found.more (drop found.size left.rest), length-drop found.size left.rest))
 
 -- its identifier is below 43
 pub found_below : (place : Place) (before : List Property) (left : Left) (p : Property) (new : Left) → Found place before left p new → p.id < 43

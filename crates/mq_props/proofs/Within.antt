@@ -75,7 +75,7 @@ found_inside : (place : Place) (before : List Property) (left : Left) (p : Prope
 found_inside place before left p new found =
     let size : found.size ≤ length left.rest = subst (λ (r : Result (ℕ × ℕ) Reason). taken_by r ≤ length left.rest) found.named (varint_within left.rest) in
     let more : found.more ≤ length (drop found.size left.rest) = subst (λ (r : Result (Value × ℕ) Reason). taken_by r ≤ length (drop found.size left.rest)) found.value (value_within found.line.kind (drop found.size left.rest)) in
-    subst (λ (l : Left). Inside left l) (sym found.behind) (omega arith, omega (arith, size, more, length-drop found.size left.rest, length-drop found.more (drop found.size left.rest)))
+    subst (λ (l : Left). Inside left l) (sym found.following) (omega arith, omega (arith, size, more, length-drop found.size left.rest, length-drop found.more (drop found.size left.rest)))
 
 within_fault : (fuel : ℕ) (place : Place) (before : List Property) (left : Left) → IfErr (properties_within fuel place before left) (Within left)
 within_fault zero place before left = tt
@@ -109,9 +109,9 @@ unfolding list_on
 list_fault place left =
     bind_within (Within left) (from_wire (placed left (varint_at left.rest))) (λ len. within_length left len.0 len.1 >>= λ inside. properties_on place [] inside >>= λ ps. Ok (ps, past len.1 len.0)) (wire_within left (varint_at left.rest)) (λ len named.
     bind_within (Within left) (within_length left len.0 len.1) (λ inside. properties_on place [] inside >>= λ ps. Ok (ps, past len.1 len.0)) (counted_fault left len.0 len.1) (λ inside enough.
-    let behind = field_inside left (varint_at left.rest) len.0 len.1 (varint_within left.rest) named in
+    let following = field_inside left (varint_at left.rest) len.0 len.1 (varint_within left.rest) named in
     let part = counted_inside left len.0 len.1 inside enough in
-    bind_within (Within left) (properties_on place [] inside) (λ ps. Ok (ps, past len.1 len.0)) (part_within left inside (properties_on place [] inside) (omega (arith, behind.0, part.0), omega (arith, behind.1, part.1)) (properties_fault place [] inside)) (λ ps read. tt)))
+    bind_within (Within left) (properties_on place [] inside) (λ ps. Ok (ps, past len.1 len.0)) (part_within left inside (properties_on place [] inside) (omega (arith, following.0, part.0), omega (arith, following.1, part.1)) (properties_fault place [] inside)) (λ ps read. tt)))
 
 -- the fault of a list that is refused
 pub list_err_within : (place : Place) (left : Left) (fault : PropFault) → list_on place left ≡ Err fault → (left.at ≤ fault.at) × (fault.at ≤ left.at + length left.rest)

@@ -13,12 +13,12 @@ use Rattle.mq_props.specs.Table.{Line, row_of, same_place, is_listed, may_repeat
 use Rattle.mq_props.specs.Values.{Value, byte_value, two_bytes_value, four_bytes_value, varint_value, text_value, pair_value, binary_value, Property, value_type, IsValue, body}
 
 -- A property with the identifier is among these.
-abbrev pub stands_in : ℕ → List Property → Bool
-stands_in id ps = list_any (λ p. p.id == id) ps
+abbrev pub occurs_in : ℕ → List Property → Bool
+occurs_in id ps = list_any (λ p. p.id == id) ps
 
 -- A property with the identifier may not follow these, since it is among them and may be in the list only once.
 abbrev pub is_repeated : Place → List Property → ℕ → Bool
-is_repeated place before id = stands_in id before && not (may_repeat place id)
+is_repeated place before id = occurs_in id before && not (may_repeat place id)
 
 -- The number is in the range.
 abbrev pub number_in_range : Range → ℕ → Bool
@@ -62,13 +62,13 @@ pub record IsAllowed (place : Place) (before : List Property) (p : Property) : T
   pub plain : is_wild place p.id p.value ≡ false
 
 -- Each of the properties is allowed in the list after these and those before it.
-abbrev pub AllowedBehind : Place → List Property → List Property → Type 0
-AllowedBehind place before [] = Unit {0}
-AllowedBehind place before (p ∷ ps) = IsAllowed place before p × AllowedBehind place (before ++ p ∷ []) ps
+abbrev pub AllowedAfter : Place → List Property → List Property → Type 0
+AllowedAfter place before [] = Unit {0}
+AllowedAfter place before (p ∷ ps) = IsAllowed place before p × AllowedAfter place (before ++ p ∷ []) ps
 
 -- The properties are a valid list for the place.
 abbrev pub AreAllowed : Place → List Property → Type 0
-AreAllowed place ps = AllowedBehind place [] ps
+AreAllowed place ps = AllowedAfter place [] ps
 
 -- The bytes are a property list of the place: the length of the properties' spelling, and that spelling.
 pub record Lists (place : Place) (ps : List Property) (bytes : List ℕ) : Type 0 where

@@ -15,19 +15,19 @@ use Rattle.mq_props.specs.Values.{Value, Property, value_type, IsValue, value_sp
 use Rattle.mq_props.specs.Allowed.{is_repeated, in_range, is_wild}
 
 -- What is left begins with a Variable Byte Integer, after which this is left.
-pub record Numbered (left : Left) (number : ℕ) (behind : Left) : Type 0 where
+pub record Numbered (left : Left) (number : ℕ) (following : Left) : Type 0 where
   pub is_number : IsVarint number
-  pub spelled : left.rest ≡ varint_spelling number ++ behind.rest
-  pub place : behind.at ≡ left.at + length (varint_spelling number)
+  pub spelled : left.rest ≡ varint_spelling number ++ following.rest
+  pub place : following.at ≡ left.at + length (varint_spelling number)
 
 -- The integer is the identifier of a line of the table.
-pub record NamedBy (left : Left) (line : Line) (behind : Left) : Type 0 where
-  pub named : Numbered left line.id behind
+pub record NamedBy (left : Left) (line : Line) (following : Left) : Type 0 where
+  pub named : Numbered left line.id following
   pub known : row_of line.id ≡ Some line
 
 -- It is, and a property of the line is allowed in the place's list after these.
-pub record Begins (place : Place) (before : List Property) (left : Left) (line : Line) (behind : Left) : Type 0 where
-  pub named : NamedBy left line behind
+pub record Begins (place : Place) (before : List Property) (left : Left) (line : Line) (following : Left) : Type 0 where
+  pub named : NamedBy left line following
   pub listed : is_listed place line ≡ true
   pub once : is_repeated place before line.id ≡ false
 
@@ -57,24 +57,24 @@ pub record BadIdentifier (left : Left) (fault : PropFault) : Type 0 where
 -- No property has the identifier.
 pub record UnknownProperty (left : Left) (fault : PropFault) : Type 0 where
   pub id : ℕ
-  pub behind : Left
-  pub named : Numbered left id behind
+  pub following : Left
+  pub named : Numbered left id following
   pub unknown : row_of id ≡ None
   pub is : fault ≡ record { at = left.at; reason = Unknown }
 
 -- The property isn't allowed in the place's list.
 pub record UnlistedProperty (place : Place) (left : Left) (fault : PropFault) : Type 0 where
   pub line : Line
-  pub behind : Left
-  pub named : NamedBy left line behind
+  pub following : Left
+  pub named : NamedBy left line following
   pub unlisted : is_listed place line ≡ false
   pub is : fault ≡ record { at = left.at; reason = NotAllowed }
 
 -- It is allowed there, but is among these already, and may be there only once.
 pub record RepeatedProperty (place : Place) (before : List Property) (left : Left) (fault : PropFault) : Type 0 where
   pub line : Line
-  pub behind : Left
-  pub named : NamedBy left line behind
+  pub following : Left
+  pub named : NamedBy left line following
   pub listed : is_listed place line ≡ true
   pub again : is_repeated place before line.id ≡ true
   pub is : fault ≡ record { at = left.at; reason = Repeated }
@@ -82,32 +82,32 @@ pub record RepeatedProperty (place : Place) (before : List Property) (left : Lef
 -- The property is allowed there, and its value is misspelled.
 pub record MisspelledValue (place : Place) (before : List Property) (left : Left) (fault : PropFault) : Type 0 where
   pub line : Line
-  pub behind : Left
-  pub begins : Begins place before left line behind
+  pub following : Left
+  pub begins : Begins place before left line following
   pub reason : Reason
-  pub misspelled : Misspelled (field_type line.kind) behind.rest reason
-  pub is : fault ≡ record { at = behind.at; reason = Wire reason }
+  pub misspelled : Misspelled (field_type line.kind) following.rest reason
+  pub is : fault ≡ record { at = following.at; reason = Wire reason }
 
 -- The value is well spelled, and out of its range.
 pub record ValueOutOfRange (place : Place) (before : List Property) (left : Left) (fault : PropFault) : Type 0 where
   pub line : Line
-  pub behind : Left
-  pub begins : Begins place before left line behind
+  pub following : Left
+  pub begins : Begins place before left line following
   pub value : Value
-  pub valued : IsValued line.kind behind value
+  pub valued : IsValued line.kind following value
   pub out : in_range line.range value ≡ false
-  pub is : fault ≡ record { at = behind.at; reason = BadValue }
+  pub is : fault ≡ record { at = following.at; reason = BadValue }
 
 -- The value is in its range, and is a Response Topic of a PUBLISH with a wildcard.
 pub record WildValue (place : Place) (before : List Property) (left : Left) (fault : PropFault) : Type 0 where
   pub line : Line
-  pub behind : Left
-  pub begins : Begins place before left line behind
+  pub following : Left
+  pub begins : Begins place before left line following
   pub value : Value
-  pub valued : IsValued line.kind behind value
+  pub valued : IsValued line.kind following value
   pub ranged : in_range line.range value ≡ true
   pub wild : is_wild place line.id value ≡ true
-  pub is : fault ≡ record { at = behind.at; reason = Wildcard }
+  pub is : fault ≡ record { at = following.at; reason = Wildcard }
 
 -- The fault is that of the identifier at the front of what is left, in the place's list after these properties.
 abbrev pub BreaksIdentifier : Place → List Property → Left → PropFault → Type 0

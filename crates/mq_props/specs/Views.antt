@@ -5,7 +5,7 @@ use Rattle.mq_props.specs.declared.value.Value.TheVariants as held
 use Rattle.mq_props.specs.declared.value.Item.{Item}
 use Rattle.mq_props.specs.declared.seen.Seen.{Seen}
 use Rattle.mq_props.specs.Values.{Value, byte_value, two_bytes_value, four_bytes_value, varint_value, text_value, pair_value, binary_value, Property}
-use Rattle.mq_props.specs.Allowed.{stands_in}
+use Rattle.mq_props.specs.Allowed.{occurs_in}
 
 -- A value, apart from where its bytes are in memory.
 abbrev pub value_view : Held → Value
@@ -24,4 +24,4 @@ item_view item = record { id = item.id; value = value_view item.value }
 -- The identifiers that were seen are those of the properties.
 pub record Sees (seen : Seen) (ps : List Property) : Type 0 where
   pub size : length seen.by_id ≡ 43
-  pub same : (id : ℕ) → slice_index_or seen.by_id id false ≡ stands_in id ps
+  pub same : (id : ℕ) → slice_index_or seen.by_id id false ≡ occurs_in id ps

@@ -257,7 +257,7 @@ fn put_value(out: &mut Vec<u8>, value: &Value) -> Result<(), PushFault>
 }
 
 // Appends the property, or only a part of it if there is no memory.
-#[tactic(auto, using(crate::proofs::Pushes::id_spelled, crate::proofs::Pushes::no_room, crate::proofs::Pushes::no_room_behind, std::proofs::lemmas::List::append_assoc, std::proofs::lemmas::List::take_at))]
+#[tactic(auto, using(crate::proofs::Pushes::id_spelled, crate::proofs::Pushes::no_room, crate::proofs::Pushes::no_room_after, std::proofs::lemmas::List::append_assoc, std::proofs::lemmas::List::take_at))]
 fn put_item(out: &mut Vec<u8>, item: &Item) -> Result<(), PushFault>
     requires id { item.now.id < 128 }
     requires long { is_long (value_view item.now.value) ≡ false }

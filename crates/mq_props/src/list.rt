@@ -65,9 +65,9 @@ fn read_item<'a>(place: Place, seen: &Seen, cursor: &mut Cursor<'a>) -> Result<I
     let start = cursor.at();
     let id = cursor.varint()?;
     let row = admit(place, seen, start, id)?;
-    let behind = cursor.at();
+    let value_at = cursor.at();
     let value = read_value(row.1, cursor)?;
-    let item = judge(place, row, behind, value)?;
+    let item = judge(place, row, value_at, value)?;
     Ok(item)
 }
 

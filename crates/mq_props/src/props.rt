@@ -76,7 +76,7 @@ pub fn after_empty_list(bytes: &[u8]) -> Option<&[u8]>
     ensures begins { is_some result ≡ begins_with_zero bytes.now }
 {
     match bytes {
-        [0, behind @ ..] => Some(behind),
+        [0, rest @ ..] => Some(rest),
         _ => None,
     }
 }
@@ -91,8 +91,8 @@ fn list_at<'a>(cursor: &mut Cursor<'a>, place: Place) -> Result<Props<'a>, PropF
 {
     let at = cursor.at();
     match after_empty_list(rest_of(cursor)) {
-        Some(behind) => {
-            *cursor = Cursor::starting_at(behind, at + 1);
+        Some(rest) => {
+            *cursor = Cursor::starting_at(rest, at + 1);
             Ok(Props::empty(place))
         }
         None => any_list_at(cursor, place),

@@ -2,7 +2,7 @@
 
 ghost use Rattle.std.specs.Prelude.{◌≡◌, ℕ, ◌<◌, [], ◌∷◌, ◌++◌, List, false, slice_index_or};
 ghost use Rattle.mq_props.specs.Values.{Property};
-ghost use Rattle.mq_props.specs.Allowed.{stands_in};
+ghost use Rattle.mq_props.specs.Allowed.{occurs_in};
 ghost use Rattle.mq_props.specs.Views.{Sees};
 
 /// Which Property Identifiers, all below 43, have been seen.
@@ -22,7 +22,7 @@ impl Seen {
     /// Whether the identifier has been seen.
     pub fn has(&self, id: u8) -> bool
         requires { id < 43 }
-        ensures { (ps : List Property) → Sees self.now ps → result ≡ stands_in id ps }
+        ensures { (ps : List Property) → Sees self.now ps → result ≡ occurs_in id ps }
     {
         self.by_id[id as usize]
     }

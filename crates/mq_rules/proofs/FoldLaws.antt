@@ -12,7 +12,7 @@ use Rattle.mq_rules.specs.declared.note.Seen.{Seen}
 use Rattle.mq_rules.specs.Notes.{is_open, is_release, decides, needs_session}
 use Rattle.mq_rules.specs.Moments.{Moment, newest, some, since, latest}
 use Rattle.mq_rules.specs.Connections.{latest_fate, accepts, begins, any_accepted, has_session, with_first, session, IsInOrder}
-use Rattle.mq_rules.specs.Folds.{folded, ByPackets, where_in, kept_by, stands_under, gained, since_by, some_by, latest_by}
+use Rattle.mq_rules.specs.Folds.{folded, ByPackets, where_in, kept_by, session_since, gained, since_by, some_by, latest_by}
 use Rattle.mq_rules.proofs.FateLaws.{latest_fate-next}
 
 -- ---- the words on moments are folds
@@ -53,13 +53,13 @@ module _ {A : Type 0} (g : Moment → A → A) (z : A) where
       with_first-folded (has_session role f e past) (newest e past) (cond (is_open e.note) (cond (begins f) [] (session role (latest_fate role past) past)) (session role f past))
       ∙ ap (where_in (has_session role f e past) (g (newest e past))) (opened-folded (is_open e.note) (begins f) (session role (latest_fate role past) past) (session role f past))
 
-pub stands_under-next : (role : Role) (starts ends : Moment → Bool) (f : Option Fate) (e : Seen) (past : List Seen) → stands_under role starts ends f (e ∷ past)
+pub session_since-next : (role : Role) (starts ends : Moment → Bool) (f : Option Fate) (e : Seen) (past : List Seen) → session_since role starts ends f (e ∷ past)
     ≡ gained (has_session role f e past) (starts (newest e past)) (ends (newest e past))
-    (cond (is_open e.note) (not (begins f) && stands_under role starts ends (latest_fate role past) past) (stands_under role starts ends f past))
-stands_under-next role starts ends f e past = go (has_session role f e past) (is_open e.note) (begins f)
+    (cond (is_open e.note) (not (begins f) && session_since role starts ends (latest_fate role past) past) (session_since role starts ends f past))
+session_since-next role starts ends f e past = go (has_session role f e past) (is_open e.note) (begins f)
   where
     go : (inside opens new : Bool) → since starts ends (with_first inside (newest e past) (cond opens (cond new [] (session role (latest_fate role past) past)) (session role f past)))
-        ≡ gained inside (starts (newest e past)) (ends (newest e past)) (cond opens (not new && stands_under role starts ends (latest_fate role past) past) (stands_under role starts ends f past))
+        ≡ gained inside (starts (newest e past)) (ends (newest e past)) (cond opens (not new && session_since role starts ends (latest_fate role past) past) (session_since role starts ends f past))
     go true true true = refl
     go true true false = refl
     go true false new = refl

@@ -15,9 +15,9 @@ use Rattle.mq_trace.specs.declared.header.Header.{Header}
 use Rattle.mq_trace.specs.Framing.{header_by}
 use Rattle.mq_trace.specs.Events.{Event, Placed, event_in, events, packet, bad, lost, opened, closed, sent, received}
 use Rattle.mq_trace.specs.Connections.{begins_connection, ends_connection, is_connack_type, is_session_type, is_answer, needs_answer, has_open_connection, is_connack_seen as trace_connack_seen}
-use Rattle.mq_trace.specs.Refusals.{Situation, first_standing, conditions, header_refusal, record_refusal, refusal_at, refused, is_early}
+use Rattle.mq_trace.specs.Refusals.{Situation, first_that_applies, conditions, header_refusal, record_refusal, refusal_at, refused, is_early}
 use Rattle.mq_trace.specs.Context.{Context, context, situated, so_far_for, refusal_for, event_for, placed_with, placed_for, put}
-use Rattle.mq_trace.proofs.Exports.{refused-grow, refusal-kept, events-kept, events-header, header-behind, at_context}
+use Rattle.mq_trace.proofs.Exports.{refused-grow, refusal-kept, events-kept, events-header, header-unchanged, at_context}
 use Rattle.mq_rules.specs.declared.role.Role.{Role}
 use Rattle.mq_rules.specs.declared.fate.Fate.TheVariants.{Void}
 use Rattle.mq_rules.specs.declared.note.Note.{Note}
@@ -149,11 +149,11 @@ abbrev NoneApplies : List (Bool × Refusal) → Type 0
 NoneApplies [] = Unit {0}
 NoneApplies (line ∷ lines) = (line.0 ≡ false) × NoneApplies lines
 
-none_applies : (lines : List (Bool × Refusal)) → first_standing lines ≡ None → NoneApplies lines
+none_applies : (lines : List (Bool × Refusal)) → first_that_applies lines ≡ None → NoneApplies lines
 none_applies [] h = tt
 none_applies (line ∷ lines) h = go (none_applies lines) line.0 line.1 refl h
   where
-    go : (first_standing lines ≡ None → NoneApplies lines) → (b : Bool) (r : Refusal) → line.0 ≡ b → cond b (Some r) (first_standing lines) ≡ None → (line.0 ≡ false) × NoneApplies lines
+    go : (first_that_applies lines ≡ None → NoneApplies lines) → (b : Bool) (r : Refusal) → line.0 ≡ b → cond b (Some r) (first_that_applies lines) ≡ None → (line.0 ≡ false) × NoneApplies lines
     go others true r is e = absurd (cc)
     go others false r is e = (is, others e)
 
@@ -258,7 +258,7 @@ orderly_step limit log byte true is unrefused before =
 orderly_step limit log byte false is unrefused before =
     let long = ltb-false (length log) 8 is in
     let P : Header → Type 0 = λ header. IsOrderly (role_of header) (seen_in (log ++ byte ∷ [])) in
-    subst P (sym (header-behind log byte long))
+    subst P (sym (header-unchanged log byte long))
     (subst (IsOrderly (tested_by log).role) (sym (seen-kept log byte))
     (orderly_put limit log byte (event_for (context log) byte) long unrefused refl before))
 

@@ -33,8 +33,8 @@ kept_by role (Some f) n g z old = cond (is_open n) old (cond (accepts f) (g old)
 
 -- The current session after these events, if the latest connection has this fate, has some moment that passes the first test, and no later one that passes
 -- the second.
-abbrev pub stands_under : Role → (Moment → Bool) → (Moment → Bool) → Option Fate → List Seen → Bool
-stands_under role starts ends f log = since starts ends (session role f log)
+abbrev pub session_since : Role → (Moment → Bool) → (Moment → Bool) → Option Fate → List Seen → Bool
+session_since role starts ends f log = since starts ends (session role f log)
 
 -- the same for `since`: the moment is in the session or not, and passes these tests or not
 abbrev pub gained : Bool → Bool → Bool → Bool → Bool

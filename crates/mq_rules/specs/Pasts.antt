@@ -21,8 +21,8 @@ abbrev pub sends_typed : Moment → Bool
 sends_typed k = is_some_and is_typed (sent_item (note k))
 
 -- before the moment, on its connection, some moment passes the test
-abbrev pub stood : (Note → Bool) → Moment → Bool
-stood test k = some (λ j. test (note j)) (connection k.past)
+abbrev pub came_before : (Note → Bool) → Moment → Bool
+came_before test k = some (λ j. test (note j)) (connection k.past)
 
 abbrev pub is_sent_disconnect : Note → Bool
 is_sent_disconnect n = is_some (sent_disconnect n)
@@ -86,19 +86,19 @@ breaks_C02 k = sends_typed k && (not (sends_type types.Connect (note k)) && not 
 
 -- C03: a CONNECT is sent, and one was sent before.
 unfoldable pub breaks_C03 : Moment → Bool
-breaks_C03 k = sends_type types.Connect (note k) && stood (sends_type types.Connect) k
+breaks_C03 k = sends_type types.Connect (note k) && came_before (sends_type types.Connect) k
 
 -- C04: a CONNACK is sent, and no CONNECT was received before.
 unfoldable pub breaks_C04 : Moment → Bool
-breaks_C04 k = sends_type types.Connack (note k) && not (stood (receives_type types.Connect) k)
+breaks_C04 k = sends_type types.Connack (note k) && not (came_before (receives_type types.Connect) k)
 
 -- C05: another packet than a CONNACK or an AUTH is sent, and no CONNACK was sent before.
 unfoldable pub breaks_C05 : Moment → Bool
-breaks_C05 k = sends_typed k && (not (sends_type types.Connack (note k) || sends_type types.Auth (note k)) && not (stood (sends_type types.Connack) k))
+breaks_C05 k = sends_typed k && (not (sends_type types.Connack (note k) || sends_type types.Auth (note k)) && not (came_before (sends_type types.Connack) k))
 
 -- C06: a CONNACK is sent, and one was sent before.
 unfoldable pub breaks_C06 : Moment → Bool
-breaks_C06 k = sends_type types.Connack (note k) && stood (sends_type types.Connack) k
+breaks_C06 k = sends_type types.Connack (note k) && came_before (sends_type types.Connack) k
 
 -- C07: a CONNACK has Session Present 1, and the CONNECT had Clean Start 1.
 unfoldable pub breaks_C07 : Moment → Bool
@@ -118,11 +118,11 @@ breaks_C10 k = accepts_so (note k) && (not (is_some_and (λ c. c.has_assigned_id
 
 -- C11: something is sent, and a DISCONNECT was sent before.
 unfoldable pub breaks_C11 : Moment → Bool
-breaks_C11 k = sends_typed k && stood is_sent_disconnect k
+breaks_C11 k = sends_typed k && came_before is_sent_disconnect k
 
 -- C12: something is sent, and a CONNACK of 0x80 or more was sent before.
 unfoldable pub breaks_C12 : Moment → Bool
-breaks_C12 k = sends_typed k && stood is_sent_refusal k
+breaks_C12 k = sends_typed k && came_before is_sent_refusal k
 
 -- C13: another packet than a DISCONNECT is sent after a CONNACK that resumed a session, though Clean Start was 1 or the session wasn't alive.
 unfoldable pub breaks_C13 : Moment → Bool
@@ -146,7 +146,7 @@ used_alias n = option_and_then (λ p. only (length p.topic == 0) p.topic_alias) 
 
 -- C16: a PUBLISH is sent with an empty Topic Name, and none before had its Topic Alias and a Topic Name.
 unfoldable pub breaks_C16 : Moment → Bool
-breaks_C16 k = is_some_and (λ alias. not (stood (λ n. is_id alias (set_alias n)) k)) (used_alias (note k))
+breaks_C16 k = is_some_and (λ alias. not (came_before (λ n. is_id alias (set_alias n)) k)) (used_alias (note k))
 
 -- C17: a PUBLISH is sent at a QoS above the server's Maximum QoS.
 unfoldable pub breaks_C17 : Moment → Bool
@@ -182,4 +182,4 @@ is_last_sent Server n = is_sent_disconnect n || is_sent_refusal n
 
 -- C23: the end is at rest though it sent such a packet before.
 unfoldable pub breaks_C23 : Role → Moment → Bool
-breaks_C23 role k = is_rest (note k) && stood (is_last_sent role) k
+breaks_C23 role k = is_rest (note k) && came_before (is_last_sent role) k

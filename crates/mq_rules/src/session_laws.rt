@@ -8,7 +8,7 @@ ghost use Rattle.mq_rules.specs.declared.note.Seen.{Seen};
 ghost use Rattle.mq_rules.specs.Notes.{is_open, decides, seen_in, tested_by};
 ghost use Rattle.mq_rules.specs.Moments.{Moment, newest, moments, some, since, latest, Among, IsPlaced};
 ghost use Rattle.mq_rules.specs.Connections.{begun, connection, fate, latest_fate, begins, has_session, session, fate_under, IsInSession, is_alive_after, IsAlive, IsInOrder};
-ghost use Rattle.mq_rules.specs.Folds.{folded, ByPackets, where_in, kept_by, stands_under, gained, since_by, some_by, latest_by};
+ghost use Rattle.mq_rules.specs.Folds.{folded, ByPackets, where_in, kept_by, session_since, gained, since_by, some_by, latest_by};
 
 /// An OPEN begins a connection, and any other event belongs to the latest one.
 pub fn connection_goes_on()
@@ -45,8 +45,8 @@ pub fn fold_goes_on<A>()
 
 /// `since` in a session, with one more event, if the latest connection has this fate.
 pub fn since_goes_on()
-    ensures { (role : Role) (starts ends : Moment → Bool) (f : Option Fate) (e : Seen) (past : List Seen) → stands_under role starts ends f (e ∷ past)
-        ≡ gained (has_session role f e past) (starts (newest e past)) (ends (newest e past)) (cond (is_open e.note) (not (begins f) && stands_under role starts ends (latest_fate role past) past) (stands_under role starts ends f past)) }
+    ensures { (role : Role) (starts ends : Moment → Bool) (f : Option Fate) (e : Seen) (past : List Seen) → session_since role starts ends f (e ∷ past)
+        ≡ gained (has_session role f e past) (starts (newest e past)) (ends (newest e past)) (cond (is_open e.note) (not (begins f) && session_since role starts ends (latest_fate role past) past) (session_since role starts ends f past)) }
 {}
 
 /// The session is alive after connection c exactly if some connection up to c is accepted with a Session Expiry Interval other than 0, or isn't accepted and

@@ -13,15 +13,15 @@ use Rattle.mq_trace.specs.declared.reading.Reading.{Reading}
 use Rattle.mq_trace.specs.Framing.{kind_of, direction_of, body_length}
 use Rattle.mq_trace.specs.Events.{Event, Placed}
 use Rattle.mq_trace.specs.Context.{so_far_in, so_far_for}
-use Rattle.mq_trace.specs.Runs.{behind, refused_in, events_by}
-use Rattle.mq_trace.specs.Flows.{BodyContext, Flow, flow_event, flow_with, flow_after, flow_behind, flow_refused, flow_events, context_in, flow_in, flowed}
+use Rattle.mq_trace.specs.Runs.{after_bytes, refused_in, events_by}
+use Rattle.mq_trace.specs.Flows.{BodyContext, Flow, flow_event, flow_with, flow_after, flow_after_bytes, flow_refused, flow_events, context_in, flow_in, flowed}
 use Rattle.mq_trace.specs.Reception.{AreEvents}
 use Rattle.mq_trace.specs.Deframing.{flow_of, FlowWhy, FlowStops}
 use Rattle.mq_trace.specs.Keeping.{state_in, IsAt, context_of, begun_in, IsWithin, IsUnfinished, IsSound, Advances, Comes, StepStops}
 use Rattle.mq_trace.specs.Stepping.{context_for, deframer_for, flow_for, redirected, leaving, carried_on}
 use Rattle.mq_trace.proofs.FramingLaws.{body_length-append, kind_of-append}
 use Rattle.mq_trace.proofs.EndLaws.{left_sound}
-use Rattle.mq_trace.proofs.LiftLaws.{lifted-so_far, state_flowed, lifted-refused, lifted-events, lifted-behind}
+use Rattle.mq_trace.proofs.LiftLaws.{lifted-so_far, state_flowed, lifted-refused, lifted-events, lifted-after_bytes}
 
 context_same : (r : Reading) (direction : Direction) (part : List ℕ) → context_in (context_of r part) direction ≡ context_for r direction
 context_same r direction part = refl
@@ -39,9 +39,9 @@ connected_after : (context : BodyContext) (f : Flow) (byte : ℕ) → (flow_afte
 unfolding flow_after
 connected_after context f byte = connected_with context _ (flow_event context f byte)
 
-connected_behind : (context : BodyContext) (f : Flow) (bytes : List ℕ) → (flow_behind context f bytes).connected ≡ f.connected
-connected_behind context f [] = refl
-connected_behind context f (byte ∷ bytes) = connected_behind context (flow_after context f byte) bytes ∙ connected_after context f byte
+connected_after_bytes : (context : BodyContext) (f : Flow) (bytes : List ℕ) → (flow_after_bytes context f bytes).connected ≡ f.connected
+connected_after_bytes context f [] = refl
+connected_after_bytes context f (byte ∷ bytes) = connected_after_bytes context (flow_after context f byte) bytes ∙ connected_after context f byte
 
 limit_same : (r : Reading) (direction : Direction) (d : Deframer) → (redirected r direction d).limit ≡ r.limit
 limit_same r directions.Sent d = refl
@@ -60,16 +60,16 @@ flowed_context r directions.Recv part bytes d connections at left same =
 
 redirected_sound : (r : Reading) (direction : Direction) (d : Deframer) (connections : Connections) (at left : ℕ) → at ≤ 8 + 1048581 * r.records + (1048581 - left) → left ≤ 1048576 → 8 ≤ at → r.records < 4294967295
     → IsUnfinished r.limit (state_in r.sent) → IsUnfinished r.limit (state_in r.recv) → IsUnfinished r.limit (state_in d) → IsSound (carried_on r direction at d connections left)
-redirected_sound r directions.Sent d connections at left counted short behind room sent recv own = left_sound (record r { sent = d; at = at; connections = connections }) directions.Sent left counted short behind room own recv
-redirected_sound r directions.Recv d connections at left counted short behind room sent recv own = left_sound (record r { recv = d; at = at; connections = connections }) directions.Recv left counted short behind room sent own
+redirected_sound r directions.Sent d connections at left counted short past_header room sent recv own = left_sound (record r { sent = d; at = at; connections = connections }) directions.Sent left counted short past_header room own recv
+redirected_sound r directions.Recv d connections at left counted short past_header room sent recv own = left_sound (record r { recv = d; at = at; connections = connections }) directions.Recv left counted short past_header room sent own
 
 -- within a body of which so many bytes are still to come
 module _ (r : Reading) (direction : Direction) (left : ℕ) (sound : IsSound r) (staged : r.stage ≡ stages.Body direction left) where
   body_within : (1 ≤ left) × (left ≤ 1048576)
   body_within = subst IsWithin staged sound.within
 
-  pub body_behind : 8 ≤ r.at
-  body_behind = let some : begun_in r.stage ≡ 1048581 - left = ap begun_in staged in let few = body_within.1 in sound.behind_header (omega arith)
+  pub body_after : 8 ≤ r.at
+  body_after = let some : begun_in r.stage ≡ 1048581 - left = ap begun_in staged in let few = body_within.1 in sound.past_header (omega arith)
 
   pub body_room : r.records < 4294967295
   body_room = let some : begun_in r.stage ≡ 1048581 - left = ap begun_in staged in let few = body_within.1 in sound.begun (omega arith)
@@ -88,12 +88,12 @@ module _ (r : Reading) (direction : Direction) (left : ℕ) (sound : IsSound r) 
 
   pub body_refused : (part bytes : List ℕ) → IsAt r.stage part → length bytes ≤ left → refused_in r.limit (context_of r part) bytes ≡ flow_refused r.limit (context_for r direction) (flow_for r direction) bytes
   body_refused part bytes at short =
-      lifted-refused r.limit (context_of r part) direction bytes body_behind (body_goes part at) (body_is part at).3 (body_fits part bytes at short)
+      lifted-refused r.limit (context_of r part) direction bytes body_after (body_goes part at) (body_is part at).3 (body_fits part bytes at short)
       ∙ ap (λ f. flow_refused r.limit (context_for r direction) f bytes) (flow_same r direction part)
 
   pub body_events : (part bytes : List ℕ) → IsAt r.stage part → length bytes ≤ left → events_by (context_of r part) bytes ≡ flow_events (context_for r direction) (flow_for r direction) bytes
   body_events part bytes at short =
-      lifted-events (context_of r part) direction bytes body_behind (body_goes part at) (body_is part at).3 (body_fits part bytes at short)
+      lifted-events (context_of r part) direction bytes body_after (body_goes part at) (body_is part at).3 (body_fits part bytes at short)
       ∙ ap (λ f. flow_events (context_for r direction) f bytes) (flow_same r direction part)
 
   same_end : (n n' m m' : ℕ) → n + m ≡ n' + m' → (n == n') ≡ (m == m')
@@ -110,26 +110,26 @@ module _ (r : Reading) (direction : Direction) (left : ℕ) (sound : IsSound r) 
       same_end (length part + length bytes) (5 + body_length part) (left - length bytes) 0 (omega arith)
 
   pub body_kept : (part bytes : List ℕ) → IsAt r.stage part → length bytes ≤ left
-      → behind (context_of r part) bytes ≡ flowed (context_of r part) direction (left - length bytes == 0) (flow_behind (context_for r direction) (flow_for r direction) bytes) bytes
+      → after_bytes (context_of r part) bytes ≡ flowed (context_of r part) direction (left - length bytes == 0) (flow_after_bytes (context_for r direction) (flow_for r direction) bytes) bytes
   body_kept part bytes at short =
       let h = body_is part at in
       let size : length part + left ≡ 5 + body_length part = h.4 in
       let some : 1 ≤ left = body_within.0 in
-      lifted-behind (context_of r part) direction bytes body_behind (body_goes part at) h.3 (omega arith) (body_fits part bytes at short)
-      ∙ ap (λ f. flowed (context_of r part) direction (length part + length bytes == 5 + body_length part) (flow_behind (context_for r direction) f bytes) bytes) (flow_same r direction part)
-      ∙ ap (λ t. flowed (context_of r part) direction t (flow_behind (context_for r direction) (flow_for r direction) bytes) bytes) (left_whole part bytes at short)
+      lifted-after_bytes (context_of r part) direction bytes body_after (body_goes part at) h.3 (omega arith) (body_fits part bytes at short)
+      ∙ ap (λ f. flowed (context_of r part) direction (length part + length bytes == 5 + body_length part) (flow_after_bytes (context_for r direction) f bytes) bytes) (flow_same r direction part)
+      ∙ ap (λ t. flowed (context_of r part) direction t (flow_after_bytes (context_for r direction) (flow_for r direction) bytes) bytes) (left_whole part bytes at short)
 
   -- The packet of a byte after them is the direction's.
   pub body_so_far : (part bytes : List ℕ) (byte : ℕ) → IsAt r.stage part → length bytes < left
-      → so_far_for (behind (context_of r part) bytes) byte ≡ so_far_in (flow_behind (context_for r direction) (flow_for r direction) bytes).state byte
+      → so_far_for (after_bytes (context_of r part) bytes) byte ≡ so_far_in (flow_after_bytes (context_for r direction) (flow_for r direction) bytes).state byte
   body_so_far part bytes byte at short =
       let h = body_is part at in
       let there : 5 ≤ length part = h.3 in
       let some : 0 < left - length bytes = omega arith in
       let goes_on : (left - length bytes == 0) ≡ false = ne_eqb (left - length bytes) 0 (λ same. (omega arith)) in
-      let f : Flow = flow_behind (context_for r direction) (flow_for r direction) bytes in
+      let f : Flow = flow_after_bytes (context_for r direction) (flow_for r direction) bytes in
       let l = length-append part bytes in
-      let kept : behind (context_of r part) bytes ≡ flowed (context_of r part) direction false f bytes
+      let kept : after_bytes (context_of r part) bytes ≡ flowed (context_of r part) direction false f bytes
       = body_kept part bytes at (omega arith) ∙ ap (λ t. flowed (context_of r part) direction t f bytes) goes_on in
       ap (λ c. so_far_for c byte) kept
       ∙ lifted-so_far (flowed (context_of r part) direction false f bytes) direction byte (ap direction_of (kind_of-append part bytes (omega arith)) ∙ body_goes part at) (omega arith)
@@ -150,7 +150,7 @@ module _ (r : Reading) (direction : Direction) (left : ℕ) (sound : IsSound r) 
   -- Bytes of one body that are taken in.
   pub body_steps : (bytes : List ℕ) (d : Deframer) (connections : Connections) (at : ℕ) → length bytes ≤ left
       → flow_refused r.limit (context_for r direction) (flow_for r direction) bytes ≡ None
-      → flow_behind (context_for r direction) (flow_for r direction) bytes ≡ flow_of at (state_in d) connections
+      → flow_after_bytes (context_for r direction) (flow_for r direction) bytes ≡ flow_of at (state_in d) connections
       → Advances r (carried_on r direction at d connections (left - length bytes)) bytes (flow_events (context_for r direction) (flow_for r direction) bytes)
   body_steps bytes d connections at short none kept = record {
     limit = limit_same r direction d;
@@ -160,7 +160,7 @@ module _ (r : Reading) (direction : Direction) (left : ℕ) (sound : IsSound r) 
       body_refused part bytes is short ∙ none,
       body_kept part bytes is short
           ∙ ap (λ f. flowed (context_of r part) direction (left - length bytes == 0) f bytes) kept
-          ∙ flowed_context r direction part bytes d connections at (left - length bytes) (sym (ap (λ (f : Flow). f.connected) kept) ∙ connected_behind (context_for r direction) (flow_for r direction) bytes),
+          ∙ flowed_context r direction part bytes d connections at (left - length bytes) (sym (ap (λ (f : Flow). f.connected) kept) ∙ connected_after_bytes (context_for r direction) (flow_for r direction) bytes),
       body_events part bytes is short,
     );
   }
@@ -183,7 +183,7 @@ module _ (r : Reading) (direction : Direction) (left : ℕ) (sound : IsSound r) 
         each = λ part at. (
           body_refused part stop.taken at few ∙ stop.unrefused,
           body_events part stop.taken at few ∙ stop.completes_none,
-          (let so_far : List ℕ = so_far_for (behind (context_of r part) stop.taken) stop.byte in
+          (let so_far : List ℕ = so_far_for (after_bytes (context_of r part) stop.taken) stop.byte in
               subst (λ o. FlowWhy declines r.limit (r.at + length stop.taken) so_far o (events_by (context_of r part) (stop.taken ++ stop.byte ∷ [])) old new refusal) (sym (body_refused part (stop.taken ++ stop.byte ∷ []) at last))
               (subst (λ h. FlowWhy declines r.limit (r.at + length stop.taken) so_far (flow_refused r.limit (context_for r direction) (flow_for r direction) (stop.taken ++ stop.byte ∷ [])) h old new refusal)
               (sym (body_events part (stop.taken ++ stop.byte ∷ []) at last))
@@ -194,7 +194,7 @@ module _ (r : Reading) (direction : Direction) (left : ℕ) (sound : IsSound r) 
 
   pub body_sound : (count : ℕ) (d : Deframer) (connections : Connections) → count ≤ left → IsUnfinished r.limit (state_in d) → IsSound (carried_on r direction (r.at + count) d connections (left - count))
   body_sound count d connections few unfinished =
-      let behind = body_behind in
+      let after_bytes = body_after in
       let counted = body_counted in
       let short : left ≤ 1048576 = body_within.1 in
       redirected_sound r direction d connections (r.at + count) (left - count) (omega arith) (omega arith) (omega arith) body_room sound.sent sound.recv unfinished
@@ -203,7 +203,7 @@ module _ (r : Reading) (direction : Direction) (left : ℕ) (sound : IsSound r) 
   pub body_comes : {S : Type 0} (agrees : S → List Placed → Type 0) (bytes body rest : List ℕ) (n : ℕ) (r1 r2 : Reading) (old new : S) → bytes ≡ body ++ rest → n ≤ length body → length body ≤ left
       → r1 ≡ record (redirected r direction (deframer_for r1 direction)) { connections = r1.connections } → r2 ≡ leaving (record r1 { at = r1.at + n }) direction (left - n)
       → flow_refused r.limit (context_for r direction) (flow_for r direction) (take n body) ≡ None
-      → flow_behind (context_for r direction) (flow_for r direction) (take n body) ≡ flow_of (r.at + n) (state_in (deframer_for r1 direction)) r1.connections
+      → flow_after_bytes (context_for r direction) (flow_for r direction) (take n body) ≡ flow_of (r.at + n) (state_in (deframer_for r1 direction)) r1.connections
       → ((earlier : List Placed) → agrees old earlier → AreEvents (flow_events (context_for r direction) (flow_for r direction) (take n body) ++ earlier) → agrees new (flow_events (context_for r direction) (flow_for r direction) (take n body) ++ earlier))
       → Comes agrees r r2 (take n bytes) old new
   body_comes agrees bytes body rest n r1 r2 old new is within short passed went none kept emitted =

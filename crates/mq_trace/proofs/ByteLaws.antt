@@ -13,15 +13,15 @@ use Rattle.mq_trace.specs.declared.refusal.Refusal.TheVariants as refusals
 use Rattle.mq_trace.specs.declared.connections.Connections.{Connections}
 use Rattle.mq_trace.specs.declared.deframer.BodyContext.{BodyContext as ContextInMemory}
 use Rattle.mq_trace.specs.Events.{Placed, lost}
-use Rattle.mq_trace.specs.Refusals.{first_standing}
+use Rattle.mq_trace.specs.Refusals.{first_that_applies}
 use Rattle.mq_trace.specs.Context.{StreamState, so_far_in, put}
 use Rattle.mq_trace.specs.Reception.{AreEvents}
 use Rattle.mq_trace.specs.Emission.{event_refusal, connections_with, next_placed, RefusedBySink, NotEmitted}
-use Rattle.mq_trace.specs.Flows.{BodyContext, Flow, item_event, flow_placed_with, flow_behind, flow_refused, flow_events}
+use Rattle.mq_trace.specs.Flows.{BodyContext, Flow, item_event, flow_placed_with, flow_after_bytes, flow_refused, flow_events}
 use Rattle.mq_trace.specs.Deframing.{body_context, flow_of, frame_event, frame_refusal, connections_then, FlowWhy, FlowStops, FlowComes}
 use Rattle.mq_trace.specs.Keeping.{IsShort, IsUnfinished}
 use Rattle.mq_trace.specs.Settling.{IsByteMore}
-use Rattle.mq_trace.proofs.FlowLaws.{quiet-refused, quiet-events, quiet-behind, short-refused, short-events, short-behind, loses-refusal, loses-after, loses-placed, large-refusal, refused-one}
+use Rattle.mq_trace.proofs.FlowLaws.{quiet-refused, quiet-events, quiet-after, short-refused, short-events, short-after, loses-refusal, loses-after, loses-placed, large-refusal, refused-one}
 use Rattle.mq_trace.proofs.DeframerLaws.{going_on, flow_then, comes_of, stops_of}
 
 -- What a fixed header that one byte more makes whole says of its packet, unless it is refused: it isn't larger than the limit, and no more than it is there.
@@ -69,7 +69,7 @@ module _ {S : Type 0} (agrees : S → List Placed → Type 0) (declines : S → 
 
   -- What does nothing comes to what stays.
   quiet_comes : (t : List ℕ) (gone : Bool) (sink : S) → IsByteMore limit u byte t → gone ≡ false → flow_refused limit (body_context context) before (byte ∷ []) ≡ None → flow_events (body_context context) before (byte ∷ []) ≡ []
-      → flow_behind (body_context context) before (byte ∷ []) ≡ flow_of (at + 1) (going_on (u ++ byte ∷ [])) c
+      → flow_after_bytes (body_context context) before (byte ∷ []) ≡ flow_of (at + 1) (going_on (u ++ byte ∷ [])) c
       → FlowComes agrees limit (body_context context) before (flow_of (at + 1) (record { unfinished = t; lost = gone }) c) (byte ∷ []) sink sink
   quiet_comes t gone sink more there unrefused completes_none kept = record {
     unrefused = unrefused;
@@ -85,7 +85,7 @@ module _ {S : Type 0} (agrees : S → List Placed → Type 0) (declines : S → 
       quiet_comes t gone sink more there
       (short-refused limit (body_context context) before u (byte ∷ []) refl short')
       (short-events (body_context context) before u (byte ∷ []) refl short')
-      (short-behind (body_context context) before u (byte ∷ []) refl short'))
+      (short-after (body_context context) before u (byte ∷ []) refl short'))
 
   -- So does one that isn't the packet's last, if the packet isn't larger than the limit.
   pub comes_more : (t : List ℕ) (gone : Bool) (sink : S) (header size : ℕ) → IsByteMore limit u byte t → gone ≡ false → fixed_header_of t ≡ headers.Whole header size → (header ≡ length t → size ≤ limit) → (size ≡ length t → ⊥)
@@ -98,7 +98,7 @@ module _ {S : Type 0} (agrees : S → List Placed → Type 0) (declines : S → 
       quiet_comes t gone sink more there
       (quiet-refused limit (body_context context) before u (byte ∷ []) header size refl whole' less' (inl known.within))
       (quiet-events (body_context context) before u (byte ∷ []) header size refl whole' less')
-      (quiet-behind (body_context context) before u (byte ∷ []) header size refl whole' less'))
+      (quiet-after (body_context context) before u (byte ∷ []) header size refl whole' less'))
 
   -- The byte that shows a size over the limit is refused.
   pub stops_large : (t : List ℕ) (sink : S) (header size : ℕ) → IsByteMore limit u byte t → fixed_header_of t ≡ headers.Whole header size → header ≡ length t → limit < size
@@ -159,8 +159,8 @@ module _ {S : Type 0} (agrees : S → List Placed → Type 0) (declines : S → 
   is_gone : (t : List ℕ) → IsByteMore limit u byte t → fixed_header_of t ≡ headers.Lost → is_lost (u ++ byte ∷ []) ≡ true
   is_gone t more lost_there = header_lost (u ++ byte ∷ []) (ap fixed_header_of (sym more.is) ∙ lost_there)
 
-  lost_behind : is_lost (u ++ byte ∷ []) ≡ true → flow_behind (body_context context) before (byte ∷ []) ≡ flow_of (at + 1) lost_state (connections_with context.server c (item_event context.direction lost))
-  lost_behind l = loses-after (body_context context) before u byte refl l ∙ flow_then context (at + 1) lost_state c (Some lost)
+  lost_after_bytes : is_lost (u ++ byte ∷ []) ≡ true → flow_after_bytes (body_context context) before (byte ∷ []) ≡ flow_of (at + 1) lost_state (connections_with context.server c (item_event context.direction lost))
+  lost_after_bytes l = loses-after (body_context context) before u byte refl l ∙ flow_then context (at + 1) lost_state c (Some lost)
 
   lost_events : is_lost (u ++ byte ∷ []) ≡ true → flow_events (body_context context) before (byte ∷ []) ≡ next_placed c context.record_no (item_event context.direction lost) ∷ []
   lost_events l = ap (λ (o : Option Placed). put o []) (loses-placed (body_context context) before u byte refl l)
@@ -169,7 +169,7 @@ module _ {S : Type 0} (agrees : S → List Placed → Type 0) (declines : S → 
   lost_met : is_lost (u ++ byte ∷ []) ≡ true → flow_refused limit (body_context context) before (byte ∷ []) ≡ event_refusal at c (item_event context.direction lost)
   lost_met l = refused-one limit (body_context context) before byte ∙ loses-refusal limit (body_context context) before u byte refl l ∙ sym (in_time context.direction)
     where
-      in_time : (direction : Direction) → event_refusal at c (item_event direction lost) ≡ first_standing ((nat_le 4294967295 c.events, refusals.TooLong at) ∷ [])
+      in_time : (direction : Direction) → event_refusal at c (item_event direction lost) ≡ first_that_applies ((nat_le 4294967295 c.events, refusals.TooLong at) ∷ [])
       in_time directions.Sent = refl
       in_time directions.Recv = refl
 
@@ -184,7 +184,7 @@ module _ {S : Type 0} (agrees : S → List Placed → Type 0) (declines : S → 
       = λ earlier. ap (λ (completed : List Placed). completed ++ earlier) (lost_events l) in
       record {
         unrefused = lost_met l ∙ ok.0;
-        kept = lost_behind l ∙ ap (λ (k : Connections). flow_of (at + 1) lost_state k) (sym ok.1);
+        kept = lost_after_bytes l ∙ ap (λ (k : Connections). flow_of (at + 1) lost_state k) (sym ok.1);
         emitted = λ earlier was are. subst (agrees new) (sym (same earlier)) (emitted earlier was (subst AreEvents (same earlier) are));
       })
 
@@ -234,7 +234,7 @@ pub sound_nothing : {A : Type 0} (r : Result A Refusal) (limit : ℕ) (state : S
 sound_nothing (Err refusal) limit state gone e = tt
 sound_nothing (Ok x) limit state gone e = subst (IsUnfinished limit) (sym e) (nothing_unfinished limit gone)
 
--- What stands for one half stands for the one that it is.
+-- What applies to one half applies to the one that it is.
 pub kept_to : {S A : Type 0} (r : Result A Refusal) (agrees : S → List Placed → Type 0) (limit : ℕ) (context : BodyContext) (f : Flow) (at : ℕ) (state state' : StreamState) (c : Connections) (bytes : List ℕ) (old new : S)
     → OnOk r (state' ≡ state) → OnOk r (FlowComes agrees limit context f (flow_of at state c) bytes old new) → OnOk r (FlowComes agrees limit context f (flow_of at state' c) bytes old new)
 kept_to (Err refusal) agrees limit context f at state state' c bytes old new same comes = tt

@@ -108,7 +108,7 @@ refusal_by_length : (limit : ℕ) (log : List ℕ) (byte : ℕ) (b : Bool) → n
 refusal_by_length limit log byte true is = refl
 refusal_by_length limit log byte false is = ap (record_refusal limit) (situation-kept log byte (ltb-false (length log) 8 is))
 
--- the refusal that stands with the next byte, from what is kept
+-- the refusal that applies at the next byte, from what is kept
 pub refusal-kept : (limit : ℕ) (log : List ℕ) (byte : ℕ) → refusal_at limit log byte ≡ refusal_for limit (context log) byte
 unfolding refusal_at refusal_for
 refusal-kept limit log byte =
@@ -139,8 +139,8 @@ pub context_is : (log : List ℕ) → context log ≡ context_with (length log) 
 unfolding context
 context_is log = refl
 
-pub header-behind : (log : List ℕ) (byte : ℕ) → 8 ≤ length log → header_by (log ++ byte ∷ []) ≡ header_by log
-header-behind log byte h =
+pub header-unchanged : (log : List ℕ) (byte : ℕ) → 8 ≤ length log → header_by (log ++ byte ∷ []) ≡ header_by log
+header-unchanged log byte h =
     ap (λ n. record { server = n == 1; releases = slice_index (log ++ byte ∷ []) 6 == 1 }) (get_or_append_left log (byte ∷ []) 0 5 (omega arith))
     ∙ ap (λ n. record { server = slice_index log 5 == 1; releases = n == 1 }) (get_or_append_left log (byte ∷ []) 0 6 (omega arith))
 
@@ -163,8 +163,8 @@ noted log byte (Some event) =
     let one_more : length (record { place = record { position = length (events log) + 1; record_no = length (records log).whole + 1 }; event = event } ∷ events log) ≡ length (events log) + 1 = omega arith in
     ap (λ n. record c { events = n }) one_more
 
-pub context-behind : (log : List ℕ) (byte : ℕ) → 8 ≤ length log → context (log ++ byte ∷ []) ≡ with_completed (after_part (context log) ((records log).rest ++ byte ∷ []) byte) (event_for (context log) byte)
-context-behind log byte h =
+pub context-after_header : (log : List ℕ) (byte : ℕ) → 8 ≤ length log → context (log ++ byte ∷ []) ≡ with_completed (after_part (context log) ((records log).rest ++ byte ∷ []) byte) (event_for (context log) byte)
+context-after_header log byte h =
     let more = log ++ byte ∷ [] in
     let part = (records log).rest ++ byte ∷ [] in
     let b = is_some (record_size part) in
@@ -177,7 +177,7 @@ context-behind log byte h =
     let n' = length (records log).whole + 1 in
     context_is more
     ∙ ap (λ n. context_with n (header_by more) (records more).rest (length (records more).whole) sent recv (events more)) (length-append log (byte ∷ []))
-    ∙ ap (λ t. context_with (length log + 1) t (records more).rest (length (records more).whole) sent recv (events more)) (header-behind log byte h)
+    ∙ ap (λ t. context_with (length log + 1) t (records more).rest (length (records more).whole) sent recv (events more)) (header-unchanged log byte h)
     ∙ ap (λ r. context_with (length log + 1) (header_by log) r (length (records more).whole) sent recv (events more)) (rest-grow log byte h)
     ∙ ap (λ n. context_with (length log + 1) (header_by log) rest' n sent recv (events more)) (whole-grow log byte h)
     ∙ ap (λ x. context_with (length log + 1) (header_by log) rest' whole' x recv (events more)) (state-then directions.Sent log byte h)
@@ -266,7 +266,7 @@ kept_by : (log : List ℕ) (byte : ℕ) (b : Bool) → nat_lt (length log) 8 ≡
     → context (log ++ byte ∷ []) ≡ (if b then after_header (context log) byte else with_completed (after_part (context log) ((context log).part ++ byte ∷ []) byte) (event_for (context log) byte))
 kept_by log byte true is = header-kept log byte (ltb-true (length log) 8 is)
 kept_by log byte false is =
-    context-behind log byte (ltb-false (length log) 8 is)
+    context-after_header log byte (ltb-false (length log) 8 is)
     ∙ ap (λ part. with_completed (after_part (context log) (part ++ byte ∷ []) byte) (event_for (context log) byte)) (sym (part_context log))
 
 -- What is kept of a log with one byte more is what that byte makes of what was kept.

@@ -23,9 +23,9 @@ use Rattle.mq_trace.specs.Context.{StreamState, so_far_in, put}
 use Rattle.mq_trace.specs.Reception.{AreEvents}
 use Rattle.mq_trace.specs.Keeping.{IsShort, IsUnfinished}
 use Rattle.mq_trace.specs.Emission.{connections_with, RefusedBySink, NotEmitted}
-use Rattle.mq_trace.specs.Flows.{BodyContext, Flow, item_event, flow_refusal, flow_placed_with, flow_with, flow_behind, flow_refused, flow_events}
+use Rattle.mq_trace.specs.Flows.{BodyContext, Flow, item_event, flow_refusal, flow_placed_with, flow_with, flow_after_bytes, flow_refused, flow_events}
 use Rattle.mq_trace.specs.Deframing.{body_context, flow_of, frame_event, frame_refusal, connections_then, NeedsMemory, FlowWhy, FlowStops, FlowComes}
-use Rattle.mq_trace.proofs.FlowLaws.{lost-behind, HasLast, has_last, IsQuiet, until_last, quiet-refused, quiet-events, quiet-behind, short-refused, short-events, short-behind, complete-refused-within, complete-events-frame, complete-behind-frame}
+use Rattle.mq_trace.proofs.FlowLaws.{lost-after, HasLast, has_last, IsQuiet, until_last, quiet-refused, quiet-events, quiet-after, short-refused, short-events, short-after, complete-refused-within, complete-events-frame, complete-after-frame}
 
 -- a direction that isn't lost, with these bytes of an unfinished packet
 abbrev pub going_on : List ℕ → StreamState
@@ -160,7 +160,7 @@ module _ {S : Type 0} (agrees : S → List Placed → Type 0) (declines : S → 
       = λ earlier. ap (λ (l : List Placed). l ++ earlier) completed ∙ put_same (body_context context) at last (going_on u) (going_on []) c (frame_event context.direction (u ++ bytes)) earlier in
       record {
         unrefused = complete-refused-within limit (body_context context) (flow_of at (going_on u) c) u bytes last refl whole some is_last within ∙ met;
-        kept = complete-behind-frame (body_context context) (flow_of at (going_on u) c) u bytes refl whole some
+        kept = complete-after-frame (body_context context) (flow_of at (going_on u) c) u bytes refl whole some
             ∙ flow_then context (at + length bytes) (going_on []) c _
             ∙ ap (λ (k : Connections). flow_of (at + length bytes) (going_on []) k) (sym kept);
         emitted = λ earlier was are. subst (agrees new) (sym (same earlier)) (emitted earlier was (subst AreEvents (same earlier) are));
@@ -192,9 +192,9 @@ module _ {S : Type 0} (agrees : S → List Placed → Type 0) (declines : S → 
         is = joined;
         unrefused = quiet.refused;
         completes_none = quiet.completed;
-        why = subst (λ (n : ℕ). FlowWhy declines limit n (so_far_in (flow_behind (body_context context) f cut.before).state cut.byte) (flow_refused limit (body_context context) f (cut.before ++ cut.byte ∷ []))
+        why = subst (λ (n : ℕ). FlowWhy declines limit n (so_far_in (flow_after_bytes (body_context context) f cut.before).state cut.byte) (flow_refused limit (body_context context) f (cut.before ++ cut.byte ∷ []))
             (flow_events (body_context context) f (cut.before ++ cut.byte ∷ [])) old new refusal) here
-            (why_by (so_far_in (flow_behind (body_context context) f cut.before).state cut.byte) (flow_refused limit (body_context context) f (cut.before ++ cut.byte ∷ []))
+            (why_by (so_far_in (flow_after_bytes (body_context context) f cut.before).state cut.byte) (flow_refused limit (body_context context) f (cut.before ++ cut.byte ∷ []))
             (flow_events (body_context context) f (cut.before ++ cut.byte ∷ [])) met (completed ∙ ap (λ (o : Option Placed). put o []) (placed_same (body_context context) at last (going_on u) (going_on []) c (frame_event context.direction (u ++ bytes)))) old new refusal unemitted);
       })
     where
@@ -285,7 +285,7 @@ keeps agrees limit context at c state new_state bytes sink header size open_yet 
     let completed : flow_events context (flow_of at state c) bytes ≡ [] = quiet-events context (flow_of at state c) state.unfinished bytes header size is stays (omega arith) in
     record {
       unrefused = quiet-refused limit context (flow_of at state c) state.unfinished bytes header size is stays (omega arith) (inl bounds.1);
-      kept = quiet-behind context (flow_of at state c) state.unfinished bytes header size is stays (omega arith)
+      kept = quiet-after context (flow_of at state c) state.unfinished bytes header size is stays (omega arith)
           ∙ ap (λ (l : Bool). flow_of (at + length bytes) (record { unfinished = state.unfinished ++ bytes; lost = l }) c) (sym open_yet) ∙ ap (λ (h : StreamState). flow_of (at + length bytes) h c) (sym kept);
       emitted = λ earlier was are. subst (λ (l : List Placed). agrees sink (l ++ earlier)) (sym completed) was;
     })
@@ -314,19 +314,19 @@ begins {S} agrees limit context at c state new_state bytes sink none open_yet ke
     kept_is : going_on bytes ≡ new_state
     kept_is = sym (kept ∙ ap (λ (u : List ℕ). record { unfinished = u ++ bytes; lost = state.lost }) none ∙ ap (λ (l : Bool). record { unfinished = bytes; lost = l }) open_yet)
 
-    comes : flow_refused limit context (flow_of at state c) bytes ≡ None → flow_events context (flow_of at state c) bytes ≡ [] → flow_behind context (flow_of at state c) bytes ≡ flow_of (at + length bytes) (going_on bytes) c
+    comes : flow_refused limit context (flow_of at state c) bytes ≡ None → flow_events context (flow_of at state c) bytes ≡ [] → flow_after_bytes context (flow_of at state c) bytes ≡ flow_of (at + length bytes) (going_on bytes) c
         → FlowComes agrees limit context (flow_of at state c) (flow_of (at + length bytes) new_state c) bytes sink sink
-    comes unrefused completed behind = record {
+    comes unrefused completed after_bytes = record {
       unrefused = unrefused;
-      kept = behind ∙ ap (λ (h : StreamState). flow_of (at + length bytes) h c) kept_is;
+      kept = after_bytes ∙ ap (λ (h : StreamState). flow_of (at + length bytes) h c) kept_is;
       emitted = λ earlier was are. subst (λ (l : List Placed). agrees sink (l ++ earlier)) (sym completed) was;
     }
 
     emitted : (front : FixedHeader) → fixed_header_of bytes ≡ front → IsShort limit bytes front → FlowComes agrees limit context (flow_of at state c) (flow_of (at + length bytes) new_state c) bytes sink sink
-    emitted headers.Short e few = comes (short-refused limit context (flow_of at state c) [] bytes is e) (short-events context (flow_of at state c) [] bytes is e) (short-behind context (flow_of at state c) [] bytes is e)
+    emitted headers.Short e few = comes (short-refused limit context (flow_of at state c) [] bytes is e) (short-events context (flow_of at state c) [] bytes is e) (short-after context (flow_of at state c) [] bytes is e)
     emitted headers.Lost e never = absurd never
     emitted (headers.Whole header size) e bounds = comes (quiet-refused limit context (flow_of at state c) [] bytes header size is e bounds.0 (inl bounds.1))
-        (quiet-events context (flow_of at state c) [] bytes header size is e bounds.0) (quiet-behind context (flow_of at state c) [] bytes header size is e bounds.0)
+        (quiet-events context (flow_of at state c) [] bytes header size is e bounds.0) (quiet-after context (flow_of at state c) [] bytes header size is e bounds.0)
 
 -- .. and it is unfinished.
 pub begins_unfinished : (limit : ℕ) (state new_state : StreamState) (bytes : List ℕ) → state.unfinished ≡ [] → state.lost ≡ false → new_state ≡ record { unfinished = state.unfinished ++ bytes; lost = state.lost }
@@ -380,9 +380,9 @@ first_front (byte ∷ bytes) some = refl
 
 -- A direction that is lost takes in all bytes, and nothing comes of them.
 pub lost_kept : (context : BodyContext) (at : ℕ) (state : StreamState) (c : Connections) (bytes : List ℕ) → state.lost ≡ true
-    → flow_behind context (flow_of at state c) (take (length bytes) bytes) ≡ flow_of (at + length bytes) state c
+    → flow_after_bytes context (flow_of at state c) (take (length bytes) bytes) ≡ flow_of (at + length bytes) state c
 lost_kept context at state c bytes e =
-    lost-behind context (flow_of at state c) (take (length bytes) bytes) e ∙ ap (λ (n : ℕ). flow_of (at + n) state c) (length-take-le (length bytes) bytes (omega arith))
+    lost-after context (flow_of at state c) (take (length bytes) bytes) e ∙ ap (λ (n : ℕ). flow_of (at + n) state c) (length-take-le (length bytes) bytes (omega arith))
 
 -- a direction in which nothing is unfinished, and which isn't lost
 pub empty_state : (state : StreamState) → state.unfinished ≡ [] → state.lost ≡ false → state ≡ record { unfinished = []; lost = false }

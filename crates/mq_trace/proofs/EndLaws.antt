@@ -13,14 +13,14 @@ use Rattle.mq_trace.specs.declared.connections.Connections.{Connections}
 use Rattle.mq_trace.specs.declared.reading.Reading.{Reading}
 use Rattle.mq_trace.specs.Framing.{kind_of, direction_of, body_length}
 use Rattle.mq_trace.specs.Events.{Event, opened, closed, rested, released, event_of_head}
-use Rattle.mq_trace.specs.Refusals.{first_standing, allows_length}
+use Rattle.mq_trace.specs.Refusals.{first_that_applies, allows_length}
 use Rattle.mq_trace.specs.Context.{Context, refusal_for, event_for, placed_for, put, after, with_completed}
 use Rattle.mq_trace.specs.Emission.{event_refusal, next_placed}
 use Rattle.mq_trace.specs.Keeping.{state_in, spelled_from, IsAt, context_of, begun_in, IsUnfinished, IsSound, Advances}
 use Rattle.mq_trace.specs.Stepping.{marked, leaving}
 use Rattle.mq_trace.proofs.StepLaws.{placed_none, placed_some, fifth_length, fifth_event, fifth_refusal, fifth_after, release_high_refusal, release_high_event, release_high_after, release_low_refusal, release_low_event, release_low_after}
 use Rattle.mq_trace.proofs.FramingLaws.{body_length-append, kind_of-append}
-use Rattle.mq_trace.proofs.StageLaws.{one_step, begun_some, head_behind, head_room, head_is, head_long, head_opens}
+use Rattle.mq_trace.proofs.StageLaws.{one_step, begun_some, head_after, head_room, head_is, head_long, head_opens}
 
 -- What a step that completes an event does with each part: what it meets, what is received, and what is kept.
 abbrev pub CompletesEvent : Reading → ℕ → Event → Type 0
@@ -36,12 +36,12 @@ emits_advances r b event emits met = one_step r (marked r event) b (next_placed 
 
 pub marked_sound : (r : Reading) (event : Event) → IsSound r → 0 < begun_in r.stage → begun_in r.stage ≤ 6 → IsSound (marked r event)
 marked_sound r event sound some few =
-    let behind : 8 ≤ r.at = sound.behind_header some in
+    let past_header : 8 ≤ r.at = sound.past_header some in
     record {
       counted = omega (arith, sound.counted);
       begun = λ none. absurd (omega arith);
       within = tt;
-      behind_header = λ none. absurd (omega arith);
+      past_header = λ none. absurd (omega arith);
       header_first = λ less. absurd (omega arith);
       emptied = λ n m e. absurd (cc);
       sent = sound.sent;
@@ -65,7 +65,7 @@ no_body kinds.Sent event number e allowed = absurd (cc)
 no_body kinds.Recv event number e allowed = absurd (cc)
 
 abbrev head_refusal : RecordKind → ℕ → Connections → Option Refusal
-head_refusal kind at c = first_standing ((is_some (event_of_head kind) && nat_le 4294967295 c.events, refusals.TooLong at) ∷ [])
+head_refusal kind at c = first_that_applies ((is_some (event_of_head kind) && nat_le 4294967295 c.events, refusals.TooLong at) ∷ [])
 
 head_meets : (kind : RecordKind) (event : Event) (at : ℕ) (c : Connections) → event_of_head kind ≡ Some event → head_refusal kind at c ≡ event_refusal at c event
 head_meets kinds.Open event at c e = ap (event_refusal at c) (let same : opened ≡ event = cc in same)
@@ -94,11 +94,11 @@ module _ (r : Reading) (kind : RecordKind) (number b : ℕ) (sound : IsSound r) 
   ended_refusal : (part : List ℕ) → IsAt r.stage part → refusal_for r.limit (context_of r part) b
       ≡ cond (not (allows_length (Some kind) emitted)) (Some (refusals.Length r.at)) (head_refusal kind r.at r.connections)
   ended_refusal part at =
-      fifth_refusal r.limit (context_of r part) b kind (head_behind r kind 3 number sound staged) (ended_four part at) (ended_kind part at)
+      fifth_refusal r.limit (context_of r part) b kind (head_after r kind 3 number sound staged) (ended_four part at) (ended_kind part at)
       ∙ ap (λ m. cond (not (allows_length (Some kind) m)) (Some (refusals.Length r.at)) (head_refusal kind r.at r.connections)) (ended_length part at)
 
   ended_event : (part : List ℕ) → IsAt r.stage part → event_for (context_of r part) b ≡ event_of_head kind
-  ended_event part at = fifth_event (context_of r part) b kind (head_behind r kind 3 number sound staged) (ended_four part at) (ended_kind part at)
+  ended_event part at = fifth_event (context_of r part) b kind (head_after r kind 3 number sound staged) (ended_four part at) (ended_kind part at)
 
   ended_after : (part : List ℕ) → IsAt r.stage part → after (context_of r part) b ≡ with_completed (record (context_of r part) {
     at = r.at + 1;
@@ -108,7 +108,7 @@ module _ (r : Reading) (kind : RecordKind) (number b : ℕ) (sound : IsSound r) 
   ended_after part at =
       let c = context_of r part in
       let kept : ℕ → Context = λ m. record c { at = r.at + 1; part = cond (m == 0) [] (part ++ b ∷ []); records = cond (m == 0) (r.records + 1) r.records } in
-      fifth_after c b (head_behind r kind 3 number sound staged) (ended_four part at) (head_opens r kind 3 number sound staged part at)
+      fifth_after c b (head_after r kind 3 number sound staged) (ended_four part at) (head_opens r kind 3 number sound staged part at)
       ∙ ap (λ m. with_completed (kept m) (event_for c b)) (ended_length part at)
       ∙ ap (with_completed (kept emitted)) (ended_event part at)
 
@@ -135,7 +135,7 @@ module _ (r : Reading) (kind : RecordKind) (number b : ℕ) (sound : IsSound r) 
 
   quiet_refusal : event_of_head kind ≡ None → allows_length (Some kind) emitted ≡ true → (part : List ℕ) → IsAt r.stage part → refusal_for r.limit (context_of r part) b ≡ None
   quiet_refusal is allowed part at =
-      allowed_refusal allowed part at ∙ ap (λ (o : Option Event). first_standing ((is_some o && nat_le 4294967295 r.connections.events, refusals.TooLong r.at) ∷ [])) is
+      allowed_refusal allowed part at ∙ ap (λ (o : Option Event). first_that_applies ((is_some o && nat_le 4294967295 r.connections.events, refusals.TooLong r.at) ∷ [])) is
 
   quiet_after : event_of_head kind ≡ None → (part : List ℕ) → IsAt r.stage part → after (context_of r part) b ≡ record (context_of r part) {
     at = r.at + 1;
@@ -185,13 +185,13 @@ module _ (r : Reading) (kind : RecordKind) (number b : ℕ) (sound : IsSound r) 
   pub release_sound : IsSound (record r { at = r.at + 1; stage = stages.Release None })
   release_sound =
       let some = begun_some r kind 3 number sound staged in
-      let behind = head_behind r kind 3 number sound staged in
+      let past_header = head_after r kind 3 number sound staged in
       let room = head_room r kind 3 number sound staged in
       record {
         counted = omega (arith, sound.counted);
         begun = λ begun. room;
         within = tt;
-        behind_header = λ begun. omega arith;
+        past_header = λ begun. omega arith;
         header_first = λ less. absurd (omega arith);
         emptied = λ n m e. absurd (cc);
         sent = sound.sent;
@@ -201,14 +201,14 @@ module _ (r : Reading) (kind : RecordKind) (number b : ℕ) (sound : IsSound r) 
 -- Where so many bytes of a body are still to come.
 pub left_sound : (r : Reading) (direction : Direction) (left : ℕ) → r.at ≤ 8 + 1048581 * r.records + (1048581 - left) → left ≤ 1048576 → 8 ≤ r.at → r.records < 4294967295
     → IsUnfinished r.limit (state_in r.sent) → IsUnfinished r.limit (state_in r.recv) → IsSound (leaving r direction left)
-left_sound r direction left counted short behind room sent recv = by_end (left == 0) refl
+left_sound r direction left counted short past_header room sent recv = by_end (left == 0) refl
   where
     by_end : (t : Bool) → (left == 0) ≡ t → IsSound (record r { records = if t then r.records + 1 else r.records; stage = if t then stages.Between else stages.Body direction left })
     by_end true is = record {
       counted = omega arith;
       begun = λ none. absurd (omega arith);
       within = tt;
-      behind_header = λ none. behind;
+      past_header = λ none. past_header;
       header_first = λ less. absurd (omega arith);
       emptied = λ n m e. absurd (cc);
       sent = sent;
@@ -218,7 +218,7 @@ left_sound r direction left counted short behind room sent recv = by_end (left =
       counted = counted;
       begun = λ none. room;
       within = (omega (arith, some), short);
-      behind_header = λ none. behind;
+      past_header = λ none. past_header;
       header_first = λ less. absurd (omega arith);
       emptied = λ n m e. absurd (cc);
       sent = sent;
@@ -230,15 +230,15 @@ pub high_advances : (r : Reading) (b : ℕ) → IsSound r → r.stage ≡ stages
 high_advances r b sound staged = one_step r (record r { at = r.at + 1; stage = stages.Release (Some b) }) b [] refl (λ part at. (
     let c = context_of r part in
     let some : begun_in r.stage ≡ 5 = ap begun_in staged in
-    let behind : 8 ≤ r.at = sound.behind_header (omega arith) in
+    let past_header : 8 ≤ r.at = sound.past_header (omega arith) in
     let h = subst (λ s. IsAt s part) staged at in
     let five : length part ≡ 5 = h.1 in
     let l = length-append part (b ∷ []) in (
       part ++ b ∷ [],
       (kind_of-append part (b ∷ []) (omega arith) ∙ h.0, omega arith, body_length-append part (b ∷ []) (omega arith) ∙ h.2, last part five),
-      release_high_refusal r.limit c b behind h.0 h.1,
-      release_high_after c b behind h.0 h.2 h.1,
-      ap (λ o. put o []) (placed_none c b (release_high_event c b behind h.0 h.1)),
+      release_high_refusal r.limit c b past_header h.0 h.1,
+      release_high_after c b past_header h.0 h.2 h.1,
+      ap (λ o. put o []) (placed_none c b (release_high_event c b past_header h.0 h.1)),
     )))
   where
     last : (part : List ℕ) → length part ≡ 5 → slice_index (part ++ b ∷ []) 5 ≡ b
@@ -253,13 +253,13 @@ high_advances r b sound staged = one_step r (record r { at = r.at + 1; stage = s
 pub high_sound : (r : Reading) (b : ℕ) → IsSound r → r.stage ≡ stages.Release None → IsSound (record r { at = r.at + 1; stage = stages.Release (Some b) })
 high_sound r b sound staged =
     let some : begun_in r.stage ≡ 5 = ap begun_in staged in
-    let behind : 8 ≤ r.at = sound.behind_header (omega arith) in
+    let past_header : 8 ≤ r.at = sound.past_header (omega arith) in
     let room : r.records < 4294967295 = sound.begun (omega arith) in
     record {
       counted = omega (arith, sound.counted);
       begun = λ begun. room;
       within = tt;
-      behind_header = λ begun. omega arith;
+      past_header = λ begun. omega arith;
       header_first = λ less. absurd (omega arith);
       emptied = λ n m e. absurd (cc);
       sent = sound.sent;
@@ -281,11 +281,11 @@ pub release_emits : (r : Reading) (high b : ℕ) → IsSound r → r.stage ≡ s
 release_emits r high b sound staged part at =
     let c = context_of r part in
     let some : begun_in r.stage ≡ 6 = ap begun_in staged in
-    let behind : 8 ≤ r.at = sound.behind_header (omega arith) in
+    let past_header : 8 ≤ r.at = sound.past_header (omega arith) in
     let h = subst (λ s. IsAt s part) staged at in
     let six = split_six part h.1 in
     let first : part ≡ six.0 ++ high ∷ [] = six.2 ∙ ap (λ n. six.0 ++ n ∷ []) (sym six.4 ∙ h.3) in (
-      release_low_refusal r.limit c b six.0 high behind h.0 first six.3,
-      placed_some c b (released (from_be_bytes w16 (high ∷ b ∷ []))) (release_low_event c b six.0 high behind h.0 first six.3),
-      release_low_after c b six.0 high behind h.0 h.2 first six.3,
+      release_low_refusal r.limit c b six.0 high past_header h.0 first six.3,
+      placed_some c b (released (from_be_bytes w16 (high ∷ b ∷ []))) (release_low_event c b six.0 high past_header h.0 first six.3),
+      release_low_after c b six.0 high past_header h.0 h.2 first six.3,
     )

@@ -13,34 +13,34 @@ use Rattle.mq_trace.specs.declared.kind.Direction.TheVariants as directions
 use Rattle.mq_trace.specs.declared.refusal.Refusal.{Refusal}
 use Rattle.mq_trace.specs.declared.refusal.Refusal.TheVariants as refusals
 use Rattle.mq_trace.specs.Events.{lost, Item, Event, item_at, item_read, read_frame}
-use Rattle.mq_trace.specs.Refusals.{first_standing, is_too_large, is_other_version}
+use Rattle.mq_trace.specs.Refusals.{first_that_applies, is_too_large, is_other_version}
 use Rattle.mq_trace.specs.Context.{StreamState, so_far_in, state_after, put}
-use Rattle.mq_trace.specs.Flows.{BodyContext, Flow, item_event, comes_early, flow_event, flow_refusal, flow_placed, flow_placed_with, flow_with, flow_after, flow_behind, flow_refused, flow_events}
+use Rattle.mq_trace.specs.Flows.{BodyContext, Flow, item_event, comes_early, flow_event, flow_refusal, flow_placed, flow_placed_with, flow_with, flow_after, flow_after_bytes, flow_refused, flow_events}
 
 -- Any two parts of some bytes give what the bytes leave after them, refuse and complete.
-pub behind-append : (context : BodyContext) (f : Flow) (a b : List ℕ) → flow_behind context f (a ++ b) ≡ flow_behind context (flow_behind context f a) b
-behind-append context f [] b = refl
-behind-append context f (byte ∷ a) b = behind-append context (flow_after context f byte) a b
+pub flow_after_bytes-append : (context : BodyContext) (f : Flow) (a b : List ℕ) → flow_after_bytes context f (a ++ b) ≡ flow_after_bytes context (flow_after_bytes context f a) b
+flow_after_bytes-append context f [] b = refl
+flow_after_bytes-append context f (byte ∷ a) b = flow_after_bytes-append context (flow_after context f byte) a b
 
 option_or_assoc : {A : Type 0} (a b c : Option A) → option_or a (option_or b c) ≡ option_or (option_or a b) c
 option_or_assoc (Some x) b c = refl
 option_or_assoc None b c = refl
 
-pub refused-append : (limit : ℕ) (context : BodyContext) (f : Flow) (a b : List ℕ) → flow_refused limit context f (a ++ b) ≡ option_or (flow_refused limit context f a) (flow_refused limit context (flow_behind context f a) b)
+pub refused-append : (limit : ℕ) (context : BodyContext) (f : Flow) (a b : List ℕ) → flow_refused limit context f (a ++ b) ≡ option_or (flow_refused limit context f a) (flow_refused limit context (flow_after_bytes context f a) b)
 refused-append limit context f [] b = refl
 refused-append limit context f (byte ∷ a) b =
     ap (option_or (flow_refusal limit context f byte)) (refused-append limit context (flow_after context f byte) a b)
-    ∙ option_or_assoc (flow_refusal limit context f byte) (flow_refused limit context (flow_after context f byte) a) (flow_refused limit context (flow_behind context (flow_after context f byte) a) b)
+    ∙ option_or_assoc (flow_refusal limit context f byte) (flow_refused limit context (flow_after context f byte) a) (flow_refused limit context (flow_after_bytes context (flow_after context f byte) a) b)
 
-pub events-append : (context : BodyContext) (f : Flow) (a b : List ℕ) → flow_events context f (a ++ b) ≡ flow_events context (flow_behind context f a) b ++ flow_events context f a
+pub events-append : (context : BodyContext) (f : Flow) (a b : List ℕ) → flow_events context f (a ++ b) ≡ flow_events context (flow_after_bytes context f a) b ++ flow_events context f a
 events-append context f [] b = sym (append-nil (flow_events context f b))
 events-append context f (byte ∷ a) b =
     ap (λ completed. completed ++ put (flow_placed context f byte) []) (events-append context (flow_after context f byte) a b)
-    ∙ append_assoc (flow_events context (flow_behind context (flow_after context f byte) a) b) (flow_events context (flow_after context f byte) a) (put (flow_placed context f byte) [])
+    ∙ append_assoc (flow_events context (flow_after_bytes context (flow_after context f byte) a) b) (flow_events context (flow_after context f byte) a) (put (flow_placed context f byte) [])
 
 -- the refusal of a byte, from its packet so far and its event
 abbrev refusal_with : ℕ → Flow → List ℕ → Option Event → Option Refusal
-refusal_with limit f so_far event = first_standing (
+refusal_with limit f so_far event = first_that_applies (
     (is_too_large limit so_far (fixed_header_of so_far), refusals.TooLarge f.at)
     ∷ (is_some (frame_size so_far) && is_other_version (read_frame so_far), refusals.OtherVersion f.at)
     ∷ (comes_early f event, refusals.Early f.at)
@@ -70,27 +70,27 @@ placed_is context f byte event i = ap (flow_placed_with context f) i
 pub record IsQuiet (limit : ℕ) (context : BodyContext) (f : Flow) (bytes : List ℕ) (state : StreamState) : Type 0 where
   pub refused : flow_refused limit context f bytes ≡ None
   pub completed : flow_events context f bytes ≡ []
-  pub behind : flow_behind context f bytes ≡ record f { at = f.at + length bytes; state = state }
+  pub after_bytes : flow_after_bytes context f bytes ≡ record f { at = f.at + length bytes; state = state }
 
 -- the same of one byte
 record IsQuietByte (limit : ℕ) (context : BodyContext) (f : Flow) (byte : ℕ) (state : StreamState) : Type 0 where
   refused : flow_refusal limit context f byte ≡ None
   placed : flow_placed context f byte ≡ None
-  behind : flow_after context f byte ≡ record f { at = f.at + 1; state = state }
+  after_bytes : flow_after context f byte ≡ record f { at = f.at + 1; state = state }
 
 quiet_none : (limit : ℕ) (context : BodyContext) (f : Flow) (state : StreamState) → f.state ≡ state → IsQuiet limit context f [] state
-quiet_none limit context f state e = record { refused = refl; completed = refl; behind = ap (λ x. record f { state = x }) e ∙ ap (λ n. record f { at = n; state = state }) (let same : f.at ≡ f.at + length {A = ℕ} [] = omega arith in same) }
+quiet_none limit context f state e = record { refused = refl; completed = refl; after_bytes = ap (λ x. record f { state = x }) e ∙ ap (λ n. record f { at = n; state = state }) (let same : f.at ≡ f.at + length {A = ℕ} [] = omega arith in same) }
 
 quiet_more : (limit : ℕ) (context : BodyContext) (f : Flow) (byte : ℕ) (bytes : List ℕ) (between state : StreamState)
     → IsQuietByte limit context f byte between → IsQuiet limit context (record f { at = f.at + 1; state = between }) bytes state → IsQuiet limit context f (byte ∷ bytes) state
 quiet_more limit context f byte bytes between state one more =
     let counted : f.at + 1 + length bytes ≡ f.at + length (byte ∷ bytes) = omega arith in
     record {
-      refused = ap (λ o. option_or o (flow_refused limit context (flow_after context f byte) bytes)) one.refused ∙ ap (λ g. flow_refused limit context g bytes) one.behind ∙ more.refused;
-      completed = ap (λ g. flow_events context g bytes ++ put (flow_placed context f byte) []) one.behind
+      refused = ap (λ o. option_or o (flow_refused limit context (flow_after context f byte) bytes)) one.refused ∙ ap (λ g. flow_refused limit context g bytes) one.after_bytes ∙ more.refused;
+      completed = ap (λ g. flow_events context g bytes ++ put (flow_placed context f byte) []) one.after_bytes
           ∙ ap (λ placed. flow_events context (record f { at = f.at + 1; state = between }) bytes ++ put placed []) one.placed
           ∙ append-nil (flow_events context (record f { at = f.at + 1; state = between }) bytes) ∙ more.completed;
-      behind = ap (λ g. flow_behind context g bytes) one.behind ∙ more.behind ∙ ap (λ n. record f { at = n; state = state }) counted;
+      after_bytes = ap (λ g. flow_after_bytes context g bytes) one.after_bytes ∙ more.after_bytes ∙ ap (λ n. record f { at = n; state = state }) counted;
     }
 
 pub nothing_item : item_at [] ≡ None
@@ -113,7 +113,7 @@ lost_byte limit context f byte e =
     record {
       refused = refusal_is limit context f byte [] None nothing none ∙ nothing_refused limit f;
       placed = placed_is context f byte None none;
-      behind = after_is context f byte f.state None (lost_after f.state byte e) none;
+      after_bytes = after_is context f byte f.state None (lost_after f.state byte e) none;
     }
 
 lost_quiet : (limit : ℕ) (context : BodyContext) (f : Flow) (bytes : List ℕ) → f.state.lost ≡ true → IsQuiet limit context f bytes f.state
@@ -127,8 +127,8 @@ lost-refused limit context f bytes e = (lost_quiet limit context f bytes e).refu
 pub lost-events : (context : BodyContext) (f : Flow) (bytes : List ℕ) → f.state.lost ≡ true → flow_events context f bytes ≡ []
 lost-events context f bytes e = (lost_quiet 0 context f bytes e).completed
 
-pub lost-behind : (context : BodyContext) (f : Flow) (bytes : List ℕ) → f.state.lost ≡ true → flow_behind context f bytes ≡ record f { at = f.at + length bytes }
-lost-behind context f bytes e = (lost_quiet 0 context f bytes e).behind
+pub lost-after : (context : BodyContext) (f : Flow) (bytes : List ℕ) → f.state.lost ≡ true → flow_after_bytes context f bytes ≡ record f { at = f.at + length bytes }
+lost-after context f bytes e = (lost_quiet 0 context f bytes e).after_bytes
 
 -- a direction that isn't lost, with these bytes of an unfinished packet
 abbrev going_on : List ℕ → StreamState
@@ -161,7 +161,7 @@ open_byte limit context f u byte e l s large =
     record {
       refused = refusal_is limit context f byte (u ++ byte ∷ []) None so_far none ∙ open_refused limit f (u ++ byte ∷ []) s large;
       placed = placed_is context f byte None none;
-      behind = after_is context f byte (going_on (u ++ byte ∷ [])) None (ap (λ state. state_after state byte) e ∙ state_by_front u byte false None l s) none;
+      after_bytes = after_is context f byte (going_on (u ++ byte ∷ [])) None (ap (λ state. state_after state byte) e ∙ state_by_front u byte false None l s) none;
     }
 
 not_lost : (a : List ℕ) (header : FixedHeader) → fixed_header_of a ≡ header → (header ≡ headers.Lost → ⊥) → is_lost a ≡ false
@@ -254,10 +254,10 @@ pub quiet-events : (context : BodyContext) (f : Flow) (u bytes : List ℕ) (head
     → flow_events context f bytes ≡ []
 quiet-events context f u bytes header size e whole less = (unfinished_quiet size context f u bytes header size e whole less (inl (omega arith))).completed
 
-pub quiet-behind : (context : BodyContext) (f : Flow) (u bytes : List ℕ) (header size : ℕ) → f.state ≡ record { unfinished = u; lost = false }
+pub quiet-after : (context : BodyContext) (f : Flow) (u bytes : List ℕ) (header size : ℕ) → f.state ≡ record { unfinished = u; lost = false }
     → fixed_header_of (u ++ bytes) ≡ headers.Whole header size → length (u ++ bytes) < size
-    → flow_behind context f bytes ≡ record f { at = f.at + length bytes; state = record { unfinished = u ++ bytes; lost = false } }
-quiet-behind context f u bytes header size e whole less = (unfinished_quiet size context f u bytes header size e whole less (inl (omega arith))).behind
+    → flow_after_bytes context f bytes ≡ record f { at = f.at + length bytes; state = record { unfinished = u ++ bytes; lost = false } }
+quiet-after context f u bytes header size e whole less = (unfinished_quiet size context f u bytes header size e whole less (inl (omega arith))).after_bytes
 
 -- The same where they don't show its size.
 pub short-refused : (limit : ℕ) (context : BodyContext) (f : Flow) (u bytes : List ℕ) → f.state ≡ record { unfinished = u; lost = false } → fixed_header_of (u ++ bytes) ≡ headers.Short
@@ -268,9 +268,9 @@ pub short-events : (context : BodyContext) (f : Flow) (u bytes : List ℕ) → f
     → flow_events context f bytes ≡ []
 short-events context f u bytes e short = (short_quiet 0 context f u bytes e short).completed
 
-pub short-behind : (context : BodyContext) (f : Flow) (u bytes : List ℕ) → f.state ≡ record { unfinished = u; lost = false } → fixed_header_of (u ++ bytes) ≡ headers.Short
-    → flow_behind context f bytes ≡ record f { at = f.at + length bytes; state = record { unfinished = u ++ bytes; lost = false } }
-short-behind context f u bytes e short = (short_quiet 0 context f u bytes e short).behind
+pub short-after : (context : BodyContext) (f : Flow) (u bytes : List ℕ) → f.state ≡ record { unfinished = u; lost = false } → fixed_header_of (u ++ bytes) ≡ headers.Short
+    → flow_after_bytes context f bytes ≡ record f { at = f.at + length bytes; state = record { unfinished = u ++ bytes; lost = false } }
+short-after context f u bytes e short = (short_quiet 0 context f u bytes e short).after_bytes
 
 lost_event : (context : BodyContext) (f : Flow) (u : List ℕ) (byte : ℕ) → f.state ≡ going_on u → is_lost (u ++ byte ∷ []) ≡ true → flow_event context f byte ≡ Some (item_event context.direction lost)
 lost_event context f u byte e l =
@@ -286,7 +286,7 @@ pub loses-event : (context : BodyContext) (f : Flow) (u : List ℕ) (byte : ℕ)
 loses-event context f u byte e l = lost_event context f u byte e l
 
 pub loses-refusal : (limit : ℕ) (context : BodyContext) (f : Flow) (u : List ℕ) (byte : ℕ) → f.state ≡ record { unfinished = u; lost = false } → is_lost (u ++ byte ∷ []) ≡ true
-    → flow_refusal limit context f byte ≡ first_standing ((nat_le 4294967295 f.events, refusals.TooLong f.at) ∷ [])
+    → flow_refusal limit context f byte ≡ first_that_applies ((nat_le 4294967295 f.events, refusals.TooLong f.at) ∷ [])
 loses-refusal limit context f u byte e l =
     refusal_is limit context f byte (u ++ byte ∷ []) (Some (item_event context.direction lost)) (ap (λ state. so_far_in state byte) e) (lost_event context f u byte e l)
     ∙ rw (lost_header (u ++ byte ∷ []) l, lost_no_frame (u ++ byte ∷ []) l, lost_in_time context.direction f) refl
@@ -332,7 +332,7 @@ frame_event context frame = option_map (item_event context.direction) (item_read
 
 -- the lines for a byte that completes a packet
 abbrev frame_lines : Flow → List ℕ → Option Event → ℕ → Option Refusal
-frame_lines f frame event at = first_standing (
+frame_lines f frame event at = first_that_applies (
     (is_other_version (read_frame frame), refusals.OtherVersion at)
     ∷ (comes_early f event, refusals.Early at)
     ∷ (is_some event && nat_le 4294967295 f.events, refusals.TooLong at)
@@ -397,11 +397,11 @@ module _ (context : BodyContext) (f : Flow) (u p : List ℕ) (byte : ℕ) (e : f
   all_refused limit may =
       let quiet : IsQuiet limit context f p (going_on (u ++ p)) = until_last limit may in
       refused-append limit context f p (byte ∷ [])
-      ∙ ap (λ o. option_or o (flow_refused limit context (flow_behind context f p) (byte ∷ []))) quiet.refused
-      ∙ ap (λ g. flow_refused limit context g (byte ∷ [])) quiet.behind
+      ∙ ap (λ o. option_or o (flow_refused limit context (flow_after_bytes context f p) (byte ∷ []))) quiet.refused
+      ∙ ap (λ g. flow_refused limit context g (byte ∷ [])) quiet.after_bytes
       ∙ refused-one limit context before byte
       ∙ last_refusal context before (u ++ p) byte refl last_whole limit header size known (still limit may)
-      ∙ ap (λ early. first_standing (
+      ∙ ap (λ early. first_that_applies (
       (is_other_version (read_frame ((u ++ p) ++ byte ∷ [])), refusals.OtherVersion (f.at + length p))
       ∷ (early, refusals.Early (f.at + length p))
       ∷ (is_some (frame_event context ((u ++ p) ++ byte ∷ [])) && nat_le 4294967295 f.events, refusals.TooLong (f.at + length p))
@@ -415,19 +415,19 @@ module _ (context : BodyContext) (f : Flow) (u p : List ℕ) (byte : ℕ) (e : f
   all_events =
       let quiet : IsQuiet size context f p (going_on (u ++ p)) = until_last size (inl (omega arith)) in
       events-append context f p (byte ∷ [])
-      ∙ ap (λ completed. flow_events context (flow_behind context f p) (byte ∷ []) ++ completed) quiet.completed
-      ∙ append-nil (flow_events context (flow_behind context f p) (byte ∷ []))
-      ∙ ap (λ g. flow_events context g (byte ∷ [])) quiet.behind
+      ∙ ap (λ completed. flow_events context (flow_after_bytes context f p) (byte ∷ []) ++ completed) quiet.completed
+      ∙ append-nil (flow_events context (flow_after_bytes context f p) (byte ∷ []))
+      ∙ ap (λ g. flow_events context g (byte ∷ [])) quiet.after_bytes
       ∙ ap (λ placed. put placed []) (placed_is context before byte (frame_event context ((u ++ p) ++ byte ∷ [])) (last_event context before (u ++ p) byte refl last_whole)
       ∙ same_place (frame_event context ((u ++ p) ++ byte ∷ [])))
 
-  all_behind : flow_behind context f (p ++ byte ∷ []) ≡ flow_with context (record f { at = f.at + length (p ++ byte ∷ []); state = going_on [] }) (frame_event context ((u ++ p) ++ byte ∷ []))
-  all_behind =
+  all_after : flow_after_bytes context f (p ++ byte ∷ []) ≡ flow_with context (record f { at = f.at + length (p ++ byte ∷ []); state = going_on [] }) (frame_event context ((u ++ p) ++ byte ∷ []))
+  all_after =
       let quiet : IsQuiet size context f p (going_on (u ++ p)) = until_last size (inl (omega arith)) in
       let longer : length (p ++ byte ∷ []) ≡ length p + 1 = length-append p (byte ∷ []) in
       let counted : f.at + length p + 1 ≡ f.at + length (p ++ byte ∷ []) = omega arith in
-      behind-append context f p (byte ∷ [])
-      ∙ ap (λ g. flow_behind context g (byte ∷ [])) quiet.behind
+      flow_after_bytes-append context f p (byte ∷ [])
+      ∙ ap (λ g. flow_after_bytes context g (byte ∷ [])) quiet.after_bytes
       ∙ last_after context before (u ++ p) byte refl last_whole
       ∙ moved_on (frame_event context ((u ++ p) ++ byte ∷ [])) counted
     where
@@ -455,7 +455,7 @@ rejoined u bytes p byte e = append_assoc u p (byte ∷ []) ∙ ap (λ t. u ++ t)
 -- Bytes that complete a packet, and go on after it with none: only its last one completes anything, and is refused for that alone.
 pub complete-refused : (limit : ℕ) (context : BodyContext) (f : Flow) (u bytes : List ℕ) (header size at : ℕ) → f.state ≡ record { unfinished = u; lost = false }
     → fixed_header_of (u ++ bytes) ≡ headers.Whole header size → size ≡ length (u ++ bytes) → 0 < length bytes → at + 1 ≡ f.at + length bytes → (size ≤ limit) ⊎ (header ≤ length u)
-    → flow_refused limit context f bytes ≡ first_standing (
+    → flow_refused limit context f bytes ≡ first_that_applies (
     (is_other_version (read_frame (u ++ bytes)), refusals.OtherVersion at)
     ∷ (comes_early f (option_map (item_event context.direction) (item_read (length (u ++ bytes)) (slice_index (u ++ bytes) 0) (read_frame (u ++ bytes)))), refusals.Early at)
     ∷ (is_some (option_map (item_event context.direction) (item_read (length (u ++ bytes)) (slice_index (u ++ bytes) 0) (read_frame (u ++ bytes)))) && nat_le 4294967295 f.events, refusals.TooLong at)
@@ -480,22 +480,22 @@ complete-events context f u bytes header size e known all some =
     ∙ all_events context f u cut.before cut.byte e header size (ap fixed_header_of frame ∙ known) (all ∙ ap length (sym frame))
     ∙ ap (λ t. put (flow_placed_with context f (frame_event context t)) []) frame
 
-pub complete-behind : (context : BodyContext) (f : Flow) (u bytes : List ℕ) (header size : ℕ) → f.state ≡ record { unfinished = u; lost = false }
+pub complete-after : (context : BodyContext) (f : Flow) (u bytes : List ℕ) (header size : ℕ) → f.state ≡ record { unfinished = u; lost = false }
     → fixed_header_of (u ++ bytes) ≡ headers.Whole header size → size ≡ length (u ++ bytes) → 0 < length bytes
-    → flow_behind context f bytes ≡ flow_with context (record f { at = f.at + length bytes; state = record { unfinished = []; lost = false } })
+    → flow_after_bytes context f bytes ≡ flow_with context (record f { at = f.at + length bytes; state = record { unfinished = []; lost = false } })
     (option_map (item_event context.direction) (item_read (length (u ++ bytes)) (slice_index (u ++ bytes) 0) (read_frame (u ++ bytes))))
-complete-behind context f u bytes header size e known all some =
+complete-after context f u bytes header size e known all some =
     let cut : HasLast bytes = has_last bytes some in
     let frame : (u ++ cut.before) ++ cut.byte ∷ [] ≡ u ++ bytes = rejoined u bytes cut.before cut.byte cut.joined in
-    ap (flow_behind context f) cut.joined
-    ∙ all_behind context f u cut.before cut.byte e header size (ap fixed_header_of frame ∙ known) (all ∙ ap length (sym frame))
+    ap (flow_after_bytes context f) cut.joined
+    ∙ all_after context f u cut.before cut.byte e header size (ap fixed_header_of frame ∙ known) (all ∙ ap length (sym frame))
     ∙ ap (λ t. flow_with context (record f { at = f.at + length (cut.before ++ cut.byte ∷ []); state = going_on [] }) (frame_event context t)) frame
     ∙ ap (λ t. flow_with context (record f { at = f.at + length t; state = going_on [] }) (frame_event context (u ++ bytes))) (sym cut.joined)
 
 -- where the frame alone is known, and not its header
 pub complete-refused-within : (limit : ℕ) (context : BodyContext) (f : Flow) (u bytes : List ℕ) (at : ℕ) → f.state ≡ record { unfinished = u; lost = false }
     → frame_size (u ++ bytes) ≡ Some (length (u ++ bytes)) → 0 < length bytes → at + 1 ≡ f.at + length bytes → length (u ++ bytes) ≤ limit
-    → flow_refused limit context f bytes ≡ first_standing (
+    → flow_refused limit context f bytes ≡ first_that_applies (
     (is_other_version (read_frame (u ++ bytes)), refusals.OtherVersion at)
     ∷ (comes_early f (option_map (item_event context.direction) (item_read (length (u ++ bytes)) (slice_index (u ++ bytes) 0) (read_frame (u ++ bytes)))), refusals.Early at)
     ∷ (is_some (option_map (item_event context.direction) (item_read (length (u ++ bytes)) (slice_index (u ++ bytes) 0) (read_frame (u ++ bytes)))) && nat_le 4294967295 f.events, refusals.TooLong at)
@@ -511,17 +511,17 @@ complete-events-frame context f u bytes e whole some =
     let found : (header : ℕ) × (fixed_header_of (u ++ bytes) ≡ headers.Whole header (length (u ++ bytes))) × (length (u ++ bytes) ≤ length (u ++ bytes)) = header_from_frame (u ++ bytes) (length (u ++ bytes)) whole in
     complete-events context f u bytes found.0 (length (u ++ bytes)) e found.1 refl some
 
-pub complete-behind-frame : (context : BodyContext) (f : Flow) (u bytes : List ℕ) → f.state ≡ record { unfinished = u; lost = false }
+pub complete-after-frame : (context : BodyContext) (f : Flow) (u bytes : List ℕ) → f.state ≡ record { unfinished = u; lost = false }
     → frame_size (u ++ bytes) ≡ Some (length (u ++ bytes)) → 0 < length bytes
-    → flow_behind context f bytes ≡ flow_with context (record f { at = f.at + length bytes; state = record { unfinished = []; lost = false } })
+    → flow_after_bytes context f bytes ≡ flow_with context (record f { at = f.at + length bytes; state = record { unfinished = []; lost = false } })
     (option_map (item_event context.direction) (item_read (length (u ++ bytes)) (slice_index (u ++ bytes) 0) (read_frame (u ++ bytes))))
-complete-behind-frame context f u bytes e whole some =
+complete-after-frame context f u bytes e whole some =
     let found : (header : ℕ) × (fixed_header_of (u ++ bytes) ≡ headers.Whole header (length (u ++ bytes))) × (length (u ++ bytes) ≤ length (u ++ bytes)) = header_from_frame (u ++ bytes) (length (u ++ bytes)) whole in
-    complete-behind context f u bytes found.0 (length (u ++ bytes)) e found.1 refl some
+    complete-after context f u bytes found.0 (length (u ++ bytes)) e found.1 refl some
 
 -- A refusal of the first bytes stays, whatever follows; where there is none, what follows decides.
 pub refused-first : (limit : ℕ) (context : BodyContext) (f : Flow) (a b : List ℕ) (refusal : Refusal) → flow_refused limit context f a ≡ Some refusal → flow_refused limit context f (a ++ b) ≡ Some refusal
-refused-first limit context f a b refusal e = refused-append limit context f a b ∙ ap (λ o. option_or o (flow_refused limit context (flow_behind context f a) b)) e
+refused-first limit context f a b refusal e = refused-append limit context f a b ∙ ap (λ o. option_or o (flow_refused limit context (flow_after_bytes context f a) b)) e
 
-pub refused-later : (limit : ℕ) (context : BodyContext) (f : Flow) (a b : List ℕ) → flow_refused limit context f a ≡ None → flow_refused limit context f (a ++ b) ≡ flow_refused limit context (flow_behind context f a) b
-refused-later limit context f a b e = refused-append limit context f a b ∙ ap (λ o. option_or o (flow_refused limit context (flow_behind context f a) b)) e
+pub refused-later : (limit : ℕ) (context : BodyContext) (f : Flow) (a b : List ℕ) → flow_refused limit context f a ≡ None → flow_refused limit context f (a ++ b) ≡ flow_refused limit context (flow_after_bytes context f a) b
+refused-later limit context f a b e = refused-append limit context f a b ∙ ap (λ o. option_or o (flow_refused limit context (flow_after_bytes context f a) b)) e

@@ -11,7 +11,7 @@ use Rattle.mq_trace.specs.declared.refusal.Refusal.TheVariants as refusals
 use Rattle.mq_trace.specs.declared.reading.Reading.{Reading}
 use Rattle.mq_trace.specs.Framing.{kind_named, direction_of}
 use Rattle.mq_trace.specs.Events.{Placed, event_of_head}
-use Rattle.mq_trace.specs.Refusals.{first_standing, allows_length}
+use Rattle.mq_trace.specs.Refusals.{first_that_applies, allows_length}
 use Rattle.mq_trace.specs.Keeping.{IsSound, Advances, Comes, StepStops}
 use Rattle.mq_trace.specs.Stepping.{kind_refusal, kind_for, IsBodyHead, BeginsRecord, in_head, leaving}
 use Rattle.mq_trace.proofs.ReadingLaws.{advanced, comes_after, stops_after, five_of}
@@ -30,8 +30,8 @@ allowed : (direction : Direction) (number : ℕ) → number ≤ 1048576 → allo
 allowed directions.Sent number few = le-leb number 1048576 few
 allowed directions.Recv number few = le-leb number 1048576 few
 
-standing : (a b : Bool) (x y : Refusal) → a ≡ false → b ≡ false → first_standing ((a, x) ∷ (b, y) ∷ []) ≡ None
-standing a b x y p q = λ i. first_standing ((p i, x) ∷ (q i, y) ∷ [])
+standing : (a b : Bool) (x y : Refusal) → a ≡ false → b ≡ false → first_that_applies ((a, x) ∷ (b, y) ∷ []) ≡ None
+standing a b x y p q = λ i. first_that_applies ((p i, x) ∷ (q i, y) ∷ [])
 
 unmet : (r : Reading) (direction : Direction) → r.connections.connected ≡ true → r.records < 4294967295 → kind_refusal r (kind_for direction) ≡ None
 unmet r directions.Sent connected room = standing (not r.connections.connected) (nat_lt 4294967295 (r.records + 1)) (refusals.NotOpen r.at) (refusals.TooLong r.at) (ap not connected) (le-ltb 4294967295 (r.records + 1) (omega arith))
@@ -55,11 +55,11 @@ heads r direction k x y z b number bytes sound head x_byte y_byte z_byte first i
     let r2 : Reading = in_head r1 (r1.at + 3) kind 3 three in
     let r3 : Reading = leaving (record r2 { at = r2.at + 1 }) direction (three * 256 + b) in
     let begins = begins_body r direction in
-    let sound1 : IsSound r1 = first_sound r r1 kind sound head.behind head.between head.room begins in
+    let sound1 : IsSound r1 = first_sound r r1 kind sound head.past_header head.between head.room begins in
     let sound2 : IsSound r2 = three_sound r1 kind x y z sound1 refl x_byte y_byte z_byte in
     let emitted : three * 256 + b ≡ number = four x y z b ∙ sym is in
     let short : three * 256 + b ≤ 1048576 = omega (arith, emitted, head.allowed) in
-    let step1 : Advances r r1 (k ∷ []) [] = first_advances r r1 k kind head.behind head.between (subst (λ n. kind_named n ≡ Some kind) first head.named) (unmet r direction head.connected head.room) begins in
+    let step1 : Advances r r1 (k ∷ []) [] = first_advances r r1 k kind head.past_header head.between (subst (λ n. kind_named n ≡ Some kind) first head.named) (unmet r direction head.connected head.room) begins in
     let step2 : Advances r1 r2 (x ∷ y ∷ z ∷ []) [] = three_advance r1 kind x y z sound1 refl x_byte y_byte in
     let step3 : Advances r2 r3 (b ∷ []) [] = body_advances r2 kind three b sound2 refl direction (goes direction) (silent direction) (allowed direction (three * 256 + b) short) in
     let steps : Advances r r3 (k ∷ x ∷ y ∷ z ∷ b ∷ []) [] = advanced r r1 r3 (k ∷ []) (x ∷ y ∷ z ∷ b ∷ []) [] [] step1 (advanced r1 r2 r3 (x ∷ y ∷ z ∷ []) (b ∷ []) [] [] step2 step3) in
@@ -95,14 +95,14 @@ take_both zero m xs = ap (λ k. take k xs) (no_sum m)
 take_both (suc n) m [] = take_none m ∙ sym (take_none (suc n + m))
 take_both (suc n) m (x ∷ xs) = ap (λ (l : List ℕ). x ∷ l) (take_both n m xs) ∙ ap (λ k. take k (x ∷ xs)) (one_sum n m)
 
-pub comes_behind : {S : Type 0} (agrees : S → List Placed → Type 0) (r r1 r2 : Reading) (n m : ℕ) (bytes rest : List ℕ) (old new : S) → rest ≡ drop n bytes
+pub comes_after_head : {S : Type 0} (agrees : S → List Placed → Type 0) (r r1 r2 : Reading) (n m : ℕ) (bytes rest : List ℕ) (old new : S) → rest ≡ drop n bytes
     → Advances r r1 (take n bytes) [] → Comes agrees r1 r2 (take m rest) old new → Comes agrees r r2 (take (n + m) bytes) old new
-comes_behind agrees r r1 r2 n m bytes rest old new is quiet comes =
+comes_after_head agrees r r1 r2 n m bytes rest old new is quiet comes =
     subst (λ (l : List ℕ). Comes agrees r r2 l old new) (ap (λ (l : List ℕ). take n bytes ++ take m l) is ∙ take_both n m bytes)
     (comes_after agrees r r1 r2 (take n bytes) (take m rest) old new quiet comes)
 
-pub stops_behind : {S : Type 0} (declines : S → S → List Placed → Refusal → Type 0) (r r1 : Reading) (n : ℕ) (bytes rest : List ℕ) (old new : S) (refusal : Refusal) → rest ≡ drop n bytes
+pub stops_after_head : {S : Type 0} (declines : S → S → List Placed → Refusal → Type 0) (r r1 : Reading) (n : ℕ) (bytes rest : List ℕ) (old new : S) (refusal : Refusal) → rest ≡ drop n bytes
     → n ≤ length bytes → Advances r r1 (take n bytes) [] → r1.at ≡ r.at + n → StepStops declines r1 rest old new refusal → StepStops declines r bytes old new refusal
-stops_behind declines r r1 n bytes rest old new refusal is few quiet moved stop =
+stops_after_head declines r r1 n bytes rest old new refusal is few quiet moved stop =
     subst (λ (l : List ℕ). StepStops declines r l old new refusal) (ap (λ (l : List ℕ). take n bytes ++ l) is ∙ take-append-drop n bytes)
     (stops_after declines r r1 (take n bytes) rest old new refusal quiet (moved ∙ ap (λ k. r.at + k) (sym (length-take-le n bytes few))) stop)

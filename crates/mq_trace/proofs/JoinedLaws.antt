@@ -397,7 +397,7 @@ items_more number direction log byte h =
     ∙ ap (λ items. before ++ cond (opened_events (events (log ++ byte ∷ [])) == number) items []) (event_items_by (kind_of part) direction part (so_far_for (context log) byte))
 
 -- a byte of a record, by whether it is one of its body, and which way that goes
-module _ (number : ℕ) (direction : Direction) (log : List ℕ) (byte : ℕ) (behind : 8 ≤ length log) where
+module _ (number : ℕ) (direction : Direction) (log : List ℕ) (byte : ℕ) (past_header : 8 ≤ length log) where
   abbrev part : List ℕ
   part = (records log).rest ++ byte ∷ []
 
@@ -421,13 +421,13 @@ module _ (number : ℕ) (direction : Direction) (log : List ℕ) (byte : ℕ) (b
   same_number is =
       let both : m + opening (begun_records (log ++ byte ∷ [])) ≡ n = (opened_always (log ++ byte ∷ [])).same in
       let none : opening (begun_records (log ++ byte ∷ [])) ≡ 0
-      = ap opening (begun-grow log byte behind) ∙ ap (λ t. cond (t && nat_lt (length part) 5) 1 0) is in
+      = ap opening (begun-grow log byte past_header) ∙ ap (λ t. cond (t && nat_lt (length part) 5) 1 0) is in
       omega (arith, both, none)
 
   newest_carried : opens (kind_of part) ≡ false → n ≡ number → carried_so ≡ carried direction (begun_records log)
   unfolding begun_records
   newest_carried is same =
-      let kept : n ≡ opened_records (begun_records log) = ap opened_records (begun-grow log byte behind) ∙ opened_kept (records log).rest byte (reverse (records log).whole) is in
+      let kept : n ≡ opened_records (begun_records log) = ap opened_records (begun-grow log byte past_header) ∙ opened_kept (records log).rest byte (reverse (records log).whole) is in
       ap (λ k. joined k direction (begun_records log)) (sym same ∙ kept) ∙ newest direction (begun_records log)
 
   item_goes : nat_lt 5 (length part) ≡ true → direction_of (kind_of part) ≡ Some direction → carried_so ≡ carried direction (begun_records log) → item_so ≡ item_at (packet_with carried_so byte)
@@ -485,10 +485,10 @@ module _ (number : ℕ) (direction : Direction) (log : List ℕ) (byte : ℕ) (b
 
   byte_more : connection_items number direction (events log) ≡ stream_items (stream carried_so) → connection_items number direction (events (log ++ byte ∷ [])) ≡ stream_items (stream (joined number direction (begun_records (log ++ byte ∷ []))))
   byte_more before =
-      items_more number direction log byte behind
+      items_more number direction log byte past_header
       ∙ ap (λ items. items ++ cond (m == number) (items_if direction (direction_of (kind_of part)) (if_some item_so)) []) before
       ∙ byte_goes (nat_lt 5 (length part)) refl direction refl (direction_of (kind_of part)) refl
-      ∙ ap (λ bytes. stream_items (stream bytes)) (sym (joined_more number direction log byte behind))
+      ∙ ap (λ bytes. stream_items (stream bytes)) (sym (joined_more number direction log byte past_header))
 
 -- Nothing is on a connection in a header.
 header_items : (number : ℕ) (direction : Direction) (log : List ℕ) → length log ≤ 8 → connection_items number direction (events log) ≡ stream_items (stream (joined number direction (begun_records log)))

@@ -13,10 +13,10 @@ use Rattle.mq_trace.specs.declared.refusal.Refusal.{Refusal}
 use Rattle.mq_trace.specs.declared.refusal.Refusal.TheVariants as refusals
 use Rattle.mq_trace.specs.Framing.{kind_of, body_length, record_size, direction_of, opens}
 use Rattle.mq_trace.specs.Events.{Item, Event, item_at, event_by, event_in, read_frame}
-use Rattle.mq_trace.specs.Refusals.{first_standing, allows_length, is_open_kind, needs_connection, is_release_kind, is_too_large, is_other_version, is_early, record_refusal, header_refusal}
+use Rattle.mq_trace.specs.Refusals.{first_that_applies, allows_length, is_open_kind, needs_connection, is_release_kind, is_too_large, is_other_version, is_early, record_refusal, header_refusal}
 use Rattle.mq_trace.specs.Context.{StreamState, Context, state_for, so_far_in, so_far_by, so_far_for, situated, state_after, state_by, state_then, with_completed, after_header, after_part, after, put, placed_with, placed_for, refusal_for, event_for}
-use Rattle.mq_trace.specs.Runs.{behind, refused_in, events_by}
-use Rattle.mq_trace.specs.Flows.{BodyContext, Flow, item_event, comes_early, flow_event, flow_refusal, flow_placed, flow_placed_with, flow_with, flow_after, flow_behind, flow_refused, flow_events, context_in, flow_in, state_behind, flowed}
+use Rattle.mq_trace.specs.Runs.{after_bytes, refused_in, events_by}
+use Rattle.mq_trace.specs.Flows.{BodyContext, Flow, item_event, comes_early, flow_event, flow_refusal, flow_placed, flow_placed_with, flow_with, flow_after, flow_after_bytes, flow_refused, flow_events, context_in, flow_in, state_after_body, flowed}
 
 -- A record that carries packets opens no connection, and its events are what its packets are.
 pub opens_none : (kind : Option RecordKind) (direction : Direction) → direction_of kind ≡ Some direction → opens kind ≡ false
@@ -56,7 +56,7 @@ body_stays (k ∷ p ∷ q ∷ r ∷ s ∷ part) b h = refl
 
 -- the refusal of a byte of a record, with what follows from how far the record is, and the event
 abbrev lines : ℕ → Context → List ℕ → List ℕ → Bool → Bool → Bool → Option Event → Option Refusal
-lines limit c part so_far first head early event = first_standing (
+lines limit c part so_far first head early event = first_that_applies (
     (first && is_none (kind_of part), refusals.Kind c.at)
     ∷ (head && not (allows_length (kind_of part) (body_length part)), refusals.Length c.at)
     ∷ (first && (is_open_kind (kind_of part) && c.connected), refusals.Nested c.at)
@@ -92,7 +92,7 @@ just_whole n size less =
     apart : (n + 1 ≡ size → ⊥) → n + 1 < size
     apart other = omega (arith, other)
 
-state_same : (each direction : Direction) (c : Context) (byte : ℕ) → state_by each (Some direction) (state_for c each) byte ≡ state_behind each direction (state_after (state_for c direction) byte) (state_for c each)
+state_same : (each direction : Direction) (c : Context) (byte : ℕ) → state_by each (Some direction) (state_for c each) byte ≡ state_after_body each direction (state_after (state_for c direction) byte) (state_for c each)
 state_same directions.Sent directions.Sent c byte = refl
 state_same directions.Sent directions.Recv c byte = refl
 state_same directions.Recv directions.Sent c byte = refl
@@ -109,14 +109,14 @@ kept c part whole sent recv event = with_completed (record c {
 }) event
 
 kept_flowed : (c : Context) (direction : Direction) (byte : ℕ) (whole : Bool) (item : Option Item)
-    → kept c (c.part ++ byte ∷ []) whole (state_behind directions.Sent direction (state_after (state_for c direction) byte) c.sent) (state_behind directions.Recv direction (state_after (state_for c direction) byte) c.recv) (option_map (item_event direction) item)
+    → kept c (c.part ++ byte ∷ []) whole (state_after_body directions.Sent direction (state_after (state_for c direction) byte) c.sent) (state_after_body directions.Recv direction (state_after (state_for c direction) byte) c.recv) (option_map (item_event direction) item)
     ≡ flowed c direction whole (flow_with (context_in c direction) (record (flow_in c direction) { at = c.at + 1; state = state_after (state_for c direction) byte }) (option_map (item_event direction) item)) (byte ∷ [])
 kept_flowed c direction byte whole None = refl
 kept_flowed c directions.Sent byte whole (Some item) = refl
 kept_flowed c directions.Recv byte whole (Some item) = refl
 
 -- one byte of a body
-module _ (c : Context) (direction : Direction) (byte : ℕ) (behind_header : 8 ≤ c.at) (goes : direction_of (kind_of c.part) ≡ Some direction) (there : 5 ≤ length c.part) where
+module _ (c : Context) (direction : Direction) (byte : ℕ) (past_header : 8 ≤ c.at) (goes : direction_of (kind_of c.part) ≡ Some direction) (there : 5 ≤ length c.part) where
   abbrev part : List ℕ
   part = c.part ++ byte ∷ []
 
@@ -148,7 +148,7 @@ module _ (c : Context) (direction : Direction) (byte : ℕ) (behind_header : 8 �
   event_is : event_for c byte ≡ flow_event context flow byte
   unfolding event_for event_in flow_event
   event_is =
-      ap (λ b. if b then None else event_by (kind_of part) part (so_far_for c byte)) (le-ltb c.at 8 behind_header)
+      ap (λ b. if b then None else event_by (kind_of part) part (so_far_for c byte)) (le-ltb c.at 8 past_header)
       ∙ event_by_item (kind_of part) direction part (so_far_for c byte) goes_on
       ∙ ap (λ t. option_map (item_event direction) (item_at t)) so_far_is
 
@@ -169,7 +169,7 @@ module _ (c : Context) (direction : Direction) (byte : ℕ) (behind_header : 8 �
   refusal_lifted : (limit : ℕ) → refusal_for limit c byte ≡ flow_refusal limit context flow byte
   unfolding refusal_for
   refusal_lifted limit =
-      ap (λ b. if b then header_refusal c.at byte else record_refusal limit (situated c byte)) (le-ltb c.at 8 behind_header)
+      ap (λ b. if b then header_refusal c.at byte else record_refusal limit (situated c byte)) (le-ltb c.at 8 past_header)
       ∙ by_lines limit
       ∙ ap (λ b. lines limit c part (so_far_for c byte) b (length part == 5) (is_early (situated c byte) (event_in part (so_far_for c byte))) (event_in part (so_far_for c byte))) not_first
       ∙ ap (λ b. lines limit c part (so_far_for c byte) false b (is_early (situated c byte) (event_in part (so_far_for c byte))) (event_in part (so_far_for c byte))) not_head
@@ -187,7 +187,7 @@ module _ (c : Context) (direction : Direction) (byte : ℕ) (behind_header : 8 �
   unfolding placed_for flow_placed
   placed_lifted = ap (placed_with c) event_is ∙ place_same (flow_event context flow byte)
 
-  state_is : (each : Direction) → state_then each (state_for c each) part byte ≡ state_behind each direction (state_after (state_for c direction) byte) (state_for c each)
+  state_is : (each : Direction) → state_then each (state_for c each) part byte ≡ state_after_body each direction (state_after (state_for c direction) byte) (state_for c each)
   unfolding state_then
   state_is each =
       ap (λ b. cond b (record { unfinished = []; lost = false }) (cond (nat_lt 5 (length part)) (state_by each (direction_of (kind_of part)) (state_for c each) byte) (state_for c each))) (opens_none (kind_of part) direction goes_on)
@@ -215,28 +215,28 @@ module _ (c : Context) (direction : Direction) (byte : ℕ) (behind_header : 8 �
   after_lifted : length c.part < 5 + body_length c.part → after c byte ≡ flowed c direction (length c.part + 1 == 5 + body_length c.part) (flow_after context flow byte) (byte ∷ [])
   unfolding after
   after_lifted less =
-      ap (λ b. if b then after_header c byte else with_completed (after_part c part byte) (event_for c byte)) (le-ltb c.at 8 behind_header)
+      ap (λ b. if b then after_header c byte else with_completed (after_part c part byte) (event_for c byte)) (le-ltb c.at 8 past_header)
       ∙ ap (λ h. kept c part (is_some (record_size part)) h (state_then directions.Recv c.recv part byte) (event_for c byte)) (state_is directions.Sent)
-      ∙ ap (λ h. kept c part (is_some (record_size part)) (state_behind directions.Sent direction (state_after (state_for c direction) byte) c.sent) h (event_for c byte)) (state_is directions.Recv)
-      ∙ ap (λ b. kept c part b (state_behind directions.Sent direction (state_after (state_for c direction) byte) c.sent) (state_behind directions.Recv direction (state_after (state_for c direction) byte) c.recv) (event_for c byte)) (whole_is less)
-      ∙ ap (kept c part (length c.part + 1 == 5 + body_length c.part) (state_behind directions.Sent direction (state_after (state_for c direction) byte) c.sent) (state_behind directions.Recv direction (state_after (state_for c direction) byte) c.recv)) (event_is ∙ flow_event_is)
+      ∙ ap (λ h. kept c part (is_some (record_size part)) (state_after_body directions.Sent direction (state_after (state_for c direction) byte) c.sent) h (event_for c byte)) (state_is directions.Recv)
+      ∙ ap (λ b. kept c part b (state_after_body directions.Sent direction (state_after (state_for c direction) byte) c.sent) (state_after_body directions.Recv direction (state_after (state_for c direction) byte) c.recv) (event_for c byte)) (whole_is less)
+      ∙ ap (kept c part (length c.part + 1 == 5 + body_length c.part) (state_after_body directions.Sent direction (state_after (state_for c direction) byte) c.sent) (state_after_body directions.Recv direction (state_after (state_for c direction) byte) c.recv)) (event_is ∙ flow_event_is)
       ∙ kept_flowed c direction byte (length c.part + 1 == 5 + body_length c.part) (item_at (so_far_in (state_for c direction) byte))
       ∙ ap (λ g. flowed c direction (length c.part + 1 == 5 + body_length c.part) g (byte ∷ [])) (sym flow_after_is)
 
 -- The byte is refused as in its flow ..
 pub lifted-refusal : (limit : ℕ) (c : Context) (direction : Direction) (byte : ℕ) → 8 ≤ c.at → direction_of (kind_of c.part) ≡ Some direction → 5 ≤ length c.part
     → refusal_for limit c byte ≡ flow_refusal limit (context_in c direction) (flow_in c direction) byte
-lifted-refusal limit c direction byte behind_header goes there = refusal_lifted c direction byte behind_header goes there limit
+lifted-refusal limit c direction byte past_header goes there = refusal_lifted c direction byte past_header goes there limit
 
 -- .. completes what it does there ..
 pub lifted-placed : (c : Context) (direction : Direction) (byte : ℕ) → 8 ≤ c.at → direction_of (kind_of c.part) ≡ Some direction → 5 ≤ length c.part
     → placed_for c byte ≡ flow_placed (context_in c direction) (flow_in c direction) byte
-lifted-placed c direction byte behind_header goes there = placed_lifted c direction byte behind_header goes there
+lifted-placed c direction byte past_header goes there = placed_lifted c direction byte past_header goes there
 
 -- .. and leaves what it leaves there.
 pub lifted-after : (c : Context) (direction : Direction) (byte : ℕ) → 8 ≤ c.at → direction_of (kind_of c.part) ≡ Some direction → 5 ≤ length c.part → length c.part < 5 + body_length c.part
     → after c byte ≡ flowed c direction (length c.part + 1 == 5 + body_length c.part) (flow_after (context_in c direction) (flow_in c direction) byte) (byte ∷ [])
-lifted-after c direction byte behind_header goes there less = after_lifted c direction byte behind_header goes there less
+lifted-after c direction byte past_header goes there less = after_lifted c direction byte past_header goes there less
 
 -- The packet so far of a byte of a body is its direction's.
 pub lifted-so_far : (c : Context) (direction : Direction) (byte : ℕ) → direction_of (kind_of c.part) ≡ Some direction → 5 ≤ length c.part → so_far_for c byte ≡ so_far_in (state_for c direction) byte
@@ -281,7 +281,7 @@ flowed_none c directions.Sent = ap (λ t. record c { part = t }) (append-nil c.p
 flowed_none c directions.Recv = ap (λ t. record c { part = t }) (append-nil c.part)
 
 -- a byte of a body after which more of the body stands
-module _ (c : Context) (direction : Direction) (byte next : ℕ) (bytes : List ℕ) (behind_header : 8 ≤ c.at) (goes : direction_of (kind_of c.part) ≡ Some direction) (there : 5 ≤ length c.part)
+module _ (c : Context) (direction : Direction) (byte next : ℕ) (bytes : List ℕ) (past_header : 8 ≤ c.at) (goes : direction_of (kind_of c.part) ≡ Some direction) (there : 5 ≤ length c.part)
     (fits : length c.part + length (byte ∷ next ∷ bytes) ≤ 5 + body_length c.part) where
   abbrev then_flow : Flow
   then_flow = flow_after (context_in c direction) (flow_in c direction) byte
@@ -294,7 +294,7 @@ module _ (c : Context) (direction : Direction) (byte next : ℕ) (bytes : List �
 
   then_is : after c byte ≡ then_kept
   then_is =
-      lifted-after c direction byte behind_header goes there (omega arith)
+      lifted-after c direction byte past_header goes there (omega arith)
       ∙ ap (λ b. flowed c direction b then_flow (byte ∷ [])) (ne_eqb (length c.part + 1) (5 + body_length c.part) (λ same. (omega arith)))
 
   then_at : 8 ≤ then_kept.at
@@ -327,49 +327,49 @@ module _ (c : Context) (direction : Direction) (byte next : ℕ) (bytes : List �
 -- Bytes of one body are refused as in their flow ..
 pub lifted-refused : (limit : ℕ) (c : Context) (direction : Direction) (bytes : List ℕ) → 8 ≤ c.at → direction_of (kind_of c.part) ≡ Some direction → 5 ≤ length c.part
     → length c.part + length bytes ≤ 5 + body_length c.part → refused_in limit c bytes ≡ flow_refused limit (context_in c direction) (flow_in c direction) bytes
-lifted-refused limit c direction [] behind_header goes there fits = refl
-lifted-refused limit c direction (byte ∷ []) behind_header goes there fits = ap (λ o. option_or o None) (lifted-refusal limit c direction byte behind_header goes there)
-lifted-refused limit c direction (byte ∷ next ∷ bytes) behind_header goes there fits =
-    ap (λ o. option_or o (refused_in limit (after c byte) (next ∷ bytes))) (lifted-refusal limit c direction byte behind_header goes there)
+lifted-refused limit c direction [] past_header goes there fits = refl
+lifted-refused limit c direction (byte ∷ []) past_header goes there fits = ap (λ o. option_or o None) (lifted-refusal limit c direction byte past_header goes there)
+lifted-refused limit c direction (byte ∷ next ∷ bytes) past_header goes there fits =
+    ap (λ o. option_or o (refused_in limit (after c byte) (next ∷ bytes))) (lifted-refusal limit c direction byte past_header goes there)
     ∙ ap (option_or (flow_refusal limit (context_in c direction) (flow_in c direction) byte))
-    (ap (λ k. refused_in limit k (next ∷ bytes)) (then_is c direction byte next bytes behind_header goes there fits)
-    ∙ lifted-refused limit (then_kept c direction byte next bytes behind_header goes there fits) direction (next ∷ bytes)
-    (then_at c direction byte next bytes behind_header goes there fits) (then_goes c direction byte next bytes behind_header goes there fits)
-    (then_there c direction byte next bytes behind_header goes there fits) (then_fits c direction byte next bytes behind_header goes there fits)
-    ∙ ap (λ g. flow_refused limit (context_in c direction) g (next ∷ bytes)) (then_flows c direction byte next bytes behind_header goes there fits))
+    (ap (λ k. refused_in limit k (next ∷ bytes)) (then_is c direction byte next bytes past_header goes there fits)
+    ∙ lifted-refused limit (then_kept c direction byte next bytes past_header goes there fits) direction (next ∷ bytes)
+    (then_at c direction byte next bytes past_header goes there fits) (then_goes c direction byte next bytes past_header goes there fits)
+    (then_there c direction byte next bytes past_header goes there fits) (then_fits c direction byte next bytes past_header goes there fits)
+    ∙ ap (λ g. flow_refused limit (context_in c direction) g (next ∷ bytes)) (then_flows c direction byte next bytes past_header goes there fits))
 
 -- .. complete what they do there ..
 pub lifted-events : (c : Context) (direction : Direction) (bytes : List ℕ) → 8 ≤ c.at → direction_of (kind_of c.part) ≡ Some direction → 5 ≤ length c.part
     → length c.part + length bytes ≤ 5 + body_length c.part → events_by c bytes ≡ flow_events (context_in c direction) (flow_in c direction) bytes
-lifted-events c direction [] behind_header goes there fits = refl
-lifted-events c direction (byte ∷ []) behind_header goes there fits = ap (λ placed. put placed []) (lifted-placed c direction byte behind_header goes there)
-lifted-events c direction (byte ∷ next ∷ bytes) behind_header goes there fits =
-    ap (λ placed. events_by (after c byte) (next ∷ bytes) ++ put placed []) (lifted-placed c direction byte behind_header goes there)
+lifted-events c direction [] past_header goes there fits = refl
+lifted-events c direction (byte ∷ []) past_header goes there fits = ap (λ placed. put placed []) (lifted-placed c direction byte past_header goes there)
+lifted-events c direction (byte ∷ next ∷ bytes) past_header goes there fits =
+    ap (λ placed. events_by (after c byte) (next ∷ bytes) ++ put placed []) (lifted-placed c direction byte past_header goes there)
     ∙ ap (λ completed. completed ++ put (flow_placed (context_in c direction) (flow_in c direction) byte) [])
-    (ap (λ k. events_by k (next ∷ bytes)) (then_is c direction byte next bytes behind_header goes there fits)
-    ∙ lifted-events (then_kept c direction byte next bytes behind_header goes there fits) direction (next ∷ bytes)
-    (then_at c direction byte next bytes behind_header goes there fits) (then_goes c direction byte next bytes behind_header goes there fits)
-    (then_there c direction byte next bytes behind_header goes there fits) (then_fits c direction byte next bytes behind_header goes there fits)
-    ∙ ap (λ g. flow_events (context_in c direction) g (next ∷ bytes)) (then_flows c direction byte next bytes behind_header goes there fits))
+    (ap (λ k. events_by k (next ∷ bytes)) (then_is c direction byte next bytes past_header goes there fits)
+    ∙ lifted-events (then_kept c direction byte next bytes past_header goes there fits) direction (next ∷ bytes)
+    (then_at c direction byte next bytes past_header goes there fits) (then_goes c direction byte next bytes past_header goes there fits)
+    (then_there c direction byte next bytes past_header goes there fits) (then_fits c direction byte next bytes past_header goes there fits)
+    ∙ ap (λ g. flow_events (context_in c direction) g (next ∷ bytes)) (then_flows c direction byte next bytes past_header goes there fits))
 
 -- .. and leave what they leave there.
-pub lifted-behind : (c : Context) (direction : Direction) (bytes : List ℕ) → 8 ≤ c.at → direction_of (kind_of c.part) ≡ Some direction → 5 ≤ length c.part
+pub lifted-after_bytes : (c : Context) (direction : Direction) (bytes : List ℕ) → 8 ≤ c.at → direction_of (kind_of c.part) ≡ Some direction → 5 ≤ length c.part
     → length c.part < 5 + body_length c.part → length c.part + length bytes ≤ 5 + body_length c.part
-    → behind c bytes ≡ flowed c direction (length c.part + length bytes == 5 + body_length c.part) (flow_behind (context_in c direction) (flow_in c direction) bytes) bytes
-lifted-behind c direction [] behind_header goes there less fits =
+    → after_bytes c bytes ≡ flowed c direction (length c.part + length bytes == 5 + body_length c.part) (flow_after_bytes (context_in c direction) (flow_in c direction) bytes) bytes
+lifted-after_bytes c direction [] past_header goes there less fits =
     sym (ap (λ b. flowed c direction b (flow_in c direction) []) (ne_eqb (length c.part + length {A = ℕ} []) (5 + body_length c.part) (λ same. (omega arith))) ∙ flowed_none c direction)
-lifted-behind c direction (byte ∷ []) behind_header goes there less fits =
+lifted-after_bytes c direction (byte ∷ []) past_header goes there less fits =
     let one : length c.part + 1 ≡ length c.part + length (byte ∷ []) = omega arith in
-    lifted-after c direction byte behind_header goes there less
+    lifted-after c direction byte past_header goes there less
     ∙ ap (λ n. flowed c direction (n == 5 + body_length c.part) (flow_after (context_in c direction) (flow_in c direction) byte) (byte ∷ [])) one
-lifted-behind c direction (byte ∷ next ∷ bytes) behind_header goes there less fits =
-    let c' : Context = then_kept c direction byte next bytes behind_header goes there fits in
-    ap (λ k. behind k (next ∷ bytes)) (then_is c direction byte next bytes behind_header goes there fits)
-    ∙ lifted-behind (then_kept c direction byte next bytes behind_header goes there fits) direction (next ∷ bytes)
-    (then_at c direction byte next bytes behind_header goes there fits) (then_goes c direction byte next bytes behind_header goes there fits)
-    (then_there c direction byte next bytes behind_header goes there fits) (then_less c direction byte next bytes behind_header goes there fits)
-    (then_fits c direction byte next bytes behind_header goes there fits)
-    ∙ ap (λ b. flowed c' direction b (flow_behind (context_in c direction) (flow_in c' direction) (next ∷ bytes)) (next ∷ bytes)) (then_whole c direction byte next bytes behind_header goes there fits)
-    ∙ ap (λ g. flowed c' direction (length c.part + length (byte ∷ next ∷ bytes) == 5 + body_length c.part) (flow_behind (context_in c direction) g (next ∷ bytes)) (next ∷ bytes)) (then_flows c direction byte next bytes behind_header goes there fits)
+lifted-after_bytes c direction (byte ∷ next ∷ bytes) past_header goes there less fits =
+    let c' : Context = then_kept c direction byte next bytes past_header goes there fits in
+    ap (λ k. after_bytes k (next ∷ bytes)) (then_is c direction byte next bytes past_header goes there fits)
+    ∙ lifted-after_bytes (then_kept c direction byte next bytes past_header goes there fits) direction (next ∷ bytes)
+    (then_at c direction byte next bytes past_header goes there fits) (then_goes c direction byte next bytes past_header goes there fits)
+    (then_there c direction byte next bytes past_header goes there fits) (then_less c direction byte next bytes past_header goes there fits)
+    (then_fits c direction byte next bytes past_header goes there fits)
+    ∙ ap (λ b. flowed c' direction b (flow_after_bytes (context_in c direction) (flow_in c' direction) (next ∷ bytes)) (next ∷ bytes)) (then_whole c direction byte next bytes past_header goes there fits)
+    ∙ ap (λ g. flowed c' direction (length c.part + length (byte ∷ next ∷ bytes) == 5 + body_length c.part) (flow_after_bytes (context_in c direction) g (next ∷ bytes)) (next ∷ bytes)) (then_flows c direction byte next bytes past_header goes there fits)
     ∙ flowed_twice c direction (length c.part + length (byte ∷ next ∷ bytes) == 5 + body_length c.part) (flow_after (context_in c direction) (flow_in c direction) byte)
-    (flow_behind (context_in c direction) (flow_after (context_in c direction) (flow_in c direction) byte) (next ∷ bytes)) (byte ∷ []) (next ∷ bytes)
+    (flow_after_bytes (context_in c direction) (flow_after (context_in c direction) (flow_in c direction) byte) (next ∷ bytes)) (byte ∷ []) (next ∷ bytes)

@@ -156,12 +156,12 @@ module _ (size_at : List ℕ → Option ℕ) (settles : Settles size_at) where
       → pieces size_at (flat_map (λ piece. piece) whole ++ rest) ≡ record { whole = whole; rest = rest }
   cut_alike [] rest each none = front rest ∙ ap (λ o. with_piece o rest (pieces size_at (drop (unwrap_or o 0) rest))) none
   cut_alike (w ∷ whole) rest each none =
-      let behind = flat_map (λ piece. piece) whole ++ rest in
+      let later = flat_map (λ piece. piece) whole ++ rest in
       let all = flat_map (λ piece. piece) (w ∷ whole) ++ rest in
-      let assoc : all ≡ w ++ behind = append_assoc w (flat_map (λ piece. piece) whole) rest in
-      let size : size_at all ≡ Some (length w) = ap size_at assoc ∙ settles.stays w behind (length w) each.0 in
-      let front_is : take (length w) all ≡ w = ap (take (length w)) assoc ∙ take_at w behind (length w) refl in
-      let back_is : drop (length w) all ≡ behind = ap (drop (length w)) assoc ∙ drop_at w behind (length w) refl in
+      let assoc : all ≡ w ++ later = append_assoc w (flat_map (λ piece. piece) whole) rest in
+      let size : size_at all ≡ Some (length w) = ap size_at assoc ∙ settles.stays w later (length w) each.0 in
+      let front_is : take (length w) all ≡ w = ap (take (length w)) assoc ∙ take_at w later (length w) refl in
+      let back_is : drop (length w) all ≡ later = ap (drop (length w)) assoc ∙ drop_at w later (length w) refl in
       front all
       ∙ ap (λ o. with_piece o all (pieces size_at (drop (unwrap_or o 0) all))) size
       ∙ ap (λ bytes. record { whole = bytes ∷ (pieces size_at (drop (length w) all)).whole; rest = (pieces size_at (drop (length w) all)).rest }) front_is

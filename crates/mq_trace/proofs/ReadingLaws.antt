@@ -7,11 +7,11 @@ use Rattle.mq_trace.specs.declared.refusal.Refusal.{Refusal}
 use Rattle.mq_trace.specs.declared.reading.Reading.{Reading}
 use Rattle.mq_trace.specs.Events.{Placed}
 use Rattle.mq_trace.specs.Context.{so_far_for}
-use Rattle.mq_trace.specs.Runs.{behind, refused_in, events_by}
+use Rattle.mq_trace.specs.Runs.{after_bytes, refused_in, events_by}
 use Rattle.mq_trace.specs.Reception.{AreEvents}
 use Rattle.mq_trace.specs.Deframing.{FlowWhy}
 use Rattle.mq_trace.specs.Keeping.{context_of, Advances, Comes, StepStops}
-use Rattle.mq_trace.proofs.RunLaws.{behind_append, refused_append, events_append}
+use Rattle.mq_trace.proofs.RunLaws.{after_bytes_append, refused_append, events_append}
 
 -- One step after another.
 pub advanced : (r r1 r2 : Reading) (a b : List ℕ) (h k : List Placed) → Advances r r1 a h → Advances r1 r2 b k → Advances r r2 (a ++ b) (k ++ h)
@@ -23,11 +23,11 @@ advanced r r1 r2 a b h k first second = record {
         g.0,
         g.1,
         refused_append r.limit (context_of r part) a b
-            ∙ ap (λ o. option_or o (refused_in r.limit (behind (context_of r part) a) b)) f.2
+            ∙ ap (λ o. option_or o (refused_in r.limit (after_bytes (context_of r part) a) b)) f.2
             ∙ ap (λ c. refused_in r.limit c b) f.3
             ∙ ap (λ limit. refused_in limit (context_of r1 f.0) b) (sym first.limit)
             ∙ g.2,
-        behind_append (context_of r part) a b ∙ ap (λ c. behind c b) f.3 ∙ g.3,
+        after_bytes_append (context_of r part) a b ∙ ap (λ c. after_bytes c b) f.3 ∙ g.3,
         events_append (context_of r part) a b ∙ ap (λ c. events_by c b ++ events_by (context_of r part) a) f.3 ∙ ap (λ past. past ++ events_by (context_of r part) a) g.4 ∙ ap (λ past. k ++ past) f.4,
       ));
 }
@@ -73,7 +73,7 @@ stops_after declines r r1 a b old new refusal quiet moved stop = record {
       let c = context_of r part in
       let refused : (bytes : List ℕ) → refused_in r.limit c (a ++ bytes) ≡ refused_in r1.limit (context_of r1 f.0) bytes = λ bytes.
       refused_append r.limit c a bytes
-      ∙ ap (λ o. option_or o (refused_in r.limit (behind c a) bytes)) f.2
+      ∙ ap (λ o. option_or o (refused_in r.limit (after_bytes c a) bytes)) f.2
       ∙ ap (λ d. refused_in r.limit d bytes) f.3
       ∙ ap (λ limit. refused_in limit (context_of r1 f.0) bytes) (sym quiet.limit) in
       let completed : (bytes : List ℕ) → events_by c (a ++ bytes) ≡ events_by (context_of r1 f.0) bytes = λ bytes.
@@ -86,7 +86,7 @@ stops_after declines r r1 a b old new refusal quiet moved stop = record {
       let place : r1.at + length stop.taken ≡ r.at + length (a ++ stop.taken) = (let l = length-append a stop.taken in omega arith) in (
         refused stop.taken ∙ g.0,
         completed stop.taken ∙ g.1,
-        same_why declines old new refusal quiet.limit place (ap (λ d. so_far_for d stop.byte) (sym (behind_append c a stop.taken ∙ ap (λ d. behind d stop.taken) f.3))) (sym (refused whole) ∙ ap (refused_in r.limit c) (sym last)) (sym (completed whole) ∙ ap (events_by c) (sym last)) g.2,
+        same_why declines old new refusal quiet.limit place (ap (λ d. so_far_for d stop.byte) (sym (after_bytes_append c a stop.taken ∙ ap (λ d. after_bytes d stop.taken) f.3))) (sym (refused whole) ∙ ap (refused_in r.limit c) (sym last)) (sym (completed whole) ∙ ap (events_by c) (sym last)) g.2,
       ));
 }
   where

@@ -6,39 +6,39 @@ use Rattle.mq_trace.specs.declared.refusal.Refusal.{Refusal}
 use Rattle.mq_trace.specs.Events.{Placed, events}
 use Rattle.mq_trace.specs.Refusals.{refused}
 use Rattle.mq_trace.specs.Context.{Context, context, refusal_for, placed_for, put, after}
-use Rattle.mq_trace.specs.Runs.{behind, refused_in, events_by}
+use Rattle.mq_trace.specs.Runs.{after_bytes, refused_in, events_by}
 use Rattle.mq_trace.proofs.ContextLaws.{refused-grow, refusal-kept, events-kept, context-grow}
 
 pub option_or-assoc : {A : Type 0} (a b c : Option A) → option_or (option_or a b) c ≡ option_or a (option_or b c)
 option_or-assoc (Some x) b c = refl
 option_or-assoc None b c = refl
 
-pub behind_append : (c : Context) (a b : List ℕ) → behind c (a ++ b) ≡ behind (behind c a) b
-behind_append c [] b = refl
-behind_append c (byte ∷ a) b = behind_append (after c byte) a b
+pub after_bytes_append : (c : Context) (a b : List ℕ) → after_bytes c (a ++ b) ≡ after_bytes (after_bytes c a) b
+after_bytes_append c [] b = refl
+after_bytes_append c (byte ∷ a) b = after_bytes_append (after c byte) a b
 
-pub refused_append : (limit : ℕ) (c : Context) (a b : List ℕ) → refused_in limit c (a ++ b) ≡ option_or (refused_in limit c a) (refused_in limit (behind c a) b)
+pub refused_append : (limit : ℕ) (c : Context) (a b : List ℕ) → refused_in limit c (a ++ b) ≡ option_or (refused_in limit c a) (refused_in limit (after_bytes c a) b)
 refused_append limit c [] b = refl
 refused_append limit c (byte ∷ a) b =
     ap (option_or (refusal_for limit c byte)) (refused_append limit (after c byte) a b)
-    ∙ sym (option_or-assoc (refusal_for limit c byte) (refused_in limit (after c byte) a) (refused_in limit (behind (after c byte) a) b))
+    ∙ sym (option_or-assoc (refusal_for limit c byte) (refused_in limit (after c byte) a) (refused_in limit (after_bytes (after c byte) a) b))
 
-pub events_append : (c : Context) (a b : List ℕ) → events_by c (a ++ b) ≡ events_by (behind c a) b ++ events_by c a
+pub events_append : (c : Context) (a b : List ℕ) → events_by c (a ++ b) ≡ events_by (after_bytes c a) b ++ events_by c a
 events_append c [] b = sym (append-nil (events_by c b))
 events_append c (byte ∷ a) b =
     ap (λ events. events ++ put (placed_for c byte) []) (events_append (after c byte) a b)
-    ∙ append_assoc (events_by (behind (after c byte) a) b) (events_by (after c byte) a) (put (placed_for c byte) [])
+    ∙ append_assoc (events_by (after_bytes (after c byte) a) b) (events_by (after c byte) a) (put (placed_for c byte) [])
 
 -- bytes after a log, one after the other
 more : (log : List ℕ) (byte : ℕ) (bytes : List ℕ) → log ++ byte ∷ bytes ≡ (log ++ byte ∷ []) ++ bytes
 more log byte bytes = sym (append_assoc log (byte ∷ []) bytes)
 
-pub context_run : (log bytes : List ℕ) → context (log ++ bytes) ≡ behind (context log) bytes
+pub context_run : (log bytes : List ℕ) → context (log ++ bytes) ≡ after_bytes (context log) bytes
 context_run log [] = ap context (append-nil log)
 context_run log (byte ∷ bytes) =
     ap context (more log byte bytes)
     ∙ context_run (log ++ byte ∷ []) bytes
-    ∙ ap (λ c. behind c bytes) (context-grow log byte)
+    ∙ ap (λ c. after_bytes c bytes) (context-grow log byte)
 
 option_or-none : {A : Type 0} (a : Option A) → a ≡ option_or a None
 option_or-none (Some x) = refl

@@ -12,19 +12,19 @@ use Rattle.mq_trace.specs.declared.kind.Direction.TheVariants as directions
 use Rattle.mq_trace.specs.Framing.{kind_named, kind_of, body_length, record_size, direction_of, opens, records}
 use Rattle.mq_trace.specs.Events.{Event, Placed, item_at, event_in, event_of_head, events}
 use Rattle.mq_trace.specs.Context.{Context, emptied, context, so_far_in, so_far_by, so_far_for, state_after, with_completed, after_header, after_part, after, put, placed_with, placed_for, event_for}
-use Rattle.mq_trace.specs.Runs.{behind, events_by}
-use Rattle.mq_trace.specs.Flows.{BodyContext, Flow, item_event, flow_event, flow_placed, flow_placed_with, flow_with, flow_after, flow_behind, flow_events, context_in, flow_in, flowed}
+use Rattle.mq_trace.specs.Runs.{after_bytes, events_by}
+use Rattle.mq_trace.specs.Flows.{BodyContext, Flow, item_event, flow_event, flow_placed, flow_placed_with, flow_with, flow_after, flow_after_bytes, flow_events, context_in, flow_in, flowed}
 use Rattle.mq_trace.specs.Writing.{sent_record, received_record, record_bytes, framed}
 use Rattle.mq_trace.specs.Splitting.{but_record}
 use Rattle.mq_trace.proofs.ContextLaws.{part_context, at_context}
-use Rattle.mq_trace.proofs.FlowLaws.{behind-append, events-append}
-use Rattle.mq_trace.proofs.LiftLaws.{lifted-events, lifted-behind}
-use Rattle.mq_trace.proofs.RunLaws.{behind_append, events_append, events_run}
-use Rattle.mq_trace.proofs.StepLaws.{first_event, first_after, middle_events, middle_behind, fifth_event, fifth_after, fifth_length}
+use Rattle.mq_trace.proofs.FlowLaws.{flow_after_bytes-append, events-append}
+use Rattle.mq_trace.proofs.LiftLaws.{lifted-events, lifted-after_bytes}
+use Rattle.mq_trace.proofs.RunLaws.{after_bytes_append, events_append, events_run}
+use Rattle.mq_trace.proofs.StepLaws.{first_event, first_after, middle_events, middle_after_bytes, fifth_event, fifth_after, fifth_length}
 
 -- how many bytes came with the head of a record, where so many came before it
-abbrev behind_head : ℕ → ℕ
-behind_head at = at + 1 + 3 + 1
+abbrev after_head : ℕ → ℕ
+after_head at = at + 1 + 3 + 1
 
 -- what is kept of a log, but for how many bytes and whole records came
 abbrev counted : Context → ℕ → ℕ → Context
@@ -143,20 +143,20 @@ flow_events_moved around f count at (byte ∷ bytes) =
     (flow_placed_moved around f count at byte)
 
 -- after these bytes the flow stands at this place, where it began at that one
-abbrev place_behind : ℕ → List ℕ → ℕ
-place_behind at [] = at
-place_behind at (byte ∷ bytes) = place_behind (at + 1) bytes
+abbrev place_after : ℕ → List ℕ → ℕ
+place_after at [] = at
+place_after at (byte ∷ bytes) = place_after (at + 1) bytes
 
-place_grows : (at : ℕ) (bytes : List ℕ) → at ≤ place_behind at bytes
+place_grows : (at : ℕ) (bytes : List ℕ) → at ≤ place_after at bytes
 place_grows at [] = omega arith
 place_grows at (byte ∷ bytes) = let later = place_grows (at + 1) bytes in omega arith
 
-flow_behind_moved : (around : BodyContext) (f : Flow) (count at : ℕ) (bytes : List ℕ)
-    → flow_behind (numbered around count) (moved f at) bytes ≡ moved (flow_behind around f bytes) (place_behind at bytes)
-flow_behind_moved around f count at [] = refl
-flow_behind_moved around f count at (byte ∷ bytes) =
-    ap (λ g. flow_behind (numbered around count) g bytes) (flow_after_moved around f count at byte)
-    ∙ flow_behind_moved around (flow_after around f byte) count (at + 1) bytes
+flow_after_bytes_moved : (around : BodyContext) (f : Flow) (count at : ℕ) (bytes : List ℕ)
+    → flow_after_bytes (numbered around count) (moved f at) bytes ≡ moved (flow_after_bytes around f bytes) (place_after at bytes)
+flow_after_bytes_moved around f count at [] = refl
+flow_after_bytes_moved around f count at (byte ∷ bytes) =
+    ap (λ g. flow_after_bytes (numbered around count) g bytes) (flow_after_moved around f count at byte)
+    ∙ flow_after_bytes_moved around (flow_after around f byte) count (at + 1) bytes
 
 flow_with_connected : (around : BodyContext) (f : Flow) (event : Option Event) → (flow_with around f event).connected ≡ f.connected
 flow_with_connected around f None = refl
@@ -166,19 +166,19 @@ flow_with_at : (around : BodyContext) (f : Flow) (event : Option Event) → (flo
 flow_with_at around f None = refl
 flow_with_at around f (Some event) = refl
 
-flow_connected : (around : BodyContext) (f : Flow) (bytes : List ℕ) → (flow_behind around f bytes).connected ≡ f.connected
+flow_connected : (around : BodyContext) (f : Flow) (bytes : List ℕ) → (flow_after_bytes around f bytes).connected ≡ f.connected
 unfolding flow_after
 flow_connected around f [] = refl
 flow_connected around f (byte ∷ bytes) =
     flow_connected around (flow_after around f byte) bytes
     ∙ flow_with_connected around (record f { at = f.at + 1; state = state_after f.state byte }) (flow_event around f byte)
 
-flow_at : (around : BodyContext) (f : Flow) (bytes : List ℕ) → (flow_behind around f bytes).at ≡ place_behind f.at bytes
+flow_at : (around : BodyContext) (f : Flow) (bytes : List ℕ) → (flow_after_bytes around f bytes).at ≡ place_after f.at bytes
 unfolding flow_after
 flow_at around f [] = refl
 flow_at around f (byte ∷ bytes) =
     flow_at around (flow_after around f byte) bytes
-    ∙ ap (λ n. place_behind n bytes) (flow_with_at around (record f { at = f.at + 1; state = state_after f.state byte }) (flow_event around f byte))
+    ∙ ap (λ n. place_after n bytes) (flow_with_at around (record f { at = f.at + 1; state = state_after f.state byte }) (flow_event around f byte))
 
 -- the kind of the records that carry one direction, and the byte that names it
 abbrev direction_kind : Direction → RecordKind
@@ -228,21 +228,21 @@ module _ (c : Context) (direction : Direction) (x y z w : ℕ) (h : 8 ≤ c.at) 
   begun_four = record c { at = c.at + 1 + 3; part = direction_byte direction ∷ x ∷ y ∷ z ∷ [] }
 
   abbrev headed : Bool → Context
-  headed whole = record c { at = behind_head c.at; part = cond whole [] head; records = cond whole (c.records + 1) c.records }
+  headed whole = record c { at = after_head c.at; part = cond whole [] head; records = cond whole (c.records + 1) c.records }
 
   first_is : after c (direction_byte direction) ≡ begun_one
   first_is =
       first_after c (direction_byte direction) h none
       ∙ ap (λ t. record c { at = c.at + 1; part = direction_byte direction ∷ []; sent = cond t emptied c.sent; recv = cond t emptied c.recv }) (direction_opens_none direction)
 
-  four_is : behind (after c (direction_byte direction)) (x ∷ y ∷ z ∷ []) ≡ begun_four
-  four_is = ap (λ d. behind d (x ∷ y ∷ z ∷ [])) first_is ∙ middle_behind begun_one (direction_byte direction) x y z (omega arith) refl (unopened direction [])
+  four_is : after_bytes (after c (direction_byte direction)) (x ∷ y ∷ z ∷ []) ≡ begun_four
+  four_is = ap (λ d. after_bytes d (x ∷ y ∷ z ∷ [])) first_is ∙ middle_after_bytes begun_one (direction_byte direction) x y z (omega arith) refl (unopened direction [])
 
   five_event : event_for begun_four w ≡ None
   five_event = fifth_event begun_four w (direction_kind direction) (omega arith) refl (direction_kind_of direction (x ∷ y ∷ z ∷ [])) ∙ direction_head_none direction
 
-  head_behind : behind c head ≡ headed (body_length head == 0)
-  head_behind =
+  head_after : after_bytes c head ≡ headed (body_length head == 0)
+  head_after =
       ap (λ d. after d w) four_is
       ∙ fifth_after begun_four w (omega arith) refl (unopened direction (x ∷ y ∷ z ∷ []))
       ∙ ap (with_completed (headed (body_length head == 0))) five_event
@@ -263,13 +263,13 @@ module _ (c : Context) (direction : Direction) (x y z w : ℕ) (h : 8 ≤ c.at) 
 
 -- the direction after the head of a record
 abbrev entered : Context → Direction → Flow
-entered c direction = record (flow_in c direction) { at = behind_head c.at }
+entered c direction = record (flow_in c direction) { at = after_head c.at }
 
 -- what is kept after a whole record, from what the flow keeps after its body
-abbrev whole_behind : Context → Direction → Flow → Context
-whole_behind c direction f = flowed c direction true f []
+abbrev whole_after : Context → Direction → Flow → Context
+whole_after c direction f = flowed c direction true f []
 
-empty_body : (c : Context) (direction : Direction) (x y z w : ℕ) (h : 8 ≤ c.at) (none : c.part ≡ []) → headed c direction x y z w h none true ≡ whole_behind c direction (entered c direction)
+empty_body : (c : Context) (direction : Direction) (x y z w : ℕ) (h : 8 ≤ c.at) (none : c.part ≡ []) → headed c direction x y z w h none true ≡ whole_after c direction (entered c direction)
 empty_body c directions.Sent x y z w h none = refl
 empty_body c directions.Recv x y z w h none = refl
 
@@ -278,22 +278,22 @@ entered_same c directions.Sent x y z w h none = refl
 entered_same c directions.Recv x y z w h none = refl
 
 -- A whole record does what its body does in its direction.
-record_behind : (c : Context) (direction : Direction) (x y z w : ℕ) (body : List ℕ) → 8 ≤ c.at → c.part ≡ [] → from_be_bytes w32 (x ∷ y ∷ z ∷ w ∷ []) ≡ length body
-    → behind c (direction_byte direction ∷ x ∷ y ∷ z ∷ w ∷ body) ≡ whole_behind c direction (flow_behind (context_in c direction) (entered c direction) body)
-record_behind c direction x y z w [] h none emitted =
+record_after : (c : Context) (direction : Direction) (x y z w : ℕ) (body : List ℕ) → 8 ≤ c.at → c.part ≡ [] → from_be_bytes w32 (x ∷ y ∷ z ∷ w ∷ []) ≡ length body
+    → after_bytes c (direction_byte direction ∷ x ∷ y ∷ z ∷ w ∷ body) ≡ whole_after c direction (flow_after_bytes (context_in c direction) (entered c direction) body)
+record_after c direction x y z w [] h none emitted =
     let long : body_length (head c direction x y z w h none) ≡ 0 = fifth_length (direction_byte direction) x y z w ∙ emitted in
-    head_behind c direction x y z w h none
+    head_after c direction x y z w h none
     ∙ ap (headed c direction x y z w h none) (eq-eqb (body_length (head c direction x y z w h none)) 0 long)
     ∙ empty_body c direction x y z w h none
-record_behind c direction x y z w (byte ∷ bytes) h none emitted =
+record_after c direction x y z w (byte ∷ bytes) h none emitted =
     let long : body_length (direction_byte direction ∷ x ∷ y ∷ z ∷ w ∷ []) ≡ length (byte ∷ bytes) = fifth_length (direction_byte direction) x y z w ∙ emitted in
-    behind_append c (head c direction x y z w h none) (byte ∷ bytes)
-    ∙ ap (λ k. behind k (byte ∷ bytes)) (head_behind c direction x y z w h none
+    after_bytes_append c (head c direction x y z w h none) (byte ∷ bytes)
+    ∙ ap (λ k. after_bytes k (byte ∷ bytes)) (head_after c direction x y z w h none
     ∙ ap (headed c direction x y z w h none) (ne_eqb (body_length (head c direction x y z w h none)) 0 (λ e. omega arith)))
-    ∙ lifted-behind (headed c direction x y z w h none false) direction (byte ∷ bytes) (omega arith) (ap direction_of (direction_kind_of direction (x ∷ y ∷ z ∷ w ∷ [])) ∙ direction_goes direction) (omega arith) (omega arith) (omega arith)
-    ∙ ap (λ t. flowed (headed c direction x y z w h none false) direction t (flow_behind (context_in c direction) (flow_in (headed c direction x y z w h none false) direction) (byte ∷ bytes)) (byte ∷ bytes))
+    ∙ lifted-after_bytes (headed c direction x y z w h none false) direction (byte ∷ bytes) (omega arith) (ap direction_of (direction_kind_of direction (x ∷ y ∷ z ∷ w ∷ [])) ∙ direction_goes direction) (omega arith) (omega arith) (omega arith)
+    ∙ ap (λ t. flowed (headed c direction x y z w h none false) direction t (flow_after_bytes (context_in c direction) (flow_in (headed c direction x y z w h none false) direction) (byte ∷ bytes)) (byte ∷ bytes))
     (eq-eqb (5 + length (byte ∷ bytes)) (5 + body_length (head c direction x y z w h none)) (omega arith))
-    ∙ ap (λ f. whole_behind c direction (flow_behind (context_in c direction) f (byte ∷ bytes))) (entered_same c direction x y z w h none)
+    ∙ ap (λ f. whole_after c direction (flow_after_bytes (context_in c direction) f (byte ∷ bytes))) (entered_same c direction x y z w h none)
 
 record_events : (c : Context) (direction : Direction) (x y z w : ℕ) (body : List ℕ) → 8 ≤ c.at → c.part ≡ [] → from_be_bytes w32 (x ∷ y ∷ z ∷ w ∷ []) ≡ length body
     → events_by c (direction_byte direction ∷ x ∷ y ∷ z ∷ w ∷ body) ≡ flow_events (context_in c direction) (entered c direction) body
@@ -301,9 +301,9 @@ record_events c direction x y z w [] h none emitted = head_events c direction x 
 record_events c direction x y z w (byte ∷ bytes) h none emitted =
     let long : body_length (direction_byte direction ∷ x ∷ y ∷ z ∷ w ∷ []) ≡ length (byte ∷ bytes) = fifth_length (direction_byte direction) x y z w ∙ emitted in
     events_append c (head c direction x y z w h none) (byte ∷ bytes)
-    ∙ ap (λ t. events_by (behind c (head c direction x y z w h none)) (byte ∷ bytes) ++ t) (head_events c direction x y z w h none)
-    ∙ append-nil (events_by (behind c (head c direction x y z w h none)) (byte ∷ bytes))
-    ∙ ap (λ k. events_by k (byte ∷ bytes)) (head_behind c direction x y z w h none
+    ∙ ap (λ t. events_by (after_bytes c (head c direction x y z w h none)) (byte ∷ bytes) ++ t) (head_events c direction x y z w h none)
+    ∙ append-nil (events_by (after_bytes c (head c direction x y z w h none)) (byte ∷ bytes))
+    ∙ ap (λ k. events_by k (byte ∷ bytes)) (head_after c direction x y z w h none
     ∙ ap (headed c direction x y z w h none) (ne_eqb (body_length (head c direction x y z w h none)) 0 (λ e. omega arith)))
     ∙ lifted-events (headed c direction x y z w h none false) direction (byte ∷ bytes) (omega arith) (ap direction_of (direction_kind_of direction (x ∷ y ∷ z ∷ w ∷ [])) ∙ direction_goes direction) (omega arith) (omega arith)
     ∙ ap (λ f. flow_events (context_in c direction) f (byte ∷ bytes)) (entered_same c direction x y z w h none)
@@ -312,10 +312,10 @@ record_events c direction x y z w (byte ∷ bytes) h none emitted =
 abbrev emitted_in : ℕ → ℕ → ℕ
 emitted_in n i = slice_index (to_be_bytes w32 n) i
 
-framed_behind : (c : Context) (direction : Direction) (body : List ℕ) → 8 ≤ c.at → c.part ≡ [] → length body < 2 ^ 32
-    → behind c (framed (direction_byte direction) body) ≡ whole_behind c direction (flow_behind (context_in c direction) (entered c direction) body)
-framed_behind c direction body h none fits =
-    record_behind c direction (emitted_in (length body) 0) (emitted_in (length body) 1) (emitted_in (length body) 2) (emitted_in (length body) 3) body h none (from_be_bytes-to_be_bytes_4 (length body) fits)
+framed_after : (c : Context) (direction : Direction) (body : List ℕ) → 8 ≤ c.at → c.part ≡ [] → length body < 2 ^ 32
+    → after_bytes c (framed (direction_byte direction) body) ≡ whole_after c direction (flow_after_bytes (context_in c direction) (entered c direction) body)
+framed_after c direction body h none fits =
+    record_after c direction (emitted_in (length body) 0) (emitted_in (length body) 1) (emitted_in (length body) 2) (emitted_in (length body) 3) body h none (from_be_bytes-to_be_bytes_4 (length body) fits)
 
 framed_events : (c : Context) (direction : Direction) (body : List ℕ) → 8 ≤ c.at → c.part ≡ [] → length body < 2 ^ 32
     → events_by c (framed (direction_byte direction) body) ≡ flow_events (context_in c direction) (entered c direction) body
@@ -323,14 +323,14 @@ framed_events c direction body h none fits =
     record_events c direction (emitted_in (length body) 0) (emitted_in (length body) 1) (emitted_in (length body) 2) (emitted_in (length body) 3) body h none (from_be_bytes-to_be_bytes_4 (length body) fits)
 
 -- A second record of the same direction goes on where the first one ended ..
-entered_again : (c : Context) (direction : Direction) (g : Flow) → g.connected ≡ c.connected → entered (whole_behind c direction g) direction ≡ moved g (behind_head g.at)
-entered_again c directions.Sent g e = ap (λ t. record g { at = behind_head g.at; connected = t }) (sym e)
-entered_again c directions.Recv g e = ap (λ t. record g { at = behind_head g.at; connected = t }) (sym e)
+entered_again : (c : Context) (direction : Direction) (g : Flow) → g.connected ≡ c.connected → entered (whole_after c direction g) direction ≡ moved g (after_head g.at)
+entered_again c directions.Sent g e = ap (λ t. record g { at = after_head g.at; connected = t }) (sym e)
+entered_again c directions.Recv g e = ap (λ t. record g { at = after_head g.at; connected = t }) (sym e)
 
 -- .. and leaves what one record of both bodies does, but for the numbers.
-behind_again : (c : Context) (direction : Direction) (g f : Flow) (at : ℕ) → whole_behind (whole_behind c direction g) direction (moved f at) ≡ counted (whole_behind c direction f) at (c.records + 1 + 1)
-behind_again c directions.Sent g f at = refl
-behind_again c directions.Recv g f at = refl
+after_again : (c : Context) (direction : Direction) (g f : Flow) (at : ℕ) → whole_after (whole_after c direction g) direction (moved f at) ≡ counted (whole_after c direction f) at (c.records + 1 + 1)
+after_again c directions.Sent g f at = refl
+after_again c directions.Recv g f at = refl
 
 -- one record of both bodies, or two
 module _ (c : Context) (direction : Direction) (a b : List ℕ) (h : 8 ≤ c.at) (none : c.part ≡ []) (fits : length (a ++ b) < 2 ^ 32) where
@@ -347,65 +347,65 @@ module _ (c : Context) (direction : Direction) (a b : List ℕ) (h : 8 ≤ c.at)
   around = context_in c direction
 
   abbrev amid : Flow
-  amid = flow_behind around (entered c direction) a
+  amid = flow_after_bytes around (entered c direction) a
 
   abbrev ended : Flow
-  ended = flow_behind around amid b
+  ended = flow_after_bytes around amid b
 
-  amid_place : behind_head c.at ≤ amid.at
-  amid_place = let is : amid.at ≡ place_behind (behind_head c.at) a = flow_at around (entered c direction) a in let grows = place_grows (behind_head c.at) a in omega arith
+  amid_place : after_head c.at ≤ amid.at
+  amid_place = let is : amid.at ≡ place_after (after_head c.at) a = flow_at around (entered c direction) a in let grows = place_grows (after_head c.at) a in omega arith
 
-  ended_place : behind_head c.at ≤ ended.at
-  ended_place = let is : ended.at ≡ place_behind amid.at b = flow_at around amid b in let grows = place_grows amid.at b in let start = amid_place in omega arith
+  ended_place : after_head c.at ≤ ended.at
+  ended_place = let is : ended.at ≡ place_after amid.at b = flow_at around amid b in let grows = place_grows amid.at b in let start = amid_place in omega arith
 
   abbrev end_place : ℕ
-  end_place = place_behind (behind_head amid.at) b
+  end_place = place_after (after_head amid.at) b
 
-  entered_amid : entered (whole_behind c direction amid) direction ≡ moved amid (behind_head amid.at)
+  entered_amid : entered (whole_after c direction amid) direction ≡ moved amid (after_head amid.at)
   entered_amid = entered_again c direction amid (flow_connected around (entered c direction) a)
 
-  one_behind : behind c (framed (direction_byte direction) (a ++ b)) ≡ whole_behind c direction ended
-  one_behind = framed_behind c direction (a ++ b) h none fits ∙ ap (whole_behind c direction) (behind-append around (entered c direction) a b)
+  one_after_bytes : after_bytes c (framed (direction_byte direction) (a ++ b)) ≡ whole_after c direction ended
+  one_after_bytes = framed_after c direction (a ++ b) h none fits ∙ ap (whole_after c direction) (flow_after_bytes-append around (entered c direction) a b)
 
-  first_behind : behind c (framed (direction_byte direction) a) ≡ whole_behind c direction amid
-  first_behind = framed_behind c direction a h none first_fits
+  first_after_bytes : after_bytes c (framed (direction_byte direction) a) ≡ whole_after c direction amid
+  first_after_bytes = framed_after c direction a h none first_fits
 
-  amid_at : 8 ≤ (whole_behind c direction amid).at
+  amid_at : 8 ≤ (whole_after c direction amid).at
   amid_at = let start = amid_place in omega arith
 
-  second_behind : behind (whole_behind c direction amid) (framed (direction_byte direction) b) ≡ counted (whole_behind c direction ended) end_place (c.records + 1 + 1)
-  second_behind =
-      framed_behind (whole_behind c direction amid) direction b amid_at refl second_fits
-      ∙ ap (λ f. whole_behind (whole_behind c direction amid) direction (flow_behind (numbered around (c.records + 1 + 1)) f b)) entered_amid
-      ∙ ap (whole_behind (whole_behind c direction amid) direction) (flow_behind_moved around amid (c.records + 1 + 1) (behind_head amid.at) b)
-      ∙ behind_again c direction amid ended end_place
+  second_after_bytes : after_bytes (whole_after c direction amid) (framed (direction_byte direction) b) ≡ counted (whole_after c direction ended) end_place (c.records + 1 + 1)
+  second_after_bytes =
+      framed_after (whole_after c direction amid) direction b amid_at refl second_fits
+      ∙ ap (λ f. whole_after (whole_after c direction amid) direction (flow_after_bytes (numbered around (c.records + 1 + 1)) f b)) entered_amid
+      ∙ ap (whole_after (whole_after c direction amid) direction) (flow_after_bytes_moved around amid (c.records + 1 + 1) (after_head amid.at) b)
+      ∙ after_again c direction amid ended end_place
 
-  second_events : map but_record (events_by (whole_behind c direction amid) (framed (direction_byte direction) b)) ≡ map but_record (flow_events around amid b)
+  second_events : map but_record (events_by (whole_after c direction amid) (framed (direction_byte direction) b)) ≡ map but_record (flow_events around amid b)
   second_events =
-      ap (map but_record) (framed_events (whole_behind c direction amid) direction b amid_at refl second_fits
+      ap (map but_record) (framed_events (whole_after c direction amid) direction b amid_at refl second_fits
       ∙ ap (λ f. flow_events (numbered around (c.records + 1 + 1)) f b) entered_amid)
-      ∙ flow_events_moved around amid (c.records + 1 + 1) (behind_head amid.at) b
+      ∙ flow_events_moved around amid (c.records + 1 + 1) (after_head amid.at) b
 
   one_completed : events_by c (framed (direction_byte direction) (a ++ b)) ≡ flow_events around amid b ++ flow_events around (entered c direction) a
   one_completed = framed_events c direction (a ++ b) h none fits ∙ events-append around (entered c direction) a b
 
   two_events : (later : List ℕ) → events_by c (framed (direction_byte direction) a ++ (framed (direction_byte direction) b ++ later))
-      ≡ (events_by (counted (whole_behind c direction ended) end_place (c.records + 1 + 1)) later ++ events_by (whole_behind c direction amid) (framed (direction_byte direction) b)) ++ flow_events around (entered c direction) a
+      ≡ (events_by (counted (whole_after c direction ended) end_place (c.records + 1 + 1)) later ++ events_by (whole_after c direction amid) (framed (direction_byte direction) b)) ++ flow_events around (entered c direction) a
   two_events later =
       events_append c (framed (direction_byte direction) a) (framed (direction_byte direction) b ++ later)
-      ∙ ap (λ d. events_by d (framed (direction_byte direction) b ++ later) ++ events_by c (framed (direction_byte direction) a)) first_behind
-      ∙ ap (λ t. t ++ events_by c (framed (direction_byte direction) a)) (events_append (whole_behind c direction amid) (framed (direction_byte direction) b) later
-      ∙ ap (λ d. events_by d later ++ events_by (whole_behind c direction amid) (framed (direction_byte direction) b)) second_behind)
-      ∙ ap (λ t. (events_by (counted (whole_behind c direction ended) end_place (c.records + 1 + 1)) later ++ events_by (whole_behind c direction amid) (framed (direction_byte direction) b)) ++ t)
+      ∙ ap (λ d. events_by d (framed (direction_byte direction) b ++ later) ++ events_by c (framed (direction_byte direction) a)) first_after_bytes
+      ∙ ap (λ t. t ++ events_by c (framed (direction_byte direction) a)) (events_append (whole_after c direction amid) (framed (direction_byte direction) b) later
+      ∙ ap (λ d. events_by d later ++ events_by (whole_after c direction amid) (framed (direction_byte direction) b)) second_after_bytes)
+      ∙ ap (λ t. (events_by (counted (whole_after c direction ended) end_place (c.records + 1 + 1)) later ++ events_by (whole_after c direction amid) (framed (direction_byte direction) b)) ++ t)
       (framed_events c direction a h none first_fits)
 
   whole_events : (later : List ℕ) → events_by c (framed (direction_byte direction) (a ++ b) ++ later)
-      ≡ (events_by (whole_behind c direction ended) later ++ flow_events around amid b) ++ flow_events around (entered c direction) a
+      ≡ (events_by (whole_after c direction ended) later ++ flow_events around amid b) ++ flow_events around (entered c direction) a
   whole_events later =
       events_append c (framed (direction_byte direction) (a ++ b)) later
-      ∙ ap (λ d. events_by d later ++ events_by c (framed (direction_byte direction) (a ++ b))) one_behind
-      ∙ ap (λ t. events_by (whole_behind c direction ended) later ++ t) one_completed
-      ∙ sym (append_assoc (events_by (whole_behind c direction ended) later) (flow_events around amid b) (flow_events around (entered c direction) a))
+      ∙ ap (λ d. events_by d later ++ events_by c (framed (direction_byte direction) (a ++ b))) one_after_bytes
+      ∙ ap (λ t. events_by (whole_after c direction ended) later ++ t) one_completed
+      ∙ sym (append_assoc (events_by (whole_after c direction ended) later) (flow_events around amid b) (flow_events around (entered c direction) a))
 
   -- What is received of both is the same but for the numbers of the records.
   split_completed : (later : List ℕ) → map but_record (events_by c (framed (direction_byte direction) (a ++ b) ++ later))
@@ -413,22 +413,22 @@ module _ (c : Context) (direction : Direction) (a b : List ℕ) (h : 8 ≤ c.at)
   split_completed later =
       let far = ended_place in
       let start = amid_place in
-      let grows = place_grows (behind_head amid.at) b in
+      let grows = place_grows (after_head amid.at) b in
       ap (map but_record) (whole_events later)
-      ∙ both_same (events_by (whole_behind c direction ended) later ++ flow_events around amid b)
-      (events_by (counted (whole_behind c direction ended) end_place (c.records + 1 + 1)) later ++ events_by (whole_behind c direction amid) (framed (direction_byte direction) b))
+      ∙ both_same (events_by (whole_after c direction ended) later ++ flow_events around amid b)
+      (events_by (counted (whole_after c direction ended) end_place (c.records + 1 + 1)) later ++ events_by (whole_after c direction amid) (framed (direction_byte direction) b))
       (flow_events around (entered c direction) a) (flow_events around (entered c direction) a)
-      (both_same (events_by (whole_behind c direction ended) later) (events_by (counted (whole_behind c direction ended) end_place (c.records + 1 + 1)) later)
-      (flow_events around amid b) (events_by (whole_behind c direction amid) (framed (direction_byte direction) b))
-      (sym (events_counted (whole_behind c direction ended) end_place (c.records + 1 + 1) later (omega arith) (omega arith)))
+      (both_same (events_by (whole_after c direction ended) later) (events_by (counted (whole_after c direction ended) end_place (c.records + 1 + 1)) later)
+      (flow_events around amid b) (events_by (whole_after c direction amid) (framed (direction_byte direction) b))
+      (sym (events_counted (whole_after c direction ended) end_place (c.records + 1 + 1) later (omega arith) (omega arith)))
       (sym second_events))
       refl
       ∙ ap (map but_record) (sym (two_events later))
 
 -- Splitting such a record, after a log of whole records, changes the events in the numbers of their records alone.
-split_behind : (direction : Direction) (before later a b : List ℕ) → 8 ≤ length before → (records before).rest ≡ [] → length (a ++ b) < 2 ^ 32
+split_after : (direction : Direction) (before later a b : List ℕ) → 8 ≤ length before → (records before).rest ≡ [] → length (a ++ b) < 2 ^ 32
     → map but_record (events (before ++ (framed (direction_byte direction) (a ++ b) ++ later))) ≡ map but_record (events (before ++ (framed (direction_byte direction) a ++ (framed (direction_byte direction) b ++ later))))
-split_behind direction before later a b long whole fits =
+split_after direction before later a b long whole fits =
     let at : (context before).at ≡ length before = at_context before in
     ap (map but_record) (events_run before (framed (direction_byte direction) (a ++ b) ++ later))
     ∙ both_same (events_by (context before) (framed (direction_byte direction) (a ++ b) ++ later)) (events_by (context before) (framed (direction_byte direction) a ++ (framed (direction_byte direction) b ++ later)))
@@ -441,7 +441,7 @@ split_events : (direction : Direction) (before later a b : List ℕ) → 8 ≤ l
     → map but_record (events (before ++ framed (direction_byte direction) (a ++ b) ++ later)) ≡ map but_record (events (before ++ framed (direction_byte direction) a ++ framed (direction_byte direction) b ++ later))
 split_events direction before later a b long whole fits =
     ap (λ log. map but_record (events log)) (append_assoc before (framed (direction_byte direction) (a ++ b)) later)
-    ∙ split_behind direction before later a b long whole fits
+    ∙ split_after direction before later a b long whole fits
     ∙ ap (λ log. map but_record (events log)) (sym (append_assoc (before ++ framed (direction_byte direction) a) (framed (direction_byte direction) b) later
     ∙ append_assoc before (framed (direction_byte direction) a) (framed (direction_byte direction) b ++ later)))
 

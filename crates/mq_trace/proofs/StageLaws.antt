@@ -12,13 +12,13 @@ use Rattle.mq_trace.specs.declared.refusal.Refusal.TheVariants as refusals
 use Rattle.mq_trace.specs.declared.reading.Reading.{Reading}
 use Rattle.mq_trace.specs.Framing.{kind_named, kind_of, opens}
 use Rattle.mq_trace.specs.Events.{Placed}
-use Rattle.mq_trace.specs.Refusals.{header_refusal, first_standing, is_open_kind, needs_connection, is_release_kind}
+use Rattle.mq_trace.specs.Refusals.{header_refusal, first_that_applies, is_open_kind, needs_connection, is_release_kind}
 use Rattle.mq_trace.specs.Context.{StreamState, Context, emptied, so_far_for, refusal_for, placed_for, put, after}
-use Rattle.mq_trace.specs.Runs.{behind, refused_in, events_by}
+use Rattle.mq_trace.specs.Runs.{after_bytes, refused_in, events_by}
 use Rattle.mq_trace.specs.Emission.{NotEmitted, RefusedBySink}
 use Rattle.mq_trace.specs.Deframing.{FlowWhy}
 use Rattle.mq_trace.specs.Keeping.{state_in, spelled_from, IsAt, context_of, begun_in, IsWithin, IsUnfinished, IsSound, Advances, StepStops}
-use Rattle.mq_trace.specs.Stepping.{behind_header, kind_refusal, refused_first, BeginsRecord, in_head}
+use Rattle.mq_trace.specs.Stepping.{after_header_byte, kind_refusal, refused_first, BeginsRecord, in_head}
 use Rattle.mq_trace.proofs.StepLaws.{header_refused, header_after, header_placed, first_refusal, first_event, first_after, middle_refusal, middle_event, middle_after, placed_none}
 use Rattle.mq_trace.proofs.FramingLaws.{kind_of-append}
 use Rattle.mq_trace.proofs.ReadingLaws.{advanced}
@@ -75,14 +75,14 @@ stops_unemitted {S} declines r b met e old new refusal each unemitted = record {
         ))
 
 -- A byte of the log's header.
-pub header_advances : (r : Reading) (b : ℕ) → r.at < 8 → r.stage ≡ stages.Between → header_refusal r.at b ≡ None → Advances r (behind_header r b) (b ∷ []) []
-header_advances r b short between none = one_step r (behind_header r b) b [] refl (λ part at. (
+pub header_advances : (r : Reading) (b : ℕ) → r.at < 8 → r.stage ≡ stages.Between → header_refusal r.at b ≡ None → Advances r (after_header_byte r b) (b ∷ []) []
+header_advances r b short between none = one_step r (after_header_byte r b) b [] refl (λ part at. (
     let c = context_of r part in
     let nothing : part ≡ [] = subst (λ s. IsAt s part) between at in (
       [],
       subst (λ s. IsAt s []) (sym between) refl,
       header_refused r.limit c b short ∙ none,
-      header_after c b short ∙ ap (context_of (behind_header r b)) nothing,
+      header_after c b short ∙ ap (context_of (after_header_byte r b)) nothing,
       ap (λ o. put o []) (header_placed c b short),
     )))
 
@@ -90,7 +90,7 @@ pub header_stops : (r : Reading) (b : ℕ) (refusal : Refusal) → r.at < 8 → 
     → (part : List ℕ) → IsAt r.stage part → refusal_for r.limit (context_of r part) b ≡ Some refusal
 header_stops r b refusal short some part at = header_refused r.limit (context_of r part) b short ∙ some
 
-pub header_sound : (r : Reading) (b : ℕ) → IsSound r → r.at < 8 → IsSound (behind_header r b)
+pub header_sound : (r : Reading) (b : ℕ) → IsSound r → r.at < 8 → IsSound (after_header_byte r b)
 header_sound r b sound short =
     let first = sound.header_first short in
     let none : begun_in r.stage ≡ 0 = ap begun_in first.0 in
@@ -98,7 +98,7 @@ header_sound r b sound short =
       counted = omega arith;
       begun = λ some. absurd (omega arith);
       within = sound.within;
-      behind_header = λ some. absurd (omega arith);
+      past_header = λ some. absurd (omega arith);
       header_first = λ less. first;
       emptied = sound.emptied;
       sent = sound.sent;
@@ -108,9 +108,9 @@ header_sound r b sound short =
 -- A record's first byte.
 named_refusal : (r : Reading) (part : List ℕ) (b : ℕ) (kind : RecordKind) → 8 ≤ r.at → part ≡ [] → kind_named b ≡ Some kind
     → refusal_for r.limit (context_of r part) b ≡ kind_refusal r kind
-named_refusal r part b kind behind none named =
-    first_refusal r.limit (context_of r part) b behind none
-    ∙ ap (λ k. first_standing (
+named_refusal r part b kind past_header none named =
+    first_refusal r.limit (context_of r part) b past_header none
+    ∙ ap (λ k. first_that_applies (
     (is_none k, refusals.Kind r.at)
     ∷ (is_open_kind k && r.connections.connected, refusals.Nested r.at)
     ∷ (needs_connection k && not r.connections.connected, refusals.NotOpen r.at)
@@ -120,10 +120,10 @@ named_refusal r part b kind behind none named =
 
 pub unnamed_refused : (r : Reading) (b : ℕ) → 8 ≤ r.at → r.stage ≡ stages.Between → kind_named b ≡ None
     → (part : List ℕ) → IsAt r.stage part → refusal_for r.limit (context_of r part) b ≡ Some (refusals.Kind r.at)
-unnamed_refused r b behind between unnamed part at =
+unnamed_refused r b past_header between unnamed part at =
     let nothing : part ≡ [] = subst (λ s. IsAt s part) between at in
-    first_refusal r.limit (context_of r part) b behind nothing
-    ∙ ap (λ k. first_standing (
+    first_refusal r.limit (context_of r part) b past_header nothing
+    ∙ ap (λ k. first_that_applies (
     (is_none k, refusals.Kind r.at)
     ∷ (is_open_kind k && r.connections.connected, refusals.Nested r.at)
     ∷ (needs_connection k && not r.connections.connected, refusals.NotOpen r.at)
@@ -133,14 +133,14 @@ unnamed_refused r b behind between unnamed part at =
 
 pub named_refused : (r : Reading) (b : ℕ) (kind : RecordKind) (refusal : Refusal) → 8 ≤ r.at → r.stage ≡ stages.Between → kind_named b ≡ Some kind → kind_refusal r kind ≡ Some refusal
     → (part : List ℕ) → IsAt r.stage part → refusal_for r.limit (context_of r part) b ≡ Some refusal
-named_refused r b kind refusal behind between named met part at =
-    named_refusal r part b kind behind (subst (λ s. IsAt s part) between at) named ∙ met
+named_refused r b kind refusal past_header between named met part at =
+    named_refusal r part b kind past_header (subst (λ s. IsAt s part) between at) named ∙ met
 
 -- what refuses a record's first byte
 pub first_refused : (r : Reading) (b : ℕ) (kind : Option RecordKind) (refusal : Refusal) → 8 ≤ r.at → r.stage ≡ stages.Between → kind_named b ≡ kind → refused_first r kind ≡ Some refusal
     → (part : List ℕ) → IsAt r.stage part → refusal_for r.limit (context_of r part) b ≡ Some refusal
-first_refused r b None refusal behind between named met part at = unnamed_refused r b behind between named part at ∙ met
-first_refused r b (Some kind) refusal behind between named met part at = named_refused r b kind refusal behind between named met part at
+first_refused r b None refusal past_header between named met part at = unnamed_refused r b past_header between named part at ∙ met
+first_refused r b (Some kind) refusal past_header between named met part at = named_refused r b kind refusal past_header between named met part at
 
 -- the reader after a record's first byte, apart from where its directions' bytes lie
 begun_context : (r r' : Reading) (b : ℕ) (kind : RecordKind) → kind_named b ≡ Some kind → BeginsRecord r r' kind
@@ -161,15 +161,15 @@ kind_first b = refl
 
 pub first_advances : (r r' : Reading) (b : ℕ) (kind : RecordKind) → 8 ≤ r.at → r.stage ≡ stages.Between → kind_named b ≡ Some kind → kind_refusal r kind ≡ None → BeginsRecord r r' kind
     → Advances r r' (b ∷ []) []
-first_advances r r' b kind behind between named met begins = one_step r r' b [] (ap (λ (x : Reading). x.limit) begins.is) (λ part at. (
+first_advances r r' b kind past_header between named met begins = one_step r r' b [] (ap (λ (x : Reading). x.limit) begins.is) (λ part at. (
     let c = context_of r part in
     let nothing : part ≡ [] = subst (λ s. IsAt s part) between at in
     let staged : stages.Head kind 0 0 ≡ r'.stage = sym (ap (λ (x : Reading). x.stage) begins.is) in (
       b ∷ [],
       subst (λ s. IsAt s (b ∷ [])) staged (b, [], refl, kind_first b ∙ named, refl, refl),
-      named_refusal r part b kind behind nothing named ∙ met,
-      first_after c b behind nothing ∙ begun_context r r' b kind named begins,
-      ap (λ o. put o []) (placed_none c b (first_event c b behind nothing)),
+      named_refusal r part b kind past_header nothing named ∙ met,
+      first_after c b past_header nothing ∙ begun_context r r' b kind named begins,
+      ap (λ o. put o []) (placed_none c b (first_event c b past_header nothing)),
     )))
 
 nothing_unfinished : (limit : ℕ) → IsUnfinished limit (record { unfinished = []; lost = false })
@@ -187,7 +187,7 @@ no_others : (kind : RecordKind) (m : StreamState) (state state' : StreamState) (
 no_others kind m state state' count number e is = is ∙ ap (λ k. cond (opens (Some k)) m state) (let same : kind ≡ kinds.Open = cc in same)
 
 pub first_sound : (r r' : Reading) (kind : RecordKind) → IsSound r → 8 ≤ r.at → r.stage ≡ stages.Between → r.records < 4294967295 → BeginsRecord r r' kind → IsSound r'
-first_sound r r' kind sound behind between room begins =
+first_sound r r' kind sound past_header between room begins =
     let staged : r'.stage ≡ stages.Head kind 0 0 = ap (λ (x : Reading). x.stage) begins.is in
     let placed : r'.at ≡ r.at + 1 = ap (λ (x : Reading). x.at) begins.is in
     let numbered : r'.records ≡ r.records = ap (λ (x : Reading). x.records) begins.is in
@@ -198,7 +198,7 @@ first_sound r r' kind sound behind between room begins =
       counted = omega (arith, sound.counted);
       begun = λ some. omega arith;
       within = subst IsWithin (sym staged) (omega arith, (λ e. refl, λ e. omega arith, λ e. omega arith, omega arith));
-      behind_header = λ some. omega arith;
+      past_header = λ some. omega arith;
       header_first = λ less. absurd (omega arith);
       emptied = λ count number is. (
         no_others kind emptied (state_in r.sent) (state_in r'.sent) count number (sym staged ∙ is) begins.sent,
@@ -226,8 +226,8 @@ module _ (r : Reading) (kind : RecordKind) (count number : ℕ) (sound : IsSound
   pub begun_some : begun_in r.stage ≡ 1 + count
   begun_some = ap begun_in staged
 
-  pub head_behind : 8 ≤ r.at
-  head_behind = let some = begun_some in sound.behind_header (omega arith)
+  pub head_after : 8 ≤ r.at
+  head_after = let some = begun_some in sound.past_header (omega arith)
 
   pub head_room : r.records < 4294967295
   head_room = let some = begun_some in sound.begun (omega arith)
@@ -259,13 +259,13 @@ pub length_advances : (r : Reading) (kind : RecordKind) (count number b : ℕ) �
     → Advances r (in_head r (r.at + 1) kind (count + 1) (number * 256 + b)) (b ∷ []) []
 length_advances r kind count number b sound staged few = one_step r (in_head r (r.at + 1) kind (count + 1) (number * 256 + b)) b [] refl (λ part at. (
     let c = context_of r part in
-    let behind = head_behind r kind count number sound staged in
+    let past_header = head_after r kind count number sound staged in
     let long = head_long r kind count number sound staged part at in (
       part ++ b ∷ [],
       head_longer r kind count number sound staged part b at,
-      middle_refusal r.limit c b behind (omega arith) (omega arith),
-      middle_after c b behind (omega arith) (omega arith) (head_opens r kind count number sound staged part at),
-      ap (λ o. put o []) (placed_none c b (middle_event c b behind (omega arith) (omega arith))),
+      middle_refusal r.limit c b past_header (omega arith) (omega arith),
+      middle_after c b past_header (omega arith) (omega arith) (head_opens r kind count number sound staged part at),
+      ap (λ o. put o []) (placed_none c b (middle_event c b past_header (omega arith) (omega arith))),
     )))
 
 small_of : (count number : ℕ) → count < 3 → (count ≡ 0 → number ≡ 0) → (count ≡ 1 → number < 256) → (count ≡ 2 → number < 65536) → number < 65536
@@ -278,7 +278,7 @@ pub length_sound : (r : Reading) (kind : RecordKind) (count number b : ℕ) → 
     → IsSound (in_head r (r.at + 1) kind (count + 1) (number * 256 + b))
 length_sound r kind count number b sound staged few byte =
     let some = begun_some r kind count number sound staged in
-    let behind = head_behind r kind count number sound staged in
+    let past_header = head_after r kind count number sound staged in
     let room = head_room r kind count number sound staged in
     let bounds = head_bounds r kind count number sound staged in
     let small : number < 65536 = small_of count number few bounds.1.0 bounds.1.1 bounds.1.2 in
@@ -286,7 +286,7 @@ length_sound r kind count number b sound staged few byte =
       counted = omega (arith, sound.counted);
       begun = λ begun. room;
       within = (omega arith, (λ e. absurd (omega arith), λ e. (let none : number ≡ 0 = bounds.1.0 (omega arith) in omega arith), λ e. (let less : number < 256 = bounds.1.1 (omega arith) in omega arith), omega arith));
-      behind_header = λ begun. omega arith;
+      past_header = λ begun. omega arith;
       header_first = λ less. absurd (omega arith);
       emptied = λ n m e. head_opening r kind count number sound staged (let same : kind ≡ kinds.Open = cc in same);
       sent = sound.sent;
@@ -315,13 +315,13 @@ pub three_sound : (r : Reading) (kind : RecordKind) (x y z : ℕ) → IsSound r 
     → IsSound (in_head r (r.at + 3) kind 3 (from_be_bytes w32 (0 ∷ x ∷ y ∷ z ∷ [])))
 three_sound r kind x y z sound staged x_byte y_byte z_byte =
     let some = begun_some r kind 0 0 sound staged in
-    let behind = head_behind r kind 0 0 sound staged in
+    let past_header = head_after r kind 0 0 sound staged in
     let room = head_room r kind 0 0 sound staged in
     record {
       counted = omega (arith, sound.counted);
       begun = λ begun. room;
       within = (omega arith, (λ e. absurd (omega arith), λ e. absurd (omega arith), λ e. absurd (omega arith), omega arith));
-      behind_header = λ begun. omega arith;
+      past_header = λ begun. omega arith;
       header_first = λ less. absurd (omega arith);
       emptied = λ n m e. head_opening r kind 0 0 sound staged (let same : kind ≡ kinds.Open = cc in same);
       sent = sound.sent;

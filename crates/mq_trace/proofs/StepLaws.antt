@@ -13,9 +13,9 @@ use Rattle.mq_trace.specs.declared.refusal.Refusal.{Refusal}
 use Rattle.mq_trace.specs.declared.refusal.Refusal.TheVariants as refusals
 use Rattle.mq_trace.specs.Framing.{kind_named, kind_of, body_length, record_size, opens, direction_of}
 use Rattle.mq_trace.specs.Events.{Event, opened, closed, rested, released, sent, received, item_at, event_by, event_in, event_of_head}
-use Rattle.mq_trace.specs.Refusals.{Situation, header_refusal, record_refusal, first_standing, is_early, allows_length, is_open_kind, is_release_kind, needs_connection}
+use Rattle.mq_trace.specs.Refusals.{Situation, header_refusal, record_refusal, first_that_applies, is_early, allows_length, is_open_kind, is_release_kind, needs_connection}
 use Rattle.mq_trace.specs.Context.{StreamState, Context, emptied, so_far_by, so_far_for, situated, refusal_for, event_for, placed_with, placed_for, state_by, state_then, with_completed, after_header, after_part, after, put}
-use Rattle.mq_trace.specs.Runs.{behind, refused_in, events_by}
+use Rattle.mq_trace.specs.Runs.{after_bytes, refused_in, events_by}
 use Rattle.mq_trace.proofs.FramingLaws.{body_length-append, kind_of-append}
 
 -- A byte of the log's header.
@@ -68,17 +68,17 @@ lines_with c part first ends kind event long =
 lines_emitted : (limit : ℕ) (c : Context) (part : List ℕ) (first ends : Bool) (kind : Option RecordKind) (event : Option Event) (long : Bool)
     → (length part == 1) ≡ first → (length part == 5) ≡ ends → kind_of part ≡ kind → event_in part [] ≡ event
     → ((first && nat_lt 4294967295 (c.records + 1)) || (is_some event && nat_le 4294967295 c.events)) ≡ long
-    → record_refusal limit (situation_with c part) ≡ first_standing (lines_with c part first ends kind event long)
+    → record_refusal limit (situation_with c part) ≡ first_that_applies (lines_with c part first ends kind event long)
 unfolding record_refusal frame_size fixed_header_of
 lines_emitted limit c part first ends kind event long f e k v l =
     let lines = lines_with c part in
     let no = nat_lt 4294967295 (c.records + 1) in
     let full = nat_le 4294967295 c.events in
-    ap (λ t. first_standing (lines t (length part == 5) (kind_of part) (event_in part []) ((t && no) || (is_some (event_in part []) && full)))) f
-    ∙ ap (λ t. first_standing (lines first t (kind_of part) (event_in part []) ((first && no) || (is_some (event_in part []) && full)))) e
-    ∙ ap (λ t. first_standing (lines first ends t (event_in part []) ((first && no) || (is_some (event_in part []) && full)))) k
-    ∙ ap (λ t. first_standing (lines first ends kind t ((first && no) || (is_some t && full)))) v
-    ∙ ap (λ t. first_standing (lines first ends kind event t)) l
+    ap (λ t. first_that_applies (lines t (length part == 5) (kind_of part) (event_in part []) ((t && no) || (is_some (event_in part []) && full)))) f
+    ∙ ap (λ t. first_that_applies (lines first t (kind_of part) (event_in part []) ((first && no) || (is_some (event_in part []) && full)))) e
+    ∙ ap (λ t. first_that_applies (lines first ends t (event_in part []) ((first && no) || (is_some (event_in part []) && full)))) k
+    ∙ ap (λ t. first_that_applies (lines first ends kind t ((first && no) || (is_some t && full)))) v
+    ∙ ap (λ t. first_that_applies (lines first ends kind event t)) l
 
 situated_with : (c : Context) (b : ℕ) (part : List ℕ) → c.part ++ b ∷ [] ≡ part → so_far_for c b ≡ [] → situated c b ≡ situation_with c part
 unfolding situated
@@ -190,7 +190,7 @@ unfolding kind_of
 first_kind b = refl
 
 -- The first byte of a record.
-pub first_refusal : (limit : ℕ) (c : Context) (b : ℕ) → 8 ≤ c.at → c.part ≡ [] → refusal_for limit c b ≡ first_standing (
+pub first_refusal : (limit : ℕ) (c : Context) (b : ℕ) → 8 ≤ c.at → c.part ≡ [] → refusal_for limit c b ≡ first_that_applies (
     (is_none (kind_named b), refusals.Kind c.at)
     ∷ (is_open_kind (kind_named b) && c.connected, refusals.Nested c.at)
     ∷ (needs_connection (kind_named b) && not c.connected, refusals.NotOpen c.at)
@@ -308,9 +308,9 @@ step_twice : (c : Context) (k x y : ℕ) → 8 ≤ c.at → c.part ≡ k ∷ [] 
 step_twice c k x y h is opening = ap (λ d. after d y) (step_one c k x h is opening) ∙ step_two c k x y h is opening
 
 -- Bytes 2 to 4 of a record at once.
-pub middle_behind : (c : Context) (k x y z : ℕ) → 8 ≤ c.at → c.part ≡ k ∷ [] → (opens (kind_of c.part) ≡ true → (c.sent ≡ emptied) × (c.recv ≡ emptied))
-    → behind c (x ∷ y ∷ z ∷ []) ≡ record c { at = c.at + 3; part = k ∷ x ∷ y ∷ z ∷ [] }
-middle_behind c k x y z h is opening = ap (λ d. after d z) (step_twice c k x y h is opening) ∙ step_three c k x y z h is opening
+pub middle_after_bytes : (c : Context) (k x y z : ℕ) → 8 ≤ c.at → c.part ≡ k ∷ [] → (opens (kind_of c.part) ≡ true → (c.sent ≡ emptied) × (c.recv ≡ emptied))
+    → after_bytes c (x ∷ y ∷ z ∷ []) ≡ record c { at = c.at + 3; part = k ∷ x ∷ y ∷ z ∷ [] }
+middle_after_bytes c k x y z h is opening = ap (λ d. after d z) (step_twice c k x y h is opening) ∙ step_three c k x y z h is opening
 
 both_none : {A : Type 0} (a b : Option A) → a ≡ None → b ≡ None → option_or a b ≡ None
 both_none a b p q = ap (λ o. option_or o b) p ∙ q
@@ -377,7 +377,7 @@ fifth_in c b kind four is =
 pub fifth_event : (c : Context) (b : ℕ) (kind : RecordKind) → 8 ≤ c.at → length c.part ≡ 4 → kind_of c.part ≡ Some kind → event_for c b ≡ event_of_head kind
 fifth_event c b kind h four is = event_with c b (c.part ++ b ∷ []) h refl (head_packet c b (omega arith)) ∙ fifth_in c b kind four is
 
-pub fifth_refusal : (limit : ℕ) (c : Context) (b : ℕ) (kind : RecordKind) → 8 ≤ c.at → length c.part ≡ 4 → kind_of c.part ≡ Some kind → refusal_for limit c b ≡ first_standing (
+pub fifth_refusal : (limit : ℕ) (c : Context) (b : ℕ) (kind : RecordKind) → 8 ≤ c.at → length c.part ≡ 4 → kind_of c.part ≡ Some kind → refusal_for limit c b ≡ first_that_applies (
     (not (allows_length (Some kind) (body_length (c.part ++ b ∷ []))), refusals.Length c.at)
     ∷ (is_some (event_of_head kind) && nat_le 4294967295 c.events, refusals.TooLong c.at)
     ∷ [])
@@ -388,7 +388,7 @@ fifth_refusal limit c b kind h four is =
     refusal_with limit c b part h refl (head_packet c b (omega arith))
     ∙ lines_emitted limit c part false true (Some kind) (event_of_head kind) long (ne_eqb (length part) 1 (λ e. omega arith)) (eq-eqb (length part) 5 (omega arith))
     (kind_more c b kind (omega arith) is) (fifth_in c b kind four is) refl
-    ∙ ap (λ t. first_standing ((not (allows_length (Some kind) (body_length part)), refusals.Length c.at) ∷ (t, refusals.Early c.at) ∷ (long, refusals.TooLong c.at) ∷ [])) (head_early (situation_with c part) kind)
+    ∙ ap (λ t. first_that_applies ((not (allows_length (Some kind) (body_length part)), refusals.Length c.at) ∷ (t, refusals.Early c.at) ∷ (long, refusals.TooLong c.at) ∷ [])) (head_early (situation_with c part) kind)
 
 some_if : (t : Bool) (n : ℕ) → is_some (if t then Some n else None) ≡ t
 some_if true n = refl
@@ -494,7 +494,7 @@ release_low_event c b head first h kind is five =
     event_with c b (c.part ++ b ∷ []) h refl (release_packet c b (kind_more c b kinds.Release (omega arith) kind)) ∙ release_low_in c b head first kind is five
 
 pub release_low_refusal : (limit : ℕ) (c : Context) (b : ℕ) (head : List ℕ) (first : ℕ) → 8 ≤ c.at → kind_of c.part ≡ Some kinds.Release → c.part ≡ head ++ first ∷ [] → length head ≡ 5
-    → refusal_for limit c b ≡ first_standing (
+    → refusal_for limit c b ≡ first_that_applies (
     (c.connected && not c.connack_seen, refusals.Early c.at)
     ∷ (nat_le 4294967295 c.events, refusals.TooLong c.at)
     ∷ [])

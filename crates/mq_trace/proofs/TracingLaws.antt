@@ -14,7 +14,7 @@ use Rattle.mq_trace.specs.Events.{Event, Placed, events, event_at, packet_at}
 use Rattle.mq_trace.specs.Refusals.{refused, refusal_at, is_cut_short}
 use Rattle.mq_trace.specs.Refusing.{moved}
 use Rattle.mq_trace.specs.Context.{Context, context, fresh, so_far_for, event_for, placed_for, placed_with, put}
-use Rattle.mq_trace.specs.Runs.{behind, refused_in, events_by}
+use Rattle.mq_trace.specs.Runs.{after_bytes, refused_in, events_by}
 use Rattle.mq_trace.specs.Reception.{AreEvents, Declines}
 use Rattle.mq_trace.specs.Deframing.{NeedsMemory, FlowWhy}
 use Rattle.mq_trace.specs.Keeping.{IsAt, context_of, Comes, StepStops}
@@ -31,7 +31,7 @@ keeps_on agrees r r' log bytes old new keeps comes =
       unrefused = ap (λ (limit : ℕ). refused limit (log ++ bytes)) comes.advances.limit ∙ unrefused;
       part = step.0;
       stands = step.1;
-      kept = context_run log bytes ∙ ap (λ (c : Context). behind c bytes) keeps.kept ∙ step.3;
+      kept = context_run log bytes ∙ ap (λ (c : Context). after_bytes c bytes) keeps.kept ∙ step.3;
     })
 
 -- A sink that had received the events of the log has received those of the longer log then.
@@ -90,10 +90,10 @@ module _ {S : Type 0} (agrees : S → List Placed → Type 0) (refuses : S → L
     completed : length (events_by (context_of r keeps.part) (taken ++ byte ∷ [])) ≡ 1 → is_some (event_at (log ++ taken) byte) ≡ true
     completed one =
         (let c = context_of r keeps.part in
-        let split : events_by c (taken ++ byte ∷ []) ≡ put (placed_for (behind c taken) byte) []
-        = events_append c taken (byte ∷ []) ∙ ap (λ (l : List Placed). (put (placed_for (behind c taken) byte) []) ++ l) completes_none ∙ append-nil (put (placed_for (behind c taken) byte) []) in
-        let event : is_some (event_for (behind c taken) byte) ≡ true = some_event (behind c taken) byte (sym (ap length split) ∙ one) in
-        ap is_some (event-kept (log ++ taken) byte ∙ ap (λ (k : Context). event_for k byte) (context_run log taken ∙ ap (λ (k : Context). behind k taken) keeps.kept)) ∙ event)
+        let split : events_by c (taken ++ byte ∷ []) ≡ put (placed_for (after_bytes c taken) byte) []
+        = events_append c taken (byte ∷ []) ∙ ap (λ (l : List Placed). (put (placed_for (after_bytes c taken) byte) []) ++ l) completes_none ∙ append-nil (put (placed_for (after_bytes c taken) byte) []) in
+        let event : is_some (event_for (after_bytes c taken) byte) ≡ true = some_event (after_bytes c taken) byte (sym (ap length split) ∙ one) in
+        ap is_some (event-kept (log ++ taken) byte ∙ ap (λ (k : Context). event_for k byte) (context_run log taken ∙ ap (λ (k : Context). after_bytes k taken) keeps.kept)) ∙ event)
 
     -- a byte that meets no refusal
     passes_here : refused_in r.limit (context_of r keeps.part) (taken ++ byte ∷ []) ≡ None → refused r.limit (log ++ (taken ++ byte ∷ [])) ≡ None
@@ -107,9 +107,9 @@ module _ {S : Type 0} (agrees : S → List Placed → Type 0) (refuses : S → L
         ∙ passes_here none
 
     -- the packet so far of the byte
-    needs_here : NeedsMemory r.limit (so_far_for (behind (context_of r keeps.part) taken) byte) → NeedsMemory r.limit (packet_at (log ++ taken) byte)
+    needs_here : NeedsMemory r.limit (so_far_for (after_bytes (context_of r keeps.part) taken) byte) → NeedsMemory r.limit (packet_at (log ++ taken) byte)
     needs_here needs =
-        (let kept : context (log ++ taken) ≡ behind (context_of r keeps.part) taken = context_run log taken ∙ ap (λ (c : Context). behind c taken) keeps.kept in
+        (let kept : context (log ++ taken) ≡ after_bytes (context_of r keeps.part) taken = context_run log taken ∙ ap (λ (c : Context). after_bytes c taken) keeps.kept in
         packet_there r.limit (log ++ taken) byte (subst (λ (c : Context). NeedsMemory r.limit (so_far_for c byte)) (sym kept) needs))
 
     -- What the byte completes follows the events of the log.
@@ -121,7 +121,7 @@ module _ {S : Type 0} (agrees : S → List Placed → Type 0) (refuses : S → L
       are = sym (events_run log (taken ++ byte ∷ []) ∙ ap (λ (l : List Placed). l ++ events log) (ap (λ (c : Context). events_by c (taken ++ byte ∷ [])) keeps.kept));
     }
 
-    pub why_here : (old new : S) (refusal : Refusal) → FlowWhy (Declines agrees refuses) r.limit (r.at + length taken) (so_far_for (behind (context_of r keeps.part) taken) byte)
+    pub why_here : (old new : S) (refusal : Refusal) → FlowWhy (Declines agrees refuses) r.limit (r.at + length taken) (so_far_for (after_bytes (context_of r keeps.part) taken) byte)
         (refused_in r.limit (context_of r keeps.part) (taken ++ byte ∷ []))
         (events_by (context_of r keeps.part) (taken ++ byte ∷ [])) old new refusal → Why agrees refuses r.limit log taken byte old new refusal
     why_here old new refusal (inl x) = inl (record { met = refused_here refusal x.0; receives = received_nothing old new x.1 })
@@ -231,7 +231,7 @@ stops_piece agrees refuses first now piece rest old mid new refusal goes stop lo
 
 -- all that is after the first bytes
 pub rest_same : (n : ℕ) (rest : List ℕ) → take (length rest - n) (drop n rest) ≡ drop n rest
-rest_same n rest = (let behind : length (drop n rest) ≡ length rest - n = length-drop n rest in take_all (length rest - n) (drop n rest) (omega arith))
+rest_same n rest = (let after_bytes : length (drop n rest) ≡ length rest - n = length-drop n rest in take_all (length rest - n) (drop n rest) (omega arith))
 
 pub nothing_left : (rest : List ℕ) (empty : Bool) → empty ≡ (length rest == 0) → empty ≡ true → rest ≡ []
 nothing_left rest empty emitted is = nil_from_length rest (eqb-true (length rest) 0 (sym emitted ∙ is))

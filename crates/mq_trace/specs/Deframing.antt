@@ -7,10 +7,10 @@ use Rattle.mq_trace.specs.declared.refusal.Refusal.TheVariants as refusals
 use Rattle.mq_trace.specs.declared.connections.Connections.{Connections}
 use Rattle.mq_trace.specs.declared.deframer.BodyContext.{BodyContext as ContextInMemory}
 use Rattle.mq_trace.specs.Events.{Event, Placed, item_read, read_frame}
-use Rattle.mq_trace.specs.Refusals.{first_standing, is_too_large, is_other_version}
+use Rattle.mq_trace.specs.Refusals.{first_that_applies, is_too_large, is_other_version}
 use Rattle.mq_trace.specs.Context.{StreamState, so_far_in}
 use Rattle.mq_trace.specs.Reception.{AreEvents}
-use Rattle.mq_trace.specs.Flows.{BodyContext, Flow, item_event, comes_early, flow_refused, flow_behind, flow_events}
+use Rattle.mq_trace.specs.Flows.{BodyContext, Flow, item_event, comes_early, flow_refused, flow_after_bytes, flow_events}
 use Rattle.mq_trace.specs.Emission.{connections_with, RefusedBySink}
 
 abbrev pub body_context : ContextInMemory → BodyContext
@@ -25,7 +25,7 @@ frame_event direction frame = option_map (item_event direction) (item_read (leng
 
 -- the refusal that applies at the last byte of a whole packet
 abbrev pub frame_refusal : ℕ → Flow → Direction → List ℕ → Option Refusal
-frame_refusal at f direction frame = first_standing (
+frame_refusal at f direction frame = first_that_applies (
     (is_other_version (read_frame frame), refusals.OtherVersion at)
     ∷ (comes_early f (frame_event direction frame), refusals.Early at)
     ∷ (is_some (frame_event direction frame) && nat_le 4294967295 f.events, refusals.TooLong at)
@@ -57,10 +57,10 @@ pub record FlowStops {S : Type 0} (declines : S → S → List Placed → Refusa
   pub is : bytes ≡ taken ++ byte ∷ later
   pub unrefused : flow_refused limit context f taken ≡ None
   pub completes_none : flow_events context f taken ≡ []
-  pub why : FlowWhy declines limit (f.at + length taken) (so_far_in (flow_behind context f taken).state byte) (flow_refused limit context f (taken ++ byte ∷ [])) (flow_events context f (taken ++ byte ∷ [])) old new refusal
+  pub why : FlowWhy declines limit (f.at + length taken) (so_far_in (flow_after_bytes context f taken).state byte) (flow_refused limit context f (taken ++ byte ∷ [])) (flow_events context f (taken ++ byte ∷ [])) old new refusal
 
 -- These bytes bring a direction from one state to another: none of them is refused, and a sink that had received what came before has received the events too that they complete.
 pub record FlowComes {S : Type 0} (agrees : S → List Placed → Type 0) (limit : ℕ) (context : BodyContext) (f f' : Flow) (bytes : List ℕ) (old new : S) : Type 0 where
   pub unrefused : flow_refused limit context f bytes ≡ None
-  pub kept : flow_behind context f bytes ≡ f'
+  pub kept : flow_after_bytes context f bytes ≡ f'
   pub emitted : (earlier : List Placed) → agrees old earlier → AreEvents (flow_events context f bytes ++ earlier) → agrees new (flow_events context f bytes ++ earlier)

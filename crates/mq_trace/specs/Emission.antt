@@ -5,12 +5,12 @@ use Rattle.mq_trace.specs.declared.refusal.Refusal.TheVariants as refusals
 use Rattle.mq_trace.specs.declared.connections.Connections.{Connections}
 use Rattle.mq_trace.specs.Events.{Event, Placed}
 use Rattle.mq_trace.specs.Connections.{begins_connection, ends_connection, is_answer, needs_answer}
-use Rattle.mq_trace.specs.Refusals.{first_standing}
+use Rattle.mq_trace.specs.Refusals.{first_that_applies}
 use Rattle.mq_trace.specs.Refusing.{moved}
 
 -- the refusal that applies to an event that this byte completes
 abbrev pub event_refusal : ℕ → Connections → Event → Option Refusal
-event_refusal at connections event = first_standing (
+event_refusal at connections event = first_that_applies (
     (needs_answer event && (connections.connected && not connections.connack_seen), refusals.Early at)
     ∷ (nat_le 4294967295 connections.events, refusals.TooLong at)
     ∷ [])

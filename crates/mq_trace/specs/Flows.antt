@@ -8,7 +8,7 @@ use Rattle.mq_trace.specs.declared.refusal.Refusal.TheVariants as refusals
 use Rattle.mq_packet.specs.Stream.{fixed_header_of, frame_size}
 use Rattle.mq_trace.specs.Events.{Item, Event, Placed, sent, received, read_frame, item_at}
 use Rattle.mq_trace.specs.Connections.{needs_answer, is_answer}
-use Rattle.mq_trace.specs.Refusals.{first_standing, is_too_large, is_other_version}
+use Rattle.mq_trace.specs.Refusals.{first_that_applies, is_too_large, is_other_version}
 use Rattle.mq_trace.specs.Context.{StreamState, Context, state_for, so_far_in, state_after, put}
 
 -- what stays the same within a body: the direction, whether the tested end is a server, and the number of the record
@@ -41,7 +41,7 @@ comes_early f (Some event) = needs_answer event && (f.connected && not f.connack
 
 -- the refusal that applies first at the next byte
 unfoldable pub flow_refusal : ℕ → BodyContext → Flow → ℕ → Option Refusal
-flow_refusal limit context f byte = first_standing (
+flow_refusal limit context f byte = first_that_applies (
     (is_too_large limit (so_far_in f.state byte) (fixed_header_of (so_far_in f.state byte)), refusals.TooLarge f.at)
     ∷ (is_some (frame_size (so_far_in f.state byte)) && is_other_version (read_frame (so_far_in f.state byte)), refusals.OtherVersion f.at)
     ∷ (comes_early f (flow_event context f byte), refusals.Early f.at)
@@ -66,9 +66,9 @@ unfoldable pub flow_after : BodyContext → Flow → ℕ → Flow
 flow_after context f byte = flow_with context (record f { at = f.at + 1; state = state_after f.state byte }) (flow_event context f byte)
 
 -- what is kept after these bytes, the refusal that applies first at one of them, and the events that they complete, the newest first
-abbrev pub flow_behind : BodyContext → Flow → List ℕ → Flow
-flow_behind context f [] = f
-flow_behind context f (byte ∷ bytes) = flow_behind context (flow_after context f byte) bytes
+abbrev pub flow_after_bytes : BodyContext → Flow → List ℕ → Flow
+flow_after_bytes context f [] = f
+flow_after_bytes context f (byte ∷ bytes) = flow_after_bytes context (flow_after context f byte) bytes
 
 abbrev pub flow_refused : ℕ → BodyContext → Flow → List ℕ → Option Refusal
 flow_refused limit context f [] = None
@@ -86,10 +86,10 @@ abbrev pub flow_in : Context → Direction → Flow
 flow_in c direction = record { at = c.at; state = state_for c direction; events = c.events; connected = c.connected; connack_seen = c.connack_seen }
 
 -- a direction after bytes of this one: what the flow keeps of it, or what was kept before if it is the other one
-abbrev pub state_behind : Direction → Direction → StreamState → StreamState → StreamState
-state_behind directions.Sent directions.Sent new old = new
-state_behind directions.Recv directions.Recv new old = new
-state_behind _ _ new old = old
+abbrev pub state_after_body : Direction → Direction → StreamState → StreamState → StreamState
+state_after_body directions.Sent directions.Sent new old = new
+state_after_body directions.Recv directions.Recv new old = new
+state_after_body _ _ new old = old
 
 -- what is kept of the log after bytes of a body, from what the flow keeps after them; the flag says whether the record is then whole
 abbrev pub flowed : Context → Direction → Bool → Flow → List ℕ → Context
@@ -97,8 +97,8 @@ flowed c direction whole f bytes = record c {
   at = f.at;
   part = cond whole [] (c.part ++ bytes);
   records = cond whole (c.records + 1) c.records;
-  sent = state_behind directions.Sent direction f.state c.sent;
-  recv = state_behind directions.Recv direction f.state c.recv;
+  sent = state_after_body directions.Sent direction f.state c.sent;
+  recv = state_after_body directions.Recv direction f.state c.recv;
   events = f.events;
   connack_seen = f.connack_seen;
 }

@@ -12,7 +12,7 @@ use Rattle.mq_packet.specs.Stream.{fixed_header_of}
 use Rattle.mq_trace.specs.Framing.{kind_of, direction_of, body_length}
 use Rattle.mq_trace.specs.Events.{Placed}
 use Rattle.mq_trace.specs.Context.{StreamState, Context, so_far_for}
-use Rattle.mq_trace.specs.Runs.{behind, refused_in, events_by}
+use Rattle.mq_trace.specs.Runs.{after_bytes, refused_in, events_by}
 use Rattle.mq_trace.specs.Reception.{AreEvents}
 use Rattle.mq_trace.specs.Deframing.{FlowWhy}
 use Rattle.mq_trace.specs.declared.refusal.Refusal.{Refusal}
@@ -79,7 +79,7 @@ pub record IsSound (r : Reading) : Type 0 where
   pub counted : r.at ≤ 8 + 1048581 * r.records + begun_in r.stage
   pub begun : 0 < begun_in r.stage → r.records < 4294967295
   pub within : IsWithin r.stage
-  pub behind_header : 0 < begun_in r.stage → 8 ≤ r.at
+  pub past_header : 0 < begun_in r.stage → 8 ≤ r.at
   pub header_first : r.at < 8 → (r.stage ≡ stages.Between) × (r.records ≡ 0)
   pub emptied : (count length_so_far : ℕ) → r.stage ≡ stages.Head kinds.Open count length_so_far
       → (state_in r.sent ≡ record { unfinished = []; lost = false }) × (state_in r.recv ≡ record { unfinished = []; lost = false })
@@ -90,7 +90,7 @@ pub record IsSound (r : Reading) : Type 0 where
 pub record Advances (r r' : Reading) (bytes : List ℕ) (completed : List Placed) : Type 0 where
   pub limit : r'.limit ≡ r.limit
   pub each : (part : List ℕ) → IsAt r.stage part → (part' : List ℕ) × IsAt r'.stage part' × (refused_in r.limit (context_of r part) bytes ≡ None)
-      × (behind (context_of r part) bytes ≡ context_of r' part') × (events_by (context_of r part) bytes ≡ completed)
+      × (after_bytes (context_of r part) bytes ≡ context_of r' part') × (events_by (context_of r part) bytes ≡ completed)
 
 -- These bytes bring a reader from one state to another, and a sink that had received the earlier events has also received those that the bytes complete.
 pub record Comes {S : Type 0} (agrees : S → List Placed → Type 0) (r r' : Reading) (bytes : List ℕ) (old new : S) : Type 0 where
@@ -105,4 +105,4 @@ pub record StepStops {S : Type 0} (declines : S → S → List Placed → Refusa
   pub later : List ℕ
   pub is : bytes ≡ taken ++ byte ∷ later
   pub each : (part : List ℕ) → IsAt r.stage part → (refused_in r.limit (context_of r part) taken ≡ None) × (events_by (context_of r part) taken ≡ [])
-      × FlowWhy declines r.limit (r.at + length taken) (so_far_for (behind (context_of r part) taken) byte) (refused_in r.limit (context_of r part) (taken ++ byte ∷ [])) (events_by (context_of r part) (taken ++ byte ∷ [])) old new refusal
+      × FlowWhy declines r.limit (r.at + length taken) (so_far_for (after_bytes (context_of r part) taken) byte) (refused_in r.limit (context_of r part) (taken ++ byte ∷ [])) (events_by (context_of r part) (taken ++ byte ∷ [])) old new refusal

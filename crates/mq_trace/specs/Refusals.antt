@@ -114,9 +114,9 @@ is_early s None = false
 is_early s (Some event) = needs_answer event && (s.connected && not s.connack_seen)
 
 -- the refusal of the first line whose condition applies
-abbrev pub first_standing : List (Bool × Refusal) → Option Refusal
-first_standing [] = None
-first_standing (line ∷ lines) = cond line.0 (Some line.1) (first_standing lines)
+abbrev pub first_that_applies : List (Bool × Refusal) → Option Refusal
+first_that_applies [] = None
+first_that_applies (line ∷ lines) = cond line.0 (Some line.1) (first_that_applies lines)
 
 -- The conditions of the refusals of a byte after the header, in the order of their numbers.
 abbrev pub conditions : ℕ → Situation → List (Bool × Refusal)
@@ -133,7 +133,7 @@ conditions limit s =
     ∷ []
 
 unfoldable pub record_refusal : ℕ → Situation → Option Refusal
-record_refusal limit s = first_standing (conditions limit s)
+record_refusal limit s = first_that_applies (conditions limit s)
 
 -- the refusal that applies first at the next byte of a log
 unfoldable pub refusal_at : ℕ → List ℕ → ℕ → Option Refusal

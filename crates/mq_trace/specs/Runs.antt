@@ -6,9 +6,9 @@ use Rattle.mq_trace.specs.Events.{Placed}
 use Rattle.mq_trace.specs.Context.{Context, refusal_for, placed_for, put, after}
 
 -- what is kept after these bytes
-abbrev pub behind : Context → List ℕ → Context
-behind c [] = c
-behind c (byte ∷ bytes) = behind (after c byte) bytes
+abbrev pub after_bytes : Context → List ℕ → Context
+after_bytes c [] = c
+after_bytes c (byte ∷ bytes) = after_bytes (after c byte) bytes
 
 -- the refusal that applies first at one of these bytes
 abbrev pub refused_in : ℕ → Context → List ℕ → Option Refusal

@@ -10,7 +10,7 @@ use Rattle.mq_trace.specs.declared.stage.Stage.TheVariants as stages
 use Rattle.mq_trace.specs.declared.reading.Reading.{Reading}
 use Rattle.mq_trace.specs.Framing.{kind_named, opens}
 use Rattle.mq_trace.specs.Events.{Event}
-use Rattle.mq_trace.specs.Refusals.{first_standing, is_open_kind, needs_connection, is_release_kind}
+use Rattle.mq_trace.specs.Refusals.{first_that_applies, is_open_kind, needs_connection, is_release_kind}
 use Rattle.mq_trace.specs.Context.{emptied}
 use Rattle.mq_trace.specs.declared.connections.Connections.{Connections}
 use Rattle.mq_trace.specs.declared.deframer.Deframer.{Deframer}
@@ -26,8 +26,8 @@ err_of (Ok a) = None
 err_of (Err refusal) = Some refusal
 
 -- after one more byte of the log's header
-abbrev pub behind_header : Reading → ℕ → Reading
-behind_header r byte = record r {
+abbrev pub after_header_byte : Reading → ℕ → Reading
+after_header_byte r byte = record r {
   at = r.at + 1;
   header = record {
     server = if r.at == 5 then byte == 1 else r.header.server;
@@ -37,7 +37,7 @@ behind_header r byte = record r {
 
 -- the refusal that applies at the first byte of a record of this kind
 abbrev pub kind_refusal : Reading → RecordKind → Option Refusal
-kind_refusal r kind = first_standing (
+kind_refusal r kind = first_that_applies (
     (is_open_kind (Some kind) && r.connections.connected, refusals.Nested r.at)
     ∷ (needs_connection (Some kind) && not r.connections.connected, refusals.NotOpen r.at)
     ∷ (is_release_kind (Some kind) && not r.header.releases, refusals.ReleaseUnrecorded r.at)
@@ -66,7 +66,7 @@ kind_for directions.Recv = kinds.Recv
 
 -- The reader is between two records, and the next bytes are the head of one that carries packets this way, of this length, and meets no refusal.
 pub record IsBodyHead (r : Reading) (bytes : List ℕ) (direction : Direction) (number : ℕ) : Type 0 where
-  pub behind : 8 ≤ r.at
+  pub past_header : 8 ≤ r.at
   pub between : r.stage ≡ stages.Between
   pub connected : r.connections.connected ≡ true
   pub room : r.records < 4294967295

@@ -16,7 +16,7 @@ ghost use Rattle.mq_trace.specs.declared.event.Item.TheVariants as items;
 ghost use Rattle.mq_trace.specs.Emission.{NotEmitted, event_refusal, connections_with, next_placed};
 ghost use Rattle.mq_trace.specs.Keeping.{state_in, IsUnfinished};
 ghost use Rattle.mq_trace.specs.Settling.{IsByteMore, IsStep, IsWhole};
-ghost use Rattle.mq_trace.specs.Flows.{item_event, flow_placed_with, flow_refused, flow_events, flow_behind};
+ghost use Rattle.mq_trace.specs.Flows.{item_event, flow_placed_with, flow_refused, flow_events, flow_after_bytes};
 ghost use Rattle.mq_trace.specs.Deframing.{body_context, flow_of, frame_event, frame_refusal, connections_then, FlowStops, FlowComes};
 
 use super::connections::{Connections, emit, emit_packet, emit_publish};
@@ -116,7 +116,7 @@ impl Deframer {
         requires unfinished { IsUnfinished context.limit (state_in self.old) }
         ensures count { IfOk result (λ n. (1 ≤ n) × (n ≤ length bytes.now)) }
         ensures unrefused { IfOk result (λ n. flow_refused context.limit (body_context context) (flow_of at (state_in self.old) connections.old) (take n bytes.now) ≡ None) }
-        ensures kept { IfOk result (λ n. flow_behind (body_context context) (flow_of at (state_in self.old) connections.old) (take n bytes.now) ≡ flow_of (at + n) (state_in self.new) connections.new) }
+        ensures kept { IfOk result (λ n. flow_after_bytes (body_context context) (flow_of at (state_in self.old) connections.old) (take n bytes.now) ≡ flow_of (at + n) (state_in self.new) connections.new) }
         ensures receives { (earlier : List Placed) → S.agrees sink.old earlier → IfOk result (λ n.
             AreEvents (flow_events (body_context context) (flow_of at (state_in self.old) connections.old) (take n bytes.now) ++ earlier)
             → S.agrees sink.new (flow_events (body_context context) (flow_of at (state_in self.old) connections.old) (take n bytes.now) ++ earlier)) }

@@ -11,8 +11,8 @@ ghost use Rattle.mq_trace.specs.Events.{Placed};
 ghost use Rattle.mq_trace.specs.Reception.{AreEvents, Declines, event_of};
 ghost use Rattle.mq_trace.specs.Emission.{event_refusal, next_placed, NotEmitted};
 ghost use Rattle.mq_trace.specs.Context.{fresh};
-ghost use Rattle.mq_trace.specs.Stepping.{err_of, behind_header, kind_refusal, kind_for, IsBodyHead, BeginsRecord, refused_first, in_head, marked, leaving, context_for, deframer_for, flow_for, redirected};
-ghost use Rattle.mq_trace.specs.Flows.{flow_refused, flow_events, flow_behind};
+ghost use Rattle.mq_trace.specs.Stepping.{err_of, after_header_byte, kind_refusal, kind_for, IsBodyHead, BeginsRecord, refused_first, in_head, marked, leaving, context_for, deframer_for, flow_for, redirected};
+ghost use Rattle.mq_trace.specs.Flows.{flow_refused, flow_events, flow_after_bytes};
 ghost use Rattle.mq_trace.specs.Deframing.{flow_of, FlowStops};
 ghost use Rattle.mq_trace.specs.Settling.{IsWhole};
 
@@ -243,7 +243,7 @@ impl Reading {
     fn consume_header(&mut self, byte: u8) -> Result<(), Refusal>
         requires begun { self.old.at < 8 }
         ensures refused { header_refusal self.old.at byte ≡ err_of result }
-        ensures kept { OnOk result (self.new ≡ behind_header self.old byte) }
+        ensures kept { OnOk result (self.new ≡ after_header_byte self.old byte) }
     {
         if let Some(refusal) = header_refusal(self.at, byte) {
             return Err(refusal);
@@ -258,7 +258,7 @@ impl Reading {
     fn consume_head<S: Sink>(&mut self, bytes: &[u8], sink: &mut S) -> Result<usize, Refusal>
         requires some { 1 ≤ length bytes.now }
         requires sound { IsSound self.old }
-        requires behind { 8 ≤ self.old.at }
+        requires past_header { 8 ≤ self.old.at }
         requires between { self.old.stage ≡ stages.Between }
         ensures count { IfOk result (λ n. (1 ≤ n) × (n ≤ length bytes.now)) }
         ensures sound { OnOk result (IsSound self.new) }
@@ -591,7 +591,7 @@ impl Reading {
         ensures is { self.new ≡ record (redirected self.old direction (deframer_for self.new direction)) { connections = self.new.connections } }
         ensures count { IfOk result (λ n. (1 ≤ n) × (n ≤ length body.now)) }
         ensures unrefused { IfOk result (λ n. flow_refused self.old.limit (context_for self.old direction) (flow_for self.old direction) (take n body.now) ≡ None) }
-        ensures kept { IfOk result (λ n. flow_behind (context_for self.old direction) (flow_for self.old direction) (take n body.now) ≡ flow_of (self.old.at + n) (state_in (deframer_for self.new direction)) self.new.connections) }
+        ensures kept { IfOk result (λ n. flow_after_bytes (context_for self.old direction) (flow_for self.old direction) (take n body.now) ≡ flow_of (self.old.at + n) (state_in (deframer_for self.new direction)) self.new.connections) }
         ensures receives { (earlier : List Placed) → S.agrees sink.old earlier → IfOk result (λ n.
             AreEvents (flow_events (context_for self.old direction) (flow_for self.old direction) (take n body.now) ++ earlier)
             → S.agrees sink.new (flow_events (context_for self.old direction) (flow_for self.old direction) (take n body.now) ++ earlier)) }
@@ -644,7 +644,7 @@ impl Reading {
         ensures is { self.new ≡ record (redirected self.old direction (deframer_for self.new direction)) { connections = self.new.connections } }
         ensures count { IfOk result (λ n. (1 ≤ n) × (n ≤ length body.now)) }
         ensures unrefused { IfOk result (λ n. flow_refused self.old.limit (context_for self.old direction) (flow_for self.old direction) (take n body.now) ≡ None) }
-        ensures kept { IfOk result (λ n. flow_behind (context_for self.old direction) (flow_for self.old direction) (take n body.now) ≡ flow_of (self.old.at + n) (state_in (deframer_for self.new direction)) self.new.connections) }
+        ensures kept { IfOk result (λ n. flow_after_bytes (context_for self.old direction) (flow_for self.old direction) (take n body.now) ≡ flow_of (self.old.at + n) (state_in (deframer_for self.new direction)) self.new.connections) }
         ensures receives { (earlier : List Placed) → S.agrees sink.old earlier → IfOk result (λ n.
             AreEvents (flow_events (context_for self.old direction) (flow_for self.old direction) (take n body.now) ++ earlier)
             → S.agrees sink.new (flow_events (context_for self.old direction) (flow_for self.old direction) (take n body.now) ++ earlier)) }
@@ -674,7 +674,7 @@ impl Reading {
         ensures is { self.new ≡ record (redirected self.old direction (deframer_for self.new direction)) { connections = self.new.connections } }
         ensures count { IfOk result (λ n. (1 ≤ n) × (n ≤ length body.now)) }
         ensures unrefused { IfOk result (λ n. flow_refused self.old.limit (context_for self.old direction) (flow_for self.old direction) (take n body.now) ≡ None) }
-        ensures kept { IfOk result (λ n. flow_behind (context_for self.old direction) (flow_for self.old direction) (take n body.now) ≡ flow_of (self.old.at + n) (state_in (deframer_for self.new direction)) self.new.connections) }
+        ensures kept { IfOk result (λ n. flow_after_bytes (context_for self.old direction) (flow_for self.old direction) (take n body.now) ≡ flow_of (self.old.at + n) (state_in (deframer_for self.new direction)) self.new.connections) }
         ensures receives { (earlier : List Placed) → S.agrees sink.old earlier → IfOk result (λ n.
             AreEvents (flow_events (context_for self.old direction) (flow_for self.old direction) (take n body.now) ++ earlier)
             → S.agrees sink.new (flow_events (context_for self.old direction) (flow_for self.old direction) (take n body.now) ++ earlier)) }

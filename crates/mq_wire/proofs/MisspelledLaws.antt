@@ -7,7 +7,7 @@ use Rattle.mq_wire.specs.declared.fault.Reason.TheVariants.{Short, Overlong, Not
 use Rattle.mq_wire.specs.Fields.{byte_at, two_bytes_at, four_bytes_at, ended_by, fourth_byte, third_byte, second_byte, varint_at, binary_at, text_at, pair_at}
 use Rattle.mq_wire.specs.FieldTypes.{FieldType, one_byte, two_byte_integer, four_byte_integer, variable_byte_integer, utf8_string, string_pair, binary_data, IsFieldValue, field_spelling}
 use Rattle.mq_wire.specs.Spellings.{AreBytes, IsExact}
-use Rattle.mq_wire.specs.Misspelled.{IsCutShort, NoneStands, AllContinue, HasShorterForm, RunsPastFour, MisspelledNumber, MisspelledString, MisspelledPair, Misspelled, RefusesMisspelled}
+use Rattle.mq_wire.specs.Misspelled.{IsCutShort, BeginsWithNone, AllContinue, HasShorterForm, RunsPastFour, MisspelledNumber, MisspelledString, MisspelledPair, Misspelled, RefusesMisspelled}
 use Rattle.mq_wire.proofs.Bytes.{AreBytes-drop}
 use Rattle.mq_wire.proofs.Exact.{byte_exact, two_bytes_exact, four_bytes_exact, binary_exact, text_exact, pair_exact}
 use Rattle.mq_wire.proofs.Varint.{varint_exact}
@@ -157,17 +157,17 @@ pair_misspelled = record { exactly = λ bytes reason fits. (λ e. pair_from byte
 
 -- of an exact reading that refuses what is misspelled
 none_exactly : {X : Type 0} {read : List ℕ → Result (X × ℕ) Reason} {IsValue : X → Type 0} {spelling : X → List ℕ} (type : FieldType) → IsExact read IsValue spelling → RefusesMisspelled read type
-    → (bytes : List ℕ) → AreBytes bytes → ((reason : Reason) × Misspelled type bytes reason) ↔ NoneStands IsValue spelling bytes
+    → (bytes : List ℕ) → AreBytes bytes → ((reason : Reason) × Misspelled type bytes reason) ↔ BeginsWithNone IsValue spelling bytes
 none_exactly {X} {read} {IsValue} {spelling} type exact refuses bytes fits = (none, λ never. some never (read bytes) refl)
   where
-    none : ((reason : Reason) × Misspelled type bytes reason) → NoneStands IsValue spelling bytes
+    none : ((reason : Reason) × Misspelled type bytes reason) → BeginsWithNone IsValue spelling bytes
     none h x n stands = (let never = sym (stands_read exact bytes x n stands) ∙ (refuses.exactly bytes h.0 fits).1 h.1 in cc)
 
-    some : NoneStands IsValue spelling bytes → (r : Result (X × ℕ) Reason) → read bytes ≡ r → (reason : Reason) × Misspelled type bytes reason
+    some : BeginsWithNone IsValue spelling bytes → (r : Result (X × ℕ) Reason) → read bytes ≡ r → (reason : Reason) × Misspelled type bytes reason
     some never (Ok x) e = absurd (never x.0 x.1 (exact.only bytes x.0 x.1 fits e))
     some never (Err reason) e = (reason, (refuses.exactly bytes reason fits).0 e)
 
-pub misspelled_none : (type : FieldType) (bytes : List ℕ) → AreBytes bytes → ((reason : Reason) × Misspelled type bytes reason) ↔ NoneStands (IsFieldValue type) (field_spelling type) bytes
+pub misspelled_none : (type : FieldType) (bytes : List ℕ) → AreBytes bytes → ((reason : Reason) × Misspelled type bytes reason) ↔ BeginsWithNone (IsFieldValue type) (field_spelling type) bytes
 misspelled_none one_byte bytes fits = none_exactly one_byte byte_exact byte_misspelled bytes fits
 misspelled_none two_byte_integer bytes fits = none_exactly two_byte_integer two_bytes_exact two_bytes_misspelled bytes fits
 misspelled_none four_byte_integer bytes fits = none_exactly four_byte_integer four_bytes_exact four_bytes_misspelled bytes fits

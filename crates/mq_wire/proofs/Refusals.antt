@@ -9,8 +9,8 @@ use Rattle.std.proofs.lemmas.Str.{IsUtf8-from_is_utf8, is_utf8-from_IsUtf8}
 use Rattle.mq_wire.specs.declared.fault.Reason.{Reason}
 use Rattle.mq_wire.specs.declared.fault.Reason.TheVariants.{Short, Overlong, NotUtf8, Nul}
 use Rattle.mq_wire.specs.Fields.{◌>>=◌, byte_at, two_bytes_at, four_bytes_at, ended_by, fourth_byte, third_byte, second_byte, varint_at, counted_bytes, binary_at, text_of, text_at, pair_at}
-use Rattle.mq_wire.specs.Spellings.{AreBytes, IsByte, byte_spelling, IsTwoBytes, two_bytes_spelling, IsFourBytes, four_bytes_spelling, IsVarint, varint_spelling, IsBinary, binary_spelling, has_nul, Stands, IsExact}
-use Rattle.mq_wire.specs.Misspelled.{IsCutShort, NoneStands, IsNotUtf8, HasNul}
+use Rattle.mq_wire.specs.Spellings.{AreBytes, IsByte, byte_spelling, IsTwoBytes, two_bytes_spelling, IsFourBytes, four_bytes_spelling, IsVarint, varint_spelling, IsBinary, binary_spelling, has_nul, BeginsWith, IsExact}
+use Rattle.mq_wire.specs.Misspelled.{IsCutShort, BeginsWithNone, IsNotUtf8, HasNul}
 use Rattle.mq_wire.proofs.Bytes.{AreBytes-nil, AreBytes-cons}
 use Rattle.mq_wire.proofs.Exact.{done, done_is, byte_exact, two_bytes_from, two_bytes_exact, four_bytes_from, four_bytes_exact, binary_exact, exact_settled}
 use Rattle.mq_wire.proofs.Texts.{not_utf8, with_nul}
@@ -24,7 +24,7 @@ pub record RefusesShort {X : Type 0} (read : List ℕ → Result (X × ℕ) Reas
 -- numbers that end too early, and those that are too long: neither cut short nor spelled
 pub record RefusesVarints : Type 0 where
   pub short : (bytes : List ℕ) → AreBytes bytes → (varint_at bytes ≡ Err Short) ↔ IsCutShort IsVarint varint_spelling bytes
-  pub overlong : (bytes : List ℕ) → AreBytes bytes → (varint_at bytes ≡ Err Overlong) ↔ ((¬ IsCutShort IsVarint varint_spelling bytes) × NoneStands IsVarint varint_spelling bytes)
+  pub overlong : (bytes : List ℕ) → AreBytes bytes → (varint_at bytes ≡ Err Overlong) ↔ ((¬ IsCutShort IsVarint varint_spelling bytes) × BeginsWithNone IsVarint varint_spelling bytes)
   pub only_so : (bytes : List ℕ) (reason : Reason) → varint_at bytes ≡ Err reason → (reason ≡ Short) ⊎ (reason ≡ Overlong)
 
 -- texts that end too early, else those that aren't UTF-8, else those with U+0000
@@ -237,7 +237,7 @@ varint_short bytes fits cut (Err reason) e =
     ]
 
 -- where no number stands and none is cut short, it is too long
-varint_overlong : (bytes : List ℕ) → AreBytes bytes → (IsCutShort IsVarint varint_spelling bytes → ⊥) → NoneStands IsVarint varint_spelling bytes → (r : Result (ℕ × ℕ) Reason) → varint_at bytes ≡ r → varint_at bytes ≡ Err Overlong
+varint_overlong : (bytes : List ℕ) → AreBytes bytes → (IsCutShort IsVarint varint_spelling bytes → ⊥) → BeginsWithNone IsVarint varint_spelling bytes → (r : Result (ℕ × ℕ) Reason) → varint_at bytes ≡ r → varint_at bytes ≡ Err Overlong
 varint_overlong bytes fits not_cut none (Ok y) e = absurd (none y.0 y.1 (varint_exact.only bytes y.0 y.1 fits e))
 varint_overlong bytes fits not_cut none (Err reason) e =
     elim (varint_reason bytes reason e) [
@@ -246,7 +246,7 @@ varint_overlong bytes fits not_cut none (Err reason) e =
     ]
 
 -- what stands at the front of the bytes is read
-pub stands_read : {X : Type 0} {read : List ℕ → Result (X × ℕ) Reason} {IsValue : X → Type 0} {spelling : X → List ℕ} → IsExact read IsValue spelling → (bytes : List ℕ) (x : X) (n : ℕ) → Stands IsValue spelling bytes x n → read bytes ≡ Ok (x, n)
+pub stands_read : {X : Type 0} {read : List ℕ → Result (X × ℕ) Reason} {IsValue : X → Type 0} {spelling : X → List ℕ} → IsExact read IsValue spelling → (bytes : List ℕ) (x : X) (n : ℕ) → BeginsWith IsValue spelling bytes x n → read bytes ≡ Ok (x, n)
 stands_read {X} {read} exact bytes x n stands =
     ap read stands.spelled ∙ exact.all x (drop n bytes) stands.value ∙ ap (λ (k : ℕ). Ok (x, k)) (sym stands.taken)
 
@@ -340,7 +340,7 @@ text_of_reason x reason e = decide (is_utf8 x) refl e
 
 -- what a refused text is: cut short, or binary data whose content is refused
 pub record IsRefusedText (bytes : List ℕ) (reason : Reason) (x : List ℕ) (n : ℕ) : Type 0 where
-  pub stands : Stands IsBinary binary_spelling bytes x n
+  pub stands : BeginsWith IsBinary binary_spelling bytes x n
   pub fault : ((reason ≡ NotUtf8) × (IsUtf8 x → ⊥)) ⊎ ((reason ≡ Nul) × IsUtf8 x × (has_nul x ≡ true))
 
 text_reason : (bytes : List ℕ) (reason : Reason) → AreBytes bytes → (r : Result (List ℕ × ℕ) Reason) → binary_at bytes ≡ r → text_at bytes ≡ Err reason → ((reason ≡ Short) × (binary_at bytes ≡ Err Short)) ⊎ ((x : List ℕ) × (n : ℕ) × IsRefusedText bytes reason x n)
@@ -358,14 +358,14 @@ text_short bytes fits e =
       | inr found ↦ elim found.2.fault [ inl bad ↦ absurd (let never = bad.0 in cc) | inr bad ↦ absurd (let never = bad.0 in cc) ]
     ]
 
-text_not_utf8 : (bytes : List ℕ) → AreBytes bytes → text_at bytes ≡ Err NotUtf8 → (x : List ℕ) × (n : ℕ) × Stands IsBinary binary_spelling bytes x n × (IsUtf8 x → ⊥)
+text_not_utf8 : (bytes : List ℕ) → AreBytes bytes → text_at bytes ≡ Err NotUtf8 → (x : List ℕ) × (n : ℕ) × BeginsWith IsBinary binary_spelling bytes x n × (IsUtf8 x → ⊥)
 text_not_utf8 bytes fits e =
     elim (text_reason bytes NotUtf8 fits (binary_at bytes) refl e) [
       | inl short ↦ absurd (let never = short.0 in cc)
       | inr found ↦ (found.0, found.1, found.2.stands, elim found.2.fault [ inl bad ↦ bad.1 | inr bad ↦ absurd (let never = bad.0 in cc) ])
     ]
 
-text_nul : (bytes : List ℕ) → AreBytes bytes → text_at bytes ≡ Err Nul → (x : List ℕ) × (n : ℕ) × Stands IsBinary binary_spelling bytes x n × IsUtf8 x × (has_nul x ≡ true)
+text_nul : (bytes : List ℕ) → AreBytes bytes → text_at bytes ≡ Err Nul → (x : List ℕ) × (n : ℕ) × BeginsWith IsBinary binary_spelling bytes x n × IsUtf8 x × (has_nul x ≡ true)
 text_nul bytes fits e =
     elim (text_reason bytes Nul fits (binary_at bytes) refl e) [
       | inl short ↦ absurd (let never = short.0 in cc)
@@ -380,7 +380,7 @@ text_never_overlong bytes fits e =
     ]
 
 -- the content's fault is the field's
-content_fault : (bytes x : List ℕ) (n : ℕ) (reason : Reason) → Stands IsBinary binary_spelling bytes x n → text_of x ≡ Err reason → text_at bytes ≡ Err reason
+content_fault : (bytes x : List ℕ) (n : ℕ) (reason : Reason) → BeginsWith IsBinary binary_spelling bytes x n → text_of x ≡ Err reason → text_at bytes ≡ Err reason
 content_fault bytes x n reason stands e =
     text_of_content bytes x n (stands_read binary_exact bytes x n stands) ∙ ap (λ (r : Result (List ℕ) Reason). r >>= sized n) e
 

@@ -3,7 +3,7 @@ use Rattle.std.proofs.Common.{◌≡◌, ℕ, zero, suc, ◌+◌, ◌-◌, ◌*�
 use Rattle.std.proofs.lemmas.Bool.{cases_lt, lt-ltb, le-ltb, ne_eqb}
 use Rattle.mq_wire.specs.declared.fault.Reason.TheVariants.{Short}
 use Rattle.mq_wire.specs.Fields.{ended_by, fourth_byte, third_byte, second_byte, varint_at}
-use Rattle.mq_wire.specs.Spellings.{AreBytes, IsVarint, varint_spelling, Stands, IsExact}
+use Rattle.mq_wire.specs.Spellings.{AreBytes, IsVarint, varint_spelling, BeginsWith, IsExact}
 
 -- the spelling of a number by its groups of seven bits
 
@@ -52,7 +52,7 @@ ended_ok (suc last) number taken x e =
     let read = rw (ne_eqb (suc last) 0 (λ zero_last. omega arith)) at e in
     (omega arith, cc)
 
-fourth_only : (p q r : ℕ) (bytes : List ℕ) (x : ℕ × ℕ) → p < 128 → q < 128 → r < 128 → fourth_byte (p + 128 * q + 16384 * r) bytes ≡ Ok x → Stands IsVarint varint_spelling ((128 + p) ∷ (128 + q) ∷ (128 + r) ∷ bytes) x.0 x.1
+fourth_only : (p q r : ℕ) (bytes : List ℕ) (x : ℕ × ℕ) → p < 128 → q < 128 → r < 128 → fourth_byte (p + 128 * q + 16384 * r) bytes ≡ Ok x → BeginsWith IsVarint varint_spelling ((128 + p) ∷ (128 + q) ∷ (128 + r) ∷ bytes) x.0 x.1
 fourth_only p q r [] x hp hq hr e = absurd cc
 fourth_only p q r (d ∷ bytes) x hp hq hr e =
     elim (cases_lt d 128) [
@@ -60,11 +60,11 @@ fourth_only p q r (d ∷ bytes) x hp hq hr e =
           let number = p + 128 * q + 16384 * r + 2097152 * d in
           let ended = ended_ok d number 4 x (rw (lt-ltb d 128 lt) at e) in
           let is = spelling_of_4 number p q r d refl hp hq hr ended.0 in
-          subst (λ (y : ℕ × ℕ). Stands IsVarint varint_spelling ((128 + p) ∷ (128 + q) ∷ (128 + r) ∷ d ∷ bytes) y.0 y.1) ended.1 (record { value = omega arith; taken = rw is refl; spelled = rw is refl })
+          subst (λ (y : ℕ × ℕ). BeginsWith IsVarint varint_spelling ((128 + p) ∷ (128 + q) ∷ (128 + r) ∷ d ∷ bytes) y.0 y.1) ended.1 (record { value = omega arith; taken = rw is refl; spelled = rw is refl })
       | inr le ↦ absurd (let never = rw (le-ltb d 128 le) at e in cc)
     ]
 
-third_only : (p q : ℕ) (bytes : List ℕ) (x : ℕ × ℕ) → p < 128 → q < 128 → AreBytes bytes → third_byte (p + 128 * q) bytes ≡ Ok x → Stands IsVarint varint_spelling ((128 + p) ∷ (128 + q) ∷ bytes) x.0 x.1
+third_only : (p q : ℕ) (bytes : List ℕ) (x : ℕ × ℕ) → p < 128 → q < 128 → AreBytes bytes → third_byte (p + 128 * q) bytes ≡ Ok x → BeginsWith IsVarint varint_spelling ((128 + p) ∷ (128 + q) ∷ bytes) x.0 x.1
 third_only p q [] x hp hq fits e = absurd cc
 third_only p q (c ∷ bytes) x hp hq fits e =
     elim (cases_lt c 128) [
@@ -72,7 +72,7 @@ third_only p q (c ∷ bytes) x hp hq fits e =
           let number = p + 128 * q + 16384 * c in
           let ended = ended_ok c number 3 x (rw (lt-ltb c 128 lt) at e) in
           let is = spelling_of_3 number p q c refl hp hq ended.0 lt in
-          subst (λ (y : ℕ × ℕ). Stands IsVarint varint_spelling ((128 + p) ∷ (128 + q) ∷ c ∷ bytes) y.0 y.1) ended.1 (record { value = omega arith; taken = rw is refl; spelled = rw is refl })
+          subst (λ (y : ℕ × ℕ). BeginsWith IsVarint varint_spelling ((128 + p) ∷ (128 + q) ∷ c ∷ bytes) y.0 y.1) ended.1 (record { value = omega arith; taken = rw is refl; spelled = rw is refl })
       | inr le ↦
           let byte : c < 256 = fits 0 in
           let third : 128 + (c - 128) ≡ c = omega arith in
@@ -80,7 +80,7 @@ third_only p q (c ∷ bytes) x hp hq fits e =
           rw third at stands
     ]
 
-second_only : (p : ℕ) (bytes : List ℕ) (x : ℕ × ℕ) → p < 128 → AreBytes bytes → second_byte p bytes ≡ Ok x → Stands IsVarint varint_spelling ((128 + p) ∷ bytes) x.0 x.1
+second_only : (p : ℕ) (bytes : List ℕ) (x : ℕ × ℕ) → p < 128 → AreBytes bytes → second_byte p bytes ≡ Ok x → BeginsWith IsVarint varint_spelling ((128 + p) ∷ bytes) x.0 x.1
 second_only p [] x hp fits e = absurd cc
 second_only p (b ∷ bytes) x hp fits e =
     elim (cases_lt b 128) [
@@ -88,7 +88,7 @@ second_only p (b ∷ bytes) x hp fits e =
           let number = p + 128 * b in
           let ended = ended_ok b number 2 x (rw (lt-ltb b 128 lt) at e) in
           let is = spelling_of_2 number p b refl hp ended.0 lt in
-          subst (λ (y : ℕ × ℕ). Stands IsVarint varint_spelling ((128 + p) ∷ b ∷ bytes) y.0 y.1) ended.1 (record { value = omega arith; taken = rw is refl; spelled = rw is refl })
+          subst (λ (y : ℕ × ℕ). BeginsWith IsVarint varint_spelling ((128 + p) ∷ b ∷ bytes) y.0 y.1) ended.1 (record { value = omega arith; taken = rw is refl; spelled = rw is refl })
       | inr le ↦
           let byte : b < 256 = fits 0 in
           let second : 128 + (b - 128) ≡ b = omega arith in
@@ -96,7 +96,7 @@ second_only p (b ∷ bytes) x hp fits e =
           rw second at stands
     ]
 
-varint_only : (bytes : List ℕ) (x : ℕ × ℕ) → AreBytes bytes → varint_at bytes ≡ Ok x → Stands IsVarint varint_spelling bytes x.0 x.1
+varint_only : (bytes : List ℕ) (x : ℕ × ℕ) → AreBytes bytes → varint_at bytes ≡ Ok x → BeginsWith IsVarint varint_spelling bytes x.0 x.1
 unfolding varint_at
 varint_only [] x fits e = absurd cc
 varint_only (a ∷ bytes) x fits e =
@@ -106,7 +106,7 @@ varint_only (a ∷ bytes) x fits e =
           let read = rw (lt-ltb a 128 lt) at e in
           let same : made ≡ x = cc in
           let is = spelling_of_1 a lt in
-          subst (λ (y : ℕ × ℕ). Stands IsVarint varint_spelling (a ∷ bytes) y.0 y.1) same (record { value = omega arith; taken = rw is refl; spelled = rw is refl })
+          subst (λ (y : ℕ × ℕ). BeginsWith IsVarint varint_spelling (a ∷ bytes) y.0 y.1) same (record { value = omega arith; taken = rw is refl; spelled = rw is refl })
       | inr le ↦
           let byte : a < 256 = fits 0 in
           let first : 128 + (a - 128) ≡ a = omega arith in

@@ -6,7 +6,7 @@ use Rattle.std.specs.Str.{IsUtf8}
 use Rattle.mq_wire.specs.declared.fault.Reason.{Reason}
 use Rattle.mq_wire.specs.declared.fault.Reason.TheVariants.{Short, Overlong, NotUtf8, Nul}
 use Rattle.mq_wire.specs.FieldTypes.{FieldType, one_byte, two_byte_integer, four_byte_integer, variable_byte_integer, utf8_string, string_pair, binary_data}
-use Rattle.mq_wire.specs.Spellings.{AreBytes, IsByte, byte_spelling, IsTwoBytes, two_bytes_spelling, IsFourBytes, four_bytes_spelling, IsVarint, varint_spelling, IsBinary, binary_spelling, IsText, text_spelling, has_nul, Stands}
+use Rattle.mq_wire.specs.Spellings.{AreBytes, IsByte, byte_spelling, IsTwoBytes, two_bytes_spelling, IsFourBytes, four_bytes_spelling, IsVarint, varint_spelling, IsBinary, binary_spelling, IsText, text_spelling, has_nul, BeginsWith}
 
 -- The bytes end before a field of the type does: with more bytes after them they would be a spelling.
 pub record IsCutShort {X : Type 0} (IsValue : X → Type 0) (spelling : X → List ℕ) (bytes : List ℕ) : Type 0 where
@@ -17,8 +17,8 @@ pub record IsCutShort {X : Type 0} (IsValue : X → Type 0) (spelling : X → Li
   pub whole : spelling value ≡ bytes ++ missing
 
 -- The bytes don't begin with a value of the type.
-abbrev pub NoneStands : {X : Type 0} → (X → Type 0) → (X → List ℕ) → List ℕ → Type 0
-NoneStands {X} IsValue spelling bytes = (x : X) (n : ℕ) → ¬ Stands IsValue spelling bytes x n
+abbrev pub BeginsWithNone : {X : Type 0} → (X → Type 0) → (X → List ℕ) → List ℕ → Type 0
+BeginsWithNone {X} IsValue spelling bytes = (x : X) (n : ℕ) → ¬ BeginsWith IsValue spelling bytes x n
 
 -- Each of the bytes has bit 7 set, which says that another byte follows (1.5.5).
 abbrev pub AllContinue : List ℕ → Type 0
@@ -51,11 +51,11 @@ MisspelledNumber bytes Nul = ⊥
 
 -- A length, and that many bytes, which aren't UTF-8.
 abbrev pub IsNotUtf8 : List ℕ → Type 0
-IsNotUtf8 bytes = (value : List ℕ) × (taken : ℕ) × Stands IsBinary binary_spelling bytes value taken × (¬ IsUtf8 value)
+IsNotUtf8 bytes = (value : List ℕ) × (taken : ℕ) × BeginsWith IsBinary binary_spelling bytes value taken × (¬ IsUtf8 value)
 
 -- A length, and that many bytes, which are UTF-8 and contain U+0000.
 abbrev pub HasNul : List ℕ → Type 0
-HasNul bytes = (value : List ℕ) × (taken : ℕ) × Stands IsBinary binary_spelling bytes value taken × IsUtf8 value × (has_nul value ≡ true)
+HasNul bytes = (value : List ℕ) × (taken : ℕ) × BeginsWith IsBinary binary_spelling bytes value taken × IsUtf8 value × (has_nul value ≡ true)
 
 -- Why the bytes don't begin with a UTF-8 Encoded String (1.5.4): they end before it does; or it isn't UTF-8; or it has U+0000.
 abbrev pub MisspelledString : List ℕ → Reason → Type 0
@@ -68,7 +68,7 @@ MisspelledString bytes Overlong = ⊥
 abbrev pub MisspelledPair : List ℕ → Reason → Type 0
 MisspelledPair bytes reason =
     MisspelledString bytes reason
-    ⊎ ((name : List ℕ) × (taken : ℕ) × Stands IsText text_spelling bytes name taken × MisspelledString (drop taken bytes) reason)
+    ⊎ ((name : List ℕ) × (taken : ℕ) × BeginsWith IsText text_spelling bytes name taken × MisspelledString (drop taken bytes) reason)
 
 -- The bytes don't begin with a value of the type, for this reason. A byte, a Two or a Four Byte Integer (1.5.2, 1.5.3) and Binary
 -- Data (1.5.6) are misspelled only if the bytes end before they do.

@@ -87,7 +87,7 @@ abbrev pub pair_spelling : List ℕ × List ℕ → List ℕ
 pair_spelling pair = text_spelling pair.0 ++ text_spelling pair.1
 
 -- The first n of the bytes are the spelling of a value.
-pub record Stands {X : Type 0} (IsValue : X → Type 0) (spelling : X → List ℕ) (bytes : List ℕ) (x : X) (n : ℕ) : Type 0 where
+pub record BeginsWith {X : Type 0} (IsValue : X → Type 0) (spelling : X → List ℕ) (bytes : List ℕ) (x : X) (n : ℕ) : Type 0 where
   pub value : IsValue x
   pub taken : n ≡ length (spelling x)
   pub spelled : bytes ≡ spelling x ++ drop n bytes
@@ -95,7 +95,7 @@ pub record Stands {X : Type 0} (IsValue : X → Type 0) (spelling : X → List �
 -- A reading accepts exactly the spellings of a kind of field, and takes exactly them.
 pub record IsExact {X : Type 0} (read : List ℕ → Result (X × ℕ) Reason) (IsValue : X → Type 0) (spelling : X → List ℕ) : Type 0 where
   -- what is read is what the bytes spell
-  pub only : (bytes : List ℕ) (x : X) (n : ℕ) → AreBytes bytes → read bytes ≡ Ok (x, n) → Stands IsValue spelling bytes x n
+  pub only : (bytes : List ℕ) (x : X) (n : ℕ) → AreBytes bytes → read bytes ≡ Ok (x, n) → BeginsWith IsValue spelling bytes x n
   -- a spelling is read, whatever follows it
   pub all : (x : X) (rest : List ℕ) → IsValue x → read (spelling x ++ rest) ≡ Ok (x, length (spelling x))
 

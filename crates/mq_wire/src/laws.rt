@@ -4,7 +4,7 @@ ghost use Rattle.std.specs.Prelude.{◌≡◌, ◌↔◌, ℕ, List};
 ghost use Rattle.mq_wire.specs.declared.fault.Reason.{Reason};
 ghost use Rattle.mq_wire.specs.Fields.{byte_at, two_bytes_at, four_bytes_at, varint_at, text_at, binary_at, pair_at};
 ghost use Rattle.mq_wire.specs.FieldTypes.{FieldType, one_byte, two_byte_integer, four_byte_integer, variable_byte_integer, utf8_string, string_pair, binary_data, IsFieldValue, field_spelling};
-ghost use Rattle.mq_wire.specs.Misspelled.{NoneStands, Misspelled, RefusesMisspelled};
+ghost use Rattle.mq_wire.specs.Misspelled.{BeginsWithNone, Misspelled, RefusesMisspelled};
 ghost use Rattle.mq_wire.specs.Spellings.{AreBytes, IsExact, IsByte, byte_spelling, IsTwoBytes, two_bytes_spelling, IsFourBytes, four_bytes_spelling, IsVarint, varint_spelling, IsBinary, binary_spelling, IsText, text_spelling, IsPair, pair_spelling};
 
 /// A byte: exactly its spellings are read.
@@ -99,7 +99,7 @@ pub fn pair_is_refused()
 /// (MQTT 5.0, 1.5).
 pub fn misspelled_is_unspelled()
     ensures none { (type : FieldType) (bytes : List ℕ) → AreBytes bytes
-        → ((reason : Reason) × Misspelled type bytes reason) ↔ NoneStands (IsFieldValue type) (field_spelling type) bytes }
+        → ((reason : Reason) × Misspelled type bytes reason) ↔ BeginsWithNone (IsFieldValue type) (field_spelling type) bytes }
     ensures once { (type : FieldType) (bytes : List ℕ) (reason other : Reason) → AreBytes bytes
         → Misspelled type bytes reason → Misspelled type bytes other → reason ≡ other }
 {}

@@ -8,7 +8,7 @@ ghost use Rattle.mq_packet.specs.declared.packet.Packet.TheVariants as packets;
 ghost use Rattle.mq_packet.specs.Elements.{filter_view};
 ghost use Rattle.mq_packet.specs.Reading.{view, connect_view, publish_view, will_view};
 ghost use Rattle.mq_judge.specs.Details.{detail_text, item_details, packet_words, connect_words, publish_words, will_words, user_words, password_words, property_words, filter_words, option_words, code_words};
-ghost use Rattle.mq_judge.specs.ItemText.{behind_spaces};
+ghost use Rattle.mq_judge.specs.ItemText.{with_spaces};
 ghost use Rattle.mq_judge.specs.Outgoing.{Puts};
 ghost use Rattle.mq_trace.specs.Reception.{event_of, item_of};
 
@@ -39,7 +39,7 @@ pub fn put_details<W: Write>(out: &mut Outgoing<'_, W>, event: &Event<'_>)
 
 // Appends the details of what was sent or received.
 fn put_item_details<W: Write>(out: &mut Outgoing<'_, W>, item: &Item<'_>)
-    ensures { Puts W.contents out.old (behind_spaces (item_details (item_of item.now))) out.new }
+    ensures { Puts W.contents out.old (with_spaces (item_details (item_of item.now))) out.new }
 {
     match item {
         Item::Packet(packet) => put_packet_details(out, packet),
@@ -49,7 +49,7 @@ fn put_item_details<W: Write>(out: &mut Outgoing<'_, W>, item: &Item<'_>)
 
 // Appends the details of a packet.
 fn put_packet_details<W: Write>(out: &mut Outgoing<'_, W>, packet: &Packet<'_>)
-    ensures { Puts W.contents out.old (behind_spaces (packet_words (view packet.now))) out.new }
+    ensures { Puts W.contents out.old (with_spaces (packet_words (view packet.now))) out.new }
 {
     match packet {
         Packet::Connect(connect) => put_connect(out, connect),
@@ -72,7 +72,7 @@ fn put_packet_details<W: Write>(out: &mut Outgoing<'_, W>, packet: &Packet<'_>)
 
 // Appends the details of a CONNECT (MQTT 5.0, section 3.1).
 fn put_connect<W: Write>(out: &mut Outgoing<'_, W>, connect: &Connect<'_>)
-    ensures { Puts W.contents out.old (behind_spaces (connect_words (connect_view connect.now))) out.new }
+    ensures { Puts W.contents out.old (with_spaces (connect_words (connect_view connect.now))) out.new }
 {
     put_all(
         out,
@@ -99,7 +99,7 @@ fn put_connect<W: Write>(out: &mut Outgoing<'_, W>, connect: &Connect<'_>)
 
 // Appends the details of a Will, if there is one (MQTT 5.0, section 3.1.2.5).
 fn put_will<W: Write>(out: &mut Outgoing<'_, W>, will: &Option<Will<'_>>)
-    ensures { Puts W.contents out.old (behind_spaces (will_words (option_map will_view will.now))) out.new }
+    ensures { Puts W.contents out.old (with_spaces (will_words (option_map will_view will.now))) out.new }
 {
     match will {
         Some(will) => {
@@ -132,7 +132,7 @@ fn put_will<W: Write>(out: &mut Outgoing<'_, W>, will: &Option<Will<'_>>)
 
 // Appends a User Name, if there is one (MQTT 5.0, section 3.1.3.5).
 fn put_user_name<W: Write>(out: &mut Outgoing<'_, W>, user_name: Option<&str>)
-    ensures { Puts W.contents out.old (behind_spaces (user_words (option_map (λ text. text.now) user_name.entry))) out.new }
+    ensures { Puts W.contents out.old (with_spaces (user_words (option_map (λ text. text.now) user_name.entry))) out.new }
 {
     match user_name {
         Some(user_name) => put_detail(
@@ -149,7 +149,7 @@ fn put_user_name<W: Write>(out: &mut Outgoing<'_, W>, user_name: Option<&str>)
 
 // Appends a Password's length, if there is one (MQTT 5.0, section 3.1.3.6).
 fn put_password<W: Write>(out: &mut Outgoing<'_, W>, password: Option<&[u8]>)
-    ensures { Puts W.contents out.old (behind_spaces (password_words (option_map (λ bytes. bytes.now) password.entry))) out.new }
+    ensures { Puts W.contents out.old (with_spaces (password_words (option_map (λ bytes. bytes.now) password.entry))) out.new }
 {
     match password {
         Some(password) => put_detail(
@@ -166,7 +166,7 @@ fn put_password<W: Write>(out: &mut Outgoing<'_, W>, password: Option<&[u8]>)
 
 // Appends the details of a CONNACK (MQTT 5.0, section 3.2).
 fn put_connack<W: Write>(out: &mut Outgoing<'_, W>, connack: &Connack<'_>)
-    ensures { Puts W.contents out.old (behind_spaces (packet_words (view (packets.Connack connack.now)))) out.new }
+    ensures { Puts W.contents out.old (with_spaces (packet_words (view (packets.Connack connack.now)))) out.new }
 {
     put_all(
         out,
@@ -186,7 +186,7 @@ fn put_connack<W: Write>(out: &mut Outgoing<'_, W>, connack: &Connack<'_>)
 
 // Appends the details of a PUBLISH (MQTT 5.0, section 3.3).
 fn put_publish<W: Write>(out: &mut Outgoing<'_, W>, publish: &Publish<'_>)
-    ensures { Puts W.contents out.old (behind_spaces (publish_words (publish_view publish.now))) out.new }
+    ensures { Puts W.contents out.old (with_spaces (publish_words (publish_view publish.now))) out.new }
 {
     put_all(
         out,
@@ -210,7 +210,7 @@ fn put_publish<W: Write>(out: &mut Outgoing<'_, W>, publish: &Publish<'_>)
 
 // Appends a Reason Code and properties (MQTT 5.0, sections 3.4 to 3.7, 3.14 and 3.15).
 fn put_reason<W: Write>(out: &mut Outgoing<'_, W>, code: u8, properties: &Props<'_>)
-    ensures { Puts W.contents out.old (behind_spaces (code_words code ++ property_words properties.now)) out.new }
+    ensures { Puts W.contents out.old (with_spaces (code_words code ++ property_words properties.now)) out.new }
 {
     put_code(out, code);
     put_properties(out, "", properties);
@@ -218,7 +218,7 @@ fn put_reason<W: Write>(out: &mut Outgoing<'_, W>, code: u8, properties: &Props<
 
 // Appends the details of a SUBSCRIBE or UNSUBSCRIBE (MQTT 5.0, sections 3.8 and 3.10).
 fn put_request<W: Write>(out: &mut Outgoing<'_, W>, request: &Request<'_>)
-    ensures { Puts W.contents out.old (behind_spaces (property_words request.now.properties ++ flat_map filter_words request.now.filters)) out.new }
+    ensures { Puts W.contents out.old (with_spaces (property_words request.now.properties ++ flat_map filter_words request.now.filters)) out.new }
 {
     put_properties(out, "", &request.properties);
     put_filters(out, &request.filters);
@@ -226,7 +226,7 @@ fn put_request<W: Write>(out: &mut Outgoing<'_, W>, request: &Request<'_>)
 
 // Appends filters, in their order.
 fn put_filters<W: Write>(out: &mut Outgoing<'_, W>, filters: &Filters<'_>)
-    ensures { Puts W.contents out.old (behind_spaces (flat_map filter_words filters.now)) out.new }
+    ensures { Puts W.contents out.old (with_spaces (flat_map filter_words filters.now)) out.new }
 {
     for filter in filters.iter() {
         put_filter(out, filter);
@@ -235,7 +235,7 @@ fn put_filters<W: Write>(out: &mut Outgoing<'_, W>, filters: &Filters<'_>)
 
 // Appends a filter, and its Subscription Options if it has them (MQTT 5.0, section 3.8.3.1).
 fn put_filter<W: Write>(out: &mut Outgoing<'_, W>, filter: Filter<'_>)
-    ensures { Puts W.contents out.old (behind_spaces (filter_words (filter_view filter.entry))) out.new }
+    ensures { Puts W.contents out.old (with_spaces (filter_words (filter_view filter.entry))) out.new }
 {
     put_detail(
         out,
@@ -250,7 +250,7 @@ fn put_filter<W: Write>(out: &mut Outgoing<'_, W>, filter: Filter<'_>)
 
 // Appends Subscription Options, if there are any.
 fn put_options<W: Write>(out: &mut Outgoing<'_, W>, options: Option<u8>)
-    ensures { Puts W.contents out.old (behind_spaces (option_words options)) out.new }
+    ensures { Puts W.contents out.old (with_spaces (option_words options)) out.new }
 {
     match options {
         Some(options) => put_all(
@@ -280,7 +280,7 @@ fn put_options<W: Write>(out: &mut Outgoing<'_, W>, options: Option<u8>)
 
 // Appends the details of a SUBACK or UNSUBACK (MQTT 5.0, sections 3.9 and 3.11).
 fn put_answer<W: Write>(out: &mut Outgoing<'_, W>, answer: &Answer<'_>)
-    ensures { Puts W.contents out.old (behind_spaces (property_words answer.now.properties ++ flat_map code_words answer.now.codes)) out.new }
+    ensures { Puts W.contents out.old (with_spaces (property_words answer.now.properties ++ flat_map code_words answer.now.codes)) out.new }
 {
     put_properties(out, "", &answer.properties);
     put_codes(out, &answer.codes);
@@ -288,7 +288,7 @@ fn put_answer<W: Write>(out: &mut Outgoing<'_, W>, answer: &Answer<'_>)
 
 // Appends Reason Codes, in their order.
 fn put_codes<W: Write>(out: &mut Outgoing<'_, W>, codes: &Codes<'_>)
-    ensures { Puts W.contents out.old (behind_spaces (flat_map code_words codes.now)) out.new }
+    ensures { Puts W.contents out.old (with_spaces (flat_map code_words codes.now)) out.new }
 {
     let bytes = codes.as_bytes();
     for code in bytes {
@@ -298,7 +298,7 @@ fn put_codes<W: Write>(out: &mut Outgoing<'_, W>, codes: &Codes<'_>)
 
 // Appends a Reason Code (MQTT 5.0, section 2.4).
 fn put_code<W: Write>(out: &mut Outgoing<'_, W>, code: u8)
-    ensures { Puts W.contents out.old (behind_spaces (code_words code)) out.new }
+    ensures { Puts W.contents out.old (with_spaces (code_words code)) out.new }
 {
     put_detail(
         out,

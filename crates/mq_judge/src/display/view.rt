@@ -3,7 +3,7 @@ ghost use Rattle.std.specs.Prelude.{◌≡◌, ◌+◌, ◌<◌, ◌≤◌, ◌�
 ghost use Rattle.mq_packet.specs.Sizes.{size_with, remaining_length};
 ghost use Rattle.mq_judge.specs.Outgoing.{Carries, Puts};
 ghost use Rattle.mq_judge.specs.Display.{direction_word, event_line, event_text, event_words, long_line, packet_line};
-ghost use Rattle.mq_judge.specs.Views.{StandsAfter, text_by};
+ghost use Rattle.mq_judge.specs.Views.{IsStateAfter, text_by};
 ghost use Rattle.mq_trace.specs.Events.{Placed};
 ghost use Rattle.mq_trace.specs.Reception.{event_of, packet_event_at, placed_at};
 
@@ -35,8 +35,8 @@ impl View<'_> {
     pub fn put<W: Write>(&mut self, out: &mut Outgoing<'_, W>, place: Place3, event: &Event<'_>)
         ensures text { text_by self.new ≡ text_by self.old }
         ensures writer { out.new.writer.ghost_name ≡ out.old.writer.ghost_name }
-        ensures stands { (earlier : List Placed) → StandsAfter earlier self.old → StandsAfter (placed_at place event.now ∷ earlier) self.new }
-        ensures puts { (held : Option (List ℕ)) (earlier : List Placed) → StandsAfter earlier self.old → Carries W.contents held (text_by self.old earlier) out.old
+        ensures stands { (earlier : List Placed) → IsStateAfter earlier self.old → IsStateAfter (placed_at place event.now ∷ earlier) self.new }
+        ensures puts { (held : Option (List ℕ)) (earlier : List Placed) → IsStateAfter earlier self.old → Carries W.contents held (text_by self.old earlier) out.old
             → Carries W.contents held (text_by self.old (placed_at place event.now ∷ earlier)) out.new }
     {
         match self {
@@ -60,8 +60,8 @@ impl View<'_> {
         requires { size ≡ unwrap_or (size_with (remaining_length packet)) 0 }
         ensures text { text_by self.new ≡ text_by self.old }
         ensures writer { out.new.writer.ghost_name ≡ out.old.writer.ghost_name }
-        ensures stands { (earlier : List Placed) → StandsAfter earlier self.old → StandsAfter (packet_event_at place direction packet.entry ∷ earlier) self.new }
-        ensures puts { (held : Option (List ℕ)) (earlier : List Placed) → StandsAfter earlier self.old → Carries W.contents held (text_by self.old earlier) out.old
+        ensures stands { (earlier : List Placed) → IsStateAfter earlier self.old → IsStateAfter (packet_event_at place direction packet.entry ∷ earlier) self.new }
+        ensures puts { (held : Option (List ℕ)) (earlier : List Placed) → IsStateAfter earlier self.old → Carries W.contents held (text_by self.old earlier) out.old
             → Carries W.contents held (text_by self.old (packet_event_at place direction packet.entry ∷ earlier)) out.new }
     {
         match self {
@@ -81,8 +81,8 @@ impl View<'_> {
     )
         ensures text { text_by self.new ≡ text_by self.old }
         ensures writer { out.new.writer.ghost_name ≡ out.old.writer.ghost_name }
-        ensures stands { (earlier : List Placed) → StandsAfter earlier self.old → StandsAfter (packet_event_at place direction packet.entry ∷ earlier) self.new }
-        ensures puts { (held : Option (List ℕ)) (earlier : List Placed) → StandsAfter earlier self.old → Carries W.contents held (text_by self.old earlier) out.old
+        ensures stands { (earlier : List Placed) → IsStateAfter earlier self.old → IsStateAfter (packet_event_at place direction packet.entry ∷ earlier) self.new }
+        ensures puts { (held : Option (List ℕ)) (earlier : List Placed) → IsStateAfter earlier self.old → Carries W.contents held (text_by self.old earlier) out.old
             → Carries W.contents held (text_by self.old (packet_event_at place direction packet.entry ∷ earlier)) out.new }
     {
         let item = Item::Packet(packet);

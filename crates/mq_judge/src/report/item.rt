@@ -2,7 +2,7 @@
 ghost use Rattle.std.specs.Prelude.{◌≡◌, ◌<◌, ◌≤◌, ◌+◌, ◌++◌, Some, IfErr, OnOk, length};
 ghost use Rattle.mq_trace.specs.Reception.{item_of};
 ghost use Rattle.mq_rules.specs.Notes.{qos_number};
-ghost use Rattle.mq_judge.specs.ItemText.{type_name, identifier_of, qos_and_dup, flag_number, delivery_words, identifier_words, behind_spaces, packet_rule_code, packet_text, broken_text, item_text};
+ghost use Rattle.mq_judge.specs.ItemText.{type_name, identifier_of, qos_and_dup, flag_number, delivery_words, identifier_words, with_spaces, packet_rule_code, packet_text, broken_text, item_text};
 
 use super::super::lines::Lines;
 use super::summary::PacketSummary;
@@ -77,8 +77,8 @@ fn rule_code(rule: PacketRule) -> &'static str
 
 // Appends the words on a PUBLISH's delivery, if it is one, each after a space.
 fn put_delivery(lines: &mut Lines, delivery: Option<(u8, u8)>) -> fmt::Result
-    ensures puts { OnOk result (lines.new ≡ lines.old ++ behind_spaces (delivery_words delivery)) }
-    ensures short { OnOk result (length (behind_spaces (delivery_words delivery)) ≤ 30) }
+    ensures puts { OnOk result (lines.new ≡ lines.old ++ with_spaces (delivery_words delivery)) }
+    ensures short { OnOk result (length (with_spaces (delivery_words delivery)) ≤ 30) }
     ensures full { IfErr result (λ _. 8192 < length lines.old + 30) }
 {
     match delivery {
@@ -94,8 +94,8 @@ fn put_delivery(lines: &mut Lines, delivery: Option<(u8, u8)>) -> fmt::Result
 
 // Appends the words on a Packet Identifier, if there is one, each after a space.
 fn put_identifier(lines: &mut Lines, identifier: Option<u16>) -> fmt::Result
-    ensures puts { OnOk result (lines.new ≡ lines.old ++ behind_spaces (identifier_words identifier)) }
-    ensures short { OnOk result (length (behind_spaces (identifier_words identifier)) ≤ 14) }
+    ensures puts { OnOk result (lines.new ≡ lines.old ++ with_spaces (identifier_words identifier)) }
+    ensures short { OnOk result (length (with_spaces (identifier_words identifier)) ≤ 14) }
     ensures full { IfErr result (λ _. 8192 < length lines.old + 14) }
 {
     match identifier {

@@ -39,12 +39,12 @@ pub fn read_acknowledgement<'a>(
         });
     }
     let code = reason_code(&mut cursor, kind.codes())?;
-    read_behind_code(cursor, kind, identifier, code, size)
+    read_after_code(cursor, kind, identifier, code, size)
 }
 
 // The acknowledgement with this identifier and code, whose properties, if there are any, are left.
 #[inline(always)]
-fn read_behind_code<'a>(
+fn read_after_code<'a>(
     cursor: Cursor<'a>,
     kind: AcknowledgementKind,
     identifier: u16,

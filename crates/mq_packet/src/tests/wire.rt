@@ -41,7 +41,7 @@ fn reads_and_writes_varints(rt: HostRuntime) -> Result<(), Fail> {
     for (number, bytes) in VARINTS {
         let mut cursor = Cursor::new(bytes);
         assert!(rt; cursor.varint() == Ok(number), "reading {number}");
-        assert!(rt; cursor.is_empty(), "behind {number}");
+        assert!(rt; cursor.is_empty(), "after {number}");
         let mut out = Vec::new(rt.alloc());
         assert!(rt; put_varint(&mut out, number).is_ok(), "writing {number}");
         assert_eq!(rt; out.as_slice(), bytes, "writing {number}");

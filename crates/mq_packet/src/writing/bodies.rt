@@ -21,7 +21,7 @@ use crate::protocol::{PROTOCOL_NAME, PROTOCOL_VERSION};
 use mq_wire::PutFault;
 
 // The variable header of a CONNECT (MQTT 5.0, section 3.1.2).
-#[tactic(auto, using(crate::proofs::GrowingLaws::lacks_first, crate::proofs::GrowingLaws::lacks_behind, crate::proofs::GrowingLaws::lacks_byte, crate::proofs::GrowingLaws::lacks_behind_byte))]
+#[tactic(auto, using(crate::proofs::GrowingLaws::lacks_first, crate::proofs::GrowingLaws::lacks_after, crate::proofs::GrowingLaws::lacks_byte, crate::proofs::GrowingLaws::lacks_after_byte))]
 fn put_connect_header(out: &mut Vec<u8>, packet: &Connect<'_>) -> Result<(), PutFault>
     ensures ok { OnOk result (out.new.items ≡ out.old.items ++ (text_spelling (codes "MQTT") ++ (5 ∷ (bit 2 packet.now.clean_start + will_flags (option_map will_view packet.now.will) + bit 64 (is_some (option_map (λ b. b.now) packet.now.password)) + bit 128 (is_some (option_map (λ t. t.now) packet.now.user_name))) ∷ (two_bytes_spelling packet.now.keep_alive ++ list_spelling packet.now.properties.items)))) }
     ensures capacity { vec_capacity out.old ≤ vec_capacity out.new }
@@ -35,7 +35,7 @@ fn put_connect_header(out: &mut Vec<u8>, packet: &Connect<'_>) -> Result<(), Put
 }
 
 // The payload of a CONNECT (MQTT 5.0, section 3.1.3).
-#[tactic(auto, using(crate::proofs::GrowingLaws::lacks_first, crate::proofs::GrowingLaws::lacks_behind, crate::proofs::GrowingLaws::lacks_byte, crate::proofs::GrowingLaws::lacks_behind_byte))]
+#[tactic(auto, using(crate::proofs::GrowingLaws::lacks_first, crate::proofs::GrowingLaws::lacks_after, crate::proofs::GrowingLaws::lacks_byte, crate::proofs::GrowingLaws::lacks_after_byte))]
 fn put_connect_payload(out: &mut Vec<u8>, packet: &Connect<'_>) -> Result<(), PutFault>
     requires client_identifier { is_text packet.now.client_identifier.now ≡ true }
     requires will { if_there valid_will (option_map will_view packet.now.will) ≡ true }
@@ -51,7 +51,7 @@ fn put_connect_payload(out: &mut Vec<u8>, packet: &Connect<'_>) -> Result<(), Pu
     put_binary_if_there(out, packet.password)
 }
 
-#[tactic(auto, using(crate::proofs::GrowingLaws::lacks_first, crate::proofs::GrowingLaws::lacks_behind, crate::proofs::GrowingLaws::lacks_byte, crate::proofs::GrowingLaws::lacks_behind_byte), unfolding(crate::specs::Canonical::connect_body))]
+#[tactic(auto, using(crate::proofs::GrowingLaws::lacks_first, crate::proofs::GrowingLaws::lacks_after, crate::proofs::GrowingLaws::lacks_byte, crate::proofs::GrowingLaws::lacks_after_byte), unfolding(crate::specs::Canonical::connect_body))]
 fn put_connect(out: &mut Vec<u8>, packet: &Connect<'_>) -> Result<(), PutFault>
     requires { valid (view (Packet.Connect packet.now)) ≡ true }
     ensures ok { OnOk result (out.new.items ≡ out.old.items ++ canonical_body (view (Packet.Connect packet.now))) }
@@ -62,7 +62,7 @@ fn put_connect(out: &mut Vec<u8>, packet: &Connect<'_>) -> Result<(), PutFault>
     put_connect_payload(out, packet)
 }
 
-#[tactic(auto, using(crate::proofs::GrowingLaws::lacks_first, crate::proofs::GrowingLaws::lacks_behind, crate::proofs::GrowingLaws::lacks_byte, crate::proofs::GrowingLaws::lacks_behind_byte), unfolding(crate::specs::Canonical::connack_body))]
+#[tactic(auto, using(crate::proofs::GrowingLaws::lacks_first, crate::proofs::GrowingLaws::lacks_after, crate::proofs::GrowingLaws::lacks_byte, crate::proofs::GrowingLaws::lacks_after_byte), unfolding(crate::specs::Canonical::connack_body))]
 fn put_connack(out: &mut Vec<u8>, packet: &Connack<'_>) -> Result<(), PutFault>
     ensures ok { OnOk result (out.new.items ≡ out.old.items ++ canonical_body (view (Packet.Connack packet.now))) }
     ensures capacity { vec_capacity out.old ≤ vec_capacity out.new }
@@ -73,7 +73,7 @@ fn put_connack(out: &mut Vec<u8>, packet: &Connack<'_>) -> Result<(), PutFault>
     put_list(out, &packet.properties)
 }
 
-#[tactic(auto, using(crate::proofs::GrowingLaws::lacks_first, crate::proofs::GrowingLaws::lacks_behind, crate::proofs::GrowingLaws::lacks_byte, crate::proofs::GrowingLaws::lacks_behind_byte), unfolding(crate::specs::Canonical::publish_body))]
+#[tactic(auto, using(crate::proofs::GrowingLaws::lacks_first, crate::proofs::GrowingLaws::lacks_after, crate::proofs::GrowingLaws::lacks_byte, crate::proofs::GrowingLaws::lacks_after_byte), unfolding(crate::specs::Canonical::publish_body))]
 fn put_publish(out: &mut Vec<u8>, packet: &Publish<'_>) -> Result<(), PutFault>
     requires { valid (view (Packet.Publish packet.now)) ≡ true }
     ensures ok { OnOk result (out.new.items ≡ out.old.items ++ canonical_body (view (Packet.Publish packet.now))) }
@@ -86,7 +86,7 @@ fn put_publish(out: &mut Vec<u8>, packet: &Publish<'_>) -> Result<(), PutFault>
     put_bytes(out, packet.payload)
 }
 
-#[tactic(auto, using(crate::proofs::GrowingLaws::lacks_first, crate::proofs::GrowingLaws::lacks_behind, crate::proofs::GrowingLaws::lacks_byte, crate::proofs::GrowingLaws::lacks_behind_byte), unfolding(crate::specs::Canonical::acknowledgement_body))]
+#[tactic(auto, using(crate::proofs::GrowingLaws::lacks_first, crate::proofs::GrowingLaws::lacks_after, crate::proofs::GrowingLaws::lacks_byte, crate::proofs::GrowingLaws::lacks_after_byte), unfolding(crate::specs::Canonical::acknowledgement_body))]
 fn put_acknowledgement(out: &mut Vec<u8>, packet: &Acknowledgement<'_>) -> Result<(), PutFault>
     ensures ok { OnOk result (out.new.items ≡ out.old.items ++ acknowledgement_body packet.now.identifier packet.now.code packet.now.properties.items) }
     ensures capacity { vec_capacity out.old ≤ vec_capacity out.new }
@@ -96,7 +96,7 @@ fn put_acknowledgement(out: &mut Vec<u8>, packet: &Acknowledgement<'_>) -> Resul
     put_reason(out, packet.code, &packet.properties)
 }
 
-#[tactic(auto, using(crate::proofs::GrowingLaws::lacks_first, crate::proofs::GrowingLaws::lacks_behind, crate::proofs::GrowingLaws::lacks_byte, crate::proofs::GrowingLaws::lacks_behind_byte), unfolding(crate::specs::Canonical::request_body))]
+#[tactic(auto, using(crate::proofs::GrowingLaws::lacks_first, crate::proofs::GrowingLaws::lacks_after, crate::proofs::GrowingLaws::lacks_byte, crate::proofs::GrowingLaws::lacks_after_byte), unfolding(crate::specs::Canonical::request_body))]
 fn put_request(out: &mut Vec<u8>, packet: &Request<'_>) -> Result<(), PutFault>
     ensures ok { OnOk result (out.new.items ≡ out.old.items ++ request_body packet.now.identifier packet.now.properties.items packet.now.filters) }
     ensures capacity { vec_capacity out.old ≤ vec_capacity out.new }
@@ -107,7 +107,7 @@ fn put_request(out: &mut Vec<u8>, packet: &Request<'_>) -> Result<(), PutFault>
     put_bytes(out, packet.filters.as_bytes())
 }
 
-#[tactic(auto, using(crate::proofs::GrowingLaws::lacks_first, crate::proofs::GrowingLaws::lacks_behind, crate::proofs::GrowingLaws::lacks_byte, crate::proofs::GrowingLaws::lacks_behind_byte), unfolding(crate::specs::Canonical::answer_body))]
+#[tactic(auto, using(crate::proofs::GrowingLaws::lacks_first, crate::proofs::GrowingLaws::lacks_after, crate::proofs::GrowingLaws::lacks_byte, crate::proofs::GrowingLaws::lacks_after_byte), unfolding(crate::specs::Canonical::answer_body))]
 fn put_answer(out: &mut Vec<u8>, packet: &Answer<'_>) -> Result<(), PutFault>
     ensures ok { OnOk result (out.new.items ≡ out.old.items ++ answer_body packet.now.identifier packet.now.properties.items packet.now.codes) }
     ensures capacity { vec_capacity out.old ≤ vec_capacity out.new }
@@ -127,7 +127,7 @@ fn put_disconnect(out: &mut Vec<u8>, packet: &ReasonPacket<'_>) -> Result<(), Pu
     put_reason(out, packet.code, &packet.properties)
 }
 
-#[tactic(auto, using(crate::proofs::GrowingLaws::lacks_first, crate::proofs::GrowingLaws::lacks_behind, crate::proofs::GrowingLaws::lacks_byte, crate::proofs::GrowingLaws::lacks_behind_byte))]
+#[tactic(auto, using(crate::proofs::GrowingLaws::lacks_first, crate::proofs::GrowingLaws::lacks_after, crate::proofs::GrowingLaws::lacks_byte, crate::proofs::GrowingLaws::lacks_after_byte))]
 fn put_auth(out: &mut Vec<u8>, packet: &ReasonPacket<'_>) -> Result<(), PutFault>
     ensures ok { OnOk result (out.new.items ≡ out.old.items ++ canonical_body (view (Packet.Auth packet.now))) }
     ensures capacity { vec_capacity out.old ≤ vec_capacity out.new }

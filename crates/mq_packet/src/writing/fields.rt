@@ -15,7 +15,7 @@ use mq_props::Props;
 use mq_wire::PutFault;
 
 /// Appends a property list: its length in bytes, and its properties (MQTT 5.0, section 2.2.2).
-#[tactic(auto, using(crate::proofs::GrowingLaws::lacks_first, crate::proofs::GrowingLaws::lacks_behind, crate::proofs::GrowingLaws::lacks_byte, crate::proofs::GrowingLaws::lacks_behind_byte))]
+#[tactic(auto, using(crate::proofs::GrowingLaws::lacks_first, crate::proofs::GrowingLaws::lacks_after, crate::proofs::GrowingLaws::lacks_byte, crate::proofs::GrowingLaws::lacks_after_byte))]
 pub fn put_list(out: &mut Vec<u8>, list: &Props<'_>) -> Result<(), PutFault>
     ensures ok { OnOk result (out.new.items ≡ out.old.items ++ list_spelling list.now.items) }
     ensures capacity { vec_capacity out.old ≤ vec_capacity out.new }
@@ -39,7 +39,7 @@ fn put_code(out: &mut Vec<u8>, code: u8) -> Result<(), PutFault>
 }
 
 /// Appends the Reason Code and the property list.
-#[tactic(auto, using(crate::proofs::GrowingLaws::lacks_first, crate::proofs::GrowingLaws::lacks_behind, crate::proofs::GrowingLaws::lacks_byte, crate::proofs::GrowingLaws::lacks_behind_byte))]
+#[tactic(auto, using(crate::proofs::GrowingLaws::lacks_first, crate::proofs::GrowingLaws::lacks_after, crate::proofs::GrowingLaws::lacks_byte, crate::proofs::GrowingLaws::lacks_after_byte))]
 pub fn put_code_and_list(out: &mut Vec<u8>, code: u8, list: &Props<'_>) -> Result<(), PutFault>
     ensures ok { OnOk result (out.new.items ≡ out.old.items ++ (code ∷ list_spelling list.now.items)) }
     ensures capacity { vec_capacity out.old ≤ vec_capacity out.new }
@@ -101,7 +101,7 @@ pub fn put_binary_if_there(out: &mut Vec<u8>, bytes: Option<&[u8]>) -> Result<()
     }
 }
 
-#[tactic(auto, using(crate::proofs::GrowingLaws::lacks_first, crate::proofs::GrowingLaws::lacks_behind, crate::proofs::GrowingLaws::lacks_byte, crate::proofs::GrowingLaws::lacks_behind_byte))]
+#[tactic(auto, using(crate::proofs::GrowingLaws::lacks_first, crate::proofs::GrowingLaws::lacks_after, crate::proofs::GrowingLaws::lacks_byte, crate::proofs::GrowingLaws::lacks_after_byte))]
 fn put_will(out: &mut Vec<u8>, will: &Will<'_>) -> Result<(), PutFault>
     requires { valid_will (will_view will.now) ≡ true }
     ensures ok { OnOk result (out.new.items ≡ out.old.items ++ will_spelling (will_view will.now)) }

@@ -98,7 +98,7 @@ fn keeps_unfinished_packets_alone(rt: HostRuntime) -> Result<(), Fail> {
     ];
     for (piece, pending) in pieces {
         assert_eq!(rt; tracer.feed(piece, &mut emitted), Ok(()));
-        assert_eq!(rt; tracer.pending(), pending, "behind {piece:?}");
+        assert_eq!(rt; tracer.pending(), pending, "after {piece:?}");
     }
     assert_eq!(rt; tracer.finish(), Ok(()));
     assert_eq!(rt; emitted.count, 8);

@@ -18,5 +18,5 @@ pub fn records_are_read_back()
 pub fn headers_are_read_back()
     ensures server { (header : AnyHeader) (rest : List ℕ) → (slice_index (header_bytes header ++ rest) 5 == 1) ≡ header.server }
     ensures releases { (header : AnyHeader) (rest : List ℕ) → (slice_index (header_bytes header ++ rest) 6 == 1) ≡ header.releases }
-    ensures behind { (header : AnyHeader) (rest : List ℕ) → drop 8 (header_bytes header ++ rest) ≡ rest }
+    ensures after { (header : AnyHeader) (rest : List ℕ) → drop 8 (header_bytes header ++ rest) ≡ rest }
 {}

@@ -5,7 +5,7 @@ use Rattle.mq_trace.specs.declared.refusal.Refusal.{Refusal}
 use Rattle.mq_trace.proofs.Exports.{events-nothing}
 use Rattle.mq_judge.specs.Outgoing.{Carries}
 use Rattle.mq_judge.specs.declared.display.Display.{Display}
-use Rattle.mq_judge.specs.Views.{StandsAfter, text_by}
+use Rattle.mq_judge.specs.Views.{IsStateAfter, text_by}
 use Rattle.mq_judge.proofs.DisplayLaws.{shown-nothing, show-kept, show-unwritten, show-ended, show-refused}
 use Rattle.mq_judge.proofs.display.show_all.Given as given
 use Rattle.mq_judge.proofs.display.show_all.Goals as goal
@@ -15,7 +15,7 @@ abbrev Sink : given.Over → Type 0
 Sink g = Display g.row.W.Denot g.row.K.Denot
 
 abbrev agrees : (g : given.Over) → Sink g → List Placed → Type 0
-agrees g s received = (s.out.now.writer.ghost_name ≡ g.K.Given.name) × (text_by s.view ≡ g.K.Given.text) × StandsAfter received s.view
+agrees g s received = (s.out.now.writer.ghost_name ≡ g.K.Given.name) × (text_by s.view ≡ g.K.Given.text) × IsStateAfter received s.view
     × Carries g.W.Write.contents g.K.Given.held (g.K.Given.text received) s.out.now × (s.out.ghost_name ≡ g.K.Given.direction)
 
 abbrev refuses : (g : given.Over) → Sink g → List Placed → Refusal → Type 0
@@ -29,7 +29,7 @@ feed_all-fed-requires-clause-follows g c =
       (
         c.requires.name,
         c.requires.text,
-        subst (λ (received : List Placed). StandsAfter received s.view) (sym events-nothing) fresh.2,
+        subst (λ (received : List Placed). IsStateAfter received s.view) (sym events-nothing) fresh.2,
         shown-nothing s.out.now.failed _ _ _ _ fresh.0 c.requires.held (ap g.K.Given.text events-nothing ∙ c.requires.empty) fresh.1,
         c.requires.direction,
       ),

@@ -4,7 +4,7 @@
 ghost use Rattle.std.specs.Prelude.{◌∷◌, ◌++◌};
 ghost use Rattle.std.specs.List.{flat_map};
 ghost use Rattle.mq_judge.specs.Detailing.{detail_words, shown_words};
-ghost use Rattle.mq_judge.specs.ItemText.{behind_spaces};
+ghost use Rattle.mq_judge.specs.ItemText.{with_spaces};
 ghost use Rattle.mq_judge.specs.Outgoing.{Puts};
 
 use super::super::outgoing::Outgoing;
@@ -39,7 +39,7 @@ pub struct Detail<'a> {
 
 /// Appends details, one after another.
 pub fn put_all<W: Write>(out: &mut Outgoing<'_, W>, details: &[Detail<'_>])
-    ensures { Puts W.contents out.old (behind_spaces (flat_map detail_words details.now)) out.new }
+    ensures { Puts W.contents out.old (with_spaces (flat_map detail_words details.now)) out.new }
 {
     for detail in details {
         put_detail(out, "", detail);
@@ -48,7 +48,7 @@ pub fn put_all<W: Write>(out: &mut Outgoing<'_, W>, details: &[Detail<'_>])
 
 /// Appends a detail, each word with a space before it, and the prefix before its name.
 pub fn put_detail<W: Write>(out: &mut Outgoing<'_, W>, prefix: &str, detail: &Detail<'_>)
-    ensures { Puts W.contents out.old (behind_spaces ((prefix.now ++ detail.now.name.now) ∷ shown_words detail.now.value)) out.new }
+    ensures { Puts W.contents out.old (with_spaces ((prefix.now ++ detail.now.name.now) ∷ shown_words detail.now.value)) out.new }
 {
     out.put(" ");
     out.put(prefix);
@@ -58,7 +58,7 @@ pub fn put_detail<W: Write>(out: &mut Outgoing<'_, W>, prefix: &str, detail: &De
 
 // Appends the words of a value, each with a space before it.
 fn put_shown<W: Write>(out: &mut Outgoing<'_, W>, value: Shown<'_>)
-    ensures { Puts W.contents out.old (behind_spaces (shown_words value.entry)) out.new }
+    ensures { Puts W.contents out.old (with_spaces (shown_words value.entry)) out.new }
 {
     out.put(" ");
     match value {

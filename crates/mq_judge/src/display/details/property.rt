@@ -5,7 +5,7 @@ ghost use Rattle.std.specs.Prelude.{◌≡◌, ◌++◌};
 ghost use Rattle.mq_props.specs.Props.{prop_view};
 ghost use Rattle.mq_judge.specs.Detailing.{shown_words};
 ghost use Rattle.mq_judge.specs.Details.{with_prefix, properties_after, property_name, value_words};
-ghost use Rattle.mq_judge.specs.ItemText.{behind_spaces};
+ghost use Rattle.mq_judge.specs.ItemText.{with_spaces};
 ghost use Rattle.mq_judge.specs.Outgoing.{Puts};
 
 use super::super::outgoing::Outgoing;
@@ -15,7 +15,7 @@ use std::io::Write;
 
 /// Appends properties in their order, with the prefix before each name that doesn't begin with it.
 pub fn put_properties<W: Write>(out: &mut Outgoing<'_, W>, prefix: &str, properties: &Props<'_>)
-    ensures { Puts W.contents out.old (behind_spaces (properties_after prefix.now properties.now)) out.new }
+    ensures { Puts W.contents out.old (with_spaces (properties_after prefix.now properties.now)) out.new }
 {
     for prop in properties.iter() {
         let detail = property_detail(prop);

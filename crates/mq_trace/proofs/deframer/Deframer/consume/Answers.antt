@@ -6,7 +6,7 @@ use Rattle.mq_trace.specs.Context.{StreamState}
 use Rattle.mq_trace.specs.Keeping.{state_in}
 use Rattle.mq_trace.specs.declared.refusal.Refusal.{Refusal}
 use Rattle.mq_trace.specs.Reception.{Declines, AreEvents}
-use Rattle.mq_trace.specs.Flows.{flow_behind, flow_refused, flow_events}
+use Rattle.mq_trace.specs.Flows.{flow_after_bytes, flow_refused, flow_events}
 use Rattle.mq_trace.specs.Deframing.{body_context, flow_of, FlowStops}
 use Rattle.mq_trace.proofs.FlowLaws.{lost-refused, lost-events}
 use Rattle.mq_trace.proofs.DeframerLaws.{frame_front, header_front, first_front, lost_kept, stops_front, stops_memory, small_first, empty_state, begins, begins_unfinished}
@@ -42,7 +42,7 @@ pub returns-in-Ok-clause-kept : goal.returns-in-Ok-clause-kept
 returns-in-Ok-clause-kept g c =
     let front = (frame_front c.args.bytes.now c.in-Whole.size c.in-Whole.ensures.1).2 in
     let empty = empty_state (state_in c.args.self.now) c.in-Whole.ensures.0 c.if-self.false in
-    subst (λ (h : StreamState). flow_behind (body_context c.args.context) (flow_of c.args.at h c.args.connections.now) (take c.in-Whole.size c.args.bytes.now) ≡ flow_of (c.args.at + c.in-Whole.size) h c.consume_whole.new.connections) (sym empty)
+    subst (λ (h : StreamState). flow_after_bytes (body_context c.args.context) (flow_of c.args.at h c.args.connections.now) (take c.in-Whole.size c.args.bytes.now) ≡ flow_of (c.args.at + c.in-Whole.size) h c.consume_whole.new.connections) (sym empty)
     (c.in-Ok.ensures.comes.kept ∙ ap (λ (n : ℕ). flow_of (c.args.at + n) (record { unfinished = []; lost = false }) c.consume_whole.new.connections) front)
 
 pub returns-in-Err-clause-stops : goal.returns-in-Err-clause-stops
@@ -70,7 +70,7 @@ pub returns-in-Ok-buffer-clause-kept : goal.returns-in-Ok-buffer-clause-kept
 returns-in-Ok-buffer-clause-kept g c =
     let comes = begins g.S.Sink.agrees c.args.context.limit (body_context c.args.context) c.args.at c.args.connections.now (state_in c.args.self.now) (state_in c.buffer.new.self) c.args.bytes.now c.args.sink.now
     c.in-Beginning.ensures.0 c.if-self.false c.in-Ok-buffer.ensures.ok c.in-Beginning.ensures.1 in
-    ap (flow_behind (body_context c.args.context) (flow_of c.args.at (state_in c.args.self.now) c.args.connections.now)) (take_all (length c.args.bytes.now) c.args.bytes.now (omega arith)) ∙ comes.kept
+    ap (flow_after_bytes (body_context c.args.context) (flow_of c.args.at (state_in c.args.self.now) c.args.connections.now)) (take_all (length c.args.bytes.now) c.args.bytes.now (omega arith)) ∙ comes.kept
 
 pub returns-in-Ok-buffer-clause-receives : goal.returns-in-Ok-buffer-clause-receives
 returns-in-Ok-buffer-clause-receives g c =

@@ -2,7 +2,7 @@
 use Rattle.std.proofs.Common.{◌≡◌, ◌+◌, false, ℕ, [], length, arith, sym, subst, ap, ◌∙◌, take, refl}
 use Rattle.mq_trace.specs.Context.{StreamState}
 use Rattle.mq_trace.specs.Reception.{Declines}
-use Rattle.mq_trace.specs.Flows.{flow_behind}
+use Rattle.mq_trace.specs.Flows.{flow_after_bytes}
 use Rattle.mq_trace.specs.Keeping.{state_in, IsUnfinished}
 use Rattle.mq_trace.specs.Deframing.{body_context, flow_of, FlowStops, FlowComes}
 use Rattle.mq_trace.specs.Stepping.{context_for, deframer_for}
@@ -38,7 +38,7 @@ returns-in-Ok-clause-kept g c =
     let next = c.consume_whole.new.connections in
     let comes = subst (λ (x : ContextInMemory). FlowComes {S = g.row.S.Denot} g.S.Sink.agrees x.limit (body_context x) (flow_of r.at (record { unfinished = []; lost = false }) r.connections)
     (flow_of (r.at + length part) (record { unfinished = []; lost = false }) next) part c.args.sink.now c.consume_whole.new.sink) c.body_context-context.ensures c.in-Ok.ensures.comes in
-    ap (λ (h : StreamState). flow_behind (context_for r c.args.direction) (flow_of r.at h r.connections) part) c.requires.idle
+    ap (λ (h : StreamState). flow_after_bytes (context_for r c.args.direction) (flow_of r.at h r.connections) part) c.requires.idle
     ∙ comes.kept
     ∙ ap (λ (n : ℕ). flow_of (r.at + n) (record { unfinished = []; lost = false }) next) (frame_front c.args.body.now c.args.size c.requires.whole.frame).2
     ∙ ap (λ (h : StreamState). flow_of (r.at + c.args.size) h next) (sym (same_state r c.args.direction next ∙ c.requires.idle))

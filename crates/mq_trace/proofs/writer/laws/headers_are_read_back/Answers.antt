@@ -8,5 +8,5 @@ returns-clause-server c = λ header rest. bit_read_back header.server
 pub returns-clause-releases : goal.returns-clause-releases
 returns-clause-releases c = λ header rest. bit_read_back header.releases
 
-pub returns-clause-behind : goal.returns-clause-behind
-returns-clause-behind c = λ header rest. refl
+pub returns-clause-after : goal.returns-clause-after
+returns-clause-after c = λ header rest. refl

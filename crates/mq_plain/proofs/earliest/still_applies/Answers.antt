@@ -6,7 +6,7 @@ use Rattle.mq_rules.specs.Connections.{session, any_accepted}
 use Rattle.mq_plain.specs.Finding.{moment_of}
 use Rattle.mq_plain.specs.Lookback.{answer_by}
 use Rattle.mq_plain.proofs.LookbackLaws.{session_on-moments, any_back}
-use Rattle.mq_plain.proofs.earliest.stands_in_session.Goals as goal
+use Rattle.mq_plain.proofs.earliest.still_applies.Goals as goal
 
 pub loop-event-preserved : goal.loop-event-preserved
 loop-event-preserved g c =

@@ -3,7 +3,7 @@ use Rattle.std.specs.Prelude.{reverse}
 use Rattle.mq_rules.specs.Moments.{note, is_same, since}
 use Rattle.mq_rules.specs.Connections.{any_accepted, session}
 use Rattle.mq_plain.specs.Finding.{moment_of}
-use Rattle.mq_plain.proofs.earliest.stands_in_session.Given as goal
+use Rattle.mq_plain.proofs.earliest.still_applies.Given as goal
 
 -- what is left to look at decides, and of its connections it is known whether some is accepted
 abbrev pub invariant-loop-event : goal.invariant-loop-event

@@ -1,7 +1,7 @@
 -- The properties that may be left out, in front of which this identifier and code stand.
 use Rattle.std.proofs.lemmas.Result.{err_from_is_err_and}
 use Rattle.mq_packet.specs.Entries.{acknowledgement}
-use Rattle.mq_packet.proofs.reading.acknowledgement.read_behind_code.Goals as goal
+use Rattle.mq_packet.proofs.reading.acknowledgement.read_after_code.Goals as goal
 
 pub returns-in_err-properties-clause-read : goal.returns-in_err-properties-clause-read
 returns-in_err-properties-clause-read c =
