@@ -1,4 +1,4 @@
-"""Makes logs out of a capture of network packets: the work behind `from-capture`.
+"""Makes logs out of a capture of network packets: what `from-capture` does.
 
 tshark reads the capture and says what each TCP segment carried, and what was inside TLS where it has the keys. The
 segments are put in order here, each byte once, and told to a `Recorder` for each tested end.
@@ -138,7 +138,7 @@ def tshark_command(program: str, file: str, servers: Iterable[Server], keylog: P
 
 
 def parse_line(line: str, servers: Iterable[Server]) -> Segment | None:
-    """The segment that a line of tshark's fields tells; None if it is none between a client and one of the servers."""
+    """The segment in a line of tshark's fields; None if it isn't between a client and one of the servers."""
     values = line.rstrip("\n").split("\t")
     if len(values) != len(FIELDS):
         return None

@@ -30,7 +30,7 @@ less_then false false o h = h
 le_of : (a b : ℕ) → T (nat_lt a b || (nat_eq a b)) → nat_le a b ≡ true
 le_of a b h = grind arith
 
--- a mark that is before another one has no later position
+-- a key that is before another one has no later position
 before_positions : (x y : FaultKey) → T (is_lt (key_cmp x y)) → nat_le x.position y.position ≡ true
 before_positions x y h = le_of x.position y.position (less_then (nat_lt x.position y.position) (nat_eq x.position y.position) (rule_cmp x.rule y.rule) h)
 

@@ -45,11 +45,11 @@ option_or-none (Some a) = refl
 pub keys_total : IsTotalOrder key_cmp
 keys_total = laws.total-law
 
--- two marks compare alike where both parts are the same
+-- two keys compare alike where both parts are the same
 pub ties : (x y : FaultKey) → (nat_eq x.position y.position && sameb the_type x.rule y.rule) ≡ is_eq (key_cmp x y)
 ties = laws.matches_eq-law
 
--- marks that compare alike are one
+-- keys that compare alike are one
 pub exact_keys : CmpEqualImpliesEq key_cmp
 exact_keys a b h =
     let parts : (nat_eq a.position b.position ≡ true) × (sameb the_type a.rule b.rule ≡ true) = both_true _ _ (ties a b ∙ ap is_eq h) in
@@ -77,7 +77,7 @@ module _ {K X : Type 0} (R : K → K → Ordering) where
   find-lookup q [] = refl
   find-lookup q (e ∷ es) = ap (cond (is_at (R q) e.0) (Some e.1)) (find-lookup q es)
 
--- what the finite map of these entries has at a mark
+-- what the finite map of these entries has at a key
 pub get-entries_of : (es : List (FaultKey × Fault)) (q : FaultKey) → get (from_entries {R = key_cmp} es) q ≡ lookup (is_at (key_cmp q)) es
 get-entries_of es q = get-from_entries keys_total es q ∙ find-lookup key_cmp q es
 
@@ -90,17 +90,17 @@ entries-of es s =
 pub len-of : (es : List (FaultKey × Fault)) → IsStrictlySortedBy key_cmp (keys_of es) → len (from_entries {R = key_cmp} es) ≡ length es
 len-of es s = len-entries _ ∙ ap length (entries-of es s)
 
--- entries that differ at one mark make maps that differ there
+-- entries that differ at one key make maps that differ there
 pub one_more : (es fs : List (FaultKey × Fault)) (m : FaultKey) (v : Fault) → ((q : FaultKey) → lookup (is_at (key_cmp q)) fs ≡ cond (is_at (key_cmp m) q) (Some v) (lookup (is_at (key_cmp q)) es)) → from_entries {R = key_cmp} fs ≡ insert (from_entries es) m v
 one_more es fs m v h = same_map keys_total exact_keys _ _ (λ q.
     get-entries_of fs q ∙ h q ∙ ap (λ b. cond b (Some v) (lookup (is_at (key_cmp q)) es)) ((eq_by_cmp_equiv keys_total).symm m q)
     ∙ sym (get-insert keys_total (from_entries es) m v q ∙ ap (cond (eq_by_cmp key_cmp q m) (Some v)) (get-entries_of es q)))
 
--- a mark that the faults have keeps its fault
+-- a key that the faults have keeps its fault
 pub with_fault-there : (m : FaultKey) (v : Fault) (faults : FaultMap) → is_some (get faults m) ≡ true → faults ≡ with_fault m v faults
 with_fault-there m v faults h = ap (λ b. cond b faults (insert faults m v)) (sym h)
 
--- a mark that they don't have takes the fault
+-- a key that they don't have takes the fault
 pub with_fault-new : (m : FaultKey) (v : Fault) (faults : FaultMap) → is_some (get faults m) ≡ false → insert faults m v ≡ with_fault m v faults
 with_fault-new m v faults h = ap (λ b. cond b faults (insert faults m v)) (sym h)
 
@@ -122,7 +122,7 @@ alike : {A : Type 0} (b : Bool) (a : A) → cond b a a ≡ a
 alike true a = refl
 alike false a = refl
 
--- a fault that is added is found under its mark, unless one was there, and under no other
+-- a fault that is added is found under its key, unless one was there, and under no other
 pub fault_at-with_fault : (m : FaultMap) (p k : ℕ) (s r : Rule) (f : Fault) → fault_at (with_fault (record { position = p; rule = s }) f m) k r ≡ option_or (fault_at m k r) (cond ((k == p) && same_rule r s) (Some f) None)
 fault_at-with_fault m p k s r f =
     get-cond (is_some (get m key)) m (insert m key f) q
@@ -164,7 +164,7 @@ fault_at-judged m false s r place k =
     sym (option_or-none (fault_at m k r))
     ∙ ap (λ b. option_or (fault_at m k r) (cond b (Some (record { decided = k; record_no = place.record_no; offset = None })) None)) (sym (ap (λ b. (k == place.position) && b) (and_false (same_rule r s)) ∙ and_false (k == place.position)))
 
--- ---- the marks at a position, and from one on
+-- ---- the keys at a position, and from one on
 
 -- W01 is the first statement
 not_below_first : (r : Rule) → is_le (rule_cmp W01 r) ≡ true
@@ -192,7 +192,7 @@ le_or a b = grind arith
 le_both : (a b : ℕ) → ((nat_lt a b || (a == b)) && not (nat_lt a b)) ≡ (b == a)
 le_both a b = grind arith
 
--- a mark is not before the first one at a position where its own isn't
+-- a key is not before the first one at a position where its own isn't
 pub from_key : (position : ℕ) (q : FaultKey) → is_le (key_cmp (record { position = position; rule = W01 }) q) ≡ nat_le position q.position
 from_key position q = le_then (nat_lt position q.position) (position == q.position) (rule_cmp W01 q.rule) (not_below_first q.rule) ∙ le_or position q.position
 

@@ -212,7 +212,7 @@ listed-ascends chosen tested log = strictly (listed_faults chosen tested log) (l
 same_keys : (x y : FaultKey) → eq_by_cmp key_cmp x y ≡ true → x ≡ y
 same_keys x y h = exact_keys x y (equal_of (key_cmp x y) h)
 
--- a fault is in the list exactly where it is the fault of its mark
+-- a fault is in the list exactly where it is the fault of its key
 pub listed-there : (chosen : Rule → Bool) (tested : Tested) (log : List Seen) (m : FaultKey) (f : Fault) → Contains (listed_faults chosen tested log) (m, f) ↔ (chosen_fault chosen tested log m.position m.rule ≡ Some f)
 listed-there chosen tested log m f = (
   (λ h. sym (sym (find-lookup key_cmp m (listed_faults chosen tested log)) ∙ find-listed chosen tested log m) ∙ lookup-from_Contains (eq_by_cmp_equiv keys_total) m f (listed_faults chosen tested log) (IsDistinct-from_sorted key_cmp (keys_of (listed_faults chosen tested log)) (listed-ascends chosen tested log)) h),

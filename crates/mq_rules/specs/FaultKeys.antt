@@ -1,4 +1,4 @@
--- Faults as a finite map from marks.
+-- Faults as a finite map by their keys.
 use Rattle.std.specs.Prelude.{ℕ, Bool, nat_le, ◌==◌, cond, List, Option, None, option_map}
 use Rattle.std.specs.List.{filter, find}
 use Rattle.std.specs.declared.cmp.Ordering.{Ordering}
@@ -13,7 +13,7 @@ use Rattle.mq_rules.specs.contracts.faults.FaultKeyOrd.TheImpl as key_ord
 abbrev pub key_cmp : FaultKey → FaultKey → Ordering
 key_cmp = (key_ord.ghosts).cmp
 
--- the faults, each under its mark
+-- the faults, each under its key
 abbrev pub FaultMap : Type 0
 FaultMap = map.FinMap key_cmp Fault
 
@@ -21,7 +21,7 @@ FaultMap = map.FinMap key_cmp Fault
 abbrev pub fault_at : FaultMap → ℕ → Rule → Option Fault
 fault_at faults k rule = map.get faults (record { position = k; rule = rule })
 
--- the faults with one more, which is ignored if its mark has a fault already
+-- the faults with one more, which is ignored if its key has a fault already
 abbrev pub with_fault : FaultKey → Fault → FaultMap → FaultMap
 with_fault key fault faults = cond (map.contains_key faults key) faults (map.insert faults key fault)
 

@@ -28,7 +28,7 @@ impl From<AllocError> for Memory {
     }
 }
 
-/// A pair of a position and a statement. Marks are ordered by position, and then by statement, as reports are.
+/// A pair of a position and a statement. Keys are ordered by position, and then by statement, as reports are.
 #[derive(Clone, Copy, Debug, PartialEq, Eq, PartialOrd, Ord)]
 pub struct FaultKey {
     /// The event's number among the events, counted from 1.
@@ -37,7 +37,7 @@ pub struct FaultKey {
     pub rule: Rule,
 }
 
-/// The faults that were found, each under its mark.
+/// The faults that were found, each under its key.
 #[derive(Drop)]
 pub struct Faults {
     found: BTreeMap<FaultKey, Fault>,
@@ -67,11 +67,11 @@ impl Faults {
         }
     }
 
-    /// Adds a fault under its mark, unless the mark has one already: the first one stays.
+    /// Adds a fault under its key, unless the key has one already: the first one stays.
     ///
     /// # Errors
     ///
-    /// `Memory` if there is no memory for a new mark. The faults are then unchanged.
+    /// `Memory` if there is no memory for a new key. The faults are then unchanged.
     pub fn add(&mut self, key: FaultKey, fault: Fault) -> Result<(), Memory>
         ensures ok { OnOk result (self.new ≡ with_fault key fault self.old) }
         ensures absent { OnErr result (map.get self.old key ≡ None) }
@@ -84,11 +84,11 @@ impl Faults {
         Ok(())
     }
 
-    /// Adds the fault of a statement that is judged at its own position, if it is broken and the mark has no fault yet.
+    /// Adds the fault of a statement that is judged at its own position, if it is broken and the key has no fault yet.
     ///
     /// # Errors
     ///
-    /// `Memory` if there is no memory for a new mark. The faults are then unchanged.
+    /// `Memory` if there is no memory for a new key. The faults are then unchanged.
     pub fn judge(&mut self, rule: Rule, place: Place3, broken: bool) -> Result<(), Memory>
         ensures ok { OnOk result (self.new ≡ judged broken rule place self.old) }
         ensures needed { OnErr result (broken ≡ true) }
@@ -106,7 +106,7 @@ impl Faults {
         Ok(())
     }
 
-    /// The fault under a mark, if there is one.
+    /// The fault under a key, if there is one.
     pub fn get(&self, key: FaultKey) -> Option<Fault>
         ensures { result ≡ map.get self.now key }
     {
@@ -127,7 +127,7 @@ impl Faults {
         self.len() == 0
     }
 
-    /// The faults with their marks, in ascending order: by position, and then in the order of the statements.
+    /// The faults with their keys, in ascending order: by position, and then in the order of the statements.
     pub fn iter(&self) -> Iter<'_, FaultKey, Fault>
         ensures rest { result ≡ map.entries self.now }
         ensures runs { ShowsInOrder (deref_pair {K = FaultKey} {X = Fault}) }
@@ -135,7 +135,7 @@ impl Faults {
         self.found.iter()
     }
 
-    /// The faults at a position with their marks, in the order of the statements.
+    /// The faults at a position with their keys, in the order of the statements.
     pub fn at(&self, position: u32) -> Range<'_, FaultKey, Fault>
         ensures rest { result ≡ faults_at position (map.entries self.now) }
         ensures runs { ShowsInOrder (deref_pair {K = FaultKey} {X = Fault}) }

@@ -11,7 +11,7 @@ use crate::plain::judge_bytes;
 use crate::role::Tested;
 use std::alloc::Global;
 
-/// Judges W01 to W21 and C01 to C23 at each event of the list: what `plain_w` and `plain_c` judge. A mark that has a fault already
+/// Judges W01 to W21 and C01 to C23 at each event of the list: what `plain_w` and `plain_c` judge. A key that has a fault already
 /// keeps it. The faults are right if the position of each event is its index in the list, counted from 1.
 ///
 /// # Errors

@@ -15,7 +15,7 @@ use crate::role::Tested;
 use crate::rule::Rule;
 use std::alloc::Global;
 
-/// Judges W01 to W21, the statements on the bytes of one packet, at each event of the list. A mark that has a fault already keeps
+/// Judges W01 to W21, the statements on the bytes of one packet, at each event of the list. A key that has a fault already keeps
 /// it. The faults are right if the position of each event is its index in the list, counted from 1.
 ///
 /// # Errors
@@ -36,7 +36,7 @@ pub fn plain_w(
     Ok(())
 }
 
-/// Judges C01 to C23, the statements on the past of a connection, at each event of the list, in one pass. A mark that has a fault
+/// Judges C01 to C23, the statements on the past of a connection, at each event of the list, in one pass. A key that has a fault
 /// already keeps it. The faults are right if the position of each event is its index in the list, counted from 1.
 ///
 /// # Errors

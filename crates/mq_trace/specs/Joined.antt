@@ -29,7 +29,7 @@ if_some (Some item) = item ∷ []
 abbrev pub frame_item : List ℕ → Option Item
 frame_item frame = item_read (length frame) (slice_index frame 0) (read_frame frame)
 
--- the items of frames, in order; a CONNECT of another protocol version is none
+-- the items of frames, in order; a CONNECT of another protocol version doesn't count as one
 abbrev pub frame_items : List (List ℕ) → List Item
 frame_items [] = []
 frame_items (frame ∷ frames) = if_some (frame_item frame) ++ frame_items frames
