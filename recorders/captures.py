@@ -1,13 +1,13 @@
 """Makes logs out of a capture of network packets: what `from-capture` does.
 
 tshark reads the capture and says what each TCP segment carried, and what was inside TLS where it has the keys. The
-segments are put in order here, each byte once, and told to a `Recorder` for each tested end.
+segments are put in order here, each byte once, and given to a `Recorder` for each tested end.
 
-Each end has an order of its own. What it sent stands where the capture first has it. What it received stands where
-the end itself acknowledged it by TCP: each of its segments says how much it had by then, so this order is the end's
+Each end has an order of its own. What it sent is where the capture first has it. What it received is where the
+end itself acknowledged it by TCP: each of its segments says how much it had by then, so this order is the end's
 own wherever the packets were captured, and bytes that never reached it aren't in its log.
 
-Where the capture lacks bytes that an end has acknowledged, nothing more is told of that connection, and the session
+Where the capture lacks bytes that an end has acknowledged, nothing more is recorded of that connection, and the session
 is left out from there on. Where an end's bytes were still under way when its connection broke, it may have sent
 more that no packet carried, and the session of that end is left out from there on.
 """
@@ -25,13 +25,13 @@ from collections.abc import Callable, Iterable, Iterator
 from dataclasses import dataclass, field
 from pathlib import Path
 
-from recording import CONNECT, End, Framer, Recorder, read_connect, tell_standard_error
+from recording import CONNECT, End, Framer, Recorder, read_connect, write_to_standard_error
 
 FIN, SYN, RST, ACK = 0x01, 0x02, 0x04, 0x10
 HELD_MOST = 16 * 1_048_576  # bytes of a connection's end that wait for others before them, or for their acknowledgement
 BLOCKED_MOST = 1_000  # segments of a connection that wait for bytes which they acknowledge
 BLOCKED_SECONDS = 1.0
-TOLD_MOST = 10_000  # lines that are remembered so that none is told twice
+REMEMBERED_WARNINGS = 10_000  # lines that are remembered so that none is printed twice
 TLS_RECORD = 0x16  # the first byte of a TLS connection
 CLOSE_NOTIFY = "0"  # TLS's alert that no more is sent
 FIELDS = (
@@ -289,21 +289,21 @@ class Half:
 
 
 class Stream:
-    """A TCP connection, told to the recorder of each tested end in that end's order."""
+    """A TCP connection, recorded for each tested end in that end's order."""
 
     def __init__(
         self,
         first: Segment,
         recorders: dict[End, Recorder],
-        tell: Callable[[str], None],
+        warn: Callable[[str], None],
         named: Callable[[Stream, bytes], None],
     ) -> None:
-        """`named` is called with the Client Identifier of the CONNECT, before the recorders are told of that packet."""
+        """`named` is called with the Client Identifier of the CONNECT, before that packet is recorded."""
         self.key = first.stream
         self.is_over = False
         self.is_lost = False
         self._names = f"{first.client} to {first.server}"
-        self._recorders, self._tell, self._named = recorders, tell, named
+        self._recorders, self._warn, self._named = recorders, warn, named
         self._halves = {end: Half() for end in End}
         self._blocked: dict[End, deque[Segment]] = {end: deque() for end in End}
         self._blocked_since: float | None = None
@@ -358,11 +358,11 @@ class Stream:
         self.lose(f"the capture lacks {' and '.join(lacking) or 'acknowledgements'}")
 
     def lose(self, why: str) -> None:
-        """Tells nothing more of this connection, and ends its session's logs."""
+        """Records nothing more of this connection, and ends its session's logs."""
         if self.is_over:
             return
         self.is_over = self.is_lost = True
-        self._tell(f"{self._names}: {why}")
+        self._warn(f"{self._names}: {why}")
         self._open()
         for recorder in self._recorders.values():
             recorder.missing(self.key)
@@ -377,7 +377,7 @@ class Stream:
             return
         for end, recorder in self._recorders.items():
             if self._halves[end].may_have_more and self._is_opened and end not in self._closed:
-                self._tell(f"{self._names}: broke while bytes of the {end.value} were under way")
+                self._warn(f"{self._names}: broke while bytes of the {end.value} were under way")
                 recorder.missing(self.key)
                 self.is_lost = True
 
@@ -402,7 +402,7 @@ class Stream:
             self.is_over = True
         elif segment.payload:
             if mine.start is None and peers.start is None:
-                self._tell(f"{self._names}: its beginning isn't in the capture")
+                self._warn(f"{self._names}: its beginning isn't in the capture")
                 self.is_over = self.is_lost = True
             else:
                 self.lose("the capture lacks its beginning")
@@ -442,11 +442,11 @@ class Stream:
             self._blocked_since = None
 
     def _pass(self, segment: Segment) -> None:
-        """Tells what a segment says: first how much its sender had received, then what it sent."""
+        """Records what a segment says: first how much its sender had received, then what it sent."""
         sender = segment.sender
         mine, peers = self._halves[sender], self._halves[PEER[sender]]
         for data in peers.acknowledge(self._acknowledged(segment)):
-            self._tell_bytes(sender, PEER[sender], data)
+            self._record_bytes(sender, PEER[sender], data)
         if segment.has(RST):
             self._reset()
             return
@@ -477,7 +477,7 @@ class Stream:
     def _send(self, sender: End, piece: Piece) -> None:
         if sender is End.CLIENT:
             self._look_for_connect(piece.data)
-        self._tell_bytes(sender, sender, piece.data)
+        self._record_bytes(sender, sender, piece.data)
         self._halves[sender].put(piece)
 
     def _look_for_connect(self, data: bytes) -> None:
@@ -494,7 +494,7 @@ class Stream:
         self.is_over = True
         self._forget()
 
-    # -- telling
+    # -- recording
 
     def _open(self) -> None:
         if not self._is_opened:
@@ -502,8 +502,8 @@ class Stream:
             for recorder in self._recorders.values():
                 recorder.opened(self.key)
 
-    def _tell_bytes(self, end: End, sender: End, data: bytes) -> None:
-        """Tells the recorder of an end of bytes that the sender sent."""
+    def _record_bytes(self, end: End, sender: End, data: bytes) -> None:
+        """Gives bytes that the sender sent to the recorder of an end."""
         self._open()
         recorder = self._recorders.get(end)
         if recorder is None or end in self._closed:
@@ -546,16 +546,16 @@ class Capture:
         folder: Path,
         ends: Iterable[End],
         rest_after: float | None,
-        tell: Callable[[str], None] = tell_standard_error,
+        warn: Callable[[str], None] = write_to_standard_error,
     ) -> None:
         self.connections = 0
         self.left_out = 0
         self._now = 0.0
         self._looked_at = 0.0
-        self._rest_after, self._tell = rest_after, tell
-        self._told: OrderedDict[str, None] = OrderedDict()
+        self._rest_after, self._warn = rest_after, warn
+        self._warned: OrderedDict[str, None] = OrderedDict()
         self._recorders = {
-            end: Recorder(folder, frozenset({end}), rest_after, clock=lambda: self._now, tell=self._tell_once)
+            end: Recorder(folder, frozenset({end}), rest_after, clock=lambda: self._now, warn=self._warn_once)
             for end in ends
         }
         self._streams: dict[int, Stream | None] = {}  # None: it is over
@@ -572,7 +572,7 @@ class Capture:
         self._now = max(self._now, segment.time)
         self._look_for_rest()
         if segment.stream not in self._streams:
-            self._streams[segment.stream] = Stream(segment, self._recorders, self._tell_once, self._name)
+            self._streams[segment.stream] = Stream(segment, self._recorders, self._warn_once, self._name)
             self.connections += 1
         stream = self._streams[segment.stream]
         if stream is not None:
@@ -599,7 +599,7 @@ class Capture:
             recorder.tick()
 
     def _name(self, stream: Stream, identifier: bytes) -> None:
-        """A stream tells its Client Identifier. Older ones that may have had the same can't go on now."""
+        """Takes in the Client Identifier of a stream. Older ones that may have had the same can't go on now."""
         older = [*self._blocked_unnamed.values(), *filter(None, [self._named.get(identifier)])]
         for other in older:
             if other is not stream:
@@ -616,13 +616,13 @@ class Capture:
             else:
                 streams.pop(stream.key, None)
 
-    def _tell_once(self, line: str) -> None:
-        """Both ends' recorders have the same to tell of a connection."""
-        if line not in self._told:
-            self._told[line] = None
-            if len(self._told) > TOLD_MOST:
-                self._told.popitem(last=False)
-            self._tell(line)
+    def _warn_once(self, line: str) -> None:
+        """Warns only once of what both ends' recorders say of a connection."""
+        if line not in self._warned:
+            self._warned[line] = None
+            if len(self._warned) > REMEMBERED_WARNINGS:
+                self._warned.popitem(last=False)
+            self._warn(line)
 
 
 def parse_seconds(text: str) -> float:
@@ -662,12 +662,12 @@ def main(words: list[str] | None = None) -> int:
     arguments = parse_arguments(words)
     ends = list(End) if arguments.end == "both" else [End(arguments.end)]
     if arguments.keylog is not None and not arguments.keylog.is_file():
-        tell_standard_error(f"from-capture: {arguments.keylog} isn't a file")
+        write_to_standard_error(f"from-capture: {arguments.keylog} isn't a file")
         return 1
     try:
         arguments.out.mkdir(parents=True, exist_ok=True)
     except OSError as error:
-        tell_standard_error(f"from-capture: can't create {arguments.out}: {error.strerror}")
+        write_to_standard_error(f"from-capture: can't create {arguments.out}: {error.strerror}")
         return 1
     capture = Capture(arguments.out, ends, arguments.rest)
     status = 0
@@ -679,7 +679,7 @@ def main(words: list[str] | None = None) -> int:
             if capture.is_stopped:
                 break
     except CaptureError as error:
-        tell_standard_error(f"from-capture: {error}")
+        write_to_standard_error(f"from-capture: {error}")
         status = 1
     if capture.is_stopped:
         status = 1

@@ -7,13 +7,13 @@
 It is for clients that speak MQTT 5.0, and goes before their first `connect`. The order is the client's own:
 
 - SENT and RECV stand where paho's reads and writes happen, of what is inside TLS and WebSocket frames.
-- RELEASE stands where paho hands a QoS 2 message to the application: at its PUBREL, after it was taken out of the
+- RELEASE is where paho hands a QoS 2 message to the application: at its PUBREL, after it was taken out of the
   messages that came in and before the PUBCOMP is sent.
 - REST is written when paho's queues are empty: what was read has been handled, and nothing waits to be written or
-  to be sent again. It stands before a DISCONNECT, before a CLOSE, and where a round of paho's loop went by without
+  to be sent again. It comes before a DISCONNECT, before a CLOSE, and where a round of paho's loop went by without
   a byte.
 
-It was tried with paho-mqtt 1.6.1. A version without the methods that it stands in for is refused.
+It was tried with paho-mqtt 1.6.1. A version without the methods that it replaces is refused.
 """
 from __future__ import annotations
 
@@ -36,7 +36,7 @@ SENT_STATES = (paho.mqtt_ms_wait_for_puback, paho.mqtt_ms_wait_for_pubrec, paho.
 
 
 class RecordedSocket:
-    """A connection of paho's that tells what is read and written. For all else it is the connection itself."""
+    """A connection of paho's that records what is read and written. For all else it is the connection itself."""
 
     def __init__(self, wrapped: Any, recording: ClientRecording) -> None:
         self._wrapped, self._recording = wrapped, recording
@@ -90,7 +90,7 @@ class ClientRecording:
             self._rest(writers=0)
             self._recorder.finish()
 
-    # -- what a connection tells
+    # -- what a connection reads and writes
 
     def received(self, connection: RecordedSocket, data: Any) -> None:
         """Bytes were read, and paho hasn't got them yet."""
@@ -122,7 +122,7 @@ class ClientRecording:
     # -- paho's methods
 
     def _on_call_socket_open(self, *arguments: Any) -> Any:
-        """A connection was made: paho's own object for it is exchanged for one that tells."""
+        """A connection was made: paho's own object for it is exchanged for one that records."""
         client = self._client()
         assert client is not None
         connection = RecordedSocket(client._sock, self)

@@ -28,14 +28,14 @@ class Trouble(Exception):
 
 @contextmanager
 def proxy(folder: Path, broker_port: int, *words: object) -> Iterator[int]:
-    """A proxy that writes to this folder, and its port. What it tells is kept beside the logs."""
-    told = folder / "proxy.txt"
+    """A proxy that writes to this folder, and its port. What it prints is kept beside the logs."""
+    printed = folder / "proxy.txt"
     address = f"{HOST}:{broker_port}"
-    with told.open("wb") as output:
+    with printed.open("wb") as output:
         options = ("--listen", f"{HOST}:0", "--broker", address, "--out", folder, "--rest", REST_SECONDS, *words)
         with process(sys.executable, HERE / "proxy", *options, output=output):
-            wait_until(lambda: b"\n" in told.read_bytes(), "the proxy listens")
-            yield int(told.read_text().splitlines()[0].rpartition(":")[2])
+            wait_until(lambda: b"\n" in printed.read_bytes(), "the proxy listens")
+            yield int(printed.read_text().splitlines()[0].rpartition(":")[2])
 
 
 @dataclass
@@ -74,12 +74,12 @@ class Bench:
         return child
 
     def log(self, identifier: str) -> bytes:
-        """What stands in the client's first log so far."""
+        """What the client's first log has so far."""
         path = self.folder / f"{identifier}.1.client.log"
         return path.read_bytes() if path.exists() else b""
 
-    def told(self) -> str:
-        """What the proxy has told so far."""
+    def printed(self) -> str:
+        """What the proxy has printed so far."""
         return (self.folder / "proxy.txt").read_text()
 
     def options(self, identifier: str, version: str = "5") -> list[str]:

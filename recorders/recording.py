@@ -1,6 +1,6 @@
 """Puts the network connections of MQTT 5.0 clients together into logs, one for each session and tested end.
 
-A recorder (a proxy, a library inside a program, a reader of captures) tells a `Recorder` what it sees of each
+A recorder (a proxy, a library inside a program, a reader of captures) gives a `Recorder` what it sees of each
 connection, in the order in which it sees it: that it opens, what the client sent, what the server sent, that it
 closed. The `Recorder` finds out whose connection it is, and writes it to the log of that Client Identifier
 (docs/LOG_FORMAT.md): as the client's log, the server's, or both. It looks at the few packets that it needs for this
@@ -51,7 +51,7 @@ class End(Enum):
 
 
 class Kind(IntEnum):
-    """What is told of a connection. Bytes are the client's or the server's here; a log says SENT or RECV of them."""
+    """What happens on a connection. Bytes are the client's or the server's here; a log says SENT or RECV of them."""
 
     OPEN = 1
     FROM_CLIENT = 2
@@ -396,7 +396,7 @@ def guarded(
     return call
 
 
-def tell_standard_error(line: str) -> None:
+def write_to_standard_error(line: str) -> None:
     """Writes a line to standard error, if there is one that takes it."""
     try:
         print(line, file=sys.stderr, flush=True)
@@ -407,14 +407,14 @@ def tell_standard_error(line: str) -> None:
 class Recorder:
     """Puts connections together into logs.
 
-    Each connection has a key, which is the recorder's own. What is told of a key that isn't open is passed over. With
+    Each connection has a key, which is the recorder's own. What is recorded of a key that isn't open is ignored. With
     two ends both logs have the same order; a recorder that sees the ends in different orders takes a `Recorder` for
     each.
 
     `rest_after` is the number of seconds after which silence means that the end is at rest: `tick` is to be called from
-    time to time then. Without it only `rested` makes a REST. `releases` says that each release is told by `released`.
+    time to time then. Without it only `rested` makes a REST. `releases` says that each release is given to `released`.
     `from_start` says that no end had a session before the recording. Without it a session that is resumed, though its
-    beginning wasn't recorded, is left out: judged alone, it would have faults that are none.
+    beginning wasn't recorded, is left out: judged alone, it would seem to have faults.
     """
 
     def __init__(
@@ -426,17 +426,17 @@ class Recorder:
         clock: Callable[[], float] = time.monotonic,
         *,
         from_start: bool = False,
-        tell: Callable[[str], None] = tell_standard_error,
+        warn: Callable[[str], None] = write_to_standard_error,
     ) -> None:
         self._folder, self._ends, self._rest_after, self._releases = folder, ends, rest_after, releases
-        self._clock, self._from_start, self._tell = clock, from_start, tell
+        self._clock, self._from_start, self._warn = clock, from_start, warn
         self._connections: dict[Hashable, Connection] = {}
         self._logs: OrderedDict[str, SessionLog] = OrderedDict()  # of each Client Identifier the latest
         self._released_logs: dict[Hashable, SessionLog] = {}  # of connections that are over
         self._kept_bytes = 0
         self.is_stopped = False
 
-    # -- what a recorder tells
+    # -- what is recorded
 
     @guarded
     def opened(self, key: Hashable) -> None:
@@ -531,7 +531,7 @@ class Recorder:
         self.stop()
 
     def stop(self, line: str = "") -> None:
-        """Ends the recording as it stands; what is told from now on is passed over."""
+        """Ends the recording as it is now; what comes later is ignored."""
         self.is_stopped = True
         logs = [c.log for c in self._connections.values() if c.log is not None]
         self._connections.clear()
@@ -541,7 +541,7 @@ class Recorder:
             except OSError as error:
                 line = line or f"a log can't be closed: {error}"
         if line:
-            self._tell(line)
+            self._warn(line)
 
     # -- bytes
 
@@ -719,7 +719,7 @@ class Recorder:
         return kept
 
     def _leave_out(self, connection: Connection, why: str) -> None:
-        self._tell(f"not recorded: {why}")
+        self._warn(f"not recorded: {why}")
         connection.is_left_out = True
         connection.keep_no_packets()
         self._take_kept(connection)

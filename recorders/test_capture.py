@@ -147,13 +147,13 @@ class Case(unittest.TestCase):
         self.addCleanup(folder.cleanup)
         self.folder = Path(folder.name)
         self.logs = self.folder / "logs"
-        self.told: list[str] = []
+        self.warnings: list[str] = []
 
     def run_on(self, path: Path, *words: str) -> int:
-        """Runs from-capture on a capture, and keeps what it tells."""
-        with contextlib.redirect_stderr(io.StringIO()) as told, contextlib.redirect_stdout(io.StringIO()) as printed:
+        """Runs from-capture on a capture, and keeps what it prints."""
+        with contextlib.redirect_stderr(io.StringIO()) as errors, contextlib.redirect_stdout(io.StringIO()) as printed:
             status = captures.main([str(path), "--out", str(self.logs), *words])
-        self.told, self.printed = told.getvalue().splitlines(), printed.getvalue()
+        self.warnings, self.printed = errors.getvalue().splitlines(), printed.getvalue()
         return status
 
     def log(self, name: str) -> list[str]:
@@ -186,7 +186,7 @@ class ByHand(Case):
     def convert(self, *options: str, server: str = "10.0.0.1:1883") -> None:
         path = self.folder / "capture.pcap"
         self.wire.write(path)
-        self.assertEqual(self.run_on(path, "--server", server, *options), 0, self.told)
+        self.assertEqual(self.run_on(path, "--server", server, *options), 0, self.warnings)
 
     def test_both_ends_of_a_whole_session(self) -> None:
         talk = Conversation(self.wire, "10.0.0.2").accepted()
@@ -198,7 +198,7 @@ class ByHand(Case):
         self.assertEqual(self.log("c.1.client"), client)
         swapped = [word.replace("SENT", "-").replace("RECV", "SENT").replace("-", "RECV") for word in client]
         self.assertEqual(self.log("c.1.server"), swapped)
-        self.assertEqual((self.told, self.printed), ([], "1 connections, 0 of them incomplete\n"))
+        self.assertEqual((self.warnings, self.printed), ([], "1 connections, 0 of them incomplete\n"))
         self.assertEqual({verdict(path) for path in self.logs.iterdir()}, {"pass"})
 
     def test_ipv6_and_a_server_without_a_host(self) -> None:
@@ -238,7 +238,7 @@ class ByHand(Case):
         self.convert()
         sent = b"".join(bytes.fromhex("3406000161") + struct.pack(">H", number) + b"\0" for number in range(300, 306))
         self.assertEqual(self.log("c.1.client")[5], "SENT " + sent.hex())
-        self.assertEqual(self.told, [])
+        self.assertEqual(self.warnings, [])
         self.assertEqual({verdict(path) for path in self.logs.iterdir()}, {"pass"})
 
     def test_numbers_go_around(self) -> None:
@@ -259,7 +259,7 @@ class ByHand(Case):
         Conversation(self.wire, "10.0.0.2", port=40_002).accepted().close()
         self.convert()
         self.assertEqual(
-            self.told,
+            self.warnings,
             [
                 "10.0.0.2:40000 to 10.0.0.1:1883: the capture lacks bytes of the server after its first 13",
                 NOT_SEEN,
@@ -279,7 +279,7 @@ class ByHand(Case):
         talk.close()
         self.wire.snap = 120
         self.convert("--end", "client")
-        self.assertEqual(len(self.told), 2, self.told)
+        self.assertEqual(len(self.warnings), 2, self.warnings)
         self.assertEqual(self.log("c.1.client"), OPENED)
 
     def test_a_connection_without_its_beginning(self) -> None:
@@ -290,7 +290,7 @@ class ByHand(Case):
         talk.close()
         Conversation(self.wire, "10.0.0.3").accepted().close()
         self.convert("--end", "client")
-        self.assertEqual(self.told, ["10.0.0.2:40000 to 10.0.0.1:1883: its beginning isn't in the capture"])
+        self.assertEqual(self.warnings, ["10.0.0.2:40000 to 10.0.0.1:1883: its beginning isn't in the capture"])
         self.assertEqual(self.names(), ["c.1.client.log"])
 
     def test_a_connection_of_which_the_connect_is_missing_may_be_any(self) -> None:
@@ -312,7 +312,7 @@ class ByHand(Case):
         talk.server(CONNACK)
         talk.close()
         self.convert("--end", "client")
-        self.assertEqual((self.told, self.log("c.1.client")[0:2]), ([], OPENED[:2]))
+        self.assertEqual((self.warnings, self.log("c.1.client")[0:2]), ([], OPENED[:2]))
 
     def test_handshakes_that_are_captured_in_part(self) -> None:
         for lost in range(1, 7):
@@ -322,7 +322,7 @@ class ByHand(Case):
                 handshake = enumerate(self.wire.packets[:3])
                 self.wire.packets[:3] = [packet for number, packet in handshake if not lost >> number & 1]
                 self.convert("--end", "client")
-                self.assertEqual(self.told, [])
+                self.assertEqual(self.warnings, [])
                 self.assertEqual(verdict(self.logs / "c.1.client.log"), "pass")
                 self.assertEqual(self.log("c.1.client")[-1], "CLOSE")
 
@@ -355,7 +355,7 @@ class ByHand(Case):
         self.wire.put(publish)
         talk.close()
         self.convert()
-        self.assertEqual(self.told, [])
+        self.assertEqual(self.warnings, [])
         self.assertEqual({verdict(path) for path in self.logs.iterdir()}, {"pass"})
         self.assertEqual(self.log("c.1.server")[5], "RECV " + (PUBACK + DISCONNECT).hex())
 
@@ -366,7 +366,7 @@ class ByHand(Case):
         self.wire.put(first)
         talk.close()
         self.convert()
-        self.assertEqual((self.told, self.log("c.1.client")[-1]), ([], "CLOSE"))
+        self.assertEqual((self.warnings, self.log("c.1.client")[-1]), ([], "CLOSE"))
 
     def test_a_reset_while_bytes_were_under_way(self) -> None:
         """The server may have sent more than it put into packets: its log ends, and the client's goes on."""
@@ -375,7 +375,7 @@ class ByHand(Case):
         talk.send(End.CLIENT, flags=RST)
         Conversation(self.wire, "10.0.0.2", port=40_001).accepted(clean_start=False, connack=CONNACK_RESUMED).close()
         self.convert()
-        self.assertEqual(self.told[0], f"{TALK}: broke while bytes of the server were under way")
+        self.assertEqual(self.warnings[0], f"{TALK}: broke while bytes of the server were under way")
         self.assertEqual(self.log("c.1.client").count("OPEN"), 2)
         self.assertEqual(self.log("c.1.server").count("OPEN"), 1)
         self.assertEqual({verdict(path) for path in self.logs.iterdir()}, {"pass"})
@@ -385,7 +385,7 @@ class ByHand(Case):
         talk.client(PUBLISH, arrives=False)
         Conversation(self.wire, "10.0.0.2", port=40_001).accepted(clean_start=False, connack=CONNACK_RESUMED).close()
         self.convert()
-        self.assertEqual(self.told[0], f"{TALK}: broke while bytes of the client were under way")
+        self.assertEqual(self.warnings[0], f"{TALK}: broke while bytes of the client were under way")
         self.assertEqual(self.log("c.1.client").count("OPEN"), 1)
         self.assertEqual(self.log("c.1.server").count("OPEN"), 2)
 
@@ -429,7 +429,7 @@ class ByHand(Case):
         talk.close()
         Conversation(self.wire, "10.0.0.3").open().close()
         self.convert("--end", "client")
-        self.assertEqual(self.told, ["not recorded: o uses MQTT version 4"])
+        self.assertEqual(self.warnings, ["not recorded: o uses MQTT version 4"])
 
     def test_tls_without_keys(self) -> None:
         talk = Conversation(self.wire, "10.0.0.2").open()
@@ -439,7 +439,7 @@ class ByHand(Case):
         talk.server(bytes.fromhex("1703030020") + bytes(32))
         talk.client(bytes.fromhex("1703030020") + bytes(32))
         self.convert("--end", "client")
-        self.assertEqual(self.told[0], f"{TALK}: {NO_KEYS}")
+        self.assertEqual(self.warnings[0], f"{TALK}: {NO_KEYS}")
         self.assertFalse(any(self.logs.iterdir()))
 
     def test_a_capture_that_is_cut_is_told(self) -> None:
@@ -448,7 +448,7 @@ class ByHand(Case):
         self.wire.write(path)
         path.write_bytes(path.read_bytes()[:-10])
         self.assertEqual(self.run_on(path, "--server", "10.0.0.1:1883", "--end", "client"), 1)
-        self.assertEqual(len(self.told), 1, self.told)
+        self.assertEqual(len(self.warnings), 1, self.warnings)
         self.assertEqual(self.log("c.1.client")[:2], OPENED[:2])
 
     def test_what_cannot_be_read(self) -> None:
@@ -457,7 +457,7 @@ class ByHand(Case):
         self.assertEqual(self.run_on(path, "--server", "10.0.0.1:1883"), 1)
         self.assertEqual(self.run_on(self.folder / "none", "--server", "10.0.0.1:1883"), 1)
         self.assertEqual(self.run_on(path, "--server", ":1883", "--tshark", "/none/tshark"), 1)
-        self.assertEqual(self.told, ["from-capture: /none/tshark can't be started: No such file or directory"])
+        self.assertEqual(self.warnings, ["from-capture: /none/tshark can't be started: No such file or directory"])
         self.assertEqual(self.run_on(path, "--server", ":1883", "--keylog", str(self.folder / "none")), 1)
 
 
@@ -489,8 +489,8 @@ class Order(unittest.TestCase):
 
     def test_what_is_held_is_bounded(self) -> None:
         with tempfile.TemporaryDirectory() as folder:
-            told: list[str] = []
-            capture = Capture(Path(folder), End, None, told.append)
+            warnings: list[str] = []
+            capture = Capture(Path(folder), End, None, warnings.append)
             blank = dict(stream=0, client="c", server="s", window=9, payload=b"", length=0, acknowledgement=1)
             capture.take(Segment(time=0, sender=End.CLIENT, flags=SYN, sequence=0, **blank))
             capture.take(Segment(time=0, sender=End.SERVER, flags=SYN | ACK, sequence=0, **blank))
@@ -498,7 +498,7 @@ class Order(unittest.TestCase):
             for number in range(1, 400):
                 capture.take(Segment(time=1, sender=End.CLIENT, flags=ACK, sequence=5 + 65_536 * number, **blank))
             capture.finish()
-            self.assertEqual(told[0], "c to s: the capture lacks bytes of the client after its first 0")
+            self.assertEqual(warnings[0], "c to s: the capture lacks bytes of the client after its first 0")
 
     def test_servers(self) -> None:
         self.assertTrue(parse_server("10.0.0.1:1883").is_at("10.0.0.1", 1883))
@@ -562,7 +562,7 @@ class Live(Case):
             with self.tool("mosquitto_sub", port, *kept, "-C", "3") as subscriber:
                 self.assertEqual(subscriber.wait(20), 0)
         self.assertEqual(self.run_on(path, "--server", f"127.0.0.1:{port}", "--rest", "1"), 0)
-        self.assertEqual(self.told, [])
+        self.assertEqual(self.warnings, [])
         names = ("kept", "large", "pub0", "pub1", "pub2", "sub")
         self.assertEqual(self.verdicts(), {f"{name}.1.{end.value}": "pass" for name in names for end in End})
         self.assertEqual(self.log("kept.1.client").count("OPEN"), 2)
@@ -583,12 +583,12 @@ class Live(Case):
                     self.exchange(paho.Client(version.name, protocol=paho.MQTTv5), port, certificate, keys, version)
         options = ("--server", f"127.0.0.1:{port}", "--rest", "1")
         self.assertEqual(self.run_on(path, *options, "--keylog", str(keys)), 0)
-        self.assertEqual(self.told, [])
+        self.assertEqual(self.warnings, [])
         names = ("TLSv1_2", "TLSv1_3")
         self.assertEqual(self.verdicts(), {f"{name}.1.{end.value}": "pass" for name in names for end in End})
         self.logs = self.folder / "without"
         self.assertEqual(self.run_on(path, *options), 0)
-        self.assertEqual([line.partition(": ")[2] for line in self.told if " to " in line], [NO_KEYS] * 2)
+        self.assertEqual([line.partition(": ")[2] for line in self.warnings if " to " in line], [NO_KEYS] * 2)
         self.assertEqual(self.verdicts(), {})
 
     def exchange(self, client: object, port: int, certificate: Path, keys: Path, version: ssl.TLSVersion) -> None:

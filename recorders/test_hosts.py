@@ -68,8 +68,8 @@ class Hosts(unittest.TestCase):
         settings = self.folder / f"{name}.conf"
         paths = os.environ.get("PATH", os.defpath)
         settings.write_text(SETTINGS.format(port=port, host=HOST, folder=self.folder, name=name, paths=paths))
-        told = self.folder / f"{name}.txt"
-        with told.open("wb") as output:
+        printed = self.folder / f"{name}.txt"
+        with printed.open("wb") as output:
             server = self.stack.enter_context(process(find("sshd"), "-D", "-e", "-f", settings, output=output))
         wait_until(lambda: server.poll() is not None or accepts(port), "sshd listens")
         known = self.folder / "known"
@@ -79,7 +79,7 @@ class Hosts(unittest.TestCase):
         login = f"ssh -F /dev/null -o UserKnownHostsFile={known} -o BatchMode=yes {user} {HOST}"
         answer = subprocess.run([*login.split(), "true"], capture_output=True, text=True, timeout=PATIENCE)
         if answer.returncode:
-            self.skipTest(f"ssh to {HOST} isn't possible here: {answer.stderr.strip()} {told.read_text().strip()}")
+            self.skipTest(f"ssh to {HOST} isn't possible here: {answer.stderr.strip()} {printed.read_text().strip()}")
         return login
 
     def test_the_command_of_the_page(self) -> None:

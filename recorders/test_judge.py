@@ -56,7 +56,7 @@ class Case(unittest.TestCase):
         return [sys.executable, str(JUDGE), *map(str, words or [self.logs]), "--program", str(program or self.program)]
 
     def judged(self, *words: object, program: object = None) -> tuple[int, str, str]:
-        """The status, and what stands on standard output and standard error."""
+        """The status, and what is written to standard output and standard error."""
         answer = subprocess.run(self.command(*words, program=program), capture_output=True, text=True, timeout=PATIENCE)
         return answer.returncode, answer.stdout, answer.stderr
 
@@ -86,8 +86,8 @@ class Statuses(Case):
         self.assertEqual((status, "No such file" in printed), (4, True))
 
     def test_where_no_log_is(self) -> None:
-        status, printed, told = self.judged()
-        self.assertEqual((status, told), (4, f"judge: no logs in {self.logs}\n"))
+        status, printed, errors = self.judged()
+        self.assertEqual((status, errors), (4, f"judge: no logs in {self.logs}\n"))
         self.assertEqual(self.judged(self.logs / "none.log", program=judge_program())[0], 4)
 
     def test_misuse(self) -> None:
@@ -100,8 +100,8 @@ class Statuses(Case):
         with open("/dev/full", "w") as full:
             answer = subprocess.run(self.command(), stdout=full, stderr=subprocess.PIPE, text=True, timeout=PATIENCE)
         self.assertEqual((answer.returncode, answer.stderr), (4, "judge: [Errno 28] No space left on device\n"))
-        status, _, told = self.judged(self.logs, "--junit", self.folder / "none" / "report.xml")
-        self.assertEqual((status, told.count("\n")), (4, 1))
+        status, _, errors = self.judged(self.logs, "--junit", self.folder / "none" / "report.xml")
+        self.assertEqual((status, errors.count("\n")), (4, 1))
 
 
 class Printed(Case):

@@ -108,7 +108,7 @@ class Case(unittest.TestCase):
 
 
 class Scripted(Case):
-    """What stands in a log, record by record, where paho's loop is called by the test."""
+    """A log, record by record, where paho's loop is called by the test."""
 
     def setUp(self) -> None:
         super().setUp()
@@ -145,7 +145,7 @@ class Scripted(Case):
         self.assertEqual([word.split()[0] for word in joined(log)[:3]], ["OPEN", "SENT", "RECV"])
         self.assertEqual(joined(log)[2], f"RECV {CONNACK}")
 
-    def test_a_release_stands_between_pubrel_and_pubcomp_and_before_the_callback(self) -> None:
+    def test_a_release_is_between_pubrel_and_pubcomp_and_before_the_callback(self) -> None:
         seen: list[str] = []
 
         def on_message(client: Any, data: Any, message: Any) -> None:
@@ -340,12 +340,12 @@ class Scripted(Case):
 
     def test_or_its_session_is_left_out(self) -> None:
         client = self.client()
-        with contextlib.redirect_stderr(io.StringIO()) as told:
+        with contextlib.redirect_stderr(io.StringIO()) as errors:
             record(client, self.logs, from_start=False)
             client.connect("127.0.0.1", self.server.port, clean_start=False)
             self.server.accept(CONNACK_RESUMED)
             self.server_takes_nothing(client)
-        self.assertEqual(told.getvalue(), "not recorded: c resumes a session that began before the recording\n")
+        self.assertEqual(errors.getvalue(), "not recorded: c resumes a session that began before the recording\n")
         self.assertFalse(self.log().exists())
 
     def test_finish_ends_the_recording_and_not_the_client(self) -> None:
@@ -360,12 +360,12 @@ class Scripted(Case):
 
     def test_a_recorder_that_fails_leaves_the_client_alone(self) -> None:
         (self.folder / "logs").write_text("no folder")
-        with contextlib.redirect_stderr(io.StringIO()) as told:
+        with contextlib.redirect_stderr(io.StringIO()) as errors:
             client = self.connected(PUBLISH_QOS_1)
             self.server_takes(client, PUBACK_7)
             client.disconnect()
-        self.assertEqual(told.getvalue().count("\n"), 1, told.getvalue())
-        self.assertIn("recording stopped", told.getvalue())
+        self.assertEqual(errors.getvalue().count("\n"), 1, errors.getvalue())
+        self.assertIn("recording stopped", errors.getvalue())
 
     def test_the_client_goes_when_it_is_let_go(self) -> None:
         client = paho.Client("c", protocol=paho.MQTTv5)

@@ -45,7 +45,7 @@ class Case(unittest.TestCase):
         folder = tempfile.TemporaryDirectory()
         self.addCleanup(folder.cleanup)
         self.folder = Path(folder.name) / "logs"
-        self.told = Path(folder.name) / "told"
+        self.errors = Path(folder.name) / "errors"
         self.broker = socket.create_server(("127.0.0.1", 0))
         self.broker.settimeout(PATIENCE)
         self.addCleanup(self.broker.close)
@@ -53,11 +53,11 @@ class Case(unittest.TestCase):
     def start(self, *options: str, before: tuple[str, ...] = ()) -> None:
         address = f"127.0.0.1:{self.broker.getsockname()[1]}"
         words = [sys.executable, PROXY, "--listen", "127.0.0.1:0", "--broker", address, "--out", self.folder, *options]
-        with self.told.open("w") as told:
-            self.proxy = subprocess.Popen([*before, *map(str, words)], stderr=told)
+        with self.errors.open("w") as errors:
+            self.proxy = subprocess.Popen([*before, *map(str, words)], stderr=errors)
         self.addCleanup(self.stop)
-        self.wait_until(lambda: "\n" in self.told.read_text())
-        self.port = int(self.told.read_text().splitlines()[0].rpartition(":")[2])
+        self.wait_until(lambda: "\n" in self.errors.read_text())
+        self.port = int(self.errors.read_text().splitlines()[0].rpartition(":")[2])
 
     def stop(self) -> int:
         self.proxy.terminate()
@@ -66,7 +66,7 @@ class Case(unittest.TestCase):
     def wait_until(self, is_so: object) -> None:
         end = time.monotonic() + PATIENCE
         while not is_so():  # type: ignore[operator]
-            self.assertLess(time.monotonic(), end, self.told.read_text())
+            self.assertLess(time.monotonic(), end, self.errors.read_text())
             time.sleep(0.02)
 
     def pair(self, identifier: bytes) -> tuple[socket.socket, socket.socket]:
@@ -118,7 +118,7 @@ class Connections(Case):
         self.broker.close()
         with socket.create_connection(("127.0.0.1", self.port), PATIENCE) as client:
             self.assertEqual(receive(client, 1), b"")
-        self.wait_until(lambda: "the broker can't be reached" in self.told.read_text())
+        self.wait_until(lambda: "the broker can't be reached" in self.errors.read_text())
         self.assertEqual(self.stop(), 0)
         self.assertEqual(list(self.folder.iterdir()), [])
 
@@ -158,7 +158,7 @@ class Failures(Case):
         self.assertEqual(len(receive(client, 3 * len(LARGE))), 3 * len(LARGE))
         sender.join(PATIENCE)
         self.pair(b"later")
-        self.assertEqual(self.told.read_text().count("recording stopped"), 1)
+        self.assertEqual(self.errors.read_text().count("recording stopped"), 1)
         self.assertEqual(self.log("full.1.client.log")[0], "OPEN")
         self.assertEqual(self.stop(), 0)
 

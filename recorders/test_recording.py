@@ -67,10 +67,10 @@ class Case(unittest.TestCase):
         self.addCleanup(folder.cleanup)
         self.folder = Path(folder.name)
         self.now = 0.0
-        self.told: list[str] = []
+        self.warnings: list[str] = []
 
     def recorder(self, *ends: End, **options: object) -> Recorder:
-        wanted = {"rest_after": None, "clock": lambda: self.now, "tell": self.told.append} | options
+        wanted = {"rest_after": None, "clock": lambda: self.now, "warn": self.warnings.append} | options
         return Recorder(self.folder, frozenset(ends) or frozenset({End.CLIENT}), **wanted)
 
     def logs(self) -> dict[str, list[str]]:
@@ -134,7 +134,7 @@ class Sessions(Case):
         self.accept(recorder, 2, b"a", False, True)  # the server may have accepted the first one
         unanswered = ["OPEN", f"SENT {connect(b'a', False).hex()}", "CLOSE"]
         self.assertEqual(self.logs(), {"a.1.client.log": [*unanswered, *opening(b"a", False, True)]})
-        self.assertEqual(self.told, [])
+        self.assertEqual(self.warnings, [])
 
     def test_a_session_from_before_the_recording_is_left_out(self) -> None:
         recorder = self.recorder()
@@ -143,7 +143,7 @@ class Sessions(Case):
         self.accept(recorder, 2, b"a", False, True)
         recorder.closed(2)
         self.assertEqual(self.logs(), {})
-        self.assertEqual(self.told, ["not recorded: a resumes a session that began before the recording"] * 2)
+        self.assertEqual(self.warnings, ["not recorded: a resumes a session that began before the recording"] * 2)
         self.accept(recorder, 3, b"a", False, False)
         self.accept(recorder, 4, b"a", False, True)
         self.assertEqual(self.logs(), {"a.1.client.log": [*opening(b"a", False), "CLOSE", *opening(b"a", False, True)]})
@@ -182,8 +182,8 @@ class Sessions(Case):
             recorder.from_server(key, bytes.fromhex("20020000"))
             recorder.closed(key)
         self.assertEqual(self.logs(), {})
-        self.assertEqual(self.told[0], "not recorded: o%0Ald uses MQTT version 4")
-        self.assertEqual(len(self.told), 3)
+        self.assertEqual(self.warnings[0], "not recorded: o%0Ald uses MQTT version 4")
+        self.assertEqual(len(self.warnings), 3)
 
     def test_earlier_files_are_never_written_over(self) -> None:
         (self.folder / "a.1.client.log").write_bytes(b"kept")
@@ -283,8 +283,11 @@ class Missing(Case):
             },
         )
         self.assertEqual(
-            self.told,
-            ["not recorded: bytes of a are missing", "not recorded: a resumes a session that began before the recording"],
+            self.warnings,
+            [
+                "not recorded: bytes of a are missing",
+                "not recorded: a resumes a session that began before the recording",
+            ],
         )
 
     def test_before_the_connack_it_is_the_connect_that_names_the_session(self) -> None:
@@ -362,12 +365,12 @@ class Rest(Case):
     def test_none_after_what_leaves_a_doubt(self) -> None:
         odd = ("c0ffffffff", "c0", "3680", "3600", "c100", "0000")  # lost, half a packet, QoS 3, wrong flags, no type
         for number, sent in enumerate((CLIENT_DISCONNECT, *map(bytes.fromhex, odd))):
-            for tell in (Recorder.from_client, Recorder.from_server):
-                with self.subTest(sent=sent.hex(), tell=tell.__name__):
+            for record in (Recorder.from_client, Recorder.from_server):
+                with self.subTest(sent=sent.hex(), record=record.__name__):
                     recorder = self.recorder(rest_after=5.0)
-                    name = f"{tell.__name__}{number}"
+                    name = f"{record.__name__}{number}"
                     self.accept(recorder, 1, name.encode())
-                    tell(recorder, 1, sent)
+                    record(recorder, 1, sent)
                     self.silent(recorder)
                     self.assertNotIn("REST", self.log(f"{name}.1.client.log"))
 
@@ -435,7 +438,7 @@ class Safety(Case):
                 recorder.from_client(key, b"\x30\xff\xff\xff\x7f" + bytes(65_536))
         self.assertEqual([*self.logs()], ["@unnamed.1.client.log", "@unnamed.1.server.log"])
         self.assertGreater((self.folder / "@unnamed.1.client.log").stat().st_size, 40 * 65_536)
-        self.assertEqual(len(self.told), 1)
+        self.assertEqual(len(self.warnings), 1)
 
     def test_packets_that_do_not_end_are_bounded_in_all(self) -> None:
         recorder = self.recorder()
@@ -472,8 +475,8 @@ class Safety(Case):
             recorder.from_client(2, PINGREQ)
         recorder.closed(1)
         recorder.finish()
-        self.assertEqual(len(self.told), 1, self.told)
-        self.assertRegex(self.told[0], r"^recording stopped: .*No space left on device: .*a\.1\.client\.log")
+        self.assertEqual(len(self.warnings), 1, self.warnings)
+        self.assertRegex(self.warnings[0], r"^recording stopped: .*No space left on device: .*a\.1\.client\.log")
         self.assertEqual(self.logs(), {"a.1.client.log": opening(b"a"), "b.1.client.log": opening(b"b")})
 
     def test_a_folder_that_is_not_there_stops_recording(self) -> None:
@@ -481,7 +484,7 @@ class Safety(Case):
         recorder._folder = self.folder / "none"
         self.accept(recorder, 1, b"a")
         self.accept(recorder, 2, b"b")
-        self.assertEqual(len(self.told), 1)
+        self.assertEqual(len(self.warnings), 1)
 
     def test_whatever_comes_nothing_is_raised(self) -> None:
         whole = connect(b"a") + connack() + PINGREQ + packet(0x30, bytes(300))
@@ -495,7 +498,7 @@ class Safety(Case):
                 self.now += 1
                 recorder.tick()
                 recorder.closed(at)
-        self.assertEqual([line for line in self.told if "stopped" in line], [])
+        self.assertEqual([line for line in self.warnings if "stopped" in line], [])
         self.logs()
 
     def test_unknown_keys_are_passed_over(self) -> None:
@@ -506,7 +509,7 @@ class Safety(Case):
         recorder.released(1, 1)
         recorder.finish()
         recorder.finish()
-        self.assertEqual((self.logs(), self.told), ({}, []))
+        self.assertEqual((self.logs(), self.warnings), ({}, []))
 
     def test_finish_writes_what_was_kept(self) -> None:
         recorder = self.recorder()
@@ -523,7 +526,7 @@ class Safety(Case):
                 self.accept(recorder, key, identifier)
                 recorder.closed(key)
             self.accept(recorder, 3, b"a", False, True)
-        self.assertEqual(len(self.told), 1)
+        self.assertEqual(len(self.warnings), 1)
 
 
 class Framing(unittest.TestCase):

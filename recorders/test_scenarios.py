@@ -91,7 +91,7 @@ def older(bench: Bench) -> None:
         wait = bench.subscribe(f"sub{version}", "older", 1, "-q", 1)
         bench.publish(f"old{version}", "older", "-q", 1, "-m", "x", version=version)
         wait()
-        if f"old{version} speaks" not in bench.told() or f"version {number}" not in bench.told():
+        if f"old{version} uses" not in bench.printed() or f"version {number}" not in bench.printed():
             raise Trouble("the proxy doesn't name a client of another version")
 
 
@@ -425,8 +425,8 @@ def attempt(name: str, scenario: Scenario, folder: Path, program: str) -> bool:
         run(scenario, folder)
         found = codes_of(folder, program)
         lines = differences(scenario.logs, found) + check_ends(folder)
-        told = (folder / "proxy.txt").read_text()
-        lines += [line for line in told.splitlines() if re.search("stopped|Traceback|Error", line)]
+        printed = (folder / "proxy.txt").read_text()
+        lines += [line for line in printed.splitlines() if re.search("stopped|Traceback|Error", line)]
     except (Trouble, OSError, ValueError, subprocess.SubprocessError) as error:
         lines = [str(error)]
     print(f"{'wrong' if lines else 'right'}: {name}", *lines, sep="\n  ", flush=True)

@@ -1,4 +1,4 @@
-/* The calls of OpenSSL: what stands inside TLS. The library isn't linked with OpenSSL: the program's own one is
+/* The calls of OpenSSL: what is inside TLS. The library isn't linked with OpenSSL: the program's own one is
  * called. */
 #include "preload.h"
 

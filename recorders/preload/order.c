@@ -2,8 +2,8 @@
  *
  * Each record has a stamp, a number that grows with each one of a process. What was read has the stamp of the moment
  * before the program gets it, what was written that of the moment before it was handed over, and it is recorded once
- * it is known how much was taken. So in the order of stamps nothing stands before what caused it, whatever the
- * threads do. A record before each write tells, where the program is killed in it, that some bytes may have been sent
+ * it is known how much was taken. So in the order of stamps nothing comes before what caused it, whatever the
+ * threads do. A record before each write says, where the program is killed in it, that some bytes may have been sent
  * that aren't recorded.
  */
 #include "preload.h"

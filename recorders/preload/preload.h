@@ -1,7 +1,7 @@
 /* What the modules of the preloaded library share.
  *
  * It records what an unchanged program (Linux, glibc, x86-64) reads from and writes to its MQTT connections. It is
- * loaded with LD_PRELOAD and stands between the program and the C library's calls on sockets, and OpenSSL's on TLS
+ * loaded with LD_PRELOAD and is between the program and the C library's calls on sockets, and OpenSSL's on TLS
  * connections. What a call gave goes to a raw file for each connection, in the folder that the environment variable
  * MQTT_RECORD_FOLDER names; `assemble` makes logs of these files. README.md says what is seen and what isn't.
  *
@@ -165,7 +165,7 @@ void leave_session(const void *session);
 /* `copy` stands for what `descriptor` stands for. */
 void copy_descriptor(int descriptor, int copy);
 
-/* Around a fork: the child gets the table as it stands between two changes. */
+/* Around a fork: the child gets the table as it is between two changes. */
 void hold_connections(void);
 void free_connections(void);
 void free_connections_in_child(void);
@@ -178,7 +178,7 @@ void record(struct connection *connection, int descriptor, struct event event, s
 /* From here on the connection's bytes aren't known. NULL is no connection. */
 void lose_connection(struct connection *connection, const char *what);
 
-/* Whether a call that failed with this error tells that the connection is over. */
+/* Whether a call that failed with this error means that the connection is over. */
 bool is_final(int error);
 
 #endif

@@ -24,7 +24,7 @@ RETURN = 1 << 62  # marks the place of a record whose call's return is meant
 
 
 class What(IntEnum):
-    """What a record tells. preload.h has the same numbers, but for RETURNED."""
+    """What a record says. preload.h has the same numbers, but for RETURNED."""
 
     RECEIVED = 1
     SENT = 2
@@ -32,7 +32,7 @@ class What(IntEnum):
     SHUT = 4  # the program shut down its direction
     ENDED = 5  # reading came to the end, or reading or writing failed
     HELD = 6  # the system didn't take what was to be written
-    RESTARTED = 7  # TLS: what stands before isn't MQTT's
+    RESTARTED = 7  # TLS: what comes before isn't MQTT's
     GAP = 8  # what follows isn't known
     WRITING = 9  # a call that writes begins
     RETURNED = 100  # the call of a SENT came back

@@ -24,7 +24,7 @@ enum {
     ADDRESS_MOST = 80,
 };
 
-/* What stands before each record's bytes. */
+/* What comes before each record's bytes. */
 struct frame {
     char mark[4];
     uint16_t kind, flags;

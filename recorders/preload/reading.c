@@ -22,7 +22,7 @@ static void end_reading(struct connection *connection, int error)
         note(connection, ENDED, (unsigned)error);
 }
 
-/* After a call that reads: what came stands in the pieces. */
+/* After a call that reads: what came is in the pieces. */
 static ssize_t was_read(int descriptor, struct connection *connection, ssize_t result, const struct iovec *pieces,
                         size_t count, int flags)
 {

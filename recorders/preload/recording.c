@@ -6,7 +6,7 @@
 
 enum { EARLY_MOST = 64 * 1024 }; /* bytes of the server's that are kept until the client's first byte */
 
-/* What isn't MQTT isn't recorded: the client's first byte tells. That of a CONNECT is 0x10; other flags are a
+/* What isn't MQTT isn't recorded: the client's first byte shows it. That of a CONNECT is 0x10; other flags are a
  * client's fault, and are recorded too, but 0x16 is how TLS begins. */
 static bool is_mqtt(unsigned char first)
 {

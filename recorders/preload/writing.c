@@ -1,5 +1,5 @@
 /* The calls that write to a descriptor. What they took is recorded once it is known how much it was, with the stamp
- * of the moment before the call; a record before each call tells that some bytes may be on their way. */
+ * of the moment before the call; a record before each call says that some bytes may be on their way. */
 #include "preload.h"
 
 #include <errno.h>
