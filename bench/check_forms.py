@@ -118,11 +118,11 @@ def all_sentences(program: str) -> dict[str, str]:
 
 def wanted_of(program: str, log: bytes, path: str, sentences: dict[str, str]) -> dict[tuple[str, ...], tuple[int, str, str]]:
     """For each command line what it is to answer for this log, which lies at the path too."""
-    status, text, told = run(program, log, "check")
+    status, text, errors = run(program, log, "check")
     wanted = {
-        ("check", "--json"): (status, as_json(text), told),
-        ("check", "--summary"): (status, in_short(text), told),
-        ("check", "--json", "--summary"): (status, as_json(text), told),
+        ("check", "--json"): (status, as_json(text), errors),
+        ("check", "--summary"): (status, in_short(text), errors),
+        ("check", "--json", "--summary"): (status, as_json(text), errors),
     }
     for long in ((), ("--long",)):
         shown = run(program, log, "show", *long)

@@ -1,5 +1,5 @@
 #!/usr/bin/env python3
-"""Holds the worked logs of mq_judge's tests against reference.py: each must get the report that stands beside it.
+"""Compares the worked logs of mq_judge's tests with reference.py: each must get the report that is beside it.
 
 usage: bench/check_rows.py
 """

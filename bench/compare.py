@@ -114,7 +114,7 @@ class Comparison:
         if not self.both:
             print(f"no program at {mqjudge}: only the plain program is tried")
 
-    def tell(self, what: str, *answers: Answer) -> None:
+    def report(self, what: str, *answers: Answer) -> None:
         self.differences += 1
         print(f"{what}:", *answers, sep="\n  ")
 
@@ -123,9 +123,9 @@ class Comparison:
         for count, packet in enumerate(some, 1):
             plain = answer(self.baseline, "packet", packet.hex())
             if plain[0] not in (0, 1) or not PACKET_TEXT.fullmatch(plain[1].rstrip("\n")):
-                self.tell(f"no answer to packet {packet.hex()}", plain)
+                self.report(f"no answer to packet {packet.hex()}", plain)
             elif self.both and (judged := answer(self.mqjudge, "packet", packet.hex())) != plain:
-                self.tell(f"packet {packet.hex()}", judged, plain)
+                self.report(f"packet {packet.hex()}", judged, plain)
         return count
 
     def compare_logs(self, some: Iterator[Path]) -> int:
@@ -134,10 +134,10 @@ class Comparison:
             plain = answer(self.baseline, log)
             what = log.read_bytes().hex() if log.stat().st_size < 5_000 else log.name
             if plain[0] not in (0, 2):
-                self.tell(f"no answer to log {what}", plain)
+                self.report(f"no answer to log {what}", plain)
             elif self.both and (judged := answer(self.mqjudge, "show", log)) != plain:
                 line = next((pair for pair in zip(judged[1].splitlines(), plain[1].splitlines()) if pair[0] != pair[1]), ())
-                self.tell(f"log {what}", (judged[0], *line[:1]), (plain[0], *line[1:]))
+                self.report(f"log {what}", (judged[0], *line[:1]), (plain[0], *line[1:]))
         return count
 
 

@@ -117,7 +117,7 @@ ACKNOWLEDGEMENTS = (PUBACK, PUBREC, PUBREL, PUBCOMP)
 WITH_REASON = {CONNACK, *ACKNOWLEDGEMENTS, SUBACK, UNSUBACK, DISCONNECT, AUTH}
 ALL_LISTS = {CONNECT, CONNACK, PUBLISH, *ACKNOWLEDGEMENTS, SUBSCRIBE, SUBACK, UNSUBSCRIBE, UNSUBACK, DISCONNECT, AUTH, WILL}
 
-# identifier: the reader of its value, and the lists that it may stand in
+# identifier: the reader of its value, and the lists that it may be in
 PROPERTIES: dict[int, tuple[str, set[int]]] = {
     0x01: ("u8", {PUBLISH, WILL}),
     0x02: ("u32", {PUBLISH, WILL}),
@@ -631,7 +631,7 @@ class Log:
         for k in range(1, self.last + 1):
             self.spans[self.numbers[k]].append(k)
 
-    # -- what stands at a position
+    # -- what is at a position
 
     def event(self, k: int) -> Event:
         return self.events[k - 1]
@@ -815,7 +815,7 @@ class Log:
         return at is not None and at < k
 
     def connect_before(self, k: int) -> Packet | None:
-        """The CONNECT of k's connection, if it stands before k."""
+        """The CONNECT of k's connection, if it comes before k."""
         at = self.first_connect(self.places[k])
         return self.from_client(at, CONNECT) if at is not None and at < k else None
 

@@ -3,7 +3,7 @@
 
 The rows are those of `TABLE` in crates/mq_rules/src/table.rt, and what each statement says is its doc comment in
 crates/mq_rules/src/rule.rt, which is also its sentence in `SENTENCES` of crates/mq_rules/src/naming.rt. In the document
-the table stands between the lines `<!-- rules -->` and `<!-- /rules -->`. If it differs, the first line that does is
+the table is between the lines `<!-- rules -->` and `<!-- /rules -->`. If it differs, the first line that does is
 printed, and the status is 1; with --write the table is written instead.
 
 usage: bench/rules_table.py [--write]
@@ -45,8 +45,8 @@ def table() -> str:
     said = sentences()
     if size is None or int(size[1]) != len(rows) or [row[0] for row in rows] != list(said):
         sys.exit("rules_table.py: the rows of the table aren't the values of the enum, in their order")
-    told = SENTENCE.findall((SOURCES / "naming.rt").read_text())
-    if told != [(name, text + ".") for name, text in said.items()]:
+    printed = SENTENCE.findall((SOURCES / "naming.rt").read_text())
+    if printed != [(name, text + ".") for name, text in said.items()]:
         sys.exit("rules_table.py: the sentences aren't the comments of the enum's values, in their order")
     lines = HEAD.copy()
     for name, code, client, server, needs_releases in rows:

@@ -1,10 +1,10 @@
 #!/usr/bin/env python3
-"""Tries all wrong bodies of some crates: those that the gate tries, and those that stand in must-fail/further/.
+"""Tries all wrong bodies of some crates: those that the gate tries, and those in must-fail/further/.
 
 usage: bench/wrong_bodies.py [CRATE ..]
 
 A file must-fail/further/NAME.md is a must-fail edit that the gate leaves out, since each one costs it half a minute of a
-processor. The prover has to refuse it all the same. While this runs they stand among those of the gate; the status is that
+processor. The prover has to refuse it all the same. While this runs they are among those of the gate; the status is that
 of `rt must-fail`.
 """
 import shutil
@@ -24,7 +24,7 @@ def tried_in_place(crate: Path) -> int:
         for further in sorted((edits / "further").glob("*.md")):
             edit = edits / f"{further.stem}.edit"
             if edit.exists():
-                sys.exit(f"{edit.relative_to(TOP)} stands there already")
+                sys.exit(f"{edit.relative_to(TOP)} is there already")
             lent.append(edit)
             shutil.copyfile(further, edit)
         return subprocess.run(["rt", "must-fail", crate.name], cwd=TOP).returncode

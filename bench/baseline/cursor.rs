@@ -71,7 +71,7 @@ impl<'a> Cursor<'a> {
         Ok(text)
     }
 
-    /// A pair of texts; a fault of either stands where the pair begins.
+    /// A pair of texts; a fault of either is where the pair begins.
     pub fn pair(&mut self) -> Result<(), Fault> {
         let field = self.at;
         let at_pair = |fault: Fault| fault.moved_to(field);
@@ -92,7 +92,7 @@ impl<'a> Cursor<'a> {
     }
 }
 
-/// What stands at the front of some bytes, read as a variable byte integer (section 1.5.5).
+/// What is at the front of some bytes, read as a variable byte integer (section 1.5.5).
 pub enum Varint {
     Short,
     Overlong,

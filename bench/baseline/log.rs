@@ -315,7 +315,7 @@ impl<S: Sink> Log<S> {
         }
     }
 
-    // The next bytes of a direction; the first of them stands at `self.offset`.
+    // The next bytes of a direction; the first of them is at `self.offset`.
     fn stream(&mut self, kind: Kind, bytes: &[u8]) -> Result<(), Stop> {
         let mut done = 0;
         while done < bytes.len() && !self.direction(kind).is_lost {

@@ -57,7 +57,7 @@ pub fn front(bytes: &[u8]) -> Front {
 
 pub const CONNACK: u8 = 2;
 
-/// What is told of a packet.
+/// What is printed of a packet.
 #[derive(Debug)]
 pub struct Summary {
     pub first: u8,

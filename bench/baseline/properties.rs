@@ -3,7 +3,7 @@
 use crate::cursor::Cursor;
 use crate::packet::Fault;
 
-/// Where a property list stands: a packet, by its type, or the Will of a CONNECT.
+/// Where a property list is: in a packet, by its type, or the Will of a CONNECT.
 pub type List = u16;
 pub const WILL: List = 1 << 0;
 pub const CONNECT: List = 1 << 1;

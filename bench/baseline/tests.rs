@@ -296,8 +296,8 @@ fn stays_whole_on_changed_packets() {
         if packet.len() >= 2 && packet.len() < 130 && draws.below(4) > 0 {
             packet[1] = packet.len() as u8 - 2;
         }
-        let told = catch_unwind(|| describe(&packet)).unwrap_or_else(|_| panic!("{packet:02X?}"));
-        valid += usize::from(told.1 == 0);
+        let said = catch_unwind(|| describe(&packet)).unwrap_or_else(|_| panic!("{packet:02X?}"));
+        valid += usize::from(said.1 == 0);
     }
     assert!(valid > 60_000, "only {valid} are valid");
 }
