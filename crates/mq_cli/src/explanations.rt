@@ -119,7 +119,9 @@ pub const DELIVERIES: [Explanation; 4] = [
 fn found(rows: &[Explanation], rule: Rule) -> Option<Explanation>
     ensures { result ≡ find (λ row. same_rule row.0 rule) rows.now }
 {
-    rows.iter().copied().find(|row| row.0 == rule)
+    rows.iter()
+        .copied()
+        .find(|(explained, _)| *explained == rule)
 }
 
 // The same, as contracts see rows.
@@ -207,7 +209,7 @@ pub fn explanation(rule: Rule) -> &'static str
     ensures { result.now ≡ explanation_of rule }
 {
     match find_explanation(rule) {
-        Some(row) => row.1,
+        Some((_, text)) => text,
         None => "",
     }
 }

@@ -95,8 +95,9 @@ fn is_large_value(value: &Value) -> bool
 fn is_bad_value(place: Place, row: Row, value: &Value) -> bool
     ensures { result ≡ is_bad place (row_view row.entry) (value_view value.now) }
 {
-    !is_in_range(row.2, value)
-        || is_wild_in(place, row.0, value)
+    let (identifier, _, range, _) = row;
+    !is_in_range(range, value)
+        || is_wild_in(place, identifier, value)
         || has_nul_in(value)
         || is_large_value(value)
 }
@@ -155,16 +156,17 @@ fn fault_with(place: Place, seen: &Seen, bytes: &[u8], row: Row, value: &Value) 
     requires known { row.0 < 43 }
     ensures { result ≡ push_fault_by_line (record { place = place; items = items_of bytes.now }) (value_view value.now) (Some (row_view row.entry)) }
 {
-    if !lists_place(row.3, place) {
+    let (identifier, _, _, places) = row;
+    if !lists_place(places, place) {
         return Some(PushFault::NotAllowed);
     }
-    if seen.has(row.0) && !may_repeat_in(place, row.0) {
+    if seen.has(identifier) && !may_repeat_in(place, identifier) {
         return Some(PushFault::Repeated);
     }
     if is_bad_value(place, row, value) {
         return Some(PushFault::Value);
     }
-    if is_too_long(bytes, row.0, value) {
+    if is_too_long(bytes, identifier, value) {
         return Some(PushFault::TooLong);
     }
     None

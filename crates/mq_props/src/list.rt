@@ -23,13 +23,14 @@ fn admit(place: Place, seen: &Seen, at: usize, id: u32) -> Result<Row, PropFault
             reason: PropReason::Unknown,
         });
     };
-    if !lists_place(row.3, place) {
+    let (identifier, _, _, places) = row;
+    if !lists_place(places, place) {
         return Err(PropFault {
             at,
             reason: PropReason::NotAllowed,
         });
     }
-    if seen.has(row.0) && !may_repeat_in(place, row.0) {
+    if seen.has(identifier) && !may_repeat_in(place, identifier) {
         return Err(PropFault {
             at,
             reason: PropReason::Repeated,
@@ -42,19 +43,23 @@ fn admit(place: Place, seen: &Seen, at: usize, id: u32) -> Result<Row, PropFault
 fn judge<'a>(place: Place, row: Row, at: usize, value: Value<'a>) -> Result<Item<'a>, PropFault>
     ensures { Gives item_view result (judged_at at (valued place (row_view row.entry) (value_view value.entry))) }
 {
-    if !is_in_range(row.2, &value) {
+    let (identifier, _, range, _) = row;
+    if !is_in_range(range, &value) {
         return Err(PropFault {
             at,
             reason: PropReason::Value,
         });
     }
-    if is_wild_in(place, row.0, &value) {
+    if is_wild_in(place, identifier, &value) {
         return Err(PropFault {
             at,
             reason: PropReason::Wildcard,
         });
     }
-    Ok(Item { id: row.0, value })
+    Ok(Item {
+        id: identifier,
+        value,
+    })
 }
 
 // A property at the front of what is left, after those seen.
@@ -66,7 +71,8 @@ fn read_item<'a>(place: Place, seen: &Seen, cursor: &mut Cursor<'a>) -> Result<I
     let id = cursor.varint()?;
     let row = admit(place, seen, start, id)?;
     let value_at = cursor.at();
-    let value = read_value(row.1, cursor)?;
+    let (_, value_type, _, _) = row;
+    let value = read_value(value_type, cursor)?;
     let item = judge(place, row, value_at, value)?;
     Ok(item)
 }

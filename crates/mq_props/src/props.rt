@@ -132,13 +132,16 @@ fn next_item<'a>(cursor: &mut Cursor<'a>) -> Option<Item<'a>>
     let Ok(id) = cursor.varint() else {
         return None;
     };
-    let Some(row) = find_row(id) else {
+    let Some((identifier, value_type, _, _)) = find_row(id) else {
         return None;
     };
-    let Ok(value) = read_value(row.1, cursor) else {
+    let Ok(value) = read_value(value_type, cursor) else {
         return None;
     };
-    Some(Item { id: row.0, value })
+    Some(Item {
+        id: identifier,
+        value,
+    })
 }
 
 /// The value of the first property with the identifier among those that the bytes spell.

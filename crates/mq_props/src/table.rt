@@ -162,7 +162,10 @@ pub const TABLE: [Row; 27] = [
 fn found(table: &[Row], id: u32) -> Option<Row>
     ensures { result ≡ find (λ row. row.0 == id) table.now }
 {
-    table.iter().copied().find(|row| u32::from(row.0) == id)
+    table
+        .iter()
+        .copied()
+        .find(|(identifier, _, _, _)| u32::from(*identifier) == id)
 }
 
 fn found_in(table: &[Row], id: u32) -> Option<Row>

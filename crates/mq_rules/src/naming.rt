@@ -218,7 +218,7 @@ pub const SENTENCES: [Saying; 74] = [
 fn found_saying(sayings: &[Saying], rule: Rule) -> Option<Saying>
     ensures { result ≡ find (λ row. same_rule row.0 rule) sayings.now }
 {
-    sayings.iter().copied().find(|row| row.0 == rule)
+    sayings.iter().copied().find(|(said, _)| *said == rule)
 }
 
 /// The same, as contracts see rows.
@@ -243,7 +243,7 @@ fn row_with_code(table: &[Row], code: &str) -> Option<Row>
     table
         .iter()
         .copied()
-        .find(|row| row.1.eq_ignore_ascii_case(code))
+        .find(|(_, written, _, _, _)| written.eq_ignore_ascii_case(code))
 }
 
 /// The same, as contracts see rows.
@@ -269,7 +269,7 @@ impl Rule {
         ensures { result.now ≡ sentence_of self }
     {
         match find_saying(self) {
-            Some(row) => row.1,
+            Some((_, sentence)) => sentence,
             None => "",
         }
     }
@@ -279,7 +279,7 @@ impl Rule {
     pub fn of_code(code: &str) -> Option<Rule>
         ensures { result ≡ coded_rule code.now }
     {
-        find_coded(code).map(|row| row.0)
+        find_coded(code).map(|(rule, _, _, _, _)| rule)
     }
 }
 

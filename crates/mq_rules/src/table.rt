@@ -188,7 +188,10 @@ const RULES: [Rule; 74] = [
 fn found(table: &[Row], rule: Rule) -> Option<Row>
     ensures { result ≡ find (λ row. same_rule row.0 rule) table.now }
 {
-    table.iter().copied().find(|row| row.0 == rule)
+    table
+        .iter()
+        .copied()
+        .find(|(chosen, _, _, _, _)| *chosen == rule)
 }
 
 /// The same, as contracts see rows.
@@ -221,7 +224,7 @@ impl Rule {
         ensures { result.now ≡ code_of self }
     {
         match find_row(self) {
-            Some(row) => row.1,
+            Some((_, code, _, _, _)) => code,
             None => "",
         }
     }
@@ -233,9 +236,9 @@ impl Rule {
         ensures { result.now ≡ citation_of self role }
     {
         match find_row(self) {
-            Some(row) => match role {
-                Role::Client => row.2,
-                Role::Server => row.3,
+            Some((_, _, client, server, _)) => match role {
+                Role::Client => client,
+                Role::Server => server,
             },
             None => "",
         }
@@ -254,7 +257,7 @@ impl Rule {
         ensures { result ≡ (line_of self).needs_releases }
     {
         match find_row(self) {
-            Some(row) => row.4,
+            Some((_, _, _, _, needs_releases)) => needs_releases,
             None => false,
         }
     }

@@ -111,7 +111,9 @@ fn every_property_in_every_list(rt: HostRuntime) -> Result<(), Fail> {
 #[test]
 fn unknown_identifiers(rt: HostRuntime) -> Result<(), Fail> {
     for id in 0..128u8 {
-        let known = PROPERTIES.iter().any(|row| row.0.first() == Some(&id));
+        let known = PROPERTIES
+            .iter()
+            .any(|(property, _)| property.first() == Some(&id));
         let list = spelled(rt.alloc(), &[&[id]])?;
         let fault = read(&list, Connack).0;
         assert_eq!(rt; fault == Some((1, PropReason::Unknown)), !known, "at {id}");
