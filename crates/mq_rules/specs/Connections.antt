@@ -81,7 +81,7 @@ with_first true m ms = m ∷ ms
 with_first false m ms = ms
 
 -- The current session after these events, if the latest connection has this fate: the moments that are in a session, since the OPEN of the latest connection
--- that is accepted and not resumed, or since the first one.
+-- that is accepted and not resumed, or since the first one. `IsInSession`, below, says of one moment whether it is among them.
 abbrev pub session : Role → Option Fate → List Seen → List Moment
 session role f [] = []
 session role f (e ∷ past) =

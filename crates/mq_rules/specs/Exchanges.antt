@@ -6,7 +6,7 @@ use Rattle.mq_rules.specs.declared.fate.Fate.{Fate}
 use Rattle.mq_rules.specs.declared.note.Note.{Note}
 use Rattle.mq_rules.specs.Words.{is_some_and, is_id}
 use Rattle.mq_rules.specs.Notes.{received_once_acknowledged, received_exactly_once, sent_as, received_as, puback_in, pubrec_in, accepting_pubrec_in, pubrel_in, pubcomp_in, subscribe_in, suback_in, unsubscribe_in, unsuback_in, is_sent_pingresp, is_received_pingreq}
-use Rattle.mq_rules.specs.Moments.{Moment, note, is_same, is_after, some, since, earliest_since, count}
+use Rattle.mq_rules.specs.Moments.{Moment, note, is_after, some, since, is_unended, earliest_since, count}
 use Rattle.mq_rules.specs.Connections.{number, connection, is_binding}
 use Rattle.mq_rules.specs.Identifiers.{session_before}
 
@@ -60,7 +60,7 @@ first_unanswered x i k = earliest_since (causes x i) (answers x i) (connection k
 
 -- at k, j is a cause under another identifier than this one, before k on its connection without an answer between
 abbrev pub is_other_unanswered : Exchange → ℕ → Moment → Moment → Bool
-is_other_unanswered x i k j = is_some_and (λ other. not (other == i) && since (is_same j) (answers x other) (connection k.past)) (x.cause (note j))
+is_other_unanswered x i k j = is_some_and (λ other. not (other == i) && is_unended j (answers x other) (connection k.past)) (x.cause (note j))
 
 -- O: an answer, though another identifier has an unanswered cause before the first one under its own.
 unfoldable pub breaks_O : Exchange → Moment → Bool
@@ -68,7 +68,7 @@ breaks_O x k = is_some_and (λ i. is_some_and (λ first. some (λ j. is_other_un
 
 -- R, at a cause k before which no cause under its identifier is unanswered, as a binding REST t shows: k is before t on its connection, without an answer between.
 unfoldable pub shows_R : Exchange → Moment → Moment → Bool
-shows_R x t k = is_some_and (λ i. not (is_some (first_unanswered x i k)) && since (is_same k) (answers x i) (connection t.past)) (x.cause (note k))
+shows_R x t k = is_some_and (λ i. not (is_some (first_unanswered x i k)) && is_unended k (answers x i) (connection t.past)) (x.cause (note k))
 
 -- E7R: a binding REST before which, on its connection, fewer PINGRESPs were sent than PINGREQs received (MQTT 5.0, section 3.12.4).
 unfoldable pub breaks_E7R : Role → Moment → Bool

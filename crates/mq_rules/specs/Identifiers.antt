@@ -7,7 +7,7 @@ use Rattle.mq_rules.specs.declared.fate.Fate.{Fate}
 use Rattle.mq_rules.specs.declared.note.Note.{Note}
 use Rattle.mq_rules.specs.Words.{is_some_and, is_id}
 use Rattle.mq_rules.specs.Notes.{opener_of, resend_of, delivery_of, closer_of, sent_publish, is_exactly_once, sent_as, received_as, pubrel_in, accepting_pubrec_in, subscribe_in, suback_in, unsubscribe_in, unsuback_in}
-use Rattle.mq_rules.specs.Moments.{Moment, position, note, moments, is_same, some, since, those, latest, count, some_stretch}
+use Rattle.mq_rules.specs.Moments.{Moment, position, note, moments, is_same, some, since, is_unended, those, latest, count, some_stretch}
 use Rattle.mq_rules.specs.Connections.{number, connection, fate, latest_fate, resumed, voided, session}
 use Rattle.mq_rules.specs.Pasts.{peer_receive_maximum, peer_maximum_packet_size, connack_before}
 
@@ -129,7 +129,7 @@ has_announced role t = is_some (peer_maximum_packet_size role t) || is_some (ann
 
 -- an opener k that wasn't sent again by t is excused: no PUBREC below 0x80 came after it, and the quota is used up or the peer announced a bound
 abbrev pub is_excused : Role → ℕ → Moment → Moment → Bool
-is_excused role i t k = since (is_same k) (λ m. is_id i (received_as accepting_pubrec_in (note m))) (session role (latest_fate role t.past) t.past)
+is_excused role i t k = is_unended k (λ m. is_id i (received_as accepting_pubrec_in (note m))) (session role (latest_fate role t.past) t.past)
     && (is_used_up role t || has_announced role t)
 
 -- a PUBLISH, or a PUBREL, of the identifier was sent on t's connection before t
@@ -140,5 +140,5 @@ was_sent_again i t = some (λ m. delivers i m || sends_pubrel i m) (connection t
 -- between; it wasn't sent again, and isn't excused.
 unfoldable pub shows_S06 : Role → Moment → Moment → Bool
 shows_S06 role t k = resumed (latest_fate role t.past) && is_some_and (λ i.
-    since (is_same k) (λ m. opens_id i m || closes_id i m) (session role (latest_fate role t.past) t.past)
+    is_unended k (λ m. opens_id i m || closes_id i m) (session role (latest_fate role t.past) t.past)
     && (not (some (is_same k) (connection t.past)) && (not (was_sent_again i t) && not (is_excused role i t k)))) (opener_of (note k))

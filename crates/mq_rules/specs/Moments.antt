@@ -54,6 +54,10 @@ abbrev pub since : (Moment → Bool) → (Moment → Bool) → List Moment → B
 since starts ends [] = false
 since starts ends (m ∷ ms) = starts m || (not (ends m) && since starts ends ms)
 
+-- the moment is among these, and no later one passes the test, which ends it
+abbrev pub is_unended : Moment → (Moment → Bool) → List Moment → Bool
+is_unended m ends ms = since (is_same m) ends ms
+
 -- the moments that pass the test
 abbrev pub those : (Moment → Bool) → List Moment → List Moment
 those test [] = []

@@ -4,7 +4,7 @@ use Rattle.mq_rules.specs.declared.role.Role.{Role}
 use Rattle.mq_rules.specs.declared.fate.Fate.{Fate}
 use Rattle.mq_rules.specs.Words.{is_some_and, is_id}
 use Rattle.mq_rules.specs.Notes.{released_id, received_exactly_once, received_publish, sent_as, ended_in, unmatched_pubrec_in, success_pubcomp_in}
-use Rattle.mq_rules.specs.Moments.{Moment, note, is_same, since, earliest_since}
+use Rattle.mq_rules.specs.Moments.{Moment, note, since, is_unended, earliest_since}
 use Rattle.mq_rules.specs.Identifiers.{session_before}
 
 -- the moment receives a QoS 2 PUBLISH under the identifier; releases it; ends its exchange, by a PUBCOMP or by a PUBREC of 0x80 or more
@@ -32,7 +32,7 @@ first_brought role f i k = earliest_since (brings i) (ends i) (session_before ro
 -- It needs no RELEASE: it may expire, or a PUBREC of 0x10 (No matching subscribers) was sent since.
 abbrev pub may_lapse : Role → Fate → ℕ → Moment → Moment → Bool
 may_lapse role f i k first = is_some_and (λ p. p.has_message_expiry) (received_publish (note first))
-    || not (since (is_same first) (λ m. is_id i (sent_as unmatched_pubrec_in (note m))) (session_before role f k))
+    || not (is_unended first (λ m. is_id i (sent_as unmatched_pubrec_in (note m))) (session_before role f k))
 
 -- L3: a PUBCOMP of code 0x00 for such a PUBLISH, which needs a RELEASE and had none.
 unfoldable pub breaks_L3 : Role → Fate → Moment → Bool

@@ -33,7 +33,7 @@ pub data Statement : Type 0 where
   on_past : (Moment → Bool) → Statement
   -- by the past of a session, at a moment of an accepted connection, which has this fate
   in_session : (Fate → Moment → Bool) → Statement
-  -- by the past of a session, at a RELEASE, whose connection has this fate or which belongs to one before
+  -- by the past of a session, at a RELEASE; f is the fate of the latest connection, Void before the first
   at_release : (Fate → Moment → Bool) → Statement
   -- by the past of a session, at the second moment, as the first one shows, which is a later binding REST
   at_rest : (Moment → Moment → Bool) → Statement
