@@ -18,7 +18,7 @@ DOCUMENT = TOP / "docs" / "STATEMENTS.md"
 SOURCES = TOP / "crates" / "mq_rules" / "src"
 BEGIN, END = "<!-- rules -->\n", "<!-- /rules -->\n"
 HEAD = ["| Code | A statement of the tested end | Citation for a client | For a server |", "|---|---|---|---|"]
-ROW = re.compile(r'\(\s*Rule::(\w+),\s*"(\w+)",\s*"([^"]*)",\s*"([^"]*)",\s*(true|false),?\s*\)')
+ROW = re.compile(r'\(\s*(\w+),\s*"(\w+)",\s*(\w+),\s*"([^"]*)",\s*"([^"]*)",\s*(true|false),?\s*\)')
 SENTENCE = re.compile(r'\(\s*Rule::(\w+),\s*"([^"]*)",?\s*\)')
 VALUE = re.compile(r"((?:^ +///.*\n)+)^ +(\w+),$", re.MULTILINE)
 SECTION = re.compile(r" \(MQTT 5\.0, sections? [^()]*\)\.$")
@@ -49,7 +49,7 @@ def table() -> str:
     if printed != [(name, text + ".") for name, text in said.items()]:
         sys.exit("rules_table.py: the sentences aren't the comments of the enum's values, in their order")
     lines = HEAD.copy()
-    for name, code, client, server, needs_releases in rows:
+    for name, code, _, client, server, needs_releases in rows:
         condition = ", if the log records releases" if needs_releases == "true" else ""
         lines.append(f"| {code} | {said[name]}{condition} | {client or '-'} | {server or '-'} |")
     return "\n".join(lines) + "\n"

@@ -5,6 +5,7 @@ use Rattle.std.specs.List.{find}
 use Rattle.std.specs.Char.{to_ascii_lowercase}
 use Rattle.std.specs.Str.{str_eq_ignore_ascii_case}
 use Rattle.mq_rules.specs.declared.rule.Rule.{Rule}
+use Rattle.mq_rules.specs.declared.table.Ends.{Ends}
 use Rattle.mq_rules.specs.declared.rule.Rule.TheVariants.{W01}
 use Rattle.mq_rules.specs.Naming.{Said, coded_line, coded_rule, saying_view, sayings_of, sentences}
 use Rattle.mq_rules.specs.Rules.{StatementLine, all_rules, code_of, found_line, line_of, line_view, lines, lines_of, same_rule}
@@ -18,7 +19,7 @@ pub find-saying : (rule : Rule) (rows : List (Rule × Bor (List ℕ)))
 find-saying rule [] = refl
 find-saying rule (row ∷ rows) = cond-map saying_view (same_rule row.0 rule) row (find (λ r. same_rule r.0 rule) rows) (find (λ (s : Said). same_rule s.rule rule) (sayings_of rows)) (find-saying rule rows)
 
-pub find-coded : (code : List ℕ) (rows : List (Rule × Bor (List ℕ) × Bor (List ℕ) × Bor (List ℕ) × Bool))
+pub find-coded : (code : List ℕ) (rows : List (Rule × Bor (List ℕ) × Ends × Bor (List ℕ) × Bor (List ℕ) × Bool))
     → option_map line_view (find (λ row. str_eq_ignore_ascii_case row.1.now code) rows) ≡ find (λ (line : StatementLine). str_eq_ignore_ascii_case line.code code) (lines_of rows)
 find-coded code [] = refl
 find-coded code (row ∷ rows) = cond-map line_view (str_eq_ignore_ascii_case row.1.now code) row (find (λ r. str_eq_ignore_ascii_case r.1.now code) rows)

@@ -1,6 +1,6 @@
 -- The table of statements: a row that is found in the source's table is found in its view; each statement has its row; and the rows ascend.
 use Rattle.std.proofs.Common.{◌≡◌, ℕ, Bool, true, false, ◌&&◌, cond, List, [], ◌∷◌, Option, Some, Bor, refl}
-use Rattle.std.specs.Prelude.{T, IsSomeAnd, Contains}
+use Rattle.std.specs.Prelude.{T, ◌==◌, not, length, IsSomeAnd, Contains}
 use Rattle.std.specs.declared.cmp.Ordering.{Ordering}
 use Rattle.std.specs.declared.cmp.Ordering.TheVariants.{Less, Equal, Greater}
 use Rattle.std.specs.Ordering.{is_lt}
@@ -10,15 +10,19 @@ use Rattle.std.specs.List.Sorted.{IsStrictlySortedBy}
 use Rattle.std.proofs.lemmas.Map.Views.{Contains-from_any}
 use denote.Enum.Bare.{same_true}
 use Rattle.mq_rules.specs.contracts.rule.Rule.{the_type}
+use Rattle.mq_rules.specs.declared.role.Role.{Role}
+use Rattle.mq_rules.specs.declared.role.Role.TheVariants.{Client, Server}
 use Rattle.mq_rules.specs.declared.rule.Rule.{Rule}
+use Rattle.mq_rules.specs.declared.table.Ends.{Ends}
 use Rattle.mq_rules.specs.declared.rule.Rule.TheVariants.{W01}
-use Rattle.mq_rules.specs.Rules.{StatementLine, line_view, lines_of, lines, found_line, all_rules, rule_cmp, same_rule}
+use Rattle.mq_rules.specs.Bindings.{is_among, on_releases, only_client, only_server}
+use Rattle.mq_rules.specs.Rules.{StatementLine, line_view, lines_of, lines, line_of, found_line, binds_end, citation_of, all_rules, rule_cmp, same_rule}
 
 cond-map : {A B : Type 0} (view : A → B) (b : Bool) (x : A) (o : Option A) (q : Option B) → option_map view o ≡ q → option_map view (cond b (Some x) o) ≡ cond b (Some (view x)) q
 cond-map view true x o q h = refl
 cond-map view false x o q h = h
 
-pub find-view : (rule : Rule) (rows : List (Rule × Bor (List ℕ) × Bor (List ℕ) × Bor (List ℕ) × Bool))
+pub find-view : (rule : Rule) (rows : List (Rule × Bor (List ℕ) × Ends × Bor (List ℕ) × Bor (List ℕ) × Bool))
     → option_map line_view (find (λ row. same_rule row.0 rule) rows) ≡ find (λ (line : StatementLine). same_rule line.rule rule) (lines_of rows)
 find-view rule [] = refl
 find-view rule (row ∷ rows) = cond-map line_view (same_rule row.0 rule) row (find (λ r. same_rule r.0 rule) rows) (find (λ (l : StatementLine). same_rule l.rule rule) (lines_of rows)) (find-view rule rows)
@@ -77,3 +81,34 @@ rows_rise = tt
 
 pub rows_sorted : IsStrictlySortedBy rule_cmp all_rules
 rows_sorted = sorted all_rules rows_rise
+
+-- ---- whom the statements bind
+
+pub client_bound : (rule : Rule) → binds_end rule Client ≡ not (is_among rule only_server)
+unfolding line_of found_line lines
+client_bound W01 = refl
+client_bound _ = refl
+
+pub server_bound : (rule : Rule) → binds_end rule Server ≡ not (is_among rule only_client)
+unfolding line_of found_line lines
+server_bound W01 = refl
+server_bound _ = refl
+
+cited_for_client : (rule : Rule) → not (length (citation_of rule Client) == 0) ≡ binds_end rule Client
+unfolding line_of found_line lines
+cited_for_client W01 = refl
+cited_for_client _ = refl
+
+cited_for_server : (rule : Rule) → not (length (citation_of rule Server) == 0) ≡ binds_end rule Server
+unfolding line_of found_line lines
+cited_for_server W01 = refl
+cited_for_server _ = refl
+
+pub ends_cited : (rule : Rule) (role : Role) → not (length (citation_of rule role) == 0) ≡ binds_end rule role
+ends_cited rule Client = cited_for_client rule
+ends_cited rule Server = cited_for_server rule
+
+pub releases_needed : (rule : Rule) → (line_of rule).needs_releases ≡ is_among rule on_releases
+unfolding line_of found_line lines
+releases_needed W01 = refl
+releases_needed _ = refl

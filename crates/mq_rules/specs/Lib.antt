@@ -9,6 +9,7 @@ pub mod Exchanges
 pub mod Releases
 pub mod Subscriptions
 pub mod Rules
+pub mod Bindings
 pub mod Statements
 pub mod Steps
 pub mod FaultKeys

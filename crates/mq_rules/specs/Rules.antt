@@ -1,5 +1,5 @@
 -- The table of the statements: how reports name each, where MQTT 5.0 has it, and whom it binds.
-use Rattle.std.specs.Prelude.{ℕ, ◌==◌, Bool, false, ◌&&◌, ◌||◌, not, List, [], length, map, Option, unwrap_or}
+use Rattle.std.specs.Prelude.{ℕ, Bool, true, false, ◌&&◌, ◌||◌, not, List, [], map, Option, unwrap_or}
 use Rattle.std.specs.Borrow.{Bor}
 use Rattle.std.specs.declared.cmp.Ordering.{Ordering}
 use Rattle.std.specs.List.{find}
@@ -10,13 +10,16 @@ use Rattle.mq_rules.specs.declared.role.Tested.{Tested}
 use Rattle.mq_rules.specs.declared.rule.Rule.{Rule}
 use Rattle.mq_rules.specs.contracts.rule.Rule.{the_type}
 use Rattle.mq_rules.specs.contracts.rule.RuleOrd.TheImpl as rule_ord
+use Rattle.mq_rules.specs.declared.table.Ends.{Ends}
+use Rattle.mq_rules.specs.declared.table.Ends.TheVariants.{OnlyClient, OnlyServer, Both}
 use Rattle.mq_rules.specs.declared.table.TheConstants.{TABLE}
 
--- A line of the table: a statement, its code, its citation for a client and for a server, and whether it is judged only if the log records releases. An empty
--- citation means that the statement doesn't bind that end.
+-- A line of the table: a statement, its code, the ends that it binds, its citation for a client and for a server, and whether it is judged only if the log
+-- records releases. A citation is empty for an end that the statement doesn't bind.
 pub record StatementLine : Type 0 where
   pub rule : Rule
   pub code : List ℕ
+  pub ends : Ends
   pub client : List ℕ
   pub server : List ℕ
   pub needs_releases : Bool
@@ -30,15 +33,15 @@ abbrev pub rule_cmp : Rule → Rule → Ordering
 rule_cmp = (rule_ord.ghosts).cmp
 
 -- a line as the source has it
-abbrev pub line_view : Rule × Bor (List ℕ) × Bor (List ℕ) × Bor (List ℕ) × Bool → StatementLine
-line_view row = record { rule = row.0; code = row.1.now; client = row.2.now; server = row.3.now; needs_releases = row.4 }
+abbrev pub line_view : Rule × Bor (List ℕ) × Ends × Bor (List ℕ) × Bor (List ℕ) × Bool → StatementLine
+line_view row = record { rule = row.0; code = row.1.now; ends = row.2; client = row.3.now; server = row.4.now; needs_releases = row.5 }
 
-abbrev pub lines_of : List (Rule × Bor (List ℕ) × Bor (List ℕ) × Bor (List ℕ) × Bool) → List StatementLine
+abbrev pub lines_of : List (Rule × Bor (List ℕ) × Ends × Bor (List ℕ) × Bor (List ℕ) × Bool) → List StatementLine
 lines_of rows = map line_view rows
 
 -- the lines of the table, in the order of reports
 unfoldable pub lines : List StatementLine
-lines = map (λ row. record { rule = row.0; code = row.1.now; client = row.2.now; server = row.3.now; needs_releases = row.4 }) TABLE
+lines = map (λ row. record { rule = row.0; code = row.1.now; ends = row.2; client = row.3.now; server = row.4.now; needs_releases = row.5 }) TABLE
 
 -- the statements, in the order of reports
 abbrev pub all_rules : List Rule
@@ -49,7 +52,7 @@ unfoldable pub found_line : Rule → Option StatementLine
 found_line rule = find (λ line. same_rule line.rule rule) lines
 
 unfoldable pub line_of : Rule → StatementLine
-line_of rule = unwrap_or (found_line rule) (record { rule = rule; code = []; client = []; server = []; needs_releases = false })
+line_of rule = unwrap_or (found_line rule) (record { rule = rule; code = []; ends = Both; client = []; server = []; needs_releases = false })
 
 -- a statement's code
 abbrev pub code_of : Rule → List ℕ
@@ -63,6 +66,18 @@ cites Server line = line.server
 abbrev pub citation_of : Rule → Role → List ℕ
 citation_of rule role = cites role (line_of rule)
 
--- Whether a statement binds the tested end: it has a citation for that end, and if it needs releases the log records them.
+-- whether this end is among these ends
+abbrev pub includes : Ends → Role → Bool
+includes OnlyClient Client = true
+includes OnlyClient Server = false
+includes OnlyServer Client = false
+includes OnlyServer Server = true
+includes Both role = true
+
+-- whether a statement binds this end
+abbrev pub binds_end : Rule → Role → Bool
+binds_end rule role = includes (line_of rule).ends role
+
+-- Whether a statement is judged for the tested end: it binds that end, and if it needs releases the log records them.
 abbrev pub binds : Rule → Tested → Bool
-binds rule tested = not (length (citation_of rule tested.role) == 0) && (not (line_of rule).needs_releases || tested.releases)
+binds rule tested = binds_end rule tested.role && (not (line_of rule).needs_releases || tested.releases)

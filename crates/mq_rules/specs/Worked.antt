@@ -24,6 +24,10 @@ client = record { role = Client; releases = true }
 abbrev pub server : Tested
 server = record { role = Server; releases = true }
 
+-- a client whose releases aren't recorded
+abbrev pub client_unrecorded : Tested
+client_unrecorded = record { role = Client; releases = false }
+
 -- a log with these events after it, each in a record of its own
 abbrev pub with_events : List Seen → List Note → List Seen
 with_events past [] = past

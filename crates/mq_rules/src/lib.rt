@@ -54,5 +54,5 @@ pub use session_laws::{
     words_are_folds,
 };
 pub use statement_laws::{first_rest_decides, in_flight_by_a_counter};
-pub use table_laws::{each_statement_has_its_row, rows_ascend};
+pub use table_laws::{each_statement_binds_its_ends, each_statement_has_its_row, rows_ascend};
 pub use text::{CodeList, FilterList, NotedFilter, Text};

@@ -243,7 +243,7 @@ fn row_with_code(table: &[Row], code: &str) -> Option<Row>
     table
         .iter()
         .copied()
-        .find(|(_, written, _, _, _)| written.eq_ignore_ascii_case(code))
+        .find(|(_, written, _, _, _, _)| written.eq_ignore_ascii_case(code))
 }
 
 /// The same, as contracts see rows.
@@ -279,7 +279,7 @@ impl Rule {
     pub fn of_code(code: &str) -> Option<Rule>
         ensures { result ≡ coded_rule code.now }
     {
-        find_coded(code).map(|(rule, _, _, _, _)| rule)
+        find_coded(code).map(|(rule, _, _, _, _, _)| rule)
     }
 }
 

@@ -1,109 +1,125 @@
 //! The table of the chosen statements: a row for each, in the order of reports.
-ghost use Rattle.std.specs.Prelude.{◌≡◌, ◌==◌, not, length, option_map};
+ghost use Rattle.std.specs.Prelude.{◌≡◌, option_map};
 ghost use Rattle.std.specs.List.{find};
-ghost use Rattle.mq_rules.specs.Rules.{all_rules, found_line, line_view, lines_of, same_rule, code_of, citation_of, line_of, binds};
+ghost use Rattle.mq_rules.specs.Rules.{all_rules, found_line, line_view, lines_of, same_rule, code_of, citation_of, includes, line_of, binds, binds_end};
 
 use crate::role::{Role, Tested};
 use crate::rule::Rule;
+use crate::rule::Rule::*;
+use crate::table::Ends::*;
 
-/// A statement, its code, its citation of MQTT 5.0 for a client and for a server (empty if it doesn't bind that end), and whether it
-/// is judged only if the log records releases.
-pub type Row = (Rule, &'static str, &'static str, &'static str, bool);
+/// The ends that a statement binds.
+#[derive(Clone, Copy, Debug)]
+pub enum Ends {
+    /// Only a client.
+    OnlyClient,
+    /// Only a server.
+    OnlyServer,
+    /// A client and a server.
+    Both,
+}
+
+/// A statement, its code, the ends that it binds, its citation of MQTT 5.0 for a client and for a server (empty for an end that it
+/// doesn't bind), and whether it is judged only if the log records releases.
+pub type Row = (Rule, &'static str, Ends, &'static str, &'static str, bool);
 
 /// Each statement's row, in the order of reports.
 pub const TABLE: [Row; 74] = [
-    (Rule::W01, "W01", "MQTT-2.1.3-1", "MQTT-2.1.3-1", false),
-    (Rule::W02, "W02", "sec-2.1.2", "sec-2.1.2", false),
-    (Rule::W03, "W03", "MQTT-1.5.5-1", "MQTT-1.5.5-1", false),
-    (Rule::W04, "W04", "MQTT-1.5.4-1", "MQTT-1.5.4-1", false),
-    (Rule::W05, "W05", "MQTT-1.5.4-2", "MQTT-1.5.4-2", false),
-    (Rule::W06, "W06", "sec-2.1.4", "sec-2.1.4", false),
-    (Rule::W07, "W07", "MQTT-3.3.1-4", "MQTT-3.3.1-4", false),
-    (Rule::W08, "W08", "MQTT-3.3.1-2", "MQTT-3.3.1-2", false),
-    (Rule::W09, "W09", "sec-2.2.1", "sec-2.2.1", false),
-    (Rule::W10, "W10", "sec-2.2.2.2", "sec-2.2.2.2", false),
-    (Rule::W11, "W11", "sec-2.2.2.2", "sec-2.2.2.2", false),
-    (Rule::W12, "W12", "sec-2.2.2.2", "sec-2.2.2.2", false),
-    (Rule::W13, "W13", "sec-2.4", "sec-2.4", false),
-    (Rule::W14, "W14", "sec-3.3.2", "sec-3.3.2", false),
-    (Rule::W15, "W15", "sec-4.7", "sec-4.7", false),
+    (W01, "W01", Both, "MQTT-2.1.3-1", "MQTT-2.1.3-1", false),
+    (W02, "W02", Both, "sec-2.1.2", "sec-2.1.2", false),
+    (W03, "W03", Both, "MQTT-1.5.5-1", "MQTT-1.5.5-1", false),
+    (W04, "W04", Both, "MQTT-1.5.4-1", "MQTT-1.5.4-1", false),
+    (W05, "W05", Both, "MQTT-1.5.4-2", "MQTT-1.5.4-2", false),
+    (W06, "W06", Both, "sec-2.1.4", "sec-2.1.4", false),
+    (W07, "W07", Both, "MQTT-3.3.1-4", "MQTT-3.3.1-4", false),
+    (W08, "W08", Both, "MQTT-3.3.1-2", "MQTT-3.3.1-2", false),
+    (W09, "W09", Both, "sec-2.2.1", "sec-2.2.1", false),
+    (W10, "W10", Both, "sec-2.2.2.2", "sec-2.2.2.2", false),
+    (W11, "W11", Both, "sec-2.2.2.2", "sec-2.2.2.2", false),
+    (W12, "W12", Both, "sec-2.2.2.2", "sec-2.2.2.2", false),
+    (W13, "W13", Both, "sec-2.4", "sec-2.4", false),
+    (W14, "W14", Both, "sec-3.3.2", "sec-3.3.2", false),
+    (W15, "W15", Both, "sec-4.7", "sec-4.7", false),
     (
-        Rule::W16,
+        W16,
         "W16",
+        Both,
         "MQTT-3.8.3-2,MQTT-3.10.3-2",
         "MQTT-3.8.3-2,MQTT-3.10.3-2",
         false,
     ),
-    (Rule::W17, "W17", "sec-3.8.3", "sec-3.8.3", false),
-    (Rule::W18, "W18", "sec-3.1.2", "sec-3.1.2", false),
-    (Rule::W19, "W19", "sec-3.1.2", "sec-3.1.2", false),
-    (Rule::W20, "W20", "MQTT-3.2.2-1", "MQTT-3.2.2-1", false),
-    (Rule::W21, "W21", "sec-3.3.2", "sec-3.3.2", false),
-    (Rule::C01, "C01", "sec-2.1.2", "sec-2.1.2", false),
-    (Rule::C02, "C02", "MQTT-3.1.0-1", "", false),
-    (Rule::C03, "C03", "sec-3.1", "", false),
-    (Rule::C04, "C04", "", "sec-3.2", false),
-    (Rule::C05, "C05", "", "MQTT-3.2.0-1", false),
-    (Rule::C06, "C06", "", "MQTT-3.2.0-2", false),
-    (Rule::C07, "C07", "", "MQTT-3.2.2-2", false),
-    (Rule::C08, "C08", "", "MQTT-3.2.2-3", false),
-    (Rule::C09, "C09", "", "MQTT-3.2.2-6", false),
-    (Rule::C10, "C10", "", "MQTT-3.2.2-16", false),
-    (Rule::C11, "C11", "MQTT-3.14.4-1", "MQTT-3.14.4-1", false),
-    (Rule::C12, "C12", "", "MQTT-3.2.2-7", false),
-    (Rule::C13, "C13", "MQTT-3.2.2-4", "", false),
-    (Rule::C14, "C14", "MQTT-3.2.2-15", "MQTT-3.1.2-24", false),
-    (Rule::C15, "C15", "MQTT-3.2.2-17", "MQTT-3.1.2-26", false),
-    (Rule::C16, "C16", "sec-3.3.2", "sec-3.3.2", false),
-    (Rule::C17, "C17", "MQTT-3.2.2-11", "", false),
-    (Rule::C18, "C18", "MQTT-3.3.4-6", "", false),
-    (Rule::C19, "C19", "", "MQTT-3.14.2-2", false),
-    (Rule::C20, "C20", "sec-3.14.2", "", false),
-    (Rule::C21, "C21", "", "MQTT-3.1.2-29", false),
-    (Rule::C22, "C22", "", "MQTT-3.1.2-28", false),
+    (W17, "W17", Both, "sec-3.8.3", "sec-3.8.3", false),
+    (W18, "W18", Both, "sec-3.1.2", "sec-3.1.2", false),
+    (W19, "W19", Both, "sec-3.1.2", "sec-3.1.2", false),
+    (W20, "W20", Both, "MQTT-3.2.2-1", "MQTT-3.2.2-1", false),
+    (W21, "W21", Both, "sec-3.3.2", "sec-3.3.2", false),
+    (C01, "C01", Both, "sec-2.1.2", "sec-2.1.2", false),
+    (C02, "C02", OnlyClient, "MQTT-3.1.0-1", "", false),
+    (C03, "C03", OnlyClient, "sec-3.1", "", false),
+    (C04, "C04", OnlyServer, "", "sec-3.2", false),
+    (C05, "C05", OnlyServer, "", "MQTT-3.2.0-1", false),
+    (C06, "C06", OnlyServer, "", "MQTT-3.2.0-2", false),
+    (C07, "C07", OnlyServer, "", "MQTT-3.2.2-2", false),
+    (C08, "C08", OnlyServer, "", "MQTT-3.2.2-3", false),
+    (C09, "C09", OnlyServer, "", "MQTT-3.2.2-6", false),
+    (C10, "C10", OnlyServer, "", "MQTT-3.2.2-16", false),
+    (C11, "C11", Both, "MQTT-3.14.4-1", "MQTT-3.14.4-1", false),
+    (C12, "C12", OnlyServer, "", "MQTT-3.2.2-7", false),
+    (C13, "C13", OnlyClient, "MQTT-3.2.2-4", "", false),
+    (C14, "C14", Both, "MQTT-3.2.2-15", "MQTT-3.1.2-24", false),
+    (C15, "C15", Both, "MQTT-3.2.2-17", "MQTT-3.1.2-26", false),
+    (C16, "C16", Both, "sec-3.3.2", "sec-3.3.2", false),
+    (C17, "C17", OnlyClient, "MQTT-3.2.2-11", "", false),
+    (C18, "C18", OnlyClient, "MQTT-3.3.4-6", "", false),
+    (C19, "C19", OnlyServer, "", "MQTT-3.14.2-2", false),
+    (C20, "C20", OnlyClient, "sec-3.14.2", "", false),
+    (C21, "C21", OnlyServer, "", "MQTT-3.1.2-29", false),
+    (C22, "C22", OnlyServer, "", "MQTT-3.1.2-28", false),
     (
-        Rule::C23,
+        C23,
         "C23",
+        Both,
         "MQTT-3.14.4-2",
         "MQTT-3.14.4-2,MQTT-3.2.2-7",
         false,
     ),
-    (Rule::S01, "S01", "MQTT-2.2.1-3", "MQTT-2.2.1-4", false),
+    (S01, "S01", Both, "MQTT-2.2.1-3", "MQTT-2.2.1-4", false),
     (
-        Rule::S02,
+        S02,
         "S02",
+        Both,
         "MQTT-4.3.2-2,MQTT-4.3.3-2",
         "MQTT-4.3.2-2,MQTT-4.3.3-2",
         false,
     ),
-    (Rule::S03, "S03", "MQTT-4.4.0-1", "MQTT-4.4.0-1", false),
-    (Rule::S04, "S04", "MQTT-4.3.3-6", "MQTT-4.3.3-6", false),
-    (Rule::S05, "S05", "MQTT-4.6.0-1", "", false),
-    (Rule::S06, "S06", "MQTT-4.4.0-1", "MQTT-4.4.0-1", false),
-    (Rule::S07, "S07", "MQTT-4.9.0-2", "MQTT-4.9.0-2", false),
-    (Rule::E1A, "E1A", "MQTT-2.2.1-5", "MQTT-2.2.1-5", false),
-    (Rule::E1R, "E1R", "MQTT-4.3.2-4", "MQTT-4.3.2-4", false),
-    (Rule::E1O, "E1O", "MQTT-4.6.0-2", "", false),
-    (Rule::E2A, "E2A", "MQTT-2.2.1-5", "MQTT-2.2.1-5", false),
-    (Rule::E2R, "E2R", "MQTT-4.3.3-8", "MQTT-4.3.3-8", false),
-    (Rule::E2O, "E2O", "MQTT-4.6.0-3", "", false),
-    (Rule::E3A, "E3A", "MQTT-2.2.1-5", "MQTT-2.2.1-5", false),
-    (Rule::E3R, "E3R", "MQTT-4.3.3-4", "MQTT-4.3.3-4", false),
-    (Rule::E3O, "E3O", "MQTT-4.6.0-4", "", false),
-    (Rule::E4A, "E4A", "MQTT-2.2.1-5", "MQTT-2.2.1-5", false),
-    (Rule::E4R, "E4R", "MQTT-4.3.3-11", "MQTT-4.3.3-11", false),
-    (Rule::E5A, "E5A", "", "MQTT-2.2.1-6", false),
-    (Rule::E5R, "E5R", "", "MQTT-3.8.4-1", false),
-    (Rule::E6A, "E6A", "", "MQTT-2.2.1-6", false),
-    (Rule::E6R, "E6R", "", "MQTT-3.10.4-4", false),
-    (Rule::E7R, "E7R", "", "MQTT-3.12.4-1", false),
-    (Rule::L1, "L1", "sec-4.3.3", "sec-4.3.3", true),
-    (Rule::L2, "L2", "MQTT-4.3.3-10", "MQTT-4.3.3-10", true),
-    (Rule::L3, "L3", "sec-4.3.3", "sec-4.3.3", true),
-    (Rule::B01, "B01", "", "MQTT-3.3.2-3", false),
-    (Rule::B02, "B02", "", "MQTT-3.8.4-8", false),
-    (Rule::B03, "B03", "", "MQTT-3.8.4-6", false),
-    (Rule::B04, "B04", "", "sec-3.11.3", false),
+    (S03, "S03", Both, "MQTT-4.4.0-1", "MQTT-4.4.0-1", false),
+    (S04, "S04", Both, "MQTT-4.3.3-6", "MQTT-4.3.3-6", false),
+    (S05, "S05", OnlyClient, "MQTT-4.6.0-1", "", false),
+    (S06, "S06", Both, "MQTT-4.4.0-1", "MQTT-4.4.0-1", false),
+    (S07, "S07", Both, "MQTT-4.9.0-2", "MQTT-4.9.0-2", false),
+    (E1A, "E1A", Both, "MQTT-2.2.1-5", "MQTT-2.2.1-5", false),
+    (E1R, "E1R", Both, "MQTT-4.3.2-4", "MQTT-4.3.2-4", false),
+    (E1O, "E1O", OnlyClient, "MQTT-4.6.0-2", "", false),
+    (E2A, "E2A", Both, "MQTT-2.2.1-5", "MQTT-2.2.1-5", false),
+    (E2R, "E2R", Both, "MQTT-4.3.3-8", "MQTT-4.3.3-8", false),
+    (E2O, "E2O", OnlyClient, "MQTT-4.6.0-3", "", false),
+    (E3A, "E3A", Both, "MQTT-2.2.1-5", "MQTT-2.2.1-5", false),
+    (E3R, "E3R", Both, "MQTT-4.3.3-4", "MQTT-4.3.3-4", false),
+    (E3O, "E3O", OnlyClient, "MQTT-4.6.0-4", "", false),
+    (E4A, "E4A", Both, "MQTT-2.2.1-5", "MQTT-2.2.1-5", false),
+    (E4R, "E4R", Both, "MQTT-4.3.3-11", "MQTT-4.3.3-11", false),
+    (E5A, "E5A", OnlyServer, "", "MQTT-2.2.1-6", false),
+    (E5R, "E5R", OnlyServer, "", "MQTT-3.8.4-1", false),
+    (E6A, "E6A", OnlyServer, "", "MQTT-2.2.1-6", false),
+    (E6R, "E6R", OnlyServer, "", "MQTT-3.10.4-4", false),
+    (E7R, "E7R", OnlyServer, "", "MQTT-3.12.4-1", false),
+    (L1, "L1", Both, "sec-4.3.3", "sec-4.3.3", true),
+    (L2, "L2", Both, "MQTT-4.3.3-10", "MQTT-4.3.3-10", true),
+    (L3, "L3", Both, "sec-4.3.3", "sec-4.3.3", true),
+    (B01, "B01", OnlyServer, "", "MQTT-3.3.2-3", false),
+    (B02, "B02", OnlyServer, "", "MQTT-3.8.4-8", false),
+    (B03, "B03", OnlyServer, "", "MQTT-3.8.4-6", false),
+    (B04, "B04", OnlyServer, "", "sec-3.11.3", false),
 ];
 
 /// The statements, in the order of reports.
@@ -191,7 +207,7 @@ fn found(table: &[Row], rule: Rule) -> Option<Row>
     table
         .iter()
         .copied()
-        .find(|(chosen, _, _, _, _)| *chosen == rule)
+        .find(|(chosen, _, _, _, _, _)| *chosen == rule)
 }
 
 /// The same, as contracts see rows.
@@ -209,6 +225,19 @@ fn find_row(rule: Rule) -> Option<Row>
     found_in(&TABLE, rule)
 }
 
+impl Ends {
+    /// Whether this end is among them.
+    fn include(self, role: Role) -> bool
+        ensures { result ≡ includes self role }
+    {
+        match (self, role) {
+            (Ends::OnlyClient | Ends::Both, Role::Client) => true,
+            (Ends::OnlyServer | Ends::Both, Role::Server) => true,
+            (Ends::OnlyClient, Role::Server) | (Ends::OnlyServer, Role::Client) => false,
+        }
+    }
+}
+
 impl Rule {
     /// All statements, in the order of reports.
     #[tactic(auto, unfolding(crate::specs::Rules::lines))]
@@ -224,7 +253,7 @@ impl Rule {
         ensures { result.now ≡ code_of self }
     {
         match find_row(self) {
-            Some((_, code, _, _, _)) => code,
+            Some((_, code, _, _, _, _)) => code,
             None => "",
         }
     }
@@ -236,7 +265,7 @@ impl Rule {
         ensures { result.now ≡ citation_of self role }
     {
         match find_row(self) {
-            Some((_, _, client, server, _)) => match role {
+            Some((_, _, _, client, server, _)) => match role {
                 Role::Client => client,
                 Role::Server => server,
             },
@@ -245,10 +274,14 @@ impl Rule {
     }
 
     /// Whether the statement binds this end. Some statements are judged only if the log records releases: see `is_judged`.
+    #[tactic(auto, unfolding(crate::specs::Rules::line_of))]
     pub fn binds(self, role: Role) -> bool
-        ensures { result ≡ not (length (citation_of self role) == 0) }
+        ensures { result ≡ binds_end self role }
     {
-        !self.citation(role).is_empty()
+        match find_row(self) {
+            Some((_, _, ends, _, _, _)) => ends.include(role),
+            None => Both.include(role),
+        }
     }
 
     /// Whether the statement is judged only if the log records the releases of QoS 2 messages.
@@ -257,7 +290,7 @@ impl Rule {
         ensures { result ≡ (line_of self).needs_releases }
     {
         match find_row(self) {
-            Some((_, _, _, _, needs_releases)) => needs_releases,
+            Some((_, _, _, _, _, needs_releases)) => needs_releases,
             None => false,
         }
     }

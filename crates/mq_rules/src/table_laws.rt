@@ -1,8 +1,11 @@
 //! Laws of the table of statements, each proved as the contract of a function that does nothing.
-ghost use Rattle.std.specs.Prelude.{◌≡◌, IsSomeAnd, Contains};
+ghost use Rattle.std.specs.Prelude.{◌≡◌, ◌==◌, not, length, IsSomeAnd, Contains};
 ghost use Rattle.std.specs.List.Sorted.{IsStrictlySortedBy};
+ghost use Rattle.mq_rules.specs.declared.role.Role.{Role};
+ghost use Rattle.mq_rules.specs.declared.role.Role.TheVariants.{Client, Server};
 ghost use Rattle.mq_rules.specs.declared.rule.Rule.{Rule};
-ghost use Rattle.mq_rules.specs.Rules.{all_rules, found_line, rule_cmp};
+ghost use Rattle.mq_rules.specs.Bindings.{is_among, on_releases, only_client, only_server};
+ghost use Rattle.mq_rules.specs.Rules.{all_rules, binds_end, citation_of, found_line, line_of, rule_cmp};
 
 /// Each statement has a row, which names it.
 pub fn each_statement_has_its_row()
@@ -13,4 +16,12 @@ pub fn each_statement_has_its_row()
 /// The rows ascend in the order of the statements. So no statement has two rows, and the order of the rows is that of reports.
 pub fn rows_ascend()
     ensures { IsStrictlySortedBy rule_cmp all_rules }
+{}
+
+/// Each statement binds the ends that the definitions list, and has a citation for exactly these. L1 to L3 alone need releases.
+pub fn each_statement_binds_its_ends()
+    ensures client { (rule : Rule) → binds_end rule Client ≡ not (is_among rule only_server) }
+    ensures server { (rule : Rule) → binds_end rule Server ≡ not (is_among rule only_client) }
+    ensures cited { (rule : Rule) (role : Role) → not (length (citation_of rule role) == 0) ≡ binds_end rule role }
+    ensures released { (rule : Rule) → (line_of rule).needs_releases ≡ is_among rule on_releases }
 {}

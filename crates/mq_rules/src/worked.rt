@@ -1,11 +1,11 @@
 //! Short logs judged by the definitions alone: for each statement, and each end that it binds, a log that breaks it, with all positions
-//! where it does, and the nearest one that keeps it.
+//! where it does, and the nearest one that keeps it. Last, for each family an end that a statement doesn't bind.
 ghost use Rattle.std.specs.Prelude.{◌≡◌, ◌∷◌, [], true, false, Some, None};
 ghost use Rattle.mq_packet.specs.declared.rule.PacketRule.TheVariants as packets;
 ghost use Rattle.mq_rules.specs.declared.rule.Rule.TheVariants.{W01, W02, W03, W04, W05, W06, W07, W08, W09, W10, W11, W12, W13, W14, W15, W16, W17, W18, W19, W20, W21, C01, C02, C03, C04, C05, C06, C07, C08, C09, C10, C11, C12, C13, C14, C15, C16, C17, C18, C19, C20, C21, C22, C23, S01, S02, S03, S04, S05, S06, S07, E1A, E1R, E1O, E2A, E2R, E2O, E3A, E3R, E3O, E4A, E4R, E5A, E5R, E6A, E6R, E7R, L1, L2, L3, B01, B02, B03, B04};
 ghost use Rattle.mq_rules.specs.declared.note.Note.TheVariants.{Open, Close, Rest, Release};
 ghost use Rattle.mq_rules.specs.declared.packet_note.PacketFields.TheVariants.{Puback, Pubrec, Pubrel, Pubcomp, Suback, Unsubscribe, Unsuback, Pingreq, Pingresp, Disconnect, Auth};
-ghost use Rattle.mq_rules.specs.Worked.{client, server, failing, sends, gets, sends_sized, sends_explained, sends_bad, gets_bad, sends_lost, gets_lost, lasting, again, fleeting, unnamed, asking, connack_with, accepting, resuming, refusing, limiting, assigning, informing, at_most_once, once, exactly, expiring, aliased, subscribed, asks_a, asks_b};
+ghost use Rattle.mq_rules.specs.Worked.{client, client_unrecorded, server, failing, sends, gets, sends_sized, sends_explained, sends_bad, gets_bad, sends_lost, gets_lost, lasting, again, fleeting, unnamed, asking, connack_with, accepting, resuming, refusing, limiting, assigning, informing, at_most_once, once, exactly, expiring, aliased, subscribed, asks_a, asks_b};
 
 /// Bytes of a client that break a rule, and those that it receives (W01 to W21).
 pub fn bytes_of_a_client()
@@ -331,4 +331,15 @@ pub fn subscriptions()
     ensures suback_keeps { failing server B03 (Open ∷ gets lasting ∷ sends accepting ∷ gets (asks_a 1 0) ∷ sends (Suback 1 (0 ∷ [])) ∷ []) ≡ [] }
     ensures unsuback_breaks { failing server B04 (Open ∷ gets lasting ∷ sends accepting ∷ gets (Unsubscribe 1 1) ∷ sends (Unsuback 1 2) ∷ []) ≡ 5 ∷ [] }
     ensures unsuback_keeps { failing server B04 (Open ∷ gets lasting ∷ sends accepting ∷ gets (Unsubscribe 1 1) ∷ sends (Unsuback 1 1) ∷ []) ≡ [] }
+{}
+
+/// Ends that a statement doesn't bind, and an end whose releases aren't recorded, in logs at which it would be false (a family each).
+pub fn unbound_ends()
+    ensures server_begins { failing server C02 (Open ∷ gets lasting ∷ sends accepting ∷ []) ≡ [] }
+    ensures client_begins { failing client C05 (Open ∷ sends lasting ∷ gets accepting ∷ []) ≡ [] }
+    ensures server_resends { failing server S05 (Open ∷ gets lasting ∷ sends accepting ∷ sends (once false 1) ∷ sends (once false 2) ∷ Close ∷ Open ∷ gets again ∷ sends resuming ∷ sends (once true 2) ∷ sends (once true 1) ∷ []) ≡ [] }
+    ensures server_acknowledges { failing server E1O (Open ∷ gets lasting ∷ sends accepting ∷ gets (once false 1) ∷ gets (once false 2) ∷ sends (Puback 2 0) ∷ sends (Puback 1 0) ∷ []) ≡ [] }
+    ensures client_answers { failing client E5A (Open ∷ sends lasting ∷ gets accepting ∷ sends (Suback 1 []) ∷ []) ≡ [] }
+    ensures unrecorded_completes { failing client_unrecorded L3 (Open ∷ sends lasting ∷ gets accepting ∷ gets (exactly false 1) ∷ gets (Pubrel 1 0) ∷ sends (Pubcomp 1 0) ∷ []) ≡ [] }
+    ensures client_publishes { failing client B01 (Open ∷ sends lasting ∷ gets accepting ∷ sends at_most_once ∷ []) ≡ [] }
 {}

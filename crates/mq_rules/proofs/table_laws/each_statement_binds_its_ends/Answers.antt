@@ -1,0 +1,14 @@
+use Rattle.mq_rules.proofs.TableLaws.{client_bound, server_bound, ends_cited, releases_needed}
+use Rattle.mq_rules.proofs.table_laws.each_statement_binds_its_ends.Goals as goal
+
+pub returns-clause-client : goal.returns-clause-client
+returns-clause-client c = client_bound
+
+pub returns-clause-server : goal.returns-clause-server
+returns-clause-server c = server_bound
+
+pub returns-clause-cited : goal.returns-clause-cited
+returns-clause-cited c = ends_cited
+
+pub returns-clause-released : goal.returns-clause-released
+returns-clause-released c = releases_needed
