@@ -116,11 +116,11 @@ breaks_C09 k = says_session_present (note k) && not (accepts_so (note k))
 unfoldable pub breaks_C10 : Moment → Bool
 breaks_C10 k = accepts_so (note k) && (not (is_some_and (λ c. c.has_assigned_identifier) (sent_connack (note k))) && is_some_and (λ c. c.is_unnamed) (connect_before Server k))
 
--- C11: something is sent, and a DISCONNECT was sent before.
+-- C11: a packet, or bytes that break a rule, is sent, and a DISCONNECT was sent before. A direction that is lost doesn't count.
 unfoldable pub breaks_C11 : Moment → Bool
 breaks_C11 k = sends_typed k && came_before is_sent_disconnect k
 
--- C12: something is sent, and a CONNACK of 0x80 or more was sent before.
+-- C12: a packet, or bytes that break a rule, is sent, and a CONNACK of 0x80 or more was sent before. A direction that is lost doesn't count.
 unfoldable pub breaks_C12 : Moment → Bool
 breaks_C12 k = sends_typed k && came_before is_sent_refusal k
 

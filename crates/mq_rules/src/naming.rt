@@ -94,10 +94,13 @@ pub const SENTENCES: [Saying; 74] = [
         Rule::C10,
         "A client whose Client Identifier was empty is assigned one.",
     ),
-    (Rule::C11, "Nothing is sent after a DISCONNECT."),
+    (
+        Rule::C11,
+        "After a DISCONNECT no packet is sent, and no bytes that break a rule.",
+    ),
     (
         Rule::C12,
-        "A server sends nothing after a CONNACK that refuses.",
+        "After a CONNACK that refuses a server sends no packet, and no bytes that break a rule.",
     ),
     (
         Rule::C13,
@@ -240,10 +243,7 @@ fn find_saying(rule: Rule) -> Option<Saying>
 fn row_with_code(table: &[Row], code: &str) -> Option<Row>
     ensures { result ≡ find (λ row. str_eq_ignore_ascii_case row.1.now code.now) table.now }
 {
-    table
-        .iter()
-        .copied()
-        .find(|(_, written, _, _, _, _)| written.eq_ignore_ascii_case(code))
+    table.iter().copied().find(|(_, written, _, _, _, _)| written.eq_ignore_ascii_case(code))
 }
 
 /// The same, as contracts see rows.

@@ -75,9 +75,10 @@ pub enum Rule {
     C09,
     /// A client whose Client Identifier was empty is assigned one (MQTT 5.0, section 3.2.2.3.7).
     C10,
-    /// Nothing is sent after a DISCONNECT (MQTT 5.0, section 3.14.4).
+    /// After a DISCONNECT no packet is sent, and no bytes that break a rule (MQTT 5.0, section 3.14.4).
     C11,
-    /// A server sends nothing after a CONNACK that refuses (MQTT 5.0, section 3.2.2.2).
+    /// After a CONNACK that refuses a server sends no packet, and no bytes that break a rule (MQTT
+    /// 5.0, section 3.2.2.2).
     C12,
     /// A client without a session doesn't resume one: after Session Present 1 it sends only a
     /// DISCONNECT (MQTT 5.0, section 3.2.2.1.1).

@@ -121,11 +121,11 @@ pub const C10: &str = "C10 server MQTT-3.2.2-16\n\
 
 /// The text of `explain C11`.
 pub const C11: &str = "C11 both MQTT-3.14.4-1\n\
-    Nothing is sent after a DISCONNECT.\n\n\
+    After a DISCONNECT no packet is sent, and no bytes that break a rule.\n\n\
     Why: A DISCONNECT is the last packet of its sender. What follows may be lost,\n\
     and the peer has stopped listening.\n\n\
-    Judged: At each packet that is sent after a DISCONNECT on its connection, on\n\
-    every connection. Decided at once.\n\n\
+    Judged: At each packet, and at bytes that break a rule, sent after a DISCONNECT\n\
+    on its connection, on every connection. Decided at once.\n\n\
     In a client: Another task still writes a PUBLISH or PINGREQ while the connection\n\
     is closed. Let one writer own the socket, and drop what is queued after the\n\
     DISCONNECT.\n\n\
@@ -136,10 +136,11 @@ pub const C11: &str = "C11 both MQTT-3.14.4-1\n\
 
 /// The text of `explain C12`.
 pub const C12: &str = "C12 server MQTT-3.2.2-7\n\
-    A server sends nothing after a CONNACK that refuses.\n\n\
+    After a CONNACK that refuses a server sends no packet, and no bytes that break a\n\
+    rule.\n\n\
     Why: After a refusal there is no connection on which anything could be sent.\n\n\
-    Judged: At each packet that is sent after a CONNACK of 0x80 or more on its\n\
-    connection, on every connection. Decided at once.\n\n\
+    Judged: At each packet, and at bytes that break a rule, sent after a CONNACK of\n\
+    0x80 or more on its connection, on every connection. Decided at once.\n\n\
     In a server: The server refuses, but goes on in the code for accepted clients,\n\
     or sends a DISCONNECT too. Close the network connection right after the CONNACK.\n\n\
     See: MQTT 5.0, section 3.2.2.2.\n";
