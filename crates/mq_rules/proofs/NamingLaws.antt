@@ -1,7 +1,8 @@
 -- The sentences and codes of the statements: a row that is found in the source is found in its view, and each statement has its own.
-use Rattle.std.proofs.Common.{◌≡◌, ℕ, Bool, true, false, cond, List, [], ◌∷◌, Option, Some, Bor, map, refl}
+use Rattle.std.proofs.Common.{◌≡◌, ℕ, Bool, true, false, ◌&&◌, not, cond, List, [], ◌∷◌, Option, Some, Bor, map, refl}
+use Rattle.std.specs.Prelude.{T, bytes_eq}
 use Rattle.std.specs.Option.{option_map}
-use Rattle.std.specs.List.{find}
+use Rattle.std.specs.List.{find, AllByRecursion, IsDistinct}
 use Rattle.std.specs.Char.{to_ascii_lowercase}
 use Rattle.std.specs.Str.{str_eq_ignore_ascii_case}
 use Rattle.mq_rules.specs.declared.rule.Rule.{Rule}
@@ -38,3 +39,42 @@ pub small_codes_named : (rule : Rule) → coded_rule (map to_ascii_lowercase (co
 unfolding coded_rule coded_line line_of found_line lines
 small_codes_named W01 = refl
 small_codes_named _ = refl
+
+-- ---- no two sentences are the same
+
+-- the text differs from each of these
+abbrev differs : List ℕ → List (List ℕ) → Bool
+differs text [] = true
+differs text (other ∷ others) = not (bytes_eq text other) && differs text others
+
+abbrev all_differ : List (List ℕ) → Bool
+all_differ [] = true
+all_differ (text ∷ texts) = differs text texts && all_differ texts
+
+first : (a b : Bool) → T (a && b) → T a
+first true b h = tt
+first false b h = absurd h
+
+second : (a b : Bool) → T (a && b) → T b
+second true b h = h
+second false b h = absurd h
+
+is_false : (b : Bool) → T (not b) → b ≡ false
+is_false true h = absurd h
+is_false false h = refl
+
+differs_from : (text : List ℕ) (others : List (List ℕ)) → T (differs text others) → AllByRecursion (λ other. bytes_eq text other ≡ false) others
+differs_from text [] h = tt
+differs_from text (other ∷ others) h = (is_false (bytes_eq text other) (first _ _ h), differs_from text others (second _ _ h))
+
+distinct : (texts : List (List ℕ)) → T (all_differ texts) → IsDistinct bytes_eq texts
+unfolding IsDistinct
+distinct [] h = tt
+distinct (text ∷ texts) h = (differs_from text texts (first _ _ h), distinct texts (second _ _ h))
+
+sentences_apart : T (all_differ (map (λ said. said.sentence) sentences))
+unfolding sentences
+sentences_apart = tt
+
+pub sentences_differ : IsDistinct bytes_eq (map (λ said. said.sentence) sentences)
+sentences_differ = distinct (map (λ said. said.sentence) sentences) sentences_apart

@@ -25,6 +25,8 @@ mod short_text;
 mod statement_laws;
 mod table;
 mod table_laws;
+#[cfg(test)]
+mod tests;
 mod text;
 mod worked;
 

@@ -1,8 +1,8 @@
 //! What each statement says, in a sentence, and the statement that a code names.
-ghost use Rattle.std.specs.Prelude.{◌≡◌, Some, map, option_map};
+ghost use Rattle.std.specs.Prelude.{◌≡◌, Some, bytes_eq, map, option_map};
 ghost use Rattle.std.specs.Char.{to_ascii_lowercase};
 ghost use Rattle.std.specs.Str.{str_eq_ignore_ascii_case};
-ghost use Rattle.std.specs.List.{find};
+ghost use Rattle.std.specs.List.{IsDistinct, find};
 ghost use Rattle.mq_rules.specs.declared.rule.Rule.{Rule};
 ghost use Rattle.mq_rules.specs.Naming.{coded_line, coded_rule, found_sentence, saying_view, sayings_of, sentence_of, sentences};
 ghost use Rattle.mq_rules.specs.Rules.{StatementLine, all_rules, code_of, line_view, lines_of, same_rule};
@@ -283,9 +283,10 @@ impl Rule {
     }
 }
 
-/// Each statement has its sentence, in the order of reports; and its code, in capitals or not, names it.
+/// Each statement has its sentence, in the order of reports, and no two have the same; and its code, in capitals or not, names it.
 pub fn each_statement_is_named()
     ensures said { map (λ said. said.rule) sentences ≡ all_rules }
+    ensures differ { IsDistinct bytes_eq (map (λ said. said.sentence) sentences) }
     ensures named { (rule : Rule) → coded_rule (code_of rule) ≡ Some rule }
     ensures small { (rule : Rule) → coded_rule (map to_ascii_lowercase (code_of rule)) ≡ Some rule }
 {}
