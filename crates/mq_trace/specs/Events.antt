@@ -1,4 +1,5 @@
 -- The events of a log: each is completed by one byte of the log, and belongs to the record of that byte.
+-- The law `events_are_what_streams_hold` (src/joined_laws.rt) says the same by the stream of each direction, cut into frames.
 use Rattle.std.specs.Prelude.{ℕ, ◌+◌, ◌==◌, nat_lt, cond, if◌then◌else◌, List, [], ◌∷◌, ◌++◌, length, drop, reverse, slice_index, Option, Some, None, option_map, is_some, Result, Ok, Err}
 use Rattle.std.specs.Int.{w16, from_be_bytes}
 use Rattle.mq_packet.specs.declared.rule.PacketRule.{PacketRule}
