@@ -98,9 +98,7 @@ fn judge_bounded<R: Read>(
     let mut judge = Judge::new(alloc, Options::default());
     let mut buffer = [0; 8192];
     feed_all(&mut judge, &mut (), reader, &mut buffer, turns)?;
-    let role = judge.role();
-    let verdict = judge.finish()?;
-    Ok((verdict, role.unwrap()))
+    judge.finish_with_role()
 }
 
 /// Writes the report on a verdict in this form.
