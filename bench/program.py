@@ -164,6 +164,8 @@ RUNS = [
     Run(["show", "good.log"], 0, LINES, stdin=NESTED),
     Run(["show", "nested.log"], 2, "1 record 1 OPEN\n" + REFUSED, stdin=GOOD),
     Run(["show", "many.log"], 0, MANY_LINES),
+    # An empty word is a path too, of no file.
+    Run(["check", ""], 4, "", READ_FAILED, stdin=GOOD),
     # Without a file, or with `-`, standard input is.
     Run(["check"], 0, PASS, stdin=GOOD),
     Run(["check"], 1, FAIL, stdin=FAULTY),

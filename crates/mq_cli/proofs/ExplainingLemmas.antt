@@ -1,7 +1,8 @@
 -- The texts on the statements: a row that is found in the source is found in its view, and the rows are those of the statements.
 use Rattle.std.proofs.Common.{◌≡◌, ℕ, Bool, true, false, cond, List, [], ◌∷◌, ◌++◌, Option, Some, Bor, map, refl, ap, sym, ◌∙◌, ◌<◌, ◌+◌, add-one, length, drop, drop-cons, get_or, append_assoc}
+use Rattle.std.specs.Prelude.{◌==◌, not}
 use Rattle.std.specs.Option.{option_map}
-use Rattle.std.specs.List.{find, flat_map}
+use Rattle.std.specs.List.{find, flat_map, take_while}
 use Rattle.mq_rules.specs.declared.role.Role.{Role}
 use Rattle.mq_rules.specs.declared.rule.Rule.{Rule}
 use Rattle.mq_rules.specs.Rules.{all_rules, lines, same_rule}
@@ -22,6 +23,10 @@ find-explained rule (row ∷ rows) = cond-map explained_view (same_rule row.0 ru
 pub all_explained : map (λ explained. explained.rule) explanations ≡ all_rules
 unfolding explanations packets connections sessions exchanges releases deliveries lines
 all_explained = refl
+
+pub codes_begin : map (λ explained. take_while (λ byte. not (byte == 32)) explained.text) explanations ≡ map (λ line. line.code) lines
+unfolding explanations packets connections sessions exchanges releases deliveries lines
+codes_begin = refl
 
 -- the statements that are listed are all, in the order of reports
 pub lines_all : (role : Option Role) (listed : List Rule) → listed ≡ all_rules → flat_map (listed_line role) listed ≡ statement_lines role

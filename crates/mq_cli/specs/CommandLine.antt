@@ -1,5 +1,5 @@
 -- The command line of `mqjudge`, and what its words ask for.
-use Rattle.std.specs.Prelude.{◌≡◌, ◌⊎◌, Bool, true, false, if◌then◌else◌, List, [], Option, Some, None, codes, option_map, string_bytes, unwrap_or, ⊤}
+use Rattle.std.specs.Prelude.{◌≡◌, ◌⊎◌, Bool, true, false, if◌then◌else◌, List, [], Option, Some, None, codes, option_map, string_bytes, unwrap_or, IsSome, ⊤}
 use Rattle.std.specs.Str.{bytes_eq}
 use Rattle.std.specs.List.{Any}
 use Rattle.clap.specs.Words.{App, Kinds, Row, Rule, Text, fault_of, first_of, new_app, new_rule, subcommand_of, with_rule, with_subcommand}
@@ -123,6 +123,11 @@ request_by (Once (Packet hex)) = packet_request (Some (string_bytes hex))
 request_by (Once (Rules role)) = rules_request (option_map string_bytes role)
 request_by (Once (Explain code)) = explain_request (Some (string_bytes code))
 request_by (Twice review) = show_request (option_map string_bytes review.file) review.long review.faults (option_map string_bytes review.around)
+
+-- work that reads its log twice is asked for by `--faults` or by a number of positions; without them the log is read once
+abbrev pub ReadsAsAsked : Work → Type 0
+ReadsAsAsked (Once task) = ⊤
+ReadsAsAsked (Twice review) = (review.faults ≡ true) ⊎ IsSome review.around
 
 -- the kind asks for a text to be shown: help, or the version
 abbrev pub IsHelpOrVersion : ErrorKind → Type 0

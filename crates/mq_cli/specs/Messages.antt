@@ -44,6 +44,26 @@ pub record AppendsPart (old new : Option (List ℕ)) (text : List ℕ) : Type 0 
   pub whole : text ≡ written ++ unwritten
   pub appended : Appends old new written
 
+-- What became of the error stream: the bytes that it held and those that it holds, each if known, and whether a message couldn't be
+-- written to it.
+pub record Stream : Type 0 where
+  pub old : Option (List ℕ)
+  pub new : Option (List ℕ)
+  pub has_failed : Bool
+
+-- the error stream before and after, by what it holds and whether it has failed
+abbrev pub stream : {E : Type 0} → (E → Option (List ℕ)) → (E → Bool) → (old new : E) → Stream
+stream contents has_failed old new = record { old = contents old; new = contents new; has_failed = has_failed new }
+
+-- The message couldn't be written to the error stream: only a beginning of it was, or all of it if only a flush failed, and nothing else.
+pub record IsCutOff (error : Stream) (message : List ℕ) : Type 0 where
+  pub failed : error.has_failed ≡ true
+  pub part : AppendsPart error.old error.new message
+
+-- The message was written to the error stream and nothing else, unless that failed.
+pub record IsTold (error : Stream) (message : List ℕ) : Type 0 where
+  pub outcome : Appends error.old error.new message ⊎ IsCutOff error message
+
 -- The known bytes grew by one text, then by a beginning of another one, or by all of it, and by nothing else.
 pub record AppendsAfter (old new : Option (List ℕ)) (before text : List ℕ) : Type 0 where
   pub written : List ℕ
@@ -233,12 +253,12 @@ StopsPacket failures.Read hex old new = ⊥
 StopsPacket failures.Write hex old new = (bytes : List ℕ) × (decode_of hex ≡ Ok bytes) × AppendsPart old new (packet_report bytes)
 StopsPacket failures.Memory hex old new = Keeps old new
 
--- 4, for these digits: what failed is written to the error stream, as far as possible; or they don't spell bytes, and the line
+-- 4, for these digits: the line that says what failed is written to the error stream, unless that failed too; or they don't spell bytes, and the line
 -- that says so couldn't be written to the error stream
-abbrev pub FailsPacket : List ℕ → Option (List ℕ) → Option (List ℕ) → Option (List ℕ) → Option (List ℕ) → Type 0
-FailsPacket hex old new error_old error_new =
-    ((failure : Failure) × StopsPacket failure hex old new × AppendsPart error_old error_new (failure_line failure))
-    ⊎ (IsErr (decode_of hex) × Keeps old new × AppendsPart error_old error_new not_hex_line)
+abbrev pub FailsPacket : List ℕ → (old new : Option (List ℕ)) → Stream → Type 0
+FailsPacket hex old new error =
+    ((failure : Failure) × StopsPacket failure hex old new × IsTold error (failure_line failure))
+    ⊎ (IsErr (decode_of hex) × Keeps old new × IsCutOff error not_hex_line)
 
 -- 4, for the statements: the text couldn't be written or flushed, or memory ran out first
 abbrev pub StopsPrinting : Failure → Option (List ℕ) → Option (List ℕ) → Option (List ℕ) → Type 0
@@ -246,12 +266,12 @@ StopsPrinting failures.Read text old new = ⊥
 StopsPrinting failures.Write text old new = PrintsPart text old new
 StopsPrinting failures.Memory text old new = Keeps old new
 
--- 4, for this text, or this line if there is none: what failed is written to the error stream, as far as possible; or there is
+-- 4, for this text, or this line if there is none: the line that says what failed is written to the error stream, unless that failed too; or there is
 -- no text, and the line that says so couldn't be written to the error stream
-abbrev pub FailsPrinting : (text : Option (List ℕ)) → (line : List ℕ) → Option (List ℕ) → Option (List ℕ) → Option (List ℕ) → Option (List ℕ) → Type 0
-FailsPrinting text line old new error_old error_new =
-    ((failure : Failure) × StopsPrinting failure text old new × AppendsPart error_old error_new (failure_line failure))
-    ⊎ ((text ≡ None) × Keeps old new × AppendsPart error_old error_new line)
+abbrev pub FailsPrinting : (text : Option (List ℕ)) → (line : List ℕ) → (old new : Option (List ℕ)) → Stream → Type 0
+FailsPrinting text line old new error =
+    ((failure : Failure) × StopsPrinting failure text old new × IsTold error (failure_line failure))
+    ⊎ ((text ≡ None) × Keeps old new × IsCutOff error line)
 
 -- 4: what failed, and what had been written
 abbrev pub StopsTask : Failure → Task → (input left old new : Option (List ℕ)) → Type 0
@@ -261,22 +281,22 @@ StopsTask failure (Packet hex) input left old new = StopsPacket failure (string_
 StopsTask failure (Rules role) input left old new = StopsPrinting failure (listed_for (option_map string_bytes role)) old new
 StopsTask failure (Explain code) input left old new = StopsPrinting failure (explained_for (string_bytes code)) old new
 
--- 4: what failed is written to the error stream, as far as possible
-pub record FailsTask (task : Task) (input left old new error_old error_new : Option (List ℕ)) : Type 0 where
+-- 4: the line that says what failed is written to the error stream, unless that failed too
+pub record FailsTask (task : Task) (input left old new : Option (List ℕ)) (error : Stream) : Type 0 where
   pub failure : Failure
   pub stops : StopsTask failure task input left old new
-  pub printed : AppendsPart error_old error_new (failure_line failure)
+  pub printed : IsTold error (failure_line failure)
 
 -- 4: the digits of a packet are invalid, or a word isn't an end or a statement's code; and the line that says so couldn't be written to the error stream
-pub record FailsMisnamed (task : Task) (old new error_old error_new : Option (List ℕ)) : Type 0 where
+pub record FailsMisnamed (task : Task) (old new : Option (List ℕ)) (error : Stream) : Type 0 where
   pub misnamed : IsMisnamed task
   pub unwritten : Keeps old new
-  pub printed : AppendsPart error_old error_new (misnamed_line task)
+  pub printed : IsCutOff error (misnamed_line task)
 
 -- ---- what a status means if the words ask for no task
 
 -- 4: help, the version or a misuse couldn't be written, or memory ran out
-abbrev pub FailsStop : EarlyExit → Option (List ℕ) → Option (List ℕ) → Option (List ℕ) → Option (List ℕ) → Type 0
-FailsStop (Help text) old new error_old error_new = AppendsPart old new (string_bytes text) × AppendsPart error_old error_new (failure_line failures.Write)
-FailsStop (Usage text) old new error_old error_new = Keeps old new × AppendsPart error_old error_new (string_bytes text)
-FailsStop Memory old new error_old error_new = Keeps old new × AppendsPart error_old error_new (failure_line failures.Memory)
+abbrev pub FailsStop : EarlyExit → (old new : Option (List ℕ)) → Stream → Type 0
+FailsStop (Help text) old new error = AppendsPart old new (string_bytes text) × IsTold error (failure_line failures.Write)
+FailsStop (Usage text) old new error = Keeps old new × IsCutOff error (string_bytes text)
+FailsStop Memory old new error = Keeps old new × IsTold error (failure_line failures.Memory)

@@ -9,9 +9,9 @@ use Rattle.mq_cli.specs.declared.command_line.Work.{Work}
 use Rattle.mq_cli.specs.declared.command_line.Work.TheVariants.{Once, Twice}
 use Rattle.mq_cli.specs.declared.failure.Failure.{Failure}
 use Rattle.mq_cli.specs.declared.failure.Failure.TheVariants.{Memory}
-use Rattle.mq_cli.specs.CommandLine.{StopsFor, word_faults, path_of, request_by, request_of}
+use Rattle.mq_cli.specs.CommandLine.{ReadsAsAsked, StopsFor, word_faults, path_of, request_by, request_of}
 use Rattle.mq_cli.specs.Reviewing.{IsReviewed, Plan, RefusesPlan, StopsPlan, plan_of}
-use Rattle.mq_cli.specs.Messages.{AppendsPart, FailsMisnamed, FailsStop, FailsTask, HasFailed, HasPassed, IsMisnamed, IsRefusedOn, IsReportedOn, IsShownOn, IsPrintedOn, failure_line, misnamed_line}
+use Rattle.mq_cli.specs.Messages.{FailsMisnamed, FailsStop, IsCutOff, IsTold, Stream, FailsTask, HasFailed, HasPassed, IsMisnamed, IsRefusedOn, IsReportedOn, IsShownOn, IsPrintedOn, failure_line, misnamed_line}
 
 -- What the program is given: the words of its command line, the bytes of the file at a path and those of standard input, each if
 -- known; and why the words couldn't be read, or the file at a path couldn't be opened.
@@ -31,23 +31,23 @@ bytes_at given (Some path) = given.file path
 abbrev pub input_of : Given → Task → Option Text
 input_of given task = bytes_at given (path_of task)
 
--- The file that a task reads couldn't be opened: nothing was written, and the reason is written to the error stream, as far as possible.
-pub record IsUnopened (given : Given) (task : Task) (old new error_old error_new : Option (List ℕ)) : Type 0 where
+-- The file that a task reads couldn't be opened: nothing was written, and the reason is written to the error stream, unless that failed.
+pub record IsUnopened (given : Given) (task : Task) (old new : Option (List ℕ)) (error : Stream) : Type 0 where
   pub path : Text
   pub named : path_of task ≡ Some path
   pub failure : Failure
   pub refused : given.unopened path failure
   pub unwritten : Keeps old new
-  pub printed : AppendsPart error_old error_new (failure_line failure)
+  pub printed : IsTold error (failure_line failure)
 
 -- 4: the task failed; what its reader has left isn't specified
-abbrev pub FailsPerforming : Given → Task → (old new error_old error_new : Option (List ℕ)) → Type 0
-FailsPerforming given task old new error_old error_new = (left : Option (List ℕ)) × FailsTask task (input_of given task) left old new error_old error_new
+abbrev pub FailsPerforming : Given → Task → (old new : Option (List ℕ)) → Stream → Type 0
+FailsPerforming given task old new error = (left : Option (List ℕ)) × FailsTask task (input_of given task) left old new error
 
 -- 4: the task's file couldn't be opened, or the task failed
-abbrev pub FailsRead : Given → Task → Option (List ℕ) → Option (List ℕ) → Option (List ℕ) → Option (List ℕ) → Type 0
-FailsRead given task old new error_old error_new = IsUnopened given task old new error_old error_new
-    ⊎ (FailsPerforming given task old new error_old error_new ⊎ FailsMisnamed task old new error_old error_new)
+abbrev pub FailsRead : Given → Task → (old new : Option (List ℕ)) → Stream → Type 0
+FailsRead given task old new error = IsUnopened given task old new error
+    ⊎ (FailsPerforming given task old new error ⊎ FailsMisnamed task old new error)
 
 -- ---- a log that is shown with the faults at its events
 
@@ -69,21 +69,21 @@ StopsFile given plan failure old new = (given.unopened plan.path failure × Keep
     ⊎ ((judged_left : Option (List ℕ)) × (shown_left : Option (List ℕ))
     × IfSome (given.file plan.path) (λ log. StopsPlan plan failure log log judged_left shown_left old new))
 
--- 4: what failed is written to the error stream, as far as possible
-pub record FailsFile (given : Given) (plan : Plan) (old new error_old error_new : Option (List ℕ)) : Type 0 where
+-- 4: what failed is written to the error stream, unless that failed too
+pub record FailsFile (given : Given) (plan : Plan) (old new : Option (List ℕ)) (error : Stream) : Type 0 where
   pub failure : Failure
   pub stops : StopsFile given plan failure old new
-  pub printed : AppendsPart error_old error_new (failure_line failure)
+  pub printed : IsTold error (failure_line failure)
 
 -- 4: there is nothing to show, and the line that says so couldn't be written to the error stream, or memory ran out for it
-pub record FailsUnplanned (line : Text) (old new error_old error_new : Option (List ℕ)) : Type 0 where
+pub record FailsUnplanned (line : Text) (old new : Option (List ℕ)) (error : Stream) : Type 0 where
   pub unwritten : Keeps old new
-  pub printed : AppendsPart error_old error_new line ⊎ AppendsPart error_old error_new (failure_line Memory)
+  pub printed : IsCutOff error line ⊎ IsTold error (failure_line Memory)
 
 -- 4: showing failed, or there is nothing to show
-abbrev pub FailsReview : Given → Review → (old new error_old error_new : Option (List ℕ)) → Type 0
-FailsReview given review old new error_old error_new = IsOkAnd (plan_of review) (λ plan. FailsFile given plan old new error_old error_new)
-    ⊎ IsErrAnd (plan_of review) (λ line. FailsUnplanned line old new error_old error_new)
+abbrev pub FailsReview : Given → Review → (old new : Option (List ℕ)) → Stream → Type 0
+FailsReview given review old new error = IsOkAnd (plan_of review) (λ plan. FailsFile given plan old new error)
+    ⊎ IsErrAnd (plan_of review) (λ line. FailsUnplanned line old new error)
 
 -- ---- what a status means for some work
 
@@ -109,15 +109,15 @@ MisusesWork (Once task) error_old error_new = IsMisnamed task × Appends error_o
 MisusesWork (Twice review) error_old error_new = MisusesReview review error_old error_new
 
 -- 4: it failed, or its file couldn't be opened
-abbrev pub FailsWork : Given → Work → Option (List ℕ) → Option (List ℕ) → Option (List ℕ) → Option (List ℕ) → Type 0
-FailsWork given (Once task) old new error_old error_new = FailsRead given task old new error_old error_new
-FailsWork given (Twice review) old new error_old error_new = FailsReview given review old new error_old error_new
+abbrev pub FailsWork : Given → Work → (old new : Option (List ℕ)) → Stream → Type 0
+FailsWork given (Once task) old new error = FailsRead given task old new error
+FailsWork given (Twice review) old new error = FailsReview given review old new error
 
 -- ---- of these words
 
--- they ask for this
+-- they ask for this, and for a second reading of the log if it takes one
 abbrev pub AsksFor : List Text → Work → Type 0
-AsksFor words work = request_of words ≡ Some (request_by work)
+AsksFor words work = (request_of words ≡ Some (request_by work)) × ReadsAsAsked work
 
 -- they ask for no work, and this is why
 abbrev pub StopsAt : List Text → EarlyExit → Type 0
@@ -142,13 +142,13 @@ IsMisuse words error_old error_new = ((stop : EarlyExit) × StopsAt words stop �
     ⊎ ((work : Work) × AsksFor words work × MisusesWork work error_old error_new)
 
 -- 4: the text for words that ask for no work couldn't be written; or they ask for work that failed, or whose file couldn't be opened
-abbrev pub FailsWords : List Text → Given → Option (List ℕ) → Option (List ℕ) → Option (List ℕ) → Option (List ℕ) → Type 0
-FailsWords words given old new error_old error_new = ((stop : EarlyExit) × StopsAt words stop × FailsStop stop old new error_old error_new)
-    ⊎ ((work : Work) × AsksFor words work × FailsWork given work old new error_old error_new)
+abbrev pub FailsWords : List Text → Given → (old new : Option (List ℕ)) → Stream → Type 0
+FailsWords words given old new error = ((stop : EarlyExit) × StopsAt words stop × FailsStop stop old new error)
+    ⊎ ((work : Work) × AsksFor words work × FailsWork given work old new error)
 
--- 4: The words couldn't be read: nothing was written, and the reason is written to the error stream, as far as possible.
-pub record WordsUnread (given : Given) (old new error_old error_new : Option (List ℕ)) : Type 0 where
+-- 4: The words couldn't be read: nothing was written, and the reason is written to the error stream, unless that failed.
+pub record WordsUnread (given : Given) (old new : Option (List ℕ)) (error : Stream) : Type 0 where
   pub failure : Failure
   pub why : given.unread failure
   pub unwritten : Keeps old new
-  pub printed : AppendsPart error_old error_new (failure_line failure)
+  pub printed : IsTold error (failure_line failure)

@@ -2,7 +2,7 @@
 ghost use Rattle.std.specs.Prelude.{◌≡◌, [], Some, codes, false, IfOk, IfErr, map, option_map, string_bytes};
 ghost use Rattle.clap.specs.Words.{HasKind, Kinds, app_of, new_rule, rule_of, subcommand_of, subcommand_rows_of};
 ghost use Rattle.clap.specs.declared.builder.command.Command.TheViews.{out-Command};
-ghost use Rattle.mq_cli.specs.CommandLine.{StopsFor, around_option, check_command, check_request, explain_command};
+ghost use Rattle.mq_cli.specs.CommandLine.{ReadsAsAsked, StopsFor, around_option, check_command, check_request, explain_command};
 ghost use Rattle.mq_cli.specs.CommandLine.{explain_request, word_faults, flag, is_true, mqjudge, packet_command, packet_request};
 ghost use Rattle.mq_cli.specs.CommandLine.{path_named, path_of, request_by, request_of, rules_command};
 ghost use Rattle.mq_cli.specs.CommandLine.{rules_request, show_command, show_request};
@@ -147,6 +147,7 @@ pub fn parse<S: AsStr>(alloc: Global, words: &[S]) -> Result<Work, EarlyExit>
     ensures taken { IfOk result (λ _. word_faults (map S.text words.now) ≡ []) }
     ensures work { IfOk result (λ work.
         request_of (map S.text words.now) ≡ Some (request_by work)) }
+    ensures readings { IfOk result ReadsAsAsked }
     ensures stop { IfErr result (StopsFor (word_faults (map S.text words.now))) }
 {
     match matches_of(alloc, words) {
@@ -349,6 +350,7 @@ fn check_task(
 ) -> Result<Work, EarlyExit>
     ensures work { IfOk result (λ work.
         request_by work ≡ check_request (option_map (λ path. path.now) file.entry) json summary) }
+    ensures readings { IfOk result ReadsAsAsked }
     ensures stop { IfErr result (λ stop. stop ≡ EarlyExit.Memory) }
 {
     let file = copy_word(alloc, file)?;
@@ -370,6 +372,7 @@ fn show_task(
     ensures work { IfOk result (λ work.
         request_by work ≡ show_request (option_map (λ path. path.now) file.entry) long faults
         (option_map (λ number. number.now) around.entry)) }
+    ensures readings { IfOk result ReadsAsAsked }
     ensures stop { IfErr result (λ stop. stop ≡ EarlyExit.Memory) }
 {
     let file = copy_word(alloc, file)?;
@@ -389,6 +392,7 @@ fn show_task(
 fn packet_task(alloc: Global, hex: Option<&str>) -> Result<Work, EarlyExit>
     ensures work { IfOk result (λ work.
         request_by work ≡ packet_request (option_map (λ text. text.now) hex.entry)) }
+    ensures readings { IfOk result ReadsAsAsked }
     ensures stop { IfErr result (λ stop. stop ≡ EarlyExit.Memory) }
 {
     match String::from_str(alloc, hex.unwrap_or("")) {
@@ -401,6 +405,7 @@ fn packet_task(alloc: Global, hex: Option<&str>) -> Result<Work, EarlyExit>
 fn rules_task(alloc: Global, role: Option<&str>) -> Result<Work, EarlyExit>
     ensures work { IfOk result (λ work.
         request_by work ≡ rules_request (option_map (λ word. word.now) role.entry)) }
+    ensures readings { IfOk result ReadsAsAsked }
     ensures stop { IfErr result (λ stop. stop ≡ EarlyExit.Memory) }
 {
     let role = copy_word(alloc, role)?;
@@ -411,6 +416,7 @@ fn rules_task(alloc: Global, role: Option<&str>) -> Result<Work, EarlyExit>
 fn explain_task(alloc: Global, code: Option<&str>) -> Result<Work, EarlyExit>
     ensures work { IfOk result (λ work.
         request_by work ≡ explain_request (option_map (λ text. text.now) code.entry)) }
+    ensures readings { IfOk result ReadsAsAsked }
     ensures stop { IfErr result (λ stop. stop ≡ EarlyExit.Memory) }
 {
     match String::from_str(alloc, code.unwrap_or("")) {

@@ -1,7 +1,7 @@
 //! The text that explains each statement to those who make clients and brokers.
-ghost use Rattle.std.specs.Prelude.{◌≡◌, map, option_map};
-ghost use Rattle.std.specs.List.{find};
-ghost use Rattle.mq_rules.specs.Rules.{all_rules, same_rule};
+ghost use Rattle.std.specs.Prelude.{◌≡◌, ◌==◌, map, not, option_map};
+ghost use Rattle.std.specs.List.{find, take_while};
+ghost use Rattle.mq_rules.specs.Rules.{all_rules, lines, same_rule};
 ghost use Rattle.mq_cli.specs.Explaining.{explained_in, explained_view, explanation_of, explanations, found_among, found_explanation};
 ghost use Rattle.mq_cli.specs.Explaining.{connections, deliveries, exchanges, packets, releases, sessions};
 
@@ -217,4 +217,10 @@ pub fn explanation(rule: Rule) -> &'static str
 /// Each statement is explained, in the order of reports.
 pub fn each_statement_is_explained()
     ensures { map (λ explained. explained.rule) explanations ≡ all_rules }
+{}
+
+/// The first word of each explanation is the code of its statement. Since no two statements have one code, no two have one
+/// explanation.
+pub fn each_explanation_begins_with_its_code()
+    ensures { map (λ explained. take_while (λ byte. not (byte == 32)) explained.text) explanations ≡ map (λ line. line.code) lines }
 {}

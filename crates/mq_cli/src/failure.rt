@@ -1,9 +1,8 @@
 //! What keeps the program from its task, and the statuses that it exits with.
 ghost use Rattle.std.specs.Prelude.{◌≡◌};
-ghost use Rattle.mq_cli.specs.Messages.{AppendsPart, failure_line};
+ghost use Rattle.mq_cli.specs.Messages.{IsTold, failure_line, stream};
 
-use crate::writing::write_out;
-use std::io::Write;
+use crate::error_stream::ErrorStream;
 
 /// The status if a log was judged and has no fault, if a log was shown, and if bytes are one packet.
 pub const PASSED: u8 = 0;
@@ -33,13 +32,14 @@ pub enum Failure {
 }
 
 impl Failure {
-    /// Writes to `error` what failed, as far as possible, and returns the status to exit with.
-    pub fn report<E: Write>(self, error: &mut E) -> u8
+    /// Writes to `error` what failed, and returns the status to exit with. If that fails too, only a
+    /// beginning of the line may be written.
+    pub fn report<E: ErrorStream>(self, error: &mut E) -> u8
         ensures status { result ≡ 4 }
-        ensures printed { AppendsPart (E.contents error.old) (E.contents error.new) (failure_line self) }
+        ensures printed { IsTold (stream E.contents E.has_failed error.old error.new) (failure_line self) }
     {
         // Nothing more can be done if `error` fails too.
-        let _ = write_out(self.line(), error);
+        let _ = error.write_message(self.line());
         FAILED
     }
 

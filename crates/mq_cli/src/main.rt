@@ -2,6 +2,7 @@
 #![tactic(auto)]
 
 mod command_line;
+mod error_stream;
 mod explanations;
 mod failure;
 #[cfg(test)]

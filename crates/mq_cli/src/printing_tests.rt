@@ -43,6 +43,16 @@ fn explains_each_statement(rt: HostRuntime) {
     }
 }
 
+// Two statements that are easily taken for one another.
+#[test]
+fn explains_resends_on_a_connection_and_after_a_pubrel(rt: HostRuntime) {
+    let same = "S03 both MQTT-4.4.0-1\nA PUBLISH isn't sent again on the same connection.\n\nWhy: ";
+    let later =
+        "S04 both MQTT-4.3.3-6\nA PUBLISH isn't sent again once its PUBREL was sent.\n\nWhy: ";
+    assert!(rt; explanation(Rule::S03).starts_with(same));
+    assert!(rt; explanation(Rule::S04).starts_with(later));
+}
+
 #[test]
 fn explains_a_code_in_any_case(rt: HostRuntime) -> Result<(), Fail> {
     for code in ["S01", "s01"] {

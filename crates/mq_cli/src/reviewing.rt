@@ -3,9 +3,10 @@ ghost use Rattle.std.specs.Prelude.{◌≡◌, ◌≤◌, ◌⊎◌, Some, Ok, E
 ghost use Rattle.std.specs.Io.KnownBytes.{Appends, Keeps};
 ghost use Rattle.mq_cli.specs.Program.{FailsReview, MisusesReview, PassesReview, RefusesReview, StopsFile};
 ghost use Rattle.mq_cli.specs.Reviewing.{IfBoth, IsReviewed, RefusesPlan, StopsPlan, count_of, misuse_line, plan_of, plan_on, plan_view};
-ghost use Rattle.mq_cli.specs.Messages.{AppendsPart, failure_line};
+ghost use Rattle.mq_cli.specs.Messages.{IsCutOff, IsTold, failure_line, stream};
 
 use crate::command_line::{Review, path_named};
+use crate::error_stream::ErrorStream;
 use crate::failure::{FAILED, Failure, MISUSED, PASSED, REFUSED};
 use crate::host::Host;
 use crate::tasks::{View, misuse, refuse, refuse_word, show_log};
@@ -43,7 +44,7 @@ enum Misuse<'a> {
 /// number after `--around`, or don't ask for faults are a misuse, which is reported on `error`: 3.
 /// If reading or writing failed or memory ran out, what failed is reported on `error`: 4; what was
 /// written until then is part of what would have been.
-pub fn review<H: Host, W: Write, E: Write>(
+pub fn review<H: Host, W: Write, E: ErrorStream>(
     alloc: Global,
     host: &H,
     asked: &Review,
@@ -54,7 +55,7 @@ pub fn review<H: Host, W: Write, E: Write>(
     ensures refused { result ≡ REFUSED → RefusesReview (H.gives host.now) asked.now (W.contents output.old) (W.contents output.new) }
     ensures misused { result ≡ MISUSED → MisusesReview asked.now (E.contents error.old) (E.contents error.new) }
     ensures failed { result ≡ FAILED → FailsReview (H.gives host.now) asked.now
-        (W.contents output.old) (W.contents output.new) (E.contents error.old) (E.contents error.new) }
+        (W.contents output.old) (W.contents output.new) (stream E.contents E.has_failed error.old error.new) }
     ensures statuses { (result ≡ PASSED) ⊎ ((result ≡ REFUSED) ⊎ ((result ≡ MISUSED) ⊎ (result ≡ FAILED))) }
     ensures quiet { result ≤ REFUSED → Keeps (E.contents error.old) (E.contents error.new) }
     ensures unprinted { result ≡ MISUSED → Keeps (W.contents output.old) (W.contents output.new) }
@@ -116,10 +117,10 @@ fn count_of(word: &str) -> Option<u32>
 }
 
 // Writes to `error` why there is nothing to show, and returns the status.
-fn report_misuse<E: Write>(alloc: Global, why: Misuse<'_>, error: &mut E) -> u8
+fn report_misuse<E: ErrorStream>(alloc: Global, why: Misuse<'_>, error: &mut E) -> u8
     ensures printed { result ≡ MISUSED → Appends (E.contents error.old) (E.contents error.new) (misuse_line why.entry) }
-    ensures failed { result ≡ FAILED → AppendsPart (E.contents error.old) (E.contents error.new) (misuse_line why.entry)
-        ⊎ AppendsPart (E.contents error.old) (E.contents error.new) (failure_line Failure.Memory) }
+    ensures failed { result ≡ FAILED → IsCutOff (stream E.contents E.has_failed error.old error.new) (misuse_line why.entry)
+        ⊎ IsTold (stream E.contents E.has_failed error.old error.new) (failure_line Failure.Memory) }
     ensures statuses { (result ≡ MISUSED) ⊎ (result ≡ FAILED) }
 {
     match why {

@@ -5,7 +5,7 @@ ghost use Rattle.hex.specs.Hex.{decode_of};
 ghost use Rattle.mq_cli.specs.Explaining.{explained_for};
 ghost use Rattle.mq_cli.specs.Listing.{listed_for, statement_lines};
 ghost use Rattle.mq_cli.specs.Messages.{AppendsLineOf, AppendsPart, BeginsRefusal, FailsMisnamed, FailsPacket, FailsPrinting, LacksJsonMemory};
-ghost use Rattle.mq_cli.specs.Messages.{FailsStop, FailsTask, HasFailed, HasPassed, IsMisnamed};
+ghost use Rattle.mq_cli.specs.Messages.{FailsStop, FailsTask, HasFailed, HasPassed, IsCutOff, IsMisnamed, IsTold, stream};
 ghost use Rattle.mq_cli.specs.Messages.{IsOfLog, IsRefusedOn, IsReportedOn, IsShownOn, IsPrintedOn, RefusesCheck};
 ghost use Rattle.mq_cli.specs.Messages.{RefusesShow, SpellsNoPacket, SpellsPacket, StopsCheck, StopsShow};
 ghost use Rattle.mq_cli.specs.Messages.{Prints, text_in_view, failure_line, failure_of, form_of, misnamed_line, no_role_line, no_statement_line, not_hex_line};
@@ -16,6 +16,7 @@ ghost use Rattle.mq_judge.specs.Display.{Shows};
 ghost use Rattle.mq_trace.specs.Events.{events};
 
 use crate::command_line::{EarlyExit, Task};
+use crate::error_stream::ErrorStream;
 use crate::explanations::explanation;
 use crate::failure::{FAILED, FAULTY, Failure, MISUSED, PASSED, REFUSED};
 use crate::listing::{listing, role_named};
@@ -61,7 +62,7 @@ pub enum View<'a> {
 /// or not a statement's code, with a message on `error`. If reading or writing failed or memory ran
 /// out the status is 4, with a message on `error`; what was written until then is part of what would
 /// have been.
-pub fn perform<R: Read, W: Write, E: Write>(
+pub fn perform<R: Read, W: Write, E: ErrorStream>(
     alloc: Global,
     task: &Task,
     input: &mut R,
@@ -77,9 +78,9 @@ pub fn perform<R: Read, W: Write, E: Write>(
     ensures misused { result ≡ 3 → IsMisnamed task.now
         × Appends (E.contents error.old) (E.contents error.new) (misnamed_line task.now) }
     ensures failed { result ≡ 4 → FailsTask task.now (R.remaining input.old) (R.remaining input.new)
-        (W.contents output.old) (W.contents output.new) (E.contents error.old) (E.contents error.new)
+        (W.contents output.old) (W.contents output.new) (stream E.contents E.has_failed error.old error.new)
         ⊎ FailsMisnamed task.now
-        (W.contents output.old) (W.contents output.new) (E.contents error.old) (E.contents error.new) }
+        (W.contents output.old) (W.contents output.new) (stream E.contents E.has_failed error.old error.new) }
     ensures statuses { result ≤ 4 }
 
     // Only what failed goes to `error`, and nothing goes to `output` if there is nothing to do.
@@ -232,7 +233,7 @@ pub fn refuse<W: Write>(
 }
 
 // Writes which packet the bytes are that these digits spell.
-fn packet<W: Write, E: Write>(alloc: Global, hex: &str, output: &mut W, error: &mut E) -> u8
+fn packet<W: Write, E: ErrorStream>(alloc: Global, hex: &str, output: &mut W, error: &mut E) -> u8
     ensures passed { result ≡ PASSED → SpellsPacket hex.now }
     ensures faulty { result ≡ FAULTY → SpellsNoPacket hex.now }
     ensures reported { result ≤ FAULTY
@@ -240,7 +241,7 @@ fn packet<W: Write, E: Write>(alloc: Global, hex: &str, output: &mut W, error: &
     ensures misused { result ≡ MISUSED → IsErr (decode_of hex.now)
         × Appends (E.contents error.old) (E.contents error.new) not_hex_line }
     ensures failed { result ≡ FAILED → FailsPacket hex.now
-        (W.contents output.old) (W.contents output.new) (E.contents error.old) (E.contents error.new) }
+        (W.contents output.old) (W.contents output.new) (stream E.contents E.has_failed error.old error.new) }
     ensures statuses { (result ≤ FAULTY) ⊎ ((result ≡ MISUSED) ⊎ (result ≡ FAILED)) }
     ensures quiet { result ≤ FAULTY → Keeps (E.contents error.old) (E.contents error.new) }
     ensures unprinted { result ≡ MISUSED → Keeps (W.contents output.old) (W.contents output.new) }
@@ -274,23 +275,23 @@ fn print_packet<W: Write>(bytes: &[u8], output: &mut W) -> Result<u8, Failure>
 }
 
 /// Writes to `error` what is wrong with the words, and returns the status.
-pub fn misuse<E: Write>(text: &str, error: &mut E) -> u8
+pub fn misuse<E: ErrorStream>(text: &str, error: &mut E) -> u8
     ensures printed { result ≡ MISUSED → Appends (E.contents error.old) (E.contents error.new) text.now }
-    ensures failed { result ≡ FAILED → AppendsPart (E.contents error.old) (E.contents error.new) text.now }
+    ensures failed { result ≡ FAILED → IsCutOff (stream E.contents E.has_failed error.old error.new) text.now }
     ensures statuses { (result ≡ MISUSED) ⊎ (result ≡ FAILED) }
 {
-    match write_out(text, error) {
+    match error.write_message(text) {
         Ok(()) => MISUSED,
         Err(_) => FAILED,
     }
 }
 
 // Lists all statements.
-fn print_all<W: Write, E: Write>(alloc: Global, output: &mut W, error: &mut E) -> u8
+fn print_all<W: Write, E: ErrorStream>(alloc: Global, output: &mut W, error: &mut E) -> u8
     ensures printed { result ≡ PASSED
         → Appends (W.contents output.old) (W.contents output.new) (statement_lines None) }
     ensures failed { result ≡ FAILED → FailsPrinting (Some (statement_lines None)) []
-        (W.contents output.old) (W.contents output.new) (E.contents error.old) (E.contents error.new) }
+        (W.contents output.old) (W.contents output.new) (stream E.contents E.has_failed error.old error.new) }
     ensures statuses { (result ≡ PASSED) ⊎ (result ≡ FAILED) }
     ensures quiet { result ≡ PASSED → Keeps (E.contents error.old) (E.contents error.new) }
 {
@@ -298,13 +299,18 @@ fn print_all<W: Write, E: Write>(alloc: Global, output: &mut W, error: &mut E) -
 }
 
 // Lists the statements that bind the end that the word names.
-fn print_rules<W: Write, E: Write>(alloc: Global, word: &str, output: &mut W, error: &mut E) -> u8
+fn print_rules<W: Write, E: ErrorStream>(
+    alloc: Global,
+    word: &str,
+    output: &mut W,
+    error: &mut E,
+) -> u8
     ensures printed { result ≡ PASSED
         → Prints (listed_for (Some word.now)) (W.contents output.old) (W.contents output.new) }
     ensures misused { result ≡ MISUSED → (listed_for (Some word.now) ≡ None)
         × Appends (E.contents error.old) (E.contents error.new) (no_role_line word.now) }
     ensures failed { result ≡ FAILED → FailsPrinting (listed_for (Some word.now)) (no_role_line word.now)
-        (W.contents output.old) (W.contents output.new) (E.contents error.old) (E.contents error.new) }
+        (W.contents output.old) (W.contents output.new) (stream E.contents E.has_failed error.old error.new) }
     ensures statuses { (result ≡ PASSED) ⊎ ((result ≡ MISUSED) ⊎ (result ≡ FAILED)) }
     ensures quiet { result ≡ PASSED → Keeps (E.contents error.old) (E.contents error.new) }
     ensures unprinted { result ≡ MISUSED → Keeps (W.contents output.old) (W.contents output.new) }
@@ -316,11 +322,16 @@ fn print_rules<W: Write, E: Write>(alloc: Global, word: &str, output: &mut W, er
 }
 
 // Lists the statements, for one end or for both.
-fn list<W: Write, E: Write>(alloc: Global, role: Option<Role>, output: &mut W, error: &mut E) -> u8
+fn list<W: Write, E: ErrorStream>(
+    alloc: Global,
+    role: Option<Role>,
+    output: &mut W,
+    error: &mut E,
+) -> u8
     ensures printed { result ≡ PASSED
         → Appends (W.contents output.old) (W.contents output.new) (statement_lines role) }
     ensures failed { result ≡ FAILED → FailsPrinting (Some (statement_lines role)) []
-        (W.contents output.old) (W.contents output.new) (E.contents error.old) (E.contents error.new) }
+        (W.contents output.old) (W.contents output.new) (stream E.contents E.has_failed error.old error.new) }
     ensures statuses { (result ≡ PASSED) ⊎ (result ≡ FAILED) }
     ensures quiet { result ≡ PASSED → Keeps (E.contents error.old) (E.contents error.new) }
 {
@@ -331,13 +342,13 @@ fn list<W: Write, E: Write>(alloc: Global, role: Option<Role>, output: &mut W, e
 }
 
 // Writes the explanation of the statement with this code.
-fn explain<W: Write, E: Write>(alloc: Global, code: &str, output: &mut W, error: &mut E) -> u8
+fn explain<W: Write, E: ErrorStream>(alloc: Global, code: &str, output: &mut W, error: &mut E) -> u8
     ensures printed { result ≡ PASSED
         → Prints (explained_for code.now) (W.contents output.old) (W.contents output.new) }
     ensures misused { result ≡ MISUSED → (explained_for code.now ≡ None)
         × Appends (E.contents error.old) (E.contents error.new) (no_statement_line code.now) }
     ensures failed { result ≡ FAILED → FailsPrinting (explained_for code.now) (no_statement_line code.now)
-        (W.contents output.old) (W.contents output.new) (E.contents error.old) (E.contents error.new) }
+        (W.contents output.old) (W.contents output.new) (stream E.contents E.has_failed error.old error.new) }
     ensures statuses { (result ≡ PASSED) ⊎ ((result ≡ MISUSED) ⊎ (result ≡ FAILED)) }
     ensures quiet { result ≡ PASSED → Keeps (E.contents error.old) (E.contents error.new) }
     ensures unprinted { result ≡ MISUSED → Keeps (W.contents output.old) (W.contents output.new) }
@@ -349,11 +360,11 @@ fn explain<W: Write, E: Write>(alloc: Global, code: &str, output: &mut W, error:
 }
 
 // Writes a text to the end, and returns the status.
-fn print<W: Write, E: Write>(text: &str, output: &mut W, error: &mut E) -> u8
+fn print<W: Write, E: ErrorStream>(text: &str, output: &mut W, error: &mut E) -> u8
     ensures printed { result ≡ PASSED → Appends (W.contents output.old) (W.contents output.new) text.now }
     ensures part { result ≡ FAILED → AppendsPart (W.contents output.old) (W.contents output.new) text.now }
     ensures failed { result ≡ FAILED
-        → AppendsPart (E.contents error.old) (E.contents error.new) (failure_line Failure.Write) }
+        → IsTold (stream E.contents E.has_failed error.old error.new) (failure_line Failure.Write) }
     ensures statuses { (result ≡ PASSED) ⊎ (result ≡ FAILED) }
     ensures quiet { result ≡ PASSED → Keeps (E.contents error.old) (E.contents error.new) }
 {
@@ -364,12 +375,12 @@ fn print<W: Write, E: Write>(text: &str, output: &mut W, error: &mut E) -> u8
 }
 
 /// Writes that a word names nothing, in a line that begins with `start`, and returns the status.
-pub fn refuse_word<E: Write>(alloc: Global, start: &str, word: &str, error: &mut E) -> u8
+pub fn refuse_word<E: ErrorStream>(alloc: Global, start: &str, word: &str, error: &mut E) -> u8
     ensures printed { result ≡ MISUSED
         → Appends (E.contents error.old) (E.contents error.new) (start.now ++ word.now ++ codes "\n") }
     ensures failed { result ≡ FAILED
-        → AppendsPart (E.contents error.old) (E.contents error.new) (start.now ++ word.now ++ codes "\n")
-        ⊎ AppendsPart (E.contents error.old) (E.contents error.new) (failure_line Failure.Memory) }
+        → IsCutOff (stream E.contents E.has_failed error.old error.new) (start.now ++ word.now ++ codes "\n")
+        ⊎ IsTold (stream E.contents E.has_failed error.old error.new) (failure_line Failure.Memory) }
     ensures statuses { (result ≡ MISUSED) ⊎ (result ≡ FAILED) }
 {
     match line_on(alloc, start, word) {
@@ -401,11 +412,11 @@ fn see_out<W: Write>(status: u8, output: &mut W) -> Result<u8, Failure>
 
 /// Writes why there is no task, and returns the status to exit with: 0 for help or the version, 3
 /// for a misuse, and 4 if memory ran out or the text couldn't be written.
-pub fn stop<W: Write, E: Write>(stop: &EarlyExit, output: &mut W, error: &mut E) -> u8
+pub fn stop<W: Write, E: ErrorStream>(stop: &EarlyExit, output: &mut W, error: &mut E) -> u8
     ensures shown { result ≡ 0 → IsShownOn stop.now (W.contents output.old) (W.contents output.new) }
     ensures printed { result ≡ 3 → IsPrintedOn stop.now (E.contents error.old) (E.contents error.new) }
     ensures failed { result ≡ 4 → FailsStop stop.now
-        (W.contents output.old) (W.contents output.new) (E.contents error.old) (E.contents error.new) }
+        (W.contents output.old) (W.contents output.new) (stream E.contents E.has_failed error.old error.new) }
     ensures statuses { (result ≡ 0) ⊎ ((result ≡ 3) ⊎ (result ≡ 4)) }
 
     // A text goes to only one of the two.
@@ -417,7 +428,7 @@ pub fn stop<W: Write, E: Write>(stop: &EarlyExit, output: &mut W, error: &mut E)
             Ok(()) => PASSED,
             Err(failure) => failure.report(error),
         },
-        EarlyExit::Usage(text) => match write_out(text.as_str(), error) {
+        EarlyExit::Usage(text) => match error.write_message(text.as_str()) {
             Ok(()) => MISUSED,
             Err(_) => FAILED,
         },

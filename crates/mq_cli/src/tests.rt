@@ -305,6 +305,49 @@ fn shows_help_and_the_version(rt: HostRuntime) -> Result<(), Fail> {
     Ok(())
 }
 
+// Whether these words ask for help, and it has this part.
+fn is_help(alloc: Global, words: &[&str], part: &str) -> bool {
+    match parse(alloc, words) {
+        Err(EarlyExit::Help(text)) => text.as_str().contains(part),
+        _ => false,
+    }
+}
+
+#[test]
+fn says_in_help_what_each_status_means(rt: HostRuntime) {
+    let rows: [(&[&str], &str); 4] = [
+        (
+            &["mqjudge", "--help"],
+            "Statuses: 0 for a pass, 1 for faults, 2 for a rejected log, 3 for misuse,\n4 if ",
+        ),
+        (
+            &["mqjudge", "check", "--help"],
+            "Statuses: 0 for no fault, 1 for faults, 2 for a rejected log, 3 for misuse,\n4 if ",
+        ),
+        (
+            &["mqjudge", "show", "--help"],
+            "Statuses: 0 if the log was shown, 2 for a rejected log, 3 for misuse,\n4 if ",
+        ),
+        (
+            &["mqjudge", "packet", "--help"],
+            "Statuses: 0 for one packet, 1 for other bytes, 3 for misuse,\n4 if ",
+        ),
+    ];
+    for (words, part) in rows {
+        assert!(rt; is_help(rt.alloc(), words, part), "{words:?}");
+    }
+}
+
+// A misuse whose text is longer than 64 bytes, as most are.
+#[test]
+fn writes_all_of_a_long_misuse(rt: HostRuntime) -> Result<(), Fail> {
+    let text = "error: unexpected argument 'b' found\n\n\
+        Usage: mqjudge check [OPTIONS] [FILE]\n\nFor more information, try '--help'.\n";
+    let usage = EarlyExit::Usage(String::from_str(rt.alloc(), text)?);
+    assert!(rt; is_stopped(rt.alloc(), &usage, MISUSED, "", text));
+    Ok(())
+}
+
 #[test]
 fn refuses_other_words(rt: HostRuntime) {
     let misuses: [(&[&str], &str); 7] = [

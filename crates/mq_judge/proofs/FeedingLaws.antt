@@ -1,5 +1,6 @@
 -- A log that is read and fed turn by turn.
-use Rattle.std.proofs.Common.{◌≡◌, ℕ, List, [], ◌++◌, length, Option, Some, None, refl, sym, ap, subst, ◌∙◌, append_assoc, append-nil, IfSome}
+use Rattle.std.proofs.Common.{◌≡◌, ℕ, List, [], ◌++◌, length, Option, Some, None, refl, sym, ap, subst, ◌∙◌, ◌+◌, ◌*◌, ◌≤◌, append_assoc, append-nil, length-append, IfSome, arith}
+use Rattle.std.proofs.Math.Nat.{mul-add, mul-one}
 use Rattle.std.specs.Io.KnownBytes.{Consumes, Keeps, IsAtEnd}
 
 pub consumes-nothing : (x : Option (List ℕ)) → Consumes x x []
@@ -25,6 +26,27 @@ pub record IsFed {F S : Type 0} (limit : F → ℕ) (follows : F → S → List 
   pub followed : follows feeder sink log
   pub within : limit feeder ≡ first
   pub count : fed ≡ length log
+
+-- There is room for what was taken in so far and for all that the turns that are left may give.
+pub record HasRoom (fed left turns length : ℕ) : Type 0 where
+  pub most : (room : ℕ) → length ≤ room → fed + room * left ≤ room * turns
+
+-- a turn that gives this many bytes
+pub room-after : (fed left before turns length count : ℕ) → HasRoom fed before turns length → before ≡ left + 1 → count ≤ length → HasRoom (fed + count) left turns length
+room-after fed left before turns length count had one few = record {
+  most = λ room within.
+      let all : fed + room * before ≤ room * turns = had.most room within in
+      let step : room * before ≡ room * left + room = ap (λ (n : ℕ). room * n) one ∙ mul-add room left 1 ∙ ap (λ (n : ℕ). room * left + n) (mul-one room) in
+      omega (arith, all, step, few, within);
+}
+
+-- all that was taken, with the piece that this turn gave
+pub few-taken : (fed before left turns length_of count room : ℕ) (log piece : List ℕ) → HasRoom fed before turns length_of → fed ≡ length log → before ≡ left + 1
+    → count ≤ length_of → length piece ≡ count → length_of ≤ room → length (log ++ piece) ≤ room * turns
+few-taken fed before left turns length_of count room log piece had is one few short within =
+    let all : (fed + count) + room * left ≤ room * turns = (room-after fed left before turns length_of count had one few).most room within in
+    let whole : length (log ++ piece) ≡ length log + length piece = length-append log piece in
+    omega (arith, all, is, short, whole)
 
 -- what was taken up to the end is the whole
 pub whole-taken : (x y : Option (List ℕ)) (log : List ℕ) (P : List ℕ → Type 0) → Consumes x y log → IsAtEnd y → P log → IfSome x P

@@ -1,5 +1,5 @@
 -- A log that was fed to a judge, and what a run over it comes to.
-use Rattle.std.proofs.Common.{◌≡◌, ℕ, Bool, true, false, ◌⊎◌, inl, inr, List, [], ◌∷◌, ◌++◌, length, Option, Some, None, refl, sym, ap, subst, ◌∙◌, append-nil, nat_lt, ◌||◌, ◌==◌, IsSome, IfSome, rules, Ok, Err, if◌then◌else◌}
+use Rattle.std.proofs.Common.{◌≡◌, ℕ, Bool, true, false, ◌⊎◌, inl, inr, List, [], ◌∷◌, ◌++◌, length, Option, Some, None, refl, sym, ap, subst, ◌∙◌, append-nil, ◌==◌, IfOk, IfSome, Ok, Err, Result, if◌then◌else◌}
 use Rattle.std.specs.FinMap as map
 use Rattle.std.specs.Io.KnownBytes.{Appends}
 use Rattle.mq_trace.specs.declared.refusal.Refusal.{Refusal}
@@ -10,7 +10,7 @@ use Rattle.mq_judge.specs.declared.report.Outcome.TheVariants.{Pass, Fail}
 use Rattle.mq_judge.specs.declared.report.RunFault.{RunFault}
 use Rattle.mq_judge.specs.declared.report.RunFault.TheVariants as run_faults
 use Rattle.mq_rules.specs.declared.role.Role.{Role}
-use Rattle.mq_judge.specs.Judging.{Judged, Knows, Follows, RefusesIn, AreFaultsOf}
+use Rattle.mq_judge.specs.Judging.{Judged, Finishes, Follows, RefusesIn, AreFaultsOf}
 use Rattle.mq_trace.specs.Refusals.{refused, is_cut_short}
 use Rattle.mq_trace.specs.Events.{events}
 use Rattle.mq_rules.specs.Notes.{tested_by, seen_in}
@@ -18,7 +18,7 @@ use Rattle.mq_rules.specs.FaultKeys.{FaultMap}
 use Rattle.mq_judge.specs.Report.{report, report_on, FailsToReport}
 use Rattle.mq_judge.specs.Feeding.{FedAll, FedSome}
 use Rattle.mq_judge.specs.Stopping.{IsRefusedByte, IsRefusedEnd, IsRefusedAt}
-use Rattle.mq_judge.specs.Runner.{default_limit, outcome_of, IsJudged, IsVerdictOn, RunsOver}
+use Rattle.mq_judge.specs.Runner.{default_limit, outcome_of, IsJudged, IsVerdictOn, JudgesOver, RunsOver}
 use Rattle.mq_judge.proofs.JudgeLaws.{unrefused}
 use Rattle.mq_judge.proofs.FeedingLaws.{whole-taken, some-taken, pieces-are}
 use Rattle.mq_judge.specs.Chosen.{is_judged}
@@ -32,41 +32,41 @@ unrefused-yet {judge} log e follows = subst (λ l. refused l log ≡ None) e (un
 abbrev pub SaysOf : List ℕ → ℕ → FaultMap → Type 0
 SaysOf log count faults = (is_cut_short log ≡ false) × (count ≡ length (events log)) × AreFaultsOf log faults
 
-or-false : (a b : Bool) → (a || b) ≡ false → a ≡ false
-or-false false b h = refl
-or-false true b h = h
-
--- This is the end that a judge names.
-abbrev pub IsNamed : Judged → Option Role → Type 0
-IsNamed judge named = (taken : List ℕ) → Knows judge taken → named ≡ (if nat_lt (length taken) 8 then None else Some (tested_by taken).role)
-
--- the end that a judge names once its log isn't cut short
-role-known : (judge : Judged) (log : List ℕ) (named : Option Role) → Follows judge log → is_cut_short log ≡ false → IsNamed judge named → named ≡ Some (tested_by log).role
-unfolding is_cut_short
-role-known judge log named followed whole names =
-    let long : nat_lt (length log) 8 ≡ false = or-false (nat_lt (length log) 8) _ whole in
-    names log followed.knows ∙ ap (λ b. if b then None else Some (tested_by log).role) long
-
-pub is-named : {first : ℕ} {judge : Judged} {x y : Option (List ℕ)} (named : Option Role) (count : ℕ) (faults : FaultMap) → FedAll {S = Unit {0}} (λ j. j.limit) (λ j _. Follows j) first x y judge tt → first ≡ default_limit
-    → ((log : List ℕ) → Follows judge log → SaysOf log count faults)
-    → IsNamed judge named → IsSome named
-is-named {first} {judge} named count faults took default verdict names =
-    rw (role-known judge took.log named took.followed (verdict took.log took.followed).0 names) (search rules)
-
--- a verdict on a log that was fed whole
-pub judge-ends : {first : ℕ} {x y : Option (List ℕ)} {judge : Judged} (count : ℕ) (faults : FaultMap) (role : Role)
+-- a verdict on a log that was fed whole, with the role of the end that was judged
+judge-ends : {first : ℕ} {x y : Option (List ℕ)} {judge : Judged} (count : ℕ) (faults : FaultMap) (role : Role)
     → FedAll {S = Unit {0}} (λ j. j.limit) (λ j _. Follows j) first x y judge tt → first ≡ default_limit → ((log : List ℕ) → Follows judge log → SaysOf log count faults)
-    → IsNamed judge (Some role) → IfSome x (λ log. IsVerdictOn log role count faults)
+    → ((log : List ℕ) → Follows judge log → role ≡ (tested_by log).role) → IfSome x (λ log. IsVerdictOn log role count faults)
 judge-ends {first} {x} {y} {judge} count faults role took default verdict named =
     let log = took.log in
     let v : SaysOf log count faults = verdict log took.followed in
-    let known : Some role ≡ Some (tested_by log).role = role-known judge log (Some role) took.followed v.0 named in
     whole-taken x y log (λ l. IsVerdictOn l role count faults) took.consumed took.ended (record {
       judged = record { unrefused = unrefused-yet log (took.within ∙ default) took.followed; whole = v.0 };
-      role_is = cc;
+      role_is = named log took.followed;
       count_is = v.1;
       faults_are = entries-listed (is_judged (tested_by log)) (tested_by log) (seen_in log) faults v.2;
     })
+
+-- a log that was fed whole, and that the judge refused at its end
+run-refused-at-end : {first : ℕ} {x y : Option (List ℕ)} {judge : Judged} (refusal : Refusal) → FedAll {S = Unit {0}} (λ j. j.limit) (λ j _. Follows j) first x y judge tt → first ≡ default_limit
+    → ((log : List ℕ) → Follows judge log → IsRefusedEnd log refusal) → IfSome x (λ log. IsRefusedAt default_limit log y refusal)
+run-refused-at-end {first} {x} {y} refusal took default why =
+    let log = took.log in
+    whole-taken x y log (λ l. IsRefusedAt default_limit l y refusal) took.consumed took.ended (record {
+      taken = log;
+      later = [];
+      is = sym (append-nil log);
+      unrefused = unrefused-yet log (took.within ∙ default) took.followed;
+      why = inl (why log took.followed);
+    })
+
+-- what finishing a judge gives that was fed a whole log
+pub judge-finishes : {V : Type 0} (count_in : V → ℕ) (faults_in : V → FaultMap) {first : ℕ} {x y : Option (List ℕ)} {judge : Judged} (result : Result (V × Role) Refusal)
+    → FedAll {S = Unit {0}} (λ j. j.limit) (λ j _. Follows j) first x y judge tt → first ≡ default_limit
+    → ((log : List ℕ) → Follows judge log → Finishes (λ (answer : V × Role). count_in answer.0) (λ (answer : V × Role). faults_in answer.0) log result)
+    → ((log : List ℕ) → Follows judge log → IfOk result (λ answer. answer.1 ≡ (tested_by log).role))
+    → IfSome x (λ log. JudgesOver count_in faults_in log y result)
+judge-finishes count_in faults_in (Ok answer) took default finished named = judge-ends (count_in answer.0) (faults_in answer.0) answer.1 took default finished named
+judge-finishes count_in faults_in (Err refusal) took default finished named = run-refused-at-end refusal took default finished
 
 -- what holds of a log holds of what a reader had left, where that is known
 pub for_log : (remaining : Option (List ℕ)) (P Q : List ℕ → Type 0) → ((log : List ℕ) → P log → Q log) → IfSome remaining P → IfSome remaining Q
@@ -104,19 +104,6 @@ pub run-stops-writing : (x y : Option (List ℕ)) (form : Form) (w z : Option (L
 run-stops-writing x y form w z count faults role fault judged stopped =
     for_log x (λ log. IsVerdictOn log role count faults) (λ log. RunsOver form log y (Err fault) w z)
     (λ log v. stops-with form log y w z fault v.judged (subst (λ (t : List ℕ). FailsToReport form w z t fault) (report-is form log role count faults v) stopped)) judged
-
--- a run whose judge refused the log at its end
-pub run-refused-at-end : {first : ℕ} {x y : Option (List ℕ)} {judge : Judged} (refusal : Refusal) → FedAll {S = Unit {0}} (λ j. j.limit) (λ j _. Follows j) first x y judge tt → first ≡ default_limit
-    → ((log : List ℕ) → Follows judge log → IsRefusedEnd log refusal) → IfSome x (λ log. IsRefusedAt default_limit log y refusal)
-run-refused-at-end {first} {x} {y} refusal took default why =
-    let log = took.log in
-    whole-taken x y log (λ l. IsRefusedAt default_limit l y refusal) took.consumed took.ended (record {
-      taken = log;
-      later = [];
-      is = sym (append-nil log);
-      unrefused = unrefused-yet log (took.within ∙ default) took.followed;
-      why = inl (why log took.followed);
-    })
 
 -- a run that was stopped while it was feeding the judge
 pub run-stopped : {first : ℕ} {x y : Option (List ℕ)} {judge : Judged} (refusal : Refusal) → FedSome {S = Unit {0}} (λ j. j.limit) (λ j _. Follows j) (λ l j _. RefusesIn l j) first x y judge tt refusal → first ≡ default_limit

@@ -1,5 +1,5 @@
 -- The result of feeding everything that a reader gives, until its end.
-use Rattle.std.specs.Prelude.{◌≡◌, ℕ, List, [], ◌++◌, length, ◌⊎◌, Option}
+use Rattle.std.specs.Prelude.{◌≡◌, ◌≤◌, ℕ, List, [], ◌++◌, length, ◌⊎◌, Option}
 use Rattle.std.specs.Io.KnownBytes.{Consumes, IsAtEnd}
 use Rattle.mq_trace.specs.declared.refusal.Refusal.{Refusal}
 use Rattle.mq_trace.specs.declared.refusal.Refusal.TheVariants as refusals
@@ -21,6 +21,12 @@ pub record FedSome {F S : Type 0} (limit : F → ℕ) (follows : F → S → Lis
   pub piece : List ℕ
   pub consumed : Consumes old new (log ++ piece)
   pub why : stops first fed sink log piece refusal ⊎ ((piece ≡ []) × follows fed sink log × (limit fed ≡ first) × (refusal ≡ refusals.Read (length log)))
+
+-- At most this many bytes were taken from what a reader had left.
+pub record TakesAtMost (most : ℕ) (old new : Option (List ℕ)) : Type 0 where
+  pub bytes : List ℕ
+  pub consumed : Consumes old new bytes
+  pub few : length bytes ≤ most
 
 -- Why feeding halted, with this many turns left: a refusal; reading failed; or no turn is left.
 abbrev pub HaltsAt : (Refusal → Type 0) → ℕ → Halt → Type 0

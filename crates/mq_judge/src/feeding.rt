@@ -1,6 +1,6 @@
 //! Feeding a log from a reader, piece by piece, to whatever takes it in.
-ghost use Rattle.std.specs.Prelude.{◌≡◌, ◌<◌, ◌≤◌, [], ◌++◌, ℕ, List, OnOk, IfErr, length};
-ghost use Rattle.mq_judge.specs.Feeding.{FedAll, FedSome, HaltsAt};
+ghost use Rattle.std.specs.Prelude.{◌≡◌, ◌*◌, ◌<◌, ◌≤◌, [], ◌++◌, ℕ, List, OnOk, IfErr, length};
+ghost use Rattle.mq_judge.specs.Feeding.{FedAll, FedSome, HaltsAt, TakesAtMost};
 
 use super::turns::Turns;
 use mq_trace::Refusal;
@@ -55,6 +55,7 @@ pub fn feed_all<R: Read, S, F: Feed<S>>(
     requires follows { F.follows feeder.old sink.old [] }
     ensures all { OnOk result (FedAll F.limit F.follows (F.limit feeder.old) (R.remaining reader.old) (R.remaining reader.new) feeder.new sink.new) }
     ensures some { IfErr result (FedSome F.limit F.follows F.stops (F.limit feeder.old) (R.remaining reader.old) (R.remaining reader.new) feeder.new sink.new) }
+    ensures few { (room : ℕ) → length buffer.old ≤ room → TakesAtMost (room * turns) (R.remaining reader.old) (R.remaining reader.new) }
 {
     let mut turns = Turns::new(turns);
     match take_turns(feeder, sink, reader, buffer, &mut turns) {
@@ -76,6 +77,7 @@ fn take_turns<R: Read, S, F: Feed<S>>(
     requires follows { F.follows feeder.old sink.old [] }
     ensures all { OnOk result (FedAll F.limit F.follows (F.limit feeder.old) (R.remaining reader.old) (R.remaining reader.new) feeder.new sink.new) }
     ensures some { IfErr result (HaltsAt (FedSome F.limit F.follows F.stops (F.limit feeder.old) (R.remaining reader.old) (R.remaining reader.new) feeder.new sink.new) turns.new.left) }
+    ensures few { (room : ℕ) → length buffer.old ≤ room → TakesAtMost (room * turns.old.left) (R.remaining reader.old) (R.remaining reader.new) }
 {
     let mut fed = 0;
     'turns: while turns.are_left() {

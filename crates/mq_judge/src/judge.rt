@@ -1,5 +1,5 @@
 //! The judge: it is fed a log, in any pieces, and returns the verdict on it.
-ghost use Rattle.std.specs.Prelude.{◌≡◌, ℕ, ◌-◌, ◌≤◌, min, List, [], nat_lt, length, Some, None, Err, IfErr, IfSome, reverse, if◌then◌else◌};
+ghost use Rattle.std.specs.Prelude.{◌≡◌, ℕ, ◌-◌, ◌≤◌, min, List, [], nat_lt, length, Some, None, Err, IfErr, IfOk, IfSome, reverse, if◌then◌else◌};
 ghost use Rattle.mq_judge.specs.Judging.{Knows, Follows, JudgesPiece, TakesEvents, Finishes, judge_of, tested_in};
 ghost use Rattle.mq_rules.specs.Notes.{tested_by, seen_in};
 ghost use Rattle.mq_trace.specs.Tracing.{IsTracedTo};
@@ -121,6 +121,20 @@ impl Judge {
         ensures verdict { (log : List ℕ) → Follows self log → Finishes (λ v. v.events) (λ v. v.faults) log result }
         ensures for_ever { IfSome self.tracer.refusal (λ refusal. result ≡ Err refusal) }
     {
+        let (verdict, _) = self.finish_with_role()?;
+        Ok(verdict)
+    }
+
+    /// The same, with the role of the end that was judged, which `write_text` and its like ask for.
+    ///
+    /// # Errors
+    ///
+    /// As `finish`.
+    pub(crate) fn finish_with_role(self) -> Result<(Verdict, Role), Refusal>
+        ensures verdict { (log : List ℕ) → Follows self log → Finishes (λ answer. answer.0.events) (λ answer. answer.0.faults) log result }
+        ensures role { (log : List ℕ) → Follows self log → IfOk result (λ answer. answer.1 ≡ (tested_by log).role) }
+        ensures for_ever { IfSome self.tracer.refusal (λ refusal. result ≡ Err refusal) }
+    {
         let mut tracer = self.tracer;
         tracer.finish()?;
         let at = tracer.byte_count();
@@ -130,10 +144,8 @@ impl Judge {
         let mut faults = Faults::new(self.alloc);
         let judged = judge_all(self.alloc, tested, self.notes.seen.as_slice(), &mut faults);
         judged.map_err(|_| Refusal::Memory(at))?;
-        Ok(Verdict {
-            events: self.notes.count(),
-            faults,
-        })
+        let events = self.notes.count();
+        Ok((Verdict { events, faults }, tested.role))
     }
 }
 

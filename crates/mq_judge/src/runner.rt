@@ -1,10 +1,11 @@
 //! Judges a log from a reader, and writes the report on it.
-ghost use Rattle.std.specs.Prelude.{◌≡◌, ◌==◌, IfSome, IfErr, OnOk, Err, if◌then◌else◌};
+ghost use Rattle.std.specs.Prelude.{◌≡◌, ◌*◌, ◌==◌, IfSome, IfErr, OnOk, Err, if◌then◌else◌};
 ghost use Rattle.std.specs.FinMap as map;
 ghost use Rattle.std.specs.Io.KnownBytes.{Appends};
 ghost use Rattle.mq_judge.specs.declared.report.RunFault.TheVariants as run_faults;
 ghost use Rattle.mq_trace.specs.declared.refusal.Refusal.{Refusal as AnyRefusal};
 ghost use Rattle.mq_judge.specs.Report.{report_on, FailsToReport};
+ghost use Rattle.mq_judge.specs.Feeding.{TakesAtMost};
 ghost use Rattle.mq_judge.specs.Runner.{JudgesOver, RunsOver};
 
 use super::feeding::feed_all;
@@ -61,6 +62,7 @@ pub fn run_bounded<R: Read, W: Write>(
 ) -> Result<Outcome, RunFault>
     ensures runs { IfSome (R.remaining reader.old) (λ log. RunsOver form log (R.remaining reader.new) result (W.contents writer.old) (W.contents writer.new)) }
     ensures unwritten { (refusal : AnyRefusal) → result ≡ Err (run_faults.Refused refusal) → writer.new ≡ writer.old }
+    ensures few { TakesAtMost (8192 * turns) (R.remaining reader.old) (R.remaining reader.new) }
 {
     let (verdict, role) = judge_bounded(alloc, reader, turns)?;
     write_report(alloc, &verdict, role, form, writer)?;
@@ -93,14 +95,13 @@ fn judge_bounded<R: Read>(
     reader: &mut R,
     turns: u32,
 ) -> Result<(Verdict, Role), Refusal>
-    ensures { IfSome (R.remaining reader.old) (λ log. JudgesOver (λ v. v.events) (λ v. v.faults) log (R.remaining reader.new) result) }
+    ensures judges { IfSome (R.remaining reader.old) (λ log. JudgesOver (λ v. v.events) (λ v. v.faults) log (R.remaining reader.new) result) }
+    ensures few { TakesAtMost (8192 * turns) (R.remaining reader.old) (R.remaining reader.new) }
 {
     let mut judge = Judge::new(alloc, Options::default());
     let mut buffer = [0; 8192];
     feed_all(&mut judge, &mut (), reader, &mut buffer, turns)?;
-    let role = judge.role();
-    let verdict = judge.finish()?;
-    Ok((verdict, role.unwrap()))
+    judge.finish_with_role()
 }
 
 /// Writes the report on a verdict in this form.

@@ -1,6 +1,9 @@
 //! Logs that are longer than a buffer, a count or a number of turns at which something might stop.
 use super::display::show;
-use super::harness::{Failing, HEADER, PINGREQ, Part, Pieces, SERVER, add_record, log_of};
+use super::harness::{
+    CLIENT, CONNACK, CONNECT, Failing, HEADER, PINGREQ, PUBLISH_UNIDENTIFIED, Part, Pieces, SERVER,
+    add_record, log_of,
+};
 use super::report::{Form, Outcome, RunFault};
 use super::runner::{run, run_bounded};
 use mq_trace::Refusal;
@@ -84,20 +87,58 @@ fn stops_when_its_turns_run_out(rt: HostRuntime) {
     assert_eq!(rt; run_for(rt.alloc(), 18), Ok(Outcome::Pass));
 }
 
-/// A reader that is interrupted at each read.
+/// A reader that is interrupted at each read, and counts them.
 #[derive(Drop)]
-struct Interrupted;
+struct Interrupted {
+    reads: u32,
+}
 
 impl Read for Interrupted {
     fn read(&mut self, _: &mut [u8]) -> io::Result<usize> {
+        self.reads = self.reads.saturating_add(1);
         Err(io::Error::from(ErrorKind::Interrupted))
     }
 }
 
 #[test]
 fn refuses_after_as_many_reads_as_it_was_given(rt: HostRuntime) {
-    let mut written = Vec::new(rt.alloc());
-    let answer = run_bounded(rt.alloc(), &mut Interrupted, &mut written, Form::Json, 2);
-    assert_eq!(rt; answer, Err(RunFault::Refused(Refusal::Read(0))));
-    assert!(rt; written.is_empty());
+    for turns in [0, 1, 2, 1000] {
+        let mut reader = Interrupted { reads: 0 };
+        let mut written = Vec::new(rt.alloc());
+        let answer = run_bounded(rt.alloc(), &mut reader, &mut written, Form::Json, turns);
+        assert_eq!(rt; answer, Err(RunFault::Refused(Refusal::Read(0))));
+        assert!(rt; written.is_empty());
+        assert_eq!(rt; reader.reads, turns);
+    }
+}
+
+#[test]
+fn shows_for_more_than_65536_turns(rt: HostRuntime) -> Result<(), Fail> {
+    let log = pings(rt.alloc(), 18_000)?;
+    let mut reader = Pieces::interrupted(log.as_slice(), 1, false);
+    let mut shown = Vec::new(rt.alloc());
+    assert_eq!(rt; show(rt.alloc(), &mut reader, &mut shown), Ok(()));
+    Ok(())
+}
+
+/// A log of a client that sends 1,200 times a PUBLISH whose Packet Identifier is 0.
+fn many_faults(alloc: Global) -> Result<Vec<u8>, Fail> {
+    let connected = [Part::Open, Part::Sent(CONNECT), Part::Recv(CONNACK)];
+    let mut log = log_of(alloc, CLIENT, &connected)?;
+    for _ in 0..1200 {
+        add_record(&mut log, 2, PUBLISH_UNIDENTIFIED)?;
+    }
+    Ok(log)
+}
+
+/// What is written has more than 8,192 bytes in two of the three forms.
+#[test]
+fn reports_1200_faults_in_each_form(rt: HostRuntime) -> Result<(), Fail> {
+    let log = many_faults(rt.alloc())?;
+    for form in [Form::Text, Form::Json, Form::Summary] {
+        let mut written = Vec::new(rt.alloc());
+        let answer = run(rt.alloc(), &mut log.as_slice(), &mut written, form);
+        assert_eq!(rt; answer, Ok(Outcome::Fail));
+    }
+    Ok(())
 }

@@ -2,19 +2,19 @@ use Rattle.std.proofs.Common.{inl, inr}
 use Rattle.mq_cli.proofs.program.respond.Goals as goal
 
 pub returns-in-Ok-clause-passed : goal.returns-in-Ok-clause-passed
-returns-in-Ok-clause-passed g c = λ e. inr (c.in-Ok.work, c.in-Ok.ensures.work, c.work_on.ensures.passed e)
+returns-in-Ok-clause-passed g c = λ e. inr (c.in-Ok.work, (c.in-Ok.ensures.work, c.in-Ok.ensures.readings), c.work_on.ensures.passed e)
 
 pub returns-in-Ok-clause-faulty : goal.returns-in-Ok-clause-faulty
-returns-in-Ok-clause-faulty g c = λ e. (c.in-Ok.work, c.in-Ok.ensures.work, c.work_on.ensures.faulty e)
+returns-in-Ok-clause-faulty g c = λ e. (c.in-Ok.work, (c.in-Ok.ensures.work, c.in-Ok.ensures.readings), c.work_on.ensures.faulty e)
 
 pub returns-in-Ok-clause-refused : goal.returns-in-Ok-clause-refused
-returns-in-Ok-clause-refused g c = λ e. (c.in-Ok.work, c.in-Ok.ensures.work, c.work_on.ensures.refused e)
+returns-in-Ok-clause-refused g c = λ e. (c.in-Ok.work, (c.in-Ok.ensures.work, c.in-Ok.ensures.readings), c.work_on.ensures.refused e)
 
 pub returns-in-Ok-clause-misused : goal.returns-in-Ok-clause-misused
-returns-in-Ok-clause-misused g c = λ e. inr (c.in-Ok.work, c.in-Ok.ensures.work, c.work_on.ensures.misused e)
+returns-in-Ok-clause-misused g c = λ e. inr (c.in-Ok.work, (c.in-Ok.ensures.work, c.in-Ok.ensures.readings), c.work_on.ensures.misused e)
 
 pub returns-in-Ok-clause-failed : goal.returns-in-Ok-clause-failed
-returns-in-Ok-clause-failed g c = λ e. inr (c.in-Ok.work, c.in-Ok.ensures.work, c.work_on.ensures.failed e)
+returns-in-Ok-clause-failed g c = λ e. inr (c.in-Ok.work, (c.in-Ok.ensures.work, c.in-Ok.ensures.readings), c.work_on.ensures.failed e)
 
 pub returns-in-Err-clause-passed : goal.returns-in-Err-clause-passed
 returns-in-Err-clause-passed g c = λ e. inl (c.in-Err.why, c.in-Err.ensures.stop, c.stop.ensures.shown e)

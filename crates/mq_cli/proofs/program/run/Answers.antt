@@ -1,6 +1,7 @@
 use Rattle.std.proofs.Common.{List, inr}
 use Rattle.clap.specs.Words.{Text}
 use Rattle.mq_cli.specs.Program.{FailsWords, FindsFaults, IsMisuse, Passes, Refuses}
+use Rattle.mq_cli.specs.Messages.{stream}
 use Rattle.mq_cli.proofs.ProgramLemmas.{known_words}
 use Rattle.mq_cli.proofs.program.run.Goals as goal
 
@@ -21,11 +22,11 @@ returns-in-Ok-clause-refused g c = λ e.
 
 pub returns-in-Ok-clause-misused : goal.returns-in-Ok-clause-misused
 returns-in-Ok-clause-misused g c = λ e.
-    let P : List Text → Type 0 = λ words. IsMisuse words (g.E.Write.contents c.args.error.now) (g.E.Write.contents c.respond.new.error) in
+    let P : List Text → Type 0 = λ words. IsMisuse words (g.E.ErrorStream.contents c.args.error.now) (g.E.ErrorStream.contents c.respond.new.error) in
     known_words _ _ _ _ P c.in-Ok.ensures.words c.as_slice.ensures.value (c.respond.ensures.misused e)
 
 pub returns-in-Ok-clause-failed : goal.returns-in-Ok-clause-failed
 returns-in-Ok-clause-failed g c = λ e.
     let P : List Text → Type 0 = λ words. FailsWords words (g.H.Host.gives c.args.host.now) (g.W.Write.contents c.args.output.now) (g.W.Write.contents c.respond.new.output)
-    (g.E.Write.contents c.args.error.now) (g.E.Write.contents c.respond.new.error) in
+    (stream g.E.ErrorStream.contents g.E.ErrorStream.has_failed c.args.error.now c.respond.new.error) in
     inr (known_words _ _ _ _ P c.in-Ok.ensures.words c.as_slice.ensures.value (c.respond.ensures.failed e))

@@ -26,14 +26,14 @@ pub returns-in-Rules-Some-clause-misused : goal.returns-in-Rules-Some-clause-mis
 returns-in-Rules-Some-clause-misused g c =
     let asked : c.args.task.now ≡ Rules (Some c.in-Rules-Some.word) = search rules in
     let word : c.as_str-in-Rules-Some.result.now ≡ string_bytes c.in-Rules-Some.word = search rules in
-    let P : Task → Type 0 = λ task. IsMisnamed task × Appends (g.E.Write.contents c.args.error.now) (g.E.Write.contents c.print_rules.new.error) (misnamed_line task) in
-    let Q : List ℕ → Type 0 = λ w. (listed_for (Some w) ≡ None) × Appends (g.E.Write.contents c.args.error.now) (g.E.Write.contents c.print_rules.new.error) (no_role_line w) in
+    let P : Task → Type 0 = λ task. IsMisnamed task × Appends (g.E.ErrorStream.contents c.args.error.now) (g.E.ErrorStream.contents c.print_rules.new.error) (misnamed_line task) in
+    let Q : List ℕ → Type 0 = λ w. (listed_for (Some w) ≡ None) × Appends (g.E.ErrorStream.contents c.args.error.now) (g.E.ErrorStream.contents c.print_rules.new.error) (no_role_line w) in
     λ e. subst P (sym asked) (subst Q word (c.print_rules.ensures.misused e))
 
 pub returns-in-Explain-clause-misused : goal.returns-in-Explain-clause-misused
 returns-in-Explain-clause-misused g c =
     let asked : c.args.task.now ≡ Explain c.in-Explain.code = search rules in
     let code : c.as_str-in-Explain.result.now ≡ string_bytes c.in-Explain.code = search rules in
-    let P : Task → Type 0 = λ task. IsMisnamed task × Appends (g.E.Write.contents c.args.error.now) (g.E.Write.contents c.explain.new.error) (misnamed_line task) in
-    let Q : List ℕ → Type 0 = λ w. (explained_for w ≡ None) × Appends (g.E.Write.contents c.args.error.now) (g.E.Write.contents c.explain.new.error) (no_statement_line w) in
+    let P : Task → Type 0 = λ task. IsMisnamed task × Appends (g.E.ErrorStream.contents c.args.error.now) (g.E.ErrorStream.contents c.explain.new.error) (misnamed_line task) in
+    let Q : List ℕ → Type 0 = λ w. (explained_for w ≡ None) × Appends (g.E.ErrorStream.contents c.args.error.now) (g.E.ErrorStream.contents c.explain.new.error) (no_statement_line w) in
     λ e. subst P (sym asked) (subst Q code (c.explain.ensures.misused e))

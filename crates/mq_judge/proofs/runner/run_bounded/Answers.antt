@@ -6,7 +6,7 @@ use Rattle.mq_judge.proofs.runner.run_bounded.Goals as goal
 pub returns-in_err-write_report-clause-runs : goal.returns-in_err-write_report-clause-runs
 returns-in_err-write_report-clause-runs g c =
     let p = err_from_is_err_and c.from_residual-in_err-write_report.result c.from_residual-in_err-write_report.ensures.1 in
-    rw (p.1, p.2) (run-stops-writing _ _ c.args.form _ _ _ _ _ _ c.in_ok-verdict.ensures c.in_err-write_report.ensures.err)
+    rw (p.1, p.2) (run-stops-writing _ _ c.args.form _ _ _ _ _ _ c.in_ok-verdict.ensures.judges c.in_err-write_report.ensures.err)
 
 pub returns-clause-runs : goal.returns-clause-runs
-returns-clause-runs g c = run-reports _ None c.args.form _ _ _ _ _ _ c.in_ok-verdict.ensures c.in_ok-write_report.ensures.ok c.outcome.ensures
+returns-clause-runs g c = run-reports _ None c.args.form _ _ _ _ _ _ c.in_ok-verdict.ensures.judges c.in_ok-write_report.ensures.ok c.outcome.ensures

@@ -4,6 +4,7 @@ use Rattle.std.proofs.lemmas.Result.{err_from_is_err_and}
 use Rattle.mq_trace.specs.declared.refusal.Refusal.TheVariants as refusals
 use Rattle.mq_trace.specs.Tracing.{Traced, IsTracedTo}
 use Rattle.mq_rules.specs.declared.note.Seen.{Seen}
+use Rattle.mq_rules.specs.declared.role.Tested.{Tested}
 use Rattle.mq_rules.specs.Moments.{IsPlaced}
 use Rattle.mq_rules.specs.Connections.{IsInOrder}
 use Rattle.mq_rules.specs.Faults.{Grows}
@@ -11,7 +12,7 @@ use Rattle.mq_judge.specs.Chosen.{is_judged}
 use Rattle.mq_rules.specs.FaultKeys.{fault_at, key_cmp}
 use Rattle.mq_judge.specs.Judging.{Judged, Follows, judge_of}
 use Rattle.mq_judge.proofs.JudgeLaws.{cut_unnamed, named_as, counted, faults-of, where_ok}
-use Rattle.mq_judge.proofs.judge.Judge.finish.Goals as goal
+use Rattle.mq_judge.proofs.judge.Judge.finish_with_role.Goals as goal
 
 pub returns-in_err-finish-clause-verdict : goal.returns-in_err-finish-clause-verdict
 returns-in_err-finish-clause-verdict c = λ log h.
@@ -50,8 +51,14 @@ returns-clause-verdict c = λ log h.
     → OnOk c.judge_all-judged.result (Grows (is_judged c.in-Some.tested) c.in-Some.tested (reverse s) c.new-faults.result c.judge_all-judged.new.faults))
     c.as_slice.ensures.value c.judge_all-judged.ensures in (
       c.in_ok-finish.ensures.ends log k.traced,
-      counted c.self.inside.tracer.reading.limit c.self.inside.notes.seen.items log c.count.result unrefused k.knows.events c.count.ensures,
+      counted c.self.inside.tracer.reading.limit c.self.inside.notes.seen.items log c.count-events.result unrefused k.knows.events c.count-events.ensures,
       faults-of c.self.inside.tracer.reading.limit (reverse c.self.inside.notes.seen.items) log c.in-Some.tested c.new-faults.result c.judge_all-judged.new.faults unrefused k.knows.events whom
           (λ p rule. ap (λ m. fault_at m p rule) c.new-faults.ensures ∙ get-empty key_cmp (record { position = p; rule = rule }))
           (λ placed in_order. (where_ok c.judge_all-judged.result judged (grown placed in_order)).each),
     )
+
+pub returns-clause-role : goal.returns-clause-role
+returns-clause-role c = λ log h.
+    let k : Follows (judge_of c.self.inside.limit c.self.inside.tested c.self.inside.tracer (reverse c.self.inside.notes.seen.items)) log
+    = subst (λ (j : Judged). Follows j log) (sym c.self.view_is) h in
+    ap (λ (t : Tested). t.role) (named_as log c.in-Some.tested (sym c.in-Some.is ∙ k.knows.tested))
