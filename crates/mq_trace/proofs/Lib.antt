@@ -18,6 +18,7 @@ pub mod SplitLaws
 pub mod StepLaws
 pub mod EmissionLaws
 pub mod TracingLaws
+pub mod StopLaws
 pub mod WritingLaws
 pub mod Exports
 pub mod HeadLaws

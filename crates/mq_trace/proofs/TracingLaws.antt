@@ -229,6 +229,13 @@ stops_piece agrees refuses first now piece rest old mid new refusal goes stop lo
           (why_joined agrees refuses now.limit log goes.done here.taken here.byte old mid new refusal before.1 here.why);
     })
 
+-- the bytes before the one that stops the piece
+pub stops_piece-taken : {S : Type 0} (agrees : S → List Placed → Type 0) (refuses : S → List Placed → Refusal → Type 0) (first now : Reading) (piece rest : List ℕ) (old mid new : S) (refusal : Refusal)
+    (goes : Goes agrees first now piece rest old mid) (stop : StepStops (Declines agrees refuses) now rest mid new refusal) (log : List ℕ) (keeps : HasRead first log)
+    → (stops_piece agrees refuses first now piece rest old mid new refusal goes stop log keeps).taken ≡ goes.done ++ stop.taken
+unfolding stops_piece stopped
+stops_piece-taken agrees refuses first now piece rest old mid new refusal goes stop log keeps = refl
+
 -- all that is after the first bytes
 pub rest_same : (n : ℕ) (rest : List ℕ) → take (length rest - n) (drop n rest) ≡ drop n rest
 rest_same n rest = (let after_bytes : length (drop n rest) ≡ length rest - n = length-drop n rest in take_all (length rest - n) (drop n rest) (omega arith))

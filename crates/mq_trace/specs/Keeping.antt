@@ -98,6 +98,10 @@ pub record Comes {S : Type 0} (agrees : S → List Placed → Type 0) (r r' : Re
   pub advances : Advances r r' bytes completed
   pub emitted : (earlier : List Placed) → agrees old earlier → AreEvents (completed ++ earlier) → agrees new (completed ++ earlier)
 
+-- The reader hasn't gone back, and what it keeps of the header is the same.
+abbrev pub HoldsHeader : Reading → Reading → Type 0
+HoldsHeader old new = (old.at ≤ new.at) × (new.header ≡ old.header)
+
 -- These bytes aren't all taken in: one of them isn't, and none before it is refused or completes anything.
 pub record StepStops {S : Type 0} (declines : S → S → List Placed → Refusal → Type 0) (r : Reading) (bytes : List ℕ) (old new : S) (refusal : Refusal) : Type 0 where
   pub taken : List ℕ

@@ -1,10 +1,11 @@
 -- The state of a tracer, and what its calls return.
-use Rattle.std.specs.Prelude.{◌≡◌, ℕ, ◌⊎◌, Bool, true, false, List, ◌∷◌, ◌++◌, length, Option, Some, None, is_some, Result, Ok, Err}
+use Rattle.std.specs.Prelude.{◌≡◌, ℕ, ◌≤◌, nat_lt, ◌⊎◌, Bool, true, false, List, ◌∷◌, ◌++◌, length, Option, Some, None, is_some, Result, Ok, Err}
 use Rattle.mq_trace.specs.declared.refusal.Refusal.{Refusal}
 use Rattle.mq_trace.specs.declared.refusal.Refusal.TheVariants as refusals
 use Rattle.mq_trace.specs.declared.stage.Stage.{Stage}
 use Rattle.mq_trace.specs.declared.stage.Stage.TheVariants as stages
 use Rattle.mq_trace.specs.declared.reading.Reading.{Reading}
+use Rattle.mq_trace.specs.Framing.{header_by}
 use Rattle.mq_trace.specs.Events.{Placed, events, event_at, packet_at}
 use Rattle.mq_trace.specs.Refusals.{refused, refusal_at, is_cut_short}
 use Rattle.mq_trace.specs.Refusing.{moved}
@@ -28,6 +29,11 @@ pub record HasRead (r : Reading) (log : List ℕ) : Type 0 where
 pub record IsTracedTo (tracer : Traced) (log : List ℕ) : Type 0 where
   pub open_yet : tracer.refusal ≡ None
   pub keeps : HasRead tracer.reading log
+
+-- What the reader keeps of the log's header is what these bytes say: whether it is whole, and then what it names.
+pub record KeepsHeader (r : Reading) (taken : List ℕ) : Type 0 where
+  pub whole : nat_lt r.at 8 ≡ nat_lt (length taken) 8
+  pub named : 8 ≤ length taken → r.header ≡ header_by taken
 
 -- A sink that had received the events of the log has received those of the log with these bytes after it.
 abbrev pub HasReceived : {S : Type 0} → (S → List Placed → Type 0) → List ℕ → List ℕ → S → S → Type 0
@@ -69,6 +75,10 @@ pub record Stops {S : Type 0} (agrees : S → List Placed → Type 0) (refuses :
   pub is : piece ≡ taken ++ byte ∷ later
   pub unrefused : refused limit (log ++ taken) ≡ None
   pub why : Why agrees refuses limit log taken byte old new refusal
+
+-- A piece after a log isn't all taken in, and the tracer keeps what the bytes before the one that isn't say of the header.
+abbrev pub StopsAt : {S : Type 0} → (S → List Placed → Type 0) → (S → List Placed → Refusal → Type 0) → ℕ → List ℕ → List ℕ → S → S → Reading → Refusal → Type 0
+StopsAt agrees refuses limit log piece old new reading refusal = (stops : Stops agrees refuses limit log piece old new refusal) × KeepsHeader reading (log ++ stops.taken)
 
 -- What feeding a piece after a log returns.
 abbrev pub TracesPiece : {S : Type 0} → (S → List Placed → Type 0) → (S → List Placed → Refusal → Type 0) → ℕ → List ℕ → List ℕ → S → S → Result (Unit {0}) Refusal → Type 0

@@ -1,8 +1,9 @@
 //! Reads a log: its header, its records, and what they carry.
 
-ghost use Rattle.std.specs.Prelude.{◌≡◌, ◌≢◌, ◌+◌, ◌*◌, ◌^◌, ◌<◌, ◌≤◌, ◌∷◌, ◌++◌, [], List, true, false, cond, Some, None, OnOk, IfOk, IfErr, IfSome, IsTrue, length, take};
-ghost use Rattle.mq_trace.specs.Keeping.{state_in, context_of, IsUnfinished, IsSound, Advances, Comes, StepStops};
+ghost use Rattle.std.specs.Prelude.{◌≡◌, ◌≢◌, ◌+◌, ◌*◌, ◌^◌, ◌<◌, ◌≤◌, ◌∷◌, ◌++◌, [], List, true, false, cond, Some, None, OnOk, IfOk, IfErr, IfSome, IsTrue, length, take, OnErr};
+ghost use Rattle.mq_trace.specs.Keeping.{state_in, context_of, IsUnfinished, IsSound, Advances, Comes, StepStops, HoldsHeader};
 ghost use Rattle.mq_trace.specs.Refusals.{allows_length, header_refusal};
+ghost use Rattle.mq_trace.specs.Refusing.{refusal_offset};
 ghost use Rattle.std.specs.Int.{w16, w32, from_be_bytes};
 ghost use Rattle.mq_trace.specs.declared.kind.RecordKind.TheVariants as kinds;
 ghost use Rattle.mq_trace.specs.declared.stage.Stage.TheVariants as stages;
@@ -93,6 +94,8 @@ impl Reading {
         ensures sound { OnOk result (IsSound self.new) }
         ensures comes { IfOk result (λ n. Comes S.agrees self.old self.new (take n bytes.now) sink.old sink.new) }
         ensures stops { IfErr result (λ refusal. StepStops (Declines S.agrees S.refuses) self.old bytes.now sink.old sink.new refusal) }
+        ensures stays { OnErr result (HoldsHeader self.old self.new) }
+        ensures early { self.old.at < 8 → IfErr result (λ refusal. (refusal_offset refusal ≡ self.old.at) × (self.new.at ≡ self.old.at)) }
     {
         match self.body_head(bytes) {
             Some((direction, length)) => self.consume_record(direction, length, bytes, sink),
@@ -120,6 +123,7 @@ impl Reading {
         ensures sound { OnOk result (IsSound self.new) }
         ensures comes { IfOk result (λ n. Comes S.agrees self.old self.new (take n bytes.now) sink.old sink.new) }
         ensures stops { IfErr result (λ refusal. StepStops (Declines S.agrees S.refuses) self.old bytes.now sink.old sink.new refusal) }
+        ensures stays { OnErr result (HoldsHeader self.old self.new) }
     {
         self.skip_head(direction, left);
         if left == 0 || bytes.len() == HEAD_LENGTH {
@@ -185,6 +189,8 @@ impl Reading {
         ensures sound { OnOk result (IsSound self.new) }
         ensures comes { IfOk result (λ n. Comes S.agrees self.old self.new (take n bytes.now) sink.old sink.new) }
         ensures stops { IfErr result (λ refusal. StepStops (Declines S.agrees S.refuses) self.old bytes.now sink.old sink.new refusal) }
+        ensures stays { OnErr result (HoldsHeader self.old self.new) }
+        ensures early { self.old.at < 8 → IfErr result (λ refusal. (refusal_offset refusal ≡ self.old.at) × (self.new.at ≡ self.old.at)) }
     {
         match self.stage {
             Stage::Body { direction, left } => self.consume_body(direction, left, bytes, sink),
@@ -205,6 +211,8 @@ impl Reading {
         ensures sound { OnOk result (IsSound self.new) }
         ensures comes { IfOk result (λ n. Comes S.agrees self.old self.new (take n bytes.now) sink.old sink.new) }
         ensures stops { IfErr result (λ refusal. StepStops (Declines S.agrees S.refuses) self.old bytes.now sink.old sink.new refusal) }
+        ensures stays { OnErr result (HoldsHeader self.old self.new) }
+        ensures early { self.old.at < 8 → IfErr result (λ refusal. (refusal_offset refusal ≡ self.old.at) × (self.new.at ≡ self.old.at)) }
     {
         if self.at < HEADER_LENGTH {
             return match self.consume_header(bytes[0]) {
@@ -243,7 +251,9 @@ impl Reading {
     fn consume_header(&mut self, byte: u8) -> Result<(), Refusal>
         requires begun { self.old.at < 8 }
         ensures refused { header_refusal self.old.at byte ≡ err_of result }
+        ensures offset { IfErr result (λ refusal. refusal_offset refusal ≡ self.old.at) }
         ensures kept { OnOk result (self.new ≡ after_header_byte self.old byte) }
+        ensures same { OnErr result (self.new ≡ self.old) }
     {
         if let Some(refusal) = header_refusal(self.at, byte) {
             return Err(refusal);
@@ -264,6 +274,7 @@ impl Reading {
         ensures sound { OnOk result (IsSound self.new) }
         ensures comes { IfOk result (λ n. Comes S.agrees self.old self.new (take n bytes.now) sink.old sink.new) }
         ensures stops { IfErr result (λ refusal. StepStops (Declines S.agrees S.refuses) self.old bytes.now sink.old sink.new refusal) }
+        ensures stays { OnErr result (HoldsHeader self.old self.new) }
     {
         match self.begin_record(bytes[0]) {
             Ok(kind) => {
@@ -295,6 +306,7 @@ impl Reading {
         ensures sound { OnOk result (IsSound self.new) }
         ensures comes { OnOk result (Comes S.agrees self.old self.new (a ∷ b ∷ c ∷ d ∷ []) sink.old sink.new) }
         ensures stops { IfErr result (λ refusal. StepStops (Declines S.agrees S.refuses) self.old (a ∷ b ∷ c ∷ d ∷ []) sink.old sink.new refusal) }
+        ensures stays { OnErr result (HoldsHeader self.old self.new) }
     {
         let length = self.skip_length(kind, a, b, c);
         self.end_head(kind, length, d, sink)
@@ -314,6 +326,7 @@ impl Reading {
         ensures room { OnOk result (self.old.records < 4294967295) }
         ensures begins { IfOk result (λ kind. BeginsRecord self.old self.new kind) }
         ensures refused { IfErr result (λ refusal. refused_first self.old (kind_named byte) ≡ Some refusal) }
+        ensures same { OnErr result (self.new ≡ self.old) }
     {
         let Some(kind) = RecordKind::from_byte(byte) else {
             return Err(Refusal::Kind(self.at));
@@ -395,6 +408,7 @@ impl Reading {
         ensures sound { OnOk result (IsSound self.new) }
         ensures comes { OnOk result (Comes S.agrees self.old self.new (byte ∷ []) sink.old sink.new) }
         ensures stops { IfErr result (λ refusal. StepStops (Declines S.agrees S.refuses) self.old (byte ∷ []) sink.old sink.new refusal) }
+        ensures stays { OnErr result (HoldsHeader self.old self.new) }
     {
         if count == 3 {
             return self.end_head(kind, length, byte, sink);
@@ -422,6 +436,7 @@ impl Reading {
         ensures sound { OnOk result (IsSound self.new) }
         ensures comes { OnOk result (Comes S.agrees self.old self.new (byte ∷ []) sink.old sink.new) }
         ensures stops { IfErr result (λ refusal. StepStops (Declines S.agrees S.refuses) self.old (byte ∷ []) sink.old sink.new refusal) }
+        ensures stays { OnErr result (HoldsHeader self.old self.new) }
     {
         let whole = length * 256 + u32::from(byte);
         if !kind.allows(whole) {
@@ -457,6 +472,7 @@ impl Reading {
         ensures sound { OnOk result (IsSound self.new) }
         ensures comes { OnOk result (Comes S.agrees self.old self.new (byte ∷ []) sink.old sink.new) }
         ensures stops { IfErr result (λ refusal. StepStops (Declines S.agrees S.refuses) self.old (byte ∷ []) sink.old sink.new refusal) }
+        ensures stays { OnErr result (HoldsHeader self.old self.new) }
     {
         match kind {
             RecordKind::Open => self.end_mark(Event::Open, sink),
@@ -484,6 +500,7 @@ impl Reading {
         ensures receives { (earlier : List Placed) → S.agrees sink.old earlier → AreEvents (next_placed self.old.connections (self.old.records + 1) (event_of event.entry) ∷ earlier)
             → OnOk result (S.agrees sink.new (next_placed self.old.connections (self.old.records + 1) (event_of event.entry) ∷ earlier)) }
         ensures err { IfErr result (λ refusal. NotEmitted (Declines S.agrees S.refuses) self.old.at (event_refusal self.old.at self.old.connections (event_of event.entry)) (next_placed self.old.connections (self.old.records + 1) (event_of event.entry) ∷ []) sink.old sink.new refusal) }
+        ensures stays { OnErr result (HoldsHeader self.old self.new) }
     {
         match emit(
             &mut self.connections,
@@ -508,6 +525,7 @@ impl Reading {
         ensures sound { OnOk result (IsSound self.new) }
         ensures comes { OnOk result (Comes S.agrees self.old self.new (low ∷ []) sink.old sink.new) }
         ensures stops { IfErr result (λ refusal. StepStops (Declines S.agrees S.refuses) self.old (low ∷ []) sink.old sink.new refusal) }
+        ensures stays { OnErr result (HoldsHeader self.old self.new) }
     {
         self.end_mark(Event::Release(u16::from_be_bytes([high, low])), sink)
     }
@@ -564,6 +582,7 @@ impl Reading {
         ensures sound { OnOk result (IsSound self.new) }
         ensures comes { IfOk result (λ n. Comes S.agrees self.old self.new (take n bytes.now) sink.old sink.new) }
         ensures stops { IfErr result (λ refusal. StepStops (Declines S.agrees S.refuses) self.old bytes.now sink.old sink.new refusal) }
+        ensures stays { OnErr result (HoldsHeader self.old self.new) }
     {
         let body = &bytes[..bytes.len().min(left as usize)];
         match self.pass_on(direction, body, sink) {

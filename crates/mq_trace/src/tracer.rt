@@ -3,7 +3,8 @@
 ghost use Rattle.std.specs.Prelude.{◌≡◌, ℕ, ◌+◌, ◌*◌, ◌≤◌, List, [], ◌++◌, ◌||◌, not, nat_lt, length, Some, None, Err, IfErr, IfSome, OnOk, if◌then◌else◌};
 ghost use Rattle.mq_trace.specs.Framing.{header_by};
 ghost use Rattle.mq_trace.specs.Keeping.{IsSound};
-ghost use Rattle.mq_trace.specs.Tracing.{IsTracedTo, TracesPiece, Ends, HasRead, HasReceived, Stops, is_between};
+ghost use Rattle.mq_trace.specs.Tracing.{IsTracedTo, TracesPiece, Ends, HasRead, HasReceived, KeepsHeader, StopsAt, is_between};
+ghost use Rattle.mq_trace.specs.Refusing.{refusal_offset};
 
 use super::header::{HEADER_LENGTH, Header};
 use super::reading::Reading;
@@ -64,9 +65,10 @@ impl Tracer {
         }
     }
 
-    /// What the log's header says, once it is whole.
+    /// What the log's header says, once it is whole. After a refusal it is what the bytes before the refused one say.
     pub fn header(&self) -> Option<Header>
-        ensures { (log : List ℕ) → IsTracedTo self.now log → result ≡ (if nat_lt (length log) 8 then None else Some (header_by log)) }
+        ensures follows { (log : List ℕ) → IsTracedTo self.now log → result ≡ (if nat_lt (length log) 8 then None else Some (header_by log)) }
+        ensures stopped { (taken : List ℕ) → KeepsHeader self.now.reading taken → result ≡ (if nat_lt (length taken) 8 then None else Some (header_by taken)) }
     {
         if self.reading.at < HEADER_LENGTH {
             return None;
@@ -74,11 +76,15 @@ impl Tracer {
         Some(self.reading.header)
     }
 
-    /// How many bytes of the log were taken in.
+    /// How many bytes of the log were taken in. After a refusal it is the offset of the refused byte.
     pub fn byte_count(&self) -> u64
-        ensures { (log : List ℕ) → IsTracedTo self.now log → result ≡ length log }
+        ensures follows { (log : List ℕ) → IsTracedTo self.now log → result ≡ length log }
+        ensures stopped { IfSome self.now.refusal (λ refusal. result ≡ refusal_offset refusal) }
     {
-        self.reading.at
+        match self.refusal {
+            Some(refusal) => refusal.byte(),
+            None => self.reading.at,
+        }
     }
 
     /// Takes in the next piece of the log, and emits the events whose last bytes are in it. It doesn't matter how the log is cut
@@ -94,6 +100,7 @@ impl Tracer {
     pub fn feed<S: Sink>(&mut self, piece: &[u8], sink: &mut S) -> Result<(), Refusal>
         ensures answers { (log : List ℕ) → IsTracedTo self.old log → TracesPiece S.agrees S.refuses self.old.reading.limit log piece.now sink.old sink.new result }
         ensures follows { (log : List ℕ) → IsTracedTo self.old log → OnOk result (IsTracedTo self.new (log ++ piece.now)) }
+        ensures stopped { (log : List ℕ) → IsTracedTo self.old log → IfErr result (λ refusal. StopsAt S.agrees S.refuses self.old.reading.limit log piece.now sink.old sink.new self.new.reading refusal) }
         ensures limit { OnOk result (self.new.reading.limit ≡ self.old.reading.limit) }
         ensures refuses { IfErr result (λ refusal. self.new.refusal ≡ Some refusal) }
         ensures for_ever { IfSome self.old.refusal (λ refusal. (result ≡ Err refusal) × (self.new ≡ self.old) × (sink.new ≡ sink.old)) }
@@ -117,6 +124,7 @@ impl Tracer {
         ensures ends { (log : List ℕ) → IsTracedTo self.old log → Ends log result }
         ensures same { OnOk result (self.new ≡ self.old) }
         ensures refuses { IfErr result (λ refusal. self.new.refusal ≡ Some refusal) }
+        ensures stopped { (log : List ℕ) → IsTracedTo self.old log → KeepsHeader self.new.reading log }
         ensures for_ever { IfSome self.old.refusal (λ refusal. (result ≡ Err refusal) × (self.new ≡ self.old)) }
     {
         if let Some(refusal) = self.refusal {
@@ -153,7 +161,7 @@ fn consume<S: Sink>(reading: &mut Reading, piece: &[u8], sink: &mut S) -> Result
     ensures limit { OnOk result (reading.new.limit ≡ reading.old.limit) }
     ensures keeps { (log : List ℕ) → HasRead reading.old log → OnOk result (HasRead reading.new (log ++ piece.now)) }
     ensures receives { (log : List ℕ) → HasRead reading.old log → OnOk result (HasReceived S.agrees log piece.now sink.old sink.new) }
-    ensures stops { (log : List ℕ) → HasRead reading.old log → IfErr result (λ refusal. Stops S.agrees S.refuses reading.old.limit log piece.now sink.old sink.new refusal) }
+    ensures stops { (log : List ℕ) → HasRead reading.old log → IfErr result (λ refusal. StopsAt S.agrees S.refuses reading.old.limit log piece.now sink.old sink.new reading.new refusal) }
 {
     let mut rest = piece;
     while !rest.is_empty() {

@@ -1,6 +1,7 @@
 -- A piece is taken in step by step.
 use Rattle.std.proofs.Common.{ℕ, List, sym, subst}
-use Rattle.mq_trace.proofs.TracingLaws.{Goes, goes_on, ends_kept, stops_piece, rest_same, nothing_left}
+use Rattle.mq_trace.proofs.TracingLaws.{Goes, goes_on, ends_kept, rest_same, nothing_left}
+use Rattle.mq_trace.proofs.StopLaws.{stops_at}
 use Rattle.mq_trace.proofs.tracer.consume.Goals as goal
 
 pub loop-rest-preserved : goal.loop-rest-preserved
@@ -13,8 +14,8 @@ loop-rest-preserved g c = (
 
 pub returns-in-Err-clause-stops : goal.returns-in-Err-clause-stops
 returns-in-Err-clause-stops g c = λ log keeps.
-    stops_piece g.S.Sink.agrees g.S.Sink.refuses c.args.reading.now c.loop-rest.reading c.args.piece.now c.loop-rest.rest.now c.args.sink.now c.loop-rest.sink c.consume.new.sink c.in-Err.refusal
-    c.loop-rest.invariant.0 c.in-Err.ensures.stops log keeps
+    stops_at g.S.Sink.agrees g.S.Sink.refuses c.args.reading.now c.loop-rest.reading c.consume.new.self c.args.piece.now c.loop-rest.rest.now c.args.sink.now c.loop-rest.sink c.consume.new.sink c.in-Err.refusal
+    c.loop-rest.invariant.0 c.in-Err.ensures.stops c.in-Err.ensures.stays c.in-Err.ensures.early log keeps
 
 pub returns-clause-keeps : goal.returns-clause-keeps
 returns-clause-keeps g c = λ log keeps.

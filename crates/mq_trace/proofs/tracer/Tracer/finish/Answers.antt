@@ -4,6 +4,7 @@ use Rattle.mq_trace.specs.declared.refusal.Refusal.TheVariants.{Cut}
 use Rattle.mq_trace.specs.declared.reading.Reading.{Reading}
 use Rattle.mq_trace.specs.Tracing.{Traced, HasRead}
 use Rattle.mq_trace.proofs.TracingLaws.{kept_at, kept_cut}
+use Rattle.mq_trace.proofs.StopLaws.{keeps_header}
 use Rattle.mq_trace.proofs.tracer.Tracer.finish.Goals as goal
 
 pub returns-then-is_cut_short-clause-ends : goal.returns-then-is_cut_short-clause-ends
@@ -15,3 +16,10 @@ pub returns-clause-ends : goal.returns-clause-ends
 returns-clause-ends c = λ log follows.
     let keeps = subst (λ (r : Reading). HasRead r log) (sym (ap (λ (t : Traced). t.reading) c.self.view_is)) follows.keeps in
     kept_cut c.self.inside.reading log keeps ∙ sym c.is_cut_short.ensures ∙ c.if-is_cut_short.false
+
+pub returns-then-is_cut_short-clause-stopped : goal.returns-then-is_cut_short-clause-stopped
+returns-then-is_cut_short-clause-stopped c = λ log follows.
+    keeps_header c.self.inside.reading log (subst (λ (r : Reading). HasRead r log) (sym (ap (λ (t : Traced). t.reading) c.self.view_is)) follows.keeps)
+
+pub returns-clause-stopped : goal.returns-clause-stopped
+returns-clause-stopped c = λ log follows. keeps_header c.args.self.now.reading log follows.keeps
