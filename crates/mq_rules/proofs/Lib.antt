@@ -13,6 +13,8 @@ pub mod GivenLaws
 pub mod FatedLaws
 pub mod FateLaws
 pub mod OrderLaws
+pub mod TurnLaws
+pub mod GainLaws
 pub mod RowLaws
 pub mod ListingLaws
 pub mod SubjectLaws

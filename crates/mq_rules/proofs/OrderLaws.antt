@@ -55,7 +55,7 @@ connack-typed (Connack c) = refl
 connack-typed _ = refl
 
 -- the role of the end that a header names
-abbrev role_of : Header → Role
+abbrev pub role_of : Header → Role
 role_of header = (tested_as header).role
 
 -- a CONNACK from the server
@@ -145,11 +145,11 @@ along P start step log = subst P (reverse-reverse log) (back (reverse log))
     back (byte ∷ bytes) = subst P (sym (reverse-append (byte ∷ []) bytes)) (step (reverse bytes) byte (back bytes))
 
 -- no line of a list of refusals applies
-abbrev NoneApplies : List (Bool × Refusal) → Type 0
+abbrev pub NoneApplies : List (Bool × Refusal) → Type 0
 NoneApplies [] = Unit {0}
 NoneApplies (line ∷ lines) = (line.0 ≡ false) × NoneApplies lines
 
-none_applies : (lines : List (Bool × Refusal)) → first_that_applies lines ≡ None → NoneApplies lines
+pub none_applies : (lines : List (Bool × Refusal)) → first_that_applies lines ≡ None → NoneApplies lines
 none_applies [] h = tt
 none_applies (line ∷ lines) h = go (none_applies lines) line.0 line.1 refl h
   where
@@ -162,7 +162,7 @@ unfolding record_refusal
 not-early limit s h = (none_applies (conditions limit s) h).1.1.1.1.1.1.1.0
 
 -- where a log with one byte more isn't refused, the log isn't, and the byte adds no refusal
-unrefused-grow : (limit : ℕ) (log : List ℕ) (byte : ℕ) → refused limit (log ++ byte ∷ []) ≡ None → (refused limit log ≡ None) × (refusal_at limit log byte ≡ None)
+pub unrefused-grow : (limit : ℕ) (log : List ℕ) (byte : ℕ) → refused limit (log ++ byte ∷ []) ≡ None → (refused limit log ≡ None) × (refusal_at limit log byte ≡ None)
 unrefused-grow limit log byte h = go (refused limit log) (refusal_at limit log byte) (sym (refused-grow limit log byte) ∙ h)
   where
     go : (a b : Option Refusal) → option_or a b ≡ None → (a ≡ None) × (b ≡ None)
@@ -187,7 +187,7 @@ connack_seen_context : (log : List ℕ) → (context log).connack_seen ≡ is_co
 unfolding context seen_in
 connack_seen_context log = connack_seen-noted (header_by log) (events log)
 
-connected_context : (log : List ℕ) → (context log).connected ≡ is_connected (seen_in log)
+pub connected_context : (log : List ℕ) → (context log).connected ≡ is_connected (seen_in log)
 unfolding context seen_in
 connected_context log = connected-noted (events log)
 
@@ -196,7 +196,7 @@ unfolding context seen_in
 events_context log = sym (length-map (events log) seen)
 
 -- what the statements look at of an event that may have come
-abbrev seen_with : Context → Option Event → List Seen → List Seen
+abbrev pub seen_with : Context → Option Event → List Seen → List Seen
 seen_with c None log = log
 seen_with c (Some event) log = record { place = record { position = c.events + 1; record_no = c.records + 1 }; note = note_of event } ∷ log
 
@@ -204,11 +204,11 @@ seen_put : (c : Context) (o : Option Event) (log : List Placed) → map seen (pu
 seen_put c None log = refl
 seen_put c (Some event) log = refl
 
-seen-kept : (log : List ℕ) (byte : ℕ) → seen_in (log ++ byte ∷ []) ≡ seen_with (context log) (event_for (context log) byte) (seen_in log)
+pub seen-kept : (log : List ℕ) (byte : ℕ) → seen_in (log ++ byte ∷ []) ≡ seen_with (context log) (event_for (context log) byte) (seen_in log)
 unfolding seen_in placed_for
 seen-kept log byte = ap (map seen) (events-kept log byte) ∙ seen_put (context log) (event_for (context log) byte) (events log)
 
-seen-header : (log : List ℕ) → length log ≤ 8 → seen_in log ≡ []
+pub seen-header : (log : List ℕ) → length log ≤ 8 → seen_in log ≡ []
 unfolding seen_in
 seen-header log h = ap (map seen) (events-header log h)
 

@@ -1,5 +1,5 @@
 -- Faults as a finite map by their keys.
-use Rattle.std.specs.Prelude.{ℕ, Bool, nat_le, ◌==◌, cond, List, Option, None, option_map}
+use Rattle.std.specs.Prelude.{ℕ, Bool, not, nat_le, ◌==◌, cond, List, Option, None, option_map}
 use Rattle.std.specs.List.{filter, find}
 use Rattle.std.specs.declared.cmp.Ordering.{Ordering}
 use Rattle.std.specs.FinMap as map
@@ -37,3 +37,7 @@ faults_at position faults = filter (λ found. found.0.position == position) faul
 -- the position of the first of these faults that is at this position or after it
 abbrev pub first_from : ℕ → List (FaultKey × Fault) → Option ℕ
 first_from position faults = option_map (λ found. found.0.position) (find (λ found. nat_le position found.0.position) faults)
+
+-- those of these faults that were decided at another position, in their order
+abbrev pub decided_elsewhere : ℕ → List (FaultKey × Fault) → List (FaultKey × Fault)
+decided_elsewhere position faults = filter (λ found. not (found.1.decided == position)) faults

@@ -1,5 +1,6 @@
 pub mod Words
 pub mod Texts
+pub mod Copies
 pub mod Notes
 pub mod Moments
 pub mod Connections
@@ -12,6 +13,8 @@ pub mod Rules
 pub mod Bindings
 pub mod Statements
 pub mod Steps
+pub mod Under
+pub mod Growing
 pub mod FaultKeys
 pub mod Faults
 pub mod Folds

@@ -50,3 +50,24 @@ pub fn note_filters(alloc: Global, filters: &Filters<'_>) -> Result<Vec<NotedFil
     }
     Ok(notes)
 }
+
+/// A copy of the filter, with its Subscription Options.
+fn copy_filter(alloc: Global, filter: &NotedFilter) -> Result<NotedFilter, Memory>
+    ensures { IfOk result (λ copy. copy ≡ filter.now) }
+{
+    let options = filter.options;
+    let filter = filter.filter.copy(alloc)?;
+    Ok(NotedFilter { filter, options })
+}
+
+/// Copies of the filters, in order. No filters need no memory.
+pub fn copy_filters(alloc: Global, filters: &[NotedFilter]) -> Result<Vec<NotedFilter>, Memory>
+    ensures exact { IfOk result (λ copies. copies.items ≡ filters.now) }
+    ensures needed { OnErr result (0 < length filters.now) }
+{
+    let mut copies = Vec::new(alloc);
+    for filter in filters {
+        copies.push(copy_filter(alloc, filter)?)?;
+    }
+    Ok(copies)
+}

@@ -2,7 +2,7 @@
 ghost use Rattle.std.specs.Prelude.{◌≡◌, ◌==◌, OnOk, OnErr, Option, None, true, option_map};
 ghost use Rattle.std.specs.FinMap as map;
 ghost use Rattle.std.specs.Map.Iter.{ShowsInOrder, deref_pair};
-ghost use Rattle.mq_rules.specs.FaultKeys.{fault_at, faults_at, first_from, with_fault, judged};
+ghost use Rattle.mq_rules.specs.FaultKeys.{fault_at, faults_at, first_from, decided_elsewhere, with_fault, judged};
 
 use crate::fault::Fault;
 use crate::rule::Rule;
@@ -104,6 +104,13 @@ impl Faults {
         };
         self.add(key, Fault::at_once(place, None))?;
         Ok(())
+    }
+
+    /// Removes the faults that were decided at this position. It needs no memory.
+    pub fn drop_decided(&mut self, position: u32)
+        ensures { map.entries self.new ≡ decided_elsewhere position (map.entries self.old) }
+    {
+        self.found.retain(|_, fault| fault.decided != position);
     }
 
     /// The fault under a key, if there is one.

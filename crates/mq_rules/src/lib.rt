@@ -14,6 +14,7 @@ mod faults;
 mod laws;
 mod naming;
 mod note;
+mod note_copy;
 mod one_pass;
 mod packet_note;
 mod plain;
@@ -21,6 +22,7 @@ mod position_laws;
 mod role;
 mod rule;
 mod session_laws;
+mod shapes;
 mod short_text;
 mod statement_laws;
 mod table;
@@ -28,6 +30,7 @@ mod table_laws;
 #[cfg(test)]
 mod tests;
 mod text;
+mod watch;
 mod worked;
 
 pub use fate::Fate;
@@ -55,6 +58,8 @@ pub use session_laws::{
     fold_goes_on, session_by_positions, since_goes_on, unrefused_logs_are_in_order,
     words_are_folds,
 };
+pub use shapes::Shapes;
 pub use statement_laws::{first_rest_decides, in_flight_by_a_counter};
 pub use table_laws::{each_statement_binds_its_ends, each_statement_has_its_row, rows_ascend};
 pub use text::{CodeList, FilterList, NotedFilter, Text};
+pub use watch::{Both, Watch};

@@ -2,7 +2,7 @@
 //!
 //! A short text is stored in the value itself, and an empty list takes no memory, so making either can't fail.
 
-use crate::copying::{copy_bytes, copy_text, note_filters};
+use crate::copying::{copy_bytes, copy_filters, copy_text, note_filters};
 use crate::faults::Memory;
 use crate::short_text::{ROOM, ShortText};
 use mq_packet::{Codes, Filters};
@@ -61,6 +61,18 @@ impl Text {
         } else {
             Text::long(alloc, text)
         }
+    }
+
+    /// A copy of this text.
+    ///
+    /// # Errors
+    ///
+    /// `Memory` if there is no memory for it. A text of at most 30 bytes needs none.
+    pub fn copy(&self, alloc: Global) -> Result<Text, Memory>
+        ensures exact { IfOk result (λ copy. copy ≡ self.now) }
+        ensures needed { OnErr result (30 < length self.now) }
+    {
+        Text::of(alloc, self.as_str())
     }
 
     /// Whether a copy of the text lies in the value itself.
@@ -175,6 +187,19 @@ impl FilterList {
         Ok(FilterList { filters })
     }
 
+    /// A copy of the list.
+    ///
+    /// # Errors
+    ///
+    /// `Memory` if there is no memory for it. An empty list needs none.
+    pub fn copy(&self, alloc: Global) -> Result<FilterList, Memory>
+        ensures exact { IfOk result (λ copy. copy ≡ self.now) }
+        ensures needed { OnErr result (0 < length self.now) }
+    {
+        let filters = copy_filters(alloc, self.as_slice())?;
+        Ok(FilterList { filters })
+    }
+
     /// The filters, in order.
     #[inline]
     pub fn as_slice(&self) -> &[NotedFilter]
@@ -237,6 +262,19 @@ impl CodeList {
         ensures needed { OnErr result (0 < length codes.now) }
     {
         let codes = copy_bytes(alloc, codes.as_bytes())?;
+        Ok(CodeList { codes })
+    }
+
+    /// A copy of the list.
+    ///
+    /// # Errors
+    ///
+    /// `Memory` if there is no memory for it. An empty list needs none.
+    pub fn copy(&self, alloc: Global) -> Result<CodeList, Memory>
+        ensures exact { IfOk result (λ copy. copy ≡ self.now) }
+        ensures needed { OnErr result (0 < length self.now) }
+    {
+        let codes = copy_bytes(alloc, self.as_slice())?;
         Ok(CodeList { codes })
     }
 

@@ -1,4 +1,5 @@
 use Rattle.mq_rules.proofs.OrderLaws.{orderly}
+use Rattle.mq_rules.proofs.TurnLaws.{turned}
 use Rattle.mq_rules.proofs.session_laws.unrefused_logs_are_in_order.Goals as goal
 
 pub returns-clause-placed : goal.returns-clause-placed
@@ -6,3 +7,6 @@ returns-clause-placed c = λ limit bytes unrefused. (orderly limit bytes unrefus
 
 pub returns-clause-in_order : goal.returns-clause-in_order
 returns-clause-in_order c = λ limit bytes unrefused. (orderly limit bytes unrefused).in_order
+
+pub returns-clause-in_turn : goal.returns-clause-in_turn
+returns-clause-in_turn c = turned

@@ -1,0 +1,126 @@
+//! Copies of notes, for whoever keeps an event.
+ghost use Rattle.std.specs.Prelude.{◌≡◌, ◌<◌, length, IfOk, OnErr};
+ghost use Rattle.mq_rules.specs.Copies.{fields_own, item_owns, note_owns};
+
+use crate::faults::Memory;
+use crate::note::{ItemNote, Note};
+use crate::packet_note::{PacketFields, PacketNote, PublishNote};
+use std::alloc::Global;
+
+/// A copy of what is noted of a PUBLISH.
+fn copy_publish(alloc: Global, publish: &PublishNote) -> Result<PublishNote, Memory>
+    ensures exact { IfOk result (λ copy. copy ≡ publish.now) }
+    ensures needed { OnErr result (30 < length publish.now.topic) }
+{
+    let topic = publish.topic.copy(alloc)?;
+    Ok(PublishNote {
+        identifier: publish.identifier,
+        qos: publish.qos,
+        duplicate: publish.duplicate,
+        topic,
+        topic_alias: publish.topic_alias,
+        has_message_expiry: publish.has_message_expiry,
+        has_subscription_identifier: publish.has_subscription_identifier,
+    })
+}
+
+/// A copy of what is noted of a packet's fields.
+fn copy_fields(alloc: Global, fields: &PacketFields) -> Result<PacketFields, Memory>
+    ensures exact { IfOk result (λ copy. copy ≡ fields.now) }
+    ensures needed { OnErr result (fields_own fields.now) }
+{
+    Ok(match fields {
+        PacketFields::Connect(connect) => PacketFields::Connect(*connect),
+        PacketFields::Connack(connack) => PacketFields::Connack(*connack),
+        PacketFields::Publish(publish) => PacketFields::Publish(copy_publish(alloc, publish)?),
+        PacketFields::Puback { identifier, code } => PacketFields::Puback {
+            identifier: *identifier,
+            code: *code,
+        },
+        PacketFields::Pubrec { identifier, code } => PacketFields::Pubrec {
+            identifier: *identifier,
+            code: *code,
+        },
+        PacketFields::Pubrel { identifier, code } => PacketFields::Pubrel {
+            identifier: *identifier,
+            code: *code,
+        },
+        PacketFields::Pubcomp { identifier, code } => PacketFields::Pubcomp {
+            identifier: *identifier,
+            code: *code,
+        },
+        PacketFields::Subscribe {
+            identifier,
+            filters,
+        } => PacketFields::Subscribe {
+            identifier: *identifier,
+            filters: filters.copy(alloc)?,
+        },
+        PacketFields::Suback { identifier, codes } => PacketFields::Suback {
+            identifier: *identifier,
+            codes: codes.copy(alloc)?,
+        },
+        PacketFields::Unsubscribe {
+            identifier,
+            filters,
+        } => PacketFields::Unsubscribe {
+            identifier: *identifier,
+            filters: *filters,
+        },
+        PacketFields::Unsuback { identifier, codes } => PacketFields::Unsuback {
+            identifier: *identifier,
+            codes: *codes,
+        },
+        PacketFields::Pingreq => PacketFields::Pingreq,
+        PacketFields::Pingresp => PacketFields::Pingresp,
+        PacketFields::Disconnect { session_expiry } => PacketFields::Disconnect {
+            session_expiry: *session_expiry,
+        },
+        PacketFields::Auth => PacketFields::Auth,
+    })
+}
+
+/// A copy of what is noted of an item.
+fn copy_item(alloc: Global, item: &ItemNote) -> Result<ItemNote, Memory>
+    ensures exact { IfOk result (λ copy. copy ≡ item.now) }
+    ensures needed { OnErr result (item_owns item.now) }
+{
+    match item {
+        ItemNote::Packet(packet) => {
+            let fields = copy_fields(alloc, &packet.fields)?;
+            Ok(ItemNote::Packet(PacketNote {
+                size: packet.size,
+                has_reason_string: packet.has_reason_string,
+                has_user_property: packet.has_user_property,
+                fields,
+            }))
+        }
+        ItemNote::Bad { first, rule, at } => Ok(ItemNote::Bad {
+            first: *first,
+            rule: *rule,
+            at: *at,
+        }),
+        ItemNote::Lost => Ok(ItemNote::Lost),
+    }
+}
+
+impl Note {
+    /// A copy of the note, which owns its texts and lists.
+    ///
+    /// # Errors
+    ///
+    /// `Memory` if there is no memory for them. A note that has no filters or Reason Codes, and no Topic Name of more than 30 bytes, needs none.
+    pub fn copy(&self, alloc: Global) -> Result<Note, Memory>
+        ensures exact { IfOk result (λ copy. copy ≡ self.now) }
+        ensures needed { OnErr result (note_owns self.now) }
+    {
+        match self {
+            Note::Open => Ok(Note::Open),
+            Note::Close => Ok(Note::Close),
+            Note::Rest => Ok(Note::Rest),
+            Note::Release(identifier) => Ok(Note::Release(*identifier)),
+            Note::Sent(item) => Ok(Note::Sent(copy_item(alloc, item)?)),
+            Note::Recv(item) => Ok(Note::Recv(copy_item(alloc, item)?)),
+        }
+    }
+}

@@ -1,0 +1,81 @@
+//! Watchers: each takes in the events of a log one by one, and adds the faults of its statements as they show.
+ghost use Rattle.std.specs.Prelude.{◌≡◌, ◌∷◌, ◌||◌, ◌+◌, ◌≤◌, ℕ, Bool, List, Option, length, OnOk, OnErr};
+ghost use Rattle.mq_rules.specs.declared.role.Tested.{Tested};
+ghost use Rattle.mq_rules.specs.declared.fate.Fate.{Fate};
+ghost use Rattle.mq_rules.specs.declared.rule.Rule.{Rule};
+ghost use Rattle.mq_rules.specs.declared.note.Seen.{Seen};
+ghost use Rattle.mq_rules.specs.Connections.{latest_fate};
+ghost use Rattle.mq_rules.specs.Under.{seen, Follows};
+ghost use Rattle.mq_rules.specs.Growing.{Gains, GainsWithin};
+
+use crate::faults::{Faults, Memory};
+use crate::note::Note;
+use mq_trace::Place3;
+
+/// A watcher of some statements.
+///
+/// Its law: a state that agrees with some events agrees, after a step, with these and the next one, and the faults grow by exactly the pairs of its statements
+/// that turn out to fail with that event, each decided there.
+pub trait Watch {
+    /// The state is one that these events, the newest first, lead to, where their latest connection is taken to have this fate.
+    ghost agrees: { Self → Tested → Option Fate → List Seen → Type 0 };
+    /// It takes in this event after these, where their latest connection is taken to have this fate.
+    ghost takes: { Tested → Option Fate → Seen → List Seen → Type 0 };
+    /// The pairs of a position and a statement that it adds with an event.
+    ghost adds: { Tested → Seen → List Seen → ℕ → Rule → Bool };
+    /// Its weight after these events is at most this.
+    ghost bound: { Tested → Option Fate → List Seen → ℕ };
+
+    /// Takes in the next event.
+    ///
+    /// # Errors
+    ///
+    /// `Memory` if there is no memory for what it keeps, or for a fault. Then it may have added some of the faults that the event shows, and its state is of no use.
+    fn step(&mut self, at: Place3, note: &Note, faults: &mut Faults) -> Result<(), Memory>
+        ensures agrees { OnOk result ((tested : Tested) (taken : Option Fate) (past : List Seen) → Follows tested (seen at note.now) past → takes tested taken (seen at note.now) past → agrees self.old tested taken past → agrees self.new tested (latest_fate tested.role (seen at note.now ∷ past)) (seen at note.now ∷ past)) }
+        ensures grows { OnOk result ((tested : Tested) (taken : Option Fate) (past : List Seen) → Follows tested (seen at note.now) past → takes tested taken (seen at note.now) past → agrees self.old tested taken past → Gains (adds tested (seen at note.now) past) tested (seen at note.now ∷ past) (length past + 1) faults.old faults.new) }
+        ensures memory { OnErr result ((tested : Tested) (taken : Option Fate) (past : List Seen) → Follows tested (seen at note.now) past → takes tested taken (seen at note.now) past → agrees self.old tested taken past → GainsWithin (adds tested (seen at note.now) past) tested (seen at note.now ∷ past) (length past + 1) faults.old faults.new) };
+
+    /// The sum of the lengths of all collections that it keeps.
+    fn weight(&self) -> usize
+        ensures { (tested : Tested) (taken : Option Fate) (past : List Seen) → agrees self.now tested taken past → result ≤ bound tested taken past };
+}
+
+/// Two watchers of different statements.
+#[derive(Drop)]
+pub struct Both<A, B> {
+    /// The first.
+    pub a: A,
+    /// The second.
+    pub b: B,
+}
+
+impl<A, B> Both<A, B> {
+    /// The two as one.
+    pub fn new(a: A, b: B) -> Self
+        ensures { result ≡ record { a = a; b = b } }
+    {
+        Both { a, b }
+    }
+}
+
+impl<A: Watch, B: Watch> Watch for Both<A, B> {
+    ghost agrees = { λ s tested taken past. A.agrees s.a tested taken past × B.agrees s.b tested taken past };
+
+    ghost takes = { λ tested taken e past. A.takes tested taken e past × B.takes tested taken e past };
+
+    ghost adds = { λ tested e past k r. A.adds tested e past k r || B.adds tested e past k r };
+
+    ghost bound = { λ tested taken past. A.bound tested taken past + B.bound tested taken past };
+
+    #[tactic(auto, using(crate::proofs::GainLaws::gains_then, crate::proofs::GainLaws::within_first, crate::proofs::GainLaws::within_second))]
+    fn step(&mut self, at: Place3, note: &Note, faults: &mut Faults) -> Result<(), Memory> {
+        self.a.step(at, note, faults)?;
+        self.b.step(at, note, faults)?;
+        Ok(())
+    }
+
+    fn weight(&self) -> usize {
+        self.a.weight().saturating_add(self.b.weight())
+    }
+}
