@@ -1,0 +1,15 @@
+pub mod KnownLaws
+pub mod JudgeLaws
+pub mod QuotaLaws
+pub mod HoldLaws
+pub mod EarlyLaws
+pub mod StepLaws
+pub mod PingLaws
+pub mod JudgingLaws
+pub mod BlameLaws
+pub mod OwedLaws
+pub mod UnderLaws
+pub mod UsingLaws
+pub mod WaitLaws
+pub mod VoidLaws
+pub mod AskedLaws

@@ -1,0 +1,81 @@
+-- What was sent on void connections, under a fate: for S02.
+use Rattle.std.proofs.Common.{◌≡◌, ℕ, ◌+◌, ◌≤◌, ◌==◌, arith, Bool, true, false, cond, ◌&&◌, ◌||◌, not, List, [], ◌∷◌, Option, Some, None, refl, ap, sym, ◌∙◌, inl, inr}
+use Rattle.std.specs.Option.{option_or}
+use Rattle.std.proofs.lemmas.Bool.{eqb-true, eq-eqb}
+use Rattle.mq_rules.specs.declared.role.Role.{Role}
+use Rattle.mq_rules.specs.declared.role.Tested.{Tested}
+use Rattle.mq_rules.specs.declared.fate.Fate.{Fate}
+use Rattle.mq_rules.specs.declared.note.Seen.{Seen}
+use Rattle.mq_rules.specs.Notes.{is_open, decides}
+use Rattle.mq_rules.specs.Moments.{Moment, newest, moments, some, Among}
+use Rattle.mq_rules.specs.Connections.{begun, number, fate, fate_under, latest_fate, accepts, voided}
+use Rattle.mq_rules.specs.Identifiers.{delivers, was_sent_on_void}
+use Rattle.mq_rules.proofs.Exports.{begun-closed, begun-open-of-given as begun-open, differ, fate-step, latest_fate-same, option_or-none}
+use Rattle.mq_rules.specs.Under.{IsUnder, fate_before}
+
+-- a PUBLISH under i was sent on a void connection, where the latest one is taken to have this fate
+abbrev pub void_sent : Role → ℕ → Option Fate → List Seen → Bool
+void_sent role i taken past = some (λ j. delivers i j && voided (fate_under role taken past (number j))) (moments past)
+
+some-same : (p q : Moment → Bool) (ms : List Moment) → ((m : Moment) → Among m ms → p m ≡ q m) → some p ms ≡ some q ms
+some-same p q [] h = refl
+some-same p q (m ∷ ms) h = ap (λ b. b || some p ms) (h m (inl refl)) ∙ ap (λ b. q m || b) (some-same p q ms (λ n a. h n (inr a)))
+
+pub numbers : (past : List Seen) (m : Moment) → Among m (moments past) → number m ≤ begun past
+numbers [] m h = absurd h
+numbers (e ∷ past) m (inl same) = let at : number m ≡ begun (e ∷ past) = ap number same in omega arith
+numbers (e ∷ past) m (inr there) = let le = numbers past m there in omega arith
+
+going : (role : Role) (c : ℕ) (f : Fate) (e : Seen) (past : List Seen) → is_open e.note ≡ false → fate_under role (Some f) (e ∷ past) c ≡ fate_under role (Some f) past c
+going role c f e past closed = ap (λ n. cond (c == n) (Some f) (fate role c (e ∷ past))) same ∙ go (c == begun past) refl
+  where
+    same : begun (e ∷ past) ≡ begun past
+    same = begun-closed e past closed
+
+    go : (b : Bool) → (c == begun past) ≡ b → cond b (Some f) (fate role c (e ∷ past)) ≡ cond b (Some f) (fate role c past)
+    go true t = refl
+    go false t =
+        fate-step role c e past
+        ∙ ap (λ n. option_or (fate role c past) (cond (n == c) (decides role e.note) None)) same
+        ∙ ap (λ b. option_or (fate role c past) (cond b (decides role e.note) None)) (differ (begun past) c (λ is. let bad : (c == begun past) ≡ true = eq-eqb c (begun past) (sym is) in absurd (cc)))
+        ∙ option_or-none (fate role c past)
+
+opened : (role : Role) (c : ℕ) (f : Fate) (e : Seen) (past : List Seen) → is_open e.note ≡ true → c ≤ begun past → fate_under role (Some f) (e ∷ past) c ≡ fate_under role (latest_fate role past) past c
+opened role c f e past opens le =
+    let more : begun (e ∷ past) ≡ 1 + begun past = begun-open e past opens in
+    ap (λ b. cond b (Some f) (fate role c (e ∷ past))) (differ c (begun (e ∷ past)) (λ is. omega arith))
+    ∙ fate-step role c e past
+    ∙ ap (λ b. option_or (fate role c past) (cond b (decides role e.note) None)) (differ (begun (e ∷ past)) c (λ is. omega arith))
+    ∙ option_or-none (fate role c past)
+    ∙ go (c == begun past) refl
+  where
+    go : (b : Bool) → (c == begun past) ≡ b → fate role c past ≡ cond b (latest_fate role past) (fate role c past)
+    go true t = ap (λ n. fate role n past) (eqb-true c (begun past) t)
+    go false t = refl
+
+-- the state, with one event more
+pub void_sent-next : (tested : Tested) (i : ℕ) (f : Fate) (e : Seen) (past : List Seen)
+    → void_sent tested.role i (Some f) (e ∷ past) ≡ ((delivers i (newest e past) && not (accepts f)) || void_sent tested.role i (fate_before tested f e past) past)
+void_sent-next tested i f e past =
+    ap (λ b. (delivers i (newest e past) && voided (cond b (Some f) (fate tested.role (begun (e ∷ past)) (e ∷ past)))) || some (λ j. delivers i j && voided (fate_under tested.role (Some f) (e ∷ past) (number j))) (moments past))
+    (eq-eqb (begun (e ∷ past)) (begun (e ∷ past)) refl)
+    ∙ ap (λ b. (delivers i (newest e past) && not (accepts f)) || b) (go (is_open e.note) refl)
+  where
+    go : (b : Bool) → is_open e.note ≡ b → some (λ j. delivers i j && voided (fate_under tested.role (Some f) (e ∷ past) (number j))) (moments past) ≡ void_sent tested.role i (cond b (latest_fate tested.role past) (Some f)) past
+    go true h = some-same (λ j. delivers i j && voided (fate_under tested.role (Some f) (e ∷ past) (number j))) (λ j. delivers i j && voided (fate_under tested.role (latest_fate tested.role past) past (number j))) (moments past)
+        (λ m a. ap (λ o. delivers i m && voided o) (opened tested.role (number m) f e past h (numbers past m a)))
+    go false h = some-same (λ j. delivers i j && voided (fate_under tested.role (Some f) (e ∷ past) (number j))) (λ j. delivers i j && voided (fate_under tested.role (Some f) past (number j))) (moments past)
+        (λ m a. ap (λ o. delivers i m && voided o) (going tested.role (number m) f e past h))
+
+-- what the statement reads, at an event of an accepted connection
+pub void_sent-read : (tested : Tested) (i : ℕ) (f : Fate) (at : ℕ) (e : Seen) (past : List Seen) → IsUnder tested f at e past → is_open e.note ≡ false → accepts f ≡ true
+    → was_sent_on_void tested.role i (newest e past) ≡ void_sent tested.role i (Some f) past
+void_sent-read tested i f at e past under closed accepted = some-same (λ j. delivers i j && voided (fate tested.role (number j) past)) (λ j. delivers i j && voided (fate_under tested.role (Some f) past (number j))) (moments past)
+    (λ m a. ap (λ b. delivers i m && b) (go (number m) (number m == begun past) refl (latest_fate tested.role past) refl))
+  where
+    go : (c : ℕ) (b : Bool) → (c == begun past) ≡ b → (o : Option Fate) → latest_fate tested.role past ≡ o → voided (fate tested.role c past) ≡ voided (cond b (Some f) (fate tested.role c past))
+    go c false t o is = refl
+    go c true t None is = ap (λ n. voided (fate tested.role n past)) (eqb-true c (begun past) t) ∙ ap voided is ∙ sym (ap not accepted)
+    go c true t (Some g) is =
+        let now : latest_fate tested.role (e ∷ past) ≡ Some g = latest_fate-same tested.role e past closed ∙ ap (λ o. option_or o (decides tested.role e.note)) is in
+        ap (λ n. voided (fate tested.role n past)) (eqb-true c (begun past) t) ∙ ap voided is ∙ ap (λ x. not (accepts x)) (under.fits g now).0

@@ -1,0 +1,50 @@
+-- What the book of an exchange keeps of what is owed on the latest connection.
+use Rattle.std.specs.Prelude.{ℕ, ◌≡◌, Bool, true, false, ◌&&◌, not, cond, List, [], ◌∷◌, Option, Some, None, option_map}
+use Rattle.std.specs.Option.{option_or}
+use Rattle.mq_trace.specs.declared.place.Place3.{Place3}
+use Rattle.mq_rules.specs.declared.role.Tested.{Tested}
+use Rattle.mq_rules.specs.declared.fate.Fate.{Fate}
+use Rattle.mq_rules.specs.declared.rule.Rule.{Rule}
+use Rattle.mq_rules.specs.declared.note.Note.{Note}
+use Rattle.mq_rules.specs.declared.note.Seen.{Seen}
+use Rattle.mq_rules.specs.Words.{is_id}
+use Rattle.mq_rules.specs.Notes.{is_open, is_rest}
+use Rattle.mq_rules.specs.Moments.{Moment, some, earliest_since}
+use Rattle.mq_rules.specs.Connections.{connection, accepts, ends_binding}
+use Rattle.mq_rules.specs.Exchanges.{Exchange, causes, answers}
+use Rattle.mq_rules.specs.FaultKeys.{FaultMap, fault_at, with_fault}
+
+-- the first cause of i on the latest connection without an answer since
+abbrev pub due_of : Exchange → ℕ → List Seen → Option Moment
+due_of x i past = earliest_since (causes x i) (answers x i) (connection past)
+
+abbrev pub place_of : Option Moment → Option Place3
+place_of o = option_map (λ m. m.event.place) o
+
+-- what is due after an event
+abbrev pub due_next : Note → Option ℕ → Option ℕ → Place3 → ℕ → Option Place3 → Option Place3
+due_next n cause answer at i old = option_or (cond (is_id i answer) None (cond (is_open n) None old)) (cond (is_id i cause) (Some at) None)
+
+-- neither an OPEN nor a REST is a cause or an answer, and nothing is both for one identifier
+pub record IsApart (x : Exchange) : Type 0 where
+  pub open_causes : (n : Note) → is_open n ≡ true → x.cause n ≡ None
+  pub apart : (n : Note) (i : ℕ) → is_id i (x.cause n) ≡ true → is_id i (x.answer n) ≡ false
+
+-- These events lead to what is kept. What is due is known where the connection is accepted.
+pub record IsOwed (x : Exchange) (fate : Fate) (ended : Bool) (due : ℕ → Option Place3) (tested : Tested) (taken : Option Fate) (past : List Seen) : Type 0 where
+  pub same_fate : taken ≡ Some fate
+  pub is_ended : ended ≡ some ends_binding (connection past)
+  pub due_are : accepts fate ≡ true → (i : ℕ) → due i ≡ place_of (due_of x i past)
+
+-- the faults of the moments of these places, decided there
+abbrev pub blamed : Rule → ℕ → List Place3 → FaultMap → FaultMap
+blamed rule at [] faults = faults
+blamed rule at (place ∷ places) faults = blamed rule at places (with_fault (record { position = place.position; rule = rule }) (record { decided = at; record_no = place.record_no; offset = None }) faults)
+
+-- what the first has, the second has
+pub record Keeps (old new : FaultMap) : Type 0 where
+  pub each : (k : ℕ) (r : Rule) → option_or (fault_at old k r) (fault_at new k r) ≡ fault_at new k r
+
+-- a REST that binds
+abbrev pub binds_by : Fate → Bool → Bool → Note → Bool
+binds_by f known ended n = is_rest n && (known && (accepts f && not ended))

@@ -1,0 +1,60 @@
+-- What the book of the send quota keeps.
+use Rattle.std.specs.Prelude.{ℕ, ◌≡◌, ◌+◌, ◌-◌, Bool, true, ◌&&◌, nat_le, cond, List, Option, Some, None, is_some, option_map, unwrap_or}
+use Rattle.mq_trace.specs.declared.place.Place3.{Place3}
+use Rattle.mq_rules.specs.declared.role.Role.{Role}
+use Rattle.mq_rules.specs.declared.role.Role.TheVariants.{Client, Server}
+use Rattle.mq_rules.specs.declared.role.Tested.{Tested}
+use Rattle.mq_rules.specs.declared.fate.Fate.{Fate}
+use Rattle.mq_rules.specs.declared.rule.Rule.{Rule}
+use Rattle.mq_rules.specs.declared.note.Note.{Note}
+use Rattle.mq_rules.specs.declared.note.Seen.{Seen}
+use Rattle.mq_rules.specs.declared.packet_note.ConnectNote.{ConnectNote}
+use Rattle.mq_rules.specs.declared.packet_note.ConnackNote.{ConnackNote}
+use Rattle.mq_rules.specs.Notes.{is_open, connect_of, connack_of, delivery_of, closer_of}
+use Rattle.mq_rules.specs.Moments.{those}
+use Rattle.mq_rules.specs.Connections.{connection, first_connect, first_connack, accepts}
+use Rattle.mq_rules.specs.Identifiers.{counts}
+use Rattle.mq_rules.specs.Counter.{in_flight}
+use Rattle.mq_rules.specs.FaultKeys.{FaultMap, with_fault}
+use Rattle.mq_books.specs.declared.quota.Quota.{Quota}
+
+-- the Receive Maximum that a peer's CONNECT or CONNACK announces
+abbrev pub connect_room : Option ConnectNote → Option ℕ
+connect_room o = option_map (λ c. unwrap_or c.receive_maximum 65535) o
+
+abbrev pub connack_room : Option ConnackNote → Option ℕ
+connack_room o = option_map (λ a. unwrap_or a.receive_maximum 65535) o
+
+abbrev pub announced : Role → Note → Option ℕ
+announced Client n = connack_room (connack_of Client n)
+announced Server n = connect_room (connect_of Server n)
+
+-- what the peer has announced on the latest connection
+abbrev pub peer_room : Role → List Seen → Option ℕ
+peer_room Client past = connack_room (first_connack Client (connection past))
+peer_room Server past = connect_room (first_connect Server (connection past))
+
+-- whether the next event counts
+abbrev pub may_count : Role → Option ℕ → Bool
+may_count Client peer = is_some peer
+may_count Server peer = true
+
+-- what is in flight after an event
+abbrev pub flown : Bool → Note → ℕ → ℕ
+flown counted n old = cond (is_open n) 0 (cond counted (cond (is_some (delivery_of n)) (old + 1) (cond (is_some (closer_of n)) (old - 1) old)) old)
+
+-- a PUBLISH is sent that passes the quota
+abbrev pub exceeds : Fate → Note → Role → Option ℕ → ℕ → Bool
+exceeds f n role peer old = accepts f && (is_some (delivery_of n) && (may_count role peer && nat_le (unwrap_or peer 65535) old))
+
+-- the faults with that of a statement that is broken at this place, decided at this position
+abbrev pub judged_by : Bool → Rule → Place3 → ℕ → FaultMap → FaultMap
+judged_by broken rule place at faults =
+    cond broken (with_fault (record { position = place.position; rule = rule }) (record { decided = at; record_no = place.record_no; offset = None }) faults) faults
+
+-- These events lead to what is kept.
+pub record IsQuota (quota : Quota) (tested : Tested) (taken : Option Fate) (past : List Seen) : Type 0 where
+  pub same_role : quota.role ≡ tested.role
+  pub same_fate : taken ≡ Some quota.fate
+  pub same_peer : quota.peer ≡ peer_room tested.role past
+  pub flying : quota.in_flight ≡ in_flight (those (counts tested.role) (connection past))

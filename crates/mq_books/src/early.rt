@@ -1,0 +1,122 @@
+//! Events of a connection are held until its fate is decided: a client may send packets before its CONNACK (MQTT 5.0, section 3.1.4).
+ghost use Rattle.std.specs.Prelude.{◌≡◌, ◌∷◌, ◌++◌, ◌&&◌, ◌||◌, ◌+◌, [], ℕ, List, Option, Some, None, reverse, length, cond, OnOk, OnErr, IfOk};
+ghost use Rattle.std.specs.Option.{option_or};
+ghost use Rattle.mq_rules.specs.declared.role.Tested.{Tested as TheTested};
+ghost use Rattle.mq_rules.specs.declared.fate.Fate.TheVariants as fates;
+ghost use Rattle.mq_rules.specs.declared.note.Seen.{Seen as TheSeen};
+ghost use Rattle.mq_rules.specs.Notes.{is_open, decides};
+ghost use Rattle.mq_rules.specs.Connections.{latest_fate};
+ghost use Rattle.mq_rules.specs.Under.{seen, Follows, turns_with};
+ghost use Rattle.mq_rules.specs.Growing.{Gains, GainsWithin};
+ghost use Rattle.mq_books.specs.Holding.{CanHand, CanPass, fate_after, turns_held, turns_session, settled, waiting, Holds};
+
+use crate::fated::Fated;
+use mq_rules::{Fate, Faults, Memory, Note, Role, Seen, Tested, Watch};
+use mq_trace::Place3;
+use std::alloc::Global;
+
+/// A watcher that holds the events of an undecided connection, and passes them on, in order, with the event that decides it.
+#[derive(Drop)]
+pub struct Early<W> {
+    alloc: Global,
+    role: Role,
+    fate: Option<Fate>,
+    held: Vec<Seen>,
+    watcher: W,
+}
+
+/// Passes held events on, with the fate of their connection.
+fn hand<W: Fated>(
+    watcher: &mut W,
+    decided: u32,
+    fate: Fate,
+    held: &[Seen],
+    faults: &mut Faults,
+) -> Result<(), Memory>
+    ensures agrees { OnOk result ((tested : TheTested) (base : List TheSeen) → CanHand tested decided (reverse held.now) base → W.agrees watcher.old tested (latest_fate tested.role base) base → W.agrees watcher.new tested (fate_after tested fate (reverse held.now) base) (reverse held.now ++ base)) }
+    ensures grows { OnOk result ((tested : TheTested) (base : List TheSeen) → CanHand tested decided (reverse held.now) base → W.agrees watcher.old tested (latest_fate tested.role base) base → Gains (λ k r. W.judges r && turns_held tested fate (reverse held.now) base k r) tested (reverse held.now ++ base) decided faults.old faults.new) }
+    ensures memory { OnErr result ((tested : TheTested) (base : List TheSeen) → CanHand tested decided (reverse held.now) base → W.agrees watcher.old tested (latest_fate tested.role base) base → GainsWithin (λ k r. W.judges r && turns_held tested fate (reverse held.now) base k r) tested (reverse held.now ++ base) decided faults.old faults.new) }
+{
+    for event in held {
+        watcher.fated(event.place, decided, fate, &event.note, faults)?;
+    }
+    Ok(())
+}
+
+/// Passes on the held events, and then the one that decides their connection or comes after that.
+fn pass<W: Fated>(
+    watcher: &mut W,
+    held: &[Seen],
+    fate: Fate,
+    at: Place3,
+    note: &Note,
+    faults: &mut Faults,
+) -> Result<(), Memory>
+    ensures agrees { OnOk result ((tested : TheTested) (base : List TheSeen) → CanPass tested fate (seen at note.now) (reverse held.now) base → W.agrees watcher.old tested (latest_fate tested.role base) base → W.agrees watcher.new tested (Some fate) (seen at note.now ∷ (reverse held.now ++ base))) }
+    ensures grows { OnOk result ((tested : TheTested) (base : List TheSeen) → CanPass tested fate (seen at note.now) (reverse held.now) base → W.agrees watcher.old tested (latest_fate tested.role base) base → Gains (λ k r. W.judges r && turns_session tested (seen at note.now) (reverse held.now ++ base) k r) tested (seen at note.now ∷ (reverse held.now ++ base)) at.position faults.old faults.new) }
+    ensures memory { OnErr result ((tested : TheTested) (base : List TheSeen) → CanPass tested fate (seen at note.now) (reverse held.now) base → W.agrees watcher.old tested (latest_fate tested.role base) base → GainsWithin (λ k r. W.judges r && turns_session tested (seen at note.now) (reverse held.now ++ base) k r) tested (seen at note.now ∷ (reverse held.now ++ base)) at.position faults.old faults.new) }
+{
+    hand(watcher, at.position, fate, held, faults)?;
+    watcher.step(at, note, faults)?;
+    Ok(())
+}
+
+/// The fate of the latest connection after an event.
+fn fate_next(role: Role, fate: Option<Fate>, note: &Note) -> Option<Fate>
+    ensures { result ≡ cond (is_open note.now) None (option_or fate (decides role note.now)) }
+{
+    if note.is_open() {
+        return None;
+    }
+    fate.or(note.decides(role))
+}
+
+/// Holds an event.
+fn hold(alloc: Global, held: &mut Vec<Seen>, place: Place3, note: &Note) -> Result<(), Memory>
+    ensures { OnOk result (held.new.items ≡ held.old.items ++ (seen place note.now ∷ [])) }
+{
+    let note = note.copy(alloc)?;
+    held.push(Seen { place, note })?;
+    Ok(())
+}
+
+impl<W: Fated> Early<W> {
+    /// Around this watcher, before any event.
+    pub fn new(alloc: Global, tested: Tested, watcher: W) -> Self
+        ensures { W.agrees watcher tested (Some fates.Void) [] → ⟦<Early<W> as Watch>⟧.agrees result tested (Some fates.Void) [] }
+    {
+        Early {
+            alloc,
+            role: tested.role,
+            fate: Some(Fate::Void),
+            held: Vec::new(alloc),
+            watcher,
+        }
+    }
+}
+
+impl<W: Fated> Watch for Early<W> {
+    ghost agrees = { λ s tested taken past. Holds (W.agrees s.watcher tested) s.role s.fate s.held.items tested past };
+
+    ghost takes = { λ tested taken e past. Unit {0} };
+
+    ghost adds = { λ tested e past k r. W.judges r && turns_session tested e past k r };
+
+    ghost bound = { λ tested taken past. waiting tested.role past + W.bound tested (latest_fate tested.role (settled tested.role past)) (settled tested.role past) };
+
+    fn step(&mut self, at: Place3, note: &Note, faults: &mut Faults) -> Result<(), Memory> {
+        self.fate = fate_next(self.role, self.fate, note);
+        match self.fate {
+            None => hold(self.alloc, &mut self.held, at, note)?,
+            Some(fate) => {
+                pass(&mut self.watcher, &self.held, fate, at, note, faults)?;
+                self.held.clear();
+            }
+        }
+        Ok(())
+    }
+
+    fn weight(&self) -> usize {
+        self.held.len().saturating_add(self.watcher.weight())
+    }
+}

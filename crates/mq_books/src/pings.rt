@@ -1,0 +1,148 @@
+//! Pings and their answers.
+ghost use Rattle.std.specs.Prelude.{refl};
+ghost use Rattle.std.specs.Prelude.{◌≡◌, ◌<◌, ◌&&◌, ◌||◌, not, [], Some};
+ghost use Rattle.mq_rules.specs.declared.fate.Fate.TheVariants.{Void};
+ghost use Rattle.mq_rules.specs.declared.rule.Rule.TheVariants.{E7R};
+ghost use Rattle.mq_rules.specs.Rules.{same_rule};
+ghost use Rattle.mq_rules.specs.Notes.{is_open};
+ghost use Rattle.mq_rules.specs.Under.{IsKnown, turns_known};
+ghost use Rattle.mq_books.specs.Pingings as keeping;
+ghost use Rattle.mq_books.specs.Pingings.{IsPings};
+
+use crate::fated::Fated;
+use crate::known::judge_by;
+use crate::quota::more;
+use mq_rules::{Fate, Faults, ItemNote, Memory, Note, Role, Rule, Tested, Watch};
+use mq_trace::Place3;
+
+/// Watches E7R.
+#[derive(Drop)]
+pub struct Pings {
+    role: Role,
+    fate: Fate,
+    ended: bool,
+    asked: u64,
+    answered: u64,
+}
+
+/// Whether no REST binds after this event on its connection.
+fn ends(note: &Note) -> bool
+    ensures { result ≡ keeping.ends_by note.now }
+{
+    match note {
+        Note::Sent(ItemNote::Packet(packet)) | Note::Recv(ItemNote::Packet(packet)) => {
+            packet.fields.disconnect().is_some()
+        }
+        Note::Sent(_) | Note::Recv(_) => true,
+        _ => false,
+    }
+}
+
+pub fn ended_after(ended: bool, note: &Note) -> bool
+    ensures { result ≡ (keeping.ends_by note.now || (not (is_open note.now) && ended)) }
+{
+    ends(note) || (!note.is_open() && ended)
+}
+
+/// How many there are after an event.
+fn counted(passes: bool, opens: bool, old: u64, position: u32) -> u64
+    ensures { old < position → result ≡ keeping.counted passes opens old }
+{
+    let old = if opens { 0 } else { old };
+    if passes { more(old, position) } else { old }
+}
+
+/// Whether this is a REST that binds, and a ping wasn't answered.
+fn is_unanswered(
+    role: Role,
+    fate: Fate,
+    known: bool,
+    ended: bool,
+    note: &Note,
+    asked: u64,
+    answered: u64,
+) -> bool
+    ensures { result ≡ keeping.unanswered role fate known ended note.now asked answered }
+{
+    matches!(role, Role::Server)
+        && (fate.accepts()
+            && ((note.is_rest() && (known && (fate.accepts() && !ended))) && answered < asked))
+}
+
+impl Pings {
+    /// No ping was sent.
+    pub fn new(tested: Tested) -> Self
+        ensures { ⟦<Pings as Watch>⟧.agrees result tested (Some Void) [] }
+    {
+        Pings {
+            role: tested.role,
+            fate: Fate::Void,
+            ended: false,
+            asked: 0,
+            answered: 0,
+        }
+    }
+}
+
+impl Watch for Pings {
+    ghost agrees = { IsPings };
+
+    ghost takes = { IsKnown };
+
+    ghost adds = { λ tested e past k r. same_rule r E7R && turns_known tested e past k r };
+
+    ghost bound = { λ tested taken past. 0 };
+
+    fn step(&mut self, at: Place3, note: &Note, faults: &mut Faults) -> Result<(), Memory> {
+        let fate = self.fate;
+        self.fated(at, at.position, fate, note, faults)?;
+        Ok(())
+    }
+
+    fn weight(&self) -> usize {
+        0
+    }
+}
+
+impl Fated for Pings {
+    ghost judges = { λ r. same_rule r E7R };
+
+    fn fated(
+        &mut self,
+        at: Place3,
+        decided: u32,
+        fate: Fate,
+        note: &Note,
+        faults: &mut Faults,
+    ) -> Result<(), Memory> {
+        let broken = is_unanswered(
+            self.role,
+            fate,
+            decided == at.position,
+            self.ended,
+            note,
+            self.asked,
+            self.answered,
+        );
+        self.asked = counted(
+            note.is_received_pingreq(),
+            note.is_open(),
+            self.asked,
+            at.position,
+        );
+        self.answered = counted(
+            note.is_sent_pingresp(),
+            note.is_open(),
+            self.answered,
+            at.position,
+        );
+        self.ended = ended_after(self.ended, note);
+        self.fate = fate;
+        judge_by(Rule::E7R, broken, at, decided, faults)?;
+        Ok(())
+    }
+
+    ghost known_taken = { λ tested taken e past known. known };
+
+    ghost known_adds = { λ tested e past k r. refl };
+}

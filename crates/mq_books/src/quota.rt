@@ -1,0 +1,164 @@
+//! The send quota.
+ghost use Rattle.std.specs.Prelude.{refl};
+ghost use Rattle.std.specs.Prelude.{◌≡◌, ◌<◌, ◌+◌, ◌-◌, ◌&&◌, [], Some, None, is_some};
+ghost use Rattle.mq_rules.specs.declared.fate.Fate.TheVariants.{Void};
+ghost use Rattle.mq_rules.specs.declared.rule.Rule.TheVariants.{S07};
+ghost use Rattle.mq_rules.specs.Rules.{same_rule};
+ghost use Rattle.mq_rules.specs.Notes.{is_open};
+ghost use Rattle.std.specs.Option.{option_or};
+ghost use Rattle.std.specs.Prelude.{cond};
+ghost use Rattle.mq_rules.specs.Under.{IsKnown, turns_known};
+ghost use Rattle.mq_books.specs.Quotas as keeping;
+ghost use Rattle.mq_books.specs.Quotas.{IsQuota};
+
+use crate::fated::Fated;
+use crate::known::judge_by;
+use mq_rules::{Fate, Faults, Memory, Note, Role, Rule, Tested, Watch};
+use mq_trace::Place3;
+
+/// The Receive Maximum of a peer that announces none.
+const RECEIVE_MAXIMUM: u16 = 65_535;
+
+/// Watches S07.
+#[derive(Drop)]
+pub struct Quota {
+    role: Role,
+    fate: Fate,
+    peer: Option<u16>,
+    in_flight: u64,
+}
+
+/// The Receive Maximum that the peer announces by this event.
+fn announced(role: Role, note: &Note) -> Option<u16>
+    ensures { result ≡ keeping.announced role note.now }
+{
+    match role {
+        Role::Client => match note.connack(role) {
+            Some(connack) => Some(connack.receive_maximum.unwrap_or(RECEIVE_MAXIMUM)),
+            None => None,
+        },
+        Role::Server => match note.connect(role) {
+            Some(connect) => Some(connect.receive_maximum.unwrap_or(RECEIVE_MAXIMUM)),
+            None => None,
+        },
+    }
+}
+
+/// Whether the next event counts.
+fn may_count(role: Role, peer: Option<u16>) -> bool
+    ensures { result ≡ keeping.may_count role peer }
+{
+    match role {
+        Role::Client => peer.is_some(),
+        Role::Server => true,
+    }
+}
+
+/// One more, of which there are fewer than events.
+pub fn more(old: u64, position: u32) -> u64
+    ensures { old < position → result ≡ old + 1 }
+{
+    if old < u64::from(position) {
+        return old + 1;
+    }
+    old
+}
+
+/// What is in flight after an event.
+fn flown(counted: bool, note: &Note, old: u64, position: u32) -> u64
+    ensures { old < position → result ≡ keeping.flown counted note.now old }
+{
+    if note.is_open() {
+        return 0;
+    }
+    if !counted {
+        return old;
+    }
+    if note.delivery().is_some() {
+        return more(old, position);
+    }
+    if note.closer().is_some() {
+        return old.saturating_sub(1);
+    }
+    old
+}
+
+/// What the peer has announced after an event.
+fn peer_after(role: Role, peer: Option<u16>, note: &Note) -> Option<u16>
+    ensures { result ≡ option_or (cond (is_open note.now) None peer) (keeping.announced role note.now) }
+{
+    let peer = if note.is_open() { None } else { peer };
+    peer.or(announced(role, note))
+}
+
+/// Whether a PUBLISH is sent that passes the quota.
+fn exceeds(fate: Fate, note: &Note, role: Role, peer: Option<u16>, old: u64) -> bool
+    ensures { result ≡ keeping.exceeds fate note.now role peer old }
+{
+    fate.accepts()
+        && (note.delivery().is_some()
+            && (may_count(role, peer) && u64::from(peer.unwrap_or(RECEIVE_MAXIMUM)) <= old))
+}
+
+impl Quota {
+    /// Nothing is in flight.
+    pub fn new(tested: Tested) -> Self
+        ensures { ⟦<Quota as Watch>⟧.agrees result tested (Some Void) [] }
+    {
+        Quota {
+            role: tested.role,
+            fate: Fate::Void,
+            peer: None,
+            in_flight: 0,
+        }
+    }
+}
+
+impl Watch for Quota {
+    ghost agrees = { IsQuota };
+
+    ghost takes = { IsKnown };
+
+    ghost adds = { λ tested e past k r. same_rule r S07 && turns_known tested e past k r };
+
+    ghost bound = { λ tested taken past. 0 };
+
+    fn step(&mut self, at: Place3, note: &Note, faults: &mut Faults) -> Result<(), Memory> {
+        let fate = self.fate;
+        self.fated(at, at.position, fate, note, faults)?;
+        Ok(())
+    }
+
+    fn weight(&self) -> usize {
+        0
+    }
+}
+
+impl Fated for Quota {
+    ghost judges = { λ r. same_rule r S07 };
+
+    fn fated(
+        &mut self,
+        at: Place3,
+        decided: u32,
+        fate: Fate,
+        note: &Note,
+        faults: &mut Faults,
+    ) -> Result<(), Memory> {
+        let broken = exceeds(fate, note, self.role, self.peer, self.in_flight);
+        self.in_flight = flown(
+            may_count(self.role, self.peer),
+            note,
+            self.in_flight,
+            at.position,
+        );
+        self.peer = peer_after(self.role, self.peer, note);
+        self.fate = fate;
+        judge_by(Rule::S07, broken, at, decided, faults)?;
+        Ok(())
+    }
+
+    ghost known_taken = { λ tested taken e past known. known };
+
+    ghost known_adds = { λ tested e past k r. refl };
+}
