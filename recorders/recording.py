@@ -65,11 +65,6 @@ SENT, RECV = 2, 3
 Item = tuple[Kind, bytes]
 
 
-def counted(count: int, thing: str) -> str:
-    """A number of things in words: `1 log`, `2 logs`."""
-    return f"{count} {thing}{'' if count == 1 else 's'}"
-
-
 # ---- packets: as little of them as is needed
 
 
