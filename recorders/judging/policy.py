@@ -1,4 +1,4 @@
-"""What of the verdicts counts for the status: known faults, codes and refusals that are ignored, logs that are too short."""
+"""What of the verdicts counts for the status: what is known or ignored doesn't, and a log that is too short does."""
 from __future__ import annotations
 
 from collections import Counter
@@ -75,7 +75,7 @@ class Weighing:
 
 
 def read_expected(path: Path) -> dict[tuple[str, str], int]:
-    """A baseline: a line for each log and code, `LOG CODE COUNT`. Empty lines and those that begin with # don't count."""
+    """A baseline: a line for each log and code, `LOG CODE COUNT`. Empty lines, and those with # first, don't count."""
     expected: dict[tuple[str, str], int] = {}
     try:
         lines = path.read_text().splitlines()
