@@ -191,6 +191,17 @@ class Printed(Case):
         status, printed, _ = self.judged(self.logs / "mosquitto.log")  # one that is named is judged
         self.assertEqual((status, printed.splitlines()), (0, ["", wanted[-1]]))
 
+    def test_files_that_are_named_and_are_no_logs(self) -> None:
+        self.program.write_text("#!/bin/sh\necho refused 1 Header at 0\nexit 2\n")
+        others = {b"\xd4\xc3\xb2\xa1": "it is a capture: recorders/from-capture makes logs of it"}
+        others |= {b"\x0a\x0d\x0d\x0a": others[b"\xd4\xc3\xb2\xa1"]}
+        others |= {b"\x1f\x8b\x08\0": "it is compressed by gzip: unpack it first"}
+        for content, note in others.items():
+            path = self.logs / "other"
+            path.write_bytes(content)
+            wanted = [f"refused {path}", "  refused 1 Header at 0", f"  {note}"]
+            self.assertEqual(self.judged(path)[1].splitlines()[:3], wanted)
+
     def test_names_that_are_no_text(self) -> None:
         for name in (b"\xff\xfe.log", b"line\nend.log", b"\x1b[31m.log", b"-.log", b"&<>\".log"):
             Path(os.fsdecode(os.path.join(os.fsencode(self.logs), name))).write_text(LOG + FAIL)

@@ -6,6 +6,16 @@ from dataclasses import dataclass, field
 from pathlib import Path
 
 MARK = b"MQTR"  # the first bytes of each log
+CAPTURE = "it is a capture: recorders/from-capture makes logs of it"
+COMPRESSED = "it is compressed by gzip: unpack it first"
+OTHERS = {  # what else a file may be, by its first bytes
+    b"\xd4\xc3\xb2\xa1": CAPTURE,
+    b"\xa1\xb2\xc3\xd4": CAPTURE,
+    b"\x4d\x3c\xb2\xa1": CAPTURE,
+    b"\xa1\xb2\x3c\x4d": CAPTURE,
+    b"\x0a\x0d\x0d\x0a": CAPTURE,
+    b"\x1f\x8b": COMPRESSED,
+}
 
 
 @dataclass
@@ -24,6 +34,16 @@ def is_log(path: Path) -> bool:
             return file.read(len(MARK)) == MARK
     except OSError:
         return True
+
+
+def what_else(path: Path) -> str | None:
+    """What a file is that isn't a log, and what to do with it, where its first bytes tell."""
+    try:
+        with path.open("rb") as file:
+            first = file.read(len(MARK))
+    except OSError:
+        return None
+    return next((text for mark, text in OTHERS.items() if first.startswith(mark)), None)
 
 
 def find_logs(places: Iterable[Path]) -> Found:

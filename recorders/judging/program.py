@@ -11,10 +11,12 @@ from collections.abc import Callable
 from pathlib import Path
 from typing import IO, BinaryIO
 
+from judging.places import what_else
 from judging.verdict import FAILED, FAULTS, REFUSED, Verdict
 
 STATUSES = (0, 1, 2, 4)
 CUT = "refused 10 Cut "
+NO_LOG = "refused 1 Header "
 HEADER, RECORD_HEADER = 8, 5  # sizes in bytes (docs/LOG_FORMAT.md)
 CHUNK = 1 << 20
 AROUND = 2  # events before and after a fault that are shown
@@ -64,8 +66,10 @@ class Judge:
             return verdict
 
     def _finish(self, verdict: Verdict, log: Path) -> None:
-        """Weighs a verdict, and has its faults explained."""
+        """Weighs a verdict, and has its faults explained, or says what a file is that isn't a log."""
         self._weigh(verdict)
+        if verdict.status == REFUSED and verdict.last.startswith(NO_LOG) and (note := what_else(log)):
+            verdict.notes.append(note)
         if verdict.status == FAULTS and verdict.positions:
             self._explain(verdict, log)
 
