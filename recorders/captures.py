@@ -25,6 +25,7 @@ from collections.abc import Callable, Iterable, Iterator
 from dataclasses import dataclass, field
 from pathlib import Path
 
+from arguments import Parser, counted, seconds
 from recording import CONNECT, End, Framer, Recorder, read_connect, write_to_standard_error
 
 FIN, SYN, RST, ACK = 0x01, 0x02, 0x04, 0x10
@@ -625,18 +626,8 @@ class Capture:
             self._warn(line)
 
 
-def parse_seconds(text: str) -> float:
-    try:
-        seconds = float(text)
-    except ValueError:
-        seconds = -1.0
-    if not 0 < seconds < 1e9:
-        raise argparse.ArgumentTypeError(f"{text!r} isn't a number of seconds above 0")
-    return seconds
-
-
 def parse_arguments(words: list[str] | None) -> argparse.Namespace:
-    parser = argparse.ArgumentParser(
+    parser = Parser(
         prog="from-capture",
         description="Makes logs out of a capture of network packets, one for each Client Identifier and tested end.",
     )
@@ -652,37 +643,64 @@ def parse_arguments(words: list[str] | None) -> argparse.Namespace:
     parser.add_argument("--out", metavar="DIR", type=Path, required=True, help="where the logs are written")
     parser.add_argument("--keylog", metavar="FILE", type=Path, help="the keys of TLS connections (SSLKEYLOGFILE)")
     parser.add_argument("--end", choices=("client", "server", "both"), default="both", help="whose logs are written")
-    parser.add_argument("--rest", metavar="SECONDS", type=parse_seconds, help="silence after which an end is at rest")
+    parser.add_argument("--rest", metavar="SECONDS", type=seconds, help="silence after which an end is at rest")
     parser.add_argument("--tshark", metavar="PROGRAM", default="tshark", help="the tshark that reads the capture")
     return parser.parse_args(words)
 
 
-def main(words: list[str] | None = None) -> int:
-    """0 where the capture was read to its end, 1 where reading or writing failed."""
-    arguments = parse_arguments(words)
-    ends = list(End) if arguments.end == "both" else [End(arguments.end)]
+def ports_seen(program: str, file: str) -> list[int]:
+    """The ports that connections of a capture go to, as far as their first segments are in it."""
+    command = [program, "-n", "-r", file, "-Y", "tcp.flags.syn == 1 && tcp.flags.ack == 0"]
+    answer = subprocess.run([*command, "-T", "fields", "-e", "tcp.dstport"], capture_output=True, text=True)
+    return sorted({int(word) for word in answer.stdout.replace(",", " ").split() if word.isdigit()})
+
+
+def nothing_found(arguments: argparse.Namespace) -> str:
+    """Says that no connection goes to the servers that were named, and where those go that are there."""
+    ports = ", ".join(str(port) for port in sorted({server.port for server in arguments.server}))
+    line = f"no connection to the server, port {ports}, is in {arguments.file}"
+    if arguments.file == "-":
+        return line
+    seen = ports_seen(arguments.tshark, arguments.file)
+    return f"{line}: connections begin to {', '.join(map(str, seen)) or 'no port'}"
+
+
+def prepare(arguments: argparse.Namespace) -> str:
+    """Makes the folder for the logs. Says what is wrong, where something is."""
     if arguments.keylog is not None and not arguments.keylog.is_file():
-        write_to_standard_error(f"from-capture: {arguments.keylog} isn't a file")
-        return 1
+        return f"{arguments.keylog} isn't a file"
+    if arguments.file != "-" and (not os.path.exists(arguments.file) or os.path.isdir(arguments.file)):
+        return f"{arguments.file} isn't a file"
     try:
         arguments.out.mkdir(parents=True, exist_ok=True)
     except OSError as error:
-        write_to_standard_error(f"from-capture: can't create {arguments.out}: {error.strerror}")
+        return f"can't create {arguments.out}: {error.strerror}"
+    return ""
+
+
+def main(words: list[str] | None = None) -> int:
+    """0 where the capture was read to its end, 1 where reading or writing failed, or no connection was found."""
+    arguments = parse_arguments(words)
+    ends = list(End) if arguments.end == "both" else [End(arguments.end)]
+    problem = prepare(arguments)
+    if problem:
+        write_to_standard_error(f"from-capture: {problem}")
         return 1
     capture = Capture(arguments.out, ends, arguments.rest)
+    command = tshark_command(arguments.tshark, arguments.file, arguments.server, arguments.keylog)
     status = 0
     try:
-        for segment in read_segments(
-            tshark_command(arguments.tshark, arguments.file, arguments.server, arguments.keylog), arguments.server
-        ):
+        for segment in read_segments(command, arguments.server):
             capture.take(segment)
             if capture.is_stopped:
                 break
+        if not capture.connections:
+            raise CaptureError(nothing_found(arguments))
     except CaptureError as error:
         write_to_standard_error(f"from-capture: {error}")
         status = 1
     if capture.is_stopped:
         status = 1
     capture.finish()
-    print(f"{capture.connections} connections, {capture.left_out} of them incomplete")
+    print(f"{counted(capture.connections, 'connection')}, {capture.left_out} of them incomplete")
     return status

@@ -18,6 +18,7 @@ It was tried with paho-mqtt 1.6.1. A version without the methods that it replace
 from __future__ import annotations
 
 import contextlib
+import sys
 import threading
 import weakref
 from collections.abc import Callable
@@ -25,7 +26,15 @@ from pathlib import Path
 from types import TracebackType
 from typing import Any
 
-import paho.mqtt.client as paho
+try:
+    import paho.mqtt.client as paho
+except ModuleNotFoundError as error:
+    raise ModuleNotFoundError(
+        f"this Python ({sys.executable}) doesn't see paho-mqtt ({error}): install it for this one with "
+        f"`{sys.executable} -m pip install paho-mqtt==1.6.1`, or run the program with a Python that has it "
+        "(Debian's package python3-paho-mqtt is for /usr/bin/python3)",
+        name=error.name,
+    ) from None
 
 from recording import End, Recorder
 

@@ -46,6 +46,7 @@ class Bench:
     folder: Path
     stack: ExitStack
     broker: subprocess.Popen[bytes]
+    broker_port: int
     tls: list[object] = field(default_factory=list)  # options of mosquitto's tools
 
     def publish(self, identifier: str, topic: str, *words: object, version: str = "5") -> None:
@@ -73,9 +74,9 @@ class Bench:
         wait_until(lambda: RECEIVED_SUBACK.search(self.log(identifier)), f"{program} gets its SUBACK")
         return child
 
-    def log(self, identifier: str) -> bytes:
-        """What the client's first log has so far."""
-        path = self.folder / f"{identifier}.1.client.log"
+    def log(self, identifier: str, end: str = "client") -> bytes:
+        """What the first log of this end has so far."""
+        path = self.folder / f"{identifier}.1.{end}.log"
         return path.read_bytes() if path.exists() else b""
 
     def printed(self) -> str:

@@ -414,7 +414,8 @@ class Recorder:
     `rest_after` is the number of seconds after which silence means that the end is at rest: `tick` is to be called from
     time to time then. Without it only `rested` makes a REST. `releases` says that each release is given to `released`.
     `from_start` says that no end had a session before the recording. Without it a session that is resumed, though its
-    beginning wasn't recorded, is left out: judged alone, it would seem to have faults.
+    beginning wasn't recorded, is left out: judged alone, it would seem to have faults. `made` is called with the path
+    of each log that is begun.
     """
 
     def __init__(
@@ -427,9 +428,11 @@ class Recorder:
         *,
         from_start: bool = False,
         warn: Callable[[str], None] = write_to_standard_error,
+        made: Callable[[Path], None] = lambda _: None,
     ) -> None:
         self._folder, self._ends, self._rest_after, self._releases = folder, ends, rest_after, releases
-        self._clock, self._from_start, self._warn = clock, from_start, warn
+        self._clock, self._from_start, self._warn, self._made = clock, from_start, warn, made
+        self.connections = 0  # that a log has
         self._connections: dict[Hashable, Connection] = {}
         self._logs: OrderedDict[str, SessionLog] = OrderedDict()  # of each Client Identifier the latest
         self._released_logs: dict[Hashable, SessionLog] = {}  # of connections that are over
@@ -647,7 +650,10 @@ class Recorder:
 
     def _new_log(self, name: str) -> SessionLog:
         ends = sorted(self._ends, key=lambda end: end.value)
-        log = SessionLog([LogFile(self._folder, name, end, self._releases) for end in ends])
+        log = SessionLog([])
+        for end in ends:
+            log.files.append(LogFile(self._folder, name, end, self._releases))
+            self._made(log.files[-1].path)
         if name != UNNAMED:
             self._drop_released(self._logs.get(name))
             self._logs[name] = log
@@ -658,6 +664,7 @@ class Recorder:
         """Writes what was kept of a connection to its log, where it goes on."""
         connection.log, connection.is_waiting = log, False
         log.current = connection
+        self.connections += 1
         if connection.is_accepted or (connection.is_over and connection.is_unanswered):
             log.may_have_session = True
         for item in self._take_kept(connection):

@@ -198,7 +198,7 @@ class ByHand(Case):
         self.assertEqual(self.log("c.1.client"), client)
         swapped = [word.replace("SENT", "-").replace("RECV", "SENT").replace("-", "RECV") for word in client]
         self.assertEqual(self.log("c.1.server"), swapped)
-        self.assertEqual((self.warnings, self.printed), ([], "1 connections, 0 of them incomplete\n"))
+        self.assertEqual((self.warnings, self.printed), ([], "1 connection, 0 of them incomplete\n"))
         self.assertEqual({verdict(path) for path in self.logs.iterdir()}, {"pass"})
 
     def test_ipv6_and_a_server_without_a_host(self) -> None:

@@ -22,11 +22,14 @@ from testing import PATIENCE, TOP, judge_program, wait_until
 
 JUDGE = Path(__file__).resolve().parent / "judge"
 STAND_IN = """#!/bin/sh
-# Says what the log's text says: its lines, and the last one's status.
-test "$1" = check || exit 3
-sed '$d' < "$2"
-exit "$(tail -n 1 "$2")"
+# Says what the log's text says after its first line: its lines, and the last one's status. It shows LOG.show.
+case "$1" in
+check) sed '1d;$d' < "$2"; exit "$(tail -n 1 "$2")" ;;
+show) test "$2 $3 $4" = "--faults --around 2" && test -f "$5.show" && exec cat "$5.show" ;;
+esac
+exit 3
 """
+LOG = "MQTR\n"  # as a log begins
 PASS = "pass 3 events\n0\n"
 FAIL = """fault 5 S01 MQTT-2.2.1-3 decided 5 record 5 offset -
 fault 7 W09 sec-2.2.1 decided 7 record 6 offset 2
@@ -50,7 +53,7 @@ class Case(unittest.TestCase):
 
     def put(self, **texts: str) -> None:
         for name, text in texts.items():
-            (self.logs / f"{name}.log").write_text(text)
+            (self.logs / f"{name}.log").write_text(LOG + text)
 
     def command(self, *words: object, program: object = None) -> list[str]:
         return [sys.executable, str(JUDGE), *map(str, words or [self.logs]), "--program", str(program or self.program)]
@@ -82,8 +85,10 @@ class Statuses(Case):
         self.program.write_text("#!/bin/sh\nkill -9 $$\n")
         status, printed, _ = self.judged()
         self.assertEqual((status, "the program ended with status -9" in printed), (4, True))
-        status, printed, _ = self.judged(program=self.folder / "none")
-        self.assertEqual((status, "No such file" in printed), (4, True))
+        for program in (self.folder / "none", self.folder):
+            status, printed, errors = self.judged(program=program)
+            self.assertEqual((status, printed), (3, ""))
+            self.assertEqual(errors.splitlines()[-1], f"judge: --program: {program} can't be run")
 
     def test_where_no_log_is(self) -> None:
         status, printed, errors = self.judged()
@@ -100,17 +105,45 @@ class Statuses(Case):
         with open("/dev/full", "w") as full:
             answer = subprocess.run(self.command(), stdout=full, stderr=subprocess.PIPE, text=True, timeout=PATIENCE)
         self.assertEqual((answer.returncode, answer.stderr), (4, "judge: [Errno 28] No space left on device\n"))
-        status, _, errors = self.judged(self.logs, "--junit", self.folder / "none" / "report.xml")
-        self.assertEqual((status, errors.count("\n")), (4, 1))
+
+    def test_a_report_that_cannot_be_written_is_misuse(self) -> None:
+        self.put(a=FAIL)
+        self.program.write_text(f"#!/bin/sh\ntouch {self.folder}/began\n")
+        for place in (self.folder / "none" / "report.xml", self.folder):
+            status, printed, errors = self.judged(self.logs, "--junit", place)
+            self.assertEqual((status, printed), (3, ""))
+            self.assertIn(f"judge: --junit: {place} can't be written: ", errors.splitlines()[-1])
+        self.assertFalse((self.folder / "began").exists())
+
+    def test_a_reader_that_goes(self) -> None:
+        self.put(**{f"log{number}": FAIL for number in range(300)})
+        with subprocess.Popen(self.command(), stdout=subprocess.PIPE, stderr=subprocess.PIPE, text=True) as child:
+            assert child.stdout is not None and child.stderr is not None
+            child.stdout.readline()
+            child.stdout.close()
+            self.assertEqual((child.stderr.read(), child.wait(PATIENCE)), ("", 4))
+
+    def test_an_empty_folder_beside_another(self) -> None:
+        self.put(a=PASS)
+        empty, other = self.folder / "empty", self.folder / "other"
+        empty.mkdir()
+        other.mkdir()
+        (other / "no.log").write_text("nothing")
+        report = self.folder / "report.xml"
+        status, printed, errors = self.judged(empty, self.logs, other, "--junit", report)
+        self.assertEqual((status, errors), (4, f"judge: no logs in {empty}\njudge: no logs in {other}\n"))
+        self.assertEqual(printed.splitlines()[-1], "1 log: 1 pass, 0 fail, 0 refused, 0 failed")
+        self.assertEqual(len([*ElementTree.parse(report).iter("error")]), 2)
 
 
 class Printed(Case):
     def test_what_is_not_a_pass_and_a_table(self) -> None:
         self.put(a=PASS, b=FAIL, c=REFUSED, d=FAIL)
-        faults = [f"  {line}" for line in FAIL.splitlines()[:2]]
+        first, second = FAIL.splitlines()[:2]
+        faults = ["  S01 MQTT-2.2.1-3 1 fault", f"    {first}", "  W09 sec-2.2.1 1 fault", f"    {second}"]
         wanted = [f"fail {self.logs}/b.log", *faults, f"refused {self.logs}/c.log", "  refused 7 Nested at 13"]
         wanted += [f"fail {self.logs}/d.log", *faults, "", "code   faults   logs  citation"]
-        wanted += ["S01         2      2  MQTT-2.2.1-3", "W09         2      2  sec-2.2.1", "refused 7 Nested: 1 logs"]
+        wanted += ["S01         2      2  MQTT-2.2.1-3", "W09         2      2  sec-2.2.1", "refused 7 Nested: 1 log"]
         wanted += ["", "4 logs: 1 pass, 2 fail, 1 refused, 0 failed"]
         self.assertEqual(self.judged()[1].splitlines(), wanted)
 
@@ -119,22 +152,59 @@ class Printed(Case):
         self.put(many=f"{fault}\n" * 1000 + "fail 1000 faults 2000 events\n1\n")
         for words, count in (([], 20), (["--most", "3"], 3), (["--most", "0"], 0), (["--most", "1000"], 1000)):
             printed = self.judged(self.logs, *words)[1].splitlines()
-            more = [f"  and {1000 - count} more"] if count < 1000 else []
-            self.assertEqual(printed[1 : count + 2 - (not more)], [f"  {fault}"] * count + more)
+            more = [f"    and {1000 - count} more"] if count < 1000 else []
+            wanted = ["  S01 MQTT-2.2.1-3 1000 faults", *[f"    {fault}"] * count, *more]
+            self.assertEqual(printed[1 : 1 + len(wanted)], wanted)
             self.assertIn("S01      1000      1  MQTT-2.2.1-3", printed)
 
     def test_files_and_folders_each_once(self) -> None:
         self.put(a=PASS, b=PASS)
         inner = self.logs / "inner" / "folder.log"
         inner.mkdir(parents=True)
-        (inner / "c.log").write_text(PASS)
+        (inner / "c.log").write_text(LOG + PASS)
         (inner / "d.txt").write_text(FAIL)
         status, printed, _ = self.judged(self.logs, self.logs / "a.log", inner)
         self.assertEqual((status, printed.splitlines()[-1]), (0, "3 logs: 3 pass, 0 fail, 0 refused, 0 failed"))
 
+    def test_what_a_fault_means(self) -> None:
+        self.put(a=FAIL)
+        events = [f"{number} record {number} SENT PINGREQ size 2" for number in range(1, 10)]
+        sentence = "  fault S01 MQTT-2.2.1-3 It takes no identifier. (decided at event 9)"
+        shown = [*events[:5], sentence, *events[5:7], "  fault W09 sec-2.2.1 It isn't 0. (offset 2)", *events[7:], ".."]
+        (self.logs / "a.log.show").write_text("\n".join(shown) + "\n")
+        report = self.folder / "report.xml"
+        printed = self.judged(self.logs, "--junit", report)[1].splitlines()
+        first, second = FAIL.splitlines()[:2]
+        wanted = ["S01 MQTT-2.2.1-3 1 fault: It takes no identifier.", f"  {first}"]
+        wanted += [f"    {line}" for line in shown[2:9]]
+        wanted += ["W09 sec-2.2.1 1 fault: It isn't 0.", f"  {second}", *(f"    {line}" for line in shown[4:11])]
+        self.assertEqual(printed[1 : 1 + len(wanted)], [f"  {line}" for line in wanted])
+        self.assertEqual((ElementTree.parse(report).findtext(".//failure") or "").splitlines(), wanted)
+
+    def test_files_of_a_folder_that_are_no_logs(self) -> None:
+        self.put(a=PASS)
+        (self.logs / "mosquitto.log").write_text("1700000000: mosquitto starting\npass 4 events\n0\n")
+        status, printed, _ = self.judged()
+        wanted = ["left out: 1 file of the folders that don't begin with MQTR"]
+        wanted += ["1 log: 1 pass, 0 fail, 0 refused, 0 failed"]
+        self.assertEqual((status, printed.splitlines()[-2:]), (0, wanted))
+        status, printed, _ = self.judged(self.logs / "mosquitto.log")  # one that is named is judged
+        self.assertEqual((status, printed.splitlines()), (0, ["", wanted[-1]]))
+
+    def test_files_that_are_named_and_are_no_logs(self) -> None:
+        self.program.write_text("#!/bin/sh\necho refused 1 Header at 0\nexit 2\n")
+        others = {b"\xd4\xc3\xb2\xa1": "it is a capture: recorders/from-capture makes logs of it"}
+        others |= {b"\x0a\x0d\x0d\x0a": others[b"\xd4\xc3\xb2\xa1"]}
+        others |= {b"\x1f\x8b\x08\0": "it is compressed by gzip: unpack it first"}
+        for content, note in others.items():
+            path = self.logs / "other"
+            path.write_bytes(content)
+            wanted = [f"refused {path}", "  refused 1 Header at 0", f"  {note}"]
+            self.assertEqual(self.judged(path)[1].splitlines()[:3], wanted)
+
     def test_names_that_are_no_text(self) -> None:
         for name in (b"\xff\xfe.log", b"line\nend.log", b"\x1b[31m.log", b"-.log", b"&<>\".log"):
-            Path(os.fsdecode(os.path.join(os.fsencode(self.logs), name))).write_text(FAIL)
+            Path(os.fsdecode(os.path.join(os.fsencode(self.logs), name))).write_text(LOG + FAIL)
         report = self.folder / "report.xml"
         self.assertEqual(self.judged(self.logs, "--junit", report)[0], 1)
         self.assertEqual(len([*ElementTree.parse(report).iter("testcase")]), 5)
@@ -160,8 +230,10 @@ class Reports(Case):
         (suite,) = ElementTree.parse(report).getroot()
         counts = {name: suite.get(name) for name in ("tests", "failures", "errors", "skipped")}
         self.assertEqual(counts, {"tests": "4", "failures": "1", "errors": "2", "skipped": "0"})
-        said = [[(part.tag, part.get("type"), part.get("message"), part.text) for part in case] for case in suite]
-        faults = "\n".join(FAIL.splitlines()[:2])
+        said = [[(part.tag, part.get("type"), part.get("message"), part.text) for part in case]
+                for case in suite.findall("testcase")]
+        first, second = FAIL.splitlines()[:2]
+        faults = f"S01 MQTT-2.2.1-3 1 fault\n  {first}\nW09 sec-2.2.1 1 fault\n  {second}"
         refused, broken = REFUSED.splitlines()[0], BROKEN.splitlines()[0]
         self.assertEqual(
             said,
@@ -172,7 +244,73 @@ class Reports(Case):
                 [("error", "failed", broken, broken)],
             ],
         )
-        self.assertEqual([case.get("name") for case in suite], ["a.log", "b.log", "c.log", "d.log"])
+        self.assertEqual(suite.findtext("system-out"), "4 logs: 1 pass, 1 fail, 1 refused, 1 failed")
+        self.assertEqual([case.get("name") for case in suite.findall("testcase")], ["a.log", "b.log", "c.log", "d.log"])
+
+
+class Policies(Case):
+    """What doesn't count for the status is counted in the last line."""
+
+    def last(self, *words: object) -> tuple[int, str]:
+        status, printed, _ = self.judged(self.logs, *words)
+        return status, printed.splitlines()[-1]
+
+    def baseline(self, *lines: str) -> Path:
+        path = self.folder / "known"
+        path.write_text("# known faults\n\n" + "".join(f"{self.logs}/{line}\n" for line in lines))
+        return path
+
+    def test_logs_that_are_too_short(self) -> None:
+        self.put(a=PASS, b="pass 2 events\n0\n")
+        passes = "2 logs: 2 pass (1 of them too short to say anything), 0 fail, 0 refused, 0 failed"
+        self.assertEqual(self.last(), (0, passes))
+        report = self.folder / "report.xml"
+        short = "2 logs: 1 pass, 0 fail, 0 refused, 0 failed, 1 too short"
+        self.assertEqual(self.last("--min-events", "3", "--junit", report), (1, short))
+        (failure,) = ElementTree.parse(report).iter("failure")
+        self.assertEqual(failure.get("message"), "too short to say anything: 2 events")
+        self.assertEqual(self.last("--min-events", "2")[0], 0)
+
+    def test_codes_that_are_ignored(self) -> None:
+        self.put(a=FAIL)
+        ends = "0 refused, 0 failed; ignored: "
+        self.assertEqual(self.last("--ignore", "w09"), (1, f"1 log: 0 pass, 1 fail, {ends}1 fault by --ignore"))
+        report = self.folder / "report.xml"
+        words = ("--ignore", "W09,S01", "--junit", report)
+        self.assertEqual(self.last(*words), (0, f"1 log: 1 pass, 0 fail, {ends}2 faults by --ignore"))
+        (skipped,) = ElementTree.parse(report).iter("skipped")
+        self.assertEqual(skipped.get("message"), "S01 1 fault (--ignore); W09 1 fault (--ignore)")
+        self.assertEqual(ElementTree.parse(report).getroot()[0].get("skipped"), "1")
+
+    def test_refusals_that_are_allowed(self) -> None:
+        self.put(a=REFUSED)
+        self.assertEqual(self.last("--allow-refused", "13")[0], 2)
+        wanted = "1 log: 1 pass, 0 fail, 0 refused, 0 failed; ignored: 1 refused log by --allow-refused"
+        self.assertEqual(self.last("--allow-refused", "13,7"), (0, wanted))
+
+    def test_only_new_faults_count(self) -> None:
+        self.put(a=FAIL)
+        for lines, status in ((["a.log S01 1", "a.log W09 1"], 0), (["a.log S01 1"], 1), (["b.log S01 1"], 1)):
+            self.assertEqual(self.last("--expect", self.baseline(*lines))[0], status, lines)
+        printed = self.judged(self.logs, "--expect", self.baseline("a.log S01 3", "a.log W09 1", "c.log S02 1"))[1]
+        wanted = [f"gone: {self.logs}/a.log S01: 3 faults expected, 1 found"]
+        wanted += [f"gone: {self.logs}/c.log S02: 1 fault expected, 0 found"]
+        wanted += ["1 log: 1 pass, 0 fail, 0 refused, 0 failed; ignored: 2 faults by --expect"]
+        self.assertEqual(printed.splitlines()[-3:], wanted)
+
+    def test_more_faults_than_are_known(self) -> None:
+        fault = FAIL.splitlines()[0]
+        self.put(a=f"{fault}\n{fault}\nfail 2 faults 9 events\n1\n")
+        status, printed, _ = self.judged(self.logs, "--expect", self.baseline("a.log S01 1"))
+        self.assertEqual(status, 1)
+        self.assertIn("  S01: 2 faults, 1 of them expected", printed.splitlines())
+
+    def test_misuse(self) -> None:
+        self.put(a=PASS)
+        bad = self.baseline("a.log S01")
+        none = self.folder / "none"
+        for words in (("--expect", bad), ("--expect", none), ("--ignore", "9"), ("--allow-refused", "x")):
+            self.assertEqual(self.judged(self.logs, *words)[0], 3, words)
 
 
 class Running(Case):
@@ -217,7 +355,8 @@ class Cut(Case):
             note = f"  it ends inside a record: judged are its first {whole} bytes"
             wanted += [f"pass {self.logs}/{size:02}.log", f"  pass {borders.index(whole)} events", note]
         self.assertEqual(printed.splitlines()[: len(wanted)], wanted)
-        self.assertEqual((status, printed.splitlines()[-1]), (0, "68 logs: 68 pass, 0 fail, 0 refused, 0 failed"))
+        last = "68 logs: 68 pass (35 of them too short to say anything), 0 fail, 0 refused, 0 failed"
+        self.assertEqual((status, printed.splitlines()[-1]), (0, last))
 
     def test_faults_before_the_cut_are_found(self) -> None:
         log = (TOP / "examples/identifier-in-use.log").read_bytes()
@@ -232,6 +371,8 @@ class Cut(Case):
         for size in range(8):
             (self.logs / f"{size}.log").write_bytes(b"MQTR\x01\0\0\0"[:size])
         status, printed, _ = self.judged(program=judge_program())
+        self.assertEqual((status, printed.splitlines()[-1]), (2, "4 logs: 0 pass, 0 fail, 4 refused, 0 failed"))
+        status, printed, _ = self.judged(*self.logs.iterdir(), program=judge_program())
         self.assertEqual((status, printed.splitlines()[-1]), (2, "8 logs: 0 pass, 0 fail, 8 refused, 0 failed"))
 
 

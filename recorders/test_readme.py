@@ -20,6 +20,7 @@ from typing import Any
 sys.dont_write_bytecode = True  # the repository stays as it is
 HERE = Path(__file__).resolve().parent
 sys.path.insert(0, str(HERE))
+from arguments import counted
 from testing import PAHO, PATHS, PATIENCE, TOP, broker, free_port, judge_program, missing
 
 SLOWER = 3
@@ -85,7 +86,8 @@ class Readme(unittest.TestCase):
         return answer.stdout
 
     def assert_passes(self, printed: str, count: int) -> None:
-        self.assertTrue(printed.endswith(f"{count} logs: {count} pass, 0 fail, 0 refused, 0 failed\n"), printed)
+        last = f"{counted(count, 'log')}: {count} pass, 0 fail, 0 refused, 0 failed"
+        self.assertEqual(printed.splitlines()[-1:], [last], printed)
 
     def test_there_are_four_ways_of_at_most_four_lines(self) -> None:
         self.assertEqual([*blocks()], ["A proxy", "A preloaded library", "A capture", "In a client"])

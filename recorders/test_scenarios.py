@@ -32,10 +32,12 @@ from peers import REST_SECONDS, Bench, Trouble, proxy, receive_packet
 from testing import (
     PAHO,
     PATIENCE,
+    accepts,
     broker,
     judge_program,
     make_certificate,
     missing_names,
+    process,
     wait_until,
 )
 
@@ -264,6 +266,31 @@ def silent(bench: Bench) -> None:
     wait_until(lambda: bench.log("sil").endswith(REST), "the client is at rest")
 
 
+def killed(bench: Bench) -> None:
+    """The broker is killed with a message in flight, and resumes from an older state: it sends it never again."""
+    resume = "10 15 0004 4D515454 05 00 003C 05 11 0000012C 0003 6F6C64"  # CONNECT, Clean Start 0, expiry 300 s: old
+    kept = Path(bench.broker.args[2]).parent / "mosquitto.db"  # beside its configuration
+    first = bench.raw(resume)
+    take_packets(first, "20")
+    first.sendall(bytes.fromhex("82 07 0001 00 0001 6B 01"))  # SUBSCRIBE to k at QoS 1
+    take_packets(first, "90")
+    bench.broker.send_signal(signal.SIGUSR1)
+    wait_until(lambda: kept.exists() and b"old" in kept.read_bytes(), "mosquitto keeps its state")
+    bench.publish("pub", "k", "-q", 1, "-m", "one")
+    take_packets(first, "32")
+    bench.broker.kill()
+    bench.broker.wait(PATIENCE)
+    wait_until(lambda: bench.log("old", "server").endswith(CLOSE), "the connection ends")
+    bench.stack.enter_context(process(*bench.broker.args))
+    wait_until(lambda: accepts(bench.broker_port), "mosquitto listens again")
+    second = bench.raw(resume)
+    take_packets(second, "20")
+    wait_until(lambda: bench.log("old", "server").endswith(REST), "the broker is at rest")
+    bench.publish("pub", "k", "-q", 1, "-m", "two")
+    second.sendall(bytes.fromhex("40 02") + receive_packet(second)[5:7])  # its PUBACK: the topic has one byte
+    second.sendall(bytes.fromhex("E0 00"))
+
+
 def broken(bench: Bench) -> None:
     """Bytes that are no MQTT, and a CONNECT that is broken."""
     for packet in ("C0 00", b"GET / HTTP/1.1\r\n\r\n".hex(), "10 0F 0004 4D515454 05 03 003C 00 0002 6261"):
@@ -330,6 +357,12 @@ SCENARIOS = {
         both("large.1", client="C14") | both("two.1", client="C17"),
         "max_packet_size 100\nmax_qos 1",
     ),
+    "killed": Scenario(
+        killed,
+        (TOOLS,),
+        both("old.1", server="S01,S06") | both("pub.1", "pub.2"),
+        "persistence true\npersistence_location PLACE/\nautosave_interval 0",
+    ),
     "silent": Scenario(silent, (), both("sil.1", client="E1R")),
     "broken": Scenario(broken, (), both("@unnamed.1", client="C02") | both("@unnamed.2") | both("ba.1", client="W19")),
 }
@@ -342,7 +375,8 @@ def run(scenario: Scenario, folder: Path) -> None:
     """Runs a scenario with a broker and a proxy of its own; the logs are in the folder."""
     with ExitStack() as stack, tempfile.TemporaryDirectory() as other:
         key, certificate = Path(other) / "key.pem", Path(other) / "certificate.pem"
-        settings, words, tls = scenario.settings + "\n", [], []
+        settings, words, tls = scenario.settings.replace("PLACE", other) + "\n", [], []
+        Path(other).chmod(0o777)  # mosquitto goes on as another user
         if scenario.has_client_tls or scenario.has_broker_tls:
             make_certificate(key, certificate)
             for path in (certificate.parent, certificate, key):
@@ -356,7 +390,7 @@ def run(scenario: Scenario, folder: Path) -> None:
         broker_port, child = stack.enter_context(broker(Path(other), settings))
         port = stack.enter_context(proxy(folder, broker_port, *words))
         with ExitStack() as inner:
-            scenario.run(Bench(port, folder, inner, child, tls))
+            scenario.run(Bench(port, folder, inner, child, broker_port, tls))
         time.sleep(0.2)
 
 
@@ -372,6 +406,7 @@ def codes_of(folder: Path, program: str) -> dict[str, str]:
         said = {part.tag: part.get("message", "") for part in case}
         names = said.get("failure", "").partition(": ")[2].replace(", ", ",")
         codes[case.get("name", "").removesuffix(".log")] = names + said.get("error", "")
+    codes.pop("(no logs)", None)
     return codes
 
 

@@ -1,0 +1,1 @@
+"""What `recorders/judge` is made of."""

@@ -1,0 +1,63 @@
+"""Which logs are meant by the files and folders that a user names."""
+from __future__ import annotations
+
+from collections.abc import Iterable
+from dataclasses import dataclass, field
+from pathlib import Path
+
+MARK = b"MQTR"  # the first bytes of each log
+CAPTURE = "it is a capture: recorders/from-capture makes logs of it"
+COMPRESSED = "it is compressed by gzip: unpack it first"
+OTHERS = {  # what else a file may be, by its first bytes
+    b"\xd4\xc3\xb2\xa1": CAPTURE,
+    b"\xa1\xb2\xc3\xd4": CAPTURE,
+    b"\x4d\x3c\xb2\xa1": CAPTURE,
+    b"\xa1\xb2\x3c\x4d": CAPTURE,
+    b"\x0a\x0d\x0d\x0a": CAPTURE,
+    b"\x1f\x8b": COMPRESSED,
+}
+
+
+@dataclass
+class Found:
+    """The logs of some places."""
+
+    logs: list[Path] = field(default_factory=list)  # each once
+    empty: list[Path] = field(default_factory=list)  # folders that have none
+    left_out: int = 0  # files of the folders that are no logs, whatever they are called
+
+
+def is_log(path: Path) -> bool:
+    """A file that begins as a log does. One that can't be read may be one: the program says what is wrong with it."""
+    try:
+        with path.open("rb") as file:
+            return file.read(len(MARK)) == MARK
+    except OSError:
+        return True
+
+
+def what_else(path: Path) -> str | None:
+    """What a file is that isn't a log, and what to do with it, where its first bytes tell."""
+    try:
+        with path.open("rb") as file:
+            first = file.read(len(MARK))
+    except OSError:
+        return None
+    return next((text for mark, text in OTHERS.items() if first.startswith(mark)), None)
+
+
+def find_logs(places: Iterable[Path]) -> Found:
+    """The files that are named, and the logs in the folders that are named."""
+    logs: dict[Path, None] = {}
+    others: set[Path] = set()
+    found = Found()
+    for place in places:
+        inside = [place]
+        if place.is_dir():
+            files = sorted(path for path in place.rglob("*.log") if path.is_file())
+            inside = [path for path in files if is_log(path)]
+            others.update(set(files) - set(inside))
+            found.empty += [] if inside else [place]
+        logs.update(dict.fromkeys(inside))
+    found.logs, found.left_out = list(logs), len(others - set(logs))
+    return found

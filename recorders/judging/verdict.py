@@ -1,0 +1,101 @@
+"""What the program said of a log, and what the policy made of it."""
+from __future__ import annotations
+
+import re
+import sys
+from collections import Counter
+from dataclasses import dataclass, field
+from pathlib import Path
+
+HERE = Path(__file__).resolve().parent
+sys.path.insert(0, str(HERE.parent))
+from arguments import counted  # noqa: E402
+
+PASSED, FAULTS, REFUSED, FAILED = 0, 1, 2, 4
+TOO_SHORT = 5  # no status of the program: a pass of too few events to say anything
+WORDS = {PASSED: "pass", FAULTS: "fail", REFUSED: "refused", FAILED: "failed", TOO_SHORT: "too short"}
+SHORT = 3  # events that a connection takes to open: OPEN, CONNECT, CONNACK
+ENDING = re.compile(r"(?:pass|fail \d+ faults) (\d+) events")
+
+
+def show(text: object) -> str:
+    """A text that can be printed, whatever a file's name holds."""
+    return str(text).encode("utf-8", "replace").decode()
+
+
+@dataclass
+class Verdict:
+    """What the program said of a log: its first lines, the last one, and how often each code came."""
+
+    path: Path
+    status: int = FAILED
+    first: list[str] = field(default_factory=list)
+    last: str = "it said nothing"
+    count: int = 0  # lines
+    faults: Counter[str] = field(default_factory=Counter)  # of each code with its citation
+    positions: dict[str, int] = field(default_factory=dict)  # of each code's first fault
+    whole: int | None = None  # bytes that were judged, where the log ends inside a record
+    seconds: float = 0.0
+    ignored: list[str] = field(default_factory=list)  # what the policy left out of the status, and why
+    notes: list[str] = field(default_factory=list)  # what else there is to say of it
+    sentences: dict[str, str] = field(default_factory=dict)  # what each code says
+    excerpts: dict[str, list[str]] = field(default_factory=dict)  # what happened around each code's first fault
+
+    def take(self, line: str, most: int) -> None:
+        """Takes in the program's next line. No more than `most` of them are kept, and the last one."""
+        words = line.split()
+        if words[:1] == ["fault"] and len(words) > 3:
+            self.faults[" ".join(words[2:4])] += 1
+            if words[1].isdigit():
+                self.positions.setdefault(words[2], int(words[1]))
+        if len(self.first) < most:
+            self.first.append(line)
+        self.last, self.count = line, self.count + 1
+
+    @property
+    def events(self) -> int | None:
+        """How many the log has; None where it wasn't judged."""
+        ending = ENDING.fullmatch(self.last)
+        return int(ending[1]) if ending else None
+
+    @property
+    def is_short(self) -> bool:
+        """It is a pass of a log in which no connection was opened."""
+        return self.status == TOO_SHORT or (self.status == PASSED and self.events is not None and self.events < SHORT)
+
+    @property
+    def refusal(self) -> str:
+        """Why the log was refused, without the place."""
+        return self.last.partition(" at ")[0]
+
+    @property
+    def headline(self) -> str:
+        if self.status == TOO_SHORT:
+            return f"too short to say anything: {counted(self.events or 0, 'event')}"
+        if self.status != FAULTS:
+            return self.last
+        codes = ", ".join(sorted({code.split()[0] for code in self.faults}))
+        return f"{counted(self.faults.total(), 'fault')}: {codes}"
+
+    @property
+    def lines(self) -> list[str]:
+        """The lines that explain the verdict."""
+        if self.status == FAULTS:
+            kept = [line for code in sorted(self.faults) for line in self._explained(code)]
+        elif self.status == TOO_SHORT:
+            kept = [self.headline]
+        else:
+            kept = self.first + ([f"and {self.count - len(self.first)} more"] if self.count > len(self.first) else [])
+        notes = [*(f"ignored: {text}" for text in self.ignored), *self.notes]
+        if self.whole is not None:
+            notes.append(f"it ends inside a record: judged are its first {self.whole} bytes")
+        return kept + notes
+
+    def _explained(self, key: str) -> list[str]:
+        """A code's faults: how many, what they mean, the first of them, and what happened around the very first."""
+        code, count = key.split()[0], self.faults[key]
+        sentence = f": {self.sentences[code]}" if code in self.sentences else ""
+        kept = [line for line in self.first if line.startswith("fault ") and line.split()[2] == code]
+        more = [f"  and {count - len(kept)} more"] if count > len(kept) else []
+        excerpt = [f"    {line}" for line in self.excerpts.get(code, ())]
+        return [f"{key} {counted(count, 'fault')}{sentence}", *(f"  {line}" for line in kept), *more, *excerpt]

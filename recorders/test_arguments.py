@@ -1,0 +1,92 @@
+#!/usr/bin/env python3
+"""Tests of the command lines of all scripts: misuse has one status, and is refused before any work is done.
+
+usage: recorders/test_arguments.py
+"""
+from __future__ import annotations
+
+import subprocess
+import sys
+import tempfile
+import unittest
+from pathlib import Path
+
+HERE = Path(__file__).resolve().parent
+sys.dont_write_bytecode = True  # the repository stays as it is
+sys.path.insert(0, str(HERE))
+from test_capture import Conversation, Wire
+from testing import PATIENCE, missing
+
+MISUSE = 3
+PROXY = ("proxy", "--listen", "127.0.0.1:1", "--broker", "127.0.0.1:2", "--out")
+
+
+class Case(unittest.TestCase):
+    def setUp(self) -> None:
+        place = tempfile.TemporaryDirectory()
+        self.addCleanup(place.cleanup)
+        self.place = Path(place.name)
+        self.logs = self.place / "logs"
+
+    def called(self, script: str, *words: object) -> tuple[int, str]:
+        """The status of a script, and the last line that it writes to standard error."""
+        command = [sys.executable, str(HERE / script), *map(str, words)]
+        answer = subprocess.run(command, capture_output=True, text=True, timeout=PATIENCE)
+        return answer.returncode, (answer.stderr.splitlines() or [""])[-1]
+
+
+class Misuse(Case):
+    def test_it_has_one_status(self) -> None:
+        scripts = ("judge", "proxy", "from-capture", "preload/run", "preload/assemble", "test")
+        for script in scripts:
+            self.assertEqual(self.called(script, "--no-such-option")[0], MISUSE, script)
+
+    def test_no_time_of_silence(self) -> None:
+        for value in ("0", "-1", "nan", "soon"):
+            calls = [
+                ("preload/run", "-o", self.logs, "--rest", value, "--", "touch", self.place / "began"),
+                ("preload/assemble", self.logs, "--rest", value),
+                ("from-capture", "none.pcap", "--server", ":1883", "--out", self.logs, "--rest", value),
+                (*PROXY, self.logs, "--rest", value),
+            ]
+            for script, *words in calls:
+                status, line = self.called(script, *words)
+                self.assertEqual(status, MISUSE, script)
+                self.assertTrue(line.endswith(f"argument --rest: {value!r} isn't a number of seconds above 0"), line)
+        self.assertEqual([*self.place.iterdir()], [])
+
+    def test_the_dashes_before_a_program(self) -> None:
+        status, line = self.called("preload/run", "-o", self.logs, "touch", self.place / "began")
+        self.assertEqual((status, line), (MISUSE, "run: -- is missing: it goes before the program and its arguments"))
+        self.assertEqual([*self.place.iterdir()], [])
+
+
+class Captures(Case):
+    def test_a_missing_file(self) -> None:
+        words = ("--server", ":1883", "--out", self.logs)
+        status, line = self.called("from-capture", self.place / "none.pcap", *words)
+        self.assertEqual((status, line), (1, f"from-capture: {self.place}/none.pcap isn't a file"))
+        self.assertFalse(self.logs.exists())
+
+    @unittest.skipIf(missing("tshark"), missing("tshark"))
+    def test_a_port_that_no_connection_has(self) -> None:
+        wire, capture = Wire(), self.place / "session.pcap"
+        Conversation(wire, "10.0.0.2").accepted().close()
+        wire.write(capture)
+        status, line = self.called("from-capture", capture, "--server", ":1884", "--out", self.logs)
+        wanted = f"from-capture: no connection to the server, port 1884, is in {capture}: connections begin to 1883"
+        self.assertEqual((status, line), (1, wanted))
+
+
+class Paho(Case):
+    def test_a_python_that_does_not_see_it(self) -> None:
+        command = [sys.executable, "-S", "-B", "-c", "import paho_recorder"]  # without the packages of the site
+        answer = subprocess.run(command, cwd=HERE, capture_output=True, text=True, timeout=PATIENCE)
+        self.assertEqual(answer.returncode, 1)
+        line = answer.stderr.splitlines()[-1]
+        self.assertIn(f"this Python ({sys.executable}) doesn't see paho-mqtt", line)
+        self.assertIn("-m pip install paho-mqtt", line)
+
+
+if __name__ == "__main__":
+    unittest.main()
