@@ -27,14 +27,14 @@ returns-in_default-clause-verdict c = λ log h.
     let k : Follows (judge_of c.self.inside.limit c.self.inside.tested c.self.inside.tracer (reverse c.self.inside.notes.seen.items)) log
     = subst (λ (j : Judged). Follows j log) (sym c.self.view_is) h in
     let traced : IsTracedTo c.finish.new.self log = subst (λ (t : Traced). IsTracedTo t log) (sym c.in_ok-finish.ensures.same) k.traced in
-    inl (cut_unnamed log (sym c.in_default.is ∙ k.knows.tested), ap refusals.Cut (c.byte_count-at.ensures log traced))
+    inl (cut_unnamed log (sym c.in_default.is ∙ k.knows.tested), ap refusals.Cut (c.byte_count-at.ensures.follows log traced))
 
 pub returns-in_err-map_err-clause-verdict : goal.returns-in_err-map_err-clause-verdict
 returns-in_err-map_err-clause-verdict c = λ log h.
     let k : Follows (judge_of c.self.inside.limit c.self.inside.tested c.self.inside.tracer (reverse c.self.inside.notes.seen.items)) log
     = subst (λ (j : Judged). Follows j log) (sym c.self.view_is) h in
     let traced : IsTracedTo c.finish.new.self log = subst (λ (t : Traced). IsTracedTo t log) (sym c.in_ok-finish.ensures.same) k.traced in
-    let at : c.byte_count-at.result ≡ length log = c.byte_count-at.ensures log traced in
+    let at : c.byte_count-at.result ≡ length log = c.byte_count-at.ensures.follows log traced in
     let whole = c.in_ok-finish.ensures.ends log k.traced in
     let p = err_from_is_err_and c.from_residual-in_err-map_err.result c.from_residual-in_err-map_err.ensures.1 in
     let memory : c.in_err-map_err.field-0.0 ≡ refusals.Memory c.byte_count-at.result = search rules in
