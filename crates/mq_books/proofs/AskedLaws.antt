@@ -1,6 +1,7 @@
 -- What an answer answers, under a fate: for A.
-use Rattle.std.proofs.Common.{◌≡◌, ℕ, ◌+◌, ◌<◌, ◌≤◌, ◌==◌, arith, Bool, true, false, cond, ◌&&◌, ◌||◌, not, List, [], ◌∷◌, Option, Some, None, refl, ap, sym, ◌∙◌, inl, inr}
-use Rattle.std.proofs.lemmas.Bool.{eq-eqb}
+use Rattle.std.proofs.Common.{◌≡◌, ℕ, ◌+◌, ◌<◌, ◌≤◌, ◌==◌, length, arith, Bool, true, false, cond, ◌&&◌, ◌||◌, not, List, [], ◌∷◌, Option, Some, None, refl, ap, sym, ◌∙◌, inl, inr}
+use Rattle.std.specs.Prelude.{is_some, option_map}
+use Rattle.std.proofs.lemmas.Bool.{eq-eqb, lt-ltb, le-ltb}
 use Rattle.mq_rules.specs.declared.role.Role.{Role}
 use Rattle.mq_rules.specs.declared.role.Tested.{Tested}
 use Rattle.mq_rules.specs.declared.fate.Fate.{Fate}
@@ -13,28 +14,20 @@ use Rattle.mq_rules.specs.Moments.{Moment, since, is_next, Among}
 use Rattle.mq_rules.specs.Connections.{begun, number, latest_fate, accepts, begins, voided, any_accepted, has_session, session}
 use Rattle.mq_rules.specs.Folds.{session_since, gained}
 use Rattle.mq_rules.specs.Exchanges.{Exchange, causes, answers, breaks_A}
-use Rattle.mq_rules.specs.Rules.{binds}
+use Rattle.mq_rules.specs.Rules.{binds, same_rule}
+use Rattle.mq_rules.specs.Faults.{offset_of}
+use Rattle.mq_rules.specs.FaultKeys.{FaultMap}
 use Rattle.mq_rules.specs.Statements.{statement, in_session}
 use Rattle.mq_rules.proofs.Exports.{and_false, begun-closed, begun-open-of-given as begun-open, differ, session-members, session_since-next}
 use Rattle.mq_rules.specs.Under.{fate_before, turns_with}
-use Rattle.mq_books.proofs.JudgeLaws.{session-turns_with}
+use Rattle.mq_rules.specs.Growing.{Gains}
+use Rattle.mq_books.specs.Quotas.{judged_by}
+use Rattle.mq_books.specs.Answering.{IsApart}
+use Rattle.mq_books.specs.Askings.{caused, owed, is_before, answered_next, is_unasked, IsAsked}
+use Rattle.mq_books.proofs.JudgeLaws.{session-turns_with, gains_judged}
 use Rattle.mq_books.proofs.VoidLaws.{numbers}
 
--- neither an OPEN nor a RELEASE is a cause or an answer
-pub record IsOfPackets (x : Exchange) : Type 0 where
-  pub none : (n : Note) → (is_open n || is_release n) ≡ true → (x.cause n ≡ None) × (x.answer n ≡ None)
-
-answered_on : Exchange → ℕ → ℕ → Moment → Bool
-answered_on x i c j = answers x i j && (number j == c)
-
--- causes of the session, and those without an answer on the latest connection since
-abbrev pub caused : Role → Exchange → ℕ → Option Fate → List Seen → Bool
-caused role x i taken past = session_since role (causes x i) (λ j. false) taken past
-
-abbrev pub owed : Role → Exchange → ℕ → Option Fate → List Seen → Bool
-owed role x i taken past = session_since role (causes x i) (λ j. answers x i j && (number j == begun past)) taken past
-
-pub owed_next : Fate → Note → Bool → Bool → Bool → Bool → Bool
+abbrev pub owed_next : Fate → Note → Bool → Bool → Bool → Bool → Bool
 owed_next f n s t all old = cond (is_open n) (not (begins (Some f)) && all) (cond (accepts f) (s || (not t && old)) old)
 
 since-never : (starts ends : Moment → Bool) (ms : List Moment) → ((m : Moment) → Among m ms → ends m ≡ false) → since starts ends ms ≡ since starts (λ j. false) ms
@@ -47,10 +40,9 @@ fresh role x i c taken past lt = since-never (causes x i) (λ j. answers x i j &
     let le : number m ≤ begun past = numbers past m (session-members role taken past m a).0 in
     ap (λ b. answers x i m && b) (differ (number m) c (λ is. omega arith)) ∙ and_false (answers x i m))
 
-pub owed-next : (tested : Tested) (x : Exchange) → IsOfPackets x → (i : ℕ) (f : Fate) (e : Seen) (past : List Seen)
+pub owed-next : (tested : Tested) (x : Exchange) → IsApart x → (i : ℕ) (f : Fate) (e : Seen) (past : List Seen)
     → owed tested.role x i (Some f) (e ∷ past)
     ≡ owed_next f e.note (is_id i (x.cause e.note)) (is_id i (x.answer e.note)) (caused tested.role x i (fate_before tested f e past) past) (owed tested.role x i (fate_before tested f e past) past)
-unfolding owed_next
 owed-next tested x packets i f e past =
     session_since-next tested.role (causes x i) (λ j. answers x i j && (number j == begun (e ∷ past))) (Some f) e past
     ∙ ap (λ b. gained (has_session tested.role (Some f) e past) s (t && b) (cond (is_open e.note) (not (begins (Some f)) && with_number (begun (e ∷ past)) (latest_fate tested.role past)) (with_number (begun (e ∷ past)) (Some f)))) (eq-eqb (begun (e ∷ past)) (begun (e ∷ past)) refl)
@@ -95,7 +87,7 @@ owed-next tested x packets i f e past =
         ∙ ap (λ c. gained (accepts f) s t (with_number c (Some f))) (begun-closed e past n)
 
 -- the pairs
-pub A-turns : (tested : Tested) (rule : Rule) (x : Exchange) → IsOfPackets x → statement tested.role rule ≡ in_session (breaks_A x tested.role) → (f : Fate) (e : Seen) (past : List Seen) (k : ℕ)
+pub A-turns : (tested : Tested) (rule : Rule) (x : Exchange) → IsApart x → statement tested.role rule ≡ in_session (breaks_A x tested.role) → (f : Fate) (e : Seen) (past : List Seen) (k : ℕ)
     → turns_with tested f e past k rule ≡ (is_next past k && (binds rule tested && (accepts f && is_some_and (λ i. not (owed tested.role x i (fate_before tested f e past) past)) (x.answer e.note))))
 unfolding breaks_A
 A-turns tested rule x packets says f e past k =
@@ -113,3 +105,124 @@ A-turns tested rule x packets says f e past k =
         let none = (packets.none e.note (ap (λ b. b || is_release e.note) n)).1 in
         ap (is_some_and (lacks (begun (e ∷ past)))) none ∙ sym (ap (is_some_and (λ i. not (owed tested.role x i (latest_fate tested.role past) past))) none)
     go false n = same (lacks (begun (e ∷ past))) (lacks (begun past)) (x.answer e.note) (λ i. ap (λ c. lacks c i) (begun-closed e past n))
+
+-- ---- what is kept
+
+-- the same without answers
+caused-next : (tested : Tested) (x : Exchange) → IsApart x → (i : ℕ) (f : Fate) (e : Seen) (past : List Seen)
+    → caused tested.role x i (Some f) (e ∷ past)
+    ≡ cond (is_open e.note) (not (begins (Some f)) && caused tested.role x i (fate_before tested f e past) past) (cond (accepts f) (is_id i (x.cause e.note) || caused tested.role x i (fate_before tested f e past) past) (caused tested.role x i (fate_before tested f e past) past))
+caused-next tested x packets i f e past = session_since-next tested.role (causes x i) (λ j. false) (Some f) e past ∙ go (is_open e.note) refl
+  where
+    s : Bool
+    s = is_id i (x.cause e.note)
+
+    then : Option Fate → Bool
+    then o = caused tested.role x i o past
+
+    idle : (is_open e.note || is_release e.note) ≡ true → (b y : Bool) → gained b s false y ≡ y
+    idle n true y = ap (λ o. is_id i o || y) (packets.none e.note n).0
+    idle n false y = refl
+
+    or_true : (b : Bool) → (b || true) ≡ true
+    or_true true = refl
+    or_true false = refl
+
+    apart : (a r y z : Bool) → is_release e.note ≡ r → gained (a || (r && y)) s false z ≡ gained a s false z
+    apart true r y z n = refl
+    apart false true true z n = idle (ap (λ b. is_open e.note || b) n ∙ or_true (is_open e.note)) true z
+    apart false true false z n = refl
+    apart false false y z n = refl
+
+    go : (b : Bool) → is_open e.note ≡ b → gained (has_session tested.role (Some f) e past) s false (cond b (not (begins (Some f)) && then (latest_fate tested.role past)) (then (Some f)))
+        ≡ cond b (not (begins (Some f)) && then (cond b (latest_fate tested.role past) (Some f))) (cond (accepts f) (s || then (cond b (latest_fate tested.role past) (Some f))) (then (cond b (latest_fate tested.role past) (Some f))))
+    go true n = idle (ap (λ b. b || is_release e.note) n) (has_session tested.role (Some f) e past) (not (begins (Some f)) && then (latest_fate tested.role past))
+    go false n = apart (accepts f) (is_release e.note) (voided (Some f) && any_accepted tested.role (Some f) past) (then (Some f)) refl
+
+pub asked-next : (tested : Tested) (x : Exchange) (f fate : Fate) (opened now : ℕ) (answered next : ℕ → Option ℕ) (e : Seen) (past : List Seen) → IsApart x → e.place.position ≡ length past + 1
+    → IsAsked x fate opened answered tested (fate_before tested f e past) past → now ≡ cond (is_open e.note) e.place.position opened
+    → ((i : ℕ) → next i ≡ answered_next f e.note (x.cause e.note) (x.answer e.note) e.place.position i (answered i))
+    → IsAsked x f now next tested (Some f) (e ∷ past)
+asked-next tested x f fate opened now answered next e past packets placed q is grown = record {
+  same_fate = refl;
+  counted = positive (is_open e.note) is;
+  opened_within = within (is_open e.note) is;
+  answered_within = λ i s h. kept i s (is_open e.note) (begins (Some f)) (accepts f) (is_id i (x.cause e.note)) (is_id i (x.answer e.note)) (answered i) refl (sym (grown i) ∙ h);
+  caused_are = λ i.
+      ap is_some (grown i) ∙ some_kept (is_open e.note) (begins (Some f)) (accepts f) (is_id i (x.cause e.note)) (is_id i (x.answer e.note)) (answered i)
+      ∙ ap (λ b. cond (is_open e.note) (not (begins (Some f)) && b) (cond (accepts f) (is_id i (x.cause e.note) || b) b)) (q.caused_are i) ∙ sym (caused-next tested x packets i f e past);
+  owed_are = λ i.
+      ap (is_before now) (grown i)
+      ∙ ap (λ n. is_before n (answered_next f e.note (x.cause e.note) (x.answer e.note) e.place.position i (answered i))) is
+      ∙ before_kept i (is_open e.note) (begins (Some f)) (accepts f) (is_id i (x.cause e.note)) (is_id i (x.answer e.note)) (answered i) refl
+      ∙ ap (λ b. cond (is_open e.note) (not (begins (Some f)) && b) (cond (accepts f) (is_id i (x.cause e.note) || (not (is_id i (x.answer e.note)) && is_before opened (answered i))) (is_before opened (answered i)))) (q.caused_are i)
+      ∙ ap (owes_then i) (q.owed_are i) ∙ sym (owed-next tested x packets i f e past ∙ plain i);
+}
+  where
+    owes_then : ℕ → Bool → Bool
+    owes_then i b = cond (is_open e.note) (not (begins (Some f)) && caused tested.role x i (fate_before tested f e past) past) (cond (accepts f) (is_id i (x.cause e.note) || (not (is_id i (x.answer e.note)) && b)) b)
+
+    plain : (i : ℕ) → owed_next f e.note (is_id i (x.cause e.note)) (is_id i (x.answer e.note)) (caused tested.role x i (fate_before tested f e past) past) (owed tested.role x i (fate_before tested f e past) past) ≡ owes_then i (owed tested.role x i (fate_before tested f e past) past)
+    plain i = refl
+
+    positive : (b : Bool) → now ≡ cond b e.place.position opened → 0 < now
+    positive true h = omega arith
+    positive false h = let c = q.counted in omega arith
+
+    within : (b : Bool) → now ≡ cond b e.place.position opened → now ≤ length (e ∷ past) + 1
+    within true h = omega arith
+    within false h = let c = q.opened_within in omega arith
+
+    kept : (i s : ℕ) (b g a c t : Bool) (o : Option ℕ) → answered i ≡ o → cond b (cond g None o) (cond a (cond c (Some 0) (cond t (option_map (λ s. e.place.position) o) o)) o) ≡ Some s → s ≤ length (e ∷ past)
+    kept i s b g a c t o p h = go b g a c t o p h
+      where
+        old : (m : ℕ) → answered i ≡ Some m → m ≡ s → s ≤ length (e ∷ past)
+        old m p h = let w = q.answered_within i m p in omega arith
+
+        go : (b g a c t : Bool) (o : Option ℕ) → answered i ≡ o → cond b (cond g None o) (cond a (cond c (Some 0) (cond t (option_map (λ s. e.place.position) o) o)) o) ≡ Some s → s ≤ length (e ∷ past)
+        go true true a c t o p h = absurd (cc)
+        go true false a c t None p h = absurd (cc)
+        go true false a c t (Some m) p h = let same : m ≡ s = cc in old m p same
+        go false g true true t o p h = let same : 0 ≡ s = cc in omega arith
+        go false g true false true None p h = absurd (cc)
+        go false g true false true (Some m) p h = let same : e.place.position ≡ s = cc in omega arith
+        go false g true false false None p h = absurd (cc)
+        go false g true false false (Some m) p h = let same : m ≡ s = cc in old m p same
+        go false g false c t None p h = absurd (cc)
+        go false g false c t (Some m) p h = let same : m ≡ s = cc in old m p same
+
+    some_kept : (b g a c t : Bool) (o : Option ℕ) → is_some (cond b (cond g None o) (cond a (cond c (Some 0) (cond t (option_map (λ s. e.place.position) o) o)) o)) ≡ cond b (not g && is_some o) (cond a (c || is_some o) (is_some o))
+    some_kept true true a c t o = refl
+    some_kept true false a c t o = refl
+    some_kept false g true true t o = refl
+    some_kept false g true false true None = refl
+    some_kept false g true false true (Some m) = refl
+    some_kept false g true false false o = refl
+    some_kept false g false c t o = refl
+
+    before_kept : (i : ℕ) (b g a c t : Bool) (o : Option ℕ) → answered i ≡ o
+        → is_before (cond b e.place.position opened) (cond b (cond g None o) (cond a (cond c (Some 0) (cond t (option_map (λ s. e.place.position) o) o)) o))
+        ≡ cond b (not g && is_some o) (cond a (c || (not t && is_before opened o)) (is_before opened o))
+    before_kept i true true a c t o p = refl
+    before_kept i true false a c t None p = refl
+    before_kept i true false a c t (Some m) p = let w = q.answered_within i m p in lt-ltb m e.place.position (omega arith)
+    before_kept i false g true true t o p = lt-ltb 0 opened q.counted
+    before_kept i false g true false true None p = refl
+    before_kept i false g true false true (Some m) p = let w = q.opened_within in le-ltb e.place.position opened (omega arith)
+    before_kept i false g true false false o p = refl
+    before_kept i false g false c t o p = refl
+
+-- the faults
+pub asked-gains : (tested : Tested) (rule : Rule) (x : Exchange) → IsApart x → statement tested.role rule ≡ in_session (breaks_A x tested.role) → (f fate : Fate) (opened : ℕ) (answered : ℕ → Option ℕ) (at : ℕ) (e : Seen) (past : List Seen) (m : FaultMap) (bound b : Bool)
+    → e.place.position ≡ length past + 1 → IsAsked x fate opened answered tested (fate_before tested f e past) past → bound ≡ binds rule tested → b ≡ (bound && is_unasked f opened (x.answer e.note) answered)
+    → Gains (λ k r. same_rule r rule && turns_with tested f e past k r) tested (e ∷ past) at m (judged_by b rule e.place at m)
+asked-gains tested rule x packets says f fate opened answered at e past m bound b placed q binding is =
+    gains_judged tested rule f e past at m b (λ m. ap (λ s. offset_of s m) says) placed (λ k.
+    A-turns tested rule x packets says f e past k
+    ∙ ap (λ c. is_next past k && (binds rule tested && (accepts f && c))) (sym (same (x.answer e.note)))
+    ∙ ap (λ c. is_next past k && (c && is_unasked f opened (x.answer e.note) answered)) (sym binding)
+    ∙ ap (λ c. is_next past k && c) (sym is))
+  where
+    same : (o : Option ℕ) → is_some_and (λ i. not (is_before opened (answered i))) o ≡ is_some_and (λ i. not (owed tested.role x i (fate_before tested f e past) past)) o
+    same None = refl
+    same (Some i) = ap not (q.owed_are i)

@@ -5,24 +5,28 @@ use Rattle.std.specs.Option.{option_or}
 use mathlib.Core.List.{reverse_aux}
 use denote.Enum.Bare.{same_true}
 use Rattle.mq_rules.specs.contracts.rule.Rule.{the_type}
+use Rattle.mq_rules.specs.declared.role.Role.{Role}
 use Rattle.mq_rules.specs.declared.role.Tested.{Tested}
 use Rattle.mq_rules.specs.declared.fate.Fate.{Fate}
 use Rattle.mq_rules.specs.declared.rule.Rule.{Rule}
-use Rattle.mq_rules.specs.declared.rule.Rule.TheVariants.{S01, S07, E1R, E7R}
+use Rattle.mq_rules.specs.declared.rule.Rule.TheVariants.{W01, S07, E1A, E1R, E1O, E2A, E2R, E2O, E3A, E3R, E3O, E4A, E4R, E5A, E5R, E6A, E6R, E7R, L1, L2, L3, B01, B02, B03, B04}
 use Rattle.mq_rules.specs.declared.fault.Fault.{Fault}
 use Rattle.mq_rules.specs.declared.note.Seen.{Seen}
 use Rattle.mq_rules.specs.Moments.{moment, IsPlaced}
 use Rattle.mq_rules.specs.Connections.{latest_fate}
+use Rattle.mq_rules.specs.Words.{is_some_and}
 use Rattle.mq_rules.specs.Rules.{same_rule}
 use Rattle.mq_rules.specs.Statements.{is_on_bytes}
 use Rattle.mq_rules.specs.Steps.{turns}
 use Rattle.mq_rules.specs.FaultKeys.{FaultMap, fault_at}
 use Rattle.mq_rules.specs.Faults.{reported, fault_in}
 use Rattle.mq_rules.specs.Keeping.{news, GrowsBy, GrowsByWithin}
-use Rattle.mq_rules.proofs.Exports.{beginning, fault_in-start, fault_in-step, newest-first, or_parts}
+use Rattle.mq_rules.proofs.Exports.{and_false, beginning, fault_in-start, fault_in-step, newest-first, or_parts}
 use Rattle.mq_rules.specs.Under.{is_on_session, IsInTurn, Follows}
 use Rattle.mq_rules.specs.Growing.{added, Gains, GainsWithin}
-use Rattle.mq_books.specs.Judging.{IsWhole, Knows}
+use Rattle.mq_books.specs.Judging.{IsWhole}
+use Rattle.mq_books.specs.Holding.{turns_session}
+use Rattle.mq_books.specs.Using.{is_inflight}
 
 tails : (P : List Seen → Type 0) → ((e : Seen) (past : List Seen) → P (e ∷ past) → P past) → (later past : List Seen) → P (reverse_aux later past) → P past
 tails P tail [] past h = h
@@ -52,63 +56,3 @@ whole-within takes adds chosen tested e past old new w g = record { each = λ k 
         → (fault_at new k r ≡ fault_at old k r) ⊎ (fault_at new k r ≡ option_or (fault_at old k r) (news chosen tested e past k r))
     go k r (inl h) = inl h
     go k r (inr h) = inr (h ∙ ap (λ b. option_or (fault_at old k r) (cond b (Some (reported tested.role (moment (e ∷ past) k) r (length past + 1))) None)) (w.added e past k r))
-
--- what is known so far
-one_more : (c : Bool) (here : Option Fault) (t : Bool) (x : Fault) → option_or (cond c here None) (cond (c && t) (Some x) None) ≡ cond c (option_or here (cond t (Some x) None)) None
-one_more true here t x = refl
-one_more false here t x = refl
-
-pub knows-next : (takes : Option Fate → Seen → List Seen → Type 0) (adds : Seen → List Seen → ℕ → Rule → Bool) (before after : Option Fate → List Seen → Type 0) (chosen : Rule → Bool) (tested : Tested) (e : Seen) (past : List Seen) (old new : FaultMap)
-    → IsWhole takes adds chosen tested → Gains (adds e past) tested (e ∷ past) (length past + 1) old new → Knows before chosen tested past old → after (latest_fate tested.role (e ∷ past)) (e ∷ past) → Knows after chosen tested (e ∷ past) new
-knows-next takes adds before after chosen tested e past old new w g k now = record {
-  so_far = now;
-  each = λ n r. (whole-grows takes adds chosen tested e past old new w g).each n r
-      ∙ ap (λ o. option_or o (news chosen tested e past n r)) (k.each n r)
-      ∙ one_more (chosen r) (fault_in tested past n r) (turns tested e past n r) (reported tested.role (moment (e ∷ past) n) r (length past + 1))
-      ∙ ap (λ o. cond (chosen r) o None) (sym (fault_in-step tested e past n r));
-}
-
-none : (c : Bool) → cond {A = Option Fault} c None None ≡ None
-none true = refl
-none false = refl
-
-pub knows-nothing : (chosen : Rule → Bool) (tested : Tested) (k : ℕ) (r : Rule) → None ≡ cond (chosen r) (fault_in tested [] k r) None
-knows-nothing chosen tested k r = sym (ap (λ o. cond (chosen r) o None) (fault_in-start tested k r) ∙ none (chosen r))
-
--- ---- the books
-
-abbrev pub judged : Rule → Bool
-judged r = (same_rule r S07 || same_rule r E7R) || (same_rule r S01 || same_rule r E1R)
-
-on_session : (tested : Tested) (r : Rule) → judged r ≡ true → is_on_session tested r ≡ true
-on_session tested r h = go (or_parts (same_rule r S07 || same_rule r E7R) (same_rule r S01 || same_rule r E1R) h)
-  where
-    of : (s : Rule) → is_on_session tested s ≡ true → same_rule r s ≡ true → is_on_session tested r ≡ true
-    of s on t = ap (is_on_session tested) (same_true the_type tt r s t) ∙ on
-
-    first : (same_rule r S07 ≡ true) ⊎ (same_rule r E7R ≡ true) → is_on_session tested r ≡ true
-    first (inl t) = of S07 refl t
-    first (inr t) = of E7R refl t
-
-    second : (same_rule r S01 ≡ true) ⊎ (same_rule r E1R ≡ true) → is_on_session tested r ≡ true
-    second (inl t) = of S01 refl t
-    second (inr t) = of E1R refl t
-
-    go : ((same_rule r S07 || same_rule r E7R) ≡ true) ⊎ ((same_rule r S01 || same_rule r E1R) ≡ true) → is_on_session tested r ≡ true
-    go (inl t) = first (or_parts (same_rule r S07) (same_rule r E7R) t)
-    go (inr t) = second (or_parts (same_rule r S01) (same_rule r E1R) t)
-
-joined : (b j s t : Bool) → (j ≡ true → s ≡ true) → ((b && t) || (j && (s && t))) ≡ ((b || j) && t)
-joined b true s t h = ap (λ u. (b && t) || (u && t)) (h refl) ∙ go b t
-  where
-    go : (b t : Bool) → ((b && t) || t) ≡ ((b || true) && t)
-    go true true = refl
-    go true false = refl
-    go false t = refl
-joined true false s true h = refl
-joined true false s false h = refl
-joined false false s t h = refl
-
-pub books-whole : (tested : Tested) (e : Seen) (past : List Seen) (k : ℕ) (r : Rule)
-    → ((is_on_bytes tested r && turns tested e past k r) || (judged r && (is_on_session tested r && turns tested e past k r))) ≡ ((is_on_bytes tested r || judged r) && turns tested e past k r)
-books-whole tested e past k r = joined (is_on_bytes tested r) (judged r) (is_on_session tested r) (turns tested e past k r) (on_session tested r)

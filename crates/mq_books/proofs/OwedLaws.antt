@@ -11,7 +11,7 @@ use Rattle.mq_rules.specs.declared.rule.Rule.{Rule}
 use Rattle.mq_rules.specs.declared.fate.Fate.{Fate}
 use Rattle.mq_rules.specs.declared.note.Seen.{Seen}
 use Rattle.mq_rules.specs.Words.{is_some_and, is_id}
-use Rattle.mq_rules.specs.Notes.{is_open, is_rest}
+use Rattle.mq_rules.specs.Notes.{is_open, is_rest, is_release}
 use Rattle.mq_rules.specs.Moments.{Moment, newest, note, moment, position, is_same, since, earliest_since, IsPlaced}
 use Rattle.mq_rules.specs.Connections.{connection, latest_fate, accepts, ends_binding, is_binding}
 use Rattle.mq_rules.specs.Exchanges.{Exchange, causes, answers, first_unanswered, shows_R}
@@ -23,7 +23,8 @@ use Rattle.mq_rules.proofs.Exports.{both_true, connection-newest as connection-n
 use Rattle.mq_rules.specs.Under.{IsUnder, fate_before, shows_with, turns_with}
 use Rattle.mq_rules.specs.Growing.{Gains}
 use Rattle.mq_books.specs.Pingings.{ends_by}
-use Rattle.mq_books.specs.Owings.{due_of, place_of, due_next, IsApart, IsOwed, blamed, binds_by}
+use Rattle.mq_books.specs.Owings.{due_of, place_of, due_next, IsOwed, blamed, binds_by}
+use Rattle.mq_books.specs.Answering.{IsApart}
 use Rattle.mq_books.proofs.PingLaws.{binding-under}
 use Rattle.mq_books.proofs.BlameLaws.{place_at, blame_of, gains_blamed, gains_none}
 
@@ -50,7 +51,7 @@ places-next x i e past = ap place_of (due_of-next x i e past) ∙ go (is_id i (x
     go false false None false = refl
 
 -- what is due is a moment of the log
-due-moment : (x : Exchange) (i : ℕ) (past : List Seen) (d : Moment) → due_of x i past ≡ Some d → moment past (position d) ≡ Some d
+pub due-moment : (x : Exchange) (i : ℕ) (past : List Seen) (d : Moment) → due_of x i past ≡ Some d → moment past (position d) ≡ Some d
 due-moment x i [] d h = absurd (cc)
 due-moment x i (e ∷ past) d h = go (is_id i (x.answer e.note)) (is_open e.note) (due_of x i past) (λ m p. due-moment x i past m p) refl (is_id i (x.cause e.note)) (sym (due_of-next x i e past) ∙ h)
   where
@@ -107,7 +108,7 @@ due-is x apart i k (e ∷ past) = by_next (k == length past + 1) refl (due-is x 
             let at : k ≡ length past + 1 = eqb-true k (length past + 1) n in
             sym (differ k (position d) (λ same. absurd (omega arith)))
     here n true h z g q p true u = absurd (let bad : is_id i (x.answer e.note) ≡ false = apart.apart e.note i u in cc)
-    here n false h true g q p true u = absurd (let none : x.cause e.note ≡ None = apart.open_causes e.note g in let bad : is_id i (x.cause e.note) ≡ false = ap (is_id i) none in cc)
+    here n false h true g q p true u = absurd (let none : x.cause e.note ≡ None = (apart.none e.note (ap (λ b. b || is_release e.note) g)).0 in let bad : is_id i (x.cause e.note) ≡ false = ap (is_id i) none in cc)
     here n false h false g (Some d) p true u =
         let le : position d ≤ length past = moment-within past (position d) d (due-moment x i past d p) in
         let at : k ≡ length past + 1 = eqb-true k (length past + 1) n in

@@ -1,6 +1,6 @@
 -- S07.
-use Rattle.std.proofs.Common.{◌≡◌, ℕ, ◌+◌, ◌-◌, ◌<◌, ◌≤◌, arith, Bool, true, false, cond, ◌&&◌, nat_le, List, [], ◌∷◌, length, Option, Some, None, refl, ap, sym, subst, ◌∙◌}
-use Rattle.std.specs.Prelude.{is_some, unwrap_or}
+use Rattle.std.proofs.Common.{◌≡◌, ℕ, ◌+◌, ◌-◌, ◌<◌, ◌≤◌, ◌^◌, arith, Bool, true, false, cond, ◌&&◌, nat_le, List, [], ◌∷◌, length, Option, Some, None, refl, ap, sym, subst, ◌∙◌}
+use Rattle.std.specs.Prelude.{is_some, option_map, unwrap_or}
 use Rattle.std.specs.Option.{option_or, option_and_then}
 use Rattle.mq_rules.specs.declared.role.Role.{Role}
 use Rattle.mq_rules.specs.declared.role.Role.TheVariants.{Client, Server}
@@ -13,18 +13,18 @@ use Rattle.mq_rules.specs.declared.note.Seen.{Seen}
 use Rattle.mq_rules.specs.declared.packet_note.ConnectNote.{ConnectNote}
 use Rattle.mq_rules.specs.declared.packet_note.ConnackNote.{ConnackNote}
 use Rattle.mq_rules.specs.Notes.{is_open, connect_of, connack_of, delivery_of, closer_of}
-use Rattle.mq_rules.specs.Moments.{Moment, newest, those, is_next}
+use Rattle.mq_rules.specs.Moments.{Moment, newest, note, those, is_next}
 use Rattle.mq_rules.specs.Connections.{connection, accepts, first_connect, first_connack}
 use Rattle.mq_rules.specs.Pasts.{peer_receive_maximum}
 use Rattle.mq_rules.specs.Identifiers.{is_delivery, is_closer, counts, breaks_S07}
-use Rattle.mq_rules.specs.Counter.{in_flight}
+use Rattle.mq_rules.specs.Counter.{in_flight, in_flight_before}
 use Rattle.mq_rules.specs.Rules.{binds, found_line, line_of, lines, same_rule}
 use Rattle.mq_rules.specs.Statements.{statement}
 use Rattle.mq_rules.specs.Faults.{offset_of}
 use Rattle.mq_rules.specs.FaultKeys.{FaultMap}
 use Rattle.mq_rules.proofs.Exports.{S07-before, connection-newest as connection-next, earliest-next}
 use Rattle.mq_books.specs.declared.quota.Quota.{Quota}
-use Rattle.mq_rules.specs.Under.{IsUnder, turns_with}
+use Rattle.mq_rules.specs.Under.{IsUnder, turns_with, fate_before}
 use Rattle.mq_rules.specs.Growing.{Gains}
 use Rattle.mq_books.specs.Quotas.{connect_room, connack_room, announced, peer_room, may_count, flown, exceeds, judged_by, IsQuota}
 use Rattle.mq_books.proofs.JudgeLaws.{session-turns_with, gains_judged}
@@ -46,7 +46,7 @@ counts-kept Client e past = go (first_connack Client (connection past))
     go (Some a) = refl
 counts-kept Server e past = refl
 
-room-kept : (role : Role) (e : Seen) (past : List Seen) → peer_receive_maximum role (newest e past) ≡ unwrap_or (peer_room role past) 65535
+pub room-kept : (role : Role) (e : Seen) (past : List Seen) → peer_receive_maximum role (newest e past) ≡ unwrap_or (peer_room role past) 65535
 room-kept Client e past = go (first_connack Client (connection past))
   where
     go : (o : Option ConnackNote) → unwrap_or (option_and_then (λ a. a.receive_maximum) o) 65535 ≡ unwrap_or (connack_room o) 65535

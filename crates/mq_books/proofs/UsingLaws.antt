@@ -1,43 +1,62 @@
--- S01.
-use Rattle.std.proofs.Common.{◌≡◌, ℕ, Bool, true, false, cond, ◌&&◌, ◌||◌, not, List, [], ◌∷◌, Option, Some, None, refl, ap, sym, ◌∙◌}
+-- S01 to S05.
+use Rattle.std.proofs.Common.{◌≡◌, ℕ, ◌<◌, ◌≤◌, nat_eq, nat_lt, arith, Bool, true, false, cond, ◌&&◌, ◌||◌, not, List, [], ◌∷◌, Option, Some, None, refl, ap, sym, subst, ◌∙◌, ◌⊎◌, inl, inr}
+use Rattle.std.specs.Prelude.{is_some}
+use Rattle.std.proofs.lemmas.Bool.{ltb-true, ltb-false, lt-ltb}
+use Rattle.indexmap.specs.IndexMap.{get}
+use Rattle.indexmap.specs.IndexSet.{contains}
 use Rattle.mq_rules.specs.declared.role.Role.{Role}
 use Rattle.mq_rules.specs.declared.role.Role.TheVariants.{Client, Server}
 use Rattle.mq_rules.specs.declared.role.Tested.{Tested}
 use Rattle.mq_rules.specs.declared.fate.Fate.{Fate}
-use Rattle.mq_rules.specs.declared.rule.Rule.TheVariants.{S01}
+use Rattle.mq_rules.specs.declared.rule.Rule.{Rule}
+use Rattle.mq_rules.specs.declared.rule.Rule.TheVariants.{S01, S02, S03, S04, S05}
 use Rattle.mq_rules.specs.declared.note.Note.{Note}
 use Rattle.mq_rules.specs.declared.note.Note.TheVariants as notes
 use Rattle.mq_rules.specs.declared.note.Seen.{Seen}
 use Rattle.mq_rules.specs.Words.{is_some_and, is_id}
-use Rattle.mq_rules.specs.Notes.{is_open, is_release, opener_of, closer_of, sent_as, received_as, subscribe_in, suback_in, unsubscribe_in, unsuback_in}
-use Rattle.mq_rules.specs.Moments.{Moment, newest, note, since, is_next}
-use Rattle.mq_rules.specs.Connections.{connection, latest_fate, accepts, begins, voided, any_accepted, has_session}
-use Rattle.mq_rules.specs.Folds.{session_since, gained}
-use Rattle.mq_rules.specs.Identifiers.{opens_id, closes_id, is_open_at, awaits_suback, is_busy_at, taken_by, breaks_S01}
-use Rattle.mq_rules.specs.Rules.{binds, found_line, line_of, lines, same_rule}
-use Rattle.mq_rules.specs.Statements.{statement}
-use Rattle.mq_rules.specs.Faults.{offset_of}
+use Rattle.mq_rules.specs.Notes.{is_open, resend_of}
+use Rattle.mq_rules.specs.Moments.{Moment, newest, note, position, some, since, latest, is_next, IsPlaced, IsDescending}
+use Rattle.mq_rules.specs.Connections.{connection, latest_fate, accepts, session}
+use Rattle.mq_rules.specs.Identifiers.{opens_id, closes_id, delivers, is_open_at, latest_opener, awaits_suback, is_busy_at, taken_by, was_sent_on_void, opens_exactly_once, sends_pubrel, comes_after, breaks_S01, breaks_S02, breaks_S03, breaks_S04, breaks_S05}
+use Rattle.mq_rules.specs.Rules.{binds, found_line, line_of, lines}
+use Rattle.mq_rules.specs.Statements.{in_session, statement}
 use Rattle.mq_rules.specs.FaultKeys.{FaultMap}
-use Rattle.mq_rules.proofs.Exports.{connection-newest as connection-next, session_since-next}
+use Rattle.mq_rules.proofs.Exports.{among-moment, connection-newest as connection-next, moment-placed, not_true, or_false, or_left, or_parts, or_right, same_test, session-descend, session-members, some-next}
+use Rattle.mq_books.specs.declared.inflight.Inflight.{Inflight}
+use Rattle.mq_books.specs.declared.inflight.broken.Broken.{Broken}
+use Rattle.mq_books.specs.declared.inflight.entry.Entry.{Entry}
 use Rattle.mq_rules.specs.Under.{IsUnder, fate_before, turns_with}
 use Rattle.mq_rules.specs.Growing.{Gains}
-use Rattle.mq_books.specs.Quotas.{judged_by}
-use Rattle.mq_books.specs.Using.{waits, held_next, waits_next, takes_busy, IsUsing}
-use Rattle.mq_books.proofs.JudgeLaws.{session-turns_with, gains_judged}
+use Rattle.mq_books.specs.Opened.{sends_exactly_once, entry_in}
+use Rattle.mq_books.specs.Using.{waits, waits_next, place_or_zero, resent_by, greater, resent_next, resent_in, unopened, past_pubrel, out_of_order, breaks, judged_all, is_at_once, IsUsing}
+use Rattle.mq_books.proofs.JudgeLaws.{session-turns_with}
+use Rattle.mq_books.proofs.OpenedLaws.{entry-there, entry-is, IsEntry}
+use Rattle.mq_books.proofs.VoidLaws.{void_sent-read}
+use Rattle.mq_books.proofs.BrokenLaws.{all-gains}
+
+-- ---- whom the statements bind
 
 binds-S01 : (role : Role) (releases : Bool) → binds S01 (record { role = role; releases = releases }) ≡ true
 unfolding line_of found_line lines
 binds-S01 Client releases = refl
 binds-S01 Server releases = refl
 
-no_offset-S01 : (tested : Tested) (m : Option Moment) → offset_of (statement tested.role S01) m ≡ None
-no_offset-S01 tested m = refl
+binds-S02 : (role : Role) (releases : Bool) → binds S02 (record { role = role; releases = releases }) ≡ true
+unfolding line_of found_line lines
+binds-S02 Client releases = refl
+binds-S02 Server releases = refl
 
--- an OPEN and a RELEASE are neither opener nor closer
-opener-none : (n : Note) → (is_open n || is_release n) ≡ true → (opener_of n ≡ None) × (closer_of n ≡ None)
-opener-none notes.Open h = (refl, refl)
-opener-none (notes.Release identifier) h = (refl, refl)
-opener-none _ h = absurd (cc)
+binds-S03 : (role : Role) (releases : Bool) → binds S03 (record { role = role; releases = releases }) ≡ true
+unfolding line_of found_line lines
+binds-S03 Client releases = refl
+binds-S03 Server releases = refl
+
+binds-S04 : (role : Role) (releases : Bool) → binds S04 (record { role = role; releases = releases }) ≡ true
+unfolding line_of found_line lines
+binds-S04 Client releases = refl
+binds-S04 Server releases = refl
+
+-- ---- an OPEN is no packet
 
 taken-none : (role : Role) (n : Note) → is_open n ≡ true → taken_by role n ≡ None
 taken-none Client notes.Open h = refl
@@ -48,41 +67,194 @@ taken-none role (notes.Release identifier) h = absurd (cc)
 taken-none role (notes.Sent item) h = absurd (cc)
 taken-none role (notes.Recv item) h = absurd (cc)
 
--- what is open in the session, under a fate
-held-under : (tested : Tested) (f : Fate) (i : ℕ) (old : Bool) (e : Seen) (past : List Seen) → old ≡ session_since tested.role (opens_id i) (closes_id i) (fate_before tested f e past) past
-    → held_next f e.note i old ≡ session_since tested.role (opens_id i) (closes_id i) (Some f) (e ∷ past)
-held-under tested f i old e past h = sym (session_since-next tested.role (opens_id i) (closes_id i) (Some f) e past ∙ go (is_open e.note) refl h)
+resend-none : (n : Note) → is_open n ≡ true → resend_of n ≡ None
+resend-none notes.Open h = refl
+resend-none _ h = absurd (cc)
+
+-- at another event the state is one under the fate of its connection
+now : (s : Inflight) (tested : Tested) (f : Fate) (e : Seen) (past : List Seen) → is_open e.note ≡ false → IsUsing s tested (fate_before tested f e past) past → IsUsing s tested (Some f) past
+now s tested f e past closed u = subst (λ b. IsUsing s tested (cond b (latest_fate tested.role past) (Some f)) past) closed u
+
+same_some : (p q : ℕ → Bool) (o : Option ℕ) → ((i : ℕ) → p i ≡ q i) → is_some_and p o ≡ is_some_and q o
+same_some p q None h = refl
+same_some p q (Some i) h = h i
+
+-- ---- the order
+
+zero-after : (p : ℕ) → nat_lt p 0 ≡ false
+zero-after p = not_true (nat_lt p 0) (λ t. let lt : p < 0 = ltb-true p 0 t in absurd (omega arith))
+
+-- a number is before the greater one exactly if it is before either
+greater-after : (p a b : ℕ) → nat_lt p (greater a b) ≡ (nat_lt p a || nat_lt p b)
+greater-after p a b = go (nat_lt b a) refl
   where
-    s : Bool
-    s = is_id i (opener_of e.note)
-
-    t : Bool
-    t = is_id i (closer_of e.note)
-
-    then : Option Fate → Bool
-    then o = session_since tested.role (opens_id i) (closes_id i) o past
-
-    idle : (is_open e.note || is_release e.note) ≡ true → (b x : Bool) → gained b s t x ≡ x
-    idle n true x = let none = opener-none e.note n in ap (λ o. is_id i o || (not t && x)) none.0 ∙ ap (λ o. not (is_id i o) && x) none.1
-    idle n false x = refl
-
-    apart : (a r x y : Bool) → is_release e.note ≡ r → gained (a || (r && x)) s t y ≡ gained a s t y
-    apart true r x y n = refl
-    apart false true true y n = idle (ap (λ b. is_open e.note || b) n ∙ or_true (is_open e.note)) true y
+    go : (t : Bool) → nat_lt b a ≡ t → nat_lt p (cond t a b) ≡ (nat_lt p a || nat_lt p b)
+    go true t = same_test (nat_lt p a) (nat_lt p a || nat_lt p b) (or_left (nat_lt p a) (nat_lt p b)) (λ h. of (or_parts (nat_lt p a) (nat_lt p b) h))
       where
-        or_true : (b : Bool) → (b || true) ≡ true
-        or_true true = refl
-        or_true false = refl
-    apart false true false y n = refl
-    apart false false x y n = refl
+        of : (nat_lt p a ≡ true) ⊎ (nat_lt p b ≡ true) → nat_lt p a ≡ true
+        of (inl h) = h
+        of (inr h) = let x : p < b = ltb-true p b h in let y : b < a = ltb-true b a t in lt-ltb p a (omega arith)
+    go false t = same_test (nat_lt p b) (nat_lt p a || nat_lt p b) (or_right (nat_lt p a) (nat_lt p b)) (λ h. of (or_parts (nat_lt p a) (nat_lt p b) h))
+      where
+        of : (nat_lt p a ≡ true) ⊎ (nat_lt p b ≡ true) → nat_lt p b ≡ true
+        of (inr h) = h
+        of (inl h) = let x : p < a = ltb-true p a h in let y : a ≤ b = ltb-false b a t in lt-ltb p b (omega arith)
 
-    go : (b : Bool) → is_open e.note ≡ b → old ≡ then (cond b (latest_fate tested.role past) (Some f))
-        → gained (has_session tested.role (Some f) e past) s t (cond b (not (begins (Some f)) && then (latest_fate tested.role past)) (then (Some f)))
-        ≡ cond b (not (begins (Some f)) && old) (cond (accepts f) (s || (not t && old)) old)
-    go true n h = idle (ap (λ b. b || is_release e.note) n) (has_session tested.role (Some f) e past) (not (begins (Some f)) && then (latest_fate tested.role past)) ∙ ap (λ x. not (begins (Some f)) && x) (sym h)
-    go false n h = apart (accepts f) (is_release e.note) (voided (Some f) && any_accepted tested.role (Some f) past) (then (Some f)) refl ∙ ap (gained (accepts f) s t) (sym h)
+-- some PUBLISH that was open was sent again on the connection, with an opener after this position
+abbrev resent_past : Role → Fate → ℕ → Moment → Bool
+resent_past role f p j = is_some_and (λ o. is_open_at role f o j && is_some_and (λ m. nat_lt p (position m)) (latest_opener role f o j)) (resend_of (note j))
 
--- what waits on the connection
+pub opener-at : (role : Role) (f : Fate) (i : ℕ) (past : List Seen) (o : Entry) → IsPlaced past → (r : IsEntry i (session role (Some f) past) o) → o.place.position ≡ position r.opener
+opener-at role f i past o placed r =
+    ap (λ p. p.position) r.same_place ∙ moment-placed past (position r.opener) r.opener placed (among-moment r.opener past (session-members role (Some f) past r.opener r.there).0)
+
+resent-later : (role : Role) (f : Fate) (p : ℕ) (past : List Seen) → IsPlaced past → nat_lt p (resent_in role (Some f) past) ≡ some (resent_past role f p) (connection past)
+resent-later role f p [] placed = zero-after p
+resent-later role f p (e ∷ past) placed = go (is_open e.note) refl (resent-later role f p past placed.1) ∙ sym (some-next (resent_past role f p) e past)
+  where
+    entry : ℕ → Option Entry
+    entry i = entry_in i (session role (Some f) past)
+
+    one : (i : ℕ) (x : Option Entry) → entry i ≡ x → nat_lt p (place_or_zero x) ≡ (is_open_at role f i (newest e past) && is_some_and (λ m. nat_lt p (position m)) (latest_opener role f i (newest e past)))
+    one i None h =
+        zero-after p ∙ sym (ap (λ b. b && is_some_and (λ m. nat_lt p (position m)) (latest_opener role f i (newest e past))) (sym (entry-there i (session role (Some f) past)) ∙ ap is_some h))
+    one i (Some o) h =
+        let r = entry-is i (session role (Some f) past) o (session-descend role (Some f) past) h in
+        ap (nat_lt p) (opener-at role f i past o placed.1 r)
+        ∙ sym (ap (λ b. b && is_some_and (λ m. nat_lt p (position m)) (latest_opener role f i (newest e past))) (sym (entry-there i (session role (Some f) past)) ∙ ap is_some h)
+        ∙ ap (is_some_and (λ m. nat_lt p (position m))) r.is_latest)
+
+    here : (o : Option ℕ) → nat_lt p (resent_by o entry) ≡ is_some_and (λ o. is_open_at role f o (newest e past) && is_some_and (λ m. nat_lt p (position m)) (latest_opener role f o (newest e past))) o
+    here None = zero-after p
+    here (Some i) = one i (entry i) refl
+
+    go : (b : Bool) → is_open e.note ≡ b → nat_lt p (resent_in role (Some f) past) ≡ some (resent_past role f p) (connection past)
+        → nat_lt p (cond b 0 (greater (resent_by (resend_of e.note) entry) (resent_in role (Some f) past))) ≡ (resent_past role f p (newest e past) || (not b && some (resent_past role f p) (connection past)))
+    go true h rest =
+        zero-after p ∙ sym (or_false (resent_past role f p (newest e past)) ∙ ap (is_some_and (λ o. is_open_at role f o (newest e past) && is_some_and (λ m. nat_lt p (position m)) (latest_opener role f o (newest e past)))) (resend-none e.note h))
+    go false h rest =
+        greater-after p (resent_by (resend_of e.note) entry) (resent_in role (Some f) past)
+        ∙ ap (λ b. b || nat_lt p (resent_in role (Some f) past)) (here (resend_of e.note)) ∙ ap (λ b. resent_past role f p (newest e past) || b) rest
+
+-- ---- what the statements read
+
+past_pubrel-is : (i : ℕ) (ms : List Moment) → IsDescending ms → is_some_and (λ o. o.exactly_once && o.released) (entry_in i ms)
+    ≡ (since (opens_id i) (closes_id i) ms && (is_some_and (opens_exactly_once i) (latest (opens_id i) ms) && since (sends_pubrel i) (opens_id i) ms))
+past_pubrel-is i ms d = go (entry_in i ms) refl
+  where
+    rest : Bool
+    rest = is_some_and (opens_exactly_once i) (latest (opens_id i) ms) && since (sends_pubrel i) (opens_id i) ms
+
+    go : (x : Option Entry) → entry_in i ms ≡ x → is_some_and (λ (o : Entry). o.exactly_once && o.released) x ≡ (since (opens_id i) (closes_id i) ms && rest)
+    go None h = sym (ap (λ b. b && rest) (sym (entry-there i ms) ∙ ap is_some h))
+    go (Some o) h =
+        let r = entry-is i ms o d h in
+        ap (λ b. b && o.released) r.same_quality ∙ ap (λ b. sends_exactly_once (note r.opener) && b) r.is_released
+        ∙ sym (ap (λ b. b && rest) (sym (entry-there i ms) ∙ ap is_some h)
+        ∙ ap (λ l. is_some_and (opens_exactly_once i) l && since (sends_pubrel i) (opens_id i) ms) r.is_latest
+        ∙ ap (λ b. (b && sends_exactly_once (note r.opener)) && since (sends_pubrel i) (opens_id i) ms) r.begins_it)
+
+out_of_order-is : (role : Role) (f : Fate) (i : ℕ) (e : Seen) (past : List Seen) → IsPlaced past
+    → is_some_and (λ o. nat_lt o.place.position (resent_in role (Some f) past)) (entry_in i (session role (Some f) past))
+    ≡ (is_open_at role f i (newest e past) && some (λ j. is_some_and (λ o. is_open_at role f o j && comes_after (latest_opener role f o j) (latest_opener role f i (newest e past))) (resend_of (note j))) (connection past))
+out_of_order-is role f i e past placed = go (entry_in i ms) refl
+  where
+    ms : List Moment
+    ms = session role (Some f) past
+
+    after : Option Moment → Bool
+    after l = some (λ j. is_some_and (λ o. is_open_at role f o j && comes_after (latest_opener role f o j) l) (resend_of (note j))) (connection past)
+
+    go : (x : Option Entry) → entry_in i ms ≡ x → is_some_and (λ (o : Entry). nat_lt o.place.position (resent_in role (Some f) past)) x ≡ (is_open_at role f i (newest e past) && after (latest_opener role f i (newest e past)))
+    go None h = sym (ap (λ b. b && after (latest_opener role f i (newest e past))) (sym (entry-there i ms) ∙ ap is_some h))
+    go (Some o) h =
+        let r = entry-is i ms o (session-descend role (Some f) past) h in
+        ap (λ p. nat_lt p (resent_in role (Some f) past)) (opener-at role f i past o placed r)
+        ∙ resent-later role f (position r.opener) past placed
+        ∙ sym (ap (λ b. b && after (latest_opener role f i (newest e past))) (sym (entry-there i ms) ∙ ap is_some h) ∙ ap after r.is_latest)
+
+-- ---- the pairs
+
+S01-turns : (tested : Tested) (s : Inflight) (f : Fate) (e : Seen) (past : List Seen) → IsUsing s tested (fate_before tested f e past) past → (k : ℕ) → turns_with tested f e past k S01 ≡ (is_next past k && (breaks s f e.note).takes_busy)
+unfolding breaks_S01
+S01-turns tested s f e past u k =
+    session-turns_with tested S01 (breaks_S01 tested.role) refl f e past k
+    ∙ ap (λ b. is_next past k && (b && (accepts f && breaks_S01 tested.role f (newest e past)))) (binds-S01 tested.role tested.releases)
+    ∙ ap (λ b. is_next past k && (accepts f && b)) (sym (go (is_open e.note) refl))
+    ∙ ap (λ r. is_next past k && (accepts f && is_some_and busy (taken_by r e.note))) (sym u.same_role)
+  where
+    busy : ℕ → Bool
+    busy i = is_some (get nat_eq s.entries i) || (contains nat_eq s.subscribing i || contains nat_eq s.unsubscribing i)
+
+    go : (b : Bool) → is_open e.note ≡ b → is_some_and busy (taken_by tested.role e.note) ≡ is_some_and (λ i. is_busy_at tested.role f i (newest e past)) (taken_by tested.role e.note)
+    go true h =
+        let none = taken-none tested.role e.note h in
+        ap (is_some_and busy) none ∙ sym (ap (is_some_and (λ i. is_busy_at tested.role f i (newest e past))) none)
+    go false h = same_some busy (λ i. is_busy_at tested.role f i (newest e past)) (taken_by tested.role e.note) (λ i.
+        ap (λ x. is_some x || (contains nat_eq s.subscribing i || contains nat_eq s.unsubscribing i)) ((now s tested f e past h u).entries_are i)
+        ∙ ap (λ b. b || (contains nat_eq s.subscribing i || contains nat_eq s.unsubscribing i)) (entry-there i (session tested.role (Some f) past))
+        ∙ ap (λ b. is_open_at tested.role f i (newest e past) || (b || contains nat_eq s.unsubscribing i)) (u.subscribing_are i)
+        ∙ ap (λ b. is_open_at tested.role f i (newest e past) || (awaits_suback i (newest e past) || b)) (u.unsubscribing_are i))
+
+-- a statement on a PUBLISH that is sent again
+resend-turns : (tested : Tested) (rule : Rule) (breaks : Fate → Moment → Bool) → statement tested.role rule ≡ in_session breaks → (bound : Bool) → binds rule tested ≡ bound → (f : Fate) (e : Seen) (past : List Seen) (p q : ℕ → Bool)
+    → breaks f (newest e past) ≡ is_some_and p (resend_of e.note) → (is_open e.note ≡ false → accepts f ≡ true → (i : ℕ) → q i ≡ p i)
+    → (k : ℕ) → turns_with tested f e past k rule ≡ (is_next past k && (bound && (accepts f && is_some_and q (resend_of e.note))))
+resend-turns tested rule breaks says bound b f e past p q is same k =
+    session-turns_with tested rule breaks says f e past k
+    ∙ ap (λ t. is_next past k && (t && (accepts f && breaks f (newest e past)))) b
+    ∙ ap (λ t. is_next past k && (bound && (accepts f && t))) is
+    ∙ ap (λ t. is_next past k && (bound && t)) (go (accepts f) refl (is_open e.note) refl)
+  where
+    go : (a : Bool) → accepts f ≡ a → (c : Bool) → is_open e.note ≡ c → (a && is_some_and p (resend_of e.note)) ≡ (a && is_some_and q (resend_of e.note))
+    go false t c h = refl
+    go true t true h = ap (is_some_and p) (resend-none e.note h) ∙ sym (ap (is_some_and q) (resend-none e.note h))
+    go true t false h = sym (same_some q p (resend_of e.note) (same h t))
+
+S02-turns : (tested : Tested) (s : Inflight) (f : Fate) (at : ℕ) (e : Seen) (past : List Seen) → IsUnder tested f at e past → IsUsing s tested (fate_before tested f e past) past → (k : ℕ) → turns_with tested f e past k S02 ≡ (is_next past k && (breaks s f e.note).unopened)
+unfolding breaks_S02
+S02-turns tested s f at e past under u =
+    resend-turns tested S02 (breaks_S02 tested.role) refl true (binds-S02 tested.role tested.releases) f e past (λ i. not (is_open_at tested.role f i (newest e past) || was_sent_on_void tested.role i (newest e past)))
+    (unopened (get nat_eq s.entries) (contains nat_eq s.void)) refl
+    (λ closed accepted i.
+    let n = now s tested f e past closed u in
+    ap (λ x. not (is_some x || contains nat_eq s.void i)) (n.entries_are i)
+    ∙ ap (λ b. not (b || contains nat_eq s.void i)) (entry-there i (session tested.role (Some f) past))
+    ∙ ap (λ b. not (is_open_at tested.role f i (newest e past) || b)) (n.void_are i ∙ sym (void_sent-read tested i f at e past under closed accepted)))
+
+S03-turns : (tested : Tested) (s : Inflight) (f : Fate) (e : Seen) (past : List Seen) → IsUsing s tested (fate_before tested f e past) past → (k : ℕ) → turns_with tested f e past k S03 ≡ (is_next past k && (breaks s f e.note).twice)
+unfolding breaks_S03
+S03-turns tested s f e past u =
+    resend-turns tested S03 (λ f. breaks_S03) refl true (binds-S03 tested.role tested.releases) f e past (λ i. since (delivers i) (closes_id i) (connection past)) (contains nat_eq s.delivering) refl (λ closed accepted i. u.delivering_are i)
+
+S04-turns : (tested : Tested) (s : Inflight) (f : Fate) (e : Seen) (past : List Seen) → IsUsing s tested (fate_before tested f e past) past → (k : ℕ) → turns_with tested f e past k S04 ≡ (is_next past k && (breaks s f e.note).past_pubrel)
+unfolding breaks_S04
+S04-turns tested s f e past u =
+    resend-turns tested S04 (breaks_S04 tested.role) refl true (binds-S04 tested.role tested.releases) f e past
+    (λ i. is_open_at tested.role f i (newest e past) && (is_some_and (opens_exactly_once i) (latest_opener tested.role f i (newest e past)) && since (sends_pubrel i) (opens_id i) (session tested.role (Some f) past)))
+    (past_pubrel (get nat_eq s.entries)) refl
+    (λ closed accepted i. ap (is_some_and (λ (o : Entry). o.exactly_once && o.released)) ((now s tested f e past closed u).entries_are i) ∙ past_pubrel-is i (session tested.role (Some f) past) (session-descend tested.role (Some f) past))
+
+S05-turns : (tested : Tested) (s : Inflight) (f : Fate) (at : ℕ) (e : Seen) (past : List Seen) → IsUnder tested f at e past → IsUsing s tested (fate_before tested f e past) past → (k : ℕ) → turns_with tested f e past k S05 ≡ (is_next past k && (breaks s f e.note).out_of_order)
+unfolding breaks_S05
+S05-turns tested s f at e past under u =
+    resend-turns tested S05 (breaks_S05 tested.role) refl s.ordered (sym u.is_ordered) f e past
+    (λ i. is_open_at tested.role f i (newest e past) && some (λ j. is_some_and (λ o. is_open_at tested.role f o j && comes_after (latest_opener tested.role f o j) (latest_opener tested.role f i (newest e past))) (resend_of (note j))) (connection past))
+    (out_of_order (get nat_eq s.entries) s.resent) refl
+    (λ closed accepted i.
+    let n = now s tested f e past closed u in
+    ap (λ p. is_some_and (λ (o : Entry). nat_lt o.place.position p) (get nat_eq s.entries i)) n.resent_is
+    ∙ ap (is_some_and (λ (o : Entry). nat_lt o.place.position (resent_in tested.role (Some f) past))) (n.entries_are i)
+    ∙ out_of_order-is tested.role f i e past under.follows.placed.1)
+
+pub using-gains : (tested : Tested) (s : Inflight) (f : Fate) (at : ℕ) (e : Seen) (past : List Seen) (m : FaultMap) (b : Broken) → IsUnder tested f at e past → IsUsing s tested (fate_before tested f e past) past → b ≡ breaks s f e.note
+    → Gains (λ k r. is_at_once r && turns_with tested f e past k r) tested (e ∷ past) at m (judged_all b e.place at m)
+using-gains tested s f at e past m b under u is =
+    subst (λ (b : Broken). Gains (λ k r. is_at_once r && turns_with tested f e past k r) tested (e ∷ past) at m (judged_all b e.place at m)) (sym is)
+    (all-gains tested f e past at m (breaks s f e.note) under.follows.placed.0 (S01-turns tested s f e past u) (S02-turns tested s f at e past under u) (S03-turns tested s f e past u) (S04-turns tested s f e past u) (S05-turns tested s f at e past under u))
+
+-- ---- the state, with one event more
+
 waits-under : (starts ends : Note → Option ℕ) (i : ℕ) (e : Seen) (past : List Seen) → waits starts ends i (e ∷ past) ≡ waits_next (starts e.note) (ends e.note) (is_open e.note) i (waits starts ends i past)
 waits-under starts ends i e past = ap (since (λ m. is_id i (starts (note m))) (λ m. is_id i (ends (note m)))) (connection-next e past) ∙ go (is_open e.note)
   where
@@ -91,41 +263,23 @@ waits-under starts ends i e past = ap (since (λ m. is_id i (starts (note m))) (
     go true = refl
     go false = refl
 
-pub using-next : (tested : Tested) (role : Role) (fate f : Fate) (held subs unsubs held2 subs2 unsubs2 : ℕ → Bool) (e : Seen) (past : List Seen) → IsUsing role fate held subs unsubs tested (fate_before tested f e past) past
-    → ((i : ℕ) → held2 i ≡ held_next f e.note i (held i)) → ((i : ℕ) → subs2 i ≡ waits_next (sent_as subscribe_in e.note) (received_as suback_in e.note) (is_open e.note) i (subs i))
-    → ((i : ℕ) → unsubs2 i ≡ waits_next (sent_as unsubscribe_in e.note) (received_as unsuback_in e.note) (is_open e.note) i (unsubs i)) → IsUsing role f held2 subs2 unsubs2 tested (Some f) (e ∷ past)
-using-next tested role fate f held subs unsubs held2 subs2 unsubs2 e past u a b c = record {
-  same_role = u.same_role;
-  same_fate = refl;
-  held_are = λ i. a i ∙ held-under tested f i (held i) e past (u.held_are i);
-  subscribing_are = λ i. b i ∙ ap (waits_next (sent_as subscribe_in e.note) (received_as suback_in e.note) (is_open e.note) i) (u.subscribing_are i) ∙ sym (waits-under (sent_as subscribe_in) (received_as suback_in) i e past);
-  unsubscribing_are = λ i. c i ∙ ap (waits_next (sent_as unsubscribe_in e.note) (received_as unsuback_in e.note) (is_open e.note) i) (u.unsubscribing_are i) ∙ sym (waits-under (sent_as unsubscribe_in) (received_as unsuback_in) i e past);
-}
+-- what waits after an event is what is kept
+pub waiting : (starts ends : Note → Option ℕ) (old new : ℕ → Bool) (e : Seen) (past : List Seen) → ((i : ℕ) → old i ≡ waits starts ends i past) → ((i : ℕ) → new i ≡ waits_next (starts e.note) (ends e.note) (is_open e.note) i (old i))
+    → (i : ℕ) → new i ≡ waits starts ends i (e ∷ past)
+waiting starts ends old new e past h is i = is i ∙ ap (waits_next (starts e.note) (ends e.note) (is_open e.note) i) (h i) ∙ sym (waits-under starts ends i e past)
 
-same_some : (p q : ℕ → Bool) (o : Option ℕ) → ((i : ℕ) → p i ≡ q i) → is_some_and p o ≡ is_some_and q o
-same_some p q None h = refl
-same_some p q (Some i) h = h i
+resent_by-same : (o : Option ℕ) (p q : ℕ → Option Entry) → ((i : ℕ) → p i ≡ q i) → resent_by o p ≡ resent_by o q
+resent_by-same None p q h = refl
+resent_by-same (Some i) p q h = ap place_or_zero (h i)
 
-S01-turns : (tested : Tested) (role : Role) (fate f : Fate) (held subs unsubs : ℕ → Bool) (e : Seen) (past : List Seen) → IsUsing role fate held subs unsubs tested (fate_before tested f e past) past
-    → (k : ℕ) → turns_with tested f e past k S01 ≡ (is_next past k && takes_busy f role e.note held subs unsubs)
-unfolding breaks_S01
-S01-turns tested role fate f held subs unsubs e past u k =
-    session-turns_with tested S01 (breaks_S01 tested.role) refl f e past k
-    ∙ ap (λ b. is_next past k && (b && (accepts f && breaks_S01 tested.role f (newest e past)))) (binds-S01 tested.role tested.releases)
-    ∙ ap (λ b. is_next past k && (accepts f && b)) (sym (go (is_open e.note) refl u.held_are))
-    ∙ ap (λ r. is_next past k && (accepts f && is_some_and (λ i. held i || (subs i || unsubs i)) (taken_by r e.note))) (sym u.same_role)
+pub resent-next : (tested : Tested) (s : Inflight) (f : Fate) (e : Seen) (past : List Seen) → IsUsing s tested (fate_before tested f e past) past → resent_next e.note (get nat_eq s.entries) s.resent ≡ resent_in tested.role (Some f) (e ∷ past)
+resent-next tested s f e past u = go (is_open e.note) refl
   where
-    go : (b : Bool) → is_open e.note ≡ b → ((i : ℕ) → held i ≡ session_since tested.role (opens_id i) (closes_id i) (cond b (latest_fate tested.role past) (Some f)) past)
-        → is_some_and (λ i. held i || (subs i || unsubs i)) (taken_by tested.role e.note) ≡ is_some_and (λ i. is_busy_at tested.role f i (newest e past)) (taken_by tested.role e.note)
-    go true h are =
-        let none = taken-none tested.role e.note h in
-        ap (is_some_and (λ i. held i || (subs i || unsubs i))) none ∙ sym (ap (is_some_and (λ i. is_busy_at tested.role f i (newest e past))) none)
-    go false h are = same_some (λ i. held i || (subs i || unsubs i)) (λ i. is_busy_at tested.role f i (newest e past)) (taken_by tested.role e.note) (λ i.
-        ap (λ b. b || (subs i || unsubs i)) (are i) ∙ ap (λ b. is_open_at tested.role f i (newest e past) || (b || unsubs i)) (u.subscribing_are i)
-        ∙ ap (λ b. is_open_at tested.role f i (newest e past) || (awaits_suback i (newest e past) || b)) (u.unsubscribing_are i))
+    entry : ℕ → Option Entry
+    entry i = entry_in i (session tested.role (Some f) past)
 
-pub using-gains : (tested : Tested) (role : Role) (fate f : Fate) (held subs unsubs : ℕ → Bool) (at : ℕ) (e : Seen) (past : List Seen) (m : FaultMap) (b : Bool) → IsUnder tested f at e past
-    → IsUsing role fate held subs unsubs tested (fate_before tested f e past) past → b ≡ takes_busy f role e.note held subs unsubs
-    → Gains (λ k r. same_rule r S01 && turns_with tested f e past k r) tested (e ∷ past) at m (judged_by b S01 e.place at m)
-using-gains tested role fate f held subs unsubs at e past m b under u is =
-    gains_judged tested S01 f e past at m b (no_offset-S01 tested) under.follows.placed.0 (λ k. S01-turns tested role fate f held subs unsubs e past u k ∙ ap (λ b. is_next past k && b) (sym is))
+    go : (b : Bool) → is_open e.note ≡ b → cond b 0 (greater (resent_by (resend_of e.note) (get nat_eq s.entries)) s.resent) ≡ cond b 0 (greater (resent_by (resend_of e.note) entry) (resent_in tested.role (Some f) past))
+    go true h = refl
+    go false h =
+        let n = now s tested f e past h u in
+        ap (λ p. greater p s.resent) (resent_by-same (resend_of e.note) (get nat_eq s.entries) entry n.entries_are) ∙ ap (greater (resent_by (resend_of e.note) entry)) n.resent_is

@@ -12,10 +12,7 @@ use Rattle.mq_rules.specs.Connections.{begun, number, fate, fate_under, latest_f
 use Rattle.mq_rules.specs.Identifiers.{delivers, was_sent_on_void}
 use Rattle.mq_rules.proofs.Exports.{begun-closed, begun-open-of-given as begun-open, differ, fate-step, latest_fate-same, option_or-none}
 use Rattle.mq_rules.specs.Under.{IsUnder, fate_before}
-
--- a PUBLISH under i was sent on a void connection, where the latest one is taken to have this fate
-abbrev pub void_sent : Role → ℕ → Option Fate → List Seen → Bool
-void_sent role i taken past = some (λ j. delivers i j && voided (fate_under role taken past (number j))) (moments past)
+use Rattle.mq_books.specs.Using.{void_sent}
 
 some-same : (p q : Moment → Bool) (ms : List Moment) → ((m : Moment) → Among m ms → p m ≡ q m) → some p ms ≡ some q ms
 some-same p q [] h = refl

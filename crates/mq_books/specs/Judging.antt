@@ -13,8 +13,3 @@ use Rattle.mq_rules.specs.Faults.{fault_in}
 pub record IsWhole (takes : Option Fate → Seen → List Seen → Type 0) (adds : Seen → List Seen → ℕ → Rule → Bool) (chosen : Rule → Bool) (tested : Tested) : Type 0 where
   pub taken : (e : Seen) (past : List Seen) → takes (latest_fate tested.role past) e past
   pub added : (e : Seen) (past : List Seen) (k : ℕ) (r : Rule) → adds e past k r ≡ (chosen r && turns tested e past k r)
-
--- The watcher agrees with these events, and the faults are those of the chosen statements in them.
-pub record Knows (agrees : Option Fate → List Seen → Type 0) (chosen : Rule → Bool) (tested : Tested) (past : List Seen) (faults : FaultMap) : Type 0 where
-  pub so_far : agrees (latest_fate tested.role past) past
-  pub each : (k : ℕ) (r : Rule) → fault_at faults k r ≡ cond (chosen r) (fault_in tested past k r) None

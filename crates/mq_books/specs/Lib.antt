@@ -3,5 +3,12 @@ pub mod Holding
 pub mod Pingings
 pub mod Judging
 pub mod Owings
-pub mod Firsts
+pub mod Orderings
+pub mod Answering
+pub mod Askings
 pub mod Using
+pub mod Opened
+pub mod Resending
+pub mod Releasing
+pub mod Countings
+pub mod Standings

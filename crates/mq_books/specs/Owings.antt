@@ -1,5 +1,5 @@
 -- What the book of an exchange keeps of what is owed on the latest connection.
-use Rattle.std.specs.Prelude.{ℕ, ◌≡◌, Bool, true, false, ◌&&◌, not, cond, List, [], ◌∷◌, Option, Some, None, option_map}
+use Rattle.std.specs.Prelude.{ℕ, ◌≡◌, Bool, true, ◌&&◌, not, cond, List, [], ◌∷◌, length, Option, Some, None, option_map, is_some}
 use Rattle.std.specs.Option.{option_or}
 use Rattle.mq_trace.specs.declared.place.Place3.{Place3}
 use Rattle.mq_rules.specs.declared.role.Tested.{Tested}
@@ -7,12 +7,15 @@ use Rattle.mq_rules.specs.declared.fate.Fate.{Fate}
 use Rattle.mq_rules.specs.declared.rule.Rule.{Rule}
 use Rattle.mq_rules.specs.declared.note.Note.{Note}
 use Rattle.mq_rules.specs.declared.note.Seen.{Seen}
-use Rattle.mq_rules.specs.Words.{is_id}
+use Rattle.mq_rules.specs.Words.{is_id, is_some_and}
 use Rattle.mq_rules.specs.Notes.{is_open, is_rest}
 use Rattle.mq_rules.specs.Moments.{Moment, some, earliest_since}
 use Rattle.mq_rules.specs.Connections.{connection, accepts, ends_binding}
 use Rattle.mq_rules.specs.Exchanges.{Exchange, causes, answers}
+use Rattle.mq_rules.specs.Rules.{binds}
 use Rattle.mq_rules.specs.FaultKeys.{FaultMap, fault_at, with_fault}
+use Rattle.mq_books.specs.declared.ordering.Debt.{Debt}
+use Rattle.mq_books.specs.Orderings.{IsQueue}
 
 -- the first cause of i on the latest connection without an answer since
 abbrev pub due_of : Exchange → ℕ → List Seen → Option Moment
@@ -25,16 +28,18 @@ place_of o = option_map (λ m. m.event.place) o
 abbrev pub due_next : Note → Option ℕ → Option ℕ → Place3 → ℕ → Option Place3 → Option Place3
 due_next n cause answer at i old = option_or (cond (is_id i answer) None (cond (is_open n) None old)) (cond (is_id i cause) (Some at) None)
 
--- neither an OPEN nor a REST is a cause or an answer, and nothing is both for one identifier
-pub record IsApart (x : Exchange) : Type 0 where
-  pub open_causes : (n : Note) → is_open n ≡ true → x.cause n ≡ None
-  pub apart : (n : Note) (i : ℕ) → is_id i (x.cause n) ≡ true → is_id i (x.answer n) ≡ false
-
 -- These events lead to what is kept. What is due is known where the connection is accepted.
 pub record IsOwed (x : Exchange) (fate : Fate) (ended : Bool) (due : ℕ → Option Place3) (tested : Tested) (taken : Option Fate) (past : List Seen) : Type 0 where
   pub same_fate : taken ≡ Some fate
   pub is_ended : ended ≡ some ends_binding (connection past)
   pub due_are : accepts fate ≡ true → (i : ℕ) → due i ≡ place_of (due_of x i past)
+
+-- What the book keeps is right: whether its statements are judged, what is due, and the queue where there is a statement on the order.
+pub record IsOwing (x : Exchange) (settled : Rule) (ordered : Option Rule) (binding order_binding : Bool) (fate : Fate) (ended : Bool) (due : ℕ → Option Place3) (queue : List Debt) (tested : Tested) (taken : Option Fate) (past : List Seen) : Type 0 where
+  pub binds_are : binding ≡ binds settled tested
+  pub order_binds_are : order_binding ≡ is_some_and (λ rule. binds rule tested) ordered
+  pub owed : IsOwed x fate ended due tested taken past
+  pub queued : is_some ordered ≡ true → accepts fate ≡ true → IsQueue due queue (length past)
 
 -- the faults of the moments of these places, decided there
 abbrev pub blamed : Rule → ℕ → List Place3 → FaultMap → FaultMap

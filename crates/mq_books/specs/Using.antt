@@ -1,35 +1,117 @@
 -- What the book of identifiers in use keeps.
-use Rattle.std.specs.Prelude.{ℕ, ◌≡◌, Bool, ◌&&◌, ◌||◌, not, cond, List, Option, Some}
+use Rattle.std.specs.Prelude.{ℕ, ◌≡◌, nat_eq, nat_lt, Bool, ◌&&◌, ◌||◌, not, cond, List, [], ◌∷◌, Option, Some, None, is_some}
+use Rattle.indexmap.specs.IndexMap.{get, IsUnique}
+use Rattle.indexmap.specs.IndexSet.{contains}
+use Rattle.mq_trace.specs.declared.place.Place3.{Place3}
 use Rattle.mq_rules.specs.declared.role.Role.{Role}
 use Rattle.mq_rules.specs.declared.role.Tested.{Tested}
 use Rattle.mq_rules.specs.declared.fate.Fate.{Fate}
+use Rattle.mq_rules.specs.declared.rule.Rule.{Rule}
+use Rattle.mq_rules.specs.declared.rule.Rule.TheVariants.{S01, S02, S03, S04, S05, S06}
 use Rattle.mq_rules.specs.declared.note.Note.{Note}
 use Rattle.mq_rules.specs.declared.note.Seen.{Seen}
 use Rattle.mq_rules.specs.Words.{is_some_and, is_id}
-use Rattle.mq_rules.specs.Notes.{is_open, opener_of, closer_of, sent_as, received_as, subscribe_in, suback_in, unsubscribe_in, unsuback_in}
-use Rattle.mq_rules.specs.Moments.{note, since}
-use Rattle.mq_rules.specs.Connections.{connection, accepts, begins}
-use Rattle.mq_rules.specs.Folds.{session_since}
-use Rattle.mq_rules.specs.Identifiers.{opens_id, closes_id, taken_by}
+use Rattle.mq_rules.specs.Notes.{is_open, closer_of, delivery_of, resend_of, sent_as, received_as, subscribe_in, suback_in, unsubscribe_in, unsuback_in}
+use Rattle.mq_rules.specs.Moments.{note, moments, some, since, those}
+use Rattle.mq_rules.specs.Connections.{number, connection, accepts, voided, fate_under, session, ends_binding}
+use Rattle.mq_rules.specs.Identifiers.{delivers, taken_by, counts}
+use Rattle.mq_rules.specs.Counter.{in_flight}
+use Rattle.mq_rules.specs.Rules.{same_rule, binds}
+use Rattle.mq_rules.specs.FaultKeys.{FaultMap}
+use Rattle.mq_books.specs.declared.inflight.Inflight.{Inflight}
+use Rattle.mq_books.specs.declared.inflight.broken.Broken.{Broken}
+use Rattle.mq_books.specs.declared.inflight.entry.Entry.{Entry}
+use Rattle.mq_books.specs.Quotas.{judged_by, peer_room}
+use Rattle.mq_books.specs.Opened.{entry_in}
+use Rattle.mq_books.specs.Resending.{opened_at, peer_bounds}
 
 -- on the latest connection, something was begun under i by the first, and not ended by the second since
 abbrev pub waits : (Note → Option ℕ) → (Note → Option ℕ) → ℕ → List Seen → Bool
 waits starts ends i past = since (λ m. is_id i (starts (note m))) (λ m. is_id i (ends (note m))) (connection past)
 
--- what is held after an event
-abbrev pub held_next : Fate → Note → ℕ → Bool → Bool
-held_next f n i old = cond (is_open n) (not (begins (Some f)) && old) (cond (accepts f) (is_id i (opener_of n) || (not (is_id i (closer_of n)) && old)) old)
-
 abbrev pub waits_next : Option ℕ → Option ℕ → Bool → ℕ → Bool → Bool
 waits_next starts ends opens i old = is_id i starts || (not (is_id i ends) && (not opens && old))
 
-abbrev pub takes_busy : Fate → Role → Note → (ℕ → Bool) → (ℕ → Bool) → (ℕ → Bool) → Bool
-takes_busy f role n held subscribing unsubscribing = accepts f && is_some_and (λ i. held i || (subscribing i || unsubscribing i)) (taken_by role n)
+-- a PUBLISH under i was sent on a void connection, where the latest one is taken to have this fate
+abbrev pub void_sent : Role → ℕ → Option Fate → List Seen → Bool
+void_sent role i taken past = some (λ j. delivers i j && voided (fate_under role taken past (number j))) (moments past)
+
+abbrev pub void_next : Fate → Note → ℕ → Bool → Bool
+void_next f n i old = (is_id i (delivery_of n) && not (accepts f)) || old
+
+-- ---- the order in which PUBLISH packets are sent again
+
+-- the position of the opener of what is sent again, if that is open, else 0
+abbrev pub place_or_zero : Option Entry → ℕ
+place_or_zero None = 0
+place_or_zero (Some o) = o.place.position
+
+abbrev pub resent_by : Option ℕ → (ℕ → Option Entry) → ℕ
+resent_by None entry = 0
+resent_by (Some i) entry = place_or_zero (entry i)
+
+abbrev pub greater : ℕ → ℕ → ℕ
+greater a b = cond (nat_lt b a) a b
+
+abbrev pub resent_next : Note → (ℕ → Option Entry) → ℕ → ℕ
+resent_next n entry old = cond (is_open n) 0 (greater (resent_by (resend_of n) entry) old)
+
+-- the greatest position of an opener whose PUBLISH was sent again on the latest connection, while it was open there; 0 if there is none
+abbrev pub resent_in : Role → Option Fate → List Seen → ℕ
+resent_in role taken [] = 0
+resent_in role taken (e ∷ past) = resent_next e.note (λ i. entry_in i (session role taken past)) (resent_in role taken past)
+
+-- ---- what an event breaks
+
+abbrev pub takes_busy : Fate → Role → Note → (ℕ → Option Entry) → (ℕ → Bool) → (ℕ → Bool) → Bool
+takes_busy f role n entry subscribing unsubscribing = accepts f && is_some_and (λ i. is_some (entry i) || (subscribing i || unsubscribing i)) (taken_by role n)
+
+-- the identifier of a PUBLISH that is sent again is not open and not of a void connection; is past its PUBREL; was opened before one that was sent again
+abbrev pub unopened : (ℕ → Option Entry) → (ℕ → Bool) → ℕ → Bool
+unopened entry void i = not (is_some (entry i) || void i)
+
+abbrev pub past_pubrel : (ℕ → Option Entry) → ℕ → Bool
+past_pubrel entry i = is_some_and (λ o. o.exactly_once && o.released) (entry i)
+
+abbrev pub out_of_order : (ℕ → Option Entry) → ℕ → ℕ → Bool
+out_of_order entry resent i = is_some_and (λ o. nat_lt o.place.position resent) (entry i)
+
+-- what an event of a connection with this fate breaks
+abbrev pub breaks : Inflight → Fate → Note → Broken
+breaks s f n = record {
+  takes_busy = takes_busy f s.role n (get nat_eq s.entries) (contains nat_eq s.subscribing) (contains nat_eq s.unsubscribing);
+  unopened = accepts f && is_some_and (unopened (get nat_eq s.entries) (contains nat_eq s.void)) (resend_of n);
+  twice = accepts f && is_some_and (contains nat_eq s.delivering) (resend_of n);
+  past_pubrel = accepts f && is_some_and (past_pubrel (get nat_eq s.entries)) (resend_of n);
+  out_of_order = s.ordered && (accepts f && is_some_and (out_of_order (get nat_eq s.entries) s.resent) (resend_of n));
+}
+
+-- the faults with those of the statements that are broken at this place, decided at this position
+abbrev pub judged_all : Broken → Place3 → ℕ → FaultMap → FaultMap
+judged_all b place at faults =
+    judged_by b.out_of_order S05 place at (judged_by b.past_pubrel S04 place at (judged_by b.twice S03 place at (judged_by b.unopened S02 place at (judged_by b.takes_busy S01 place at faults))))
+
+-- the statements that are judged at the event itself, and all
+abbrev pub is_at_once : Rule → Bool
+is_at_once r = same_rule r S01 || (same_rule r S02 || (same_rule r S03 || (same_rule r S04 || same_rule r S05)))
+
+abbrev pub is_inflight : Rule → Bool
+is_inflight r = is_at_once r || same_rule r S06
 
 -- These events lead to what is kept.
-pub record IsUsing (role : Role) (fate : Fate) (held subscribing unsubscribing : ℕ → Bool) (tested : Tested) (taken : Option Fate) (past : List Seen) : Type 0 where
-  pub same_role : role ≡ tested.role
-  pub same_fate : taken ≡ Some fate
-  pub held_are : (i : ℕ) → held i ≡ session_since tested.role (opens_id i) (closes_id i) taken past
-  pub subscribing_are : (i : ℕ) → subscribing i ≡ waits (sent_as subscribe_in) (received_as suback_in) i past
-  pub unsubscribing_are : (i : ℕ) → unsubscribing i ≡ waits (sent_as unsubscribe_in) (received_as unsuback_in) i past
+pub record IsUsing (s : Inflight) (tested : Tested) (taken : Option Fate) (past : List Seen) : Type 0 where
+  pub same_role : s.role ≡ tested.role
+  pub same_fate : taken ≡ Some s.fate
+  pub is_ordered : s.ordered ≡ binds S05 tested
+  pub distinct : IsUnique nat_eq s.entries
+  pub entries_are : (i : ℕ) → get nat_eq s.entries i ≡ entry_in i (session tested.role taken past)
+  pub delivering_are : (i : ℕ) → contains nat_eq s.delivering i ≡ waits delivery_of closer_of i past
+  pub void_are : (i : ℕ) → contains nat_eq s.void i ≡ void_sent tested.role i taken past
+  pub subscribing_are : (i : ℕ) → contains nat_eq s.subscribing i ≡ waits (sent_as subscribe_in) (received_as suback_in) i past
+  pub unsubscribing_are : (i : ℕ) → contains nat_eq s.unsubscribing i ≡ waits (sent_as unsubscribe_in) (received_as unsuback_in) i past
+  pub resent_is : s.resent ≡ resent_in tested.role taken past
+  pub is_ended : s.ended ≡ some ends_binding (connection past)
+  pub opened_is : s.opened ≡ opened_at past
+  pub same_peer : s.peer ≡ peer_room tested.role past
+  pub flying : s.in_flight ≡ in_flight (those (counts tested.role) (connection past))
+  pub bounds_are : s.bounds ≡ peer_bounds tested.role past

@@ -1,96 +1,132 @@
-//! The identifiers in use.
+//! The Packet Identifiers in use, and what is sent again (MQTT 5.0, sections 2.2.1, 4.3 and 4.4).
 ghost use Rattle.std.specs.Prelude.{refl};
-ghost use Rattle.std.specs.Prelude.{◌≡◌, ◌^◌, ℕ, Bool, ◌||◌, ◌&&◌, not, OnOk, nat_eq, [], Some};
+ghost use Rattle.std.specs.Prelude.{◌≡◌, ◌<◌, ◌^◌, ℕ, ◌&&◌, ◌||◌, not, cond, OnOk, nat_eq, [], Some, None};
+ghost use Rattle.std.specs.Option.{option_or};
+ghost use Rattle.indexmap.specs.IndexMap.{get, IsUnique};
 ghost use Rattle.indexmap.specs.IndexSet.{contains};
 ghost use Rattle.mq_rules.specs.declared.fate.Fate.TheVariants.{Void};
-ghost use Rattle.mq_rules.specs.declared.rule.Rule.TheVariants.{S01};
-ghost use Rattle.mq_rules.specs.Words.{is_id};
-ghost use Rattle.mq_rules.specs.Rules.{same_rule};
+ghost use Rattle.mq_rules.specs.Notes.{closer_of, delivery_of, sent_as, received_as, subscribe_in, suback_in, unsubscribe_in, unsuback_in, is_open as opens};
 ghost use Rattle.mq_rules.specs.Under.{IsKnown, turns_known};
-ghost use Rattle.mq_books.specs.Using.{IsUsing, held_next, waits_next, takes_busy};
+ghost use Rattle.mq_books.specs.Pingings.{ends_by};
+ghost use Rattle.mq_books.specs.Quotas.{announced, may_count as counts_now, flown as flown_by};
+ghost use Rattle.mq_books.specs.Opened.{entry_next};
+ghost use Rattle.mq_books.specs.Resending.{bounds_next};
+ghost use Rattle.mq_books.specs.Using.{IsUsing, breaks, is_inflight, waits_next, void_next, resent_next};
+
+mod broken;
+mod entry;
+mod resends;
 
 use crate::fated::Fated;
-use crate::known::judge_by;
-use indexmap::IndexSet;
+use crate::pings::ended_after;
+use crate::quota::{flown, may_count, peer_after};
+use broken::{
+    Broken, is_out_of_order, is_past_pubrel, is_twice, is_unopened, judge_all, resent_after, takes,
+};
+use entry::{Entry, take_entries};
+use indexmap::{IndexMap, IndexSet};
 use mq_rules::{Fate, Faults, Memory, Note, Role, Rule, Tested, Watch};
 use mq_trace::Place3;
+use resends::{bounds_after, is_excused, rests_now, settle};
 use std::alloc::Global;
 
-/// Watches S01.
+/// Watches S01 to S06.
 #[derive(Drop)]
 pub struct Inflight {
     role: Role,
     fate: Fate,
-    held: IndexSet<u16>,
+    /// Whether PUBLISH packets have to be sent again in their order.
+    ordered: bool,
+    /// The identifiers that are open in the session.
+    entries: IndexMap<u16, Entry>,
+    /// Those of PUBLISH packets that were sent on the connection, and not acknowledged there since.
+    delivering: IndexSet<u16>,
+    /// Those of PUBLISH packets that were sent on void connections.
+    void: IndexSet<u16>,
+    /// Those of SUBSCRIBE packets that were sent on the connection, and not answered.
     subscribing: IndexSet<u16>,
+    /// The same for UNSUBSCRIBE.
     unsubscribing: IndexSet<u16>,
+    /// The greatest position of an opener whose PUBLISH was sent again on the connection.
+    resent: u32,
+    /// Whether no REST binds on the connection any more.
+    ended: bool,
+    /// The position of the connection's OPEN.
+    opened: u32,
+    /// The Receive Maximum that the peer announced.
+    peer: Option<u16>,
+    /// How many PUBLISH packets are in flight on the connection.
+    in_flight: u64,
+    /// Whether the peer announced a Maximum Packet Size or a Maximum QoS.
+    bounds: Option<bool>,
 }
 
-/// Puts in what is gained, after what is lost is out.
-fn gain(
-    set: &mut IndexSet<u16>,
+/// Puts in what is begun, after what is ended is out. An OPEN ends all.
+fn await_answer(
+    waiting: &mut IndexSet<u16>,
     opens: bool,
-    gained: Option<u16>,
-    lost: Option<u16>,
+    begun: Option<u16>,
+    ended: Option<u16>,
 ) -> Result<(), Memory>
-    ensures { OnOk result ((i : ℕ) → contains nat_eq set.new i ≡ waits_next gained lost opens i (contains nat_eq set.old i)) }
+    ensures { OnOk result ((i : ℕ) → contains nat_eq waiting.new i ≡ waits_next begun ended opens i (contains nat_eq waiting.old i)) }
 {
     if opens {
-        set.clear();
+        waiting.clear();
     }
-    if let Some(i) = lost {
-        set.swap_remove(&i);
+    if let Some(i) = ended {
+        waiting.swap_remove(&i);
     }
-    if let Some(i) = gained {
-        set.insert(i)?;
+    if let Some(i) = begun {
+        waiting.insert(i)?;
     }
     Ok(())
 }
 
-/// Takes in an event of a connection that has this fate.
-fn take_held(held: &mut IndexSet<u16>, fate: Fate, note: &Note) -> Result<(), Memory>
-    ensures { OnOk result ((i : ℕ) → contains nat_eq held.new i ≡ held_next fate note.now i (contains nat_eq held.old i)) }
+/// Puts in the identifier of a PUBLISH that is sent on a void connection.
+fn take_void(void: &mut IndexSet<u16>, fate: Fate, note: &Note) -> Result<(), Memory>
+    ensures { OnOk result ((i : ℕ) → contains nat_eq void.new i ≡ void_next fate note.now i (contains nat_eq void.old i)) }
 {
-    if note.is_open() {
-        if matches!(fate, Fate::New) {
-            held.clear();
-        }
+    if fate.accepts() {
         return Ok(());
     }
-    if !fate.accepts() {
-        return Ok(());
+    if let Some(i) = note.delivery() {
+        void.insert(i)?;
     }
-    gain(held, false, note.opener(), note.closer())?;
     Ok(())
 }
 
-fn is_busy(
-    held: &IndexSet<u16>,
-    subscribing: &IndexSet<u16>,
-    unsubscribing: &IndexSet<u16>,
-    i: u16,
-) -> bool
-    ensures { result ≡ (contains nat_eq held.now i || (contains nat_eq subscribing.now i || contains nat_eq unsubscribing.now i)) }
+/// Takes in a PUBLISH and what acknowledges it.
+fn take_delivering(delivering: &mut IndexSet<u16>, note: &Note) -> Result<(), Memory>
+    ensures { OnOk result ((i : ℕ) → contains nat_eq delivering.new i ≡ waits_next (delivery_of note.now) (closer_of note.now) (opens note.now) i (contains nat_eq delivering.old i)) }
 {
-    held.contains(&i) || (subscribing.contains(&i) || unsubscribing.contains(&i))
+    await_answer(delivering, note.is_open(), note.delivery(), note.closer())?;
+    Ok(())
 }
 
-/// Whether the event takes an identifier that is busy.
-fn takes(
-    fate: Fate,
-    role: Role,
-    note: &Note,
-    held: &IndexSet<u16>,
-    subscribing: &IndexSet<u16>,
-    unsubscribing: &IndexSet<u16>,
-) -> bool
-    ensures { result ≡ takes_busy fate role note.now (contains nat_eq held.now) (contains nat_eq subscribing.now) (contains nat_eq unsubscribing.now) }
+/// Takes in a SUBSCRIBE and a SUBACK.
+fn take_subscribing(subscribing: &mut IndexSet<u16>, note: &Note) -> Result<(), Memory>
+    ensures { OnOk result ((i : ℕ) → contains nat_eq subscribing.new i ≡ waits_next (sent_as subscribe_in note.now) (received_as suback_in note.now) (opens note.now) i (contains nat_eq subscribing.old i)) }
 {
-    fate.accepts()
-        && match note.taken_identifier(role) {
-            Some(i) => is_busy(held, subscribing, unsubscribing, i),
-            None => false,
-        }
+    await_answer(
+        subscribing,
+        note.is_open(),
+        note.sent_subscribe(),
+        note.received_suback(),
+    )?;
+    Ok(())
+}
+
+/// Takes in an UNSUBSCRIBE and an UNSUBACK.
+fn take_unsubscribing(unsubscribing: &mut IndexSet<u16>, note: &Note) -> Result<(), Memory>
+    ensures { OnOk result ((i : ℕ) → contains nat_eq unsubscribing.new i ≡ waits_next (sent_as unsubscribe_in note.now) (received_as unsuback_in note.now) (opens note.now) i (contains nat_eq unsubscribing.old i)) }
+{
+    await_answer(
+        unsubscribing,
+        note.is_open(),
+        note.sent_unsubscribe(),
+        note.received_unsuback(),
+    )?;
+    Ok(())
 }
 
 impl Inflight {
@@ -101,19 +137,90 @@ impl Inflight {
         Inflight {
             role: tested.role,
             fate: Fate::Void,
-            held: IndexSet::new(alloc),
+            ordered: Rule::S05.is_judged(tested),
+            entries: IndexMap::new(alloc),
+            delivering: IndexSet::new(alloc),
+            void: IndexSet::new(alloc),
             subscribing: IndexSet::new(alloc),
             unsubscribing: IndexSet::new(alloc),
+            resent: 0,
+            ended: false,
+            opened: 0,
+            peer: None,
+            in_flight: 0,
+            bounds: None,
         }
+    }
+
+    /// What an event of a connection with this fate breaks.
+    fn broken_by(&self, fate: Fate, note: &Note) -> Broken
+        ensures { result ≡ breaks self.now fate note.now }
+    {
+        Broken {
+            takes_busy: takes(
+                fate,
+                self.role,
+                note,
+                &self.entries,
+                &self.subscribing,
+                &self.unsubscribing,
+            ),
+            unopened: is_unopened(fate, note, &self.entries, &self.void),
+            twice: is_twice(fate, note, &self.delivering),
+            past_pubrel: is_past_pubrel(fate, note, &self.entries),
+            out_of_order: is_out_of_order(self.ordered, fate, note, &self.entries, self.resent),
+        }
+    }
+
+    /// Takes in an event of a connection with this fate.
+    fn take_in(&mut self, at: Place3, fate: Fate, note: &Note) -> Result<(), Memory>
+        ensures role { OnOk result (self.new.role ≡ self.old.role) }
+        ensures fate { OnOk result (self.new.fate ≡ fate) }
+        ensures ordered { OnOk result (self.new.ordered ≡ self.old.ordered) }
+        ensures distinct { IsUnique nat_eq self.old.entries → OnOk result (IsUnique nat_eq self.new.entries) }
+        ensures entries { OnOk result ((i : ℕ) → get nat_eq self.new.entries i ≡ entry_next fate note.now at i (get nat_eq self.old.entries i)) }
+        ensures delivering { OnOk result ((i : ℕ) → contains nat_eq self.new.delivering i ≡ waits_next (delivery_of note.now) (closer_of note.now) (opens note.now) i (contains nat_eq self.old.delivering i)) }
+        ensures void { OnOk result ((i : ℕ) → contains nat_eq self.new.void i ≡ void_next fate note.now i (contains nat_eq self.old.void i)) }
+        ensures subscribing { OnOk result ((i : ℕ) → contains nat_eq self.new.subscribing i ≡ waits_next (sent_as subscribe_in note.now) (received_as suback_in note.now) (opens note.now) i (contains nat_eq self.old.subscribing i)) }
+        ensures unsubscribing { OnOk result ((i : ℕ) → contains nat_eq self.new.unsubscribing i ≡ waits_next (sent_as unsubscribe_in note.now) (received_as unsuback_in note.now) (opens note.now) i (contains nat_eq self.old.unsubscribing i)) }
+        ensures resent { OnOk result (self.new.resent ≡ resent_next note.now (get nat_eq self.old.entries) self.old.resent) }
+        ensures ended { OnOk result (self.new.ended ≡ (ends_by note.now || (not (opens note.now) && self.old.ended))) }
+        ensures opened { OnOk result (self.new.opened ≡ cond (opens note.now) at.position self.old.opened) }
+        ensures peer { OnOk result (self.new.peer ≡ option_or (cond (opens note.now) None self.old.peer) (announced self.old.role note.now)) }
+        ensures flying { self.old.in_flight < at.position → OnOk result (self.new.in_flight ≡ flown_by (counts_now self.old.role self.old.peer) note.now self.old.in_flight) }
+        ensures bounds { OnOk result (self.new.bounds ≡ bounds_next self.old.role note.now self.old.bounds) }
+    {
+        self.resent = resent_after(self.resent, note, &self.entries);
+        self.fate = fate;
+        self.ended = ended_after(self.ended, note);
+        self.opened = if note.is_open() {
+            at.position
+        } else {
+            self.opened
+        };
+        self.in_flight = flown(
+            may_count(self.role, self.peer),
+            note,
+            self.in_flight,
+            at.position,
+        );
+        self.peer = peer_after(self.role, self.peer, note);
+        self.bounds = bounds_after(self.role, self.bounds, note);
+        take_entries(&mut self.entries, at, fate, note)?;
+        take_delivering(&mut self.delivering, note)?;
+        take_void(&mut self.void, fate, note)?;
+        take_subscribing(&mut self.subscribing, note)?;
+        take_unsubscribing(&mut self.unsubscribing, note)?;
+        Ok(())
     }
 }
 
 impl Watch for Inflight {
-    ghost agrees = { λ s tested taken past. IsUsing s.role s.fate (contains nat_eq s.held) (contains nat_eq s.subscribing) (contains nat_eq s.unsubscribing) tested taken past };
+    ghost agrees = { IsUsing };
 
     ghost takes = { IsKnown };
 
-    ghost adds = { λ tested e past k r. same_rule r S01 && turns_known tested e past k r };
+    ghost adds = { λ tested e past k r. is_inflight r && turns_known tested e past k r };
 
     ghost bound = { λ tested taken past. 2 ^ 64 };
 
@@ -124,12 +231,17 @@ impl Watch for Inflight {
     }
 
     fn weight(&self) -> usize {
-        self.held.len()
+        self.entries
+            .len()
+            .saturating_add(self.delivering.len())
+            .saturating_add(self.void.len())
+            .saturating_add(self.subscribing.len())
+            .saturating_add(self.unsubscribing.len())
     }
 }
 
 impl Fated for Inflight {
-    ghost judges = { λ r. same_rule r S01 };
+    ghost judges = { is_inflight };
 
     fn fated(
         &mut self,
@@ -139,29 +251,12 @@ impl Fated for Inflight {
         note: &Note,
         faults: &mut Faults,
     ) -> Result<(), Memory> {
-        let broken = takes(
-            fate,
-            self.role,
-            note,
-            &self.held,
-            &self.subscribing,
-            &self.unsubscribing,
-        );
-        take_held(&mut self.held, fate, note)?;
-        gain(
-            &mut self.subscribing,
-            note.is_open(),
-            note.sent_subscribe(),
-            note.received_suback(),
-        )?;
-        gain(
-            &mut self.unsubscribing,
-            note.is_open(),
-            note.sent_unsubscribe(),
-            note.received_unsuback(),
-        )?;
-        self.fate = fate;
-        judge_by(Rule::S01, broken, at, decided, faults)?;
+        let broken = self.broken_by(fate, note);
+        judge_all(&broken, at, decided, faults)?;
+        let rests = rests_now(fate, decided == at.position, self.ended, note);
+        let excused = is_excused(self.peer, self.in_flight, self.bounds);
+        settle(rests, &self.entries, self.opened, excused, decided, faults)?;
+        self.take_in(at, fate, note)?;
         Ok(())
     }
 

@@ -5,22 +5,39 @@
 //! them in with the fate that is then known.
 #![tactic(auto)]
 
+mod asked;
+mod counts;
+mod debts;
+#[cfg(test)]
+mod debts_tests;
 mod early;
+mod exchange;
 mod fated;
 mod inflight;
 mod judging;
 mod known;
+mod ordering;
 mod owed;
 mod pings;
 mod quota;
+mod releases;
+mod subs;
+mod subs_all;
 #[cfg(test)]
 mod tests;
 
+pub use asked::Asked;
+pub use counts::{Counted, Counts, Replies, Subacks, Unsubacks};
+pub use debts::Debts;
 pub use early::Early;
+pub use exchange::{E1, E2, E3, E4, E5, E6, Exchange};
 pub use fated::Fated;
 pub use inflight::Inflight;
-pub use judging::{Judge, judge_log, watch_all};
+pub use judging::watch_all;
 pub use known::judge_by;
-pub use owed::{E1, Exchange, Owed};
+pub use owed::Owed;
 pub use pings::Pings;
 pub use quota::Quota;
+pub use releases::Releases;
+pub use subs::Deliveries;
+pub use subs_all::Subs;

@@ -1,55 +1,30 @@
-//! What is owed in an exchange.
-ghost use Rattle.std.specs.Prelude.{◌≡◌, ℕ, Bool, ◌||◌, ◌&&◌, not, true, false, OnOk, OnErr, nat_eq, [], Option, None, Some, cond, ◌^◌};
+//! Each cause is answered before a REST, and answers are sent in the order of their causes (MQTT 5.0, sections 3.8.4, 3.10.4, 4.3 and 4.6).
+ghost use Rattle.std.specs.Prelude.{◌≡◌, ℕ, ◌||◌, ◌&&◌, true, OnOk, OnErr, nat_eq, [], Some, cond, ◌^◌, refl};
 ghost use Rattle.indexmap.specs.IndexMap.{get, values, IsUnique};
-ghost use Rattle.mq_rules.specs.declared.role.Role.{Role as TheRole};
-ghost use Rattle.mq_rules.specs.declared.rule.Rule.{Rule as TheRule};
-ghost use Rattle.mq_rules.specs.declared.rule.Rule.TheVariants.{E1R};
 ghost use Rattle.mq_rules.specs.declared.fate.Fate.TheVariants.{Void};
+ghost use Rattle.mq_rules.specs.Words.{is_some_and};
 ghost use Rattle.mq_rules.specs.Connections.{accepts};
-ghost use Rattle.mq_rules.specs.Exchanges.{Exchange as TheExchange, publish_puback, shows_R};
-ghost use Rattle.mq_rules.specs.Statements.{statement, at_rest};
 ghost use Rattle.mq_rules.specs.Rules.{same_rule, binds as is_bound};
 ghost use Rattle.mq_rules.specs.Under.{IsKnown, turns_known};
-ghost use Rattle.mq_books.specs.Owings.{IsApart, IsOwed, due_next, blamed, Keeps, binds_by};
-ghost use Rattle.mq_books.specs.Firsts.{puback_apart};
-ghost use Rattle.std.specs.Prelude.{refl};
+ghost use Rattle.mq_books.specs.Owings.{IsOwing, due_next, blamed, Keeps, binds_by};
+ghost use Rattle.mq_books.specs.Orderings as passing;
+ghost use Rattle.mq_books.specs.Orderings.{looked_at};
 
+use crate::exchange::Exchange;
 use crate::fated::Fated;
+use crate::ordering::{Debt, judge_order, passes_over, take_queue, tidy};
 use crate::pings::ended_after;
 use indexmap::IndexMap;
-use mq_rules::{Fate, Fault, FaultKey, Faults, Memory, Note, Role, Rule, Tested, Watch};
+use mq_rules::{Fate, Fault, FaultKey, Faults, Memory, Note, Rule, Tested, Watch};
 use mq_trace::Place3;
 use std::alloc::Global;
+use std::collections::VecDeque;
 use std::marker::PhantomData;
 
-/// Causes and their answers.
-pub trait Exchange {
-    /// What is a cause and an answer.
-    ghost exchange: { TheExchange };
-    /// The statement that a cause has an answer.
-    ghost met: { TheRule };
-
-    /// The identifier of a cause.
-    fn cause(note: &Note) -> Option<u16>
-        ensures { result ≡ exchange.cause note.now };
-
-    /// The identifier of an answer.
-    fn answer(note: &Note) -> Option<u16>
-        ensures { result ≡ exchange.answer note.now };
-
-    /// The statement that a cause has an answer.
-    fn met() -> Rule
-        ensures { result ≡ met };
-
-    /// The table says the same.
-    ghost met_says: { (role : TheRole) → statement role met ≡ at_rest (shows_R exchange) };
-    /// No event is both, and no OPEN is a cause.
-    ghost apart: { IsApart exchange };
-}
-
-/// Takes in a cause and an answer.
+/// Takes in an event: an answer settles what is due under its identifier, and a cause falls due where nothing is.
 fn fall_due(
     due: &mut IndexMap<u16, Place3>,
+    alloc: Global,
     at: Place3,
     note: &Note,
     cause: Option<u16>,
@@ -59,7 +34,8 @@ fn fall_due(
     ensures unique { IsUnique nat_eq due.old → OnOk result (IsUnique nat_eq due.new) }
 {
     if note.is_open() {
-        due.clear();
+        // A large map that is cleared costs its size each time.
+        *due = IndexMap::new(alloc);
     }
     if let Some(i) = answer {
         due.swap_remove(&i);
@@ -72,9 +48,10 @@ fn fall_due(
     Ok(())
 }
 
-/// Takes in an event of a connection that has this fate.
+/// Takes in an event of a connection that has this fate. What isn't accepted changes nothing.
 fn take_due(
     due: &mut IndexMap<u16, Place3>,
+    alloc: Global,
     at: Place3,
     fate: Fate,
     note: &Note,
@@ -87,7 +64,7 @@ fn take_due(
     if !fate.accepts() {
         return Ok(());
     }
-    fall_due(due, at, note, cause, answer)?;
+    fall_due(due, alloc, at, note, cause, answer)?;
     Ok(())
 }
 
@@ -118,7 +95,7 @@ fn blame(
     Ok(())
 }
 
-/// Adds the faults of what is due, if it is to be settled.
+/// Adds the faults of what is due, if a REST binds.
 #[tactic(auto, using(crate::proofs::BlameLaws::keeps_same))]
 fn settle(
     rests: bool,
@@ -138,44 +115,77 @@ fn settle(
     Ok(())
 }
 
-/// Whether this is a REST that binds, and the statement is judged.
-fn rests_now(bound: bool, fate: Fate, known: bool, ended: bool, note: &Note) -> bool
-    ensures { result ≡ (bound && binds_by fate known ended note.now) }
+/// Whether the statement is judged, and this is a REST that binds: its connection is decided and accepted, and nothing ended binding.
+fn rests_now(is_judged: bool, fate: Fate, is_decided: bool, ended: bool, note: &Note) -> bool
+    ensures { result ≡ (is_judged && binds_by fate is_decided ended note.now) }
 {
-    bound && (note.is_rest() && (known && (fate.accepts() && !ended)))
+    is_judged && (note.is_rest() && (is_decided && (fate.accepts() && !ended)))
 }
 
-/// Watches the statement R of an exchange.
+/// Watches that each cause is answered before a REST, and the order of answers if the exchange has one.
 #[derive(Drop)]
 pub struct Owed<X: Exchange> {
-    bound: bool,
+    alloc: Global,
+    binds: bool,
+    order_binds: bool,
     fate: Fate,
+    // After this event no REST binds on the connection.
     ended: bool,
+    // Under each identifier: the first cause on the connection without an answer since.
     due: IndexMap<u16, Place3>,
+    // All that is due, in order, and some of what was due.
+    queue: VecDeque<Debt>,
     exchange: PhantomData<X>,
 }
 
+/// Whether a statement is judged, if there is one.
+fn is_any_judged(rule: Option<Rule>, tested: Tested) -> bool
+    ensures { result ≡ is_some_and (λ r. is_bound r tested) rule }
+{
+    match rule {
+        Some(rule) => rule.is_judged(tested),
+        None => false,
+    }
+}
+
+/// Whether the statement on the order is judged, and an answer passes over what is due.
+fn is_out_of_order(
+    binds: bool,
+    fate: Fate,
+    queue: &mut VecDeque<Debt>,
+    due: &IndexMap<u16, Place3>,
+    answer: Option<u16>,
+) -> bool
+    ensures queue { queue.new.items ≡ cond (binds && accepts fate) (looked_at (get nat_eq due.now) answer queue.old.items) queue.old.items }
+    ensures broken { result ≡ (binds && (accepts fate && passing.passes_over (get nat_eq due.now) answer (looked_at (get nat_eq due.now) answer queue.old.items))) }
+{
+    binds && (fate.accepts() && passes_over(queue, due, answer))
+}
+
 impl<X: Exchange> Owed<X> {
-    /// Nothing is owed.
+    /// No event was told yet.
     pub fn new(alloc: Global, tested: Tested) -> Self
         ensures { ⟦<Owed<X> as Watch>⟧.agrees result tested (Some Void) [] }
     {
         Owed {
-            bound: X::met().is_judged(tested),
+            alloc,
+            binds: X::settled_rule().is_judged(tested),
+            order_binds: is_any_judged(X::ordered_rule(), tested),
             fate: Fate::Void,
             ended: false,
             due: IndexMap::new(alloc),
+            queue: VecDeque::new(alloc),
             exchange: PhantomData,
         }
     }
 }
 
 impl<X: Exchange> Watch for Owed<X> {
-    ghost agrees = { λ s tested taken past. (s.bound ≡ is_bound X.met tested) × IsUnique nat_eq s.due × IsOwed X.exchange s.fate s.ended (get nat_eq s.due) tested taken past };
+    ghost agrees = { λ s tested taken past. IsUnique nat_eq s.due × IsOwing X.exchange X.settled X.ordered s.binds s.order_binds s.fate s.ended (get nat_eq s.due) s.queue.items tested taken past };
 
     ghost takes = { IsKnown };
 
-    ghost adds = { λ tested e past k r. same_rule r X.met && turns_known tested e past k r };
+    ghost adds = { λ tested e past k r. (same_rule r X.settled || is_some_and (same_rule r) X.ordered) && turns_known tested e past k r };
 
     ghost bound = { λ tested taken past. 2 ^ 64 };
 
@@ -186,12 +196,12 @@ impl<X: Exchange> Watch for Owed<X> {
     }
 
     fn weight(&self) -> usize {
-        self.due.len()
+        self.due.len().saturating_add(self.queue.len())
     }
 }
 
 impl<X: Exchange> Fated for Owed<X> {
-    ghost judges = { λ r. same_rule r X.met };
+    ghost judges = { λ r. same_rule r X.settled || is_some_and (same_rule r) X.ordered };
 
     fn fated(
         &mut self,
@@ -203,41 +213,21 @@ impl<X: Exchange> Fated for Owed<X> {
     ) -> Result<(), Memory> {
         let cause = X::cause(note);
         let answer = X::answer(note);
-        let rests = rests_now(self.bound, fate, decided == at.position, self.ended, note);
-        settle(rests, &self.due, X::met(), decided, faults)?;
-        take_due(&mut self.due, at, fate, note, cause, answer)?;
+        let ordered = X::ordered_rule();
+        let rests = rests_now(self.binds, fate, decided == at.position, self.ended, note);
+        let broken = is_out_of_order(self.order_binds, fate, &mut self.queue, &self.due, answer);
+        settle(rests, &self.due, X::settled_rule(), decided, faults)?;
+        take_queue(&mut self.queue, &self.due, ordered, at, fate, note, cause)?;
+        let alloc = self.alloc;
+        take_due(&mut self.due, alloc, at, fate, note, cause, answer)?;
+        tidy(&mut self.queue, &self.due, cause);
         self.ended = ended_after(self.ended, note);
         self.fate = fate;
+        judge_order(ordered, broken, at, decided, faults)?;
         Ok(())
     }
 
     ghost known_taken = { λ tested taken e past known. known };
 
     ghost known_adds = { λ tested e past k r. refl };
-}
-
-/// PUBLISH of QoS 1 and PUBACK.
-#[derive(Drop)]
-pub struct E1;
-
-impl Exchange for E1 {
-    ghost exchange = { publish_puback };
-
-    ghost met = { E1R };
-
-    fn cause(note: &Note) -> Option<u16> {
-        note.received_at_least_once()
-    }
-
-    fn answer(note: &Note) -> Option<u16> {
-        note.sent_puback()
-    }
-
-    fn met() -> Rule {
-        Rule::E1R
-    }
-
-    ghost met_says = { λ role. refl };
-
-    ghost apart = { puback_apart };
 }

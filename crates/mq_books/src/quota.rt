@@ -17,7 +17,7 @@ use mq_rules::{Fate, Faults, Memory, Note, Role, Rule, Tested, Watch};
 use mq_trace::Place3;
 
 /// The Receive Maximum of a peer that announces none.
-const RECEIVE_MAXIMUM: u16 = 65_535;
+pub const RECEIVE_MAXIMUM: u16 = 65_535;
 
 /// Watches S07.
 #[derive(Drop)]
@@ -45,7 +45,7 @@ fn announced(role: Role, note: &Note) -> Option<u16>
 }
 
 /// Whether the next event counts.
-fn may_count(role: Role, peer: Option<u16>) -> bool
+pub fn may_count(role: Role, peer: Option<u16>) -> bool
     ensures { result ≡ keeping.may_count role peer }
 {
     match role {
@@ -65,7 +65,7 @@ pub fn more(old: u64, position: u32) -> u64
 }
 
 /// What is in flight after an event.
-fn flown(counted: bool, note: &Note, old: u64, position: u32) -> u64
+pub fn flown(counted: bool, note: &Note, old: u64, position: u32) -> u64
     ensures { old < position → result ≡ keeping.flown counted note.now old }
 {
     if note.is_open() {
@@ -84,7 +84,7 @@ fn flown(counted: bool, note: &Note, old: u64, position: u32) -> u64
 }
 
 /// What the peer has announced after an event.
-fn peer_after(role: Role, peer: Option<u16>, note: &Note) -> Option<u16>
+pub fn peer_after(role: Role, peer: Option<u16>, note: &Note) -> Option<u16>
     ensures { result ≡ option_or (cond (is_open note.now) None peer) (keeping.announced role note.now) }
 {
     let peer = if note.is_open() { None } else { peer };

@@ -1,19 +1,19 @@
 -- The laws on statements, moments and faults that the crates above cite. They cite no other file of these proofs.
 pub use Rattle.mq_rules.proofs.BoolLaws.{and-over, and-past, and_false, and_true, both_true, differ, not_true, option_or-none, or-turn, or_false, or_left, or_parts, or_right, same_test, there}
 pub use Rattle.mq_rules.proofs.ConnLaws.{connection-next as connection-newest, earliest-next, some-next}
-pub use Rattle.mq_rules.proofs.CounterLaws.{S07-before}
+pub use Rattle.mq_rules.proofs.CounterLaws.{S07-before, used_up-counted}
 pub use Rattle.mq_rules.proofs.DecidedLaws.{fault_in-start, fault_in-step}
 pub use Rattle.mq_rules.proofs.FateLaws.{begun-least, begun-open, begun-same, connection-next, fate-elsewhere, latest_fate-next, latest_fate-open, latest_fate-same}
 pub use Rattle.mq_rules.proofs.FatedLaws.{fated-known, fated-on, fated-open}
 pub use Rattle.mq_rules.proofs.FaultKeyLaws.{fault_at-judged, fault_at-with_fault, on_err}
-pub use Rattle.mq_rules.proofs.FoldLaws.{session_since-next}
-pub use Rattle.mq_rules.proofs.GainLaws.{gains_in, gains_nothing, gains_same, gains_then, within_all, within_first, within_in, within_same, within_second}
+pub use Rattle.mq_rules.proofs.FoldLaws.{session_since-next, under-next}
+pub use Rattle.mq_rules.proofs.GainLaws.{gains_either, gains_in, gains_nothing, gains_same, gains_then, within_all, within_either_first, within_either_second, within_first, within_in, within_nothing, within_same, within_second}
 pub use Rattle.mq_rules.proofs.GivenLaws.{begun-closed, begun-open as begun-open-of-given, given-gives, number-within, rest-opens-nothing, rest-undecided}
 pub use Rattle.mq_rules.proofs.GrowLaws.{grows-start}
 pub use Rattle.mq_rules.proofs.ListingLaws.{entries-listed}
 pub use Rattle.mq_rules.proofs.OrderLaws.{orderly}
 pub use Rattle.mq_rules.proofs.PlainLaws.{beginning, grows-next, newest-first, within-next}
-pub use Rattle.mq_rules.proofs.PositionLaws.{among-moment, among-some, among-within, earliest_since-is, earliest_since-there, moment-among, moment-beginning, moment-newest, moment-older, moment-placed, moments-descend, since-stands, some-among, stands-since, those-among, those-descend}
+pub use Rattle.mq_rules.proofs.PositionLaws.{among-moment, among-some, among-within, earliest_since-is, earliest_since-there, latest-is, moment-among, moment-beginning, moment-newest, moment-older, moment-placed, moments-descend, none-earliest, session-descend, since-stands, some-among, stands-since, those-among, those-descend}
 pub use Rattle.mq_rules.proofs.SessionLaws.{session-members}
 pub use Rattle.mq_rules.proofs.StepLaws.{fails-step, fate-step, moment-newest as moment-newest-of-step, moment-next, moment-stays, moment-within}
 pub use Rattle.mq_rules.proofs.SubjectLaws.{in_order-releases, in_order-turns}

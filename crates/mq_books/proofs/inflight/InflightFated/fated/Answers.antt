@@ -1,33 +1,63 @@
-use Rattle.std.proofs.Common.{◌&&◌, ◌∷◌, nat_eq, subst, sym, ap, ◌∙◌}
-use Rattle.indexmap.specs.IndexSet.{contains}
-use Rattle.mq_rules.specs.declared.rule.Rule.TheVariants.{S01}
+use Rattle.std.proofs.Common.{◌&&◌, ◌∷◌, cond, subst, sym, ap, ◌∙◌}
+use Rattle.std.specs.Map.{values_of}
+use Rattle.mq_rules.specs.declared.rule.Rule.TheVariants.{S06}
 use Rattle.mq_rules.specs.Rules.{same_rule}
-use Rattle.mq_rules.specs.Notes.{sent_as, received_as, subscribe_in, suback_in, unsubscribe_in, unsuback_in}
 use Rattle.mq_rules.specs.FaultKeys.{FaultMap}
+use Rattle.mq_rules.proofs.Exports.{on_err, within_all, within_either_first, within_either_second}
 use Rattle.mq_rules.specs.Under.{seen, turns_with}
 use Rattle.mq_rules.specs.Growing.{Gains}
-use Rattle.mq_books.specs.Using.{waits_next}
-use Rattle.mq_books.proofs.UsingLaws.{using-next, using-gains}
+use Rattle.mq_books.specs.Resending.{blamed_due}
+use Rattle.mq_books.specs.Using.{judged_all, is_at_once, is_inflight}
+use Rattle.mq_books.proofs.BlameLaws.{within_kept}
+use Rattle.mq_books.proofs.UsingLaws.{using-gains}
+use Rattle.mq_books.proofs.ResendsLaws.{resends-gains}
+use Rattle.mq_books.proofs.InflightLaws.{inflight-next, inflight-gains}
 use Rattle.mq_books.proofs.inflight.InflightFated.fated.Goals as goal
 
 pub returns-clause-agrees : goal.returns-clause-agrees
 returns-clause-agrees c = λ tested past under u.
-    let s = c.args.self.now in
-    let n = c.args.note.now in
-    using-next tested s.role s.fate c.args.fate (contains nat_eq s.held) (contains nat_eq s.subscribing) (contains nat_eq s.unsubscribing) (contains nat_eq c.take_held.new.held) (contains nat_eq c.gain.new.set) (contains nat_eq c.gain-2.new.set) (seen c.args.at n) past u
-    c.in_ok-take_held.ensures
-    (λ i. c.in_ok-gain.ensures i
-    ∙ ap (λ o. waits_next o c.received_suback.result c.is_open.result i (contains nat_eq s.subscribing i)) c.sent_subscribe.ensures
-    ∙ ap (λ o. waits_next (sent_as subscribe_in n) o c.is_open.result i (contains nat_eq s.subscribing i)) c.received_suback.ensures
-    ∙ ap (λ b. waits_next (sent_as subscribe_in n) (received_as suback_in n) b i (contains nat_eq s.subscribing i)) c.is_open.ensures)
-    (λ i. c.in_ok-gain-2.ensures i
-    ∙ ap (λ o. waits_next o c.received_unsuback.result c.is_open-2.result i (contains nat_eq s.unsubscribing i)) c.sent_unsubscribe.ensures
-    ∙ ap (λ o. waits_next (sent_as unsubscribe_in n) o c.is_open-2.result i (contains nat_eq s.unsubscribing i)) c.received_unsuback.ensures
-    ∙ ap (λ b. waits_next (sent_as unsubscribe_in n) (received_as unsuback_in n) b i (contains nat_eq s.unsubscribing i)) c.is_open-2.ensures)
+    let t = c.in_ok-take_in.ensures in
+    inflight-next tested c.args.self.now c.take_in.new.self c.args.fate c.args.decided (seen c.args.at c.args.note.now) past under u t.role t.fate t.ordered (t.distinct u.distinct) t.entries t.delivering t.void t.subscribing t.unsubscribing t.resent t.ended t.opened t.peer t.flying t.bounds
 
 pub returns-clause-grows : goal.returns-clause-grows
 returns-clause-grows c = λ tested past under u.
     let s = c.args.self.now in
     let e = seen c.args.at c.args.note.now in
-    subst (λ (m : FaultMap). Gains (λ k r. same_rule r S01 && turns_with tested c.args.fate e past k r) tested (e ∷ past) c.args.decided c.args.faults.now m) (sym c.in_ok-judge_by.ensures.ok)
-    (using-gains tested s.role s.fate c.args.fate (contains nat_eq s.held) (contains nat_eq s.subscribing) (contains nat_eq s.unsubscribing) c.args.decided e past c.args.faults.now c.takes-broken.result under u c.takes-broken.ensures)
+    subst (λ (n : FaultMap). Gains (λ k r. is_inflight r && turns_with tested c.args.fate e past k r) tested (e ∷ past) c.args.decided c.args.faults.now n)
+    (sym (c.in_ok-settle.ensures.ok ∙ ap (λ n. cond c.rests_now-rests.result (blamed_due s.opened c.is_excused-excused.result c.args.decided (values_of s.entries.entries) n) n) c.in_ok-judge_all.ensures.ok))
+    (inflight-gains tested s c.args.fate c.args.decided e past c.args.faults.now c.broken_by-broken.result c.rests_now-rests.result c.is_excused-excused.result under u c.broken_by-broken.ensures c.rests_now-rests.ensures c.is_excused-excused.ensures)
+
+pub returns-in_err-judge_all-clause-memory : goal.returns-in_err-judge_all-clause-memory
+returns-in_err-judge_all-clause-memory c =
+    on_err c.from_residual.result _ (λ tested past under u.
+    let e = seen c.args.at c.args.note.now in
+    let m = c.args.faults.now in
+    let b = c.broken_by-broken.result in
+    within_either_first is_at_once (λ r. same_rule r S06) (λ k r. turns_with tested c.args.fate e past k r) tested (e ∷ past) c.args.decided m c.judge_all.new.faults
+    (within_kept (λ k r. is_at_once r && turns_with tested c.args.fate e past k r) tested (e ∷ past) c.args.decided m c.judge_all.new.faults (judged_all b c.args.at c.args.decided m)
+    (using-gains tested c.args.self.now c.args.fate c.args.decided e past m b under u c.broken_by-broken.ensures)
+    c.in_err-judge_all.ensures.memory c.in_err-judge_all.ensures.partial))
+
+pub returns-in_err-settle-clause-memory : goal.returns-in_err-settle-clause-memory
+returns-in_err-settle-clause-memory c =
+    on_err c.from_residual-in_err-settle.result _ (λ tested past under u.
+    let s = c.args.self.now in
+    let e = seen c.args.at c.args.note.now in
+    let m = c.args.faults.now in
+    let mid = c.judge_all.new.faults in
+    within_either_second is_at_once (λ r. same_rule r S06) (λ k r. turns_with tested c.args.fate e past k r) tested (e ∷ past) c.args.decided m mid c.settle.new.faults
+    (subst (λ (n : FaultMap). Gains (λ k r. is_at_once r && turns_with tested c.args.fate e past k r) tested (e ∷ past) c.args.decided m n) (sym c.in_ok-judge_all.ensures.ok)
+    (using-gains tested s c.args.fate c.args.decided e past m c.broken_by-broken.result under u c.broken_by-broken.ensures))
+    (within_kept (λ k r. same_rule r S06 && turns_with tested c.args.fate e past k r) tested (e ∷ past) c.args.decided mid c.settle.new.faults (cond c.rests_now-rests.result (blamed_due s.opened c.is_excused-excused.result c.args.decided (values_of s.entries.entries) mid) mid)
+    (resends-gains tested s c.args.fate c.args.decided e past mid c.rests_now-rests.result c.is_excused-excused.result under u c.rests_now-rests.ensures c.is_excused-excused.ensures)
+    c.in_err-settle.ensures.memory c.in_err-settle.ensures.partial))
+
+pub returns-in_err-take_in-clause-memory : goal.returns-in_err-take_in-clause-memory
+returns-in_err-take_in-clause-memory c =
+    on_err c.from_residual-in_err-take_in.result _ (λ tested past under u.
+    let s = c.args.self.now in
+    let e = seen c.args.at c.args.note.now in
+    within_all (λ k r. is_inflight r && turns_with tested c.args.fate e past k r) tested (e ∷ past) c.args.decided c.args.faults.now c.settle.new.faults
+    (subst (λ (n : FaultMap). Gains (λ k r. is_inflight r && turns_with tested c.args.fate e past k r) tested (e ∷ past) c.args.decided c.args.faults.now n)
+    (sym (c.in_ok-settle.ensures.ok ∙ ap (λ n. cond c.rests_now-rests.result (blamed_due s.opened c.is_excused-excused.result c.args.decided (values_of s.entries.entries) n) n) c.in_ok-judge_all.ensures.ok))
+    (inflight-gains tested s c.args.fate c.args.decided e past c.args.faults.now c.broken_by-broken.result c.rests_now-rests.result c.is_excused-excused.result under u c.broken_by-broken.ensures c.rests_now-rests.ensures c.is_excused-excused.ensures)))

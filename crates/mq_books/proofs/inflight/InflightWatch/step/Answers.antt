@@ -1,10 +1,7 @@
-use Rattle.std.proofs.Common.{subst, ◌∷◌, nat_eq}
-use Rattle.indexmap.specs.IndexSet.{contains}
-use Rattle.mq_rules.specs.declared.rule.Rule.TheVariants.{S01}
-use Rattle.mq_rules.specs.Rules.{same_rule}
+use Rattle.std.proofs.Common.{subst, ◌∷◌}
 use Rattle.mq_rules.proofs.Exports.{on_err}
 use Rattle.mq_rules.specs.Under.{seen}
-use Rattle.mq_books.specs.Using.{IsUsing}
+use Rattle.mq_books.specs.Using.{IsUsing, is_inflight}
 use Rattle.mq_books.proofs.KnownLaws.{knows, known-gains, known-within}
 use Rattle.mq_books.proofs.inflight.InflightWatch.step.Goals as goal
 
@@ -13,17 +10,14 @@ returns-clause-agrees c = λ tested taken past follows known u.
     let e = seen c.args.at c.args.note.now in
     let s = c.args.self.now in
     let k = knows tested s.fate taken e past follows known u.same_fate in
-    let new = c.fated.new.self in
-    subst (λ o. IsUsing new.role new.fate (contains nat_eq new.held) (contains nat_eq new.subscribing) (contains nat_eq new.unsubscribing) tested o (e ∷ past)) k.after
-    (c.in_ok-fated.ensures.agrees tested past k.under (subst (λ o. IsUsing s.role s.fate (contains nat_eq s.held) (contains nat_eq s.subscribing) (contains nat_eq s.unsubscribing) tested o past) k.before u))
+    subst (λ o. IsUsing c.fated.new.self tested o (e ∷ past)) k.after (c.in_ok-fated.ensures.agrees tested past k.under (subst (λ o. IsUsing s tested o past) k.before u))
 
 pub returns-clause-grows : goal.returns-clause-grows
 returns-clause-grows c = λ tested taken past follows known u.
     let e = seen c.args.at c.args.note.now in
     let s = c.args.self.now in
     let k = knows tested s.fate taken e past follows known u.same_fate in
-    known-gains tested s.fate taken (λ r. same_rule r S01) e past c.args.faults.now c.fated.new.faults k
-    (c.in_ok-fated.ensures.grows tested past k.under (subst (λ o. IsUsing s.role s.fate (contains nat_eq s.held) (contains nat_eq s.subscribing) (contains nat_eq s.unsubscribing) tested o past) k.before u))
+    known-gains tested s.fate taken is_inflight e past c.args.faults.now c.fated.new.faults k (c.in_ok-fated.ensures.grows tested past k.under (subst (λ o. IsUsing s tested o past) k.before u))
 
 pub returns-in_err-fated-clause-memory : goal.returns-in_err-fated-clause-memory
 returns-in_err-fated-clause-memory c =
@@ -31,5 +25,4 @@ returns-in_err-fated-clause-memory c =
     let e = seen c.args.at c.args.note.now in
     let s = c.args.self.now in
     let k = knows tested s.fate taken e past follows known u.same_fate in
-    known-within tested s.fate taken (λ r. same_rule r S01) e past c.args.faults.now c.fated.new.faults k
-    (c.in_err-fated.ensures.memory tested past k.under (subst (λ o. IsUsing s.role s.fate (contains nat_eq s.held) (contains nat_eq s.subscribing) (contains nat_eq s.unsubscribing) tested o past) k.before u)))
+    known-within tested s.fate taken is_inflight e past c.args.faults.now c.fated.new.faults k (c.in_err-fated.ensures.memory tested past k.under (subst (λ o. IsUsing s tested o past) k.before u)))

@@ -1,0 +1,108 @@
+-- How many filters an unanswered packet has.
+use Rattle.std.proofs.Common.{◌≡◌, ℕ, ◌==◌, Bool, true, false, cond, ◌&&◌, ◌||◌, not, List, [], ◌∷◌, Option, Some, None, refl, ap, sym, ◌∙◌}
+use Rattle.std.specs.Option.{option_or, option_and_then}
+use Rattle.mq_rules.specs.declared.role.Role.{Role}
+use Rattle.mq_rules.specs.declared.role.Tested.{Tested}
+use Rattle.mq_rules.specs.declared.fate.Fate.{Fate}
+use Rattle.mq_rules.specs.declared.rule.Rule.{Rule}
+use Rattle.mq_rules.specs.declared.note.Note.{Note}
+use Rattle.mq_rules.specs.declared.note.Seen.{Seen}
+use Rattle.mq_rules.specs.Words.{is_some_and, is_id}
+use Rattle.mq_rules.specs.Notes.{is_open}
+use Rattle.mq_rules.specs.Moments.{Moment, newest, note, is_next, earliest_since}
+use Rattle.mq_rules.specs.Connections.{connection, accepts}
+use Rattle.mq_rules.specs.Exchanges.{causes, answers, first_unanswered}
+use Rattle.mq_rules.specs.Statements.{statement, in_session}
+use Rattle.mq_rules.specs.Rules.{binds, same_rule}
+use Rattle.mq_rules.specs.Faults.{offset_of}
+use Rattle.mq_rules.specs.FaultKeys.{FaultMap}
+use Rattle.mq_rules.proofs.Exports.{connection-newest as connection-next}
+use Rattle.mq_books.specs.declared.counts.Counted.{Counted}
+use Rattle.mq_rules.specs.Under.{IsUnder, turns_with}
+use Rattle.mq_rules.specs.Growing.{Gains}
+use Rattle.mq_books.specs.Quotas.{judged_by}
+use Rattle.mq_books.specs.Countings.{names, count_in, Counting, IsCounting, miscounts, first_count, counted_next, differs, IsCounted}
+use Rattle.mq_books.proofs.JudgeLaws.{session-turns_with, gains_judged}
+
+-- what is found earliest passes the first test
+found-passes : (starts ends : Moment → Bool) (ms : List Moment) (j : Moment) → earliest_since starts ends ms ≡ Some j → starts j ≡ true
+found-passes starts ends [] j h = absurd (cc)
+found-passes starts ends (m ∷ ms) j h = go (ends m) (earliest_since starts ends ms) (λ i p. found-passes starts ends ms i p) refl (starts m) refl h
+  where
+    go : (e : Bool) (o : Option Moment) → ((i : Moment) → earliest_since starts ends ms ≡ Some i → starts i ≡ true) → earliest_since starts ends ms ≡ o → (s : Bool) → starts m ≡ s
+        → option_or (cond e None o) (cond s (Some m) None) ≡ Some j → starts j ≡ true
+    go true o rest p true q h = let same : m ≡ j = cc in ap starts (sym same) ∙ q
+    go true o rest p false q h = absurd (cc)
+    go false None rest p true q h = let same : m ≡ j = cc in ap starts (sym same) ∙ q
+    go false None rest p false q h = absurd (cc)
+    go false (Some i) rest p s q h = rest j (p ∙ h)
+
+-- one that is named has a count
+named-counted : (i : ℕ) (o : Option Counted) → names i o ≡ true → (n : ℕ) × (count_in o ≡ Some n)
+named-counted i None h = absurd (cc)
+named-counted i (Some c) h = (c.count, refl)
+
+first-next : (c : Counting) (breaks : Moment → Bool) → IsCounting c breaks → (i : ℕ) (e : Seen) (past : List Seen)
+    → first_count c i (e ∷ past) ≡ counted_next (is_open e.note) (c.request e.note) (c.reply e.note) i (first_count c i past)
+first-next c breaks is i e past =
+    ap (λ ms. option_and_then counts (earliest_since (causes c.exchange i) (answers c.exchange i) ms)) (connection-next e past)
+    ∙ go (is_open e.note)
+    ∙ ap (λ b. option_or (cond b None (cond (is_open e.note) None (first_count c i past))) (cond (is_id i (c.exchange.cause e.note)) (count_in (c.request e.note)) None)) (is.answers_are e.note i)
+    ∙ ap (λ b. option_or (cond (names i (c.reply e.note)) None (cond (is_open e.note) None (first_count c i past))) (cond b (count_in (c.request e.note)) None)) (is.causes_are e.note i)
+  where
+    counts : Moment → Option ℕ
+    counts m = count_in (c.request (note m))
+
+    old : Option Moment
+    old = earliest_since (causes c.exchange i) (answers c.exchange i) (connection past)
+
+    put : (a : Option Moment) (s : Bool) → ((j : Moment) → a ≡ Some j → (n : ℕ) × (counts j ≡ Some n)) → option_and_then counts (option_or a (cond s (Some (newest e past)) None)) ≡ option_or (option_and_then counts a) (cond s (counts (newest e past)) None)
+    put None true h = refl
+    put None false h = refl
+    put (Some j) s h = let there = h j refl in there.1 ∙ sym (ap (λ o. option_or o (cond s (counts (newest e past)) None)) there.1)
+
+    has : (j : Moment) → old ≡ Some j → (n : ℕ) × (counts j ≡ Some n)
+    has j p = named-counted i (c.request (note j)) (sym (is.causes_are (note j) i) ∙ found-passes (causes c.exchange i) (answers c.exchange i) (connection past) j p)
+
+    part : (b a : Bool) → (s : Bool) → option_and_then counts (option_or (cond b None (cond a None old)) (cond s (Some (newest e past)) None)) ≡ option_or (cond b None (cond a None (option_and_then counts old))) (cond s (counts (newest e past)) None)
+    part true a s = put None s (λ j p. absurd (cc))
+    part false true s = put None s (λ j p. absurd (cc))
+    part false false s = put old s has
+
+    go : (b : Bool) → option_and_then counts (option_or (cond (is_id i (c.exchange.answer e.note)) None (earliest_since (causes c.exchange i) (answers c.exchange i) (cond b [] (connection past)))) (cond (is_id i (c.exchange.cause e.note)) (Some (newest e past)) None))
+        ≡ option_or (cond (is_id i (c.exchange.answer e.note)) None (cond b None (first_count c i past))) (cond (is_id i (c.exchange.cause e.note)) (count_in (c.request e.note)) None)
+    go true = part (is_id i (c.exchange.answer e.note)) true (is_id i (c.exchange.cause e.note))
+    go false = part (is_id i (c.exchange.answer e.note)) false (is_id i (c.exchange.cause e.note))
+
+pub counted-next : (c : Counting) (breaks : Moment → Bool) → IsCounting c breaks → (fate f : Fate) (counts next : ℕ → Option ℕ) (taken : Option Fate) (e : Seen) (past : List Seen) → IsCounted c fate counts taken past
+    → ((i : ℕ) → next i ≡ counted_next (is_open e.note) (c.request e.note) (c.reply e.note) i (counts i)) → IsCounted c f next (Some f) (e ∷ past)
+counted-next c breaks is fate f counts next taken e past o grown = record {
+  same_fate = refl;
+  counts_are = λ i. grown i ∙ ap (counted_next (is_open e.note) (c.request e.note) (c.reply e.note) i) (o.counts_are i) ∙ sym (first-next c breaks is i e past);
+}
+
+-- what is compared is the count that is kept
+differs-is : (c : Counting) (counts : ℕ → Option ℕ) (e : Seen) (past : List Seen) → ((i : ℕ) → counts i ≡ first_count c i past) → differs counts (c.reply e.note) ≡ miscounts c (newest e past)
+differs-is c counts e past are = go (c.reply e.note)
+  where
+    within : (n : ℕ) (o : Option Counted) → is_some_and (λ count. not (count == n)) (count_in o) ≡ is_some_and (λ q. not (q.count == n)) o
+    within n None = refl
+    within n (Some q) = refl
+
+    at : (n : ℕ) (o : Option Moment) → is_some_and (λ count. not (count == n)) (option_and_then (λ m. count_in (c.request (note m))) o) ≡ is_some_and (λ j. is_some_and (λ q. not (q.count == n)) (c.request (note j))) o
+    at n None = refl
+    at n (Some j) = within n (c.request (note j))
+
+    go : (o : Option Counted) → differs counts o ≡ is_some_and (λ r. is_some_and (λ j. is_some_and (λ q. not (q.count == r.count)) (c.request (note j))) (first_unanswered c.exchange r.identifier (newest e past))) o
+    go None = refl
+    go (Some r) = ap (is_some_and (λ count. not (count == r.count))) (are r.identifier) ∙ at r.count (first_unanswered c.exchange r.identifier (newest e past))
+
+pub counted-gains : (tested : Tested) (rule : Rule) (c : Counting) (breaks : Moment → Bool) → IsCounting c breaks → ((role : Role) → statement role rule ≡ in_session (λ f. breaks)) → ((role : Role) (m : Option Moment) → offset_of (statement role rule) m ≡ None)
+    → (fate f : Fate) (counts : ℕ → Option ℕ) (taken : Option Fate) (at : ℕ) (e : Seen) (past : List Seen) (m : FaultMap) (bound b : Bool) → IsUnder tested f at e past → IsCounted c fate counts taken past
+    → bound ≡ binds rule tested → b ≡ (bound && (accepts f && differs counts (c.reply e.note)))
+    → Gains (λ k r. same_rule r rule && turns_with tested f e past k r) tested (e ∷ past) at m (judged_by b rule e.place at m)
+counted-gains tested rule c breaks is says plain fate f counts taken at e past m bound b under o judged broken =
+    gains_judged tested rule f e past at m b (plain tested.role) under.follows.placed.0 (λ k.
+    session-turns_with tested rule (λ f. breaks) (says tested.role) f e past k
+    ∙ ap (λ t. is_next past k && t) (ap (λ t. binds rule tested && (accepts f && t)) (is.breaks_are (newest e past) ∙ sym (differs-is c counts e past o.counts_are))
+    ∙ ap (λ t. t && (accepts f && differs counts (c.reply e.note))) (sym judged) ∙ sym broken))

@@ -1,0 +1,70 @@
+-- The book of the identifiers in use, with one event more.
+use Rattle.std.proofs.Common.{◌≡◌, ℕ, ◌+◌, ◌<◌, ◌==◌, nat_eq, arith, Bool, cond, ◌&&◌, ◌||◌, not, List, ◌∷◌, length, Some, None, ap, sym, ◌∙◌}
+use Rattle.std.specs.Option.{option_or}
+use Rattle.std.specs.Map.{values_of}
+use Rattle.indexmap.specs.IndexMap.{get, IsUnique}
+use Rattle.indexmap.specs.IndexSet.{contains}
+use Rattle.mq_rules.specs.declared.role.Tested.{Tested}
+use Rattle.mq_rules.specs.declared.fate.Fate.{Fate}
+use Rattle.mq_rules.specs.declared.rule.Rule.TheVariants.{S06}
+use Rattle.mq_rules.specs.declared.note.Seen.{Seen}
+use Rattle.mq_rules.specs.Notes.{is_open, closer_of, delivery_of, sent_as, received_as, subscribe_in, suback_in, unsubscribe_in, unsuback_in}
+use Rattle.mq_rules.specs.Connections.{ends_binding}
+use Rattle.mq_rules.specs.Rules.{same_rule}
+use Rattle.mq_rules.specs.FaultKeys.{FaultMap}
+use Rattle.mq_rules.proofs.Exports.{gains_either, some-next}
+use Rattle.mq_books.specs.declared.inflight.Inflight.{Inflight}
+use Rattle.mq_books.specs.declared.inflight.broken.Broken.{Broken}
+use Rattle.mq_rules.specs.Under.{IsUnder, fate_before, turns_with}
+use Rattle.mq_rules.specs.Growing.{Gains}
+use Rattle.mq_books.specs.Pingings.{ends_by}
+use Rattle.mq_books.specs.Quotas.{announced, peer_room, may_count, flown}
+use Rattle.mq_books.specs.Opened.{entry_next}
+use Rattle.mq_books.specs.Resending.{bounds_next, excuses, settles, blamed_due}
+use Rattle.mq_books.specs.Using.{waits_next, void_next, resent_next, breaks, judged_all, is_at_once, is_inflight, IsUsing}
+use Rattle.mq_books.proofs.QuotaLaws.{peer-next, flown-next, flying-most}
+use Rattle.mq_books.proofs.VoidLaws.{void_sent-next}
+use Rattle.mq_books.proofs.OpenedLaws.{entry-under}
+use Rattle.mq_books.proofs.UsingLaws.{waiting, resent-next, using-gains}
+use Rattle.mq_books.proofs.ResendsLaws.{bounds-next, resends-gains}
+
+pub inflight-gains : (tested : Tested) (s : Inflight) (f : Fate) (at : ℕ) (e : Seen) (past : List Seen) (m : FaultMap) (b : Broken) (rests excused : Bool) → IsUnder tested f at e past → IsUsing s tested (fate_before tested f e past) past
+    → b ≡ breaks s f e.note → rests ≡ settles f (at == e.place.position) s.ended e.note → excused ≡ excuses s.peer s.in_flight s.bounds
+    → Gains (λ k r. is_inflight r && turns_with tested f e past k r) tested (e ∷ past) at m (cond rests (blamed_due s.opened excused at (values_of s.entries.entries) (judged_all b e.place at m)) (judged_all b e.place at m))
+inflight-gains tested s f at e past m b rests excused under u b_is rest_is excused_is =
+    gains_either is_at_once (λ r. same_rule r S06) (λ k r. turns_with tested f e past k r) tested (e ∷ past) at m (judged_all b e.place at m) (cond rests (blamed_due s.opened excused at (values_of s.entries.entries) (judged_all b e.place at m)) (judged_all b e.place at m))
+    (using-gains tested s f at e past m b under u b_is)
+    (resends-gains tested s f at e past (judged_all b e.place at m) rests excused under u rest_is excused_is)
+
+pub inflight-next : (tested : Tested) (s t : Inflight) (f : Fate) (at : ℕ) (e : Seen) (past : List Seen) → IsUnder tested f at e past → IsUsing s tested (fate_before tested f e past) past
+    → t.role ≡ s.role → t.fate ≡ f → t.ordered ≡ s.ordered → IsUnique nat_eq t.entries
+    → ((i : ℕ) → get nat_eq t.entries i ≡ entry_next f e.note e.place i (get nat_eq s.entries i))
+    → ((i : ℕ) → contains nat_eq t.delivering i ≡ waits_next (delivery_of e.note) (closer_of e.note) (is_open e.note) i (contains nat_eq s.delivering i))
+    → ((i : ℕ) → contains nat_eq t.void i ≡ void_next f e.note i (contains nat_eq s.void i))
+    → ((i : ℕ) → contains nat_eq t.subscribing i ≡ waits_next (sent_as subscribe_in e.note) (received_as suback_in e.note) (is_open e.note) i (contains nat_eq s.subscribing i))
+    → ((i : ℕ) → contains nat_eq t.unsubscribing i ≡ waits_next (sent_as unsubscribe_in e.note) (received_as unsuback_in e.note) (is_open e.note) i (contains nat_eq s.unsubscribing i))
+    → t.resent ≡ resent_next e.note (get nat_eq s.entries) s.resent → t.ended ≡ (ends_by e.note || (not (is_open e.note) && s.ended)) → t.opened ≡ cond (is_open e.note) e.place.position s.opened
+    → t.peer ≡ option_or (cond (is_open e.note) None s.peer) (announced s.role e.note) → (s.in_flight < e.place.position → t.in_flight ≡ flown (may_count s.role s.peer) e.note s.in_flight)
+    → t.bounds ≡ bounds_next s.role e.note s.bounds → IsUsing t tested (Some f) (e ∷ past)
+inflight-next tested s t f at e past under u role fate ordered distinct entries delivering void subscribing unsubscribing resent ended opened peer flying bounds = record {
+  same_role = role ∙ u.same_role;
+  same_fate = ap Some (sym fate);
+  is_ordered = ordered ∙ u.is_ordered;
+  distinct = distinct;
+  entries_are = λ i. entries i ∙ entry-under tested f i (get nat_eq s.entries i) e past (u.entries_are i);
+  delivering_are = waiting delivery_of closer_of (contains nat_eq s.delivering) (contains nat_eq t.delivering) e past u.delivering_are delivering;
+  void_are = λ i. void i ∙ ap (void_next f e.note i) (u.void_are i) ∙ sym (void_sent-next tested i f e past);
+  subscribing_are = waiting (sent_as subscribe_in) (received_as suback_in) (contains nat_eq s.subscribing) (contains nat_eq t.subscribing) e past u.subscribing_are subscribing;
+  unsubscribing_are = waiting (sent_as unsubscribe_in) (received_as unsuback_in) (contains nat_eq s.unsubscribing) (contains nat_eq t.unsubscribing) e past u.unsubscribing_are unsubscribing;
+  resent_is = resent ∙ resent-next tested s f e past u;
+  is_ended = ended ∙ ap (λ b. ends_by e.note || (not (is_open e.note) && b)) u.is_ended ∙ sym (some-next ends_binding e past);
+  opened_is = opened ∙ ap (λ n. cond (is_open e.note) n s.opened) under.follows.placed.0 ∙ ap (cond (is_open e.note) (length past + 1)) u.opened_is;
+  same_peer = peer ∙ ap (λ o. option_or (cond (is_open e.note) None o) (announced s.role e.note)) u.same_peer
+      ∙ ap (λ r. option_or (cond (is_open e.note) None (peer_room tested.role past)) (announced r e.note)) u.same_role ∙ sym (peer-next tested.role e past);
+  flying = flying below ∙ ap (λ r. flown (may_count r s.peer) e.note s.in_flight) u.same_role ∙ ap (λ o. flown (may_count tested.role o) e.note s.in_flight) u.same_peer
+      ∙ ap (flown (may_count tested.role (peer_room tested.role past)) e.note) u.flying ∙ sym (flown-next tested.role e past);
+  bounds_are = bounds ∙ ap (λ r. bounds_next r e.note s.bounds) u.same_role ∙ ap (bounds_next tested.role e.note) u.bounds_are ∙ sym (bounds-next tested.role e past);
+}
+  where
+    below : s.in_flight < e.place.position
+    below = let a = flying-most tested.role past in let b = u.flying in let c = under.follows.placed.0 in omega arith

@@ -1,0 +1,199 @@
+-- S06.
+use Rattle.std.proofs.Common.{◌≡◌, ℕ, ◌==◌, nat_eq, nat_le, Bool, true, false, cond, ◌&&◌, ◌||◌, not, List, ◌∷◌, Option, Some, None, refl, ap, sym, ◌∙◌, subst}
+use Rattle.std.specs.Prelude.{is_some, unwrap_or}
+use Rattle.std.specs.Option.{option_or, option_and_then}
+use Rattle.std.specs.List.{IsDistinct}
+use Rattle.std.specs.Map.{keys_of, values_of, lookup}
+use Rattle.mq_trace.specs.declared.place.Place3.{Place3}
+use Rattle.mq_rules.specs.declared.role.Role.{Role}
+use Rattle.mq_rules.specs.declared.role.Role.TheVariants.{Client, Server}
+use Rattle.mq_rules.specs.declared.role.Tested.{Tested}
+use Rattle.mq_rules.specs.declared.fate.Fate.{Fate}
+use Rattle.mq_rules.specs.declared.fate.Fate.TheVariants.{Void, New, Resumed}
+use Rattle.mq_rules.specs.declared.rule.Rule.TheVariants.{S06}
+use Rattle.mq_rules.specs.declared.note.Seen.{Seen}
+use Rattle.mq_rules.specs.declared.packet_note.ConnectNote.{ConnectNote}
+use Rattle.mq_rules.specs.declared.packet_note.ConnackNote.{ConnackNote}
+use Rattle.mq_rules.specs.Words.{is_some_and}
+use Rattle.mq_rules.specs.Notes.{is_open, is_rest, connect_of, connack_of, decides}
+use Rattle.mq_rules.specs.Moments.{Moment, newest, position, moment, moments, those, some, Among, IsPlaced}
+use Rattle.mq_rules.specs.Connections.{connection, latest_fate, accepts, resumes, accepted, resumed, ends_binding, is_binding, first_connect, first_connack, session}
+use Rattle.mq_rules.specs.Counter.{in_flight}
+use Rattle.mq_rules.specs.Identifiers.{counts, is_used_up, has_announced, shows_S06}
+use Rattle.mq_rules.specs.Rules.{binds, found_line, line_of, lines, same_rule}
+use Rattle.mq_rules.specs.Faults.{reported}
+use Rattle.mq_rules.specs.FaultKeys.{FaultMap}
+use Rattle.mq_rules.proofs.Exports.{among-moment, both_true, earliest-next, latest_fate-same, moment-among, moment-placed, moment-stays, not_true, or_false, rest-opens-nothing, session-descend, session-members, used_up-counted}
+use Rattle.mq_books.specs.declared.inflight.entry.Entry.{Entry}
+use Rattle.mq_books.specs.declared.inflight.Inflight.{Inflight}
+use Rattle.mq_rules.specs.Under.{IsUnder, fate_before, turns_with}
+use Rattle.mq_rules.specs.Growing.{Gains}
+use Rattle.mq_books.specs.Quotas.{peer_room}
+use Rattle.mq_books.specs.Owings.{binds_by, blamed}
+use Rattle.mq_books.specs.Opened.{entry_in}
+use Rattle.mq_books.specs.Resending.{opened_at, connect_bounds, connack_bounds, peer_bounds, bounds_next, excuses, due_places, blamed_due, settles}
+use Rattle.mq_books.specs.Using.{IsUsing}
+use Rattle.mq_books.proofs.PingLaws.{binding-under}
+use Rattle.mq_books.proofs.BlameLaws.{place_at, blame_of, gains_blamed, gains_none}
+use Rattle.mq_books.proofs.QuotaLaws.{room-kept}
+use Rattle.mq_books.proofs.OpenedLaws.{entry-is}
+use Rattle.mq_books.proofs.DueLaws.{owes, due-owes, owes-due}
+use Rattle.mq_books.proofs.PlacesLaws.{IsDueAt, value-due, key-due, blamed_due-is}
+
+binds-S06 : (role : Role) (releases : Bool) → binds S06 (record { role = role; releases = releases }) ≡ true
+unfolding line_of found_line lines
+binds-S06 Client releases = refl
+binds-S06 Server releases = refl
+
+-- ---- excuses
+
+announced-kept : (role : Role) (e : Seen) (past : List Seen) → has_announced role (newest e past) ≡ is_some_and (λ b. b) (peer_bounds role past)
+announced-kept Client e past = go (first_connack Client (connection past))
+  where
+    go : (o : Option ConnackNote) → (is_some (option_and_then (λ a. a.maximum_packet_size) o) || is_some (option_and_then (λ a. a.maximum_qos) o)) ≡ is_some_and (λ b. b) (connack_bounds o)
+    go None = refl
+    go (Some a) = refl
+announced-kept Server e past = go (first_connect Server (connection past))
+  where
+    go : (o : Option ConnectNote) → (is_some (option_and_then (λ c. c.maximum_packet_size) o) || false) ≡ is_some_and (λ b. b) (connect_bounds o)
+    go None = refl
+    go (Some c) = or_false (is_some c.maximum_packet_size)
+
+excuses-are : (tested : Tested) (s : Inflight) (taken : Option Fate) (e : Seen) (past : List Seen) → IsUsing s tested taken past
+    → (is_used_up tested.role (newest e past) || has_announced tested.role (newest e past)) ≡ excuses s.peer s.in_flight s.bounds
+excuses-are tested s taken e past u =
+    ap (λ b. b || has_announced tested.role (newest e past)) (used_up-counted tested.role (newest e past)
+    ∙ ap (λ n. nat_le n (in_flight (those (counts tested.role) (connection past)))) (room-kept tested.role e past))
+    ∙ ap (λ b. nat_le (unwrap_or (peer_room tested.role past) 65535) (in_flight (those (counts tested.role) (connection past))) || b) (announced-kept tested.role e past)
+    ∙ sym (ap (λ p. excuses p s.in_flight s.bounds) u.same_peer ∙ ap (λ n. excuses (peer_room tested.role past) n s.bounds) u.flying ∙ ap (excuses (peer_room tested.role past) (in_flight (those (counts tested.role) (connection past)))) u.bounds_are)
+
+-- ---- a REST that binds
+
+-- its connection had its fate before it
+binding-fate : (tested : Tested) (f : Fate) (at : ℕ) (e : Seen) (past : List Seen) → IsUnder tested f at e past → is_binding tested.role (newest e past) ≡ true → latest_fate tested.role past ≡ Some f
+unfolding is_binding
+binding-fate tested f at e past under h =
+    let parts = both_true (is_rest e.note) (accepted (latest_fate tested.role past) && not (some ends_binding (connection past))) h in
+    go (latest_fate tested.role past) refl (both_true (accepted (latest_fate tested.role past)) (not (some ends_binding (connection past))) parts.1).0 (rest-opens-nothing e.note parts.0)
+  where
+    go : (o : Option Fate) → latest_fate tested.role past ≡ o → accepted o ≡ true → is_open e.note ≡ false → o ≡ Some f
+    go None is a closed = absurd (cc)
+    go (Some g) is a closed =
+        let after : latest_fate tested.role (e ∷ past) ≡ Some g = latest_fate-same tested.role e past closed ∙ ap (λ o. option_or o (decides tested.role e.note)) is in
+        ap Some (under.fits g after).0
+
+S06-turns : (tested : Tested) (f : Fate) (e : Seen) (past : List Seen) (k : ℕ) → turns_with tested f e past k S06 ≡ (is_binding tested.role (newest e past) && is_some_and (shows_S06 tested.role (newest e past)) (moment past k))
+unfolding turns_with
+S06-turns tested f e past k = ap (λ b. b && (is_binding tested.role (newest e past) && is_some_and (shows_S06 tested.role (newest e past)) (moment past k))) (binds-S06 tested.role tested.releases)
+
+shows-owes : (role : Role) (e : Seen) (past : List Seen) (m : Moment) → shows_S06 role (newest e past) m ≡ owes role (latest_fate role past) (is_used_up role (newest e past) || has_announced role (newest e past)) past m
+unfolding shows_S06
+shows-owes role e past m = refl
+
+-- what it shows
+shown-owes : (role : Role) (f : Fate) (x : Bool) (e : Seen) (past : List Seen) → latest_fate role past ≡ Some f → (is_used_up role (newest e past) || has_announced role (newest e past)) ≡ x
+    → (q : Option Moment) → is_some_and (shows_S06 role (newest e past)) q ≡ is_some_and (owes role (Some f) x past) q
+shown-owes role f x e past fate is None = refl
+shown-owes role f x e past fate is (Some m) = shows-owes role e past m ∙ ap (λ o. owes role o (is_used_up role (newest e past) || has_announced role (newest e past)) past m) fate ∙ ap (λ b. owes role (Some f) b past m) is
+
+shown-nowhere : (role : Role) (f : Fate) (x : Bool) (past : List Seen) → resumes f ≡ false → (q : Option Moment) → is_some_and (owes role (Some f) x past) q ≡ false
+shown-nowhere role New x past h None = refl
+shown-nowhere role New x past h (Some m) = refl
+shown-nowhere role Void x past h None = refl
+shown-nowhere role Void x past h (Some m) = refl
+shown-nowhere role Resumed x past h q = absurd (cc)
+
+resumed-accepts : (f : Fate) → resumes f ≡ true → accepts f ≡ true
+resumed-accepts Resumed h = refl
+resumed-accepts New h = absurd (cc)
+resumed-accepts Void h = absurd (cc)
+
+due-blamed : (tested : Tested) (f : Fate) (at : ℕ) (x : Bool) (e : Seen) (past : List Seen) (es : List (ℕ × Entry)) → IsPlaced past → IsDistinct nat_eq (keys_of es) → resumes f ≡ true
+    → ((i : ℕ) → lookup (nat_eq i) es ≡ entry_in i (session tested.role (Some f) past)) → ((k : ℕ) → turns_with tested f e past k S06 ≡ is_some_and (owes tested.role (Some f) x past) (moment past k))
+    → (k : ℕ) → blame_of at (place_at k (due_places (opened_at past) x (values_of es))) ≡ cond (turns_with tested f e past k S06) (Some (reported tested.role (moment (e ∷ past) k) S06 at)) None
+due-blamed tested f at x e past es placed distinct resumed are turns k =
+    go (place_at k (due_places (opened_at past) x (values_of es))) refl ∙ ap (λ b. cond b (Some (reported tested.role (moment (e ∷ past) k) S06 at)) None) (sym (turns k))
+  where
+    a : accepts f ≡ true
+    a = resumed-accepts f resumed
+
+    shown : Bool
+    shown = is_some_and (owes tested.role (Some f) x past) (moment past k)
+
+    of_entry : (p : Place3) → IsDueAt k (opened_at past) x es p → Some (record { decided = at; record_no = p.record_no; offset = None }) ≡ cond shown (Some (reported tested.role (moment (e ∷ past) k) S06 at)) None
+    of_entry p v =
+        let kept : entry_in v.identifier (session tested.role (Some f) past) ≡ Some v.entry = sym (are v.identifier) ∙ v.is_kept in
+        let r = entry-is v.identifier (session tested.role (Some f) past) v.entry (session-descend tested.role (Some f) past) kept in
+        let among : Among r.opener (moments past) = (session-members tested.role (Some f) past r.opener r.there).0 in
+        let same : p ≡ r.opener.event.place = v.same_place ∙ r.same_place in
+        let here : k ≡ position r.opener = v.here ∙ ap (λ (y : Place3). y.position) same ∙ moment-placed past (position r.opener) r.opener placed (among-moment r.opener past among) in
+        let before : moment past k ≡ Some r.opener = ap (moment past) here ∙ among-moment r.opener past among in
+        let yes : shown ≡ true = ap (is_some_and (owes tested.role (Some f) x past)) before ∙ due-owes tested.role f resumed a x past placed v.identifier v.entry r v.due in
+        ap (λ (y : Place3). Some (record { decided = at; record_no = y.record_no; offset = None })) same
+        ∙ ap (λ o. Some (reported tested.role o S06 at)) (sym (moment-stays e past k r.opener before))
+        ∙ ap (λ b. cond b (Some (reported tested.role (moment (e ∷ past) k) S06 at)) None) (sym yes)
+
+    never : place_at k (due_places (opened_at past) x (values_of es)) ≡ None → (q : Option Moment) → moment past k ≡ q → is_some_and (owes tested.role (Some f) x past) q ≡ true → ⊥
+    never h None is t = absurd (cc)
+    never h (Some m) is t =
+        let w = owes-due tested.role f a x past placed m (moment-among past k m is) t in
+        let at_k : k ≡ w.entry.place.position = sym (ap (λ (y : Place3). y.position) w.same_place ∙ moment-placed past k m placed is) in
+        let has = key-due k w.identifier (opened_at past) x es w.entry (are w.identifier ∙ w.is_kept) w.due at_k in
+        absurd (let none : is_some {T = Place3} None ≡ true = sym (ap is_some h) ∙ has in cc)
+
+    go : (o : Option Place3) → place_at k (due_places (opened_at past) x (values_of es)) ≡ o → blame_of at o ≡ cond shown (Some (reported tested.role (moment (e ∷ past) k) S06 at)) None
+    go None h = ap (λ b. cond b (Some (reported tested.role (moment (e ∷ past) k) S06 at)) None) (sym (not_true shown (never h (moment past k) refl)))
+    go (Some p) h = of_entry p (value-due k (opened_at past) x es p distinct h)
+
+pub resends-gains : (tested : Tested) (s : Inflight) (f : Fate) (at : ℕ) (e : Seen) (past : List Seen) (m : FaultMap) (rests excused : Bool) → IsUnder tested f at e past → IsUsing s tested (fate_before tested f e past) past
+    → rests ≡ settles f (at == e.place.position) s.ended e.note → excused ≡ excuses s.peer s.in_flight s.bounds
+    → Gains (λ k r. same_rule r S06 && turns_with tested f e past k r) tested (e ∷ past) at m (cond rests (blamed_due s.opened excused at (values_of s.entries.entries) m) m)
+resends-gains tested s f at e past m rests excused under u rest_is excused_is = go rests refl
+  where
+    binding : is_binding tested.role (newest e past) ≡ binds_by f (at == e.place.position) s.ended e.note
+    binding = binding-under tested f at e past under ∙ ap (λ t. binds_by f (at == e.place.position) t e.note) (sym u.is_ended)
+
+    is : rests ≡ (resumes f && is_binding tested.role (newest e past))
+    is = rest_is ∙ ap (λ b. resumes f && b) (sym binding)
+
+    x_is : (is_used_up tested.role (newest e past) || has_announced tested.role (newest e past)) ≡ excused
+    x_is = excuses-are tested s (fate_before tested f e past) e past u ∙ sym excused_is
+
+    shown : is_binding tested.role (newest e past) ≡ true → (k : ℕ) → turns_with tested f e past k S06 ≡ is_some_and (owes tested.role (Some f) excused past) (moment past k)
+    shown b k =
+        S06-turns tested f e past k ∙ ap (λ t. t && is_some_and (shows_S06 tested.role (newest e past)) (moment past k)) b
+        ∙ shown-owes tested.role f excused e past (binding-fate tested f at e past under b) x_is (moment past k)
+
+    none : (b : Bool) → is_binding tested.role (newest e past) ≡ b → (r : Bool) → resumes f ≡ r → (r && b) ≡ false → (k : ℕ) → turns_with tested f e past k S06 ≡ false
+    none false b r t h k = S06-turns tested f e past k ∙ ap (λ t. t && is_some_and (shows_S06 tested.role (newest e past)) (moment past k)) b
+    none true b true t h k = absurd (cc)
+    none true b false t h k = shown b k ∙ shown-nowhere tested.role f excused past t (moment past k)
+
+    closed : is_rest e.note ≡ true → IsUsing s tested (Some f) past
+    closed rest = subst (λ b. IsUsing s tested (cond b (latest_fate tested.role past) (Some f)) past) (rest-opens-nothing e.note rest) u
+
+    go : (t : Bool) → rests ≡ t → Gains (λ k r. same_rule r S06 && turns_with tested f e past k r) tested (e ∷ past) at m (cond t (blamed_due s.opened excused at (values_of s.entries.entries) m) m)
+    go false h = gains_none tested S06 f e past at m (none (is_binding tested.role (newest e past)) refl (resumes f) refl (sym is ∙ h))
+    go true h =
+        let parts = both_true (resumes f) (is_binding tested.role (newest e past)) (sym is ∙ h) in
+        let n = closed (both_true (is_rest e.note) ((at == e.place.position) && (accepts f && not s.ended)) (sym binding ∙ parts.1)).0 in
+        subst (λ (m2 : FaultMap). Gains (λ k r. same_rule r S06 && turns_with tested f e past k r) tested (e ∷ past) at m m2)
+        (ap (λ p. blamed S06 at (due_places p excused (values_of s.entries.entries)) m) (sym n.opened_is) ∙ sym (blamed_due-is s.opened excused at (values_of s.entries.entries) m))
+        (gains_blamed tested S06 f e past at (due_places (opened_at past) excused (values_of s.entries.entries)) m
+        (due-blamed tested f at excused e past s.entries.entries under.follows.placed.1 n.distinct parts.0 n.entries_are (shown parts.1)))
+
+-- ---- the state, with one event more
+
+pub bounds-next : (role : Role) (e : Seen) (past : List Seen) → peer_bounds role (e ∷ past) ≡ bounds_next role e.note (peer_bounds role past)
+bounds-next Client e past = ap connack_bounds (earliest-next (connack_of Client) e past) ∙ go (is_open e.note) (first_connack Client (connection past)) (connack_of Client e.note)
+  where
+    go : (b : Bool) (o p : Option ConnackNote) → connack_bounds (option_or (cond b None o) p) ≡ option_or (cond b None (connack_bounds o)) (connack_bounds p)
+    go true o p = refl
+    go false None p = refl
+    go false (Some a) p = refl
+bounds-next Server e past = ap connect_bounds (earliest-next (connect_of Server) e past) ∙ go (is_open e.note) (first_connect Server (connection past)) (connect_of Server e.note)
+  where
+    go : (b : Bool) (o p : Option ConnectNote) → connect_bounds (option_or (cond b None o) p) ≡ option_or (cond b None (connect_bounds o)) (connect_bounds p)
+    go true o p = refl
+    go false None p = refl
+    go false (Some c) p = refl

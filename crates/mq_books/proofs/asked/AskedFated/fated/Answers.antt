@@ -1,0 +1,31 @@
+use Rattle.std.proofs.Common.{◌&&◌, ◌∷◌, nat_eq, subst, sym, ap, ◌∙◌}
+use Rattle.indexmap.specs.IndexMap.{get}
+use Rattle.mq_rules.specs.Rules.{same_rule}
+use Rattle.mq_rules.specs.FaultKeys.{FaultMap}
+use Rattle.mq_rules.specs.Under.{seen, turns_with}
+use Rattle.mq_rules.specs.Growing.{Gains}
+use Rattle.mq_books.specs.Quotas.{judged_by}
+use Rattle.mq_books.specs.Askings.{answered_next, is_unasked}
+use Rattle.mq_books.proofs.AskedLaws.{asked-next, asked-gains}
+use Rattle.mq_books.proofs.asked.AskedFated.fated.Goals as goal
+
+pub returns-clause-agrees : goal.returns-clause-agrees
+returns-clause-agrees g c = λ tested past under q.
+    let s = c.args.self.now in
+    let e = seen c.args.at c.args.note.now in (
+      q.0,
+      asked-next tested g.X.Exchange.exchange c.args.fate s.fate s.opened c.opened_after-self.result (get nat_eq s.answered) (get nat_eq c.take_answered.new.answered) e past g.met.X.Exchange.apart under.follows.placed.0 q.1 c.opened_after-self.ensures
+          (λ i. c.in_ok-take_answered.ensures i
+          ∙ ap (λ o. answered_next c.args.fate e.note o c.answer-answer.result e.place.position i (get nat_eq s.answered i)) c.cause-cause.ensures
+          ∙ ap (λ o. answered_next c.args.fate e.note (g.X.Exchange.exchange.cause e.note) o e.place.position i (get nat_eq s.answered i)) c.answer-answer.ensures),
+    )
+
+pub returns-clause-grows : goal.returns-clause-grows
+returns-clause-grows g c = λ tested past under q.
+    let s = c.args.self.now in
+    let e = seen c.args.at c.args.note.now in
+    let m = c.args.faults.now in
+    subst (λ (n : FaultMap). Gains (λ k r. same_rule r g.X.Exchange.asked && turns_with tested c.args.fate e past k r) tested (e ∷ past) c.args.decided m n)
+    (sym (c.in_ok-judge_by.ensures.ok ∙ ap (λ r. judged_by c.is_unasked-broken.result r e.place c.args.decided m) c.asked_rule.ensures))
+    (asked-gains tested g.X.Exchange.asked g.X.Exchange.exchange g.met.X.Exchange.apart (g.met.X.Exchange.says_asked tested.role) c.args.fate s.fate s.opened (get nat_eq s.answered) c.args.decided e past m s.binds c.is_unasked-broken.result
+    under.follows.placed.0 q.1 q.0 (c.is_unasked-broken.ensures ∙ ap (λ o. s.binds && is_unasked c.args.fate s.opened o (get nat_eq s.answered)) c.answer-answer.ensures))

@@ -1,0 +1,49 @@
+use Rattle.std.proofs.Common.{nat_eq, ap, ◌∙◌}
+use Rattle.indexmap.specs.IndexSet.{contains}
+use Rattle.mq_rules.specs.Notes.{received_exactly_once, released_id}
+use Rattle.mq_rules.proofs.Exports.{on_err}
+use Rattle.mq_rules.specs.Under.{seen}
+use Rattle.mq_books.specs.Releasing.{kept_next}
+use Rattle.mq_books.proofs.ReleaseLaws.{releasing-next, within-first, within-both, releases-gains}
+use Rattle.mq_books.proofs.releases.ReleasesFated.fated.Goals as goal
+
+pub returns-clause-agrees : goal.returns-clause-agrees
+returns-clause-agrees c = λ tested past under u.
+    let s = c.args.self.now in
+    let n = c.args.note.now in
+    let over = c.starts_over-over.result in
+    let inside = c.is_inside-inside.result in
+    releasing-next tested s.role s.releases s.fate c.args.fate s.has_accepted (contains nat_eq s.brought) (contains nat_eq s.released) (contains nat_eq s.due)
+    inside over c.has_accepted-self.result (contains nat_eq c.revise.new.set) (contains nat_eq c.revise-2.new.set) (contains nat_eq c.revise_due.new.due) (seen c.args.at n) past u
+    c.is_inside-inside.ensures c.starts_over-over.ensures c.has_accepted-self.ensures
+    c.in_ok-revise_due.ensures
+    (λ i. c.in_ok-revise.ensures i
+    ∙ ap (λ o. kept_next over inside o c.ender.result i (contains nat_eq s.brought i)) c.received_exactly_once.ensures
+    ∙ ap (λ o. kept_next over inside (received_exactly_once n) o i (contains nat_eq s.brought i)) c.ender.ensures)
+    (λ i. c.in_ok-revise-2.ensures i
+    ∙ ap (λ o. kept_next over inside o c.ender-2.result i (contains nat_eq s.released i)) c.released_identifier.ensures
+    ∙ ap (λ o. kept_next over inside (released_id n) o i (contains nat_eq s.released i)) c.ender-2.ensures)
+
+pub returns-clause-grows : goal.returns-clause-grows
+returns-clause-grows c = λ tested past under u.
+    let s = c.args.self.now in
+    releases-gains tested s.role s.releases s.fate c.args.fate s.has_accepted (contains nat_eq s.brought) (contains nat_eq s.released) (contains nat_eq s.due)
+    c.args.decided (seen c.args.at c.args.note.now) past c.args.faults.now c.judge_by.new.faults c.judge_by-2.new.faults c.judge_by-3.new.faults
+    c.is_unreceived-unreceived.result c.is_repeated-repeated.result c.is_unreleased-unreleased.result under u
+    c.is_unreceived-unreceived.ensures c.in_ok-judge_by.ensures.ok c.is_repeated-repeated.ensures c.in_ok-judge_by-2.ensures.ok c.is_unreleased-unreleased.ensures c.in_ok-judge_by-3.ensures.ok
+
+pub returns-in_err-judge_by-2-clause-memory : goal.returns-in_err-judge_by-2-clause-memory
+returns-in_err-judge_by-2-clause-memory c =
+    on_err c.from_residual-in_err-judge_by-2.result _ (λ tested past under u.
+    let s = c.args.self.now in
+    within-first tested s.role s.releases s.fate c.args.fate s.has_accepted (contains nat_eq s.brought) (contains nat_eq s.released) (contains nat_eq s.due)
+    c.args.decided (seen c.args.at c.args.note.now) past c.args.faults.now c.judge_by-2.new.faults c.is_unreceived-unreceived.result under u
+    c.is_unreceived-unreceived.ensures (c.in_err-judge_by-2.ensures.unchanged ∙ c.in_ok-judge_by.ensures.ok))
+
+pub returns-in_err-judge_by-3-clause-memory : goal.returns-in_err-judge_by-3-clause-memory
+returns-in_err-judge_by-3-clause-memory c =
+    on_err c.from_residual-in_err-judge_by-3.result _ (λ tested past under u.
+    let s = c.args.self.now in
+    within-both tested s.role s.releases s.fate c.args.fate s.has_accepted (contains nat_eq s.brought) (contains nat_eq s.released) (contains nat_eq s.due)
+    c.args.decided (seen c.args.at c.args.note.now) past c.args.faults.now c.judge_by.new.faults c.judge_by-3.new.faults c.is_unreceived-unreceived.result c.is_repeated-repeated.result under u
+    c.is_unreceived-unreceived.ensures c.in_ok-judge_by.ensures.ok c.is_repeated-repeated.ensures (c.in_err-judge_by-3.ensures.unchanged ∙ c.in_ok-judge_by-2.ensures.ok))

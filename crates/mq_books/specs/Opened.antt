@@ -1,0 +1,60 @@
+-- What is kept of the identifiers that are open in a session.
+use Rattle.std.specs.Prelude.{ℕ, Bool, false, ◌||◌, cond, List, Option, Some, None, option_map}
+use Rattle.mq_trace.specs.declared.place.Place3.{Place3}
+use Rattle.mq_rules.specs.declared.fate.Fate.{Fate}
+use Rattle.mq_rules.specs.declared.note.Note.{Note}
+use Rattle.mq_rules.specs.Words.{is_some_and, is_id}
+use Rattle.mq_rules.specs.Notes.{is_open, opener_of, closer_of, delivery_of, sent_publish, is_exactly_once, sent_as, received_as, pubrel_in, accepting_pubrec_in}
+use Rattle.mq_rules.specs.Moments.{Moment, note}
+use Rattle.mq_rules.specs.Connections.{accepts, begins}
+use Rattle.mq_rules.specs.Folds.{folded}
+use Rattle.mq_rules.specs.Identifiers.{opens_id, closes_id, delivers, sends_pubrel}
+use Rattle.mq_books.specs.declared.inflight.entry.Entry.{Entry}
+
+-- an identifier that is opened at this place
+abbrev pub opened_by : Bool → Place3 → Entry
+opened_by exactly_once place = record { place = place; exactly_once = exactly_once; confirmed = false; released = false; sent = place.position }
+
+-- what is kept of an identifier, if a PUBLISH of it is sent; if a PUBREL is; if a PUBREC below 0x80 is received; if it is set free; if it is opened
+abbrev pub sent_if : Bool → ℕ → Option Entry → Option Entry
+sent_if b at old = option_map (λ o. record { place = o.place; exactly_once = o.exactly_once; confirmed = o.confirmed; released = o.released; sent = cond b at o.sent }) old
+
+abbrev pub released_if : Bool → ℕ → Option Entry → Option Entry
+released_if b at old = option_map (λ o. record { place = o.place; exactly_once = o.exactly_once; confirmed = o.confirmed; released = b || o.released; sent = cond b at o.sent }) old
+
+abbrev pub confirmed_if : Bool → Option Entry → Option Entry
+confirmed_if b old = option_map (λ o. record { place = o.place; exactly_once = o.exactly_once; confirmed = b || o.confirmed; released = o.released; sent = o.sent }) old
+
+abbrev pub closed_if : Bool → Option Entry → Option Entry
+closed_if b old = cond b None old
+
+abbrev pub opened_if : Bool → Bool → Place3 → Option Entry → Option Entry
+opened_if b exactly_once place old = cond b (Some (opened_by exactly_once place)) old
+
+-- the event sends a PUBLISH of QoS 2
+abbrev pub sends_exactly_once : Note → Bool
+sends_exactly_once n = is_some_and (λ p. is_exactly_once p.qos) (sent_publish n)
+
+-- the moment sends a PUBLISH or a PUBREL under the identifier; receives a PUBREC below 0x80 under it; opens it or sets it free
+abbrev pub sends_again : ℕ → Moment → Bool
+sends_again i m = delivers i m || sends_pubrel i m
+
+abbrev pub confirms : ℕ → Moment → Bool
+confirms i m = is_id i (received_as accepting_pubrec_in (note m))
+
+abbrev pub moves : ℕ → Moment → Bool
+moves i m = opens_id i m || closes_id i m
+
+-- what is kept of an identifier after an event of its session
+abbrev pub entry_after : ℕ → Note → Place3 → Option Entry → Option Entry
+entry_after i n place old =
+    opened_if (is_id i (opener_of n)) (sends_exactly_once n) place (closed_if (is_id i (closer_of n))
+    (confirmed_if (is_id i (received_as accepting_pubrec_in n)) (released_if (is_id i (sent_as pubrel_in n)) place.position (sent_if (is_id i (delivery_of n)) place.position old))))
+
+-- what is kept of an identifier after these moments of a session: nothing, if it isn't open
+abbrev pub entry_in : ℕ → List Moment → Option Entry
+entry_in i ms = folded (λ m old. entry_after i (note m) m.event.place old) None ms
+
+-- what is kept of an identifier after an event of a connection with this fate
+abbrev pub entry_next : Fate → Note → Place3 → ℕ → Option Entry → Option Entry
+entry_next f n place i old = cond (is_open n) (cond (begins (Some f)) None old) (cond (accepts f) (entry_after i n place old) old)

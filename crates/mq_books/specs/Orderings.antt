@@ -1,0 +1,69 @@
+-- A queue of what fell due on the latest connection, the earliest first.
+use Rattle.std.specs.Prelude.{ℕ, ◌≡◌, ◌<◌, ◌≤◌, ◌==◌, ◌⊎◌, Bool, ◌&&◌, not, cond, List, [], ◌∷◌, ◌++◌, filter, Option, Some, None, is_some}
+use Rattle.mq_trace.specs.declared.place.Place3.{Place3}
+use Rattle.mq_rules.specs.declared.rule.Rule.{Rule}
+use Rattle.mq_rules.specs.declared.note.Note.{Note}
+use Rattle.mq_rules.specs.Words.{is_some_and}
+use Rattle.mq_rules.specs.Notes.{is_open}
+use Rattle.mq_rules.specs.FaultKeys.{FaultMap}
+use Rattle.mq_books.specs.declared.ordering.Debt.{Debt}
+use Rattle.mq_books.specs.Quotas.{judged_by}
+
+-- the debt is what is due under its identifier
+abbrev pub is_still_due : (ℕ → Option Place3) → Debt → Bool
+is_still_due due d = is_some_and (λ p. p.position == d.position) (due d.identifier)
+
+-- the queue from its first debt on that is still due
+abbrev pub from_due : (ℕ → Option Place3) → List Debt → List Debt
+from_due due [] = []
+from_due due (d ∷ ds) = cond (is_still_due due d) (d ∷ ds) (from_due due ds)
+
+abbrev pub first_debt : List Debt → Option Debt
+first_debt [] = None
+first_debt (d ∷ ds) = Some d
+
+-- the queue once an answer was looked at
+abbrev pub looked_at : (ℕ → Option Place3) → Option ℕ → List Debt → List Debt
+looked_at due answer queue = cond (is_some answer) (from_due due queue) queue
+
+-- the first debt is another one than that of the answer
+abbrev pub is_passed : ℕ → List Debt → Bool
+is_passed i queue = is_some_and (λ d. not (d.identifier == i)) (first_debt queue)
+
+abbrev pub passes_over : (ℕ → Option Place3) → Option ℕ → List Debt → Bool
+passes_over due answer queue = is_some_and (λ i. is_some (due i) && is_passed i queue) answer
+
+-- the debt of a cause under which nothing is due
+abbrev pub fallen : (ℕ → Option Place3) → ℕ → Option ℕ → List Debt
+fallen due at None = []
+fallen due at (Some i) = cond (is_some (due i)) [] (record { identifier = i; position = at } ∷ [])
+
+-- the queue after an event
+abbrev pub queued_next : Note → Option ℕ → ℕ → (ℕ → Option Place3) → List Debt → List Debt
+queued_next n cause at due queue = cond (is_open n) [] (queue ++ fallen due at cause)
+
+-- the queue, or all of it that is still due
+abbrev pub IsTidied : (ℕ → Option Place3) → List Debt → List Debt → Type 0
+IsTidied due old new = (new ≡ old) ⊎ (new ≡ filter (is_still_due due) old)
+
+-- the faults with that of the statement on the order, if there is one and it is broken
+abbrev pub ordered_by : Option Rule → Bool → Place3 → ℕ → FaultMap → FaultMap
+ordered_by None broken place at faults = faults
+ordered_by (Some rule) broken place at faults = judged_by broken rule place at faults
+
+-- ---- what a queue is
+
+-- a debt under this identifier, of this position
+abbrev pub Queued : ℕ → ℕ → List Debt → Type 0
+Queued i at [] = ⊥
+Queued i at (d ∷ ds) = ((d.identifier ≡ i) × (d.position ≡ at)) ⊎ Queued i at ds
+
+abbrev pub IsAscending : List Debt → Type 0
+IsAscending [] = Unit {0}
+IsAscending (d ∷ ds) = ((i at : ℕ) → Queued i at ds → d.position < at) × IsAscending ds
+
+-- Its debts have ascending positions, up to this one, and all that is due is in it.
+pub record IsQueue (due : ℕ → Option Place3) (queue : List Debt) (most : ℕ) : Type 0 where
+  pub ascending : IsAscending queue
+  pub within : (i at : ℕ) → Queued i at queue → at ≤ most
+  pub each : (i : ℕ) (p : Place3) → due i ≡ Some p → Queued i p.position queue

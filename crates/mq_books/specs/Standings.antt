@@ -1,0 +1,130 @@
+-- What the book of deliveries keeps: filters that stand, SUBSCRIBEs that wait for their SUBACK, topics by their Topic Alias.
+use Rattle.std.specs.Prelude.{ℕ, ◌≡◌, ◌==◌, nat_le, Bool, false, ◌&&◌, ◌||◌, not, cond, List, [], ◌∷◌, ◌++◌, length, Option, Some, None, is_none, unwrap_or, option_map}
+use Rattle.std.specs.Option.{option_or, option_and_then}
+use Rattle.std.specs.List.{list_any}
+use Rattle.mq_topic.specs.Matching.{matches}
+use Rattle.mq_rules.specs.declared.role.Role.{Role}
+use Rattle.mq_rules.specs.declared.role.Tested.{Tested}
+use Rattle.mq_rules.specs.declared.fate.Fate.{Fate}
+use Rattle.mq_rules.specs.declared.note.Note.{Note}
+use Rattle.mq_rules.specs.declared.note.Seen.{Seen}
+use Rattle.mq_rules.specs.declared.packet_note.PublishNote.{PublishNote}
+use Rattle.mq_rules.specs.Words.{is_some_and, only}
+use Rattle.mq_rules.specs.Notes.{is_open, Subscription, Grant, received_subscription, sent_grant, sent_publish, refuses, qos_number}
+use Rattle.mq_rules.specs.Moments.{Moment, note, is_after, some, those, earliest}
+use Rattle.mq_rules.specs.Connections.{begun, number, of_connection, connection, accepts, begins, session}
+use Rattle.mq_rules.specs.Subscriptions.{Standing, granted, codes_under, asks_to_share, is_shared, topic_set, last_set}
+
+-- ---- SUBSCRIBEs that wait
+
+-- A SUBSCRIBE: its identifier, and its filters with the QoS that each asks for.
+pub record Waits : Type 0 where
+  pub identifier : ℕ
+  pub filters : List Standing
+
+abbrev pub asked : Subscription → Waits
+asked s = record { identifier = s.identifier; filters = granted s.filters [] }
+
+-- The Reason Codes of the SUBACK of a SUBSCRIBE j under i, if this log has it.
+abbrev pub codes_in : List Seen → Moment → ℕ → Option (List ℕ)
+codes_in past j i = earliest (codes_under i) (those (λ m. is_after m j) (of_connection (number j) past))
+
+-- a SUBSCRIBE waits if it is on the latest connection, and these say no Reason Codes for its identifier
+abbrev pub waits_by : Bool → (ℕ → Option (List ℕ)) → Option Subscription → Bool
+waits_by here codes o = here && is_some_and (λ s. is_none (codes s.identifier)) o
+
+abbrev pub standing_by : (ℕ → Option (List ℕ)) → Option Subscription → List Standing
+standing_by codes o = unwrap_or (option_map (λ s. granted s.filters (unwrap_or (codes s.identifier) [])) o) []
+
+-- its filters that stand whatever comes; the SUBSCRIBE, if it waits
+abbrev pub settled_by : Bool → (ℕ → Option (List ℕ)) → Option Subscription → List Standing
+settled_by here codes o = cond (waits_by here codes o) [] (standing_by codes o)
+
+abbrev pub waiting_by : Bool → (ℕ → Option (List ℕ)) → Option Subscription → Option Waits
+waiting_by here codes o = only (waits_by here codes o) (option_map asked o)
+
+abbrev pub settled_from : List Seen → Moment → List Standing
+settled_from past j = settled_by (begun past == number j) (codes_in past j) (received_subscription (note j))
+
+abbrev pub waiting_from : List Seen → Moment → Option Waits
+waiting_from past j = waiting_by (begun past == number j) (codes_in past j) (received_subscription (note j))
+
+-- ---- Reason Codes
+
+abbrev pub first_code : List ℕ → Option ℕ
+first_code [] = None
+first_code (code ∷ codes) = Some code
+
+abbrev pub other_codes : List ℕ → List ℕ
+other_codes [] = []
+other_codes (code ∷ codes) = codes
+
+-- a filter with its Reason Code, if there is one; filters with these codes
+abbrev pub with_code : Standing → Option ℕ → List Standing
+with_code s None = s ∷ []
+with_code s (Some code) = cond (refuses code) [] (record { filter = s.filter; ceiling = code } ∷ [])
+
+abbrev pub with_codes : List Standing → List ℕ → List Standing
+with_codes [] codes = []
+with_codes (s ∷ ss) codes = with_code s (first_code codes) ++ with_codes ss (other_codes codes)
+
+-- ---- one event more
+
+-- the session of these events goes on with the event, whose connection has this fate
+abbrev pub goes_on : Fate → Note → Bool
+goes_on f n = not (is_open n && begins (Some f))
+
+-- a SUBACK is sent under the identifier of the SUBSCRIBE
+abbrev pub is_answered : Option Grant → Waits → Bool
+is_answered g w = is_some_and (λ a. a.identifier == w.identifier) g
+
+-- some filter of those that this SUBACK answers passes the test
+abbrev pub grants_some : (Standing → Bool) → Option Grant → ((Waits → Bool) → Bool) → Bool
+grants_some t g among = is_some_and (λ a. among (λ w. (a.identifier == w.identifier) && list_any t (with_codes w.filters a.codes))) g
+
+-- what is settled and what waits after an event, by a test
+abbrev pub settled_next : Fate → Note → (Standing → Bool) → Bool → ((Waits → Bool) → Bool) → Bool
+settled_next f n t old among = cond (is_open n) (goes_on f n && (old || among (λ w. list_any t w.filters))) (old || grants_some t (sent_grant n) among)
+
+abbrev pub waiting_next : Fate → Note → (Waits → Bool) → ((Waits → Bool) → Bool) → Bool
+waiting_next f n t among = cond (is_open n) false ((accepts f && is_some_and t (option_map asked (received_subscription n))) || among (λ w. not (is_answered (sent_grant n) w) && t w))
+
+abbrev pub sharing_next : Fate → Note → Bool → Bool
+sharing_next f n old = (accepts f && is_some_and (λ s. list_any is_shared s.filters) (received_subscription n)) || (goes_on f n && old)
+
+abbrev pub topic_next : Note → ℕ → Option (List ℕ) → Option (List ℕ)
+topic_next n alias old = option_or (topic_set alias n) (cond (is_open n) None old)
+
+-- ---- what is kept
+
+-- These events lead to what is kept.
+pub record IsStanding (fate : Fate) (settled : List Standing) (waiting : List Waits) (sharing : Bool) (topics : ℕ → Option (List ℕ)) (tested : Tested) (taken : Option Fate) (past : List Seen) : Type 0 where
+  pub same_fate : taken ≡ Some fate
+  pub settled_are : (t : Standing → Bool) → list_any t settled ≡ some (λ j. list_any t (settled_from past j)) (session tested.role taken past)
+  pub waiting_are : (t : Waits → Bool) → list_any t waiting ≡ some (λ j. is_some_and t (waiting_from past j)) (session tested.role taken past)
+  pub is_sharing : sharing ≡ some asks_to_share (session tested.role taken past)
+  pub topics_are : (alias : ℕ) → topics alias ≡ last_set alias (connection past)
+
+-- ---- deliveries
+
+-- some filter that is kept passes the test
+abbrev pub any_kept : (Standing → Bool) → List Standing → List Waits → Bool
+any_kept t settled waiting = list_any t settled || list_any (λ w. list_any t w.filters) waiting
+
+abbrev pub topic_kept : (ℕ → Option (List ℕ)) → PublishNote → Option (List ℕ)
+topic_kept topics p = cond (length p.topic == 0) (option_and_then topics p.topic_alias) (Some p.topic)
+
+-- the topic of a PUBLISH with DUP 0, in a session without shared subscriptions
+abbrev pub judged_topic : Bool → (ℕ → Option (List ℕ)) → PublishNote → Option (List ℕ)
+judged_topic sharing topics p = only (not p.duplicate) (only (not sharing) (topic_kept topics p))
+
+-- a PUBLISH is sent, and such a topic of it passes the test
+abbrev pub delivers_so : Note → Bool → (ℕ → Option (List ℕ)) → (PublishNote → List ℕ → Bool) → Bool
+delivers_so n sharing topics test = is_some_and (λ p. is_some_and (test p) (judged_topic sharing topics p)) (sent_publish n)
+
+-- B01 and B02, of what is kept
+abbrev pub is_unasked : List Standing → List Waits → PublishNote → List ℕ → Bool
+is_unasked settled waiting p topic = not (any_kept (λ s. matches s.filter topic) settled waiting)
+
+abbrev pub is_above : List Standing → List Waits → PublishNote → List ℕ → Bool
+is_above settled waiting p topic = any_kept (λ s. matches s.filter topic) settled waiting && not (any_kept (λ s. matches s.filter topic && nat_le (qos_number p.qos) s.ceiling) settled waiting)

@@ -1,0 +1,163 @@
+//! Each answer was asked for (MQTT 5.0, sections 3.8.4, 3.10.4 and 4.3).
+ghost use Rattle.std.specs.Prelude.{◌≡◌, ◌&&◌, ◌^◌, ℕ, OnOk, cond, nat_eq, [], Some, refl};
+ghost use Rattle.indexmap.specs.IndexMap.{get};
+ghost use Rattle.mq_rules.specs.declared.fate.Fate.TheVariants.{Void};
+ghost use Rattle.mq_rules.specs.Notes.{is_open};
+ghost use Rattle.mq_rules.specs.Rules.{same_rule, binds as is_bound};
+ghost use Rattle.mq_rules.specs.Under.{IsKnown, turns_known};
+ghost use Rattle.mq_books.specs.Askings as keeping;
+ghost use Rattle.mq_books.specs.Askings.{IsAsked, answered_next};
+
+use crate::exchange::Exchange;
+use crate::fated::Fated;
+use crate::known::judge_by;
+use indexmap::IndexMap;
+use mq_rules::{Fate, Faults, Memory, Note, Tested, Watch};
+use mq_trace::Place3;
+use std::alloc::Global;
+use std::marker::PhantomData;
+
+/// Watches that each answer has a cause in its session, which isn't answered on the answer's connection.
+#[derive(Drop)]
+pub struct Asked<X: Exchange> {
+    alloc: Global,
+    binds: bool,
+    fate: Fate,
+    // The position of the latest OPEN; 1 before the first one.
+    opened: u32,
+    // Under each identifier with a cause in the session: the position of the latest answer since the latest cause, or 0.
+    answered: IndexMap<u16, u32>,
+    exchange: PhantomData<X>,
+}
+
+/// Takes in an event of a connection that has this fate. What isn't accepted changes nothing.
+fn take_answered(
+    answered: &mut IndexMap<u16, u32>,
+    alloc: Global,
+    position: u32,
+    fate: Fate,
+    note: &Note,
+    cause: Option<u16>,
+    answer: Option<u16>,
+) -> Result<(), Memory>
+    ensures { OnOk result ((i : ℕ) → get nat_eq answered.new i ≡ answered_next fate note.now cause answer position i (get nat_eq answered.old i)) }
+{
+    if note.is_open() {
+        if matches!(fate, Fate::New) {
+            // A large map that is cleared costs its size each time.
+            *answered = IndexMap::new(alloc);
+        }
+        return Ok(());
+    }
+    if !fate.accepts() {
+        return Ok(());
+    }
+    if let Some(i) = answer {
+        if let Some(latest) = answered.get_mut(&i) {
+            *latest = position;
+        }
+    }
+    if let Some(i) = cause {
+        answered.insert(i, 0)?;
+    }
+    Ok(())
+}
+
+/// The position of the latest OPEN after an event.
+fn opened_after(opened: u32, position: u32, note: &Note) -> u32
+    ensures { result ≡ cond (is_open note.now) position opened }
+{
+    if note.is_open() { position } else { opened }
+}
+
+/// Whether the statement is judged, and an answer has no cause that is owed.
+fn is_unasked(
+    binds: bool,
+    fate: Fate,
+    opened: u32,
+    answer: Option<u16>,
+    answered: &IndexMap<u16, u32>,
+) -> bool
+    ensures { result ≡ (binds && keeping.is_unasked fate opened answer (get nat_eq answered.now)) }
+{
+    binds
+        && fate.accepts()
+        && match answer {
+            Some(i) => match answered.get(&i) {
+                Some(&latest) => !(latest < opened),
+                None => true,
+            },
+            None => false,
+        }
+}
+
+impl<X: Exchange> Asked<X> {
+    /// No event was told yet.
+    pub fn new(alloc: Global, tested: Tested) -> Self
+        ensures { ⟦<Asked<X> as Watch>⟧.agrees result tested (Some Void) [] }
+    {
+        Asked {
+            alloc,
+            binds: X::asked_rule().is_judged(tested),
+            fate: Fate::Void,
+            opened: 1,
+            answered: IndexMap::new(alloc),
+            exchange: PhantomData,
+        }
+    }
+}
+
+impl<X: Exchange> Watch for Asked<X> {
+    ghost agrees = { λ s tested taken past. (s.binds ≡ is_bound X.asked tested) × IsAsked X.exchange s.fate s.opened (get nat_eq s.answered) tested taken past };
+
+    ghost takes = { IsKnown };
+
+    ghost adds = { λ tested e past k r. same_rule r X.asked && turns_known tested e past k r };
+
+    ghost bound = { λ tested taken past. 2 ^ 64 };
+
+    fn step(&mut self, at: Place3, note: &Note, faults: &mut Faults) -> Result<(), Memory> {
+        let fate = self.fate;
+        self.fated(at, at.position, fate, note, faults)?;
+        Ok(())
+    }
+
+    fn weight(&self) -> usize {
+        self.answered.len()
+    }
+}
+
+impl<X: Exchange> Fated for Asked<X> {
+    ghost judges = { λ r. same_rule r X.asked };
+
+    fn fated(
+        &mut self,
+        at: Place3,
+        decided: u32,
+        fate: Fate,
+        note: &Note,
+        faults: &mut Faults,
+    ) -> Result<(), Memory> {
+        let cause = X::cause(note);
+        let answer = X::answer(note);
+        let broken = is_unasked(self.binds, fate, self.opened, answer, &self.answered);
+        let alloc = self.alloc;
+        take_answered(
+            &mut self.answered,
+            alloc,
+            at.position,
+            fate,
+            note,
+            cause,
+            answer,
+        )?;
+        self.opened = opened_after(self.opened, at.position, note);
+        self.fate = fate;
+        judge_by(X::asked_rule(), broken, at, decided, faults)?;
+        Ok(())
+    }
+
+    ghost known_taken = { λ tested taken e past known. known };
+
+    ghost known_adds = { λ tested e past k r. refl };
+}

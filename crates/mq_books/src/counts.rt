@@ -1,0 +1,295 @@
+//! How many Reason Codes a SUBACK or UNSUBACK has (MQTT 5.0, sections 3.9.3 and 3.11.3).
+ghost use Rattle.std.specs.Prelude.{refl};
+ghost use Rattle.std.specs.Prelude.{◌≡◌, ◌^◌, ◌&&◌, ◌==◌, ℕ, Bool, not, OnOk, nat_eq, [], Some};
+ghost use Rattle.indexmap.specs.IndexMap.{get};
+ghost use Rattle.mq_rules.specs.declared.role.Role.{Role as TheRole};
+ghost use Rattle.mq_rules.specs.declared.rule.Rule.{Rule as TheRule};
+ghost use Rattle.mq_rules.specs.declared.rule.Rule.TheVariants.{B03, B04};
+ghost use Rattle.mq_rules.specs.declared.fate.Fate.TheVariants.{Void};
+ghost use Rattle.mq_rules.specs.Moments.{Moment};
+ghost use Rattle.mq_rules.specs.Connections.{accepts};
+ghost use Rattle.mq_rules.specs.Statements.{statement, in_session};
+ghost use Rattle.mq_rules.specs.Subscriptions.{breaks_B03, breaks_B04};
+ghost use Rattle.mq_rules.specs.Rules.{same_rule, binds as is_bound};
+ghost use Rattle.mq_rules.specs.Faults.{offset_of};
+ghost use Rattle.std.specs.Prelude.{Option, None};
+ghost use Rattle.mq_rules.specs.Under.{IsKnown, turns_known};
+ghost use Rattle.mq_books.specs.Countings.{Counting, IsCounting, IsCounted, counted_next, differs, subscribes, unsubscribes, subscribe_request as the_subscribe, suback_reply as the_suback, unsubscribe_request as the_unsubscribe, unsuback_reply as the_unsuback, subscribes_so, unsubscribes_so};
+
+use crate::fated::Fated;
+use crate::known::judge_by;
+use indexmap::IndexMap;
+use mq_rules::{Fate, Faults, Memory, Note, PacketFields, Rule, Tested, Watch};
+use mq_trace::Place3;
+use std::alloc::Global;
+use std::marker::PhantomData;
+
+/// The Packet Identifier of a packet, and how many filters or Reason Codes it has.
+#[derive(Clone, Copy, Debug)]
+pub struct Counted {
+    /// The Packet Identifier.
+    pub identifier: u16,
+    /// How many filters or Reason Codes there are.
+    pub count: usize,
+}
+
+/// Packets with filters, and the packets that answer them with a Reason Code for each.
+pub trait Replies {
+    /// What has filters, and what answers it.
+    ghost counting: { Counting };
+    /// The statement that there is a Reason Code for each filter.
+    ghost judged: { TheRule };
+    /// Where that is false.
+    ghost breaks: { Moment → Bool };
+
+    /// A packet with filters that is received.
+    fn request(note: &Note) -> Option<Counted>
+        ensures { result ≡ counting.request note.now };
+
+    /// A packet that is sent and answers one.
+    fn reply(note: &Note) -> Option<Counted>
+        ensures { result ≡ counting.reply note.now };
+
+    /// The statement that there is a Reason Code for each filter.
+    fn judged() -> Rule
+        ensures { result ≡ judged };
+
+    /// The table says the same.
+    ghost says: { (role : TheRole) → statement role judged ≡ in_session (λ f. breaks) };
+    /// A fault has no offset.
+    ghost no_offset: { (role : TheRole) (m : Option Moment) → offset_of (statement role judged) m ≡ None };
+    /// The statement compares the two counts.
+    ghost compares: { IsCounting counting breaks };
+}
+
+/// Keeps the count of the first packet of an identifier that isn't answered.
+fn keep_count(
+    counts: &mut IndexMap<u16, usize>,
+    opens: bool,
+    request: Option<Counted>,
+    reply: Option<Counted>,
+) -> Result<(), Memory>
+    ensures { OnOk result ((i : ℕ) → get nat_eq counts.new i ≡ counted_next opens request reply i (get nat_eq counts.old i)) }
+{
+    if opens {
+        counts.clear();
+    }
+    if let Some(answered) = reply {
+        counts.swap_remove(&answered.identifier);
+    }
+    if let Some(asked) = request {
+        if !counts.contains_key(&asked.identifier) {
+            counts.insert(asked.identifier, asked.count)?;
+        }
+    }
+    Ok(())
+}
+
+/// Whether a packet answers one whose count is another.
+fn is_other(counts: &IndexMap<u16, usize>, reply: Option<Counted>) -> bool
+    ensures { result ≡ differs (get nat_eq counts.now) reply }
+{
+    let Some(given) = reply else {
+        return false;
+    };
+    match counts.get(&given.identifier) {
+        Some(asked) => *asked != given.count,
+        None => false,
+    }
+}
+
+/// The same on a connection that is accepted, if the statement is judged.
+fn is_broken(bound: bool, fate: Fate, counts: &IndexMap<u16, usize>, reply: Option<Counted>) -> bool
+    ensures { result ≡ (bound && (accepts fate && differs (get nat_eq counts.now) reply)) }
+{
+    bound && (fate.accepts() && is_other(counts, reply))
+}
+
+/// Watches that there are as many Reason Codes as filters.
+#[derive(Drop)]
+pub struct Counts<R: Replies> {
+    bound: bool,
+    fate: Fate,
+    counts: IndexMap<u16, usize>,
+    replies: PhantomData<R>,
+}
+
+impl<R: Replies> Counts<R> {
+    /// Nothing waits for an answer.
+    pub fn new(alloc: Global, tested: Tested) -> Self
+        ensures { ⟦<Counts<R> as Watch>⟧.agrees result tested (Some Void) [] }
+    {
+        Counts {
+            bound: R::judged().is_judged(tested),
+            fate: Fate::Void,
+            counts: IndexMap::new(alloc),
+            replies: PhantomData,
+        }
+    }
+}
+
+impl<R: Replies> Watch for Counts<R> {
+    ghost agrees = { λ s tested taken past. (s.bound ≡ is_bound R.judged tested) × IsCounted R.counting s.fate (get nat_eq s.counts) taken past };
+
+    ghost takes = { IsKnown };
+
+    ghost adds = { λ tested e past k r. same_rule r R.judged && turns_known tested e past k r };
+
+    ghost bound = { λ tested taken past. 2 ^ 64 };
+
+    fn step(&mut self, at: Place3, note: &Note, faults: &mut Faults) -> Result<(), Memory> {
+        let fate = self.fate;
+        self.fated(at, at.position, fate, note, faults)?;
+        Ok(())
+    }
+
+    fn weight(&self) -> usize {
+        self.counts.len()
+    }
+}
+
+impl<R: Replies> Fated for Counts<R> {
+    ghost judges = { λ r. same_rule r R.judged };
+
+    fn fated(
+        &mut self,
+        at: Place3,
+        decided: u32,
+        fate: Fate,
+        note: &Note,
+        faults: &mut Faults,
+    ) -> Result<(), Memory> {
+        let reply = R::reply(note);
+        let broken = is_broken(self.bound, fate, &self.counts, reply);
+        keep_count(&mut self.counts, note.is_open(), R::request(note), reply)?;
+        self.fate = fate;
+        judge_by(R::judged(), broken, at, decided, faults)?;
+        Ok(())
+    }
+
+    ghost known_taken = { λ tested taken e past known. known };
+
+    ghost known_adds = { λ tested e past k r. refl };
+}
+
+/// SUBSCRIBE and SUBACK: B03.
+#[derive(Drop)]
+pub struct Subacks;
+
+/// How many filters a SUBSCRIBE has.
+fn subscribe_request(note: &Note) -> Option<Counted>
+    ensures { result ≡ the_subscribe note.now }
+{
+    match note.received_fields() {
+        Some(
+            PacketFields::Subscribe {
+                identifier,
+                filters,
+            },
+        ) => Some(Counted {
+            identifier: *identifier,
+            count: filters.len(),
+        }),
+        _ => None,
+    }
+}
+
+/// How many Reason Codes a SUBACK has.
+fn suback_reply(note: &Note) -> Option<Counted>
+    ensures { result ≡ the_suback note.now }
+{
+    match note.sent_fields() {
+        Some(PacketFields::Suback { identifier, codes }) => Some(Counted {
+            identifier: *identifier,
+            count: codes.len(),
+        }),
+        _ => None,
+    }
+}
+
+impl Replies for Subacks {
+    ghost counting = { subscribes };
+
+    ghost judged = { B03 };
+
+    ghost breaks = { breaks_B03 };
+
+    fn request(note: &Note) -> Option<Counted> {
+        subscribe_request(note)
+    }
+
+    fn reply(note: &Note) -> Option<Counted> {
+        suback_reply(note)
+    }
+
+    fn judged() -> Rule {
+        Rule::B03
+    }
+
+    ghost says = { λ role. refl };
+
+    ghost no_offset = { λ role m. refl };
+
+    ghost compares = { subscribes_so };
+}
+
+/// UNSUBSCRIBE and UNSUBACK: B04.
+#[derive(Drop)]
+pub struct Unsubacks;
+
+/// How many filters an UNSUBSCRIBE has.
+fn unsubscribe_request(note: &Note) -> Option<Counted>
+    ensures { result ≡ the_unsubscribe note.now }
+{
+    match note.received_fields() {
+        Some(
+            PacketFields::Unsubscribe {
+                identifier,
+                filters,
+            },
+        ) => Some(Counted {
+            identifier: *identifier,
+            count: *filters,
+        }),
+        _ => None,
+    }
+}
+
+/// How many Reason Codes an UNSUBACK has.
+fn unsuback_reply(note: &Note) -> Option<Counted>
+    ensures { result ≡ the_unsuback note.now }
+{
+    match note.sent_fields() {
+        Some(PacketFields::Unsuback { identifier, codes }) => Some(Counted {
+            identifier: *identifier,
+            count: *codes,
+        }),
+        _ => None,
+    }
+}
+
+impl Replies for Unsubacks {
+    ghost counting = { unsubscribes };
+
+    ghost judged = { B04 };
+
+    ghost breaks = { breaks_B04 };
+
+    fn request(note: &Note) -> Option<Counted> {
+        unsubscribe_request(note)
+    }
+
+    fn reply(note: &Note) -> Option<Counted> {
+        unsuback_reply(note)
+    }
+
+    fn judged() -> Rule {
+        Rule::B04
+    }
+
+    ghost says = { λ role. refl };
+
+    ghost no_offset = { λ role m. refl };
+
+    ghost compares = { unsubscribes_so };
+}

@@ -1,0 +1,72 @@
+//! What an exchange owes: all its statements.
+ghost use Rattle.std.specs.Prelude.{◌≡◌, ◌&&◌, ◌||◌, [], Some, refl};
+ghost use Rattle.mq_rules.specs.declared.fate.Fate.TheVariants.{Void};
+ghost use Rattle.mq_rules.specs.Words.{is_some_and};
+ghost use Rattle.mq_rules.specs.Rules.{same_rule};
+ghost use Rattle.mq_rules.specs.Under.{turns_known, either_adds};
+
+use crate::asked::Asked;
+use crate::exchange::Exchange;
+use crate::fated::Fated;
+use crate::owed::Owed;
+use mq_rules::{Both, Fate, Faults, Memory, Note, Tested, Watch};
+use mq_trace::Place3;
+use std::alloc::Global;
+
+/// Watches all statements of an exchange: each answer was asked for, each cause is answered before a REST, and answers are sent in the order of
+/// their causes if the exchange has such a statement.
+#[derive(Drop)]
+pub struct Debts<X: Exchange> {
+    // Answers that weren't asked for; what is due, and its order.
+    parts: Both<Asked<X>, Owed<X>>,
+}
+
+impl<X: Exchange> Debts<X> {
+    /// No event was told yet.
+    pub fn new(alloc: Global, tested: Tested) -> Self
+        ensures { ⟦<Debts<X> as Watch>⟧.agrees result tested (Some Void) [] }
+    {
+        Debts {
+            parts: Both::new(Asked::new(alloc, tested), Owed::new(alloc, tested)),
+        }
+    }
+}
+
+impl<X: Exchange> Watch for Debts<X> {
+    ghost agrees = { λ s. ⟦<Both<Asked<X>, Owed<X>> as Watch>⟧.agrees s.parts };
+
+    ghost takes = { ⟦<Both<Asked<X>, Owed<X>> as Watch>⟧.takes };
+
+    ghost adds = { ⟦<Both<Asked<X>, Owed<X>> as Watch>⟧.adds };
+
+    ghost bound = { ⟦<Both<Asked<X>, Owed<X>> as Watch>⟧.bound };
+
+    fn step(&mut self, at: Place3, note: &Note, faults: &mut Faults) -> Result<(), Memory> {
+        self.parts.step(at, note, faults)?;
+        Ok(())
+    }
+
+    fn weight(&self) -> usize {
+        self.parts.weight()
+    }
+}
+
+impl<X: Exchange> Fated for Debts<X> {
+    ghost judges = { λ r. same_rule r X.asked || (same_rule r X.settled || is_some_and (same_rule r) X.ordered) };
+
+    fn fated(
+        &mut self,
+        at: Place3,
+        decided: u32,
+        fate: Fate,
+        note: &Note,
+        faults: &mut Faults,
+    ) -> Result<(), Memory> {
+        self.parts.fated(at, decided, fate, note, faults)?;
+        Ok(())
+    }
+
+    ghost known_taken = { λ tested taken e past known. (known, known) };
+
+    ghost known_adds = { λ tested e past k r. either_adds (same_rule r X.asked && turns_known tested e past k r) ((same_rule r X.settled || is_some_and (same_rule r) X.ordered) && turns_known tested e past k r) (same_rule r X.asked) (same_rule r X.settled || is_some_and (same_rule r) X.ordered) (turns_known tested e past k r) refl refl };
+}

@@ -1,0 +1,338 @@
+//! Exchanges: what is received, the cause, asks for an answer, which is sent (MQTT 5.0, sections 3.8.4, 3.10.4 and 4.3).
+
+use mq_rules::{Note, Rule};
+
+/// An exchange: under which Packet Identifier an event is a cause, and under which one it is an answer.
+pub trait Exchange {
+    ghost use Rattle.std.specs.Prelude.{◌≡◌, Option, Some};
+    ghost use Rattle.mq_rules.specs.declared.role.Role.{Role};
+    ghost use Rattle.mq_rules.specs.declared.rule.Rule.{Rule};
+    ghost use Rattle.mq_rules.specs.Exchanges as exchanges;
+    ghost use Rattle.mq_rules.specs.Statements.{statement, in_session, at_rest};
+    ghost use Rattle.mq_books.specs.Answering.{IsApart};
+
+    // The cause, and the answer.
+    ghost exchange: { exchanges.Exchange };
+    // The statement that each answer was asked for.
+    ghost asked: { Rule };
+    // The statement that each cause is answered before a REST.
+    ghost settled: { Rule };
+    // The statement on the order of answers, if there is one.
+    ghost ordered: { Option Rule };
+
+    /// The Packet Identifier under which an event is a cause.
+    fn cause(note: &Note) -> Option<u16>
+        ensures { result ≡ exchange.cause note.now };
+
+    /// The Packet Identifier under which an event is an answer.
+    fn answer(note: &Note) -> Option<u16>
+        ensures { result ≡ exchange.answer note.now };
+
+    /// The statement that each answer was asked for.
+    fn asked_rule() -> Rule
+        ensures { result ≡ asked };
+
+    /// The statement that each cause is answered before a REST.
+    fn settled_rule() -> Rule
+        ensures { result ≡ settled };
+
+    /// The statement that answers are sent in the order of their causes, if there is one (MQTT 5.0, section 4.6).
+    fn ordered_rule() -> Option<Rule>
+        ensures { result ≡ ordered };
+
+    // A cause is received, and an answer is sent.
+    ghost apart: { IsApart exchange };
+
+    // They are the statements of these rules.
+    ghost says_asked: { (role : Role) → statement role asked ≡ in_session (exchanges.breaks_A exchange role) };
+
+    ghost says_settled: { (role : Role) → statement role settled ≡ at_rest (exchanges.shows_R exchange) };
+
+    ghost says_ordered: { (role : Role) (rule : Rule) → ordered ≡ Some rule → statement role rule ≡ in_session (λ f. exchanges.breaks_O exchange) };
+}
+
+/// A PUBLISH of QoS 1 that is received, and its PUBACK.
+#[derive(Drop)]
+pub struct E1;
+
+impl Exchange for E1 {
+    ghost use Rattle.std.specs.Prelude.{refl, Some, None};
+    ghost use Rattle.mq_rules.specs.declared.rule.Rule.TheVariants.{E1A, E1R, E1O};
+    ghost use Rattle.mq_rules.specs.Exchanges.{publish_puback};
+    ghost use Rattle.mq_books.specs.Answering.{puback_apart, ordered_says};
+
+    ghost exchange = { publish_puback };
+
+    ghost asked = { E1A };
+
+    ghost settled = { E1R };
+
+    ghost ordered = { Some E1O };
+
+    fn cause(note: &Note) -> Option<u16> {
+        note.received_at_least_once()
+    }
+
+    fn answer(note: &Note) -> Option<u16> {
+        note.sent_puback()
+    }
+
+    fn asked_rule() -> Rule {
+        Rule::E1A
+    }
+
+    fn settled_rule() -> Rule {
+        Rule::E1R
+    }
+
+    fn ordered_rule() -> Option<Rule> {
+        Some(Rule::E1O)
+    }
+
+    ghost apart = { puback_apart };
+
+    ghost says_asked = { λ role. refl };
+
+    ghost says_settled = { λ role. refl };
+
+    ghost says_ordered = { ordered_says publish_puback E1O (λ role. refl) };
+}
+
+/// A PUBLISH of QoS 2 that is received, and its PUBREC.
+#[derive(Drop)]
+pub struct E2;
+
+impl Exchange for E2 {
+    ghost use Rattle.std.specs.Prelude.{refl, Some, None};
+    ghost use Rattle.mq_rules.specs.declared.rule.Rule.TheVariants.{E2A, E2R, E2O};
+    ghost use Rattle.mq_rules.specs.Exchanges.{publish_pubrec};
+    ghost use Rattle.mq_books.specs.Answering.{pubrec_apart, ordered_says};
+
+    ghost exchange = { publish_pubrec };
+
+    ghost asked = { E2A };
+
+    ghost settled = { E2R };
+
+    ghost ordered = { Some E2O };
+
+    fn cause(note: &Note) -> Option<u16> {
+        note.received_exactly_once()
+    }
+
+    fn answer(note: &Note) -> Option<u16> {
+        note.sent_pubrec()
+    }
+
+    fn asked_rule() -> Rule {
+        Rule::E2A
+    }
+
+    fn settled_rule() -> Rule {
+        Rule::E2R
+    }
+
+    fn ordered_rule() -> Option<Rule> {
+        Some(Rule::E2O)
+    }
+
+    ghost apart = { pubrec_apart };
+
+    ghost says_asked = { λ role. refl };
+
+    ghost says_settled = { λ role. refl };
+
+    ghost says_ordered = { ordered_says publish_pubrec E2O (λ role. refl) };
+}
+
+/// A PUBREC below 0x80 that is received, and its PUBREL.
+#[derive(Drop)]
+pub struct E3;
+
+impl Exchange for E3 {
+    ghost use Rattle.std.specs.Prelude.{refl, Some, None};
+    ghost use Rattle.mq_rules.specs.declared.rule.Rule.TheVariants.{E3A, E3R, E3O};
+    ghost use Rattle.mq_rules.specs.Exchanges.{pubrec_pubrel};
+    ghost use Rattle.mq_rules.specs.Notes.{accepting_pubrec_in, pubrel_in};
+    ghost use Rattle.mq_books.specs.Answering.{packets_apart, ordered_says};
+
+    ghost exchange = { pubrec_pubrel };
+
+    ghost asked = { E3A };
+
+    ghost settled = { E3R };
+
+    ghost ordered = { Some E3O };
+
+    fn cause(note: &Note) -> Option<u16> {
+        note.received_accepting_pubrec()
+    }
+
+    fn answer(note: &Note) -> Option<u16> {
+        note.sent_pubrel()
+    }
+
+    fn asked_rule() -> Rule {
+        Rule::E3A
+    }
+
+    fn settled_rule() -> Rule {
+        Rule::E3R
+    }
+
+    fn ordered_rule() -> Option<Rule> {
+        Some(Rule::E3O)
+    }
+
+    ghost apart = { packets_apart accepting_pubrec_in pubrel_in };
+
+    ghost says_asked = { λ role. refl };
+
+    ghost says_settled = { λ role. refl };
+
+    ghost says_ordered = { ordered_says pubrec_pubrel E3O (λ role. refl) };
+}
+
+/// A PUBREL that is received, and its PUBCOMP.
+#[derive(Drop)]
+pub struct E4;
+
+impl Exchange for E4 {
+    ghost use Rattle.std.specs.Prelude.{refl, Some, None};
+    ghost use Rattle.mq_rules.specs.declared.rule.Rule.TheVariants.{E4A, E4R};
+    ghost use Rattle.mq_rules.specs.Exchanges.{pubrel_pubcomp};
+    ghost use Rattle.mq_rules.specs.Notes.{pubrel_in, pubcomp_in};
+    ghost use Rattle.mq_books.specs.Answering.{packets_apart, no_order};
+
+    ghost exchange = { pubrel_pubcomp };
+
+    ghost asked = { E4A };
+
+    ghost settled = { E4R };
+
+    ghost ordered = { None };
+
+    fn cause(note: &Note) -> Option<u16> {
+        note.received_pubrel()
+    }
+
+    fn answer(note: &Note) -> Option<u16> {
+        note.sent_pubcomp()
+    }
+
+    fn asked_rule() -> Rule {
+        Rule::E4A
+    }
+
+    fn settled_rule() -> Rule {
+        Rule::E4R
+    }
+
+    fn ordered_rule() -> Option<Rule> {
+        None
+    }
+
+    ghost apart = { packets_apart pubrel_in pubcomp_in };
+
+    ghost says_asked = { λ role. refl };
+
+    ghost says_settled = { λ role. refl };
+
+    ghost says_ordered = { no_order pubrel_pubcomp };
+}
+
+/// A SUBSCRIBE that is received, and its SUBACK.
+#[derive(Drop)]
+pub struct E5;
+
+impl Exchange for E5 {
+    ghost use Rattle.std.specs.Prelude.{refl, Some, None};
+    ghost use Rattle.mq_rules.specs.declared.rule.Rule.TheVariants.{E5A, E5R};
+    ghost use Rattle.mq_rules.specs.Exchanges.{subscribe_suback};
+    ghost use Rattle.mq_rules.specs.Notes.{subscribe_in, suback_in};
+    ghost use Rattle.mq_books.specs.Answering.{packets_apart, no_order};
+
+    ghost exchange = { subscribe_suback };
+
+    ghost asked = { E5A };
+
+    ghost settled = { E5R };
+
+    ghost ordered = { None };
+
+    fn cause(note: &Note) -> Option<u16> {
+        note.received_subscribe()
+    }
+
+    fn answer(note: &Note) -> Option<u16> {
+        note.sent_suback()
+    }
+
+    fn asked_rule() -> Rule {
+        Rule::E5A
+    }
+
+    fn settled_rule() -> Rule {
+        Rule::E5R
+    }
+
+    fn ordered_rule() -> Option<Rule> {
+        None
+    }
+
+    ghost apart = { packets_apart subscribe_in suback_in };
+
+    ghost says_asked = { λ role. refl };
+
+    ghost says_settled = { λ role. refl };
+
+    ghost says_ordered = { no_order subscribe_suback };
+}
+
+/// An UNSUBSCRIBE that is received, and its UNSUBACK.
+#[derive(Drop)]
+pub struct E6;
+
+impl Exchange for E6 {
+    ghost use Rattle.std.specs.Prelude.{refl, Some, None};
+    ghost use Rattle.mq_rules.specs.declared.rule.Rule.TheVariants.{E6A, E6R};
+    ghost use Rattle.mq_rules.specs.Exchanges.{unsubscribe_unsuback};
+    ghost use Rattle.mq_rules.specs.Notes.{unsubscribe_in, unsuback_in};
+    ghost use Rattle.mq_books.specs.Answering.{packets_apart, no_order};
+
+    ghost exchange = { unsubscribe_unsuback };
+
+    ghost asked = { E6A };
+
+    ghost settled = { E6R };
+
+    ghost ordered = { None };
+
+    fn cause(note: &Note) -> Option<u16> {
+        note.received_unsubscribe()
+    }
+
+    fn answer(note: &Note) -> Option<u16> {
+        note.sent_unsuback()
+    }
+
+    fn asked_rule() -> Rule {
+        Rule::E6A
+    }
+
+    fn settled_rule() -> Rule {
+        Rule::E6R
+    }
+
+    fn ordered_rule() -> Option<Rule> {
+        None
+    }
+
+    ghost apart = { packets_apart unsubscribe_in unsuback_in };
+
+    ghost says_asked = { λ role. refl };
+
+    ghost says_settled = { λ role. refl };
+
+    ghost says_ordered = { no_order unsubscribe_unsuback };
+}

@@ -1,0 +1,169 @@
+//! Which statements on Packet Identifiers an event breaks (MQTT 5.0, sections 2.2.1, 4.3 and 4.4).
+ghost use Rattle.std.specs.Prelude.{◌≡◌, ◌&&◌, ◌||◌, not, nat_eq, nat_lt, OnOk, OnErr, is_some};
+ghost use Rattle.indexmap.specs.IndexMap.{get};
+ghost use Rattle.indexmap.specs.IndexSet.{contains};
+ghost use Rattle.mq_rules.specs.Words.{is_some_and};
+ghost use Rattle.mq_rules.specs.Notes.{resend_of};
+ghost use Rattle.mq_rules.specs.Connections.{accepts};
+ghost use Rattle.mq_books.specs.Owings.{Keeps};
+ghost use Rattle.mq_books.specs.Using.{takes_busy, judged_all, unopened, past_pubrel, out_of_order, resent_by, resent_next};
+
+use super::entry::Entry;
+use crate::known::judge_by;
+use indexmap::{IndexMap, IndexSet};
+use mq_rules::{Fate, Faults, Memory, Note, Role, Rule};
+use mq_trace::Place3;
+
+/// Which statements an event breaks.
+#[derive(Drop)]
+pub struct Broken {
+    /// S01: it takes an identifier that is busy.
+    pub takes_busy: bool,
+    /// S02: it sends a PUBLISH again that isn't open, and wasn't sent on a void connection.
+    pub unopened: bool,
+    /// S03: it sends a PUBLISH again that was sent on its connection.
+    pub twice: bool,
+    /// S04: it sends a PUBLISH of QoS 2 again after its PUBREL.
+    pub past_pubrel: bool,
+    /// S05: it sends a PUBLISH again after one that was opened later.
+    pub out_of_order: bool,
+}
+
+/// Whether an identifier is in use.
+fn is_busy(
+    entries: &IndexMap<u16, Entry>,
+    subscribing: &IndexSet<u16>,
+    unsubscribing: &IndexSet<u16>,
+    i: u16,
+) -> bool
+    ensures { result ≡ (is_some (get nat_eq entries.now i) || (contains nat_eq subscribing.now i || contains nat_eq unsubscribing.now i)) }
+{
+    entries.contains_key(&i) || (subscribing.contains(&i) || unsubscribing.contains(&i))
+}
+
+/// Whether an event takes an identifier that is busy.
+pub fn takes(
+    fate: Fate,
+    role: Role,
+    note: &Note,
+    entries: &IndexMap<u16, Entry>,
+    subscribing: &IndexSet<u16>,
+    unsubscribing: &IndexSet<u16>,
+) -> bool
+    ensures { result ≡ takes_busy fate role note.now (get nat_eq entries.now) (contains nat_eq subscribing.now) (contains nat_eq unsubscribing.now) }
+{
+    fate.accepts()
+        && match note.taken_identifier(role) {
+            Some(i) => is_busy(entries, subscribing, unsubscribing, i),
+            None => false,
+        }
+}
+
+/// Whether an event sends a PUBLISH again that isn't open, and wasn't sent on a void connection.
+pub fn is_unopened(
+    fate: Fate,
+    note: &Note,
+    entries: &IndexMap<u16, Entry>,
+    void: &IndexSet<u16>,
+) -> bool
+    ensures { result ≡ (accepts fate && is_some_and (unopened (get nat_eq entries.now) (contains nat_eq void.now)) (resend_of note.now)) }
+{
+    fate.accepts()
+        && match note.resend() {
+            Some(i) => !(entries.contains_key(&i) || void.contains(&i)),
+            None => false,
+        }
+}
+
+/// Whether an event sends a PUBLISH again that was sent on its connection, and wasn't acknowledged since.
+pub fn is_twice(fate: Fate, note: &Note, delivering: &IndexSet<u16>) -> bool
+    ensures { result ≡ (accepts fate && is_some_and (contains nat_eq delivering.now) (resend_of note.now)) }
+{
+    fate.accepts()
+        && match note.resend() {
+            Some(i) => delivering.contains(&i),
+            None => false,
+        }
+}
+
+/// Whether an event sends a PUBLISH of QoS 2 again after its PUBREL.
+pub fn is_past_pubrel(fate: Fate, note: &Note, entries: &IndexMap<u16, Entry>) -> bool
+    ensures { result ≡ (accepts fate && is_some_and (past_pubrel (get nat_eq entries.now)) (resend_of note.now)) }
+{
+    fate.accepts()
+        && match note.resend() {
+            Some(i) => match entries.get(&i) {
+                Some(entry) => entry.exactly_once && entry.released,
+                None => false,
+            },
+            None => false,
+        }
+}
+
+/// Whether an event sends a PUBLISH again after one that was opened later.
+pub fn is_out_of_order(
+    bound: bool,
+    fate: Fate,
+    note: &Note,
+    entries: &IndexMap<u16, Entry>,
+    resent: u32,
+) -> bool
+    ensures { result ≡ (bound && (accepts fate && is_some_and (out_of_order (get nat_eq entries.now) resent) (resend_of note.now))) }
+{
+    bound
+        && (fate.accepts()
+            && match note.resend() {
+                Some(i) => match entries.get(&i) {
+                    Some(entry) => entry.place.position < resent,
+                    None => false,
+                },
+                None => false,
+            })
+}
+
+/// The position of the opener of an identifier that is sent again, or 0.
+fn resent_now(note: &Note, entries: &IndexMap<u16, Entry>) -> u32
+    ensures { result ≡ resent_by (resend_of note.now) (get nat_eq entries.now) }
+{
+    match note.resend() {
+        Some(i) => match entries.get(&i) {
+            Some(entry) => entry.place.position,
+            None => 0,
+        },
+        None => 0,
+    }
+}
+
+/// The greatest position of an opener that was sent again on the connection, after an event.
+pub fn resent_after(resent: u32, note: &Note, entries: &IndexMap<u16, Entry>) -> u32
+    ensures { result ≡ resent_next note.now (get nat_eq entries.now) resent }
+{
+    if note.is_open() {
+        return 0;
+    }
+    let now = resent_now(note, entries);
+    if resent < now {
+        return now;
+    }
+    resent
+}
+
+/// Adds the faults of the statements that an event breaks.
+#[tactic(auto, using(crate::proofs::BlameLaws::keeps_same, crate::proofs::BrokenLaws::keeps_judged))]
+pub fn judge_all(
+    broken: &Broken,
+    at: Place3,
+    decided: u32,
+    faults: &mut Faults,
+) -> Result<(), Memory>
+    ensures ok { OnOk result (faults.new ≡ judged_all broken.now at decided faults.old) }
+    ensures memory { OnErr result (Keeps faults.old faults.new) }
+    ensures partial { OnErr result (Keeps faults.new (judged_all broken.now at decided faults.old)) }
+{
+    judge_by(Rule::S01, broken.takes_busy, at, decided, faults)?;
+    judge_by(Rule::S02, broken.unopened, at, decided, faults)?;
+    judge_by(Rule::S03, broken.twice, at, decided, faults)?;
+    judge_by(Rule::S04, broken.past_pubrel, at, decided, faults)?;
+    judge_by(Rule::S05, broken.out_of_order, at, decided, faults)?;
+    Ok(())
+}

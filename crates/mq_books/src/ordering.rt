@@ -1,0 +1,149 @@
+//! The order of what is due: a queue, from which what is answered is dropped late.
+ghost use Rattle.std.specs.Prelude.{◌≡◌, ◌&&◌, OnOk, OnErr, cond, filter, is_some, nat_eq};
+ghost use Rattle.indexmap.specs.IndexMap.{get};
+ghost use Rattle.mq_rules.specs.Connections.{accepts};
+ghost use Rattle.mq_books.specs.Orderings as keeping;
+ghost use Rattle.mq_books.specs.Orderings.{first_debt, from_due, queued_next, ordered_by, IsTidied};
+
+use crate::known::judge_by;
+use indexmap::IndexMap;
+use mq_rules::{Fate, Faults, Memory, Note, Rule};
+use mq_trace::Place3;
+use std::collections::VecDeque;
+
+/// A cause that fell due at a position, where none was due under its identifier.
+#[derive(Clone, Copy)]
+pub struct Debt {
+    identifier: u16,
+    position: u32,
+}
+
+/// Whether this debt is what is due under its identifier.
+fn is_still_due(due: &IndexMap<u16, Place3>, debt: Debt) -> bool
+    ensures { result ≡ keeping.is_still_due (get nat_eq due.now) debt }
+{
+    match due.get(&debt.identifier) {
+        Some(place) => place.position == debt.position,
+        None => false,
+    }
+}
+
+fn first_of(queue: &VecDeque<Debt>) -> Option<Debt>
+    ensures { result ≡ first_debt queue.now.items }
+{
+    match queue.front() {
+        Some(&debt) => Some(debt),
+        None => None,
+    }
+}
+
+/// Drops what is before the first debt that is still due. Each debt is dropped once.
+fn drop_settled(queue: &mut VecDeque<Debt>, due: &IndexMap<u16, Place3>)
+    ensures { queue.new.items ≡ from_due (get nat_eq due.now) queue.old.items }
+{
+    while let Some(debt) = first_of(queue) {
+        if is_still_due(due, debt) {
+            return;
+        }
+        queue.pop_front();
+    }
+}
+
+/// Whether this identifier isn't the first one under which something is due, though something is due under it.
+pub fn passes_over(
+    queue: &mut VecDeque<Debt>,
+    due: &IndexMap<u16, Place3>,
+    answer: Option<u16>,
+) -> bool
+    ensures queue { queue.new.items ≡ keeping.looked_at (get nat_eq due.now) answer queue.old.items }
+    ensures passes { result ≡ keeping.passes_over (get nat_eq due.now) answer queue.new.items }
+{
+    let Some(identifier) = answer else {
+        return false;
+    };
+    drop_settled(queue, due);
+    due.contains_key(&identifier)
+        && match first_of(queue) {
+            Some(debt) => debt.identifier != identifier,
+            None => false,
+        }
+}
+
+/// Takes in a cause: it falls due, if nothing is due under its identifier.
+pub fn enqueue(
+    queue: &mut VecDeque<Debt>,
+    due: &IndexMap<u16, Place3>,
+    at: Place3,
+    note: &Note,
+    cause: Option<u16>,
+) -> Result<(), Memory>
+    ensures { OnOk result (queue.new.items ≡ queued_next note.now cause at.position (get nat_eq due.now) queue.old.items) }
+{
+    if note.is_open() {
+        queue.clear();
+        return Ok(());
+    }
+    if let Some(identifier) = cause {
+        if !due.contains_key(&identifier) {
+            queue.push_back(Debt {
+                identifier,
+                position: at.position,
+            })?;
+        }
+    }
+    Ok(())
+}
+
+/// Takes in a cause of a connection that has this fate, if there is a statement on the order.
+pub fn take_queue(
+    queue: &mut VecDeque<Debt>,
+    due: &IndexMap<u16, Place3>,
+    rule: Option<Rule>,
+    at: Place3,
+    fate: Fate,
+    note: &Note,
+    cause: Option<u16>,
+) -> Result<(), Memory>
+    ensures { OnOk result (queue.new.items ≡ cond (is_some rule && accepts fate) (queued_next note.now cause at.position (get nat_eq due.now) queue.old.items) queue.old.items) }
+{
+    if !(rule.is_some() && fate.accepts()) {
+        return Ok(());
+    }
+    enqueue(queue, due, at, note, cause)?;
+    Ok(())
+}
+
+/// Drops all that is no longer due.
+fn drop_all_settled(queue: &mut VecDeque<Debt>, due: &IndexMap<u16, Place3>)
+    ensures { queue.new.items ≡ filter (keeping.is_still_due (get nat_eq due.now)) queue.old.items }
+{
+    queue.retain(|debt| is_still_due(due, *debt));
+}
+
+/// Drops all that is no longer due, once it is more than half of the queue, so that after a cause the queue is at most twice as long as what is due.
+/// Each debt that is dropped pays for one that is kept.
+pub fn tidy(queue: &mut VecDeque<Debt>, due: &IndexMap<u16, Place3>, cause: Option<u16>)
+    ensures { IsTidied (get nat_eq due.now) queue.old.items queue.new.items }
+{
+    if cause.is_some() && queue.len().saturating_sub(due.len()) > due.len() {
+        drop_all_settled(queue, due);
+    }
+}
+
+/// Adds the fault of the statement on the order, if there is one.
+pub fn judge_order(
+    rule: Option<Rule>,
+    broken: bool,
+    place: Place3,
+    decided: u32,
+    faults: &mut Faults,
+) -> Result<(), Memory>
+    ensures ok { OnOk result (faults.new ≡ ordered_by rule broken place decided faults.old) }
+    ensures unchanged { OnErr result (faults.new ≡ faults.old) }
+{
+    let Some(rule) = rule else {
+        return Ok(());
+    };
+    judge_by(rule, broken, place, decided, faults)?;
+    Ok(())
+}

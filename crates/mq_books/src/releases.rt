@@ -1,0 +1,241 @@
+//! Releases of QoS 2 messages for onward delivery (MQTT 5.0, section 4.3.3).
+ghost use Rattle.std.specs.Prelude.{refl};
+ghost use Rattle.std.specs.Prelude.{◌≡◌, ◌^◌, ℕ, Bool, ◌||◌, ◌&&◌, not, OnOk, nat_eq, [], Some};
+ghost use Rattle.indexmap.specs.IndexSet.{contains};
+ghost use Rattle.mq_rules.specs.declared.fate.Fate.TheVariants.{Void};
+ghost use Rattle.mq_rules.specs.declared.rule.Rule.TheVariants.{L1, L2, L3};
+ghost use Rattle.mq_rules.specs.Connections.{accepts};
+ghost use Rattle.mq_rules.specs.Notes.{is_open};
+ghost use Rattle.mq_rules.specs.Rules.{same_rule};
+ghost use Rattle.mq_rules.specs.Under.{IsKnown, turns_known};
+ghost use Rattle.mq_books.specs.Releasing as keeping;
+ghost use Rattle.mq_books.specs.Releasing.{IsReleasing};
+
+use crate::fated::Fated;
+use crate::known::judge_by;
+use indexmap::IndexSet;
+use mq_rules::{Fate, Faults, Memory, Note, Role, Rule, Tested, Watch};
+use mq_trace::Place3;
+use std::alloc::Global;
+
+/// Watches L1, L2 and L3.
+///
+/// A RELEASE between connections, or on a void one, belongs to the session of the latest accepted connection.
+#[derive(Drop)]
+pub struct Releases {
+    role: Role,
+    releases: bool,
+    fate: Fate,
+    has_accepted: bool,
+    /// The identifiers of QoS 2 PUBLISHes that were received and whose exchange hasn't ended.
+    brought: IndexSet<u16>,
+    /// The identifiers that were released, and whose exchange hasn't ended.
+    released: IndexSet<u16>,
+    /// Those among `brought` whose message needs a RELEASE.
+    due: IndexSet<u16>,
+}
+
+/// Whether an event is in a session.
+fn is_inside(fate: Fate, note: &Note, has_accepted: bool) -> bool
+    ensures { result ≡ keeping.is_inside fate note.now has_accepted }
+{
+    fate.accepts() || (note.is_release() && has_accepted)
+}
+
+/// Whether some connection was accepted, after an event.
+fn has_accepted(fate: Fate, note: &Note, before: bool) -> bool
+    ensures { result ≡ (before || (is_open note.now && accepts fate)) }
+{
+    before || (note.is_open() && fate.accepts())
+}
+
+/// Whether the session starts over with an event.
+fn starts_over(fate: Fate, note: &Note) -> bool
+    ensures { result ≡ keeping.starts_over fate note.now }
+{
+    note.is_open() && matches!(fate, Fate::New)
+}
+
+/// Takes out what is lost by an event of the session, and puts in what is gained.
+fn revise(
+    set: &mut IndexSet<u16>,
+    over: bool,
+    inside: bool,
+    gained: Option<u16>,
+    lost: Option<u16>,
+) -> Result<(), Memory>
+    ensures { OnOk result ((i : ℕ) → contains nat_eq set.new i ≡ keeping.kept_next over inside gained lost i (contains nat_eq set.old i)) }
+{
+    if over {
+        set.clear();
+    }
+    if !inside {
+        return Ok(());
+    }
+    if let Some(i) = lost {
+        set.swap_remove(&i);
+    }
+    if let Some(i) = gained {
+        set.insert(i)?;
+    }
+    Ok(())
+}
+
+/// Whether a PUBLISH with a Message Expiry Interval is received (MQTT 5.0, section 3.3.2.3.3).
+fn expires(note: &Note) -> bool
+    ensures { result ≡ keeping.expires note.now }
+{
+    match note.received_publish() {
+        Some(publish) => publish.has_message_expiry,
+        None => false,
+    }
+}
+
+/// The identifier of a QoS 2 PUBLISH that is the first under it, and can't expire.
+fn lasting(note: &Note, brought: &IndexSet<u16>) -> Option<u16>
+    ensures { result ≡ keeping.lasting note.now (contains nat_eq brought.now) }
+{
+    match note.received_exactly_once() {
+        Some(i) if !brought.contains(&i) && !expires(note) => Some(i),
+        _ => None,
+    }
+}
+
+/// Takes in an event for the messages that need a RELEASE.
+fn revise_due(
+    due: &mut IndexSet<u16>,
+    over: bool,
+    inside: bool,
+    note: &Note,
+    brought: &IndexSet<u16>,
+) -> Result<(), Memory>
+    ensures { OnOk result ((i : ℕ) → contains nat_eq due.new i ≡ keeping.due_next over inside note.now (contains nat_eq brought.now) i (contains nat_eq due.old i)) }
+{
+    revise(due, over, inside, None, note.sent_unmatched_pubrec())?;
+    revise(due, false, inside, lasting(note, brought), note.ender())?;
+    Ok(())
+}
+
+/// Whether an event releases a message that wasn't received.
+fn is_unreceived(releases: bool, note: &Note, brought: &IndexSet<u16>) -> bool
+    ensures { result ≡ (releases && keeping.is_unreceived note.now (contains nat_eq brought.now)) }
+{
+    releases
+        && match note.released_identifier() {
+            Some(i) => !brought.contains(&i),
+            None => false,
+        }
+}
+
+/// Whether an event releases a message again.
+fn is_repeated(releases: bool, note: &Note, released: &IndexSet<u16>) -> bool
+    ensures { result ≡ (releases && keeping.is_repeated note.now (contains nat_eq released.now)) }
+{
+    releases
+        && match note.released_identifier() {
+            Some(i) => released.contains(&i),
+            None => false,
+        }
+}
+
+/// Whether an event completes an exchange with success, and the RELEASE that its message needs is missing.
+fn is_unreleased(
+    releases: bool,
+    fate: Fate,
+    note: &Note,
+    released: &IndexSet<u16>,
+    due: &IndexSet<u16>,
+) -> bool
+    ensures { result ≡ (releases && keeping.is_unreleased fate note.now (contains nat_eq released.now) (contains nat_eq due.now)) }
+{
+    releases
+        && fate.accepts()
+        && match note.sent_success_pubcomp() {
+            Some(i) => !released.contains(&i) && due.contains(&i),
+            None => false,
+        }
+}
+
+impl Releases {
+    /// No message was received, and none was released.
+    pub fn new(alloc: Global, tested: Tested) -> Self
+        ensures { ⟦<Releases as Watch>⟧.agrees result tested (Some Void) [] }
+    {
+        Releases {
+            role: tested.role,
+            releases: tested.releases,
+            fate: Fate::Void,
+            has_accepted: false,
+            brought: IndexSet::new(alloc),
+            released: IndexSet::new(alloc),
+            due: IndexSet::new(alloc),
+        }
+    }
+}
+
+impl Watch for Releases {
+    ghost agrees = { λ s tested taken past. IsReleasing s.role s.releases s.fate s.has_accepted (contains nat_eq s.brought) (contains nat_eq s.released) (contains nat_eq s.due) tested taken past };
+
+    ghost takes = { IsKnown };
+
+    ghost adds = { λ tested e past k r. ((same_rule r L1 || same_rule r L2) || same_rule r L3) && turns_known tested e past k r };
+
+    ghost bound = { λ tested taken past. 2 ^ 64 };
+
+    fn step(&mut self, at: Place3, note: &Note, faults: &mut Faults) -> Result<(), Memory> {
+        let fate = self.fate;
+        self.fated(at, at.position, fate, note, faults)?;
+        Ok(())
+    }
+
+    fn weight(&self) -> usize {
+        self.brought
+            .len()
+            .saturating_add(self.released.len())
+            .saturating_add(self.due.len())
+    }
+}
+
+impl Fated for Releases {
+    ghost judges = { λ r. (same_rule r L1 || same_rule r L2) || same_rule r L3 };
+
+    fn fated(
+        &mut self,
+        at: Place3,
+        decided: u32,
+        fate: Fate,
+        note: &Note,
+        faults: &mut Faults,
+    ) -> Result<(), Memory> {
+        let unreceived = is_unreceived(self.releases, note, &self.brought);
+        let repeated = is_repeated(self.releases, note, &self.released);
+        let unreleased = is_unreleased(self.releases, fate, note, &self.released, &self.due);
+        let inside = is_inside(fate, note, self.has_accepted);
+        let over = starts_over(fate, note);
+        revise_due(&mut self.due, over, inside, note, &self.brought)?;
+        revise(
+            &mut self.brought,
+            over,
+            inside,
+            note.received_exactly_once(),
+            note.ender(),
+        )?;
+        revise(
+            &mut self.released,
+            over,
+            inside,
+            note.released_identifier(),
+            note.ender(),
+        )?;
+        self.has_accepted = has_accepted(fate, note, self.has_accepted);
+        self.fate = fate;
+        judge_by(Rule::L1, unreceived, at, decided, faults)?;
+        judge_by(Rule::L2, repeated, at, decided, faults)?;
+        judge_by(Rule::L3, unreleased, at, decided, faults)?;
+        Ok(())
+    }
+
+    ghost known_taken = { λ tested taken e past known. known };
+
+    ghost known_adds = { λ tested e past k r. refl };
+}

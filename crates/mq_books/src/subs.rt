@@ -1,0 +1,608 @@
+//! What a server may deliver: topics that were subscribed to, at no more than the QoS that was granted (MQTT 5.0, sections 3.3.1.2,
+//! 3.8.4 and 4.7).
+ghost use Rattle.std.specs.Prelude.{refl};
+ghost use Rattle.std.specs.Prelude.{◌≡◌, ◌^◌, ◌&&◌, ◌||◌, ◌==◌, ◌%◌, ◌++◌, ◌∷◌, nat_le, ℕ, Bool, true, List, cond, not, OnOk, IfOk, nat_eq, [], Some, length, option_map};
+ghost use Rattle.std.specs.List.{list_any};
+ghost use Rattle.std.specs.Option.{option_and_then, option_or};
+ghost use Rattle.indexmap.specs.IndexMap.{get};
+ghost use Rattle.mq_topic.specs.Matching.{matches as is_match};
+ghost use Rattle.mq_rules.specs.declared.fate.Fate.TheVariants.{Void};
+ghost use Rattle.mq_rules.specs.declared.rule.Rule.TheVariants.{B01, B02};
+ghost use Rattle.mq_rules.specs.Words.{is_some_and, is_id, only};
+ghost use Rattle.mq_rules.specs.Notes.{received_subscription, sent_publish, qos_number as number_of, subscription_in, is_open, sent_grant, grant_in};
+ghost use Rattle.mq_rules.specs.Connections.{accepts, begins};
+ghost use Rattle.mq_rules.specs.Subscriptions.{Standing, granted, is_shared as begins_shared, topic_set as set_topic};
+ghost use Rattle.mq_rules.specs.Rules.{same_rule, binds as is_bound};
+ghost use Rattle.mq_rules.specs.Under.{IsKnown, turns_known};
+ghost use Rattle.mq_books.specs.Standings.{Waits, asked, first_code, other_codes, with_code, with_codes, goes_on as keeps_session, is_answered, grants_some, settled_next, waiting_next, sharing_next, topic_next, IsStanding, any_kept, topic_kept, delivers_so, judged_topic as topic_judged, is_unasked as unasked, is_above as above};
+
+use crate::fated::Fated;
+use crate::known::judge_by;
+use indexmap::IndexMap;
+use mq_packet::Qos;
+use mq_rules::{
+    Fate, Faults, Memory, Note, NotedFilter, PacketFields, PublishNote, Rule, Tested, Text, Watch,
+};
+use mq_topic::matches;
+use mq_trace::Place3;
+use std::alloc::Global;
+use std::marker::Model;
+
+/// The lowest Reason Code that refuses (MQTT 5.0, section 2.4).
+const REFUSING: u8 = 0x80;
+
+/// A Topic Filter that stands, with the greatest QoS of what may be sent for it.
+#[derive(Drop)]
+struct Kept {
+    filter: Text,
+    ceiling: u8,
+}
+
+impl Model for Kept {
+    ghost use Rattle.mq_rules.specs.Subscriptions.{Standing};
+
+    ghost Value = { Standing };
+
+    ghost view = { λ k. record { filter = k.filter; ceiling = k.ceiling } };
+}
+
+/// A SUBSCRIBE that waits for its SUBACK. Each filter has the QoS that it asks for.
+#[derive(Drop)]
+struct Waiting {
+    identifier: u16,
+    filters: Vec<Kept>,
+}
+
+impl Model for Waiting {
+    ghost use Rattle.mq_books.specs.Standings.{Waits};
+
+    ghost Value = { Waits };
+
+    ghost view = { λ w. record { identifier = w.identifier; filters = w.filters.items } };
+}
+
+// ---- filters
+
+/// Adds a filter.
+fn add(alloc: Global, kept: &mut Vec<Kept>, filter: &str, ceiling: u8) -> Result<(), Memory>
+    ensures { OnOk result (kept.new.items ≡ kept.old.items ++ (record { filter = filter.now; ceiling = ceiling } ∷ [])) }
+{
+    let filter = Text::of(alloc, filter)?;
+    kept.push(Kept { filter, ceiling })?;
+    Ok(())
+}
+
+/// Adds a filter with its Reason Code, unless that refuses it. Without a code it keeps its ceiling.
+fn add_granted(
+    alloc: Global,
+    settled: &mut Vec<Kept>,
+    kept: &Kept,
+    code: Option<u8>,
+) -> Result<(), Memory>
+    ensures { OnOk result (settled.new.items ≡ settled.old.items ++ with_code kept.now code) }
+{
+    match code {
+        None => {
+            add(alloc, settled, kept.filter.as_str(), kept.ceiling)?;
+            Ok(())
+        }
+        Some(code) => {
+            if code >= REFUSING {
+                return Ok(());
+            }
+            add(alloc, settled, kept.filter.as_str(), code)?;
+            Ok(())
+        }
+    }
+}
+
+/// The first of the Reason Codes that are left, if there is one, and the others.
+fn next_code(codes: &[u8]) -> (Option<u8>, &[u8])
+    ensures first { result.0 ≡ first_code codes.now }
+    ensures others { result.1.now ≡ other_codes codes.now }
+{
+    match codes.split_first() {
+        Some((code, others)) => (Some(*code), others),
+        None => (None, codes),
+    }
+}
+
+/// Adds filters with their Reason Codes (MQTT 5.0, section 3.9.3).
+fn settle(
+    alloc: Global,
+    settled: &mut Vec<Kept>,
+    filters: &[Kept],
+    codes: &[u8],
+) -> Result<(), Memory>
+    ensures { OnOk result (settled.new.items ≡ settled.old.items ++ with_codes filters.now codes.now) }
+{
+    let mut filters = filters;
+    let mut codes = codes;
+    while let Some((filter, next_filters)) = filters.split_first() {
+        let (code, next_codes) = next_code(codes);
+        add_granted(alloc, settled, filter, code)?;
+        filters = next_filters;
+        codes = next_codes;
+    }
+    Ok(())
+}
+
+/// The filters of a SUBSCRIBE, with the QoS that each asks for.
+fn asked_filters(alloc: Global, filters: &[NotedFilter]) -> Result<Vec<Kept>, Memory>
+    ensures { IfOk result (λ kept. kept.items ≡ granted filters.now []) }
+{
+    let mut kept = Vec::new(alloc);
+    let mut filters = filters;
+    while let Some((filter, next_filters)) = filters.split_first() {
+        add(alloc, &mut kept, filter.filter.as_str(), filter.options % 4)?;
+        filters = next_filters;
+    }
+    Ok(kept)
+}
+
+// ---- SUBSCRIBEs
+
+/// Settles the SUBSCRIBEs that wait under this identifier.
+fn answer(
+    alloc: Global,
+    settled: &mut Vec<Kept>,
+    waiting: &mut Vec<Waiting>,
+    identifier: u16,
+    codes: &[u8],
+) -> Result<(), Memory>
+    ensures settled { OnOk result ((t : Standing → Bool) → list_any t settled.new.items ≡ (list_any t settled.old.items || list_any (λ w. (identifier == w.identifier) && list_any t (with_codes w.filters codes.now)) waiting.old.items)) }
+    ensures left { OnOk result ((t : Waits → Bool) → list_any t waiting.new.items ≡ list_any (λ w. not (identifier == w.identifier) && t w) waiting.old.items) }
+{
+    let mut left = Vec::new(alloc);
+    while let Some(subscribe) = waiting.pop() {
+        if subscribe.identifier == identifier {
+            settle(alloc, settled, subscribe.filters.as_slice(), codes)?;
+        } else {
+            left.push(subscribe)?;
+        }
+    }
+    *waiting = left;
+    Ok(())
+}
+
+/// Settles a SUBSCRIBE for which no SUBACK comes any more.
+#[tactic(auto, using(crate::proofs::KeepLaws::codes_none))]
+fn settle_as_asked(
+    alloc: Global,
+    settled: &mut Vec<Kept>,
+    subscribe: &Waiting,
+) -> Result<(), Memory>
+    ensures { OnOk result (settled.new.items ≡ settled.old.items ++ subscribe.now.filters) }
+{
+    settle(alloc, settled, subscribe.filters.as_slice(), &[])?;
+    Ok(())
+}
+
+/// Settles all SUBSCRIBEs that wait, since no SUBACK comes for them any more.
+fn settle_all(
+    alloc: Global,
+    settled: &mut Vec<Kept>,
+    waiting: &mut Vec<Waiting>,
+) -> Result<(), Memory>
+    ensures settled { OnOk result ((t : Standing → Bool) → list_any t settled.new.items ≡ (list_any t settled.old.items || list_any (λ w. list_any t w.filters) waiting.old.items)) }
+    ensures none { OnOk result (waiting.new.items ≡ []) }
+{
+    while let Some(subscribe) = waiting.pop() {
+        settle_as_asked(alloc, settled, &subscribe)?;
+    }
+    Ok(())
+}
+
+/// Takes in an OPEN of a connection that has this fate.
+fn open(
+    alloc: Global,
+    settled: &mut Vec<Kept>,
+    waiting: &mut Vec<Waiting>,
+    fate: Fate,
+) -> Result<(), Memory>
+    ensures settled { OnOk result ((t : Standing → Bool) → list_any t settled.new.items ≡ (not (begins (Some fate)) && (list_any t settled.old.items || list_any (λ w. list_any t w.filters) waiting.old.items))) }
+    ensures none { OnOk result (waiting.new.items ≡ []) }
+{
+    if matches!(fate, Fate::New) {
+        settled.clear();
+        waiting.clear();
+        return Ok(());
+    }
+    settle_all(alloc, settled, waiting)?;
+    Ok(())
+}
+
+/// Takes in a SUBACK, if the event sends one.
+fn take_grant(
+    alloc: Global,
+    settled: &mut Vec<Kept>,
+    waiting: &mut Vec<Waiting>,
+    note: &Note,
+) -> Result<(), Memory>
+    ensures settled { OnOk result ((t : Standing → Bool) → list_any t settled.new.items ≡ (list_any t settled.old.items || grants_some t (sent_grant note.now) (λ p. list_any p waiting.old.items))) }
+    ensures left { OnOk result ((t : Waits → Bool) → list_any t waiting.new.items ≡ list_any (λ w. not (is_answered (sent_grant note.now) w) && t w) waiting.old.items) }
+{
+    match note.sent_fields() {
+        Some(PacketFields::Suback { identifier, codes }) => {
+            answer(alloc, settled, waiting, *identifier, codes.as_slice())?;
+            Ok(())
+        }
+        _ => Ok(()),
+    }
+}
+
+/// Takes in a SUBSCRIBE, if the event is one that is received on a connection that is accepted.
+fn take_request(
+    alloc: Global,
+    waiting: &mut Vec<Waiting>,
+    accepted: bool,
+    note: &Note,
+) -> Result<(), Memory>
+    ensures { OnOk result ((t : Waits → Bool) → list_any t waiting.new.items ≡ ((accepted && is_some_and t (option_map asked (received_subscription note.now))) || list_any t waiting.old.items)) }
+{
+    if !accepted {
+        return Ok(());
+    }
+    match note.received_fields() {
+        Some(
+            PacketFields::Subscribe {
+                identifier,
+                filters,
+            },
+        ) => {
+            let filters = asked_filters(alloc, filters.as_slice())?;
+            waiting.push(Waiting {
+                identifier: *identifier,
+                filters,
+            })?;
+            Ok(())
+        }
+        _ => Ok(()),
+    }
+}
+
+/// Takes in what an event of a connection that has this fate says of filters.
+fn take_filters(
+    alloc: Global,
+    settled: &mut Vec<Kept>,
+    waiting: &mut Vec<Waiting>,
+    fate: Fate,
+    note: &Note,
+) -> Result<(), Memory>
+    ensures settled { OnOk result ((t : Standing → Bool) → list_any t settled.new.items ≡ settled_next fate note.now t (list_any t settled.old.items) (λ p. list_any p waiting.old.items)) }
+    ensures waiting { OnOk result ((t : Waits → Bool) → list_any t waiting.new.items ≡ waiting_next fate note.now t (λ p. list_any p waiting.old.items)) }
+{
+    if note.is_open() {
+        open(alloc, settled, waiting, fate)?;
+        return Ok(());
+    }
+    take_grant(alloc, settled, waiting, note)?;
+    take_request(alloc, waiting, fate.accepts(), note)?;
+    Ok(())
+}
+
+// ---- shared subscriptions
+
+/// Whether a filter asks for a shared subscription (MQTT 5.0, section 4.8.2).
+fn is_shared(filter: &NotedFilter) -> bool
+    ensures { result ≡ begins_shared filter.now }
+{
+    filter.filter.as_str().starts_with("$share/")
+}
+
+fn any_shared(filters: &[NotedFilter]) -> bool
+    ensures { result ≡ list_any begins_shared filters.now }
+{
+    filters.iter().any(|filter| is_shared(filter))
+}
+
+/// Whether a SUBSCRIBE asks for a shared subscription.
+fn has_shared(fields: &PacketFields) -> bool
+    ensures { result ≡ is_some_and (λ s. list_any begins_shared s.filters) (subscription_in fields.now) }
+{
+    match fields {
+        PacketFields::Subscribe { filters, .. } => any_shared(filters.as_slice()),
+        _ => false,
+    }
+}
+
+/// Whether an event is a SUBSCRIBE that is received and asks for a shared subscription.
+fn asks_for_shared(note: &Note) -> bool
+    ensures { result ≡ is_some_and (λ s. list_any begins_shared s.filters) (received_subscription note.now) }
+{
+    match note.received_fields() {
+        Some(fields) => has_shared(fields),
+        None => false,
+    }
+}
+
+/// Whether the session goes on with an event of a connection that has this fate.
+fn goes_on(fate: Fate, note: &Note) -> bool
+    ensures { result ≡ keeps_session fate note.now }
+{
+    !(note.is_open() && matches!(fate, Fate::New))
+}
+
+/// Whether the session has asked for a shared subscription after an event.
+fn shares(fate: Fate, note: &Note, old: bool) -> bool
+    ensures { result ≡ sharing_next fate note.now old }
+{
+    (fate.accepts() && asks_for_shared(note)) || (goes_on(fate, note) && old)
+}
+
+// ---- topics
+
+/// Keeps the Topic Name that a PUBLISH sets for its Topic Alias (MQTT 5.0, section 3.3.2.3.4).
+fn set_alias(
+    alloc: Global,
+    topics: &mut IndexMap<u16, Text>,
+    publish: &PublishNote,
+) -> Result<(), Memory>
+    ensures { OnOk result ((alias : ℕ) → get nat_eq topics.new alias ≡ option_or (only (is_id alias (only (not (length publish.now.topic == 0)) publish.now.topic_alias)) (Some publish.now.topic)) (get nat_eq topics.old alias)) }
+{
+    if publish.topic.is_empty() {
+        return Ok(());
+    }
+    if let Some(alias) = publish.topic_alias {
+        let topic = Text::of(alloc, publish.topic.as_str())?;
+        topics.insert(alias, topic)?;
+    }
+    Ok(())
+}
+
+/// Takes in what an event says of topics.
+fn take_topic(alloc: Global, topics: &mut IndexMap<u16, Text>, note: &Note) -> Result<(), Memory>
+    ensures { OnOk result ((alias : ℕ) → get nat_eq topics.new alias ≡ topic_next note.now alias (get nat_eq topics.old alias)) }
+{
+    if note.is_open() {
+        topics.clear();
+    }
+    if let Some(publish) = note.sent_publish() {
+        set_alias(alloc, topics, publish)?;
+    }
+    Ok(())
+}
+
+/// The topic of a PUBLISH.
+fn topic_of<'a>(publish: &'a PublishNote, topics: &'a IndexMap<u16, Text>) -> Option<&'a str>
+    ensures { option_map (λ topic. topic.now) result ≡ topic_kept (get nat_eq topics.now) publish.now }
+{
+    if !publish.topic.is_empty() {
+        return Some(publish.topic.as_str());
+    }
+    let alias = publish.topic_alias?;
+    match topics.get(&alias) {
+        Some(topic) => Some(topic.as_str()),
+        None => None,
+    }
+}
+
+/// The topic of a PUBLISH, if B01 and B02 look at it.
+fn judged_topic<'a>(
+    publish: &'a PublishNote,
+    sharing: bool,
+    topics: &'a IndexMap<u16, Text>,
+) -> Option<&'a str>
+    ensures { option_map (λ topic. topic.now) result ≡ topic_judged sharing (get nat_eq topics.now) publish.now }
+{
+    if publish.duplicate {
+        return None;
+    }
+    if sharing {
+        return None;
+    }
+    topic_of(publish, topics)
+}
+
+// ---- deliveries
+
+/// The number of a Quality of Service (MQTT 5.0, section 4.3).
+fn qos_number(qos: Qos) -> u8
+    ensures { result ≡ number_of qos }
+{
+    match qos {
+        Qos::AtMostOnce => 0,
+        Qos::AtLeastOnce => 1,
+        Qos::ExactlyOnce => 2,
+    }
+}
+
+fn is_for(kept: &Kept, topic: &str) -> bool
+    ensures { result ≡ is_match kept.now.filter topic.now }
+{
+    matches(kept.filter.as_str(), topic)
+}
+
+fn allows(kept: &Kept, topic: &str, qos: Qos) -> bool
+    ensures { result ≡ (is_match kept.now.filter topic.now && nat_le (number_of qos) kept.now.ceiling) }
+{
+    matches(kept.filter.as_str(), topic) && qos_number(qos) <= kept.ceiling
+}
+
+fn any_for(kept: &[Kept], topic: &str) -> bool
+    ensures { result ≡ list_any (λ s. is_match s.filter topic.now) kept.now }
+{
+    kept.iter().any(|filter| is_for(filter, topic))
+}
+
+fn any_allowing(kept: &[Kept], topic: &str, qos: Qos) -> bool
+    ensures { result ≡ list_any (λ s. is_match s.filter topic.now && nat_le (number_of qos) s.ceiling) kept.now }
+{
+    kept.iter().any(|filter| allows(filter, topic, qos))
+}
+
+fn waits_for(subscribe: &Waiting, topic: &str) -> bool
+    ensures { result ≡ list_any (λ s. is_match s.filter topic.now) subscribe.now.filters }
+{
+    any_for(subscribe.filters.as_slice(), topic)
+}
+
+fn waits_allowing(subscribe: &Waiting, topic: &str, qos: Qos) -> bool
+    ensures { result ≡ list_any (λ s. is_match s.filter topic.now && nat_le (number_of qos) s.ceiling) subscribe.now.filters }
+{
+    any_allowing(subscribe.filters.as_slice(), topic, qos)
+}
+
+fn any_waiting_for(waiting: &[Waiting], topic: &str) -> bool
+    ensures { result ≡ list_any (λ w. list_any (λ s. is_match s.filter topic.now) w.filters) waiting.now }
+{
+    waiting.iter().any(|subscribe| waits_for(subscribe, topic))
+}
+
+fn any_waiting_allowing(waiting: &[Waiting], topic: &str, qos: Qos) -> bool
+    ensures { result ≡ list_any (λ w. list_any (λ s. is_match s.filter topic.now && nat_le (number_of qos) s.ceiling) w.filters) waiting.now }
+{
+    waiting
+        .iter()
+        .any(|subscribe| waits_allowing(subscribe, topic, qos))
+}
+
+/// Whether some filter matches a topic.
+fn is_asked(settled: &[Kept], waiting: &[Waiting], topic: &str) -> bool
+    ensures { result ≡ any_kept (λ s. is_match s.filter topic.now) settled.now waiting.now }
+{
+    any_for(settled, topic) || any_waiting_for(waiting, topic)
+}
+
+/// Whether some filter matches a topic, and allows this QoS.
+fn is_allowed(settled: &[Kept], waiting: &[Waiting], topic: &str, qos: Qos) -> bool
+    ensures { result ≡ any_kept (λ s. is_match s.filter topic.now && nat_le (number_of qos) s.ceiling) settled.now waiting.now }
+{
+    any_allowing(settled, topic, qos) || any_waiting_allowing(waiting, topic, qos)
+}
+
+/// Whether some filter matches the topic of a PUBLISH, and none that does allows its QoS.
+fn is_over(settled: &[Kept], waiting: &[Waiting], publish: &PublishNote, topic: &str) -> bool
+    ensures { result ≡ above settled.now waiting.now publish.now topic.now }
+{
+    is_asked(settled, waiting, topic) && !is_allowed(settled, waiting, topic, publish.qos)
+}
+
+/// Watches B01 and B02.
+#[derive(Drop)]
+pub struct Deliveries {
+    alloc: Global,
+    bound: bool,
+    fate: Fate,
+    settled: Vec<Kept>,
+    waiting: Vec<Waiting>,
+    sharing: bool,
+    topics: IndexMap<u16, Text>,
+}
+
+impl Deliveries {
+    /// No filter stands.
+    pub fn new(alloc: Global, tested: Tested) -> Self
+        ensures { ⟦<Deliveries as Watch>⟧.agrees result tested (Some Void) [] }
+    {
+        Deliveries {
+            alloc,
+            bound: Rule::B01.is_judged(tested),
+            fate: Fate::Void,
+            settled: Vec::new(alloc),
+            waiting: Vec::new(alloc),
+            sharing: false,
+            topics: IndexMap::new(alloc),
+        }
+    }
+
+    /// Whether no filter matches the topic of a PUBLISH.
+    fn is_unasked(&self, publish: &PublishNote) -> bool
+        ensures { result ≡ is_some_and (unasked self.now.settled.items self.now.waiting.items publish.now) (topic_judged self.now.sharing (get nat_eq self.now.topics) publish.now) }
+    {
+        match judged_topic(publish, self.sharing, &self.topics) {
+            Some(topic) => !is_asked(self.settled.as_slice(), self.waiting.as_slice(), topic),
+            None => false,
+        }
+    }
+
+    /// Whether some filter matches the topic of a PUBLISH, and none that does allows its QoS.
+    fn is_above(&self, publish: &PublishNote) -> bool
+        ensures { result ≡ is_some_and (above self.now.settled.items self.now.waiting.items publish.now) (topic_judged self.now.sharing (get nat_eq self.now.topics) publish.now) }
+    {
+        match judged_topic(publish, self.sharing, &self.topics) {
+            Some(topic) => is_over(
+                self.settled.as_slice(),
+                self.waiting.as_slice(),
+                publish,
+                topic,
+            ),
+            None => false,
+        }
+    }
+
+    /// Whether an event delivers a message to which nobody subscribed.
+    fn breaks_asked(&self, fate: Fate, note: &Note) -> bool
+        ensures { result ≡ (self.now.bound && (accepts fate && delivers_so note.now self.now.sharing (get nat_eq self.now.topics) (unasked self.now.settled.items self.now.waiting.items))) }
+    {
+        self.bound
+            && (fate.accepts()
+                && match note.sent_publish() {
+                    Some(publish) => self.is_unasked(publish),
+                    None => false,
+                })
+    }
+
+    /// Whether an event delivers a message at a higher QoS than was granted.
+    fn breaks_granted(&self, fate: Fate, note: &Note) -> bool
+        ensures { result ≡ (self.now.bound && (accepts fate && delivers_so note.now self.now.sharing (get nat_eq self.now.topics) (above self.now.settled.items self.now.waiting.items))) }
+    {
+        self.bound
+            && (fate.accepts()
+                && match note.sent_publish() {
+                    Some(publish) => self.is_above(publish),
+                    None => false,
+                })
+    }
+}
+
+impl Watch for Deliveries {
+    ghost agrees = { λ s tested taken past. (s.bound ≡ is_bound B01 tested) × IsStanding s.fate s.settled.items s.waiting.items s.sharing (get nat_eq s.topics) tested taken past };
+
+    ghost takes = { IsKnown };
+
+    ghost adds = { λ tested e past k r. (same_rule r B01 || same_rule r B02) && turns_known tested e past k r };
+
+    ghost bound = { λ tested taken past. 2 ^ 64 };
+
+    fn step(&mut self, at: Place3, note: &Note, faults: &mut Faults) -> Result<(), Memory> {
+        let fate = self.fate;
+        self.fated(at, at.position, fate, note, faults)?;
+        Ok(())
+    }
+
+    fn weight(&self) -> usize {
+        self.settled
+            .len()
+            .saturating_add(self.waiting.len())
+            .saturating_add(self.topics.len())
+    }
+}
+
+impl Fated for Deliveries {
+    ghost judges = { λ r. same_rule r B01 || same_rule r B02 };
+
+    fn fated(
+        &mut self,
+        at: Place3,
+        decided: u32,
+        fate: Fate,
+        note: &Note,
+        faults: &mut Faults,
+    ) -> Result<(), Memory> {
+        let unasked = self.breaks_asked(fate, note);
+        let above = self.breaks_granted(fate, note);
+        let alloc = self.alloc;
+        take_filters(alloc, &mut self.settled, &mut self.waiting, fate, note)?;
+        take_topic(alloc, &mut self.topics, note)?;
+        self.sharing = shares(fate, note, self.sharing);
+        self.fate = fate;
+        judge_by(Rule::B01, unasked, at, decided, faults)?;
+        judge_by(Rule::B02, above, at, decided, faults)?;
+        Ok(())
+    }
+
+    ghost known_taken = { λ tested taken e past known. known };
+
+    ghost known_adds = { λ tested e past k r. refl };
+}

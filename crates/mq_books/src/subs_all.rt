@@ -1,0 +1,72 @@
+//! What a server may deliver and how it answers what asks for it: B01 to B04.
+ghost use Rattle.std.specs.Prelude.{◌≡◌, ◌&&◌, ◌||◌, [], Some, refl};
+ghost use Rattle.mq_rules.specs.declared.rule.Rule.TheVariants.{B01, B02, B03, B04};
+ghost use Rattle.mq_rules.specs.Rules.{same_rule};
+ghost use Rattle.mq_rules.specs.Under.{turns_known, either_adds};
+ghost use Rattle.mq_rules.specs.declared.fate.Fate.TheVariants.{Void};
+
+use crate::counts::{Counts, Subacks, Unsubacks};
+use crate::fated::Fated;
+use crate::subs::Deliveries;
+use mq_rules::{Both, Fate, Faults, Memory, Note, Tested, Watch};
+use mq_trace::Place3;
+use std::alloc::Global;
+
+/// Watches B01 to B04.
+#[derive(Drop)]
+pub struct Subs {
+    watchers: Both<Deliveries, Both<Counts<Subacks>, Counts<Unsubacks>>>,
+}
+
+impl Subs {
+    /// No filter stands, and nothing waits for an answer.
+    pub fn new(alloc: Global, tested: Tested) -> Self
+        ensures { ⟦<Subs as Watch>⟧.agrees result tested (Some Void) [] }
+    {
+        Subs {
+            watchers: Both::new(
+                Deliveries::new(alloc, tested),
+                Both::new(Counts::new(alloc, tested), Counts::new(alloc, tested)),
+            ),
+        }
+    }
+}
+
+impl Watch for Subs {
+    ghost agrees = { λ s. ⟦<Both<Deliveries, Both<Counts<Subacks>, Counts<Unsubacks>>> as Watch>⟧.agrees s.watchers };
+
+    ghost takes = { ⟦<Both<Deliveries, Both<Counts<Subacks>, Counts<Unsubacks>>> as Watch>⟧.takes };
+
+    ghost adds = { ⟦<Both<Deliveries, Both<Counts<Subacks>, Counts<Unsubacks>>> as Watch>⟧.adds };
+
+    ghost bound = { ⟦<Both<Deliveries, Both<Counts<Subacks>, Counts<Unsubacks>>> as Watch>⟧.bound };
+
+    fn step(&mut self, at: Place3, note: &Note, faults: &mut Faults) -> Result<(), Memory> {
+        self.watchers.step(at, note, faults)?;
+        Ok(())
+    }
+
+    fn weight(&self) -> usize {
+        self.watchers.weight()
+    }
+}
+
+impl Fated for Subs {
+    ghost judges = { ⟦<Both<Deliveries, Both<Counts<Subacks>, Counts<Unsubacks>>> as Fated>⟧.judges };
+
+    fn fated(
+        &mut self,
+        at: Place3,
+        decided: u32,
+        fate: Fate,
+        note: &Note,
+        faults: &mut Faults,
+    ) -> Result<(), Memory> {
+        self.watchers.fated(at, decided, fate, note, faults)?;
+        Ok(())
+    }
+
+    ghost known_taken = { λ tested taken e past known. (known, (known, known)) };
+
+    ghost known_adds = { λ tested e past k r. either_adds ((same_rule r B01 || same_rule r B02) && turns_known tested e past k r) ((same_rule r B03 && turns_known tested e past k r) || (same_rule r B04 && turns_known tested e past k r)) (same_rule r B01 || same_rule r B02) (same_rule r B03 || same_rule r B04) (turns_known tested e past k r) refl (either_adds (same_rule r B03 && turns_known tested e past k r) (same_rule r B04 && turns_known tested e past k r) (same_rule r B03) (same_rule r B04) (turns_known tested e past k r) refl refl) };
+}
