@@ -5,16 +5,12 @@ use Rattle.std.specs.Str.{bytes_eq}
 use Rattle.mq_rules.specs.declared.role.Role.{Role}
 use Rattle.mq_rules.specs.declared.role.Role.TheVariants.{Client, Server}
 use Rattle.mq_rules.specs.declared.rule.Rule.{Rule}
-use Rattle.mq_rules.specs.Rules.{all_rules, citation_of, code_of}
+use Rattle.mq_rules.specs.Rules.{all_rules, binds_end, citation_of, code_of}
 use Rattle.mq_rules.specs.Naming.{sentence_of}
-
--- the statement binds this end: it has a citation for it
-abbrev pub binds_end : Role → Rule → Bool
-binds_end role rule = not (length (citation_of rule role) == 0)
 
 -- whom a statement binds, as a word
 abbrev pub bound_ends : Rule → List ℕ
-bound_ends rule = if binds_end Client rule then (if binds_end Server rule then codes "both" else codes "client") else codes "server"
+bound_ends rule = if binds_end rule Client then (if binds_end rule Server then codes "both" else codes "client") else codes "server"
 
 -- both citations, the client's first, if both ends are bound and they differ; else the one that there is
 abbrev pub both_citations : List ℕ → List ℕ → List ℕ
@@ -33,7 +29,7 @@ statement_line role rule = code_of rule ++ codes " " ++ bound_ends rule ++ codes
 -- the statement is listed: for one end if it binds that end; always for both
 abbrev pub lists_statement : Option Role → Rule → Bool
 lists_statement None rule = true
-lists_statement (Some role) rule = binds_end role rule
+lists_statement (Some role) rule = binds_end rule role
 
 -- the line of a statement, empty if it isn't listed
 abbrev pub listed_line : Option Role → Rule → List ℕ

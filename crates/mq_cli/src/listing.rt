@@ -3,7 +3,7 @@ ghost use Rattle.std.specs.Prelude.{◌≡◌, ◌++◌, IfOk, OnOk, Some, codes
 ghost use Rattle.std.specs.List.{flat_map};
 ghost use Rattle.mq_rules.specs.declared.rule.Rule.{Rule};
 ghost use Rattle.mq_rules.specs.Rules.{citation_of};
-ghost use Rattle.mq_cli.specs.Listing.{binds_end, both_citations, bound_ends, citation_for, lists_statement};
+ghost use Rattle.mq_cli.specs.Listing.{both_citations, bound_ends, citation_for, lists_statement};
 ghost use Rattle.mq_cli.specs.Listing.{listed_line, role_named, statement_line, statement_lines};
 
 use mq_rules::{Role, Rule};
