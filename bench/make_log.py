@@ -161,6 +161,17 @@ def messages_for(kind: str, size: int) -> int:
     return messages
 
 
+def events_of(kind: str, messages: int) -> int:
+    """How many events a log has: OPEN, CONNECT, CONNACK, REST and CLOSE, and those of the messages."""
+    return 5 + EVENTS[kind] * messages
+
+
+def log(kind: str, messages: int) -> Iterator[bytes]:
+    yield HEADER + record(OPEN) + record(SENT, CONNECT) + record(RECV, CONNACK)
+    yield from KINDS[kind](messages)
+    yield record(REST) + record(CLOSE)
+
+
 def main() -> None:
     arguments = argparse.ArgumentParser(description="Writes a log of a tested client.")
     arguments.add_argument("messages", nargs="?", type=int, metavar="N", help="how many messages")
@@ -172,10 +183,7 @@ def main() -> None:
     messages = given.messages
     if messages is None:
         messages = messages_for(given.kind, int(given.megabytes * 1_000_000))
-    out = sys.stdout.buffer
-    out.write(HEADER + record(OPEN) + record(SENT, CONNECT) + record(RECV, CONNACK))
-    out.writelines(KINDS[given.kind](messages))
-    out.write(record(REST) + record(CLOSE))
+    sys.stdout.buffer.writelines(log(given.kind, messages))
 
 
 if __name__ == "__main__":
