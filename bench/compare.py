@@ -1,8 +1,8 @@
 #!/usr/bin/env python3
 """Compares what `mqjudge packet` and `mqjudge show` print with what the plain program of this folder prints.
 
-Both get the same packets and logs: those of packets.txt, changed in a few bytes, and short logs of make_log.py. What differs is
-printed, with its bytes. Where there is no `mqjudge` the plain program alone is tried, which must always answer.
+Both get the same packets and logs: those of packets.txt, changed in a few bytes, and short logs of each kind that is measured. What
+differs is printed, with its bytes. Where there is no `mqjudge` the plain program alone is tried, which must always answer.
 
 usage: bench/compare.py [--mqjudge PATH] [--packets 3000] [--logs 500] [--seed 1]
 """
@@ -18,7 +18,9 @@ from collections.abc import Iterator
 from pathlib import Path
 
 sys.dont_write_bytecode = True  # the repository stays as it is
+import kinds
 import make_log
+import session_logs
 from make_log import CLOSE, CONNACK, CONNECT, OPEN, RECV, REST, SENT, record
 from run import HERE, build_baseline
 
@@ -98,6 +100,10 @@ def made(folder: Path) -> Iterator[Path]:
         words = [sys.executable, str(HERE / "make_log.py"), "--kind", kind, "--megabytes", "1"]
         with open(path, "wb") as log:
             subprocess.run(words, stdout=log, check=True)
+        yield path
+    for kind in session_logs.KINDS:
+        path = folder / f"{kind}.log"
+        kinds.write(path, kind, 1_000)
         yield path
 
 
