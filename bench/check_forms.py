@@ -3,7 +3,7 @@
 
 usage: bench/check_forms.py PROGRAM [LOG ..]
 
-The text report of each log is made into the other forms here, in Python: each of the worked logs of mq_cli's tests, a log of
+The text report of each log is made into the other forms here, in Python: each of the worked logs of mq_judge's tests, a log of
 3,000 faults, refused logs, and the logs that are named. JSON is also read back by Python's json module. What `show --faults` is
 to print is made of the text report and of what `show` prints.
 """

@@ -164,8 +164,6 @@ RUNS = [
     Run(["show", "good.log"], 0, LINES, stdin=NESTED),
     Run(["show", "nested.log"], 2, "1 record 1 OPEN\n" + REFUSED, stdin=GOOD),
     Run(["show", "many.log"], 0, MANY_LINES),
-    # An empty word is a path too, of no file.
-    Run(["check", ""], 4, "", READ_FAILED, stdin=GOOD),
     # Without a file, or with `-`, standard input is.
     Run(["check"], 0, PASS, stdin=GOOD),
     Run(["check"], 1, FAIL, stdin=FAULTY),
@@ -195,6 +193,7 @@ RUNS = [
     Run(["show", "missing.log"], 4, errors=READ_FAILED, stdin=GOOD),
     Run(["show", "--faults", "missing.log"], 4, errors=READ_FAILED, stdin=GOOD),
     Run(["show", "--faults", "."], 4, errors=READ_FAILED, stdin=GOOD),
+    # (An empty word is a path too, of no file.)
     Run(["check", ""], 4, errors=READ_FAILED, stdin=GOOD),
     Run(["check", "."], 4, errors=READ_FAILED, stdin=GOOD),
     Run(["show", "."], 4, errors=READ_FAILED, stdin=GOOD),
@@ -222,7 +221,7 @@ RUNS = [
     Run(["packet"], 3, errors=NO_OPERAND),
 ]
 
-# Where standard output takes nothing: the words, and whether they read standard input.
+# Where standard output takes nothing: the words.
 UNWRITTEN = [
     ["check", "good.log"],
     ["check", "faulty.log"],
@@ -269,6 +268,16 @@ def start(program: Path, words: list[str | bytes], **streams) -> subprocess.Pope
     return subprocess.Popen(["mqjudge", *words], executable=program, env={}, **streams)
 
 
+def finish(process: subprocess.Popen, stdin: bytes | None = None) -> tuple[bytes, bytes]:
+    """What it writes until it ends. A program that hangs is ended, and the test with it."""
+    try:
+        output, errors = process.communicate(stdin, timeout=SECONDS)
+    except BaseException:
+        process.kill()
+        raise
+    return output or b"", errors or b""
+
+
 def run(program: Path, words: list[str | bytes], stdin: bytes | Path) -> tuple[int, str, str]:
     """Its status, output and errors, with these bytes in a pipe, or this file, as standard input."""
     streams = {"stdout": subprocess.PIPE, "stderr": subprocess.PIPE}
@@ -278,10 +287,10 @@ def run(program: Path, words: list[str | bytes], stdin: bytes | Path) -> tuple[i
             process = start(program, words, stdin=file, **streams)
         finally:
             os.close(file)
-        output, errors = process.communicate(timeout=SECONDS)
+        output, errors = finish(process)
     else:
         process = start(program, words, stdin=subprocess.PIPE, **streams)
-        output, errors = process.communicate(stdin, timeout=SECONDS)
+        output, errors = finish(process, stdin)
     return process.returncode, output.decode(), errors.decode()
 
 
@@ -303,8 +312,8 @@ def run_on(program: Path, words: list[str | bytes], stream: str, make: Callable[
         process = start(program, words, stdin=subprocess.DEVNULL, **{stream: taken, other: subprocess.PIPE})
     finally:
         os.close(taken)
-    output, errors = process.communicate(timeout=SECONDS)
-    return process.returncode, ((output or b"") + (errors or b"")).decode()
+    output, errors = finish(process)
+    return process.returncode, (output + errors).decode()
 
 
 def main() -> int:
