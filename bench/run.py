@@ -15,7 +15,7 @@ linear.
 
 usage: bench/run.py [--mqjudge PATH] [--megabytes 200] [--rounds 1]
        bench/run.py --instructions [--mqjudge PATH] [--messages 4000]
-       bench/run.py --growth [--mqjudge PATH] [--events 40000] [--by-time]
+       bench/run.py --growth [--mqjudge PATH] [--events 66000] [--by-time]
 """
 import argparse
 import shutil
@@ -145,7 +145,7 @@ def main() -> int:
     words.add_argument("--instructions", action="store_true", help="count instructions an event instead")
     words.add_argument("--messages", type=int, default=4_000, help="of each log whose instructions are counted (default 4000)")
     words.add_argument("--growth", action="store_true", help="show instead whether `check` is linear in the events")
-    words.add_argument("--events", type=int, default=40_000, help="with --growth, of the shorter log of each kind (default 40000)")
+    words.add_argument("--events", type=int, default=66_000, help="with --growth, of the shorter log of each kind (default 66000)")
     words.add_argument("--by-time", action="store_true", help="with --growth, measure processor time, and count no instructions")
     given = words.parse_args()
     signal.signal(signal.SIGTERM, lambda *_: sys.exit(143))
