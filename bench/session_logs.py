@@ -361,6 +361,22 @@ def resumed_with_filters(events: int) -> Records:
         yield record(REST)
 
 
+def resubscribed(events: int) -> Records:
+    """On each connection of a session the client subscribes to its filter again, as many clients do.
+
+    In the middle of the log it takes a second filter, and from then on the tested server delivers for that one.
+    """
+    end = End(SERVER)
+    for n in count():
+        yield from end.connection(resumed=n > 0)
+        if n < events // 12:  # each of these connections has six events
+            yield from end.subscription(1, ["b"])
+        else:
+            yield from end.subscription(1, ["b", "a"])
+            yield end.server(publish(0, 0))
+        yield record(CLOSE)
+
+
 def new_sessions(events: int) -> Records:
     """After a long session of a client, with many messages in flight both ways, many short ones, each of them new."""
     end, size = End(CLIENT), max(1, min(IDENTIFIERS, events // 6))
@@ -373,8 +389,6 @@ def new_sessions(events: int) -> Records:
         yield record(CLOSE)
         yield from end.connection(resumed=False)
         yield from publishing(end, n % IDENTIFIERS + 1)
-        yield from received_exactly_once(end, n % IDENTIFIERS + 1)
-        yield record(REST)
 
 
 def new_sessions_with_filters(events: int) -> Records:
@@ -417,6 +431,7 @@ KINDS: dict[str, Kind] = {
     "server-resumed": Kind(SERVER, partial(resumed, role=SERVER)),
     "resumed-in-flight": Kind(CLIENT, resumed_in_flight),
     "resumed-filters": Kind(SERVER, resumed_with_filters),
+    "resubscribed": Kind(SERVER, resubscribed),
     "new-sessions": Kind(CLIENT, new_sessions),
     "new-sessions-filters": Kind(SERVER, new_sessions_with_filters),
 }
