@@ -19,12 +19,11 @@ from pathlib import Path
 
 sys.dont_write_bytecode = True  # the repository stays as it is
 import kinds
-import make_log
-import session_logs
 from make_log import CLOSE, CONNACK, CONNECT, OPEN, RECV, REST, SENT, record
 from run import HERE, build_baseline
 
 RELEASE = 6
+MADE_BYTES = 1_000_000  # of each log that is made, about
 TELLING = bytes.fromhex("0001020405 23262B2F 7F80C3FF 10 82")
 PACKET_TEXT = re.compile(r"need more bytes|left over \d+ bytes|other version \d+|LOST|BAD W\d\d offset \d+|[A-Z]+ size .*")
 Answer = tuple[int, str]
@@ -95,15 +94,9 @@ def logs(draw: random.Random, count: int) -> Iterator[bytes]:
 
 
 def made(folder: Path) -> Iterator[Path]:
-    for kind in make_log.KINDS:
+    for kind in kinds.KINDS:
         path = folder / f"{kind}.log"
-        words = [sys.executable, str(HERE / "make_log.py"), "--kind", kind, "--megabytes", "1"]
-        with open(path, "wb") as log:
-            subprocess.run(words, stdout=log, check=True)
-        yield path
-    for kind in session_logs.KINDS:
-        path = folder / f"{kind}.log"
-        kinds.write(path, kind, 1_000)
+        kinds.write(path, kind, kinds.amount_for_bytes(kind, MADE_BYTES))
         yield path
 
 

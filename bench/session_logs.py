@@ -4,7 +4,7 @@
 What the tested end does is right in each, so the verdict is a pass. Each record is one event. A log is the beginning of one that
 goes on for ever, so it may end in the midst of an exchange. What a kind keeps open at once grows with the log, up to 65,535 Packet
 Identifiers in each direction: so an event that takes time in what is open shows itself when a log of four times as many events is
-judged. `bench/growth.py` measures that, and `bench/check_logs.py` holds each kind against `reference.py`.
+judged. `bench/run.py --growth` measures that, and `bench/check_logs.py` holds each kind against `reference.py`.
 
 usage: bench/session_logs.py KIND EVENTS > FILE
 """
@@ -16,6 +16,7 @@ from dataclasses import dataclass
 from functools import partial
 from itertools import count, islice
 
+sys.dont_write_bytecode = True  # the repository stays as it is
 from make_log import CLOSE, OPEN, PINGREQ, PINGRESP, RECV, REST, SENT, record, varint
 
 RELEASE = 6
