@@ -1,7 +1,6 @@
 -- What a judge keeps, piece by piece.
-use Rattle.std.proofs.Common.{◌≡◌, ℕ, ◌+◌, ◌-◌, ◌≤◌, ◌<◌, min, ◌⊎◌, inl, inr, Bool, true, false, nat_lt, List, [], ◌∷◌, ◌++◌, length, map, reverse, Option, Some, None, Result, Ok, Err, is_ok, OnOk, IfErr, refl, sym, ◌∙◌, ap, subst, arith, length-append, append_assoc, append-nil}
+use Rattle.std.proofs.Common.{◌≡◌, ℕ, inl, inr, Bool, true, false, nat_lt, List, [], ◌++◌, length, map, reverse, Some, None, Result, Ok, Err, is_ok, OnOk, IfErr, refl, sym, ◌∙◌, ap, subst}
 use Rattle.std.specs.Prelude.{◌||◌, if◌then◌else◌}
-use Rattle.std.proofs.lemmas.Bool.Decides.{nat_tests}
 use Rattle.std.proofs.lemmas.List.{length-map, length-reverse}
 use Rattle.std.specs.Option.{option_or}
 use Rattle.mq_trace.specs.declared.refusal.Refusal.{Refusal}
@@ -11,8 +10,8 @@ use Rattle.mq_trace.specs.Framing.{header_by}
 use Rattle.mq_trace.specs.Events.{Placed, events, events_back}
 use Rattle.mq_trace.specs.Refusals.{refused, is_cut_short}
 use Rattle.mq_trace.specs.Refusing.{moved}
-use Rattle.mq_trace.specs.Tracing.{Traced, IsTracedTo, TracesPiece, Why}
-use Rattle.mq_trace.proofs.Exports.{header-unchanged}
+use Rattle.mq_trace.specs.Tracing.{Traced, IsTracedTo, TracesPiece, Why, StopsAt}
+use Rattle.mq_trace.proofs.Exports.{keeps_header}
 use Rattle.mq_rules.specs.declared.note.Seen.{Seen}
 use Rattle.mq_rules.specs.declared.role.Tested.{Tested}
 use Rattle.mq_rules.specs.declared.rule.Rule.{Rule}
@@ -21,8 +20,8 @@ use Rattle.mq_rules.specs.Connections.{IsInOrder}
 use Rattle.mq_rules.specs.Faults.{chosen_fault}
 use Rattle.mq_judge.specs.Chosen.{is_judged}
 use Rattle.mq_rules.specs.FaultKeys.{FaultMap, fault_at}
-use Rattle.mq_rules.specs.Notes.{tested_as, tested_by, seen, seen_in}
-use Rattle.mq_judge.specs.Judging.{Judged, Follows, HasRefused, RefusesIn, JudgesPiece, TakesEvents, AreFaultsOf, judge_of, tested_in}
+use Rattle.mq_rules.specs.Notes.{tested_by, seen, seen_in}
+use Rattle.mq_judge.specs.Judging.{Judged, Follows, RefusesIn, JudgesPiece, AreFaultsOf, judge_of}
 use Rattle.mq_judge.specs.Stopping.{IsRefusedByte}
 use Rattle.mq_rules.proofs.Exports.{orderly}
 
@@ -32,38 +31,13 @@ unfolding seen_in events events_back
 seen-nothing = refl
 
 pub follows-nothing : (limit : ℕ) (tracer : Traced) (seen : List Seen) → IsTracedTo tracer [] → tracer.reading.limit ≡ limit → seen ≡ []
-    → Follows (judge_of limit None tracer seen) []
+    → Follows (judge_of limit tracer seen) []
 follows-nothing limit tracer seen traced within none =
-    record { traced = traced; within = within; knows = record { tested = refl; events = none ∙ sym seen-nothing } }
+    record { traced = traced; within = within; knows = record { header = keeps_header tracer.reading [] traced.keeps; events = none ∙ sym seen-nothing } }
 
 -- nothing is refused in a log that a judge follows
 pub unrefused : (judge : Judged) (log : List ℕ) → Follows judge log → refused judge.limit log ≡ None
 unrefused judge log f = subst (λ l. refused l log ≡ None) f.within f.traced.keeps.unrefused
-
--- ---- the end that is tested
-
-pub unnamed : (log : List ℕ) → length log < 8 → tested_in log ≡ None
-unnamed log short =
-    let b : nat_lt (length log) 8 ≡ true = grind (arith, nat_tests) in
-    ap (λ (t : Bool). if t then None else Some (tested_by log)) b
-
-pub named : (log : List ℕ) → 8 ≤ length log → tested_in log ≡ Some (tested_by log)
-named log long =
-    let b : nat_lt (length log) 8 ≡ false = grind (arith, nat_tests) in
-    ap (λ (t : Bool). if t then None else Some (tested_by log)) b
-
-header-stays : (log more : List ℕ) → 8 ≤ length log → header_by (log ++ more) ≡ header_by log
-header-stays log [] long = ap header_by (append-nil log)
-header-stays log (byte ∷ more) long =
-    ap header_by (sym (append_assoc log (byte ∷ []) more))
-    ∙ header-stays (log ++ byte ∷ []) more (omega (arith, length-append log (byte ∷ [])))
-    ∙ header-unchanged log byte long
-
-pub named-stays : (log more : List ℕ) → 8 ≤ length log → tested_in (log ++ more) ≡ tested_in log
-named-stays log more long =
-    named (log ++ more) (omega (arith, length-append log more))
-    ∙ ap (λ (h : Header). Some (tested_as h)) (header-stays log more long)
-    ∙ sym (named log long)
 
 -- ---- a piece that is taken in by a tracer, whose sink notes the events
 
@@ -82,94 +56,27 @@ why-refused noted refuses wants limit log taken byte old new r was (inr (inr own
     let is = wants new (events (log ++ taken)) own.own (own.refused was) in
     (inr (own.is ∙ ap (λ o. moved o (length (log ++ taken))) is.0, inr (own.unmet, own.completes)), is.1)
 
-pub fed-events : {S : Type 0} (noted : S → List Seen) (refuses : S → List Placed → Refusal → Type 0) → WantsMemory noted refuses
-    → (limit : ℕ) (tracer : Traced) (log piece : List ℕ) (old new : S) (result : Result (Unit {0}) Refusal) → noted old ≡ seen_in log
-    → TracesPiece (λ s received. noted s ≡ map seen received) refuses limit log piece old new result
-    → OnOk result (IsTracedTo tracer (log ++ piece)) → OnOk result (tracer.reading.limit ≡ limit)
-    → TakesEvents limit log piece tracer (noted new) result
+-- a judge that is fed a piece, by what its tracer returns
+pub fed-judge : {S : Type 0} (noted : S → List Seen) (refuses : S → List Placed → Refusal → Type 0) → WantsMemory noted refuses
+    → (limit : ℕ) (first next : Traced) (log piece : List ℕ) (old new : S) (result : Result (Unit {0}) Refusal) → Follows (judge_of limit first (noted old)) log
+    → OnOk result (IsTracedTo next (log ++ piece)) → OnOk result (next.reading.limit ≡ first.reading.limit) → IfErr result (λ r. next.refusal ≡ Some r)
+    → TracesPiece (λ s received. noted s ≡ map seen received) refuses first.reading.limit log piece old new result
+    → IfErr result (λ r. StopsAt (λ s received. noted s ≡ map seen received) refuses first.reading.limit log piece old new next.reading r)
+    → JudgesPiece log piece (judge_of limit next (noted new)) result
 unfolding seen_in
-fed-events noted refuses wants limit tracer log piece old new (Ok done) was t follows same = (follows, same, t.1 was)
-fed-events noted refuses wants limit tracer log piece old new (Err r) was s follows same =
-    let w = why-refused noted refuses wants limit log s.taken s.byte old new r was s.why in
-    (record { taken = s.taken; byte = s.byte; later = s.later; is = s.is; unrefused = s.unrefused; why = w.0 }, w.1)
-
-pub takes-within : {first limit : ℕ} (log piece : List ℕ) (tracer : Traced) (seen : List Seen) (r : Refusal) → first ≡ limit
-    → TakesEvents first log piece tracer seen (Err r) → TakesEvents limit log piece tracer seen (Err r)
-takes-within log piece tracer seen r e t = subst (λ (l : ℕ). TakesEvents l log piece tracer seen (Err r)) e t
-
--- ---- a piece in two parts, of which the first belongs to the header
-
--- so many bytes of a piece belong to the header
-abbrev pub Heads : List ℕ → List ℕ → List ℕ → Type 0
-Heads log header rest = length header ≡ min (8 - length log) (length (header ++ rest))
-
--- the first is refused
-pub takes-first : (limit : ℕ) (tested : Option Tested) (tracer : Traced) (seen : List Seen) (log piece header rest : List ℕ) (r : Refusal) → piece ≡ header ++ rest
-    → Heads log header rest → tested ≡ tested_in log → tracer.refusal ≡ Some r → TakesEvents limit log header tracer seen (Err r)
-    → JudgesPiece log piece (judge_of limit tested tracer seen) (Err r)
-takes-first limit tested tracer seen log piece header rest r parts heads whom given t =
-    let s = t.0 in
-    let few : length log + length s.taken < 8 = omega (arith, heads, ap length s.is, length-append s.taken (s.byte ∷ s.later), length-append header rest) in (
-      record {
-        taken = s.taken;
-        byte = s.byte;
-        later = s.later ++ rest;
-        is = parts ∙ ap (λ (l : List ℕ). l ++ rest) s.is ∙ append_assoc s.taken (s.byte ∷ s.later) rest;
-        unrefused = s.unrefused;
-        why = s.why;
-      },
-      record {
-        answers = given;
-        knows = record {
-          tested = whom ∙ unnamed log (omega arith) ∙ sym (unnamed (log ++ s.taken) (omega (arith, length-append log s.taken)));
-          events = t.1;
-        };
-      },
-    )
-
--- after the first, either the header is whole or there is no second
-header-done : (log header rest : List ℕ) → Heads log header rest → (8 ≤ length (log ++ header)) ⊎ (rest ≡ [])
-header-done log header [] heads = inr refl
-header-done log header (byte ∷ rest) heads =
-    let more : length (byte ∷ rest) ≡ length rest + 1 = omega arith in
-    inl (omega (arith, heads, length-append log header, length-append header (byte ∷ rest)))
-
-named-then : (log header rest more : List ℕ) → Heads log header rest → (rest ≡ [] → more ≡ []) → tested_in ((log ++ header) ++ more) ≡ tested_in (log ++ header)
-named-then log header rest more heads none = elim (header-done log header rest heads) [
-  | inl long ↦ named-stays (log ++ header) more long
-  | inr empty ↦ ap tested_in (ap (λ (l : List ℕ). (log ++ header) ++ l) (none empty) ∙ append-nil (log ++ header))
-]
-
--- the first is taken in
-pub takes-then : (limit : ℕ) (tested : Option Tested) (tracer : Traced) (seen : List Seen) (log piece header rest : List ℕ) (result : Result (Unit {0}) Refusal)
-    → piece ≡ header ++ rest → Heads log header rest → tested ≡ tested_in (log ++ header) → IfErr result (λ r. tracer.refusal ≡ Some r)
-    → TakesEvents limit (log ++ header) rest tracer seen result → JudgesPiece log piece (judge_of limit tested tracer seen) result
-takes-then limit tested tracer seen log piece header rest (Ok done) parts heads whom given t =
-    let same : (log ++ header) ++ rest ≡ log ++ piece = append_assoc log header rest ∙ ap (λ (p : List ℕ). log ++ p) (sym parts) in
-    let next : Follows (judge_of limit tested tracer seen) ((log ++ header) ++ rest) = record {
-      traced = t.0;
-      within = t.1;
-      knows = record { tested = whom ∙ sym (named-then log header rest rest heads (λ e. e)); events = t.2 };
+fed-judge noted refuses wants limit first next log piece old new (Ok done) f traced same given t stops =
+    let follows : Follows (judge_of limit next (noted new)) (log ++ piece) = record {
+      traced = traced;
+      within = same ∙ f.within;
+      knows = record { header = keeps_header next.reading (log ++ piece) traced.keeps; events = t.1 f.knows.events };
     } in
-    let follows : Follows (judge_of limit tested tracer seen) (log ++ piece) = subst (Follows (judge_of limit tested tracer seen)) same next in
-    (unrefused (judge_of limit tested tracer seen) (log ++ piece) follows, follows)
-takes-then limit tested tracer seen log piece header rest (Err r) parts heads whom given t =
-    let s = t.0 in
-    let same : (log ++ header) ++ s.taken ≡ log ++ (header ++ s.taken) = append_assoc log header s.taken in
-    let some : rest ≡ [] → s.taken ≡ [] = λ e. absurd (omega (arith, ap length (sym e ∙ s.is), length-append s.taken (s.byte ∷ s.later))) in
-    let refuses : HasRefused (judge_of limit tested tracer seen) ((log ++ header) ++ s.taken) r = record {
-      answers = given;
-      knows = record { tested = whom ∙ sym (named-then log header rest s.taken heads some); events = t.1 };
-    } in (
-      record {
-        taken = header ++ s.taken;
-        byte = s.byte;
-        later = s.later;
-        is = parts ∙ ap (λ (l : List ℕ). header ++ l) s.is ∙ sym (append_assoc header s.taken (s.byte ∷ s.later));
-        unrefused = subst (λ (l : List ℕ). refused limit l ≡ None) same s.unrefused;
-        why = subst (λ (l : List ℕ). IsRefusedByte limit l s.byte r) same s.why;
-      },
-      subst (λ (l : List ℕ). HasRefused (judge_of limit tested tracer seen) l r) same refuses,
+    (unrefused (judge_of limit next (noted new)) (log ++ piece) follows, follows)
+fed-judge noted refuses wants limit first next log piece old new (Err r) f traced same given t stops =
+    let s = stops.0 in
+    let w = why-refused noted refuses wants first.reading.limit log s.taken s.byte old new r f.knows.events s.why in
+    subst (λ (l : ℕ). RefusesIn l (judge_of limit next (noted new)) log piece r) f.within (
+      record { taken = s.taken; byte = s.byte; later = s.later; is = s.is; unrefused = s.unrefused; why = w.0 },
+      record { answers = given; knows = record { header = stops.1; events = w.1 } },
     )
 
 -- a judge that takes no more in, where it answers a refusal
@@ -185,19 +92,20 @@ pub where_ok : {T E P : Type 0} (r : Result T E) → is_ok r ≡ true → OnOk r
 where_ok (Ok x) e h = h
 where_ok (Err x) e h = absurd (cc)
 
--- where the tested end isn't known, the header isn't whole
-pub cut_unnamed : (log : List ℕ) → None ≡ tested_in log → is_cut_short log ≡ true
+-- where no header is known, it isn't whole
+pub cut_unnamed : (log : List ℕ) → None ≡ (if nat_lt (length log) 8 then None else Some (header_by log)) → is_cut_short log ≡ true
 unfolding is_cut_short
 cut_unnamed log h = go (nat_lt (length log) 8) _ h
   where
-    go : (b c : Bool) → None ≡ (if b then None else Some (tested_by log)) → (b || c) ≡ true
+    go : (b c : Bool) → None ≡ (if b then None else Some (header_by log)) → (b || c) ≡ true
     go true c h = refl
     go false c h = absurd (cc)
 
-pub named_as : (log : List ℕ) (found : Tested) → Some found ≡ tested_in log → found ≡ tested_by log
-named_as log found h = go (nat_lt (length log) 8) h
+-- a header that is known is that of the log
+pub named_by : (log : List ℕ) (found : Header) → Some found ≡ (if nat_lt (length log) 8 then None else Some (header_by log)) → found ≡ header_by log
+named_by log found h = go (nat_lt (length log) 8) h
   where
-    go : (b : Bool) → Some found ≡ (if b then None else Some (tested_by log)) → found ≡ tested_by log
+    go : (b : Bool) → Some found ≡ (if b then None else Some (header_by log)) → found ≡ header_by log
     go true h = absurd (cc)
     go false h = cc
 

@@ -1,11 +1,10 @@
 -- The state of a judge, and what its calls return.
-use Rattle.std.specs.Prelude.{◌≡◌, ℕ, nat_lt, false, List, ◌++◌, length, Option, Some, None, if◌then◌else◌, Result, Ok, Err}
+use Rattle.std.specs.Prelude.{◌≡◌, ℕ, false, List, ◌++◌, length, Some, None, Result, Ok, Err}
 use Rattle.mq_trace.specs.declared.refusal.Refusal.{Refusal}
-use Rattle.mq_trace.specs.Tracing.{Traced, IsTracedTo}
+use Rattle.mq_trace.specs.Tracing.{Traced, IsTracedTo, KeepsHeader}
 use Rattle.mq_trace.specs.Events.{events}
 use Rattle.mq_trace.specs.Refusals.{refused, is_cut_short}
 use Rattle.mq_rules.specs.declared.note.Seen.{Seen}
-use Rattle.mq_rules.specs.declared.role.Tested.{Tested}
 use Rattle.mq_rules.specs.declared.rule.Rule.{Rule}
 use Rattle.mq_rules.specs.Notes.{tested_by, seen_in}
 use Rattle.mq_rules.specs.Faults.{chosen_fault}
@@ -13,23 +12,18 @@ use Rattle.mq_judge.specs.Chosen.{is_judged}
 use Rattle.mq_rules.specs.FaultKeys.{FaultMap, fault_at}
 use Rattle.mq_judge.specs.Stopping.{StopsIn, IsRefusedEnd}
 
--- a judge: its limit, the tested end, once that is known, the state of its tracer, and the events that were noted, the newest first
+-- a judge: its limit, the state of its tracer, and the events that were noted, the newest first
 pub record Judged : Type 0 where
   pub limit : ℕ
-  pub tested : Option Tested
   pub tracer : Traced
   pub seen : List Seen
 
-abbrev pub judge_of : ℕ → Option Tested → Traced → List Seen → Judged
-judge_of limit tested tracer seen = record { limit = limit; tested = tested; tracer = tracer; seen = seen }
+abbrev pub judge_of : ℕ → Traced → List Seen → Judged
+judge_of limit tracer seen = record { limit = limit; tracer = tracer; seen = seen }
 
--- the end that the first bytes of a log name, once the header is whole
-abbrev pub tested_in : List ℕ → Option Tested
-tested_in log = if nat_lt (length log) 8 then None else Some (tested_by log)
-
--- All that a judge knows of a log is what these first bytes of it say: which end is tested, and the events that they complete.
+-- All that a judge knows of a log is what these first bytes of it say: their header, which names the tested end, and the events that they complete.
 pub record Knows (judge : Judged) (taken : List ℕ) : Type 0 where
-  pub tested : judge.tested ≡ tested_in taken
+  pub header : KeepsHeader judge.tracer.reading taken
   pub events : judge.seen ≡ seen_in taken
 
 -- The judge has taken in this log, and refused none of it.
@@ -51,11 +45,6 @@ RefusesIn limit judge log piece refusal = (stops : StopsIn limit log piece refus
 abbrev pub JudgesPiece : List ℕ → List ℕ → Judged → Result (Unit {0}) Refusal → Type 0
 JudgesPiece log piece judge (Ok _) = (refused judge.limit (log ++ piece) ≡ None) × Follows judge (log ++ piece)
 JudgesPiece log piece judge (Err refusal) = RefusesIn judge.limit judge log piece refusal
-
--- The same for a tracer with this limit and the events that were noted.
-abbrev pub TakesEvents : ℕ → List ℕ → List ℕ → Traced → List Seen → Result (Unit {0}) Refusal → Type 0
-TakesEvents limit log piece tracer seen (Ok _) = IsTracedTo tracer (log ++ piece) × (tracer.reading.limit ≡ limit) × (seen ≡ seen_in (log ++ piece))
-TakesEvents limit log piece tracer seen (Err refusal) = (stops : StopsIn limit log piece refusal) × (seen ≡ seen_in (log ++ stops.taken))
 
 -- The faults are exactly the pairs of a position and a statement that fail in the whole log, each with where it was decided.
 abbrev pub AreFaultsOf : List ℕ → FaultMap → Type 0

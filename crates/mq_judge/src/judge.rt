@@ -1,8 +1,7 @@
 //! The judge: it is fed a log, in any pieces, and returns the verdict on it.
-ghost use Rattle.std.specs.Prelude.{◌≡◌, ℕ, ◌-◌, ◌≤◌, min, List, [], nat_lt, length, Some, None, Err, IfErr, IfOk, IfSome, reverse, if◌then◌else◌};
-ghost use Rattle.mq_judge.specs.Judging.{Knows, Follows, JudgesPiece, TakesEvents, Finishes, judge_of, tested_in};
-ghost use Rattle.mq_rules.specs.Notes.{tested_by, seen_in};
-ghost use Rattle.mq_trace.specs.Tracing.{IsTracedTo};
+ghost use Rattle.std.specs.Prelude.{◌≡◌, ℕ, List, [], nat_lt, length, Some, None, Err, IfErr, IfOk, IfSome, if◌then◌else◌};
+ghost use Rattle.mq_judge.specs.Judging.{Knows, Follows, JudgesPiece, Finishes};
+ghost use Rattle.mq_rules.specs.Notes.{tested_by};
 
 use super::evaluating::judge_all;
 use super::feeding::Feed;
@@ -38,9 +37,6 @@ pub struct Verdict {
     pub faults: Faults,
 }
 
-/// How many bytes a log's header has.
-const HEADER_LENGTH: u64 = 8;
-
 /// Judges one log.
 ///
 /// # Examples
@@ -58,8 +54,6 @@ const HEADER_LENGTH: u64 = 8;
 pub struct Judge {
     alloc: Global,
     limit: u32,
-    // The end that is judged, once the log's header is whole.
-    tested: Option<Tested>,
     tracer: Tracer,
     notes: Notes,
 }
@@ -70,7 +64,7 @@ impl Model for Judge {
 
     ghost Value = { Judged };
 
-    ghost view = { λ j. record { limit = j.limit; tested = j.tested; tracer = j.tracer; seen = reverse j.notes.seen.items } };
+    ghost view = { λ j. record { limit = j.limit; tracer = j.tracer; seen = reverse j.notes.seen.items } };
 }
 
 impl Judge {
@@ -82,7 +76,6 @@ impl Judge {
         Judge {
             alloc,
             limit: options.limit,
-            tested: None,
             tracer: Tracer::new(alloc, options.limit),
             notes: Notes::new(alloc),
         }
@@ -92,8 +85,8 @@ impl Judge {
     pub fn role(&self) -> Option<Role>
         ensures { (taken : List ℕ) → Knows self.now taken → result ≡ (if nat_lt (length taken) 8 then None else Some (tested_by taken).role) }
     {
-        let tested = self.tested?;
-        Some(tested.role)
+        let header = self.tracer.header()?;
+        Some(Tested::of(header).role)
     }
 
     /// Takes in the next piece of the log. It doesn't matter how the log is cut into pieces.
@@ -108,7 +101,7 @@ impl Judge {
         ensures refuses { IfErr result (λ refusal. self.new.tracer.refusal ≡ Some refusal) }
         ensures for_ever { IfSome self.old.tracer.refusal (λ refusal. (result ≡ Err refusal) × (self.new ≡ self.old)) }
     {
-        consume(&mut self.tested, &mut self.tracer, &mut self.notes, piece)
+        self.tracer.feed(piece, &mut self.notes)
     }
 
     /// Ends the log, and returns the verdict on it.
@@ -138,9 +131,10 @@ impl Judge {
         let mut tracer = self.tracer;
         tracer.finish()?;
         let at = tracer.byte_count();
-        let Some(tested) = self.tested else {
+        let Some(header) = tracer.header() else {
             return Err(Refusal::Cut(at));
         };
+        let tested = Tested::of(header);
         let mut faults = Faults::new(self.alloc);
         let judged = judge_all(self.alloc, tested, self.notes.seen.as_slice(), &mut faults);
         judged.map_err(|_| Refusal::Memory(at))?;
@@ -161,53 +155,4 @@ impl Feed<()> for Judge {
     fn feed(&mut self, _sink: &mut (), piece: &[u8]) -> Result<(), Refusal> {
         Judge::feed(self, piece)
     }
-}
-
-/// Takes in a piece of a log: first what belongs to the header, which names the end that is judged, and then the rest.
-fn consume(
-    tested: &mut Option<Tested>,
-    tracer: &mut Tracer,
-    notes: &mut Notes,
-    piece: &[u8],
-) -> Result<(), Refusal>
-    ensures answers { (limit : ℕ) (log : List ℕ) → Follows (judge_of limit tested.old tracer.old (reverse notes.old.seen.items)) log
-        → JudgesPiece log piece.now (judge_of limit tested.new tracer.new (reverse notes.new.seen.items)) result }
-    ensures refuses { IfErr result (λ refusal. tracer.new.refusal ≡ Some refusal) }
-    ensures for_ever { IfSome tracer.old.refusal (λ refusal. (result ≡ Err refusal) × (tested.new ≡ tested.old) × (tracer.new ≡ tracer.old) × (notes.new ≡ notes.old)) }
-{
-    let (header, rest) = piece.split_at(header_count(tracer, piece.len()));
-    match feed_notes(tracer, notes, header) {
-        Ok(()) => {
-            *tested = tested_end(tracer);
-            feed_notes(tracer, notes, rest)
-        }
-        Err(refusal) => Err(refusal),
-    }
-}
-
-/// How many of the next `count` bytes of a log belong to its header.
-fn header_count(tracer: &Tracer, count: usize) -> usize
-    ensures within { result ≤ count }
-    ensures count { (log : List ℕ) → IsTracedTo tracer.now log → result ≡ min (8 - length log) count }
-{
-    let left = HEADER_LENGTH.saturating_sub(tracer.byte_count());
-    (left as usize).min(count)
-}
-
-/// The end that the log's header names, once the header is whole.
-fn tested_end(tracer: &Tracer) -> Option<Tested>
-    ensures { (log : List ℕ) → IsTracedTo tracer.now log → result ≡ tested_in log }
-{
-    let header = tracer.header()?;
-    Some(Tested::of(header))
-}
-
-/// Takes in a piece of a log, and notes the events that it completes.
-fn feed_notes(tracer: &mut Tracer, notes: &mut Notes, piece: &[u8]) -> Result<(), Refusal>
-    ensures answers { (log : List ℕ) → IsTracedTo tracer.old log → reverse notes.old.seen.items ≡ seen_in log
-        → TakesEvents tracer.old.reading.limit log piece.now tracer.new (reverse notes.new.seen.items) result }
-    ensures refuses { IfErr result (λ refusal. tracer.new.refusal ≡ Some refusal) }
-    ensures for_ever { IfSome tracer.old.refusal (λ refusal. (result ≡ Err refusal) × (tracer.new ≡ tracer.old) × (notes.new ≡ notes.old)) }
-{
-    tracer.feed(piece, notes)
 }

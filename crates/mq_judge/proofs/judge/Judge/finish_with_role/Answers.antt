@@ -10,13 +10,14 @@ use Rattle.mq_rules.specs.Connections.{IsInOrder}
 use Rattle.mq_rules.specs.Faults.{Grows}
 use Rattle.mq_judge.specs.Chosen.{is_judged}
 use Rattle.mq_rules.specs.FaultKeys.{fault_at, key_cmp}
+use Rattle.mq_rules.specs.Notes.{tested_as, tested_by}
 use Rattle.mq_judge.specs.Judging.{Judged, Follows, judge_of}
-use Rattle.mq_judge.proofs.JudgeLaws.{cut_unnamed, named_as, counted, faults-of, where_ok}
+use Rattle.mq_judge.proofs.JudgeLaws.{cut_unnamed, named_by, counted, faults-of, where_ok}
 use Rattle.mq_judge.proofs.judge.Judge.finish_with_role.Goals as goal
 
 pub returns-in_err-finish-clause-verdict : goal.returns-in_err-finish-clause-verdict
 returns-in_err-finish-clause-verdict c = λ log h.
-    let k : Follows (judge_of c.self.inside.limit c.self.inside.tested c.self.inside.tracer (reverse c.self.inside.notes.seen.items)) log
+    let k : Follows (judge_of c.self.inside.limit c.self.inside.tracer (reverse c.self.inside.notes.seen.items)) log
     = subst (λ (j : Judged). Follows j log) (sym c.self.view_is) h in
     let p = err_from_is_err_and c.from_residual.result c.from_residual.ensures.1 in
     let ends = c.in_err-finish.ensures.ends log k.traced in
@@ -24,14 +25,14 @@ returns-in_err-finish-clause-verdict c = λ log h.
 
 pub returns-in_default-clause-verdict : goal.returns-in_default-clause-verdict
 returns-in_default-clause-verdict c = λ log h.
-    let k : Follows (judge_of c.self.inside.limit c.self.inside.tested c.self.inside.tracer (reverse c.self.inside.notes.seen.items)) log
+    let k : Follows (judge_of c.self.inside.limit c.self.inside.tracer (reverse c.self.inside.notes.seen.items)) log
     = subst (λ (j : Judged). Follows j log) (sym c.self.view_is) h in
     let traced : IsTracedTo c.finish.new.self log = subst (λ (t : Traced). IsTracedTo t log) (sym c.in_ok-finish.ensures.same) k.traced in
-    inl (cut_unnamed log (sym c.in_default.is ∙ k.knows.tested), ap refusals.Cut (c.byte_count-at.ensures.follows log traced))
+    inl (cut_unnamed log (sym c.in_default.is ∙ c.header.ensures.follows log traced), ap refusals.Cut (c.byte_count-at.ensures.follows log traced))
 
 pub returns-in_err-map_err-clause-verdict : goal.returns-in_err-map_err-clause-verdict
 returns-in_err-map_err-clause-verdict c = λ log h.
-    let k : Follows (judge_of c.self.inside.limit c.self.inside.tested c.self.inside.tracer (reverse c.self.inside.notes.seen.items)) log
+    let k : Follows (judge_of c.self.inside.limit c.self.inside.tracer (reverse c.self.inside.notes.seen.items)) log
     = subst (λ (j : Judged). Follows j log) (sym c.self.view_is) h in
     let traced : IsTracedTo c.finish.new.self log = subst (λ (t : Traced). IsTracedTo t log) (sym c.in_ok-finish.ensures.same) k.traced in
     let at : c.byte_count-at.result ≡ length log = c.byte_count-at.ensures.follows log traced in
@@ -42,23 +43,25 @@ returns-in_err-map_err-clause-verdict c = λ log h.
 
 pub returns-clause-verdict : goal.returns-clause-verdict
 returns-clause-verdict c = λ log h.
-    let k : Follows (judge_of c.self.inside.limit c.self.inside.tested c.self.inside.tracer (reverse c.self.inside.notes.seen.items)) log
+    let k : Follows (judge_of c.self.inside.limit c.self.inside.tracer (reverse c.self.inside.notes.seen.items)) log
     = subst (λ (j : Judged). Follows j log) (sym c.self.view_is) h in
     let unrefused = k.traced.keeps.unrefused in
     let judged : is_ok c.judge_all-judged.result ≡ true = sym c.map_err.ensures.variant ∙ ap is_ok c.in_ok-map_err.was in
-    let whom = named_as log c.in-Some.tested (sym c.in-Some.is ∙ k.knows.tested) in
-    let grown = subst (λ (s : List Seen). IsPlaced (reverse s) → IsInOrder c.in-Some.tested.role (reverse s)
-    → OnOk c.judge_all-judged.result (Grows (is_judged c.in-Some.tested) c.in-Some.tested (reverse s) c.new-faults.result c.judge_all-judged.new.faults))
+    let traced : IsTracedTo c.finish.new.self log = subst (λ (t : Traced). IsTracedTo t log) (sym c.in_ok-finish.ensures.same) k.traced in
+    let whom : c.of-tested.result ≡ tested_by log = c.of-tested.ensures ∙ ap tested_as (named_by log c.in-Some.header (sym c.in-Some.is ∙ c.header.ensures.follows log traced)) in
+    let grown = subst (λ (s : List Seen). IsPlaced (reverse s) → IsInOrder c.of-tested.result.role (reverse s)
+    → OnOk c.judge_all-judged.result (Grows (is_judged c.of-tested.result) c.of-tested.result (reverse s) c.new-faults.result c.judge_all-judged.new.faults))
     c.as_slice.ensures.value c.judge_all-judged.ensures in (
       c.in_ok-finish.ensures.ends log k.traced,
       counted c.self.inside.tracer.reading.limit c.self.inside.notes.seen.items log c.count-events.result unrefused k.knows.events c.count-events.ensures,
-      faults-of c.self.inside.tracer.reading.limit (reverse c.self.inside.notes.seen.items) log c.in-Some.tested c.new-faults.result c.judge_all-judged.new.faults unrefused k.knows.events whom
+      faults-of c.self.inside.tracer.reading.limit (reverse c.self.inside.notes.seen.items) log c.of-tested.result c.new-faults.result c.judge_all-judged.new.faults unrefused k.knows.events whom
           (λ p rule. ap (λ m. fault_at m p rule) c.new-faults.ensures ∙ get-empty key_cmp (record { position = p; rule = rule }))
           (λ placed in_order. (where_ok c.judge_all-judged.result judged (grown placed in_order)).each),
     )
 
 pub returns-clause-role : goal.returns-clause-role
 returns-clause-role c = λ log h.
-    let k : Follows (judge_of c.self.inside.limit c.self.inside.tested c.self.inside.tracer (reverse c.self.inside.notes.seen.items)) log
+    let k : Follows (judge_of c.self.inside.limit c.self.inside.tracer (reverse c.self.inside.notes.seen.items)) log
     = subst (λ (j : Judged). Follows j log) (sym c.self.view_is) h in
-    ap (λ (t : Tested). t.role) (named_as log c.in-Some.tested (sym c.in-Some.is ∙ k.knows.tested))
+    let traced : IsTracedTo c.finish.new.self log = subst (λ (t : Traced). IsTracedTo t log) (sym c.in_ok-finish.ensures.same) k.traced in
+    ap (λ (t : Tested). t.role) (c.of-tested.ensures ∙ ap tested_as (named_by log c.in-Some.header (sym c.in-Some.is ∙ c.header.ensures.follows log traced)))
