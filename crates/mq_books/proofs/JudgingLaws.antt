@@ -1,5 +1,5 @@
 -- A log that is told event by event.
-use Rattle.std.proofs.Common.{◌≡◌, ℕ, ◌+◌, ◌<◌, Bool, true, false, cond, ◌&&◌, ◌||◌, ◌⊎◌, inl, inr, List, [], ◌∷◌, length, Option, Some, None, refl, ap, sym, ◌∙◌, subst, get_or, take, drop}
+use Rattle.std.proofs.Common.{◌≡◌, ℕ, ◌+◌, ◌<◌, Bool, true, false, cond, ◌&&◌, ◌||◌, ◌⊎◌, inl, inr, List, [], ◌∷◌, length, Option, Some, None, Result, Ok, Err, OnOk, OnErr, refl, ap, sym, ◌∙◌, subst, get_or, take, drop}
 use Rattle.std.specs.Prelude.{reverse}
 use Rattle.std.specs.Option.{option_or}
 use mathlib.Core.List.{reverse_aux}
@@ -9,24 +9,24 @@ use Rattle.mq_rules.specs.declared.role.Role.{Role}
 use Rattle.mq_rules.specs.declared.role.Tested.{Tested}
 use Rattle.mq_rules.specs.declared.fate.Fate.{Fate}
 use Rattle.mq_rules.specs.declared.rule.Rule.{Rule}
-use Rattle.mq_rules.specs.declared.rule.Rule.TheVariants.{W01, S07, E1A, E1R, E1O, E2A, E2R, E2O, E3A, E3R, E3O, E4A, E4R, E5A, E5R, E6A, E6R, E7R, L1, L2, L3, B01, B02, B03, B04}
+use Rattle.mq_rules.specs.declared.rule.Rule.TheVariants.{W01}
 use Rattle.mq_rules.specs.declared.fault.Fault.{Fault}
 use Rattle.mq_rules.specs.declared.note.Seen.{Seen}
 use Rattle.mq_rules.specs.Moments.{moment, IsPlaced}
 use Rattle.mq_rules.specs.Connections.{latest_fate}
 use Rattle.mq_rules.specs.Words.{is_some_and}
 use Rattle.mq_rules.specs.Rules.{same_rule}
-use Rattle.mq_rules.specs.Statements.{is_on_bytes}
+use Rattle.mq_rules.specs.Statements.{statement}
 use Rattle.mq_rules.specs.Steps.{turns}
 use Rattle.mq_rules.specs.FaultKeys.{FaultMap, fault_at}
 use Rattle.mq_rules.specs.Faults.{reported, fault_in}
 use Rattle.mq_rules.specs.Keeping.{news, GrowsBy, GrowsByWithin}
 use Rattle.mq_rules.proofs.Exports.{and_false, beginning, fault_in-start, fault_in-step, newest-first, or_parts}
-use Rattle.mq_rules.specs.Under.{is_on_session, IsInTurn, Follows}
+use Rattle.mq_rules.specs.Under.{is_by_session, is_on_session, IsInTurn, Follows}
 use Rattle.mq_rules.specs.Growing.{added, Gains, GainsWithin}
 use Rattle.mq_books.specs.Judging.{IsWhole}
 use Rattle.mq_books.specs.Holding.{turns_session}
-use Rattle.mq_books.specs.Using.{is_inflight}
+use Rattle.mq_books.specs.Grouping.{of_sessions}
 
 tails : (P : List Seen → Type 0) → ((e : Seen) (past : List Seen) → P (e ∷ past) → P past) → (later past : List Seen) → P (reverse_aux later past) → P past
 tails P tail [] past h = h
@@ -56,3 +56,26 @@ whole-within takes adds chosen tested e past old new w g = record { each = λ k 
         → (fault_at new k r ≡ fault_at old k r) ⊎ (fault_at new k r ≡ option_or (fault_at old k r) (news chosen tested e past k r))
     go k r (inl h) = inl h
     go k r (inr h) = inr (h ∙ ap (λ b. option_or (fault_at old k r) (cond b (Some (reported tested.role (moment (e ∷ past) k) r (length past + 1))) None)) (w.added e past k r))
+
+-- ---- the watchers of all statements on sessions
+
+-- they judge exactly the statements on sessions
+sessions-all : (role : Role) (r : Rule) → of_sessions r ≡ is_by_session (statement role r)
+sessions-all role W01 = refl
+sessions-all role _ = refl
+
+joined : (s t : Bool) → (s && (s && t)) ≡ (s && t)
+joined true t = refl
+joined false t = refl
+
+pub sessions-whole : (tested : Tested) (e : Seen) (past : List Seen) (k : ℕ) (r : Rule) → (of_sessions r && turns_session tested e past k r) ≡ (is_on_session tested r && turns tested e past k r)
+sessions-whole tested e past k r = ap (λ b. b && turns_session tested e past k r) (sessions-all tested.role r) ∙ joined (is_on_session tested r) (turns tested e past k r)
+
+-- what follows from what holds after an Ok, and from what holds after an error
+pub on_ok : {A E : Type 0} (r : Result A E) (P Q : Type 0) → (P → Q) → OnOk r P → OnOk r Q
+on_ok (Ok a) P Q f p = f p
+on_ok (Err e) P Q f p = p
+
+pub on_error : {A E : Type 0} (r : Result A E) (P Q : Type 0) → (P → Q) → OnErr r P → OnErr r Q
+on_error (Ok a) P Q f p = p
+on_error (Err e) P Q f p = f p

@@ -12,3 +12,4 @@ pub mod Resending
 pub mod Releasing
 pub mod Countings
 pub mod Standings
+pub mod Grouping

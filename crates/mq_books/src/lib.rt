@@ -8,23 +8,22 @@
 mod asked;
 mod counts;
 mod debts;
-#[cfg(test)]
-mod debts_tests;
 mod early;
 mod exchange;
 mod fated;
 mod inflight;
 mod judging;
 mod known;
+mod messages;
 mod ordering;
 mod owed;
 mod pings;
 mod quota;
 mod releases;
+mod requests;
+mod sessions;
 mod subs;
 mod subs_all;
-#[cfg(test)]
-mod tests;
 
 pub use asked::Asked;
 pub use counts::{Counted, Counts, Replies, Subacks, Unsubacks};
@@ -33,11 +32,14 @@ pub use early::Early;
 pub use exchange::{E1, E2, E3, E4, E5, E6, Exchange};
 pub use fated::Fated;
 pub use inflight::Inflight;
-pub use judging::watch_all;
+pub use judging::{watch_all, watch_sessions};
 pub use known::judge_by;
+pub use messages::Messages;
 pub use owed::Owed;
 pub use pings::Pings;
 pub use quota::Quota;
 pub use releases::Releases;
+pub use requests::Requests;
+pub use sessions::Sessions;
 pub use subs::Deliveries;
 pub use subs_all::Subs;

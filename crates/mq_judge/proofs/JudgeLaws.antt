@@ -16,14 +16,14 @@ use Rattle.mq_rules.specs.declared.note.Seen.{Seen}
 use Rattle.mq_rules.specs.declared.role.Tested.{Tested}
 use Rattle.mq_rules.specs.declared.rule.Rule.{Rule}
 use Rattle.mq_rules.specs.Moments.{IsPlaced}
-use Rattle.mq_rules.specs.Connections.{IsInOrder}
+use Rattle.mq_rules.specs.Under.{IsInTurn}
 use Rattle.mq_rules.specs.Faults.{chosen_fault}
 use Rattle.mq_judge.specs.Chosen.{is_judged}
 use Rattle.mq_rules.specs.FaultKeys.{FaultMap, fault_at}
 use Rattle.mq_rules.specs.Notes.{tested_by, seen, seen_in}
 use Rattle.mq_judge.specs.Judging.{Judged, Follows, RefusesIn, JudgesPiece, AreFaultsOf, judge_of}
 use Rattle.mq_judge.specs.Stopping.{IsRefusedByte}
-use Rattle.mq_rules.proofs.Exports.{orderly}
+use Rattle.mq_rules.proofs.Exports.{orderly, turned}
 
 -- a log of no bytes has no events
 seen-nothing : seen_in [] ≡ []
@@ -118,14 +118,14 @@ counted limit items log count none e counts =
 -- the faults of the events that are kept are those of the log
 pub faults-of : (limit : ℕ) (seen : List Seen) (log : List ℕ) (tested : Tested) (old faults : FaultMap) → refused limit log ≡ None → seen ≡ seen_in log → tested ≡ tested_by log
     → ((k : ℕ) (rule : Rule) → fault_at old k rule ≡ None)
-    → (IsPlaced seen → IsInOrder tested.role seen → (k : ℕ) (rule : Rule) → fault_at faults k rule ≡ option_or (fault_at old k rule) (chosen_fault (is_judged tested) tested seen k rule))
+    → (IsPlaced seen → IsInTurn tested.role seen → (k : ℕ) (rule : Rule) → fault_at faults k rule ≡ option_or (fault_at old k rule) (chosen_fault (is_judged tested) tested seen k rule))
     → AreFaultsOf log faults
 faults-of limit seen log tested old faults none events whom fresh grown =
     let o = orderly limit log none in
     let placed : IsPlaced seen = subst IsPlaced (sym events) o.placed in
-    let in_order : IsInOrder tested.role seen = subst (λ (t : Tested). IsInOrder t.role seen) (sym whom) (subst (IsInOrder (tested_by log).role) (sym events) o.in_order) in
+    let in_turn : IsInTurn tested.role seen = subst (λ (t : Tested). IsInTurn t.role seen) (sym whom) (subst (IsInTurn (tested_by log).role) (sym events) (turned limit log none)) in
     λ p rule.
-    grown placed in_order p rule
+    grown placed in_turn p rule
     ∙ ap (λ f. option_or f (chosen_fault (is_judged tested) tested seen p rule)) (fresh p rule)
     ∙ ap (λ t. chosen_fault (is_judged t) t seen p rule) whom
     ∙ ap (λ log_seen. chosen_fault (is_judged (tested_by log)) (tested_by log) log_seen p rule) events

@@ -1,11 +1,11 @@
-//! Judging the events of a whole log by the plain evaluators.
+//! Judging the events of a whole log: one pass over them for the statements on packets and connections, and one for those on sessions.
 ghost use Rattle.std.specs.Prelude.{reverse, OnOk};
 ghost use Rattle.mq_rules.specs.Moments.{IsPlaced};
-ghost use Rattle.mq_rules.specs.Connections.{IsInOrder};
+ghost use Rattle.mq_rules.specs.Under.{IsInTurn};
 ghost use Rattle.mq_rules.specs.Faults.{Grows};
 ghost use Rattle.mq_judge.specs.Chosen.{is_judged};
 
-use mq_plain::plain_sessions;
+use mq_books::watch_sessions;
 use mq_rules::{Faults, Memory, Seen, Tested, plain_connections};
 use std::alloc::Global;
 
@@ -14,15 +14,15 @@ use std::alloc::Global;
 ///
 /// # Errors
 ///
-/// `Memory` if there is no memory for a fault.
+/// `Memory` if there is no memory for a fault, or for what is kept of the events.
 pub fn judge_all(
     alloc: Global,
     tested: Tested,
     seen: &[Seen],
     faults: &mut Faults,
 ) -> Result<(), Memory>
-    ensures { IsPlaced (reverse seen.now) → IsInOrder tested.role (reverse seen.now) → OnOk result (Grows (is_judged tested) tested (reverse seen.now) faults.old faults.new) }
+    ensures { IsPlaced (reverse seen.now) → IsInTurn tested.role (reverse seen.now) → OnOk result (Grows (is_judged tested) tested (reverse seen.now) faults.old faults.new) }
 {
     plain_connections(alloc, tested, seen, faults)?;
-    plain_sessions(alloc, tested, seen, faults)
+    watch_sessions(alloc, tested, seen, faults)
 }

@@ -23,13 +23,21 @@ pub use report::{Form, Outcome, RunFault, write_refused, write_text};
 pub use runner::{judge_reader, run, run_bounded};
 
 #[cfg(test)]
+mod debts_tests;
+#[cfg(test)]
 mod display_tests;
+#[cfg(test)]
+mod early_tests;
 #[cfg(test)]
 mod example_tests;
 #[cfg(test)]
 mod harness;
 #[cfg(test)]
 mod log_tests;
+#[cfg(test)]
+mod plain_tests;
+#[cfg(test)]
+mod rule_tests;
 #[cfg(test)]
 mod statement_tests;
 #[cfg(test)]

@@ -22,6 +22,7 @@ mod subscriptions;
 mod worked;
 
 use crate::harness::{FAULTY, PASSED, REFUSED, add_record, is_reported};
+use crate::plain_tests::are_faults_alike;
 use crate::report::Outcome;
 use packets::PACKETS;
 use std::alloc::{AllocError, Global};
@@ -123,7 +124,8 @@ fn report_of(alloc: Global, lines: &'static str) -> Result<String, AllocError> {
 fn is_judged_so(alloc: Global, words: &'static str, lines: &'static str) -> Result<bool, Fail> {
     let log = log_of(alloc, words)?;
     let report = report_of(alloc, lines)?;
-    is_reported(alloc, &log, outcome_of(report.as_str()), report.as_str())
+    let alike = are_faults_alike(alloc, &log)?;
+    Ok(alike && is_reported(alloc, &log, outcome_of(report.as_str()), report.as_str())?)
 }
 
 // Whether the log of a row is judged as the row says. A row has three parts.

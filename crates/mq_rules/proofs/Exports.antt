@@ -17,3 +17,4 @@ pub use Rattle.mq_rules.proofs.PositionLaws.{among-moment, among-some, among-wit
 pub use Rattle.mq_rules.proofs.SessionLaws.{session-members}
 pub use Rattle.mq_rules.proofs.StepLaws.{fails-step, fate-step, moment-newest as moment-newest-of-step, moment-next, moment-stays, moment-within}
 pub use Rattle.mq_rules.proofs.SubjectLaws.{in_order-releases, in_order-turns}
+pub use Rattle.mq_rules.proofs.TurnLaws.{turned}

@@ -27,8 +27,6 @@ mod short_text;
 mod statement_laws;
 mod table;
 mod table_laws;
-#[cfg(test)]
-mod tests;
 mod text;
 mod watch;
 mod worked;

@@ -6,7 +6,7 @@ use Rattle.mq_trace.specs.Tracing.{Traced, IsTracedTo}
 use Rattle.mq_rules.specs.declared.note.Seen.{Seen}
 use Rattle.mq_rules.specs.declared.role.Tested.{Tested}
 use Rattle.mq_rules.specs.Moments.{IsPlaced}
-use Rattle.mq_rules.specs.Connections.{IsInOrder}
+use Rattle.mq_rules.specs.Under.{IsInTurn}
 use Rattle.mq_rules.specs.Faults.{Grows}
 use Rattle.mq_judge.specs.Chosen.{is_judged}
 use Rattle.mq_rules.specs.FaultKeys.{fault_at, key_cmp}
@@ -49,14 +49,14 @@ returns-clause-verdict c = λ log h.
     let judged : is_ok c.judge_all-judged.result ≡ true = sym c.map_err.ensures.variant ∙ ap is_ok c.in_ok-map_err.was in
     let traced : IsTracedTo c.finish.new.self log = subst (λ (t : Traced). IsTracedTo t log) (sym c.in_ok-finish.ensures.same) k.traced in
     let whom : c.of-tested.result ≡ tested_by log = c.of-tested.ensures ∙ ap tested_as (named_by log c.in-Some.header (sym c.in-Some.is ∙ c.header.ensures.follows log traced)) in
-    let grown = subst (λ (s : List Seen). IsPlaced (reverse s) → IsInOrder c.of-tested.result.role (reverse s)
+    let grown = subst (λ (s : List Seen). IsPlaced (reverse s) → IsInTurn c.of-tested.result.role (reverse s)
     → OnOk c.judge_all-judged.result (Grows (is_judged c.of-tested.result) c.of-tested.result (reverse s) c.new-faults.result c.judge_all-judged.new.faults))
     c.as_slice.ensures.value c.judge_all-judged.ensures in (
       c.in_ok-finish.ensures.ends log k.traced,
       counted c.self.inside.tracer.reading.limit c.self.inside.notes.seen.items log c.count-events.result unrefused k.knows.events c.count-events.ensures,
       faults-of c.self.inside.tracer.reading.limit (reverse c.self.inside.notes.seen.items) log c.of-tested.result c.new-faults.result c.judge_all-judged.new.faults unrefused k.knows.events whom
           (λ p rule. ap (λ m. fault_at m p rule) c.new-faults.ensures ∙ get-empty key_cmp (record { position = p; rule = rule }))
-          (λ placed in_order. (where_ok c.judge_all-judged.result judged (grown placed in_order)).each),
+          (λ placed in_turn. (where_ok c.judge_all-judged.result judged (grown placed in_turn)).each),
     )
 
 pub returns-clause-role : goal.returns-clause-role

@@ -1,7 +1,7 @@
 //! What no clause can say: what the statements say in words, and that there is memory for the largest texts.
 
-use crate::{ItemNote, Note, PacketFields, Rule};
 use mq_packet::decode;
+use mq_rules::{ItemNote, Note, PacketFields, Rule};
 use mq_trace::Direction;
 use std::test::Fail;
 

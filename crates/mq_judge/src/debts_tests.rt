@@ -1,4 +1,4 @@
-use crate::{Debts, E1, Fated};
+use mq_books::{Debts, E1, Fated};
 use mq_packet::Qos;
 use mq_rules::{
     Fate, FaultKey, Faults, ItemNote, Memory, Note, PacketFields, PacketNote, PublishNote, Role,

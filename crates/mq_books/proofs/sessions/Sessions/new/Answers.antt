@@ -1,0 +1,8 @@
+use Rattle.mq_books.proofs.sessions.Sessions.new.Goals as goal
+
+-- each watcher agrees with no events
+pub returns : goal.returns
+returns c = rw c.new-13.ensures (
+  rw c.new-5.ensures (c.new.ensures, rw c.new-4.ensures (c.new-2.ensures, c.new-3.ensures)),
+  rw c.new-12.ensures (rw c.new-8.ensures (c.new-6.ensures, c.new-7.ensures), rw c.new-11.ensures (c.new-9.ensures, c.new-10.ensures)),
+)

@@ -1,0 +1,94 @@
+-- The statements of exchanges, and all statements on sessions, each as the pairs that their watchers add.
+use Rattle.std.specs.Prelude.{◌≡◌, Bool, ◌&&◌, ◌||◌, Option, Some, None, refl}
+use Rattle.mq_rules.specs.declared.rule.Rule.{Rule}
+use Rattle.mq_rules.specs.declared.rule.Rule.TheVariants.{S07, E1A, E1R, E1O, E2A, E2R, E2O, E3A, E3R, E3O, E4A, E4R, E5A, E5R, E6A, E6R, E7R, L1, L2, L3, B01, B02, B03, B04}
+use Rattle.mq_rules.specs.Words.{is_some_and}
+use Rattle.mq_rules.specs.Rules.{same_rule}
+use Rattle.mq_rules.specs.Under.{either_adds}
+use Rattle.mq_books.specs.Using.{is_inflight}
+
+-- ---- an exchange
+
+-- a statement is one of an exchange: on what is asked for, on what is settled before a REST, or on the order of answers, if there is such a statement
+abbrev pub of_exchange : Rule → Rule → Option Rule → Rule → Bool
+of_exchange asked settled ordered r = same_rule r asked || (same_rule r settled || is_some_and (same_rule r) ordered)
+
+-- a pair of one of them turns out to fail, if any pair of the statement does
+abbrev pub by_exchange : Rule → Rule → Option Rule → Rule → Bool → Bool
+by_exchange asked settled ordered r turns = (same_rule r asked && turns) || ((same_rule r settled || is_some_and (same_rule r) ordered) && turns)
+
+pub exchange_adds : (asked settled : Rule) (ordered : Option Rule) (r : Rule) (t : Bool) → by_exchange asked settled ordered r t ≡ (of_exchange asked settled ordered r && t)
+exchange_adds asked settled ordered r t =
+    either_adds (same_rule r asked && t) ((same_rule r settled || is_some_and (same_rule r) ordered) && t) (same_rule r asked) (same_rule r settled || is_some_and (same_rule r) ordered) t refl refl
+
+-- ---- exchanges of messages, and of requests
+
+abbrev pub of_messages : Rule → Bool
+of_messages r = (of_exchange E1A E1R (Some E1O) r || of_exchange E2A E2R (Some E2O) r) || (of_exchange E3A E3R (Some E3O) r || of_exchange E4A E4R None r)
+
+abbrev pub by_messages : Rule → Bool → Bool
+by_messages r t = (by_exchange E1A E1R (Some E1O) r t || by_exchange E2A E2R (Some E2O) r t) || (by_exchange E3A E3R (Some E3O) r t || by_exchange E4A E4R None r t)
+
+pub messages_add : (r : Rule) (t : Bool) → by_messages r t ≡ (of_messages r && t)
+messages_add r t =
+    either_adds (by_exchange E1A E1R (Some E1O) r t || by_exchange E2A E2R (Some E2O) r t) (by_exchange E3A E3R (Some E3O) r t || by_exchange E4A E4R None r t)
+    (of_exchange E1A E1R (Some E1O) r || of_exchange E2A E2R (Some E2O) r) (of_exchange E3A E3R (Some E3O) r || of_exchange E4A E4R None r) t
+    (either_adds (by_exchange E1A E1R (Some E1O) r t) (by_exchange E2A E2R (Some E2O) r t) (of_exchange E1A E1R (Some E1O) r) (of_exchange E2A E2R (Some E2O) r) t
+    (exchange_adds E1A E1R (Some E1O) r t) (exchange_adds E2A E2R (Some E2O) r t))
+    (either_adds (by_exchange E3A E3R (Some E3O) r t) (by_exchange E4A E4R None r t) (of_exchange E3A E3R (Some E3O) r) (of_exchange E4A E4R None r) t
+    (exchange_adds E3A E3R (Some E3O) r t) (exchange_adds E4A E4R None r t))
+
+abbrev pub of_requests : Rule → Bool
+of_requests r = of_exchange E5A E5R None r || of_exchange E6A E6R None r
+
+abbrev pub by_requests : Rule → Bool → Bool
+by_requests r t = by_exchange E5A E5R None r t || by_exchange E6A E6R None r t
+
+pub requests_add : (r : Rule) (t : Bool) → by_requests r t ≡ (of_requests r && t)
+requests_add r t =
+    either_adds (by_exchange E5A E5R None r t) (by_exchange E6A E6R None r t) (of_exchange E5A E5R None r) (of_exchange E6A E6R None r) t
+    (exchange_adds E5A E5R None r t) (exchange_adds E6A E6R None r t)
+
+-- ---- subscriptions, as they are watched
+
+abbrev pub of_subscriptions : Rule → Bool
+of_subscriptions r = (same_rule r B01 || same_rule r B02) || (same_rule r B03 || same_rule r B04)
+
+abbrev pub by_subscriptions : Rule → Bool → Bool
+by_subscriptions r t = ((same_rule r B01 || same_rule r B02) && t) || ((same_rule r B03 && t) || (same_rule r B04 && t))
+
+pub subscriptions_add : (r : Rule) (t : Bool) → by_subscriptions r t ≡ (of_subscriptions r && t)
+subscriptions_add r t =
+    either_adds ((same_rule r B01 || same_rule r B02) && t) ((same_rule r B03 && t) || (same_rule r B04 && t)) (same_rule r B01 || same_rule r B02) (same_rule r B03 || same_rule r B04) t refl
+    (either_adds (same_rule r B03 && t) (same_rule r B04 && t) (same_rule r B03) (same_rule r B04) t refl refl)
+
+-- ---- all statements on sessions
+
+-- on identifiers, the send quota and pings
+abbrev pub of_sending : Rule → Bool
+of_sending r = is_inflight r || (same_rule r S07 || same_rule r E7R)
+
+abbrev pub by_sending : Rule → Bool → Bool
+by_sending r t = (is_inflight r && t) || ((same_rule r S07 && t) || (same_rule r E7R && t))
+
+pub sending_adds : (r : Rule) (t : Bool) → by_sending r t ≡ (of_sending r && t)
+sending_adds r t =
+    either_adds (is_inflight r && t) ((same_rule r S07 && t) || (same_rule r E7R && t)) (is_inflight r) (same_rule r S07 || same_rule r E7R) t refl
+    (either_adds (same_rule r S07 && t) (same_rule r E7R && t) (same_rule r S07) (same_rule r E7R) t refl refl)
+
+abbrev pub of_releases : Rule → Bool
+of_releases r = (same_rule r L1 || same_rule r L2) || same_rule r L3
+
+abbrev pub of_sessions : Rule → Bool
+of_sessions r = of_sending r || ((of_messages r || of_requests r) || (of_releases r || of_subscriptions r))
+
+abbrev pub by_sessions : Rule → Bool → Bool
+by_sessions r t = by_sending r t || ((by_messages r t || by_requests r t) || ((of_releases r && t) || by_subscriptions r t))
+
+pub sessions_add : (r : Rule) (t : Bool) → by_sessions r t ≡ (of_sessions r && t)
+sessions_add r t =
+    either_adds (by_sending r t) ((by_messages r t || by_requests r t) || ((of_releases r && t) || by_subscriptions r t)) (of_sending r) ((of_messages r || of_requests r) || (of_releases r || of_subscriptions r)) t
+    (sending_adds r t)
+    (either_adds (by_messages r t || by_requests r t) ((of_releases r && t) || by_subscriptions r t) (of_messages r || of_requests r) (of_releases r || of_subscriptions r) t
+    (either_adds (by_messages r t) (by_requests r t) (of_messages r) (of_requests r) t (messages_add r t) (requests_add r t))
+    (either_adds (of_releases r && t) (by_subscriptions r t) (of_releases r) (of_subscriptions r) t refl (subscriptions_add r t)))

@@ -1,0 +1,71 @@
+//! Exchanges of messages: E1A to E4R (MQTT 5.0, section 4.3).
+ghost use Rattle.std.specs.Prelude.{◌≡◌, [], Some};
+ghost use Rattle.mq_rules.specs.declared.fate.Fate.TheVariants.{Void};
+ghost use Rattle.mq_rules.specs.Under.{turns_known};
+ghost use Rattle.mq_books.specs.Grouping.{of_messages, by_messages, messages_add};
+
+use crate::debts::Debts;
+use crate::exchange::{E1, E2, E3, E4};
+use crate::fated::Fated;
+use mq_rules::{Both, Fate, Faults, Memory, Note, Tested, Watch};
+use mq_trace::Place3;
+use std::alloc::Global;
+
+/// Watches what the tested end owes for the messages that it receives and sends: E1A to E4R.
+#[derive(Drop)]
+pub struct Messages {
+    watchers: Both<Both<Debts<E1>, Debts<E2>>, Both<Debts<E3>, Debts<E4>>>,
+}
+
+impl Messages {
+    /// Nothing was received or sent.
+    pub fn new(alloc: Global, tested: Tested) -> Self
+        ensures { ⟦<Messages as Watch>⟧.agrees result tested (Some Void) [] }
+    {
+        Messages {
+            watchers: Both::new(
+                Both::new(Debts::new(alloc, tested), Debts::new(alloc, tested)),
+                Both::new(Debts::new(alloc, tested), Debts::new(alloc, tested)),
+            ),
+        }
+    }
+}
+
+impl Watch for Messages {
+    ghost agrees = { λ s. ⟦<Both<Both<Debts<E1>, Debts<E2>>, Both<Debts<E3>, Debts<E4>>> as Watch>⟧.agrees s.watchers };
+
+    ghost takes = { ⟦<Both<Both<Debts<E1>, Debts<E2>>, Both<Debts<E3>, Debts<E4>>> as Watch>⟧.takes };
+
+    ghost adds = { λ tested e past k r. by_messages r (turns_known tested e past k r) };
+
+    ghost bound = { ⟦<Both<Both<Debts<E1>, Debts<E2>>, Both<Debts<E3>, Debts<E4>>> as Watch>⟧.bound };
+
+    fn step(&mut self, at: Place3, note: &Note, faults: &mut Faults) -> Result<(), Memory> {
+        self.watchers.step(at, note, faults)?;
+        Ok(())
+    }
+
+    fn weight(&self) -> usize {
+        self.watchers.weight()
+    }
+}
+
+impl Fated for Messages {
+    ghost judges = { of_messages };
+
+    fn fated(
+        &mut self,
+        at: Place3,
+        decided: u32,
+        fate: Fate,
+        note: &Note,
+        faults: &mut Faults,
+    ) -> Result<(), Memory> {
+        self.watchers.fated(at, decided, fate, note, faults)?;
+        Ok(())
+    }
+
+    ghost known_taken = { λ tested taken e past known. (((known, known), (known, known)), ((known, known), (known, known))) };
+
+    ghost known_adds = { λ tested e past k r. messages_add r (turns_known tested e past k r) };
+}

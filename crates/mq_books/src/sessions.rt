@@ -1,0 +1,85 @@
+//! All statements on sessions.
+ghost use Rattle.std.specs.Prelude.{◌≡◌, [], Some};
+ghost use Rattle.mq_rules.specs.declared.fate.Fate.TheVariants.{Void};
+ghost use Rattle.mq_rules.specs.Under.{turns_known};
+ghost use Rattle.mq_books.specs.Grouping.{of_sessions, by_sessions, sessions_add};
+
+use crate::fated::Fated;
+use crate::inflight::Inflight;
+use crate::messages::Messages;
+use crate::pings::Pings;
+use crate::quota::Quota;
+use crate::releases::Releases;
+use crate::requests::Requests;
+use crate::subs_all::Subs;
+use mq_rules::{Both, Fate, Faults, Memory, Note, Tested, Watch};
+use mq_trace::Place3;
+use std::alloc::Global;
+
+/// What is sent under Packet Identifiers, within the send quota, and in answer to pings.
+type Sending = Both<Inflight, Both<Quota, Pings>>;
+
+/// Watches S01 to S07, E1A to E7R, L1 to L3 and B01 to B04.
+#[derive(Drop)]
+pub struct Sessions {
+    watchers: Both<Sending, Both<Both<Messages, Requests>, Both<Releases, Subs>>>,
+}
+
+impl Sessions {
+    /// Nothing was received or sent.
+    pub fn new(alloc: Global, tested: Tested) -> Self
+        ensures { ⟦<Sessions as Watch>⟧.agrees result tested (Some Void) [] }
+    {
+        Sessions {
+            watchers: Both::new(
+                Both::new(
+                    Inflight::new(alloc, tested),
+                    Both::new(Quota::new(tested), Pings::new(tested)),
+                ),
+                Both::new(
+                    Both::new(Messages::new(alloc, tested), Requests::new(alloc, tested)),
+                    Both::new(Releases::new(alloc, tested), Subs::new(alloc, tested)),
+                ),
+            ),
+        }
+    }
+}
+
+impl Watch for Sessions {
+    ghost agrees = { λ s. ⟦<Both<Both<Inflight, Both<Quota, Pings>>, Both<Both<Messages, Requests>, Both<Releases, Subs>>> as Watch>⟧.agrees s.watchers };
+
+    ghost takes = { ⟦<Both<Both<Inflight, Both<Quota, Pings>>, Both<Both<Messages, Requests>, Both<Releases, Subs>>> as Watch>⟧.takes };
+
+    ghost adds = { λ tested e past k r. by_sessions r (turns_known tested e past k r) };
+
+    ghost bound = { ⟦<Both<Both<Inflight, Both<Quota, Pings>>, Both<Both<Messages, Requests>, Both<Releases, Subs>>> as Watch>⟧.bound };
+
+    fn step(&mut self, at: Place3, note: &Note, faults: &mut Faults) -> Result<(), Memory> {
+        self.watchers.step(at, note, faults)?;
+        Ok(())
+    }
+
+    fn weight(&self) -> usize {
+        self.watchers.weight()
+    }
+}
+
+impl Fated for Sessions {
+    ghost judges = { of_sessions };
+
+    fn fated(
+        &mut self,
+        at: Place3,
+        decided: u32,
+        fate: Fate,
+        note: &Note,
+        faults: &mut Faults,
+    ) -> Result<(), Memory> {
+        self.watchers.fated(at, decided, fate, note, faults)?;
+        Ok(())
+    }
+
+    ghost known_taken = { λ tested taken e past known. ((known, (known, known)), (((((known, known), (known, known)), ((known, known), (known, known))), ((known, known), (known, known))), (known, (known, (known, known))))) };
+
+    ghost known_adds = { λ tested e past k r. sessions_add r (turns_known tested e past k r) };
+}
