@@ -11,6 +11,7 @@ pub use Rattle.mq_rules.proofs.GainLaws.{gains_either, gains_in, gains_nothing, 
 pub use Rattle.mq_rules.proofs.GivenLaws.{begun-closed, begun-open as begun-open-of-given, given-gives, number-within, rest-opens-nothing, rest-undecided}
 pub use Rattle.mq_rules.proofs.GrowLaws.{grows-start}
 pub use Rattle.mq_rules.proofs.ListingLaws.{entries-listed}
+pub use Rattle.mq_rules.proofs.OpenLaws.{on_connections}
 pub use Rattle.mq_rules.proofs.OrderLaws.{orderly}
 pub use Rattle.mq_rules.proofs.PlainLaws.{beginning, grows-next, newest-first, within-next}
 pub use Rattle.mq_rules.proofs.PositionLaws.{among-moment, among-some, among-within, earliest_since-is, earliest_since-there, latest-is, moment-among, moment-beginning, moment-newest, moment-older, moment-placed, moments-descend, none-earliest, session-descend, since-stands, some-among, stands-since, those-among, those-descend}

@@ -14,7 +14,9 @@ pub mod FatedLaws
 pub mod FateLaws
 pub mod OrderLaws
 pub mod TurnLaws
+pub mod OpenLaws
 pub mod GainLaws
+pub mod WatchLaws
 pub mod RowLaws
 pub mod ListingLaws
 pub mod SubjectLaws

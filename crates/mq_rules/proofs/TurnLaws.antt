@@ -99,7 +99,7 @@ open-quiet (Some kinds.Sent) part so_far h lt = absurd (cc)
 open-quiet (Some kinds.Recv) part so_far h lt = absurd (cc)
 open-quiet None part so_far h lt = absurd (cc)
 
-event-is : (c : Context) (byte : ℕ) → 8 ≤ c.at → event_for c byte ≡ event_by (kind_of (c.part ++ byte ∷ [])) (c.part ++ byte ∷ []) (so_far_for c byte)
+pub event-is : (c : Context) (byte : ℕ) → 8 ≤ c.at → event_for c byte ≡ event_by (kind_of (c.part ++ byte ∷ [])) (c.part ++ byte ∷ []) (so_far_for c byte)
 unfolding event_for event_in
 event-is c byte long = ap (λ b. if b then None else event_by (kind_of (c.part ++ byte ∷ [])) (c.part ++ byte ∷ []) (so_far_for c byte)) (le-ltb c.at 8 long)
 
@@ -113,7 +113,7 @@ opens-free limit c byte event long unrefused free is h =
 connected-none : (c : Context) (o : Option Event) → o ≡ None → (with_completed c o).connected ≡ c.connected
 connected-none c o h = ap (λ o. (with_completed c o).connected) h
 
-part-completed : (c : Context) (o : Option Event) → (with_completed c o).part ≡ c.part
+pub part-completed : (c : Context) (o : Option Event) → (with_completed c o).part ≡ c.part
 part-completed c None = refl
 part-completed c (Some event) = refl
 

@@ -4,6 +4,8 @@ use Rattle.std.specs.Option.{option_and_then, option_or}
 use Rattle.mq_rules.specs.declared.role.Role.{Role}
 use Rattle.mq_rules.specs.declared.fate.Fate.{Fate}
 use Rattle.mq_rules.specs.declared.fate.Fate.TheVariants.{Void, New, Resumed}
+use Rattle.mq_rules.specs.declared.note.Note.{Note}
+use Rattle.mq_rules.specs.declared.note.Note.TheVariants as notes
 use Rattle.mq_rules.specs.declared.note.Seen.{Seen}
 use Rattle.mq_rules.specs.declared.packet_note.ConnectNote.{ConnectNote}
 use Rattle.mq_rules.specs.declared.packet_note.ConnackNote.{ConnackNote}
@@ -158,3 +160,21 @@ pub record IsAlive (role : Role) (c : ℕ) (log : List Seen) : Type 0 where
 abbrev pub IsInOrder : Role → List Seen → Type 0
 IsInOrder role [] = Unit {0}
 IsInOrder role (e ∷ past) = (needs_session e.note ≡ true → is_some (latest_fate role past) ≡ true) × IsInOrder role past
+
+-- what happens only on an open connection: the tested end sends or receives something, or is at rest, or the connection closes
+abbrev pub needs_connection : Note → Bool
+needs_connection notes.Open = false
+needs_connection notes.Close = true
+needs_connection notes.Rest = true
+needs_connection (notes.Release identifier) = false
+needs_connection (notes.Sent item) = true
+needs_connection (notes.Recv item) = true
+
+-- This event may follow these: if it happens only on an open connection, one is open.
+abbrev pub IsOnConnection : Seen → List Seen → Type 0
+IsOnConnection e past = needs_connection e.note ≡ true → is_connected past ≡ true
+
+-- So it is with each event. Every log that isn't refused is like this.
+abbrev pub AreOnConnections : List Seen → Type 0
+AreOnConnections [] = Unit {0}
+AreOnConnections (e ∷ past) = IsOnConnection e past × AreOnConnections past

@@ -4,7 +4,7 @@ use Rattle.std.specs.Prelude.{ℕ, ◌≡◌, ◌+◌, ◌-◌, ◌==◌, ◌⊎
 use Rattle.std.specs.Option.{option_and_then, option_or}
 use Rattle.std.specs.List.{list_any}
 use Rattle.std.specs.Borrow.{Bor}
-use Rattle.std.specs.BTreeSet.{contains}
+use Rattle.std.specs.BTreeSet.{contains, btree_set_len}
 use Rattle.std.specs.Ordering.{nat_cmp}
 use Rattle.mq_trace.specs.declared.place.Place3.{Place3}
 use Rattle.mq_packet.specs.declared.packet.PacketType.{PacketType}
@@ -14,6 +14,7 @@ use Rattle.mq_rules.specs.declared.role.Role.TheVariants.{Client, Server}
 use Rattle.mq_rules.specs.declared.role.Tested.{Tested}
 use Rattle.mq_rules.specs.declared.rule.Rule.{Rule}
 use Rattle.mq_rules.specs.declared.rule.Rule.TheVariants.{C01, C02, C03, C04, C05, C06, C07, C08, C09, C10, C11, C12, C13, C14, C15, C16, C17, C18, C19, C20, C21, C22, C23}
+use Rattle.mq_rules.specs.declared.fate.Fate.{Fate}
 use Rattle.mq_rules.specs.declared.fault.Fault.{Fault}
 use Rattle.mq_rules.specs.declared.note.Note.{Note}
 use Rattle.mq_rules.specs.declared.note.Note.TheVariants as notes
@@ -30,8 +31,9 @@ use Rattle.mq_rules.specs.declared.conn.Conn.{Conn}
 use Rattle.mq_rules.specs.Words.{is_some_and, is_id, only}
 use Rattle.mq_rules.specs.Notes.{is_open, is_rest, is_typed, is_of_type, foreign_types, sent_item, sent_packet, sent_fields, received_fields, sends_type, receives_type, sent_publish, sent_connack, sent_disconnect, disconnect_in, connect_of, connack_of, client_disconnect, decides, may_explain, resumed_by, is_acknowledged, qos_number}
 use Rattle.mq_rules.specs.Moments.{note, moment, some, earliest}
-use Rattle.mq_rules.specs.Connections.{begun, connection, first_connect, first_connack, accepted, is_alive_after}
+use Rattle.mq_rules.specs.Connections.{begun, is_connected, connection, first_connect, first_connack, accepted, is_alive_after}
 use Rattle.mq_rules.specs.Pasts.{sends_typed, is_sent_disconnect, is_sent_refusal, set_alias}
+use Rattle.mq_rules.specs.Burden.{aliases_sent}
 use Rattle.mq_rules.specs.Rules.{same_rule}
 use Rattle.mq_rules.specs.Steps.{turns}
 use Rattle.mq_rules.specs.FaultKeys.{FaultMap, fault_at}
@@ -118,6 +120,10 @@ is_ordinary_in _ = true
 
 abbrev pub is_ordinary : Note → Bool
 is_ordinary n = is_some_and is_ordinary_in (sent_fields n) || is_some_and is_ordinary_in (received_fields n)
+
+-- the Topic Alias that is set, if one is, is none of these
+abbrev pub is_another : (ℕ → Bool) → Option ℕ → Bool
+is_another aliases set = is_some_and (λ alias. not (aliases alias)) set
 
 -- ---- whether a statement is false at the next event. Each function takes the packet or item that the event is, or None.
 
@@ -333,3 +339,10 @@ pub record Agrees (conn : Conn) (tested : Tested) (past : List Seen) : Type 0 wh
   pub same_role : conn.role ≡ tested.role
   pub same_state : conn.state ≡ kept tested.role past
   pub same_aliases : (alias : ℕ) → contains nat_cmp conn.aliases alias ≡ is_alias_set past alias
+
+-- The same of a watcher. It keeps the Topic Aliases of the connection that is open alone.
+pub record IsConn (conn : Conn) (tested : Tested) (taken : Option Fate) (past : List Seen) : Type 0 where
+  pub same_role : conn.role ≡ tested.role
+  pub same_state : conn.state ≡ kept tested.role past
+  pub same_aliases : (alias : ℕ) → contains nat_cmp conn.aliases alias ≡ (is_connected past && is_alias_set past alias)
+  pub as_many : btree_set_len conn.aliases ≡ aliases_sent past

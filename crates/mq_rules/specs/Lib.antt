@@ -18,6 +18,7 @@ pub mod Growing
 pub mod FaultKeys
 pub mod Faults
 pub mod Folds
+pub mod Burden
 pub mod Keeping
 pub mod Worked
 pub mod Counter

@@ -1,16 +1,20 @@
 //! The statements C01 to C23, in one pass: what is kept of the latest connection decides each of them at the next event.
-ghost use Rattle.std.specs.Prelude.{◌≡◌, ◌==◌, ◌∷◌, [], ◌+◌, ◌&&◌, ◌||◌, ℕ, not, length, List, Some, OnOk, OnErr};
-ghost use Rattle.std.specs.BTreeSet.{contains};
+ghost use Rattle.std.specs.Prelude.{◌≡◌, ◌==◌, ◌∷◌, [], ◌+◌, ◌&&◌, ◌||◌, ℕ, cond, not, length, List, Some, OnOk, OnErr};
+ghost use Rattle.std.specs.BTreeSet.{contains, btree_set_len};
 ghost use Rattle.std.specs.Ordering.{nat_cmp};
 ghost use Rattle.mq_rules.specs.declared.role.Role.TheVariants as roles;
 ghost use Rattle.mq_rules.specs.declared.role.Tested.{Tested as TheTested};
+ghost use Rattle.mq_rules.specs.declared.fate.Fate.TheVariants.{Void};
 ghost use Rattle.mq_rules.specs.declared.note.Seen.{Seen as TheSeen};
 ghost use Rattle.mq_rules.specs.Words.{is_id, only};
-ghost use Rattle.mq_rules.specs.Notes.{is_open as opens};
+ghost use Rattle.mq_rules.specs.Notes.{is_open as opens, is_close as closes};
+ghost use Rattle.mq_rules.specs.Connections.{IsOnConnection};
 ghost use Rattle.mq_rules.specs.Pasts.{set_alias as sets};
 ghost use Rattle.mq_rules.specs.Statements.{is_on_past};
+ghost use Rattle.mq_rules.specs.Steps.{turns};
+ghost use Rattle.mq_rules.specs.Burden.{aliases_sent};
 ghost use Rattle.mq_rules.specs.Keeping as keeping;
-ghost use Rattle.mq_rules.specs.Keeping.{Agrees, Judges, JudgesWithin, GrowsBy, GrowsByWithin, is_among};
+ghost use Rattle.mq_rules.specs.Keeping.{Agrees, IsConn, Judges, JudgesWithin, GrowsBy, GrowsByWithin, is_among, is_another};
 
 mod harmless;
 mod state;
@@ -19,8 +23,9 @@ mod verdicts;
 use crate::faults::{Faults, Memory};
 use crate::note::{ItemNote, Note};
 use crate::packet_note::{ConnackNote, PacketNote, PublishNote};
-use crate::role::Role;
+use crate::role::{Role, Tested};
 use crate::rule::Rule;
+use crate::watch::Watch;
 pub use harmless::is_harmless;
 use mq_trace::Place3;
 pub use state::ConnectionState;
@@ -28,7 +33,8 @@ use std::alloc::Global;
 use std::collections::BTreeSet;
 use verdicts::Verdict;
 
-/// What is kept of the latest connection, to judge C01 to C23 event by event.
+/// Watches C01 to C23, the statements on the past of a connection. It takes in each event of a log in which nothing is sent or
+/// received between two connections.
 #[derive(Drop)]
 pub struct Conn {
     role: Role,
@@ -38,25 +44,31 @@ pub struct Conn {
 }
 
 impl Conn {
-    /// What is kept before the first event, for a tested end of this role.
-    #[tactic(auto, unfolding(crate::specs::Keeping::is_alias_set))]
-    pub fn new(alloc: Global, role: Role) -> Self
-        ensures { (tested : TheTested) → role ≡ tested.role → Agrees result tested [] }
+    /// The watcher before the first event, for this tested end.
+    #[tactic(auto, unfolding(crate::specs::Burden::aliases_sent))]
+    pub fn new(alloc: Global, tested: Tested) -> Self
+        ensures { ⟦<Conn as Watch>⟧.agrees result tested (Some Void) [] }
     {
         Conn {
-            role,
+            role: tested.role,
             state: ConnectionState::new(),
             aliases: BTreeSet::new(alloc),
         }
     }
 
-    /// Judges an event by what is kept, and then takes it in.
+    /// Judges an event of any list by what is kept, and then takes it in. The Topic Aliases stay until the next OPEN, also where
+    /// something is sent after a CLOSE.
     ///
     /// # Errors
     ///
     /// `Memory` if there is no memory for a fault or a Topic Alias. Some of the event's faults may then have been added, but no
     /// others, and what is kept must not be used any more.
-    pub fn step(&mut self, place: Place3, note: &Note, faults: &mut Faults) -> Result<(), Memory>
+    pub(crate) fn take_in(
+        &mut self,
+        place: Place3,
+        note: &Note,
+        faults: &mut Faults,
+    ) -> Result<(), Memory>
         ensures agrees { OnOk result ((tested : TheTested) (past : List TheSeen) → Agrees self.old tested past → Agrees self.new tested (record { place = place; note = note.now } ∷ past)) }
         ensures grows { OnOk result ((tested : TheTested) (past : List TheSeen) → Agrees self.old tested past → place.position ≡ length past + 1 → GrowsBy (is_on_past tested) tested (record { place = place; note = note.now }) past faults.old faults.new) }
         ensures memory { OnErr result ((tested : TheTested) (past : List TheSeen) → Agrees self.old tested past → place.position ≡ length past + 1 → GrowsByWithin (is_on_past tested) tested (record { place = place; note = note.now }) past faults.old faults.new) }
@@ -66,9 +78,9 @@ impl Conn {
         Ok(())
     }
 
-    /// The bound on sizes by which `is_harmless` tells events that `step` needn't be called for.
+    /// The bound on sizes by which `is_harmless` tells events that need not be taken in.
     #[inline]
-    pub fn size_bound(&self) -> u64
+    pub(crate) fn size_bound(&self) -> u64
         ensures { result ≡ keeping.size_bound self.now.role self.now.state }
     {
         self.state.size_bound(self.role)
@@ -79,6 +91,7 @@ impl Conn {
         ensures role { OnOk result (self.new.role ≡ self.old.role) }
         ensures state { OnOk result (self.new.state ≡ keeping.connection_after self.old.role self.old.state note.now) }
         ensures aliases { OnOk result ((alias : ℕ) → contains nat_cmp self.new.aliases alias ≡ ((not (opens note.now) && contains nat_cmp self.old.aliases alias) || is_id alias (sets note.now))) }
+        ensures as_many { OnOk result (btree_set_len self.new.aliases ≡ cond (is_another (λ alias. not (opens note.now) && contains nat_cmp self.old.aliases alias) (sets note.now)) 1 0 + cond (opens note.now) 0 (btree_set_len self.old.aliases)) }
     {
         self.clear_aliases_if(note.is_open());
         self.set_alias(alias_set_by(note))?;
@@ -86,13 +99,24 @@ impl Conn {
         Ok(())
     }
 
-    /// Forgets all Topic Aliases at an OPEN.
-    fn clear_aliases_if(&mut self, begins: bool)
+    /// Forgets all Topic Aliases at a CLOSE: they end with their connection.
+    fn end_aliases(&mut self, note: &Note)
         ensures role { self.new.role ≡ self.old.role }
         ensures state { self.new.state ≡ self.old.state }
-        ensures aliases { (alias : ℕ) → contains nat_cmp self.new.aliases alias ≡ (not begins && contains nat_cmp self.old.aliases alias) }
+        ensures aliases { (alias : ℕ) → contains nat_cmp self.new.aliases alias ≡ (not (closes note.now) && contains nat_cmp self.old.aliases alias) }
+        ensures as_many { btree_set_len self.new.aliases ≡ cond (closes note.now) 0 (btree_set_len self.old.aliases) }
     {
-        if begins {
+        self.clear_aliases_if(note.is_close());
+    }
+
+    /// Forgets all Topic Aliases.
+    fn clear_aliases_if(&mut self, ends: bool)
+        ensures role { self.new.role ≡ self.old.role }
+        ensures state { self.new.state ≡ self.old.state }
+        ensures aliases { (alias : ℕ) → contains nat_cmp self.new.aliases alias ≡ (not ends && contains nat_cmp self.old.aliases alias) }
+        ensures as_many { btree_set_len self.new.aliases ≡ cond ends 0 (btree_set_len self.old.aliases) }
+    {
+        if ends {
             self.aliases.clear();
         }
     }
@@ -102,11 +126,33 @@ impl Conn {
         ensures role { OnOk result (self.new.role ≡ self.old.role) }
         ensures state { OnOk result (self.new.state ≡ self.old.state) }
         ensures aliases { OnOk result ((alias : ℕ) → contains nat_cmp self.new.aliases alias ≡ (contains nat_cmp self.old.aliases alias || is_id alias set)) }
+        ensures as_many { OnOk result (btree_set_len self.new.aliases ≡ cond (is_another (contains nat_cmp self.old.aliases) set) 1 0 + btree_set_len self.old.aliases) }
     {
         if let Some(alias) = set {
             self.aliases.insert(alias)?;
         }
         Ok(())
+    }
+}
+
+impl Watch for Conn {
+    ghost agrees = { IsConn };
+
+    ghost takes = { λ tested taken e past. IsOnConnection e past };
+
+    ghost adds = { λ tested e past k r. is_on_past tested r && turns tested e past k r };
+
+    ghost bound = { λ tested taken past. aliases_sent past };
+
+    fn step(&mut self, at: Place3, note: &Note, faults: &mut Faults) -> Result<(), Memory> {
+        self.judge(at, note, faults)?;
+        self.consume(note)?;
+        self.end_aliases(note);
+        Ok(())
+    }
+
+    fn weight(&self) -> usize {
+        self.aliases.len()
     }
 }
 

@@ -31,6 +31,7 @@ mod text;
 mod watch;
 mod worked;
 
+pub use conn::Conn;
 pub use fate::Fate;
 pub use fault::Fault;
 pub use faults::{FaultKey, Faults, Memory};

@@ -27,14 +27,14 @@ pub fn plain_connections(
     ensures ok { IsPlaced (reverse seen.now) → OnOk result (Grows (λ rule. is_on_bytes tested rule || is_on_past tested rule) tested (reverse seen.now) faults.old faults.new) }
     ensures memory { IsPlaced (reverse seen.now) → OnErr result (GrowsWithin (λ rule. is_on_bytes tested rule || is_on_past tested rule) tested (reverse seen.now) faults.old faults.new) }
 {
-    let mut conn = Conn::new(alloc, tested.role);
+    let mut conn = Conn::new(alloc, tested);
     let mut bound = conn.size_bound();
     for event in seen {
         if is_harmless(bound, &event.note) {
             continue;
         }
         judge_bytes(event, faults)?;
-        conn.step(event.place, &event.note, faults)?;
+        conn.take_in(event.place, &event.note, faults)?;
         bound = conn.size_bound();
     }
     Ok(())

@@ -52,13 +52,13 @@ pub fn plain_c(
     ensures ok { IsPlaced (reverse seen.now) → OnOk result (Grows (is_on_past tested) tested (reverse seen.now) faults.old faults.new) }
     ensures memory { IsPlaced (reverse seen.now) → OnErr result (GrowsWithin (is_on_past tested) tested (reverse seen.now) faults.old faults.new) }
 {
-    let mut conn = Conn::new(alloc, tested.role);
+    let mut conn = Conn::new(alloc, tested);
     let mut bound = conn.size_bound();
     for event in seen {
         if is_harmless(bound, &event.note) {
             continue;
         }
-        conn.step(event.place, &event.note, faults)?;
+        conn.take_in(event.place, &event.note, faults)?;
         bound = conn.size_bound();
     }
     Ok(())

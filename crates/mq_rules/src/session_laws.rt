@@ -7,7 +7,7 @@ ghost use Rattle.mq_rules.specs.declared.fate.Fate.{Fate};
 ghost use Rattle.mq_rules.specs.declared.note.Seen.{Seen};
 ghost use Rattle.mq_rules.specs.Notes.{is_open, decides, seen_in, tested_by};
 ghost use Rattle.mq_rules.specs.Moments.{Moment, newest, moments, some, since, latest, Among, IsPlaced};
-ghost use Rattle.mq_rules.specs.Connections.{begun, connection, fate, latest_fate, begins, has_session, session, fate_under, IsInSession, is_alive_after, IsAlive, IsInOrder};
+ghost use Rattle.mq_rules.specs.Connections.{begun, connection, fate, latest_fate, begins, has_session, session, fate_under, IsInSession, is_alive_after, IsAlive, IsInOrder, AreOnConnections};
 ghost use Rattle.mq_rules.specs.Under.{IsInTurn};
 ghost use Rattle.mq_rules.specs.Folds.{folded, ByPackets, where_in, kept_by, session_since, gained, since_by, some_by, latest_by};
 
@@ -57,11 +57,12 @@ pub fn alive_by_connections()
 {}
 
 /// In a log that isn't refused the place of each event has its position, the latest connection is decided before each session packet and each
-/// RELEASE, and each connection is decided before the next one begins.
+/// RELEASE, each connection is decided before the next one begins, and nothing is sent or received, no REST and no CLOSE comes, but on an open connection.
 pub fn unrefused_logs_are_in_order()
     ensures placed { (limit : ℕ) (bytes : List ℕ) → refused limit bytes ≡ None → IsPlaced (seen_in bytes) }
     ensures in_order { (limit : ℕ) (bytes : List ℕ) → refused limit bytes ≡ None → IsInOrder (tested_by bytes).role (seen_in bytes) }
     ensures in_turn { (limit : ℕ) (bytes : List ℕ) → refused limit bytes ≡ None → IsInTurn (tested_by bytes).role (seen_in bytes) }
+    ensures on_connections { (limit : ℕ) (bytes : List ℕ) → refused limit bytes ≡ None → AreOnConnections (seen_in bytes) }
 {}
 
 /// Which moments are in a session: those that are on an accepted connection, or are a RELEASE that belongs to an earlier accepted one, and after whose

@@ -1,4 +1,4 @@
-use Rattle.std.proofs.Common.{refl, sym, subst, take, ◌∙◌, ◌||◌, Bool}
+use Rattle.std.proofs.Common.{sym, subst, take, ◌∙◌, ◌||◌, Bool}
 use Rattle.std.specs.Prelude.{reverse}
 use Rattle.mq_rules.specs.declared.role.Tested.{Tested}
 use Rattle.mq_rules.specs.declared.rule.Rule.{Rule}
@@ -8,6 +8,7 @@ use Rattle.mq_rules.specs.Keeping.{Agrees}
 use Rattle.mq_rules.proofs.FaultKeyLaws.{on_err}
 use Rattle.mq_rules.proofs.GrowLaws.{grows-start, grows-then, second-within}
 use Rattle.mq_rules.proofs.PlainLaws.{newest-first, next-place, grows-next, within-next, within-beginning, bytes-none}
+use Rattle.mq_rules.proofs.WatchLaws.{agrees-start}
 use Rattle.mq_rules.proofs.HarmlessLaws.{harmless-agrees, harmless-grows, harmless-unbroken}
 use Rattle.mq_rules.proofs.one_pass.plain_connections.Goals as goal
 
@@ -16,7 +17,7 @@ either tested rule = is_on_bytes tested rule || is_on_past tested rule
 
 pub loop-event-init : goal.loop-event-init
 loop-event-init c = record {
-  agrees = c.new-conn.ensures c.args.tested refl;
+  agrees = agrees-start c.new-conn.result c.args.tested c.new-conn.ensures;
   bounded = c.size_bound-bound.ensures;
   grown = λ placed. grows-start (either c.args.tested) c.args.tested c.args.faults.now;
 }
@@ -29,15 +30,15 @@ loop-event-preserved c =
     let e = c.event-item.result in
     let past = reverse (take i seen) in
     record {
-      agrees = subst (Agrees c.step.new.self tested) (sym (newest-first seen i e c.loop-event-test.true c.event-item.is))
-          (c.in_ok-step.ensures.agrees tested past c.loop-event.invariant.agrees);
+      agrees = subst (Agrees c.take_in.new.self tested) (sym (newest-first seen i e c.loop-event-test.true c.event-item.is))
+          (c.in_ok-take_in.ensures.agrees tested past c.loop-event.invariant.agrees);
       bounded = c.size_bound-bound-in-loop-event.ensures;
       grown = λ placed.
           let here = next-place seen i e c.loop-event-test.true c.event-item.is placed in
-          grows-next (either tested) tested seen i e c.args.faults.now c.loop-event.faults c.step.new.faults c.loop-event-test.true c.event-item.is
+          grows-next (either tested) tested seen i e c.args.faults.now c.loop-event.faults c.take_in.new.faults c.loop-event-test.true c.event-item.is
           (c.loop-event.invariant.grown placed)
-          (grows-then (is_on_bytes tested) (is_on_past tested) tested e past c.loop-event.faults c.judge_bytes.new.faults c.step.new.faults
-          (c.in_ok-judge_bytes.ensures.ok tested past here) (c.in_ok-step.ensures.grows tested past c.loop-event.invariant.agrees here));
+          (grows-then (is_on_bytes tested) (is_on_past tested) tested e past c.loop-event.faults c.judge_bytes.new.faults c.take_in.new.faults
+          (c.in_ok-judge_bytes.ensures.ok tested past here) (c.in_ok-take_in.ensures.grows tested past c.loop-event.invariant.agrees here));
     }
 
 pub loop-event-preserved-then-is_harmless : goal.loop-event-preserved-then-is_harmless
@@ -68,17 +69,17 @@ returns-in_err-judge_bytes-clause-memory c = λ placed.
     (subst (GrowsWithin (either tested) tested (reverse c.args.seen.now) c.args.faults.now) (sym c.in_err-judge_bytes.ensures.unchanged)
     (within-beginning (either tested) tested c.args.seen.now c.loop-event.event-index c.args.faults.now c.loop-event.faults (c.loop-event.invariant.grown placed)))
 
-pub returns-in_err-step-clause-memory : goal.returns-in_err-step-clause-memory
-returns-in_err-step-clause-memory c = λ placed.
+pub returns-in_err-take_in-clause-memory : goal.returns-in_err-take_in-clause-memory
+returns-in_err-take_in-clause-memory c = λ placed.
     let tested = c.args.tested in
     let seen = c.args.seen.now in
     let i = c.loop-event.event-index in
     let e = c.event-item.result in
     let past = reverse (take i seen) in
     let here = next-place seen i e c.loop-event-test.true c.event-item.is placed in
-    on_err c.from_residual-in_err-step.result (GrowsWithin (either tested) tested (reverse seen) c.args.faults.now c.step.new.faults)
-    (within-next (either tested) tested seen i e c.args.faults.now c.loop-event.faults c.step.new.faults c.loop-event-test.true c.event-item.is
+    on_err c.from_residual-in_err-take_in.result (GrowsWithin (either tested) tested (reverse seen) c.args.faults.now c.take_in.new.faults)
+    (within-next (either tested) tested seen i e c.args.faults.now c.loop-event.faults c.take_in.new.faults c.loop-event-test.true c.event-item.is
     (c.loop-event.invariant.grown placed)
-    (second-within (is_on_bytes tested) (is_on_past tested) tested e past c.loop-event.faults c.judge_bytes.new.faults c.step.new.faults
+    (second-within (is_on_bytes tested) (is_on_past tested) tested e past c.loop-event.faults c.judge_bytes.new.faults c.take_in.new.faults
     (c.in_ok-judge_bytes.ensures.ok tested past here)
-    (c.in_err-step.ensures.memory tested past c.loop-event.invariant.agrees here)))
+    (c.in_err-take_in.ensures.memory tested past c.loop-event.invariant.agrees here)))

@@ -1,4 +1,4 @@
-use Rattle.std.proofs.Common.{refl, sym, subst, take, ◌∙◌}
+use Rattle.std.proofs.Common.{sym, subst, take, ◌∙◌}
 use Rattle.std.specs.Prelude.{reverse}
 use Rattle.mq_rules.specs.Statements.{is_on_past}
 use Rattle.mq_rules.specs.Faults.{GrowsWithin}
@@ -6,12 +6,13 @@ use Rattle.mq_rules.specs.Keeping.{Agrees}
 use Rattle.mq_rules.proofs.FaultKeyLaws.{on_err}
 use Rattle.mq_rules.proofs.GrowLaws.{grows-start}
 use Rattle.mq_rules.proofs.PlainLaws.{newest-first, next-place, grows-next, within-next}
+use Rattle.mq_rules.proofs.WatchLaws.{agrees-start}
 use Rattle.mq_rules.proofs.HarmlessLaws.{harmless-agrees, harmless-grows}
 use Rattle.mq_rules.proofs.plain.plain_c.Goals as goal
 
 pub loop-event-init : goal.loop-event-init
 loop-event-init c = record {
-  agrees = c.new-conn.ensures c.args.tested refl;
+  agrees = agrees-start c.new-conn.result c.args.tested c.new-conn.ensures;
   bounded = c.size_bound-bound.ensures;
   grown = λ placed. grows-start (is_on_past c.args.tested) c.args.tested c.args.faults.now;
 }
@@ -23,12 +24,12 @@ loop-event-preserved c =
     let e = c.event-item.result in
     let past = reverse (take i seen) in
     record {
-      agrees = subst (Agrees c.step.new.self c.args.tested) (sym (newest-first seen i e c.loop-event-test.true c.event-item.is))
-          (c.in_ok-step.ensures.agrees c.args.tested past c.loop-event.invariant.agrees);
+      agrees = subst (Agrees c.take_in.new.self c.args.tested) (sym (newest-first seen i e c.loop-event-test.true c.event-item.is))
+          (c.in_ok-take_in.ensures.agrees c.args.tested past c.loop-event.invariant.agrees);
       bounded = c.size_bound-bound-in-loop-event.ensures;
-      grown = λ placed. grows-next (is_on_past c.args.tested) c.args.tested seen i e c.args.faults.now c.loop-event.faults c.step.new.faults c.loop-event-test.true c.event-item.is
+      grown = λ placed. grows-next (is_on_past c.args.tested) c.args.tested seen i e c.args.faults.now c.loop-event.faults c.take_in.new.faults c.loop-event-test.true c.event-item.is
           (c.loop-event.invariant.grown placed)
-          (c.in_ok-step.ensures.grows c.args.tested past c.loop-event.invariant.agrees (next-place seen i e c.loop-event-test.true c.event-item.is placed));
+          (c.in_ok-take_in.ensures.grows c.args.tested past c.loop-event.invariant.agrees (next-place seen i e c.loop-event-test.true c.event-item.is placed));
     }
 
 pub loop-event-preserved-then-is_harmless : goal.loop-event-preserved-then-is_harmless
@@ -47,12 +48,12 @@ loop-event-preserved-then-is_harmless c =
           (harmless-grows c.loop-event.conn c.args.tested e past c.loop-event.faults c.loop-event.bound c.loop-event.invariant.bounded harmless c.loop-event.invariant.agrees (next-place seen i e c.loop-event-test.true c.event-item.is placed));
     }
 
-pub returns-in_err-step-clause-memory : goal.returns-in_err-step-clause-memory
-returns-in_err-step-clause-memory c = λ placed.
+pub returns-in_err-take_in-clause-memory : goal.returns-in_err-take_in-clause-memory
+returns-in_err-take_in-clause-memory c = λ placed.
     let seen = c.args.seen.now in
     let i = c.loop-event.event-index in
     let e = c.event-item.result in
-    on_err c.from_residual.result (GrowsWithin (is_on_past c.args.tested) c.args.tested (reverse seen) c.args.faults.now c.step.new.faults)
-    (within-next (is_on_past c.args.tested) c.args.tested seen i e c.args.faults.now c.loop-event.faults c.step.new.faults c.loop-event-test.true c.event-item.is
+    on_err c.from_residual.result (GrowsWithin (is_on_past c.args.tested) c.args.tested (reverse seen) c.args.faults.now c.take_in.new.faults)
+    (within-next (is_on_past c.args.tested) c.args.tested seen i e c.args.faults.now c.loop-event.faults c.take_in.new.faults c.loop-event-test.true c.event-item.is
     (c.loop-event.invariant.grown placed)
-    (c.in_err-step.ensures.memory c.args.tested (reverse (take i seen)) c.loop-event.invariant.agrees (next-place seen i e c.loop-event-test.true c.event-item.is placed)))
+    (c.in_err-take_in.ensures.memory c.args.tested (reverse (take i seen)) c.loop-event.invariant.agrees (next-place seen i e c.loop-event-test.true c.event-item.is placed)))

@@ -1,5 +1,6 @@
 use Rattle.mq_rules.proofs.OrderLaws.{orderly}
 use Rattle.mq_rules.proofs.TurnLaws.{turned}
+use Rattle.mq_rules.proofs.OpenLaws.{on_connections}
 use Rattle.mq_rules.proofs.session_laws.unrefused_logs_are_in_order.Goals as goal
 
 pub returns-clause-placed : goal.returns-clause-placed
@@ -10,3 +11,6 @@ returns-clause-in_order c = λ limit bytes unrefused. (orderly limit bytes unref
 
 pub returns-clause-in_turn : goal.returns-clause-in_turn
 returns-clause-in_turn c = turned
+
+pub returns-clause-on_connections : goal.returns-clause-on_connections
+returns-clause-on_connections c = on_connections

@@ -4,7 +4,7 @@ use Rattle.mq_rules.specs.Keeping.{is_found}
 use Rattle.mq_rules.proofs.FaultKeyLaws.{on_err}
 use Rattle.mq_rules.proofs.GrowLaws.{within-all}
 use Rattle.mq_rules.proofs.FindLaws.{agrees-next, step-grows, step-within, StepWithin}
-use Rattle.mq_rules.proofs.conn.Conn.step.Goals as goal
+use Rattle.mq_rules.proofs.conn.Conn.take_in.Goals as goal
 
 pub returns-clause-agrees : goal.returns-clause-agrees
 returns-clause-agrees c = λ tested past here.

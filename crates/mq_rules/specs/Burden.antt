@@ -1,0 +1,15 @@
+-- How much a log gives its watchers to keep.
+use Rattle.std.specs.Prelude.{ℕ, Bool, not, cond, List}
+use Rattle.mq_rules.specs.declared.note.Seen.{Seen}
+use Rattle.mq_rules.specs.Words.{is_some_and, is_id}
+use Rattle.mq_rules.specs.Moments.{Moment, note, count}
+use Rattle.mq_rules.specs.Connections.{is_connected, connection}
+use Rattle.mq_rules.specs.Pasts.{came_before, set_alias}
+
+-- A PUBLISH is sent that sets a Topic Alias, and none before it on its connection set that one (MQTT 5.0, section 3.3.2.3.4).
+abbrev pub sets_another : Moment → Bool
+sets_another m = is_some_and (λ alias. not (came_before (λ n. is_id alias (set_alias n)) m)) (set_alias (note m))
+
+-- how many Topic Aliases the tested end has set on the connection that is open; none if none is open
+unfoldable pub aliases_sent : List Seen → ℕ
+aliases_sent log = cond (is_connected log) (count sets_another (connection log)) 0
