@@ -18,6 +18,7 @@ use Rattle.mq_rules.specs.declared.note.Note.TheVariants as notes
 use Rattle.mq_rules.specs.declared.note.ItemNote.TheVariants as items
 use Rattle.mq_rules.specs.declared.note.Seen.{Seen}
 use Rattle.mq_rules.specs.declared.packet_note.ConnackNote.{ConnackNote}
+use Rattle.mq_rules.specs.declared.packet_note.DisconnectNote.{DisconnectNote}
 use Rattle.mq_rules.specs.declared.packet_note.PacketNote.{PacketNote}
 use Rattle.mq_rules.specs.declared.packet_note.PacketFields.{PacketFields}
 use Rattle.mq_rules.specs.declared.packet_note.PacketFields.TheVariants.{Publish, Puback, Pubrec, Pubrel, Pubcomp}
@@ -172,7 +173,7 @@ sent-found role s aliases p place faults t =
     (judges-unbroken (packet_verdicts role s (Some p)) place faults (any-packet role s p first.0 (was-false (p.has_reason_string || p.has_user_property) second.0) second.1))
     (judges-publish role s aliases p.fields place faults second.1)
     (subst (λ (o : Option ConnackNote). Judges (is_among (connack_verdicts role s o)) place faults faults) (sym (no-connack p.fields u)) (no_connack role s place faults))
-    (subst (λ (o : Option (Option ℕ)). Judges (is_among (disconnect_verdicts role s o)) place faults faults) (sym (no-disconnect p.fields u)) (no_disconnect role s place faults))
+    (subst (λ (o : Option DisconnectNote). Judges (is_among (disconnect_verdicts role s o)) place faults faults) (sym (no-disconnect p.fields u)) (no_disconnect role s place faults))
     (rests-not role s place faults)
 
 received-found : (role : Role) (s : ConnectionState) (aliases : ℕ → Bool) (p : PacketNote) (place : Place3) (faults : FaultMap) → Judges (is_found role s aliases (notes.Recv (items.Packet p))) place faults faults

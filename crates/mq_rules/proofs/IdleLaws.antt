@@ -1,5 +1,5 @@
 -- An event that leaves what is kept of a connection as it is.
-use Rattle.std.proofs.Common.{◌≡◌, ℕ, Bool, true, false, cond, ◌&&◌, ◌||◌, Option, Some, None, is_some, refl, ap, sym, ◌∙◌}
+use Rattle.std.proofs.Common.{◌≡◌, Bool, true, false, cond, ◌&&◌, ◌||◌, Option, Some, None, is_some, refl, ap, sym, ◌∙◌}
 use Rattle.std.specs.Prelude.{option_map}
 use Rattle.std.specs.Option.{option_or}
 use Rattle.mq_packet.specs.Canonical.{type_number}
@@ -11,6 +11,7 @@ use Rattle.mq_rules.specs.declared.note.Note.{Note}
 use Rattle.mq_rules.specs.declared.note.Note.TheVariants as notes
 use Rattle.mq_rules.specs.declared.note.ItemNote.TheVariants as items
 use Rattle.mq_rules.specs.declared.packet_note.ConnackNote.{ConnackNote}
+use Rattle.mq_rules.specs.declared.packet_note.DisconnectNote.{DisconnectNote}
 use Rattle.mq_rules.specs.declared.packet_note.PacketFields.{PacketFields}
 use Rattle.mq_rules.specs.declared.packet_note.PacketFields.TheVariants.{Connect, Connack, Disconnect}
 use Rattle.mq_rules.specs.declared.conn.state.ConnectionState.{ConnectionState}
@@ -31,7 +32,7 @@ no-connack (Connack c) t = absurd (cc)
 no-connack _ t = refl
 
 pub no-disconnect : (f : PacketFields) → is_ordinary_in f ≡ true → disconnect_in f ≡ None
-no-disconnect (Disconnect session_expiry) t = absurd (cc)
+no-disconnect (Disconnect d) t = absurd (cc)
 no-disconnect _ t = refl
 
 pub not-connect : (f : PacketFields) → is_ordinary_in f ≡ true → is_id (type_number types.Connect) (Some (type_number (fields_type f))) ≡ false
@@ -75,7 +76,7 @@ settled role s n sent open_not close_not connect connack disconnect s_connect s_
       has_sent_connect = stays s.has_sent_connect (sends_type types.Connect n) s_connect i;
       has_sent_connack = stays s.has_sent_connack (sends_type types.Connack n) s_connack i;
       has_received_connect = stays s.has_received_connect (receives_type types.Connect n) r_connect i;
-      has_sent_disconnect = stays s.has_sent_disconnect (is_sent_disconnect n) (ap (λ (o : Option (Option ℕ)). is_some o) s_disconnect) i;
+      has_sent_disconnect = stays s.has_sent_disconnect (is_sent_disconnect n) (ap (λ (o : Option DisconnectNote). is_some o) s_disconnect) i;
       has_sent_refusal = stays s.has_sent_refusal (is_sent_refusal n) (ap (λ (o : Option ConnackNote). is_some_and (λ c. refuses c.code) o) refusal) i;
     }))
 

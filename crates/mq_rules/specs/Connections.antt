@@ -131,7 +131,7 @@ first_connack role ms = earliest (connack_of role) ms
 -- The Session Expiry Interval of a connection: that of the client's first DISCONNECT, else that of the CONNACK, else that of the CONNECT, else 0
 -- (MQTT 5.0, sections 3.1.2.11.2, 3.2.2.3.2 and 3.14.2.2.2).
 abbrev pub session_expiry : Role → List Moment → ℕ
-session_expiry role ms = unwrap_or (option_or (option_and_then (λ d. d) (earliest (client_disconnect role) ms))
+session_expiry role ms = unwrap_or (option_or (option_and_then (λ d. d.session_expiry) (earliest (client_disconnect role) ms))
     (option_or (option_and_then (λ a. a.session_expiry) (first_connack role ms)) (option_and_then (λ c. c.session_expiry) (first_connect role ms)))) 0
 
 -- The connection had a CONNECT and closed without a CONNACK, so that the server may have accepted it.

@@ -26,6 +26,7 @@ use Rattle.mq_rules.specs.declared.packet_note.PacketFields.{PacketFields}
 use Rattle.mq_rules.specs.declared.packet_note.PacketFields.TheVariants.{Connect, Connack, Publish, Puback, Pubrec, Pubrel, Pubcomp, Disconnect}
 use Rattle.mq_rules.specs.declared.packet_note.PublishNote.{PublishNote}
 use Rattle.mq_rules.specs.declared.packet_note.ConnackNote.{ConnackNote}
+use Rattle.mq_rules.specs.declared.packet_note.DisconnectNote.{DisconnectNote}
 use Rattle.mq_rules.specs.declared.conn.state.ConnectionState.{ConnectionState}
 use Rattle.mq_rules.specs.declared.conn.Conn.{Conn}
 use Rattle.mq_rules.specs.Words.{is_some_and, is_id, only}
@@ -65,7 +66,7 @@ is_alias_set past alias = some (λ m. is_id alias (set_alias (note m))) (connect
 
 -- the Session Expiry Interval of the connection, in seconds (MQTT 5.0, sections 3.1.2.11.2, 3.2.2.3.2 and 3.14.2.2.2)
 abbrev pub expiry : ConnectionState → ℕ
-expiry s = unwrap_or (option_or (option_and_then (λ d. d) s.disconnect)
+expiry s = unwrap_or (option_or (option_and_then (λ d. d.session_expiry) s.disconnect)
     (option_or (option_and_then (λ a. a.session_expiry) s.connack) (option_and_then (λ c. c.session_expiry) s.connect))) 0
 
 -- the session is alive after the connection (MQTT 5.0, section 4.1)
@@ -115,7 +116,7 @@ connection_after role s n = followed role (begun_if (is_open n) s) n
 abbrev pub is_ordinary_in : PacketFields → Bool
 is_ordinary_in (Connect c) = false
 is_ordinary_in (Connack c) = false
-is_ordinary_in (Disconnect session_expiry) = false
+is_ordinary_in (Disconnect d) = false
 is_ordinary_in _ = true
 
 abbrev pub is_ordinary : Note → Bool
@@ -213,11 +214,11 @@ abbrev pub finds_C22 : ConnectionState → Option ConnackNote → Bool
 finds_C22 s connack = is_some_and (λ c. c.has_response_information) connack && is_some_and (λ c. not (is_id 1 c.request_response_information)) s.connect
 
 -- of a DISCONNECT that is sent
-abbrev pub finds_C19 : Option (Option ℕ) → Bool
-finds_C19 disconnect = is_some_and is_some disconnect
+abbrev pub finds_C19 : Option DisconnectNote → Bool
+finds_C19 disconnect = is_some_and (λ d. is_some d.session_expiry) disconnect
 
-abbrev pub finds_C20 : ConnectionState → Option (Option ℕ) → Bool
-finds_C20 s disconnect = is_some_and (λ d. is_some_and (λ seconds. not (seconds == 0)) d) disconnect && is_some_and (λ c. unwrap_or c.session_expiry 0 == 0) s.connect
+abbrev pub finds_C20 : ConnectionState → Option DisconnectNote → Bool
+finds_C20 s disconnect = is_some_and (λ d. is_some_and (λ seconds. not (seconds == 0)) d.session_expiry) disconnect && is_some_and (λ c. unwrap_or c.session_expiry 0 == 0) s.connect
 
 -- of a REST
 abbrev pub has_left : Role → ConnectionState → Bool
@@ -249,7 +250,7 @@ abbrev pub connack_verdicts : Role → ConnectionState → Option ConnackNote �
 connack_verdicts Client s connack = []
 connack_verdicts Server s connack = (C07, finds_C07 s connack) ∷ (C08, finds_C08 s connack) ∷ (C09, finds_C09 connack) ∷ (C10, finds_C10 s connack) ∷ (C22, finds_C22 s connack) ∷ []
 
-abbrev pub disconnect_verdicts : Role → ConnectionState → Option (Option ℕ) → List (Rule × Bool)
+abbrev pub disconnect_verdicts : Role → ConnectionState → Option DisconnectNote → List (Rule × Bool)
 disconnect_verdicts Client s disconnect = (C20, finds_C20 s disconnect) ∷ []
 disconnect_verdicts Server s disconnect = (C19, finds_C19 disconnect) ∷ []
 

@@ -37,6 +37,7 @@ use Rattle.mq_rules.specs.declared.packet_note.PacketFields.TheVariants.{Connect
 use Rattle.mq_rules.specs.declared.packet_note.ConnectNote.{ConnectNote}
 use Rattle.mq_rules.specs.declared.packet_note.ConnackNote.{ConnackNote}
 use Rattle.mq_rules.specs.declared.packet_note.PublishNote.{PublishNote}
+use Rattle.mq_rules.specs.declared.packet_note.DisconnectNote.{DisconnectNote}
 use Rattle.mq_rules.specs.declared.text.NotedFilter.{NotedFilter}
 use Rattle.mq_rules.specs.Words.{only, is_some_and, is_id}
 
@@ -98,6 +99,10 @@ publish_note direction p = record {
   has_subscription_identifier = is_some (first_varint 11 p.properties.items);
 }
 
+-- of a DISCONNECT (MQTT 5.0, section 3.14)
+abbrev pub disconnect_note : List Property → DisconnectNote
+disconnect_note properties = record { session_expiry = first_four_bytes 17 properties }
+
 -- of PUBACK, PUBREC, PUBREL and PUBCOMP (MQTT 5.0, sections 3.4 to 3.7)
 abbrev pub acknowledgement_fields : AcknowledgementKind → ℕ → ℕ → PacketFields
 acknowledgement_fields acknowledgements.Puback identifier code = Puback identifier code
@@ -129,7 +134,7 @@ packet_fields direction (request kind identifier properties filters) = request_f
 packet_fields direction (answer kind identifier properties codes) = answer_fields direction kind identifier codes
 packet_fields direction pingreq = Pingreq
 packet_fields direction pingresp = Pingresp
-packet_fields direction (disconnect code properties) = Disconnect (first_four_bytes 17 properties.items)
+packet_fields direction (disconnect code properties) = Disconnect (disconnect_note properties.items)
 packet_fields direction (auth code properties) = Auth
 
 -- a packet's own property list, if it has one (MQTT 5.0, section 2.2.2)
@@ -259,7 +264,7 @@ fields_type (Unsubscribe identifier filters) = types.Unsubscribe
 fields_type (Unsuback identifier codes) = types.Unsuback
 fields_type Pingreq = types.Pingreq
 fields_type Pingresp = types.Pingresp
-fields_type (Disconnect session_expiry) = types.Disconnect
+fields_type (Disconnect d) = types.Disconnect
 fields_type Auth = types.Auth
 
 -- The number of an item's type, which is the high four bits of its first byte: bytes that break a rule have one too.
@@ -297,9 +302,8 @@ abbrev pub publish_in : PacketFields → Option PublishNote
 publish_in (Publish p) = Some p
 publish_in _ = None
 
--- the Session Expiry Interval of a DISCONNECT, which may have none
-abbrev pub disconnect_in : PacketFields → Option (Option ℕ)
-disconnect_in (Disconnect session_expiry) = Some session_expiry
+abbrev pub disconnect_in : PacketFields → Option DisconnectNote
+disconnect_in (Disconnect d) = Some d
 disconnect_in _ = None
 
 abbrev pub sent_publish : Note → Option PublishNote
@@ -308,7 +312,7 @@ sent_publish note = option_and_then publish_in (sent_fields note)
 abbrev pub received_publish : Note → Option PublishNote
 received_publish note = option_and_then publish_in (received_fields note)
 
-abbrev pub sent_disconnect : Note → Option (Option ℕ)
+abbrev pub sent_disconnect : Note → Option DisconnectNote
 sent_disconnect note = option_and_then disconnect_in (sent_fields note)
 
 abbrev pub sent_connack : Note → Option ConnackNote
@@ -321,7 +325,7 @@ connect_of role note = option_and_then connect_in (from_client role note)
 abbrev pub connack_of : Role → Note → Option ConnackNote
 connack_of role note = option_and_then connack_in (from_server role note)
 
-abbrev pub client_disconnect : Role → Note → Option (Option ℕ)
+abbrev pub client_disconnect : Role → Note → Option DisconnectNote
 client_disconnect role note = option_and_then disconnect_in (from_client role note)
 
 -- a packet that may have a Reason String or User Properties whatever the client asked for (MQTT 5.0, section 3.1.2.11.7)
@@ -553,7 +557,7 @@ keeps_text (Unsubscribe identifier filters) = false
 keeps_text (Unsuback identifier codes) = false
 keeps_text Pingreq = false
 keeps_text Pingresp = false
-keeps_text (Disconnect session_expiry) = false
+keeps_text (Disconnect d) = false
 keeps_text Auth = false
 
 abbrev pub item_keeps_text : ItemNote → Bool

@@ -158,11 +158,11 @@ breaks_C18 k = is_some_and (λ p. p.has_subscription_identifier) (sent_publish (
 
 -- C19: a server sends a DISCONNECT with a Session Expiry Interval.
 unfoldable pub breaks_C19 : Moment → Bool
-breaks_C19 k = is_some_and is_some (sent_disconnect (note k))
+breaks_C19 k = is_some_and (λ d. is_some d.session_expiry) (sent_disconnect (note k))
 
 -- C20: a client sends a DISCONNECT with a Session Expiry Interval other than 0, and that of the CONNECT was 0 or absent.
 unfoldable pub breaks_C20 : Moment → Bool
-breaks_C20 k = is_some_and (λ d. is_some_and (λ seconds. not (seconds == 0)) d) (sent_disconnect (note k))
+breaks_C20 k = is_some_and (λ d. is_some_and (λ seconds. not (seconds == 0)) d.session_expiry) (sent_disconnect (note k))
     && is_some_and (λ c. unwrap_or c.session_expiry 0 == 0) (connect_before Client k)
 
 -- C21: another packet than PUBLISH, CONNACK and DISCONNECT is sent with a Reason String or a User Property, and Request Problem Information was 0.

@@ -11,7 +11,7 @@ use Rattle.mq_rules.specs.declared.note.ItemNote.TheVariants as items
 use Rattle.mq_rules.specs.declared.note.Seen.{Seen}
 use Rattle.mq_rules.specs.declared.packet_note.PacketNote.{PacketNote}
 use Rattle.mq_rules.specs.declared.packet_note.PacketFields.{PacketFields}
-use Rattle.mq_rules.specs.declared.packet_note.PacketFields.TheVariants.{Connect, Connack, Publish, Subscribe}
+use Rattle.mq_rules.specs.declared.packet_note.PacketFields.TheVariants.{Connect, Connack, Publish, Subscribe, Disconnect}
 use Rattle.mq_rules.specs.declared.packet_note.ConnectNote.{ConnectNote}
 use Rattle.mq_rules.specs.Statements.{fails}
 
@@ -127,6 +127,10 @@ assigning = Connack (record { session_present = false; code = 0; session_expiry 
 
 abbrev pub informing : PacketFields
 informing = Connack (record { session_present = false; code = 0; session_expiry = None; receive_maximum = None; topic_alias_maximum = None; maximum_qos = None; maximum_packet_size = None; has_assigned_identifier = false; has_response_information = true })
+
+-- a DISCONNECT with this Session Expiry Interval
+abbrev pub leaving : Option ℕ → PacketFields
+leaving expiry = Disconnect (record { session_expiry = expiry })
 
 -- a PUBLISH of QoS 0, 1 and 2 on the topic `a`; with DUP or not
 abbrev pub at_most_once : PacketFields

@@ -22,7 +22,7 @@ mod verdicts;
 
 use crate::faults::{Faults, Memory};
 use crate::note::{ItemNote, Note};
-use crate::packet_note::{ConnackNote, PacketNote, PublishNote};
+use crate::packet_note::{ConnackNote, DisconnectNote, PacketNote, PublishNote};
 use crate::role::{Role, Tested};
 use crate::rule::Rule;
 use crate::watch::Watch;
@@ -31,7 +31,7 @@ use mq_trace::Place3;
 pub use state::ConnectionState;
 use std::alloc::Global;
 use std::collections::BTreeSet;
-use verdicts::Verdict;
+use verdicts::{Verdict, breaks_c19};
 
 /// Watches C01 to C23, the statements on the past of a connection. It takes in each event of a log in which nothing is sent or
 /// received between two connections.
@@ -306,25 +306,26 @@ impl Conn {
         }
     }
 
-    /// Judges a DISCONNECT that is sent, with its Session Expiry Interval.
+    /// Judges a DISCONNECT that is sent.
     #[inline]
     fn judge_disconnect(
         &self,
         place: Place3,
-        disconnect: Option<Option<u32>>,
+        disconnect: Option<DisconnectNote>,
         faults: &mut Faults,
     ) -> Result<(), Memory>
         ensures ok { OnOk result (Judges (is_among (keeping.disconnect_verdicts self.now.role self.now.state disconnect)) place faults.old faults.new) }
         ensures memory { OnErr result (JudgesWithin (is_among (keeping.disconnect_verdicts self.now.role self.now.state disconnect)) place faults.old faults.new) }
     {
-        let Some(expiry) = disconnect else {
+        let Some(disconnect) = disconnect else {
             return Ok(());
         };
         match self.role {
             Role::Client => {
-                judge_each(place, &[(Rule::C20, self.state.breaks_c20(expiry))], faults)
+                let broken = self.state.breaks_c20(disconnect);
+                judge_each(place, &[(Rule::C20, broken)], faults)
             }
-            Role::Server => judge_each(place, &[(Rule::C19, expiry.is_some())], faults),
+            Role::Server => judge_each(place, &[(Rule::C19, breaks_c19(disconnect))], faults),
         }
     }
 

@@ -12,13 +12,15 @@ ghost use Rattle.mq_trace.specs.Events.{packet, packet as packet_item};
 ghost use Rattle.mq_trace.specs.Flows.{item_event};
 ghost use Rattle.mq_trace.specs.Reception.{item_of, event_of};
 ghost use Rattle.mq_rules.specs.declared.packet_note.PacketFields.TheVariants as fields;
-ghost use Rattle.mq_rules.specs.Notes.{only_list, is_sent_direction, connect_note, connack_note, publish_note, packet_fields, properties_of, packet_note, item_note, note_of, request_fields, answer_fields, keeps_text, item_keeps_text, note_keeps_text};
+ghost use Rattle.mq_rules.specs.Notes.{only_list, is_sent_direction, connect_note, connack_note, publish_note, disconnect_note, packet_fields, properties_of, packet_note, item_note, note_of, request_fields, answer_fields, keeps_text, item_keeps_text, note_keeps_text};
 
 use crate::faults::Memory;
 use crate::note::{ItemNote, Note};
-use crate::packet_note::{ConnackNote, ConnectNote, PacketFields, PacketNote, PublishNote};
+use crate::packet_note::{
+    ConnackNote, ConnectNote, DisconnectNote, PacketFields, PacketNote, PublishNote,
+};
 use crate::text::{CodeList, FilterList, Text};
-use mq_packet::{Answer, Codes, Connack, Connect, Filters, Packet, Publish, Request};
+use mq_packet::{Answer, Codes, Connack, Connect, Filters, Packet, Publish, ReasonPacket, Request};
 use mq_props::Props;
 use mq_trace::{Direction, Event, Item};
 use std::alloc::Global;
@@ -141,6 +143,17 @@ impl ConnackNote {
             maximum_packet_size: properties.get_maximum_packet_size(),
             has_assigned_identifier: is_text(properties.get_assigned_client_identifier()),
             has_response_information: is_text(properties.get_response_information()),
+        }
+    }
+}
+
+impl DisconnectNote {
+    /// What the statements look at in this DISCONNECT.
+    pub fn of(disconnect: &ReasonPacket<'_>) -> DisconnectNote
+        ensures { result ≡ disconnect_note disconnect.now.properties.items }
+    {
+        DisconnectNote {
+            session_expiry: disconnect.properties.get_session_expiry_interval(),
         }
     }
 }
@@ -317,9 +330,9 @@ impl PacketFields {
             ),
             Packet::Unsubscribe(request) => Ok(unsubscribe_fields(request)),
             Packet::Unsuback(answer) => Ok(unsuback_fields(answer)),
-            Packet::Disconnect(disconnect) => Ok(PacketFields::Disconnect {
-                session_expiry: disconnect.properties.get_session_expiry_interval(),
-            }),
+            Packet::Disconnect(disconnect) => {
+                Ok(PacketFields::Disconnect(DisconnectNote::of(disconnect)))
+            }
             Packet::Auth(_) => Ok(PacketFields::Auth),
         }
     }

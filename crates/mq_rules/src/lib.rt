@@ -44,7 +44,9 @@ pub use laws::{
 pub use naming::each_statement_is_named;
 pub use note::{ItemNote, Note, Seen};
 pub use one_pass::plain_connections;
-pub use packet_note::{ConnackNote, ConnectNote, PacketFields, PacketNote, PublishNote};
+pub use packet_note::{
+    ConnackNote, ConnectNote, DisconnectNote, PacketFields, PacketNote, PublishNote,
+};
 pub use plain::{plain_c, plain_w};
 pub use position_laws::{
     earliest_by_positions, earliest_since_by_positions, latest_by_positions, moments_by_positions,

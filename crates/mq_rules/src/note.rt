@@ -7,7 +7,9 @@ ghost use Rattle.mq_rules.specs.declared.role.Role.TheVariants as roles;
 ghost use Rattle.mq_rules.specs.Identifiers.{taken_by};
 
 use crate::fate::Fate;
-use crate::packet_note::{ConnackNote, ConnectNote, PacketFields, PacketNote, PublishNote};
+use crate::packet_note::{
+    ConnackNote, ConnectNote, DisconnectNote, PacketFields, PacketNote, PublishNote,
+};
 use crate::role::Role;
 use mq_packet::{BodyFault, PacketRule, PacketType};
 use mq_trace::Place3;
@@ -336,9 +338,9 @@ impl Note {
         }
     }
 
-    /// The Session Expiry Interval, if there is one, of the DISCONNECT that the tested end sent.
+    /// The DISCONNECT that the tested end sent.
     #[inline]
-    pub fn sent_disconnect(&self) -> Option<Option<u32>>
+    pub fn sent_disconnect(&self) -> Option<DisconnectNote>
         ensures { result ≡ notes.sent_disconnect self.now }
     {
         match self {
@@ -380,9 +382,9 @@ impl Note {
         }
     }
 
-    /// The Session Expiry Interval, if there is one, of a DISCONNECT from the client; the tested end has this role.
+    /// The DISCONNECT, if it is from the client; the tested end has this role.
     #[inline]
-    pub fn client_disconnect(&self, role: Role) -> Option<Option<u32>>
+    pub fn client_disconnect(&self, role: Role) -> Option<DisconnectNote>
         ensures { result ≡ notes.client_disconnect role self.now }
     {
         match self.from_client(role) {

@@ -73,9 +73,7 @@ fn copy_fields(alloc: Global, fields: &PacketFields) -> Result<PacketFields, Mem
         },
         PacketFields::Pingreq => PacketFields::Pingreq,
         PacketFields::Pingresp => PacketFields::Pingresp,
-        PacketFields::Disconnect { session_expiry } => PacketFields::Disconnect {
-            session_expiry: *session_expiry,
-        },
+        PacketFields::Disconnect(note) => PacketFields::Disconnect(*note),
         PacketFields::Auth => PacketFields::Auth,
     })
 }

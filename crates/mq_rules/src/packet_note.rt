@@ -81,6 +81,13 @@ pub struct PublishNote {
     pub has_subscription_identifier: bool,
 }
 
+/// What the statements look at in a DISCONNECT (MQTT 5.0, section 3.14).
+#[derive(Clone, Copy, Debug, PartialEq, Eq)]
+pub struct DisconnectNote {
+    /// The Session Expiry Interval, in seconds.
+    pub session_expiry: Option<u32>,
+}
+
 /// What the statements look at in a packet, by its type (MQTT 5.0, section 2.1.2).
 #[derive(Debug, Drop)]
 pub enum PacketFields {
@@ -153,10 +160,7 @@ pub enum PacketFields {
     /// PINGRESP.
     Pingresp,
     /// DISCONNECT.
-    Disconnect {
-        /// The Session Expiry Interval, in seconds.
-        session_expiry: Option<u32>,
-    },
+    Disconnect(DisconnectNote),
     /// AUTH.
     Auth,
 }
@@ -286,7 +290,7 @@ impl PacketFields {
             PacketFields::Unsuback { .. } => PacketType::Unsuback,
             PacketFields::Pingreq => PacketType::Pingreq,
             PacketFields::Pingresp => PacketType::Pingresp,
-            PacketFields::Disconnect { .. } => PacketType::Disconnect,
+            PacketFields::Disconnect(_) => PacketType::Disconnect,
             PacketFields::Auth => PacketType::Auth,
         }
     }
@@ -324,13 +328,13 @@ impl PacketFields {
         }
     }
 
-    /// If it is a DISCONNECT, its Session Expiry Interval, in seconds, if it has one (MQTT 5.0, section 3.14.2.2.2).
+    /// What is noted of a DISCONNECT.
     #[inline]
-    pub fn disconnect(&self) -> Option<Option<u32>>
+    pub fn disconnect(&self) -> Option<DisconnectNote>
         ensures { result ≡ disconnect_in self.now }
     {
         match self {
-            PacketFields::Disconnect { session_expiry } => Some(*session_expiry),
+            PacketFields::Disconnect(note) => Some(*note),
             _ => None,
         }
     }
@@ -522,7 +526,7 @@ impl PacketFields {
                 | PacketFields::Connack(_)
                 | PacketFields::Pingreq
                 | PacketFields::Pingresp
-                | PacketFields::Disconnect { .. }
+                | PacketFields::Disconnect(_)
                 | PacketFields::Auth
         )
     }
@@ -535,7 +539,7 @@ impl PacketFields {
     {
         matches!(
             self,
-            PacketFields::Publish(_) | PacketFields::Connack(_) | PacketFields::Disconnect { .. }
+            PacketFields::Publish(_) | PacketFields::Connack(_) | PacketFields::Disconnect(_)
         )
     }
 }

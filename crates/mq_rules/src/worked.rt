@@ -4,8 +4,8 @@ ghost use Rattle.std.specs.Prelude.{◌≡◌, ◌∷◌, [], true, false, Some,
 ghost use Rattle.mq_packet.specs.declared.rule.PacketRule.TheVariants as packets;
 ghost use Rattle.mq_rules.specs.declared.rule.Rule.TheVariants.{W01, W02, W03, W04, W05, W06, W07, W08, W09, W10, W11, W12, W13, W14, W15, W16, W17, W18, W19, W20, W21, C01, C02, C03, C04, C05, C06, C07, C08, C09, C10, C11, C12, C13, C14, C15, C16, C17, C18, C19, C20, C21, C22, C23, S01, S02, S03, S04, S05, S06, S07, E1A, E1R, E1O, E2A, E2R, E2O, E3A, E3R, E3O, E4A, E4R, E5A, E5R, E6A, E6R, E7R, L1, L2, L3, B01, B02, B03, B04};
 ghost use Rattle.mq_rules.specs.declared.note.Note.TheVariants.{Open, Close, Rest, Release};
-ghost use Rattle.mq_rules.specs.declared.packet_note.PacketFields.TheVariants.{Puback, Pubrec, Pubrel, Pubcomp, Suback, Unsubscribe, Unsuback, Pingreq, Pingresp, Disconnect, Auth};
-ghost use Rattle.mq_rules.specs.Worked.{client, client_unrecorded, server, failing, sends, gets, sends_sized, sends_explained, sends_bad, gets_bad, sends_lost, gets_lost, lasting, again, fleeting, unnamed, asking, connack_with, accepting, resuming, refusing, limiting, assigning, informing, at_most_once, once, exactly, expiring, aliased, subscribed, asks_a, asks_b};
+ghost use Rattle.mq_rules.specs.declared.packet_note.PacketFields.TheVariants.{Puback, Pubrec, Pubrel, Pubcomp, Suback, Unsubscribe, Unsuback, Pingreq, Pingresp, Auth};
+ghost use Rattle.mq_rules.specs.Worked.{client, client_unrecorded, server, failing, sends, gets, sends_sized, sends_explained, sends_bad, gets_bad, sends_lost, gets_lost, lasting, again, fleeting, unnamed, asking, connack_with, accepting, resuming, refusing, limiting, assigning, informing, leaving, at_most_once, once, exactly, expiring, aliased, subscribed, asks_a, asks_b};
 
 /// Bytes of a client that break a rule, and those that it receives (W01 to W21).
 pub fn bytes_of_a_client()
@@ -95,7 +95,7 @@ pub fn resumptions()
     ensures alive_keeps { failing server C08 (Open ∷ gets lasting ∷ sends accepting ∷ Close ∷ Open ∷ gets again ∷ sends resuming ∷ []) ≡ [] }
     ensures alive_keeps_unanswered { failing server C08 (Open ∷ gets lasting ∷ Close ∷ Open ∷ gets again ∷ sends resuming ∷ []) ≡ [] }
     ensures alive_breaks_refused { failing server C08 (Open ∷ gets lasting ∷ sends refusing ∷ Close ∷ Open ∷ gets again ∷ sends resuming ∷ []) ≡ 7 ∷ [] }
-    ensures alive_breaks_disconnected { failing server C08 (Open ∷ gets lasting ∷ sends accepting ∷ gets (Disconnect (Some 0)) ∷ Close ∷ Open ∷ gets again ∷ sends resuming ∷ []) ≡ 8 ∷ [] }
+    ensures alive_breaks_disconnected { failing server C08 (Open ∷ gets lasting ∷ sends accepting ∷ gets (leaving (Some 0)) ∷ Close ∷ Open ∷ gets again ∷ sends resuming ∷ []) ≡ 8 ∷ [] }
     ensures refusal_breaks { failing server C09 (Open ∷ gets again ∷ sends (connack_with true 135) ∷ []) ≡ 3 ∷ [] }
     ensures refusal_keeps { failing server C09 (Open ∷ gets again ∷ sends refusing ∷ []) ≡ [] }
 {}
@@ -106,30 +106,30 @@ pub fn answers_to_connect()
     ensures unnamed_keeps { failing server C10 (Open ∷ gets unnamed ∷ sends assigning ∷ []) ≡ [] }
     ensures explained_breaks { failing server C21 (Open ∷ gets (asking (Some 0) None None None None) ∷ sends accepting ∷ sends_explained Auth ∷ []) ≡ 4 ∷ [] }
     ensures explained_keeps { failing server C21 (Open ∷ gets (asking (Some 1) None None None None) ∷ sends accepting ∷ sends_explained Auth ∷ []) ≡ [] }
-    ensures explained_keeps_disconnect { failing server C21 (Open ∷ gets (asking (Some 0) None None None None) ∷ sends_explained accepting ∷ sends_explained (Disconnect None) ∷ []) ≡ [] }
+    ensures explained_keeps_disconnect { failing server C21 (Open ∷ gets (asking (Some 0) None None None None) ∷ sends_explained accepting ∷ sends_explained (leaving None) ∷ []) ≡ [] }
     ensures informed_breaks { failing server C22 (Open ∷ gets lasting ∷ sends informing ∷ []) ≡ 3 ∷ [] }
     ensures informed_keeps { failing server C22 (Open ∷ gets (asking None (Some 1) None None None) ∷ sends informing ∷ []) ≡ [] }
 {}
 
 /// What an end does after its last packet (C11, C12 and C23).
 pub fn ended_connections()
-    ensures client_breaks { failing client C11 (Open ∷ sends lasting ∷ gets accepting ∷ sends (Disconnect None) ∷ sends Pingreq ∷ []) ≡ 5 ∷ [] }
-    ensures client_keeps { failing client C11 (Open ∷ sends lasting ∷ gets accepting ∷ sends Pingreq ∷ sends (Disconnect None) ∷ []) ≡ [] }
-    ensures client_keeps_received { failing client C11 (Open ∷ sends lasting ∷ gets accepting ∷ gets (Disconnect None) ∷ sends Pingreq ∷ []) ≡ [] }
-    ensures server_breaks { failing server C11 (Open ∷ gets lasting ∷ sends accepting ∷ sends (Disconnect None) ∷ sends Pingresp ∷ []) ≡ 5 ∷ [] }
-    ensures server_keeps { failing server C11 (Open ∷ gets lasting ∷ sends accepting ∷ sends Pingresp ∷ sends (Disconnect None) ∷ []) ≡ [] }
+    ensures client_breaks { failing client C11 (Open ∷ sends lasting ∷ gets accepting ∷ sends (leaving None) ∷ sends Pingreq ∷ []) ≡ 5 ∷ [] }
+    ensures client_keeps { failing client C11 (Open ∷ sends lasting ∷ gets accepting ∷ sends Pingreq ∷ sends (leaving None) ∷ []) ≡ [] }
+    ensures client_keeps_received { failing client C11 (Open ∷ sends lasting ∷ gets accepting ∷ gets (leaving None) ∷ sends Pingreq ∷ []) ≡ [] }
+    ensures server_breaks { failing server C11 (Open ∷ gets lasting ∷ sends accepting ∷ sends (leaving None) ∷ sends Pingresp ∷ []) ≡ 5 ∷ [] }
+    ensures server_keeps { failing server C11 (Open ∷ gets lasting ∷ sends accepting ∷ sends Pingresp ∷ sends (leaving None) ∷ []) ≡ [] }
     ensures refused_breaks { failing server C12 (Open ∷ gets lasting ∷ sends refusing ∷ sends Pingresp ∷ []) ≡ 4 ∷ [] }
     ensures refused_keeps { failing server C12 (Open ∷ gets lasting ∷ sends accepting ∷ sends Pingresp ∷ []) ≡ [] }
-    ensures client_rests { failing client C23 (Open ∷ sends lasting ∷ gets accepting ∷ sends (Disconnect None) ∷ Rest ∷ []) ≡ 5 ∷ [] }
-    ensures client_rests_before { failing client C23 (Open ∷ sends lasting ∷ gets accepting ∷ Rest ∷ sends (Disconnect None) ∷ []) ≡ [] }
+    ensures client_rests { failing client C23 (Open ∷ sends lasting ∷ gets accepting ∷ sends (leaving None) ∷ Rest ∷ []) ≡ 5 ∷ [] }
+    ensures client_rests_before { failing client C23 (Open ∷ sends lasting ∷ gets accepting ∷ Rest ∷ sends (leaving None) ∷ []) ≡ [] }
     ensures server_rests { failing server C23 (Open ∷ gets lasting ∷ sends refusing ∷ Rest ∷ []) ≡ 4 ∷ [] }
-    ensures server_rests_before { failing server C23 (Open ∷ gets lasting ∷ sends accepting ∷ Rest ∷ sends (Disconnect None) ∷ []) ≡ [] }
+    ensures server_rests_before { failing server C23 (Open ∷ gets lasting ∷ sends accepting ∷ Rest ∷ sends (leaving None) ∷ []) ≡ [] }
 {}
 
 /// A client continues a session that it doesn't have (C13).
 pub fn unknown_sessions()
     ensures breaks { failing client C13 (Open ∷ sends lasting ∷ gets resuming ∷ sends Pingreq ∷ []) ≡ 4 ∷ [] }
-    ensures keeps { failing client C13 (Open ∷ sends lasting ∷ gets resuming ∷ sends (Disconnect None) ∷ []) ≡ [] }
+    ensures keeps { failing client C13 (Open ∷ sends lasting ∷ gets resuming ∷ sends (leaving None) ∷ []) ≡ [] }
     ensures clean_breaks { failing client C13 (Open ∷ sends lasting ∷ gets accepting ∷ Close ∷ Open ∷ sends lasting ∷ gets resuming ∷ sends Pingreq ∷ []) ≡ 8 ∷ [] }
     ensures keeps_alive { failing client C13 (Open ∷ sends lasting ∷ gets accepting ∷ Close ∷ Open ∷ sends again ∷ gets resuming ∷ sends Pingreq ∷ []) ≡ [] }
     ensures ended_breaks { failing client C13 (Open ∷ sends fleeting ∷ gets accepting ∷ Close ∷ Open ∷ sends again ∷ gets resuming ∷ sends Pingreq ∷ []) ≡ 8 ∷ [] }
@@ -163,11 +163,11 @@ pub fn aliases()
 pub fn properties()
     ensures subscription_breaks { failing client C18 (Open ∷ sends lasting ∷ gets accepting ∷ sends subscribed ∷ []) ≡ 4 ∷ [] }
     ensures subscription_keeps { failing client C18 (Open ∷ sends lasting ∷ gets accepting ∷ sends at_most_once ∷ []) ≡ [] }
-    ensures server_expiry_breaks { failing server C19 (Open ∷ gets lasting ∷ sends accepting ∷ sends (Disconnect (Some 0)) ∷ []) ≡ 4 ∷ [] }
-    ensures server_expiry_keeps { failing server C19 (Open ∷ gets lasting ∷ sends accepting ∷ sends (Disconnect None) ∷ []) ≡ [] }
-    ensures client_expiry_breaks { failing client C20 (Open ∷ sends fleeting ∷ gets accepting ∷ sends (Disconnect (Some 60)) ∷ []) ≡ 4 ∷ [] }
-    ensures client_expiry_keeps { failing client C20 (Open ∷ sends lasting ∷ gets accepting ∷ sends (Disconnect (Some 60)) ∷ []) ≡ [] }
-    ensures client_expiry_keeps_ending { failing client C20 (Open ∷ sends fleeting ∷ gets accepting ∷ sends (Disconnect (Some 0)) ∷ []) ≡ [] }
+    ensures server_expiry_breaks { failing server C19 (Open ∷ gets lasting ∷ sends accepting ∷ sends (leaving (Some 0)) ∷ []) ≡ 4 ∷ [] }
+    ensures server_expiry_keeps { failing server C19 (Open ∷ gets lasting ∷ sends accepting ∷ sends (leaving None) ∷ []) ≡ [] }
+    ensures client_expiry_breaks { failing client C20 (Open ∷ sends fleeting ∷ gets accepting ∷ sends (leaving (Some 60)) ∷ []) ≡ 4 ∷ [] }
+    ensures client_expiry_keeps { failing client C20 (Open ∷ sends lasting ∷ gets accepting ∷ sends (leaving (Some 60)) ∷ []) ≡ [] }
+    ensures client_expiry_keeps_ending { failing client C20 (Open ∷ sends fleeting ∷ gets accepting ∷ sends (leaving (Some 0)) ∷ []) ≡ [] }
 {}
 
 /// An end takes a Packet Identifier that is in use (S01).

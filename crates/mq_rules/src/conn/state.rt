@@ -8,7 +8,7 @@ ghost use Rattle.mq_rules.specs.Pasts.{is_sent_refusal};
 
 use crate::fate::Fate;
 use crate::note::{ItemNote, Note};
-use crate::packet_note::{ConnackNote, ConnectNote, PacketFields};
+use crate::packet_note::{ConnackNote, ConnectNote, DisconnectNote, PacketFields};
 use crate::role::Role;
 use mq_packet::PacketType;
 
@@ -25,8 +25,8 @@ pub struct ConnectionState {
     pub connect: Option<ConnectNote>,
     /// The server's first CONNACK.
     pub connack: Option<ConnackNote>,
-    /// The Session Expiry Interval of the client's first DISCONNECT, in seconds.
-    pub disconnect: Option<Option<u32>>,
+    /// The client's first DISCONNECT.
+    pub disconnect: Option<DisconnectNote>,
     /// Whether the tested end sent a packet, or bytes that break a rule.
     pub has_sent: bool,
     /// Whether the tested end sent an item of the type CONNECT.
@@ -122,7 +122,9 @@ impl ConnectionState {
     fn expiry(&self) -> u32
         ensures { result ≡ expiry self.now }
     {
-        let of_disconnect = self.disconnect.flatten();
+        let of_disconnect = self
+            .disconnect
+            .and_then(|disconnect| disconnect.session_expiry);
         let of_connack = self.connack.and_then(|connack| connack.session_expiry);
         let of_connect = self.connect.and_then(|connect| connect.session_expiry);
         of_disconnect.or(of_connack).or(of_connect).unwrap_or(0)
@@ -180,7 +182,7 @@ pub(super) fn is_ordinary(fields: &PacketFields) -> bool
 {
     !matches!(
         fields,
-        PacketFields::Connect(_) | PacketFields::Connack(_) | PacketFields::Disconnect { .. }
+        PacketFields::Connect(_) | PacketFields::Connack(_) | PacketFields::Disconnect(_)
     )
 }
 

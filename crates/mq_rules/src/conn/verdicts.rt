@@ -8,7 +8,7 @@ ghost use Rattle.mq_rules.specs.Keeping as keeping;
 
 use super::state::ConnectionState;
 use crate::note::ItemNote;
-use crate::packet_note::{ConnackNote, PacketNote, PublishNote};
+use crate::packet_note::{ConnackNote, DisconnectNote, PacketNote, PublishNote};
 use crate::role::Role;
 use crate::rule::Rule;
 use mq_packet::{PacketType, Qos};
@@ -350,13 +350,20 @@ fn breaks_c09(connack: &ConnackNote) -> bool
     connack.session_present && connack.code != 0
 }
 
-/// Of a DISCONNECT that is sent, with its Session Expiry Interval, and of a REST.
+/// C19, of a DISCONNECT that a server sends.
+pub fn breaks_c19(disconnect: DisconnectNote) -> bool
+    ensures { result ≡ keeping.finds_C19 (Some disconnect) }
+{
+    disconnect.session_expiry.is_some()
+}
+
+/// Of a DISCONNECT that is sent, and of a REST.
 impl ConnectionState {
     /// C20.
-    pub fn breaks_c20(&self, session_expiry: Option<u32>) -> bool
-        ensures { result ≡ keeping.finds_C20 self.now (Some session_expiry) }
+    pub fn breaks_c20(&self, disconnect: DisconnectNote) -> bool
+        ensures { result ≡ keeping.finds_C20 self.now (Some disconnect) }
     {
-        session_expiry.unwrap_or(0) != 0 && self.expires_at_once()
+        disconnect.session_expiry.unwrap_or(0) != 0 && self.expires_at_once()
     }
 
     /// Whether the CONNECT had a Session Expiry Interval of 0, or none.

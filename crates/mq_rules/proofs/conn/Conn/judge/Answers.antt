@@ -1,9 +1,10 @@
-use Rattle.std.proofs.Common.{ℕ, subst, Bool, Option}
+use Rattle.std.proofs.Common.{subst, Bool, Option}
 use Rattle.std.specs.BTreeSet.{contains}
 use Rattle.std.specs.Ordering.{nat_cmp}
 use Rattle.mq_rules.specs.declared.packet_note.PacketNote.{PacketNote}
 use Rattle.mq_rules.specs.declared.packet_note.PublishNote.{PublishNote}
 use Rattle.mq_rules.specs.declared.packet_note.ConnackNote.{ConnackNote}
+use Rattle.mq_rules.specs.declared.packet_note.DisconnectNote.{DisconnectNote}
 use Rattle.mq_rules.specs.declared.note.ItemNote.{ItemNote}
 use Rattle.mq_rules.specs.Keeping.{item_verdicts, packet_verdicts, publish_verdicts, connack_verdicts, disconnect_verdicts, rest_verdicts, is_among, is_found, Judges, JudgesWithin}
 use Rattle.mq_rules.proofs.FaultKeyLaws.{on_err}
@@ -17,7 +18,7 @@ returns-clause-ok c =
     (subst (λ (o : Option PacketNote). Judges (is_among (packet_verdicts c.args.self.now.role c.args.self.now.state o)) c.args.place c.judge_item.new.faults c.judge_packet.new.faults) c.sent_packet.ensures c.in_ok-judge_packet.ensures.ok)
     (subst (λ (o : Option PublishNote). Judges (is_among (publish_verdicts c.args.self.now.role c.args.self.now.state (contains nat_cmp c.args.self.now.aliases) o)) c.args.place c.judge_packet.new.faults c.judge_publish.new.faults) c.sent_publish.ensures c.in_ok-judge_publish.ensures.ok)
     (subst (λ (o : Option ConnackNote). Judges (is_among (connack_verdicts c.args.self.now.role c.args.self.now.state o)) c.args.place c.judge_publish.new.faults c.judge_connack.new.faults) c.sent_connack.ensures c.in_ok-judge_connack.ensures.ok)
-    (subst (λ (o : Option (Option ℕ)). Judges (is_among (disconnect_verdicts c.args.self.now.role c.args.self.now.state o)) c.args.place c.judge_connack.new.faults c.judge_disconnect.new.faults) c.sent_disconnect.ensures c.in_ok-judge_disconnect.ensures.ok)
+    (subst (λ (o : Option DisconnectNote). Judges (is_among (disconnect_verdicts c.args.self.now.role c.args.self.now.state o)) c.args.place c.judge_connack.new.faults c.judge_disconnect.new.faults) c.sent_disconnect.ensures c.in_ok-judge_disconnect.ensures.ok)
     (subst (λ (o : Bool). Judges (is_among (rest_verdicts c.args.self.now.role c.args.self.now.state o)) c.args.place c.judge_disconnect.new.faults c.judge_rest.new.faults) c.is_rest.ensures c.in_ok-judge_rest.ensures.ok)
 
 pub returns-in_err-judge_item-clause-memory : goal.returns-in_err-judge_item-clause-memory
@@ -58,7 +59,7 @@ returns-in_err-judge_disconnect-clause-memory c =
     (subst (λ (o : Option PacketNote). Judges (is_among (packet_verdicts c.args.self.now.role c.args.self.now.state o)) c.args.place c.judge_item.new.faults c.judge_packet.new.faults) c.sent_packet.ensures c.in_ok-judge_packet.ensures.ok)
     (subst (λ (o : Option PublishNote). Judges (is_among (publish_verdicts c.args.self.now.role c.args.self.now.state (contains nat_cmp c.args.self.now.aliases) o)) c.args.place c.judge_packet.new.faults c.judge_publish.new.faults) c.sent_publish.ensures c.in_ok-judge_publish.ensures.ok)
     (subst (λ (o : Option ConnackNote). Judges (is_among (connack_verdicts c.args.self.now.role c.args.self.now.state o)) c.args.place c.judge_publish.new.faults c.judge_connack.new.faults) c.sent_connack.ensures c.in_ok-judge_connack.ensures.ok)
-    (subst (λ (o : Option (Option ℕ)). JudgesWithin (is_among (disconnect_verdicts c.args.self.now.role c.args.self.now.state o)) c.args.place c.judge_connack.new.faults c.judge_disconnect.new.faults) c.sent_disconnect.ensures c.in_err-judge_disconnect.ensures.memory))
+    (subst (λ (o : Option DisconnectNote). JudgesWithin (is_among (disconnect_verdicts c.args.self.now.role c.args.self.now.state o)) c.args.place c.judge_connack.new.faults c.judge_disconnect.new.faults) c.sent_disconnect.ensures c.in_err-judge_disconnect.ensures.memory))
 
 pub returns-in_err-judge_rest-clause-memory : goal.returns-in_err-judge_rest-clause-memory
 returns-in_err-judge_rest-clause-memory c =
@@ -68,5 +69,5 @@ returns-in_err-judge_rest-clause-memory c =
     (subst (λ (o : Option PacketNote). Judges (is_among (packet_verdicts c.args.self.now.role c.args.self.now.state o)) c.args.place c.judge_item.new.faults c.judge_packet.new.faults) c.sent_packet.ensures c.in_ok-judge_packet.ensures.ok)
     (subst (λ (o : Option PublishNote). Judges (is_among (publish_verdicts c.args.self.now.role c.args.self.now.state (contains nat_cmp c.args.self.now.aliases) o)) c.args.place c.judge_packet.new.faults c.judge_publish.new.faults) c.sent_publish.ensures c.in_ok-judge_publish.ensures.ok)
     (subst (λ (o : Option ConnackNote). Judges (is_among (connack_verdicts c.args.self.now.role c.args.self.now.state o)) c.args.place c.judge_publish.new.faults c.judge_connack.new.faults) c.sent_connack.ensures c.in_ok-judge_connack.ensures.ok)
-    (subst (λ (o : Option (Option ℕ)). Judges (is_among (disconnect_verdicts c.args.self.now.role c.args.self.now.state o)) c.args.place c.judge_connack.new.faults c.judge_disconnect.new.faults) c.sent_disconnect.ensures c.in_ok-judge_disconnect.ensures.ok)
+    (subst (λ (o : Option DisconnectNote). Judges (is_among (disconnect_verdicts c.args.self.now.role c.args.self.now.state o)) c.args.place c.judge_connack.new.faults c.judge_disconnect.new.faults) c.sent_disconnect.ensures c.in_ok-judge_disconnect.ensures.ok)
     (subst (λ (o : Bool). JudgesWithin (is_among (rest_verdicts c.args.self.now.role c.args.self.now.state o)) c.args.place c.judge_disconnect.new.faults c.judge_rest.new.faults) c.is_rest.ensures c.in_err-judge_rest.ensures.memory))
