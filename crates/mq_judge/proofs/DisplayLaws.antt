@@ -28,7 +28,7 @@ trace-stops {S} agrees refuses limit log piece old new r was s =
     go : Why agrees refuses limit log s.taken s.byte old new r
         → (IsRefusedByte limit (log ++ s.taken) s.byte r × agrees new (events (log ++ s.taken))) ⊎ ((own : Refusal) × refuses new (events (log ++ s.taken)) own)
     go (inl met) = inl (inl met.met, met.receives was)
-    go (inr (inl lacks)) = inl (inr (lacks.is, inl lacks.needs), lacks.receives was)
+    go (inr (inl lacks)) = inl (inr (lacks.unmet, lacks.is, inl lacks.needs), lacks.receives was)
     go (inr (inr own)) = inr (own.own, own.refused was)
 
 pub traces-follow : {S : Type 0} (agrees : S → List Placed → Type 0) (refuses : S → List Placed → Refusal → Type 0) (limit : ℕ) (log piece : List ℕ) (old new : S)

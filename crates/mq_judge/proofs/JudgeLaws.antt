@@ -51,10 +51,10 @@ why-refused : {S : Type 0} (noted : S → List Seen) (refuses : S → List Place
     → Why (λ s received. noted s ≡ map seen received) refuses limit log taken byte old new r
     → IsRefusedByte limit (log ++ taken) byte r × (noted new ≡ map seen (events (log ++ taken)))
 why-refused noted refuses wants limit log taken byte old new r was (inl met) = (inl met.met, met.receives was)
-why-refused noted refuses wants limit log taken byte old new r was (inr (inl lacks)) = (inr (lacks.is, inl lacks.needs), lacks.receives was)
+why-refused noted refuses wants limit log taken byte old new r was (inr (inl lacks)) = (inr (lacks.unmet, lacks.is, inl lacks.needs), lacks.receives was)
 why-refused noted refuses wants limit log taken byte old new r was (inr (inr own)) =
     let is = wants new (events (log ++ taken)) own.own (own.refused was) in
-    (inr (own.is ∙ ap (λ o. moved o (length (log ++ taken))) is.0, inr (own.unmet, own.completes)), is.1)
+    (inr (own.unmet, own.is ∙ ap (λ o. moved o (length (log ++ taken))) is.0, inr own.completes), is.1)
 
 -- a judge that is fed a piece, by what its tracer returns
 pub fed-judge : {S : Type 0} (noted : S → List Seen) (refuses : S → List Placed → Refusal → Type 0) → WantsMemory noted refuses

@@ -6,14 +6,14 @@ use Rattle.mq_trace.specs.Deframing.{NeedsMemory}
 use Rattle.mq_trace.specs.Events.{event_at, packet_at}
 use Rattle.mq_trace.specs.Refusals.{refused, refusal_at, is_cut_short}
 
--- A byte after these bytes may need memory: it belongs to a packet that isn't too large; or no condition applies at it, and it completes an event.
-abbrev pub MayLackMemory : ℕ → List ℕ → ℕ → Type 0
-MayLackMemory limit taken byte = NeedsMemory limit (packet_at taken byte) ⊎ ((refusal_at limit taken byte ≡ None) × (is_some (event_at taken byte) ≡ true))
+-- A byte after these bytes may need memory: it belongs to a packet of which more is to come, or it completes an event.
+abbrev pub MayLackMemory : List ℕ → ℕ → Type 0
+MayLackMemory taken byte = NeedsMemory (packet_at taken byte) ⊎ (is_some (event_at taken byte) ≡ true)
 
--- Why a byte is refused after these bytes: a condition applies at it, and the lowest number decides; or there was no memory to take it in.
+-- Why a byte is refused after these bytes: a condition applies at it, and the lowest number decides; or none does, and there was no memory to take it in.
 abbrev pub IsRefusedByte : ℕ → List ℕ → ℕ → Refusal → Type 0
 IsRefusedByte limit taken byte refusal = (refusal_at limit taken byte ≡ Some refusal)
-    ⊎ ((refusal ≡ refusals.Memory (length taken)) × MayLackMemory limit taken byte)
+    ⊎ ((refusal_at limit taken byte ≡ None) × (refusal ≡ refusals.Memory (length taken)) × MayLackMemory taken byte)
 
 -- Why the end of a log of these bytes is refused: it is cut short; or it isn't, and there was no memory.
 abbrev pub IsRefusedEnd : List ℕ → Refusal → Type 0

@@ -93,8 +93,8 @@ impl Judge {
     ///
     /// # Errors
     ///
-    /// The refusal whose condition applies at the earliest byte; or `Memory`, at the byte that was being taken in, if nothing is refused before it.
-    /// From then on each call fails with the same refusal.
+    /// The refusal whose condition applies at the earliest byte, and at one byte the one with the lowest number; or `Memory`, at the byte that was being taken
+    /// in, if no condition applies at it, nor at one before it. From then on each call fails with the same refusal.
     pub fn feed(&mut self, piece: &[u8]) -> Result<(), Refusal>
         ensures answers { (log : List ℕ) → Follows self.old log → JudgesPiece log piece.now self.new result }
         ensures limit { self.new.limit ≡ self.old.limit }

@@ -184,10 +184,10 @@ module _ (r : Reading) (direction : Direction) (left : ℕ) (sound : IsSound r) 
           body_refused part stop.taken at few ∙ stop.unrefused,
           body_events part stop.taken at few ∙ stop.completes_none,
           (let so_far : List ℕ = so_far_for (after_bytes (context_of r part) stop.taken) stop.byte in
-              subst (λ o. FlowWhy declines r.limit (r.at + length stop.taken) so_far o (events_by (context_of r part) (stop.taken ++ stop.byte ∷ [])) old new refusal) (sym (body_refused part (stop.taken ++ stop.byte ∷ []) at last))
-              (subst (λ h. FlowWhy declines r.limit (r.at + length stop.taken) so_far (flow_refused r.limit (context_for r direction) (flow_for r direction) (stop.taken ++ stop.byte ∷ [])) h old new refusal)
+              subst (λ o. FlowWhy declines (r.at + length stop.taken) so_far o (events_by (context_of r part) (stop.taken ++ stop.byte ∷ [])) old new refusal) (sym (body_refused part (stop.taken ++ stop.byte ∷ []) at last))
+              (subst (λ h. FlowWhy declines (r.at + length stop.taken) so_far (flow_refused r.limit (context_for r direction) (flow_for r direction) (stop.taken ++ stop.byte ∷ [])) h old new refusal)
               (sym (body_events part (stop.taken ++ stop.byte ∷ []) at last))
-              (subst (λ t. FlowWhy declines r.limit (r.at + length stop.taken) t (flow_refused r.limit (context_for r direction) (flow_for r direction) (stop.taken ++ stop.byte ∷ [])) (flow_events (context_for r direction) (flow_for r direction) (stop.taken ++ stop.byte ∷ [])) old new refusal)
+              (subst (λ t. FlowWhy declines (r.at + length stop.taken) t (flow_refused r.limit (context_for r direction) (flow_for r direction) (stop.taken ++ stop.byte ∷ [])) (flow_events (context_for r direction) (flow_for r direction) (stop.taken ++ stop.byte ∷ [])) old new refusal)
               (sym (body_so_far part stop.taken stop.byte at (omega arith))) stop.why))),
         );
       }

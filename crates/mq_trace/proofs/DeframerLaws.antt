@@ -1,14 +1,12 @@
 -- What a step of a direction comes to, and what stops it.
 use Rattle.std.proofs.Common.{◌≡◌, ℕ, ◌+◌, ◌<◌, ◌≤◌, Bool, true, false, cond, List, [], ◌∷◌, ◌++◌, length, Option, Some, None, refl, sym, ap, ◌∙◌, arith, length-append, append_assoc, subst, take, drop, length-take-le}
 use Rattle.std.proofs.Common.{inl, inr, Result, Ok, Err}
-use Rattle.std.specs.Prelude.{◌==◌, ◌&&◌, option_map, ◌||◌, OnOk, IfErr, slice_index}
-use Rattle.std.proofs.lemmas.Bool.{le-ltb}
+use Rattle.std.specs.Prelude.{option_map, ◌||◌, OnOk, IfErr, slice_index}
 use Rattle.std.proofs.lemmas.List.{take-append-drop}
-use Rattle.std.specs.Option.{option_or}
 use Rattle.mq_packet.specs.declared.header.FixedHeader.{FixedHeader}
 use Rattle.mq_packet.specs.declared.header.FixedHeader.TheVariants as headers
-use Rattle.mq_packet.specs.Stream.{fixed_header_of, frame_size}
-use Rattle.mq_packet.proofs.Exports.{header_from_frame, frame_from_header, whole_stays, frame_bounds, frame_stood}
+use Rattle.mq_packet.specs.Stream.{fixed_header_of, frame_size, is_lost}
+use Rattle.mq_packet.proofs.Exports.{header_from_frame, frame_from_header, whole_stays, lost_stays, frame_bounds, frame_stood, short_few, short_no_frame, no_frame_yet}
 use Rattle.mq_trace.specs.declared.kind.Direction.{Direction}
 use Rattle.mq_trace.specs.declared.kind.Direction.TheVariants as directions
 use Rattle.mq_trace.specs.declared.refusal.Refusal.{Refusal}
@@ -16,6 +14,7 @@ use Rattle.mq_trace.specs.declared.refusal.Refusal.TheVariants as refusals
 use Rattle.mq_trace.specs.declared.connections.Connections.{Connections}
 use Rattle.mq_trace.specs.declared.deframer.BodyContext.{BodyContext as ContextInMemory}
 use Rattle.mq_trace.specs.Events.{Item, Event, Placed, item_read, read_frame}
+use Rattle.std.specs.Option.{option_or}
 use Rattle.mq_trace.specs.Refusals.{is_too_large, is_other_version}
 use Rattle.mq_trace.proofs.ItemLaws.{met_other}
 use Rattle.mq_trace.specs.Connections.{is_answer}
@@ -25,7 +24,7 @@ use Rattle.mq_trace.specs.Keeping.{IsShort, IsUnfinished}
 use Rattle.mq_trace.specs.Emission.{connections_with, RefusedBySink, NotEmitted}
 use Rattle.mq_trace.specs.Flows.{BodyContext, Flow, item_event, flow_refusal, flow_placed_with, flow_with, flow_after_bytes, flow_refused, flow_events}
 use Rattle.mq_trace.specs.Deframing.{body_context, flow_of, frame_event, frame_refusal, connections_then, NeedsMemory, FlowWhy, FlowStops, FlowComes}
-use Rattle.mq_trace.proofs.FlowLaws.{lost-after, HasLast, has_last, IsQuiet, until_last, quiet-refused, quiet-events, quiet-after, short-refused, short-events, short-after, complete-refused-within, complete-events-frame, complete-after-frame}
+use Rattle.mq_trace.proofs.FlowLaws.{not_lost, lost-after, HasLast, has_last, IsQuiet, until_last, quiet-refused, quiet-events, quiet-after, short-refused, short-events, short-after, complete-refused-within, complete-events-frame, complete-after-frame}
 
 -- a direction that isn't lost, with these bytes of an unfinished packet
 abbrev pub going_on : List ℕ → StreamState
@@ -62,72 +61,125 @@ met_none at f direction frame e =
     (let other : is_other_version (read_frame frame) ≡ true = met_other frame (no_item direction (item_read (length frame) (slice_index frame 0) (read_frame frame)) e) in
     rw (other) refl)
 
--- what a packet with one byte more is known not to be
-abbrev pub IsSmall : ℕ → List ℕ → ℕ → Type 0
-IsSmall limit u byte = is_too_large limit (u ++ byte ∷ []) (fixed_header_of (u ++ byte ∷ [])) ≡ false
+-- A packet with one byte more isn't whole, and not known to be larger than the limit.
+abbrev pub GoesOn : ℕ → List ℕ → ℕ → Type 0
+GoesOn limit u byte = IsShort limit (u ++ byte ∷ []) (fixed_header_of (u ++ byte ∷ []))
 
--- A packet that isn't larger than the limit isn't known to be at any of its bytes.
-small_size : (limit : ℕ) (t : List ℕ) (header size : ℕ) → size ≤ limit → is_too_large limit t (headers.Whole header size) ≡ false
-small_size limit t header size within = rw (le-ltb limit size within) (and_false (header == length t))
+-- So are its first bytes.
+before_short : (limit : ℕ) (t more : List ℕ) → IsShort limit (t ++ more) (fixed_header_of (t ++ more)) → IsShort limit t (fixed_header_of t)
+before_short limit t more short = by (fixed_header_of t) refl
   where
-    and_false : (b : Bool) → (b && false) ≡ false
-    and_false true = refl
-    and_false false = refl
-
-pub small_more : (limit : ℕ) (u : List ℕ) (byte header size : ℕ) → fixed_header_of u ≡ headers.Whole header size → size ≤ limit → IsSmall limit u byte
-small_more limit u byte header size e within = ap (is_too_large limit (u ++ byte ∷ [])) (whole_stays u (byte ∷ []) header size e) ∙ small_size limit (u ++ byte ∷ []) header size within
-
-pub small_first : (limit : ℕ) (u bytes : List ℕ) → u ≡ [] → IsShort limit bytes (fixed_header_of bytes) → (byte : ℕ) (more : List ℕ) → bytes ≡ byte ∷ more → IsSmall limit u byte
-small_first limit u bytes none short byte more is = subst (λ (t : List ℕ). IsSmall limit t byte) (sym none) (by (fixed_header_of (byte ∷ [])) refl)
-  where
-    by : (front : FixedHeader) → fixed_header_of (byte ∷ []) ≡ front → is_too_large limit (byte ∷ []) front ≡ false
-    by headers.Short e = refl
-    by headers.Lost e = refl
+    by : (front : FixedHeader) → fixed_header_of t ≡ front → IsShort limit t front
+    by headers.Short e = short_few t e
+    by headers.Lost e = absurd (subst (IsShort limit (t ++ more)) (lost_stays t more e) short)
     by (headers.Whole header size) e =
-        let stays : fixed_header_of bytes ≡ headers.Whole header size = ap fixed_header_of is ∙ whole_stays (byte ∷ []) more header size e in
-        let within : IsShort limit bytes (headers.Whole header size) = subst (IsShort limit bytes) stays short in
-        small_size limit (byte ∷ []) header size within.1
+        let longer : IsShort limit (t ++ more) (headers.Whole header size) = subst (IsShort limit (t ++ more)) (whole_stays t more header size e) short in
+        let sum : length (t ++ more) ≡ length t + length more = length-append t more in
+        (omega (arith, longer.0, sum), longer.1)
 
-pub small_part : (limit : ℕ) (u bytes : List ℕ) → frame_size (u ++ bytes) ≡ Some (length (u ++ bytes)) → length (u ++ bytes) ≤ limit
-    → (byte : ℕ) (more : List ℕ) → bytes ≡ byte ∷ more → IsSmall limit u byte
-small_part limit u bytes whole within byte more is = by (fixed_header_of (u ++ byte ∷ [])) refl
+first_short : (limit : ℕ) (u bytes : List ℕ) (byte : ℕ) (more : List ℕ) → bytes ≡ byte ∷ more → IsShort limit (u ++ bytes) (fixed_header_of (u ++ bytes)) → GoesOn limit u byte
+first_short limit u bytes byte more is short =
+    let all : u ++ bytes ≡ (u ++ byte ∷ []) ++ more = ap (λ (t : List ℕ). u ++ t) is ∙ sym (append_assoc u (byte ∷ []) more) in
+    before_short limit (u ++ byte ∷ []) more (subst (λ (t : List ℕ). IsShort limit t (fixed_header_of t)) all short)
+
+-- There are bytes where a fixed header is whole.
+pub begun_some : (u : List ℕ) (header size : ℕ) → fixed_header_of u ≡ headers.Whole header size → 1 ≤ length u
+unfolding fixed_header_of
+begun_some [] header size e = absurd (cc)
+begun_some (byte ∷ u) header size e = omega arith
+
+-- Bytes of an unfinished packet, with which it isn't whole: the first ones, ..
+pub begins_short : (limit : ℕ) (u bytes : List ℕ) → u ≡ [] → IsShort limit bytes (fixed_header_of bytes) → IsShort limit (u ++ bytes) (fixed_header_of (u ++ bytes))
+begins_short limit u bytes none short = subst (λ (t : List ℕ). IsShort limit (t ++ bytes) (fixed_header_of (t ++ bytes))) (sym none) short
+
+-- .. and later ones.
+pub more_short : (limit : ℕ) (u bytes : List ℕ) (header size : ℕ) → fixed_header_of u ≡ headers.Whole header size → IsShort limit u (fixed_header_of u) → length u + length bytes < size
+    → IsShort limit (u ++ bytes) (fixed_header_of (u ++ bytes))
+more_short limit u bytes header size e short less =
+    let within : (length u < size) × (size ≤ limit) = subst (IsShort limit u) e short in
+    let sum : length (u ++ bytes) ≡ length u + length bytes = length-append u bytes in
+    let all : (length (u ++ bytes) < size) × (size ≤ limit) = (omega (arith, sum, less), within.1) in
+    subst (IsShort limit (u ++ bytes)) (sym (whole_stays u bytes header size e)) all
+
+-- The first of several bytes, with which a packet is whole, goes on with it.
+goes_part : (limit : ℕ) (u bytes : List ℕ) → frame_size (u ++ bytes) ≡ Some (length (u ++ bytes)) → length (u ++ bytes) ≤ limit → 1 < length bytes
+    → (byte : ℕ) (more : List ℕ) → bytes ≡ byte ∷ more → GoesOn limit u byte
+goes_part limit u bytes whole within several byte more is = by (fixed_header_of (u ++ byte ∷ [])) refl
   where
-    by : (front : FixedHeader) → fixed_header_of (u ++ byte ∷ []) ≡ front → is_too_large limit (u ++ byte ∷ []) front ≡ false
-    by headers.Short e = refl
-    by headers.Lost e = refl
+    found : (header : ℕ) × (fixed_header_of (u ++ bytes) ≡ headers.Whole header (length (u ++ bytes))) × (length (u ++ bytes) ≤ length (u ++ bytes))
+    found = header_from_frame (u ++ bytes) (length (u ++ bytes)) whole
+
+    all : u ++ bytes ≡ (u ++ byte ∷ []) ++ more
+    all = ap (λ (t : List ℕ). u ++ t) is ∙ sym (append_assoc u (byte ∷ []) more)
+
+    by : (front : FixedHeader) → fixed_header_of (u ++ byte ∷ []) ≡ front → IsShort limit (u ++ byte ∷ []) front
+    by headers.Short e = short_few (u ++ byte ∷ []) e
+    by headers.Lost e =
+        let stays : fixed_header_of (u ++ bytes) ≡ headers.Lost = ap fixed_header_of all ∙ lost_stays (u ++ byte ∷ []) more e in
+        let never : headers.Lost ≡ headers.Whole found.0 (length (u ++ bytes)) = sym stays ∙ found.1 in
+        absurd (cc)
     by (headers.Whole header size) e =
-        let frame : u ++ bytes ≡ (u ++ byte ∷ []) ++ more = ap (λ (t : List ℕ). u ++ t) is ∙ sym (append_assoc u (byte ∷ []) more) in
-        let found : (header' : ℕ) × (fixed_header_of (u ++ bytes) ≡ headers.Whole header' (length (u ++ bytes))) × (length (u ++ bytes) ≤ length (u ++ bytes)) = header_from_frame (u ++ bytes) (length (u ++ bytes)) whole in
-        let stays : fixed_header_of (u ++ bytes) ≡ headers.Whole header size = ap fixed_header_of frame ∙ whole_stays (u ++ byte ∷ []) more header size e in
+        let stays : fixed_header_of (u ++ bytes) ≡ headers.Whole header size = ap fixed_header_of all ∙ whole_stays (u ++ byte ∷ []) more header size e in
         let one : headers.Whole header size ≡ headers.Whole found.0 (length (u ++ bytes)) = sym stays ∙ found.1 in
         let same : size ≡ length (u ++ bytes) = cc in
-        small_size limit (u ++ byte ∷ []) header size (omega (arith, same, within))
+        let sum : length (u ++ bytes) ≡ length (u ++ byte ∷ []) + length more = ap length all ∙ length-append (u ++ byte ∷ []) more in
+        let rest : length bytes ≡ length more + 1 = ap length is ∙ (let one_more : length (byte ∷ more) ≡ length more + 1 = omega arith in one_more) in
+        (omega (arith, same, sum, rest, several), omega (arith, same, within))
 
--- A byte of a direction that isn't lost belongs to a packet.
-pub needs_memory : (limit : ℕ) (state : StreamState) (byte : ℕ) → state.lost ≡ false → IsSmall limit state.unfinished byte → NeedsMemory limit (so_far_in state byte)
-needs_memory limit state byte open_yet small =
-    (let is : so_far_in state byte ≡ state.unfinished ++ byte ∷ [] = ap (λ (l : Bool). cond l [] (state.unfinished ++ byte ∷ [])) open_yet in
-    let longer : length (state.unfinished ++ byte ∷ []) ≡ length state.unfinished + 1 = length-append state.unfinished (byte ∷ []) in
+-- A byte that goes on with its packet meets no refusal, and may need memory.
+goes_unmet : (limit : ℕ) (context : BodyContext) (f : Flow) (byte : ℕ) → f.state.lost ≡ false → GoesOn limit f.state.unfinished byte
+    → (flow_refused limit context f (byte ∷ []) ≡ None) × NeedsMemory (so_far_in f.state byte)
+goes_unmet limit context f byte open_yet short = by (fixed_header_of (f.state.unfinished ++ byte ∷ [])) refl short
+  where
+    state_is : f.state ≡ going_on f.state.unfinished
+    state_is = ap (λ (l : Bool). record { unfinished = f.state.unfinished; lost = l }) open_yet
+
+    needs : frame_size (f.state.unfinished ++ byte ∷ []) ≡ None → is_lost (f.state.unfinished ++ byte ∷ []) ≡ false → NeedsMemory (so_far_in f.state byte)
+    needs none found =
+        let is : so_far_in f.state byte ≡ f.state.unfinished ++ byte ∷ [] = ap (λ (l : Bool). cond l [] (f.state.unfinished ++ byte ∷ [])) open_yet in
+        let longer : length (f.state.unfinished ++ byte ∷ []) ≡ length f.state.unfinished + 1 = length-append f.state.unfinished (byte ∷ []) in
+        subst NeedsMemory (sym is) (record { packet = omega (arith, longer); unended = none; unlost = found })
+
+    by : (front : FixedHeader) → fixed_header_of (f.state.unfinished ++ byte ∷ []) ≡ front → IsShort limit (f.state.unfinished ++ byte ∷ []) front
+        → (flow_refused limit context f (byte ∷ []) ≡ None) × NeedsMemory (so_far_in f.state byte)
+    by headers.Short e few = (
+      short-refused limit context f f.state.unfinished (byte ∷ []) state_is e,
+      needs (short_no_frame (f.state.unfinished ++ byte ∷ []) e) (not_lost (f.state.unfinished ++ byte ∷ []) headers.Short e (λ same. (cc))),
+    )
+    by headers.Lost e never = absurd never
+    by (headers.Whole header size) e bounds = (
+      quiet-refused limit context f f.state.unfinished (byte ∷ []) header size state_is e bounds.0 (inl bounds.1),
+      needs (no_frame_yet (f.state.unfinished ++ byte ∷ []) header size e bounds.0) (not_lost (f.state.unfinished ++ byte ∷ []) (headers.Whole header size) e (λ same. (cc))),
+    )
+
+-- Memory was refused for the first of these bytes, ..
+stops_first : {S : Type 0} (declines : S → S → List Placed → Refusal → Type 0) (limit : ℕ) (context : BodyContext) (f : Flow) (bytes : List ℕ) (sink : S) → 0 < length bytes → f.state.lost ≡ false
+    → ((byte : ℕ) (more : List ℕ) → bytes ≡ byte ∷ more → GoesOn limit f.state.unfinished byte) → FlowStops declines limit context f bytes sink sink (refusals.Memory f.at)
+stops_first declines limit context f [] sink some open_yet goes = absurd (omega arith)
+stops_first declines limit context f (byte ∷ bytes) sink some open_yet goes =
+    let here = goes_unmet limit context f byte open_yet (goes byte bytes refl) in
     record {
-      packet = subst (λ (t : List ℕ). 0 < length t) (sym is) (omega arith);
-      within = subst (λ (t : List ℕ). is_too_large limit t (fixed_header_of t) ≡ false) (sym is) small;
-    })
+      taken = [];
+      byte = byte;
+      later = bytes;
+      is = refl;
+      unrefused = refl;
+      completes_none = refl;
+      why = inr (inl (ap (λ (n : ℕ). refusals.Memory n) (let same : f.at ≡ f.at + length {A = ℕ} [] = omega arith in same), refl, here.0, here.1));
+    }
 
--- Memory was refused for the first of these bytes.
+-- .. with which the packet isn't whole, ..
 pub stops_memory : {S : Type 0} (declines : S → S → List Placed → Refusal → Type 0) (limit : ℕ) (context : BodyContext) (f : Flow) (bytes : List ℕ) (sink : S) → 0 < length bytes → f.state.lost ≡ false
-    → ((byte : ℕ) (more : List ℕ) → bytes ≡ byte ∷ more → IsSmall limit f.state.unfinished byte) → FlowStops declines limit context f bytes sink sink (refusals.Memory f.at)
-stops_memory declines limit context f [] sink some open_yet small = absurd (omega arith)
-stops_memory declines limit context f (byte ∷ bytes) sink some open_yet small = record {
-  taken = [];
-  byte = byte;
-  later = bytes;
-  is = refl;
-  unrefused = refl;
-  completes_none = refl;
-  why = inr (inl (ap (λ (n : ℕ). refusals.Memory n) (let here : f.at ≡ f.at + length {A = ℕ} [] = omega arith in here), refl, needs_memory limit f.state byte open_yet (small byte bytes refl)));
-}
+    → IsShort limit (f.state.unfinished ++ bytes) (fixed_header_of (f.state.unfinished ++ bytes)) → FlowStops declines limit context f bytes sink sink (refusals.Memory f.at)
+stops_memory declines limit context f bytes sink some open_yet short = stops_first declines limit context f bytes sink some open_yet (λ byte more is. first_short limit f.state.unfinished bytes byte more is short)
 
--- A byte that ends a fixed header which says a size over the limit is refused.
+-- .. or of several, with which it is.
+pub stops_part : {S : Type 0} (declines : S → S → List Placed → Refusal → Type 0) (limit : ℕ) (context : BodyContext) (f : Flow) (bytes : List ℕ) (sink : S) → 1 < length bytes → f.state.lost ≡ false
+    → frame_size (f.state.unfinished ++ bytes) ≡ Some (length (f.state.unfinished ++ bytes)) → length (f.state.unfinished ++ bytes) ≤ limit → FlowStops declines limit context f bytes sink sink (refusals.Memory f.at)
+stops_part declines limit context f bytes sink several open_yet whole within =
+    stops_first declines limit context f bytes sink (omega (arith, several)) open_yet (goes_part limit f.state.unfinished bytes whole within several)
+
+-- A byte that ends a fixed header with a size over the limit is refused.
 pub stops_over : {S : Type 0} (declines : S → S → List Placed → Refusal → Type 0) (limit : ℕ) (context : BodyContext) (f : Flow) (byte : ℕ) (sink : S) → f.state.lost ≡ false
     → is_too_large limit (f.state.unfinished ++ byte ∷ []) (fixed_header_of (f.state.unfinished ++ byte ∷ [])) ≡ true → FlowStops declines limit context f (byte ∷ []) sink sink (refusals.TooLarge f.at)
 unfolding flow_refusal
@@ -192,7 +244,7 @@ module _ {S : Type 0} (agrees : S → List Placed → Type 0) (declines : S → 
         is = joined;
         unrefused = quiet.refused;
         completes_none = quiet.completed;
-        why = subst (λ (n : ℕ). FlowWhy declines limit n (so_far_in (flow_after_bytes (body_context context) f cut.before).state cut.byte) (flow_refused limit (body_context context) f (cut.before ++ cut.byte ∷ []))
+        why = subst (λ (n : ℕ). FlowWhy declines n (so_far_in (flow_after_bytes (body_context context) f cut.before).state cut.byte) (flow_refused limit (body_context context) f (cut.before ++ cut.byte ∷ []))
             (flow_events (body_context context) f (cut.before ++ cut.byte ∷ [])) old new refusal) here
             (why_by (so_far_in (flow_after_bytes (body_context context) f cut.before).state cut.byte) (flow_refused limit (body_context context) f (cut.before ++ cut.byte ∷ []))
             (flow_events (body_context context) f (cut.before ++ cut.byte ∷ [])) met (completed ∙ ap (λ (o : Option Placed). put o []) (placed_same (body_context context) at last (going_on u) (going_on []) c (frame_event context.direction (u ++ bytes)))) old new refusal unemitted);
@@ -207,7 +259,7 @@ module _ {S : Type 0} (agrees : S → List Placed → Type 0) (declines : S → 
       why_by : (so_far : List ℕ) (met : Option Refusal) (completed : List Placed) → met ≡ frame_refusal last (flow_of last (going_on []) c) context.direction (u ++ bytes)
           → completed ≡ (put (flow_placed_with (body_context context) (flow_of last (going_on []) c) (frame_event context.direction (u ++ bytes))) []) → (old new : S) (refusal : Refusal)
           → NotEmitted declines last (frame_refusal last (flow_of last (going_on []) c) context.direction (u ++ bytes)) (put (flow_placed_with (body_context context) (flow_of last (going_on []) c) (frame_event context.direction (u ++ bytes))) []) old new refusal
-          → FlowWhy declines limit last so_far met completed old new refusal
+          → FlowWhy declines last so_far met completed old new refusal
       why_by so_far met completed same one old new refusal (inl x) = inl (same ∙ x.0, x.1)
       why_by so_far met completed same one old new refusal (inr x) =
           inr (inr (same ∙ x.0, ap length one ∙ one_completed (frame_event context.direction (u ++ bytes)) refl x.0, subst (λ (l : List Placed). RefusedBySink declines last l old new refusal) (sym one) x.1))
@@ -226,42 +278,27 @@ module _ {S : Type 0} (agrees : S → List Placed → Type 0) (declines : S → 
   stops_of (Err refusal) old new unemitted = stops_by (has_last bytes some) old new refusal unemitted
 
 -- The same for a packet whose bytes in memory are these.
-module _ {S : Type 0} (agrees : S → List Placed → Type 0) (declines : S → S → List Placed → Refusal → Type 0) (limit : ℕ) (context : ContextInMemory) (at last : ℕ) (c : Connections) (old_state kept_state : StreamState) (bytes : List ℕ)
-    (open_yet : old_state.lost ≡ false) (kept_is : kept_state ≡ record { unfinished = old_state.unfinished ++ bytes; lost = old_state.lost })
-    (whole : frame_size (old_state.unfinished ++ bytes) ≡ Some (length (old_state.unfinished ++ bytes))) (some : 0 < length bytes) (is_last : last + 1 ≡ at + length bytes)
-    (within : length (old_state.unfinished ++ bytes) ≤ limit) where
-  state_is : old_state ≡ going_on old_state.unfinished
-  state_is = ap (λ (l : Bool). record { unfinished = old_state.unfinished; lost = l }) open_yet
+module _ {S : Type 0} (agrees : S → List Placed → Type 0) (declines : S → S → List Placed → Refusal → Type 0) (limit : ℕ) (context : ContextInMemory) (at last : ℕ) (c : Connections) (u bytes frame : List ℕ)
+    (is : frame ≡ u ++ bytes) (whole : frame_size (u ++ bytes) ≡ Some (length (u ++ bytes))) (some : 0 < length bytes) (is_last : last + 1 ≡ at + length bytes) (within : length (u ++ bytes) ≤ limit) where
+  pub ended : {A : Type 0} (r : Result A Refusal) (c' : Connections) (old new : S) → OnOk r (frame_refusal last (flow_of last (going_on []) c) context.direction frame ≡ None)
+      → OnOk r (c' ≡ connections_then context.server c (frame_event context.direction frame))
+      → ((earlier : List Placed) → agrees old earlier → AreEvents (put (flow_placed_with (body_context context) (flow_of last (going_on []) c) (frame_event context.direction frame)) earlier)
+      → OnOk r (agrees new (put (flow_placed_with (body_context context) (flow_of last (going_on []) c) (frame_event context.direction frame)) earlier)))
+      → OnOk r (FlowComes agrees limit (body_context context) (flow_of at (going_on u) c) (flow_of (at + length bytes) (going_on []) c') bytes old new)
+  ended {A} r c' old new =
+      (let P : List ℕ → Type 0 = λ t. OnOk r (frame_refusal last (flow_of last (going_on []) c) context.direction t ≡ None)
+      → OnOk r (c' ≡ connections_then context.server c (frame_event context.direction t))
+      → ((earlier : List Placed) → agrees old earlier → AreEvents (put (flow_placed_with (body_context context) (flow_of last (going_on []) c) (frame_event context.direction t)) earlier)
+      → OnOk r (agrees new (put (flow_placed_with (body_context context) (flow_of last (going_on []) c) (frame_event context.direction t)) earlier)))
+      → OnOk r (FlowComes agrees limit (body_context context) (flow_of at (going_on u) c) (flow_of (at + length bytes) (going_on []) c') bytes old new) in
+      subst P (sym is) (comes_of agrees declines limit context at last c u bytes whole some is_last within r c' old new))
 
-  pub ended : {A : Type 0} (r : Result A Refusal) (new_state : StreamState) (c' : Connections) (old new : S) → OnOk r (new_state ≡ record { unfinished = []; lost = kept_state.lost })
-      → OnOk r (frame_refusal last (flow_of last (going_on []) c) context.direction kept_state.unfinished ≡ None)
-      → OnOk r (c' ≡ connections_then context.server c (frame_event context.direction kept_state.unfinished))
-      → ((earlier : List Placed) → agrees old earlier → AreEvents (put (flow_placed_with (body_context context) (flow_of last (going_on []) c) (frame_event context.direction kept_state.unfinished)) earlier)
-      → OnOk r (agrees new (put (flow_placed_with (body_context context) (flow_of last (going_on []) c) (frame_event context.direction kept_state.unfinished)) earlier)))
-      → OnOk r (FlowComes agrees limit (body_context context) (flow_of at old_state c) (flow_of (at + length bytes) new_state c') bytes old new)
-  ended (Err refusal) new_state c' old new empty met kept emitted = tt
-  ended (Ok x) new_state c' old new empty met kept emitted =
-      (let frame : kept_state.unfinished ≡ old_state.unfinished ++ bytes = ap (λ (h : StreamState). h.unfinished) kept_is in
-      let gone : new_state ≡ going_on [] = empty ∙ ap (λ (l : Bool). record { unfinished = []; lost = l }) (ap (λ (h : StreamState). h.lost) kept_is ∙ open_yet) in
-      let P : List ℕ → Type 0 = λ (t : List ℕ). (earlier : List Placed) → agrees old earlier → AreEvents (put (flow_placed_with (body_context context) (flow_of last (going_on []) c) (frame_event context.direction t)) earlier)
-      → agrees new (put (flow_placed_with (body_context context) (flow_of last (going_on []) c) (frame_event context.direction t)) earlier) in
-      let comes : FlowComes agrees limit (body_context context) (flow_of at (going_on old_state.unfinished) c) (flow_of (at + length bytes) (going_on []) c') bytes old new
-      = completes agrees declines limit context at last c old_state.unfinished bytes whole some is_last within c' old new
-      (ap (λ (t : List ℕ). frame_refusal last (flow_of last (going_on []) c) context.direction t) (sym frame) ∙ met)
-      (kept ∙ ap (λ (t : List ℕ). connections_then context.server c (frame_event context.direction t)) frame)
-      (subst P frame emitted) in
-      subst (λ (h : StreamState). FlowComes agrees limit (body_context context) (flow_of at h c) (flow_of (at + length bytes) new_state c') bytes old new) (sym state_is)
-      (subst (λ (h : StreamState). FlowComes agrees limit (body_context context) (flow_of at (going_on old_state.unfinished) c) (flow_of (at + length bytes) h c') bytes old new) (sym gone) comes))
-
-  pub ended_stops : {A : Type 0} (r : Result A Refusal) (old new : S) → IfErr r (λ refusal. NotEmitted declines last (frame_refusal last (flow_of last (going_on []) c) context.direction kept_state.unfinished) (put (flow_placed_with (body_context context) (flow_of last (going_on []) c) (frame_event context.direction kept_state.unfinished)) []) old new refusal)
-      → IfErr r (λ refusal. FlowStops declines limit (body_context context) (flow_of at old_state c) bytes old new refusal)
-  ended_stops (Ok x) old new unemitted = tt
-  ended_stops (Err refusal) old new unemitted =
-      (let frame : kept_state.unfinished ≡ old_state.unfinished ++ bytes = ap (λ (h : StreamState). h.unfinished) kept_is in
-      let stops : FlowStops declines limit (body_context context) (flow_of at (going_on old_state.unfinished) c) bytes old new refusal
-      = stops_by agrees declines limit context at last c old_state.unfinished bytes whole some is_last within (has_last bytes some) old new refusal
-      (subst (λ (t : List ℕ). NotEmitted declines last (frame_refusal last (flow_of last (going_on []) c) context.direction t) (put (flow_placed_with (body_context context) (flow_of last (going_on []) c) (frame_event context.direction t)) []) old new refusal) frame unemitted) in
-      subst (λ (h : StreamState). FlowStops declines limit (body_context context) (flow_of at h c) bytes old new refusal) (sym state_is) stops)
+  pub ended_stops : {A : Type 0} (r : Result A Refusal) (old new : S) → IfErr r (λ refusal. NotEmitted declines last (frame_refusal last (flow_of last (going_on []) c) context.direction frame) (put (flow_placed_with (body_context context) (flow_of last (going_on []) c) (frame_event context.direction frame)) []) old new refusal)
+      → IfErr r (λ refusal. FlowStops declines limit (body_context context) (flow_of at (going_on u) c) bytes old new refusal)
+  ended_stops {A} r old new =
+      (let P : List ℕ → Type 0 = λ t. IfErr r (λ refusal. NotEmitted declines last (frame_refusal last (flow_of last (going_on []) c) context.direction t) (put (flow_placed_with (body_context context) (flow_of last (going_on []) c) (frame_event context.direction t)) []) old new refusal)
+      → IfErr r (λ refusal. FlowStops declines limit (body_context context) (flow_of at (going_on u) c) bytes old new refusal) in
+      subst P (sym is) (stops_of agrees declines limit context at last c u bytes whole some is_last within r old new))
 
 -- A direction with no unfinished packet.
 pub nothing_unfinished : (limit : ℕ) (lost : Bool) → IsUnfinished limit (record { unfinished = []; lost = lost })
@@ -272,49 +309,20 @@ nothing_unfinished limit lost = (omega arith, λ is. refl)
 pub short_is : (limit : ℕ) (u : List ℕ) (header size : ℕ) → fixed_header_of u ≡ headers.Whole header size → IsShort limit u (fixed_header_of u) → (length u < size) × (size ≤ limit)
 short_is limit u header size e short = subst (IsShort limit u) e short
 
--- More bytes of an unfinished packet do nothing where they don't complete it, ..
-pub keeps : {S : Type 0} (agrees : S → List Placed → Type 0) (limit : ℕ) (context : BodyContext) (at : ℕ) (c : Connections) (state new_state : StreamState) (bytes : List ℕ) (sink : S) (header size : ℕ) → state.lost ≡ false
-    → new_state ≡ record { unfinished = state.unfinished ++ bytes; lost = state.lost } → fixed_header_of state.unfinished ≡ headers.Whole header size → IsShort limit state.unfinished (fixed_header_of state.unfinished)
-    → length state.unfinished + length bytes < size
+-- Bytes of a packet do nothing but stay, where it isn't whole with them, and not known to be larger than the limit, ..
+pub stays : {S : Type 0} (agrees : S → List Placed → Type 0) (limit : ℕ) (context : BodyContext) (at : ℕ) (c : Connections) (state new_state : StreamState) (bytes : List ℕ) (sink : S) → state.lost ≡ false
+    → new_state ≡ record { unfinished = state.unfinished ++ bytes; lost = state.lost } → IsShort limit (state.unfinished ++ bytes) (fixed_header_of (state.unfinished ++ bytes))
     → FlowComes agrees limit context (flow_of at state c) (flow_of (at + length bytes) new_state c) bytes sink sink
-keeps agrees limit context at c state new_state bytes sink header size open_yet kept e short less =
-    (let bounds : (length state.unfinished < size) × (size ≤ limit) = short_is limit state.unfinished header size e short in
-    let longer : length (state.unfinished ++ bytes) ≡ length state.unfinished + length bytes = length-append state.unfinished bytes in
-    let stays : fixed_header_of (state.unfinished ++ bytes) ≡ headers.Whole header size = whole_stays state.unfinished bytes header size e in
-    let is : state ≡ going_on state.unfinished = ap (λ (l : Bool). record { unfinished = state.unfinished; lost = l }) open_yet in
-    let completed : flow_events context (flow_of at state c) bytes ≡ [] = quiet-events context (flow_of at state c) state.unfinished bytes header size is stays (omega arith) in
-    record {
-      unrefused = quiet-refused limit context (flow_of at state c) state.unfinished bytes header size is stays (omega arith) (inl bounds.1);
-      kept = quiet-after context (flow_of at state c) state.unfinished bytes header size is stays (omega arith)
-          ∙ ap (λ (l : Bool). flow_of (at + length bytes) (record { unfinished = state.unfinished ++ bytes; lost = l }) c) (sym open_yet) ∙ ap (λ (h : StreamState). flow_of (at + length bytes) h c) (sym kept);
-      emitted = λ earlier was are. subst (λ (l : List Placed). agrees sink (l ++ earlier)) (sym completed) was;
-    })
-
--- .. and it is unfinished still.
-pub keeps_unfinished : (limit : ℕ) (state new_state : StreamState) (bytes : List ℕ) (header size : ℕ) → state.lost ≡ false → new_state ≡ record { unfinished = state.unfinished ++ bytes; lost = state.lost }
-    → fixed_header_of state.unfinished ≡ headers.Whole header size → IsShort limit state.unfinished (fixed_header_of state.unfinished) → length state.unfinished + length bytes < size
-    → IsUnfinished limit new_state
-keeps_unfinished limit state new_state bytes header size open_yet kept e short less =
-    (let bounds : (length state.unfinished < size) × (size ≤ limit) = short_is limit state.unfinished header size e short in
-    let longer : length (state.unfinished ++ bytes) ≡ length state.unfinished + length bytes = length-append state.unfinished bytes in
-    let stays : fixed_header_of (state.unfinished ++ bytes) ≡ headers.Whole header size = whole_stays state.unfinished bytes header size e in
-    let within : (length (state.unfinished ++ bytes) < size) × (size ≤ limit) = (omega arith, bounds.1) in
-    subst (IsUnfinished limit) (sym kept)
-    (subst (IsShort limit (state.unfinished ++ bytes)) (sym stays) within, λ (is : state.lost ≡ true). (let never : false ≡ true = sym open_yet ∙ is in absurd (cc))))
-
--- Bytes that begin a packet do nothing but stay, where it isn't whole with them and no larger than the limit, ..
-pub begins : {S : Type 0} (agrees : S → List Placed → Type 0) (limit : ℕ) (context : BodyContext) (at : ℕ) (c : Connections) (state new_state : StreamState) (bytes : List ℕ) (sink : S) → state.unfinished ≡ [] → state.lost ≡ false
-    → new_state ≡ record { unfinished = state.unfinished ++ bytes; lost = state.lost } → IsShort limit bytes (fixed_header_of bytes)
-    → FlowComes agrees limit context (flow_of at state c) (flow_of (at + length bytes) new_state c) bytes sink sink
-begins {S} agrees limit context at c state new_state bytes sink none open_yet kept short = emitted (fixed_header_of bytes) refl short
+stays {S} agrees limit context at c state new_state bytes sink open_yet kept short = by (fixed_header_of (state.unfinished ++ bytes)) refl short
   where
-    is : state ≡ going_on []
-    is = ap (λ (u : List ℕ). record { unfinished = u; lost = state.lost }) none ∙ ap (λ (l : Bool). record { unfinished = []; lost = l }) open_yet
+    is : state ≡ going_on state.unfinished
+    is = ap (λ (l : Bool). record { unfinished = state.unfinished; lost = l }) open_yet
 
-    kept_is : going_on bytes ≡ new_state
-    kept_is = sym (kept ∙ ap (λ (u : List ℕ). record { unfinished = u ++ bytes; lost = state.lost }) none ∙ ap (λ (l : Bool). record { unfinished = bytes; lost = l }) open_yet)
+    kept_is : going_on (state.unfinished ++ bytes) ≡ new_state
+    kept_is = sym (kept ∙ ap (λ (l : Bool). record { unfinished = state.unfinished ++ bytes; lost = l }) open_yet)
 
-    comes : flow_refused limit context (flow_of at state c) bytes ≡ None → flow_events context (flow_of at state c) bytes ≡ [] → flow_after_bytes context (flow_of at state c) bytes ≡ flow_of (at + length bytes) (going_on bytes) c
+    comes : flow_refused limit context (flow_of at state c) bytes ≡ None → flow_events context (flow_of at state c) bytes ≡ []
+        → flow_after_bytes context (flow_of at state c) bytes ≡ flow_of (at + length bytes) (going_on (state.unfinished ++ bytes)) c
         → FlowComes agrees limit context (flow_of at state c) (flow_of (at + length bytes) new_state c) bytes sink sink
     comes unrefused completed after_bytes = record {
       unrefused = unrefused;
@@ -322,18 +330,19 @@ begins {S} agrees limit context at c state new_state bytes sink none open_yet ke
       emitted = λ earlier was are. subst (λ (l : List Placed). agrees sink (l ++ earlier)) (sym completed) was;
     }
 
-    emitted : (front : FixedHeader) → fixed_header_of bytes ≡ front → IsShort limit bytes front → FlowComes agrees limit context (flow_of at state c) (flow_of (at + length bytes) new_state c) bytes sink sink
-    emitted headers.Short e few = comes (short-refused limit context (flow_of at state c) [] bytes is e) (short-events context (flow_of at state c) [] bytes is e) (short-after context (flow_of at state c) [] bytes is e)
-    emitted headers.Lost e never = absurd never
-    emitted (headers.Whole header size) e bounds = comes (quiet-refused limit context (flow_of at state c) [] bytes header size is e bounds.0 (inl bounds.1))
-        (quiet-events context (flow_of at state c) [] bytes header size is e bounds.0) (quiet-after context (flow_of at state c) [] bytes header size is e bounds.0)
+    by : (front : FixedHeader) → fixed_header_of (state.unfinished ++ bytes) ≡ front → IsShort limit (state.unfinished ++ bytes) front
+        → FlowComes agrees limit context (flow_of at state c) (flow_of (at + length bytes) new_state c) bytes sink sink
+    by headers.Short e few = comes (short-refused limit context (flow_of at state c) state.unfinished bytes is e) (short-events context (flow_of at state c) state.unfinished bytes is e)
+        (short-after context (flow_of at state c) state.unfinished bytes is e)
+    by headers.Lost e never = absurd never
+    by (headers.Whole header size) e bounds = comes (quiet-refused limit context (flow_of at state c) state.unfinished bytes header size is e bounds.0 (inl bounds.1))
+        (quiet-events context (flow_of at state c) state.unfinished bytes header size is e bounds.0) (quiet-after context (flow_of at state c) state.unfinished bytes header size is e bounds.0)
 
 -- .. and it is unfinished.
-pub begins_unfinished : (limit : ℕ) (state new_state : StreamState) (bytes : List ℕ) → state.unfinished ≡ [] → state.lost ≡ false → new_state ≡ record { unfinished = state.unfinished ++ bytes; lost = state.lost }
-    → IsShort limit bytes (fixed_header_of bytes) → IsUnfinished limit new_state
-begins_unfinished limit state new_state bytes none open_yet kept short =
-    (let is : new_state ≡ going_on bytes = kept ∙ ap (λ (u : List ℕ). record { unfinished = u ++ bytes; lost = state.lost }) none ∙ ap (λ (l : Bool). record { unfinished = bytes; lost = l }) open_yet in
-    subst (IsUnfinished limit) (sym is) (short, λ e. absurd (cc)))
+pub stays_unfinished : (limit : ℕ) (state new_state : StreamState) (bytes : List ℕ) → state.lost ≡ false → new_state ≡ record { unfinished = state.unfinished ++ bytes; lost = state.lost }
+    → IsShort limit (state.unfinished ++ bytes) (fixed_header_of (state.unfinished ++ bytes)) → IsUnfinished limit new_state
+stays_unfinished limit state new_state bytes open_yet kept short =
+    subst (IsUnfinished limit) (sym kept) (short, λ (is : state.lost ≡ true). (let never : false ≡ true = sym open_yet ∙ is in absurd (cc)))
 
 -- The bytes that an unfinished packet lacks make it whole.
 pub whole_with : (u bytes : List ℕ) (header size : ℕ) → fixed_header_of u ≡ headers.Whole header size → length u + length bytes ≡ size → frame_size (u ++ bytes) ≡ Some (length (u ++ bytes))

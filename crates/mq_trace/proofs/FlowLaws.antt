@@ -164,7 +164,7 @@ open_byte limit context f u byte e l s large =
       after_bytes = after_is context f byte (going_on (u ++ byte ∷ [])) None (ap (λ state. state_after state byte) e ∙ state_by_front u byte false None l s) none;
     }
 
-not_lost : (a : List ℕ) (header : FixedHeader) → fixed_header_of a ≡ header → (header ≡ headers.Lost → ⊥) → is_lost a ≡ false
+pub not_lost : (a : List ℕ) (header : FixedHeader) → fixed_header_of a ≡ header → (header ≡ headers.Lost → ⊥) → is_lost a ≡ false
 not_lost a header e other =
     elim (is_lost a) as (λ l. is_lost a ≡ l → l ≡ false) [
       | true ↦ λ l. absurd (other (sym e ∙ lost_header a l))

@@ -86,18 +86,17 @@ stops_after declines r r1 a b old new refusal quiet moved stop = record {
       let place : r1.at + length stop.taken ≡ r.at + length (a ++ stop.taken) = (let l = length-append a stop.taken in omega arith) in (
         refused stop.taken ∙ g.0,
         completed stop.taken ∙ g.1,
-        same_why declines old new refusal quiet.limit place (ap (λ d. so_far_for d stop.byte) (sym (after_bytes_append c a stop.taken ∙ ap (λ d. after_bytes d stop.taken) f.3))) (sym (refused whole) ∙ ap (refused_in r.limit c) (sym last)) (sym (completed whole) ∙ ap (events_by c) (sym last)) g.2,
+        same_why declines old new refusal place (ap (λ d. so_far_for d stop.byte) (sym (after_bytes_append c a stop.taken ∙ ap (λ d. after_bytes d stop.taken) f.3))) (sym (refused whole) ∙ ap (refused_in r.limit c) (sym last)) (sym (completed whole) ∙ ap (events_by c) (sym last)) g.2,
       ));
 }
   where
-    same_why : {S : Type 0} (declines : S → S → List Placed → Refusal → Type 0) (old new : S) (refusal : Refusal) {limit limit' at at' : ℕ} {so_far so_far' : List ℕ} {met met' : Option Refusal} {completed completed' : List Placed}
-        → limit ≡ limit' → at ≡ at' → so_far ≡ so_far' → met ≡ met' → completed ≡ completed' → FlowWhy declines limit at so_far met completed old new refusal → FlowWhy declines limit' at' so_far' met' completed' old new refusal
-    same_why declines old new refusal {limit} {limit'} {at} {at'} {so_far} {so_far'} {met} {met'} {completed} {completed'} m p w q s why =
-        subst (λ n. FlowWhy declines n at' so_far' met' completed' old new refusal) m
-        (subst (λ n. FlowWhy declines limit n so_far' met' completed' old new refusal) p
-        (subst (λ t. FlowWhy declines limit at t met' completed' old new refusal) w
-        (subst (λ o. FlowWhy declines limit at so_far o completed' old new refusal) q
-        (subst (λ l. FlowWhy declines limit at so_far met l old new refusal) s why))))
+    same_why : {S : Type 0} (declines : S → S → List Placed → Refusal → Type 0) (old new : S) (refusal : Refusal) {at at' : ℕ} {so_far so_far' : List ℕ} {met met' : Option Refusal} {completed completed' : List Placed}
+        → at ≡ at' → so_far ≡ so_far' → met ≡ met' → completed ≡ completed' → FlowWhy declines at so_far met completed old new refusal → FlowWhy declines at' so_far' met' completed' old new refusal
+    same_why declines old new refusal {at} {at'} {so_far} {so_far'} {met} {met'} {completed} {completed'} p w q s why =
+        subst (λ n. FlowWhy declines n so_far' met' completed' old new refusal) p
+        (subst (λ t. FlowWhy declines at t met' completed' old new refusal) w
+        (subst (λ o. FlowWhy declines at so_far o completed' old new refusal) q
+        (subst (λ l. FlowWhy declines at so_far met l old new refusal) s why)))
 
 -- It doesn't matter what follows.
 pub stops_longer : {S : Type 0} (declines : S → S → List Placed → Refusal → Type 0) (r : Reading) (a b : List ℕ) (old new : S) (refusal : Refusal)

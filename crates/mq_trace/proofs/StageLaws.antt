@@ -14,7 +14,7 @@ use Rattle.mq_trace.specs.Framing.{kind_named, kind_of, opens}
 use Rattle.mq_trace.specs.Events.{Placed}
 use Rattle.mq_trace.specs.Refusals.{header_refusal, first_that_applies, is_open_kind, needs_connection, is_release_kind}
 use Rattle.mq_trace.specs.Context.{StreamState, Context, emptied, so_far_for, refusal_for, placed_for, put, after}
-use Rattle.mq_trace.specs.Runs.{after_bytes, refused_in, events_by}
+use Rattle.mq_trace.specs.Runs.{refused_in, events_by}
 use Rattle.mq_trace.specs.Emission.{NotEmitted, RefusedBySink}
 use Rattle.mq_trace.specs.Deframing.{FlowWhy}
 use Rattle.mq_trace.specs.Keeping.{state_in, spelled_from, IsAt, context_of, begun_in, IsWithin, IsUnfinished, IsSound, Advances, StepStops}
@@ -63,7 +63,7 @@ stops_unemitted {S} declines r b met e old new refusal each unemitted = record {
     place = omega arith
 
     why : (part : List ℕ) → IsAt r.stage part → NotEmitted declines r.at met (e ∷ []) old new refusal
-        → FlowWhy declines r.limit (r.at + length {A = ℕ} []) (so_far_for (context_of r part) b) (refused_in r.limit (context_of r part) (b ∷ [])) (events_by (context_of r part) (b ∷ [])) old new refusal
+        → FlowWhy declines (r.at + length {A = ℕ} []) (so_far_for (context_of r part) b) (refused_in r.limit (context_of r part) (b ∷ [])) (events_by (context_of r part) (b ∷ [])) old new refusal
     why part at (inl emitted) = let f = each part at in inl (ap (λ o. option_or o None) (f.0 ∙ emitted.0), emitted.1)
     why part at (inr emitted) =
         let f = each part at in

@@ -53,16 +53,16 @@ unfolding placed_for
 some_event c byte one = some_placed c (event_for c byte) one
 
 -- A byte of a packet, by what is kept, is one in the log.
-packet_there : (limit : ℕ) (log : List ℕ) (byte : ℕ) → NeedsMemory limit (so_far_for (context log) byte) → NeedsMemory limit (packet_at log byte)
-packet_there limit log byte needs = by_length (nat_lt (length log) 8) refl
+packet_there : (log : List ℕ) (byte : ℕ) → NeedsMemory (so_far_for (context log) byte) → NeedsMemory (packet_at log byte)
+packet_there log byte needs = by_length (nat_lt (length log) 8) refl
   where
-    by_length : (b : Bool) → nat_lt (length log) 8 ≡ b → NeedsMemory limit (packet_at log byte)
+    by_length : (b : Bool) → nat_lt (length log) 8 ≡ b → NeedsMemory (packet_at log byte)
     by_length true is =
         let none : so_far_for (context log) byte ≡ [] = header-so_far log byte (ltb-true (length log) 8 is) in
         let some : 0 < length (so_far_for (context log) byte) = needs.packet in
         let nothing : length (so_far_for (context log) byte) ≡ 0 = ap length none in
         absurd (omega arith)
-    by_length false is = subst (NeedsMemory limit) (sym (packet-kept log byte (ltb-false (length log) 8 is))) needs
+    by_length false is = subst NeedsMemory (sym (packet-kept log byte (ltb-false (length log) 8 is))) needs
 
 -- What stops a step stops the log.
 module _ {S : Type 0} (agrees : S → List Placed → Type 0) (refuses : S → List Placed → Refusal → Type 0) (r : Reading) (log : List ℕ) (keeps : HasRead r log) where
@@ -107,10 +107,10 @@ module _ {S : Type 0} (agrees : S → List Placed → Type 0) (refuses : S → L
         ∙ passes_here none
 
     -- the packet so far of the byte
-    needs_here : NeedsMemory r.limit (so_far_for (after_bytes (context_of r keeps.part) taken) byte) → NeedsMemory r.limit (packet_at (log ++ taken) byte)
+    needs_here : NeedsMemory (so_far_for (after_bytes (context_of r keeps.part) taken) byte) → NeedsMemory (packet_at (log ++ taken) byte)
     needs_here needs =
         (let kept : context (log ++ taken) ≡ after_bytes (context_of r keeps.part) taken = context_run log taken ∙ ap (λ (c : Context). after_bytes c taken) keeps.kept in
-        packet_there r.limit (log ++ taken) byte (subst (λ (c : Context). NeedsMemory r.limit (so_far_for c byte)) (sym kept) needs))
+        packet_there (log ++ taken) byte (subst (λ (c : Context). NeedsMemory (so_far_for c byte)) (sym kept) needs))
 
     -- What the byte completes follows the events of the log.
     follows_here : refused_in r.limit (context_of r keeps.part) (taken ++ byte ∷ []) ≡ None → AreEvents (events_by (context_of r keeps.part) (taken ++ byte ∷ []) ++ events log)
@@ -121,12 +121,12 @@ module _ {S : Type 0} (agrees : S → List Placed → Type 0) (refuses : S → L
       are = sym (events_run log (taken ++ byte ∷ []) ∙ ap (λ (l : List Placed). l ++ events log) (ap (λ (c : Context). events_by c (taken ++ byte ∷ [])) keeps.kept));
     }
 
-    pub why_here : (old new : S) (refusal : Refusal) → FlowWhy (Declines agrees refuses) r.limit (r.at + length taken) (so_far_for (after_bytes (context_of r keeps.part) taken) byte)
+    pub why_here : (old new : S) (refusal : Refusal) → FlowWhy (Declines agrees refuses) (r.at + length taken) (so_far_for (after_bytes (context_of r keeps.part) taken) byte)
         (refused_in r.limit (context_of r keeps.part) (taken ++ byte ∷ []))
         (events_by (context_of r keeps.part) (taken ++ byte ∷ [])) old new refusal → Why agrees refuses r.limit log taken byte old new refusal
     why_here old new refusal (inl x) = inl (record { met = refused_here refusal x.0; receives = received_nothing old new x.1 })
     why_here old new refusal (inr (inl x)) =
-        inr (inl (record { is = x.0 ∙ ap (λ (n : ℕ). refusals.Memory n) (sym offset); needs = needs_here x.2; receives = received_nothing old new x.1 }))
+        inr (inl (record { unmet = unmet_here x.2; needs = needs_here x.3; is = x.0 ∙ ap (λ (n : ℕ). refusals.Memory n) (sym offset); receives = received_nothing old new x.1 }))
     why_here old new refusal (inr (inr x)) =
         inr (inr (record {
           unmet = unmet_here x.0;
@@ -197,8 +197,9 @@ why_joined agrees refuses limit log done taken byte old mid new refusal before (
 why_joined agrees refuses limit log done taken byte old mid new refusal before (inr (inl x)) =
     (let assoc : (log ++ done) ++ taken ≡ log ++ (done ++ taken) = append_assoc log done taken in
     inr (inl (record {
+      unmet = subst (λ (l : List ℕ). refusal_at limit l byte ≡ None) assoc x.unmet;
+      needs = subst (λ (l : List ℕ). NeedsMemory (packet_at l byte)) assoc x.needs;
       is = subst (λ (l : List ℕ). refusal ≡ refusals.Memory (length l)) assoc x.is;
-      needs = subst (λ (l : List ℕ). NeedsMemory limit (packet_at l byte)) assoc x.needs;
       receives = λ was. subst (λ (l : List ℕ). agrees new (events l)) assoc (x.receives (before was));
     })))
 why_joined agrees refuses limit log done taken byte old mid new refusal before (inr (inr x)) =

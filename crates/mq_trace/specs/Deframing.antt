@@ -1,13 +1,13 @@
 -- One direction in memory: what a step takes in, and what stops it.
 use Rattle.std.specs.Prelude.{◌≡◌, ℕ, ◌+◌, ◌<◌, ◌⊎◌, nat_le, Bool, false, ◌&&◌, List, [], ◌∷◌, ◌++◌, length, slice_index, Option, Some, None, option_map, is_some}
-use Rattle.mq_packet.specs.Stream.{fixed_header_of}
+use Rattle.mq_packet.specs.Stream.{frame_size, is_lost}
 use Rattle.mq_trace.specs.declared.kind.Direction.{Direction}
 use Rattle.mq_trace.specs.declared.refusal.Refusal.{Refusal}
 use Rattle.mq_trace.specs.declared.refusal.Refusal.TheVariants as refusals
 use Rattle.mq_trace.specs.declared.connections.Connections.{Connections}
 use Rattle.mq_trace.specs.declared.deframer.BodyContext.{BodyContext as ContextInMemory}
 use Rattle.mq_trace.specs.Events.{Event, Placed, item_read, read_frame}
-use Rattle.mq_trace.specs.Refusals.{first_that_applies, is_too_large, is_other_version}
+use Rattle.mq_trace.specs.Refusals.{first_that_applies, is_other_version}
 use Rattle.mq_trace.specs.Context.{StreamState, so_far_in}
 use Rattle.mq_trace.specs.Reception.{AreEvents}
 use Rattle.mq_trace.specs.Flows.{BodyContext, Flow, item_event, comes_early, flow_refused, flow_after_bytes, flow_events}
@@ -36,17 +36,18 @@ abbrev pub connections_then : Bool → Connections → Option Event → Connecti
 connections_then server c None = c
 connections_then server c (Some event) = connections_with server c event
 
--- A byte may need memory, given the bytes so far of its packet, the byte included: it belongs to one, and doesn't end a fixed header whose size is over the limit.
-pub record NeedsMemory (limit : ℕ) (so_far : List ℕ) : Type 0 where
+-- A byte may need memory, given the bytes so far of its packet, the byte included: it belongs to one, of which more is to come.
+pub record NeedsMemory (so_far : List ℕ) : Type 0 where
   pub packet : 0 < length so_far
-  pub within : is_too_large limit so_far (fixed_header_of so_far) ≡ false
+  pub unended : frame_size so_far ≡ None
+  pub unlost : is_lost so_far ≡ false
 
--- Why a byte isn't taken in, given the bytes so far of its packet, the refusal that applies at it and what it completes: it is refused, or there was no memory,
--- and the sink received nothing; or the sink refused what it completes.
-abbrev pub FlowWhy : {S : Type 0} → (S → S → List Placed → Refusal → Type 0) → ℕ → ℕ → List ℕ → Option Refusal → List Placed → S → S → Refusal → Type 0
-FlowWhy declines limit at so_far met completed old new refusal =
+-- Why a byte isn't taken in, given the bytes so far of its packet, the refusal that applies at it and what it completes: it is refused, or none applies and there
+-- was no memory, and the sink received nothing; or none applies, and the sink refused what it completes.
+abbrev pub FlowWhy : {S : Type 0} → (S → S → List Placed → Refusal → Type 0) → ℕ → List ℕ → Option Refusal → List Placed → S → S → Refusal → Type 0
+FlowWhy declines at so_far met completed old new refusal =
     ((met ≡ Some refusal) × (new ≡ old))
-    ⊎ ((refusal ≡ refusals.Memory at) × (new ≡ old) × NeedsMemory limit so_far)
+    ⊎ ((refusal ≡ refusals.Memory at) × (new ≡ old) × (met ≡ None) × NeedsMemory so_far)
     ⊎ ((met ≡ None) × (length completed ≡ 1) × RefusedBySink declines at completed old new refusal)
 
 -- Bytes of a direction aren't all taken in: one of them isn't, and none before it is refused or completes anything.
@@ -57,7 +58,7 @@ pub record FlowStops {S : Type 0} (declines : S → S → List Placed → Refusa
   pub is : bytes ≡ taken ++ byte ∷ later
   pub unrefused : flow_refused limit context f taken ≡ None
   pub completes_none : flow_events context f taken ≡ []
-  pub why : FlowWhy declines limit (f.at + length taken) (so_far_in (flow_after_bytes context f taken).state byte) (flow_refused limit context f (taken ++ byte ∷ [])) (flow_events context f (taken ++ byte ∷ [])) old new refusal
+  pub why : FlowWhy declines (f.at + length taken) (so_far_in (flow_after_bytes context f taken).state byte) (flow_refused limit context f (taken ++ byte ∷ [])) (flow_events context f (taken ++ byte ∷ [])) old new refusal
 
 -- These bytes bring a direction from one state to another: none of them is refused, and a sink that had received what came before has received the events too that they complete.
 pub record FlowComes {S : Type 0} (agrees : S → List Placed → Type 0) (limit : ℕ) (context : BodyContext) (f f' : Flow) (bytes : List ℕ) (old new : S) : Type 0 where

@@ -109,4 +109,4 @@ pub record StepStops {S : Type 0} (declines : S → S → List Placed → Refusa
   pub later : List ℕ
   pub is : bytes ≡ taken ++ byte ∷ later
   pub each : (part : List ℕ) → IsAt r.stage part → (refused_in r.limit (context_of r part) taken ≡ None) × (events_by (context_of r part) taken ≡ [])
-      × FlowWhy declines r.limit (r.at + length taken) (so_far_for (after_bytes (context_of r part) taken) byte) (refused_in r.limit (context_of r part) (taken ++ byte ∷ [])) (events_by (context_of r part) (taken ++ byte ∷ [])) old new refusal
+      × FlowWhy declines (r.at + length taken) (so_far_for (after_bytes (context_of r part) taken) byte) (refused_in r.limit (context_of r part) (taken ++ byte ∷ [])) (events_by (context_of r part) (taken ++ byte ∷ [])) old new refusal

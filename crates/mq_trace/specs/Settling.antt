@@ -1,11 +1,14 @@
--- The next bytes of a direction, and the newest byte of an unfinished packet.
-use Rattle.std.specs.Prelude.{◌≡◌, ℕ, ◌+◌, ◌≤◌, false, List, [], ◌∷◌, ◌++◌, length, Some}
+-- The next bytes of a direction, and the next byte of a packet.
+use Rattle.std.specs.Prelude.{◌≡◌, ℕ, ◌+◌, ◌≤◌, true, List, [], ◌∷◌, ◌++◌, length, Some}
 use Rattle.mq_packet.specs.declared.header.FixedHeader.TheVariants as headers
 use Rattle.mq_packet.specs.Stream.{fixed_header_of, frame_size}
 use Rattle.mq_trace.specs.declared.deframer.Step.{Step}
 use Rattle.mq_trace.specs.declared.deframer.Step.TheVariants as steps
+use Rattle.mq_trace.specs.declared.deframer.ByteStep.{ByteStep}
+use Rattle.mq_trace.specs.declared.deframer.ByteStep.TheVariants as byte_steps
+use Rattle.mq_trace.specs.Refusals.{is_too_large}
 use Rattle.mq_trace.specs.Context.{StreamState}
-use Rattle.mq_trace.specs.Keeping.{IsShort, IsUnfinished}
+use Rattle.mq_trace.specs.Keeping.{IsShort}
 
 -- The bytes begin with a whole packet within the limit, of this size and with a fixed header of this length.
 pub record IsWhole (limit : ℕ) (bytes : List ℕ) (header size : ℕ) : Type 0 where
@@ -21,7 +24,9 @@ IsStep state limit bytes (steps.More size) = (header : ℕ) × (fixed_header_of 
 IsStep state limit bytes steps.Beginning = (state.unfinished ≡ []) × IsShort limit bytes (fixed_header_of bytes)
 IsStep state limit bytes steps.Byte = length state.unfinished ≤ 4
 
--- These bytes of a packet are those of an unfinished one, and one more byte.
-pub record IsByteMore (limit : ℕ) (before : List ℕ) (byte : ℕ) (bytes : List ℕ) : Type 0 where
-  pub unfinished : IsUnfinished limit (record { unfinished = before; lost = false })
-  pub is : bytes ≡ before ++ byte ∷ []
+-- What a byte is, after these bytes of an unfinished packet: one of which more is to come; its last byte; the one that ends a fixed header with a size over the limit; or the one that makes the fixed header invalid.
+abbrev pub IsByteStep : ℕ → List ℕ → ℕ → ByteStep → Type 0
+IsByteStep limit before byte byte_steps.GoesOn = IsShort limit (before ++ byte ∷ []) (fixed_header_of (before ++ byte ∷ []))
+IsByteStep limit before byte byte_steps.Ends = (1 ≤ length before) × (frame_size (before ++ byte ∷ []) ≡ Some (length (before ++ byte ∷ []))) × (length (before ++ byte ∷ []) ≤ limit)
+IsByteStep limit before byte byte_steps.TooLarge = is_too_large limit (before ++ byte ∷ []) (fixed_header_of (before ++ byte ∷ [])) ≡ true
+IsByteStep limit before byte byte_steps.Loses = fixed_header_of (before ++ byte ∷ []) ≡ headers.Lost

@@ -44,10 +44,12 @@ pub record IsRefused {S : Type 0} (agrees : S → List Placed → Type 0) (limit
   pub met : refusal_at limit (log ++ bytes) byte ≡ Some refusal
   pub receives : HasReceived agrees log bytes old new
 
--- There was no memory for the byte after these, which belongs to a packet and doesn't show it to be too large. The sink has received all events before the byte, and none of it.
+-- There was no memory for the byte after these, at which no refusal's condition applies. It belongs to a packet, of which more is to come. The sink has received
+-- all events before the byte, and none of it.
 pub record LacksMemory {S : Type 0} (agrees : S → List Placed → Type 0) (limit : ℕ) (log bytes : List ℕ) (byte : ℕ) (old new : S) (refusal : Refusal) : Type 0 where
+  pub unmet : refusal_at limit (log ++ bytes) byte ≡ None
+  pub needs : NeedsMemory (packet_at (log ++ bytes) byte)
   pub is : refusal ≡ refusals.Memory (length (log ++ bytes))
-  pub needs : NeedsMemory limit (packet_at (log ++ bytes) byte)
   pub receives : HasReceived agrees log bytes old new
 
 -- The sink refused the event that the byte after these completes, at which no refusal's condition applies. If it had received the events of the log, it is in

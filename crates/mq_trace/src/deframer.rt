@@ -2,20 +2,19 @@
 //!
 //! The path of a whole packet to the sink is inlined, so that the packet isn't moved; rare cases are functions of their own.
 
-ghost use Rattle.std.specs.Prelude.{◌≡◌, ◌+◌, ◌-◌, ◌<◌, ◌≤◌, ◌^◌, ◌++◌, ◌⊎◌, ℕ, ◌∷◌, [], List, Some, None, OnOk, OnErr, IfOk, IfSome, IfErr, IsTrue, Err, length, take, drop, slice_index, option_map, true, false};
-ghost use Rattle.mq_packet.specs.Stream.{frame_size, fixed_header_of};
+ghost use Rattle.std.specs.Prelude.{◌≡◌, ◌==◌, ◌+◌, ◌-◌, ◌<◌, ◌≤◌, ◌^◌, ◌++◌, ◌⊎◌, ℕ, ◌∷◌, [], List, Some, None, OnOk, OnErr, IfOk, IfSome, IfErr, IsTrue, Err, length, take, drop, slice_index, option_map, true, false};
+ghost use Rattle.mq_packet.specs.Stream.{frame_size, fixed_header_of, HasBounds};
 ghost use Rattle.mq_packet.specs.Decoding.{decoded};
 ghost use Rattle.mq_packet.specs.Reading.{view, Gives};
 ghost use Rattle.mq_packet.specs.Sizes.{remaining_length};
 ghost use Rattle.mq_packet.specs.declared.header.FixedHeader.TheVariants as headers;
-ghost use Rattle.mq_trace.specs.Refusals.{is_too_large};
 ghost use Rattle.mq_trace.specs.Events.{Placed, bad, lost, item_read, read_frame};
 ghost use Rattle.mq_trace.specs.Context.{put};
 ghost use Rattle.mq_trace.specs.Reception.{AreEvents, Declines, event_of, item_of};
 ghost use Rattle.mq_trace.specs.declared.event.Item.TheVariants as items;
 ghost use Rattle.mq_trace.specs.Emission.{NotEmitted, event_refusal, connections_with, next_placed};
 ghost use Rattle.mq_trace.specs.Keeping.{state_in, IsUnfinished};
-ghost use Rattle.mq_trace.specs.Settling.{IsByteMore, IsStep, IsWhole};
+ghost use Rattle.mq_trace.specs.Settling.{IsByteStep, IsStep, IsWhole};
 ghost use Rattle.mq_trace.specs.Flows.{item_event, flow_placed_with, flow_refused, flow_events, flow_after_bytes};
 ghost use Rattle.mq_trace.specs.Deframing.{body_context, flow_of, frame_event, frame_refusal, connections_then, FlowStops, FlowComes};
 
@@ -29,13 +28,32 @@ use mq_packet::{
     DecodeFault, FixedHeader, Packet, PacketRule, decode, decode_brief_acknowledgement,
     decode_brief_publish, decode_ping, decode_publish, fixed_header, has_no_properties,
 };
-use std::alloc::Global;
+use std::alloc::{AllocError, Global};
+use std::marker::Model;
 
 /// What is kept of one direction: the bytes of its unfinished packet.
 #[derive(Drop)]
 pub struct Deframer {
-    pub unfinished: BytesMut,
+    pub unfinished: Unfinished,
     pub lost: bool,
+}
+
+/// The bytes of an unfinished packet. If there are any, there is room for one byte more. So no packet needs memory for its last
+/// byte alone, and the refusal that applies at that byte is always found.
+#[derive(Drop)]
+pub struct Unfinished {
+    bytes: BytesMut,
+}
+
+impl Model for Unfinished {
+    ghost use Rattle.std.specs.Prelude.{◌<◌, length};
+    ghost use Rattle.bytes.specs.Filled.{Filled};
+
+    ghost Value = { Filled };
+
+    ghost view = { λ u. u.bytes };
+
+    ghost invariant = { λ u. 0 < length u.bytes.items → 0 < u.bytes.spare };
 }
 
 /// What stays the same while the body of a record is read.
@@ -69,13 +87,26 @@ pub enum Step {
     Byte,
 }
 
+/// What a byte that may belong to a fixed header is to its packet.
+#[derive(Clone, Copy, Debug, PartialEq, Eq)]
+pub enum ByteStep {
+    /// More of the packet is to come.
+    GoesOn,
+    /// It is the packet's last byte.
+    Ends,
+    /// It ends a fixed header that gives a size over the limit.
+    TooLarge,
+    /// It makes the Remaining Length invalid (MQTT 5.0, section 1.5.5).
+    Loses,
+}
+
 impl Deframer {
     /// A direction in which nothing has come.
     pub fn new(alloc: Global) -> Self
         ensures { state_in result ≡ record { unfinished = []; lost = false } }
     {
         Deframer {
-            unfinished: BytesMut::new(alloc),
+            unfinished: Unfinished::new(alloc),
             lost: false,
         }
     }
@@ -207,90 +238,41 @@ impl Deframer {
                 Err(refusal) => Err(refusal),
             }
         } else {
-            match self.complete(context, connections, at, &bytes[..lacks], sink) {
+            let last = &bytes[..lacks];
+            match self
+                .unfinished
+                .complete(context, connections, at, last, sink)
+            {
                 Ok(()) => Ok(lacks),
                 Err(refusal) => Err(refusal),
             }
         }
     }
 
-    /// Keeps bytes of an unfinished packet.
+    /// Keeps bytes of an unfinished packet, of which more is to come.
     ///
     /// # Errors
     ///
-    /// `Memory`, at the first of them, if there is no memory for all of them. Nothing is kept then.
+    /// `Memory`, at the first of them, if there is no memory for them and one byte more. Nothing is kept then.
     #[inline(never)]
     fn buffer(&mut self, at: u64, bytes: &[u8]) -> Result<(), Refusal>
         ensures ok { OnOk result (state_in self.new ≡ record { unfinished = self.old.unfinished.items ++ bytes.now; lost = self.old.lost }) }
         ensures err { IfErr result (λ refusal. refusal ≡ Refusal.Memory at) }
         ensures same { OnErr result (state_in self.new ≡ state_in self.old) }
-        ensures room { OnErr result (self.old.unfinished.spare < length bytes.now) }
+        ensures wanted { OnErr result (self.old.unfinished.spare ≤ length bytes.now) }
     {
-        match self.unfinished.extend_from_slice(bytes) {
+        match self.unfinished.extend(bytes) {
             Ok(()) => Ok(()),
             Err(_) => Err(Refusal::Memory(at)),
         }
     }
 
-    /// Takes in the last bytes of an unfinished packet.
+    /// Takes in one byte, which may belong to a fixed header. What it does is decided before memory is taken, by the fixed header
+    /// with this byte.
     ///
     /// # Errors
     ///
-    /// The refusal that applies at the last of them; the sink's own refusal; `Memory`.
-    #[inline(never)]
-    fn complete<S: Sink>(
-        &mut self,
-        context: BodyContext,
-        connections: &mut Connections,
-        at: u64,
-        bytes: &[u8],
-        sink: &mut S,
-    ) -> Result<(), Refusal>
-        requires some { 1 ≤ length bytes.now }
-        requires room { at + length bytes.now < 2 ^ 64 }
-        requires kept { self.old.lost ≡ false }
-        requires whole { frame_size (self.old.unfinished.items ++ bytes.now) ≡ Some (length (self.old.unfinished.items ++ bytes.now)) }
-        requires within { length (self.old.unfinished.items ++ bytes.now) ≤ context.limit }
-        ensures comes { OnOk result (FlowComes S.agrees context.limit (body_context context) (flow_of at (state_in self.old) connections.old)
-            (flow_of (at + length bytes.now) (state_in self.new) connections.new) bytes.now sink.old sink.new) }
-        ensures empty { OnOk result (state_in self.new ≡ record { unfinished = []; lost = false }) }
-        ensures stops { IfErr result (λ refusal. FlowStops (Declines S.agrees S.refuses) context.limit (body_context context) (flow_of at (state_in self.old) connections.old) bytes.now sink.old sink.new refusal) }
-    {
-        match self.buffer(at, bytes) {
-            Ok(()) => self.emit_buffered(context, connections, at + (bytes.len() - 1) as u64, sink),
-            Err(refusal) => Err(refusal),
-        }
-    }
-
-    /// Emits the packet that was unfinished and is now whole, and drops its bytes. Its last byte has this offset in the log.
-    ///
-    /// # Errors
-    ///
-    /// The refusal that applies at its last byte; the sink's own refusal.
-    fn emit_buffered<S: Sink>(
-        &mut self,
-        context: BodyContext,
-        connections: &mut Connections,
-        at: u64,
-        sink: &mut S,
-    ) -> Result<(), Refusal>
-        requires whole { frame_size self.old.unfinished.items ≡ Some (length self.old.unfinished.items) }
-        ensures empty { OnOk result (state_in self.new ≡ record { unfinished = []; lost = self.old.lost }) }
-        ensures met { OnOk result (frame_refusal at (flow_of at (record { unfinished = []; lost = false }) connections.old) context.direction self.old.unfinished.items ≡ None) }
-        ensures kept { OnOk result (connections.new ≡ connections_then context.server connections.old (frame_event context.direction self.old.unfinished.items)) }
-        ensures receives { (earlier : List Placed) → S.agrees sink.old earlier
-            → AreEvents (put (flow_placed_with (body_context context) (flow_of at (record { unfinished = []; lost = false }) connections.old) (frame_event context.direction self.old.unfinished.items)) earlier)
-            → OnOk result (S.agrees sink.new (put (flow_placed_with (body_context context) (flow_of at (record { unfinished = []; lost = false }) connections.old) (frame_event context.direction self.old.unfinished.items)) earlier)) }
-        ensures err { IfErr result (λ refusal. NotEmitted (Declines S.agrees S.refuses) at (frame_refusal at (flow_of at (record { unfinished = []; lost = false }) connections.old) context.direction self.old.unfinished.items)
-            (put (flow_placed_with (body_context context) (flow_of at (record { unfinished = []; lost = false }) connections.old) (frame_event context.direction self.old.unfinished.items)) []) sink.old sink.new refusal) }
-    {
-        let frame = self.unfinished.as_slice();
-        let emitted = emit_frame(context, connections, at, header_of(frame), frame, sink);
-        self.unfinished.clear();
-        emitted
-    }
-
-    /// Takes in one byte, which may belong to a fixed header.
+    /// The refusal that applies at it; the sink's own refusal; `Memory`.
     #[inline(never)]
     fn consume_byte<S: Sink>(
         &mut self,
@@ -309,37 +291,44 @@ impl Deframer {
         ensures sound { OnOk result (IsUnfinished context.limit (state_in self.new)) }
         ensures stops { IfErr result (λ refusal. FlowStops (Declines S.agrees S.refuses) context.limit (body_context context) (flow_of at (state_in self.old) connections.old) (byte ∷ []) sink.old sink.new refusal) }
     {
-        match self.buffer(at, &[byte]) {
-            Ok(()) => self.check_header(context, connections, at, sink),
-            Err(refusal) => {
-                // TooLarge has the lower number, and needs no memory.
-                if self.is_too_large(context.limit, byte) {
-                    Err(Refusal::TooLarge(at))
-                } else {
-                    Err(refusal)
-                }
+        match self.byte_step(context.limit, byte) {
+            ByteStep::GoesOn => self.buffer(at, &[byte]),
+            ByteStep::Ends => {
+                self.unfinished
+                    .complete(context, connections, at, &[byte], sink)
             }
+            ByteStep::TooLarge => Err(Refusal::TooLarge(at)),
+            ByteStep::Loses => self.mark_lost(context, connections, at, sink),
         }
     }
 
-    /// Whether the fixed header of the unfinished packet, of which at most four bytes came, ends with this byte and gives a size
-    /// over the limit.
-    fn is_too_large(&self, limit: u32, byte: u8) -> bool
-        requires { length self.now.unfinished.items ≤ 4 }
-        ensures { result ≡ is_too_large limit (self.now.unfinished.items ++ byte ∷ []) (fixed_header_of (self.now.unfinished.items ++ byte ∷ [])) }
+    /// What the next byte is to the unfinished packet, of which at most four bytes came.
+    fn byte_step(&self, limit: u32, byte: u8) -> ByteStep
+        requires unfinished { IsUnfinished limit (state_in self.now) }
+        requires few { length self.now.unfinished.items ≤ 4 }
+        ensures { IsByteStep limit self.now.unfinished.items byte result }
     {
         match self.header_with(byte) {
+            FixedHeader::Short => ByteStep::GoesOn,
+            FixedHeader::Lost => ByteStep::Loses,
             FixedHeader::Whole { length, size } => {
-                length == self.unfinished.len() + 1 && size > limit as usize
+                let count = self.unfinished.len() + 1;
+                if length == count && size > limit as usize {
+                    ByteStep::TooLarge
+                } else if size == count {
+                    ByteStep::Ends
+                } else {
+                    ByteStep::GoesOn
+                }
             }
-            FixedHeader::Short | FixedHeader::Lost => false,
         }
     }
 
     /// The fixed header of the unfinished packet, of which at most four bytes came, with one more byte.
     fn header_with(&self, byte: u8) -> FixedHeader
         requires { length self.now.unfinished.items ≤ 4 }
-        ensures { result ≡ fixed_header_of (self.now.unfinished.items ++ byte ∷ []) }
+        ensures exact { result ≡ fixed_header_of (self.now.unfinished.items ++ byte ∷ []) }
+        ensures bounds { HasBounds result }
     {
         match *self.unfinished.as_slice() {
             [] => fixed_header(&[byte]),
@@ -348,42 +337,6 @@ impl Deframer {
             [a, b, c] => fixed_header(&[a, b, c, byte]),
             [a, b, c, d] => fixed_header(&[a, b, c, d, byte]),
             _ => unreachable!(),
-        }
-    }
-
-    /// Settles the newest byte of the unfinished packet, which has this offset in the log.
-    ///
-    /// # Errors
-    ///
-    /// The refusal that applies at it; the sink's own refusal.
-    #[inline(never)]
-    fn check_header<S: Sink>(
-        &mut self,
-        context: BodyContext,
-        connections: &mut Connections,
-        at: u64,
-        sink: &mut S,
-    ) -> Result<(), Refusal>
-        requires kept { self.old.lost ≡ false }
-        ensures comes { (before : List ℕ) (byte : ℕ) → IsByteMore context.limit before byte self.old.unfinished.items
-            → OnOk result (FlowComes S.agrees context.limit (body_context context) (flow_of at (record { unfinished = before; lost = false }) connections.old)
-            (flow_of (at + 1) (state_in self.new) connections.new) (byte ∷ []) sink.old sink.new) }
-        ensures sound { (before : List ℕ) (byte : ℕ) → IsByteMore context.limit before byte self.old.unfinished.items → OnOk result (IsUnfinished context.limit (state_in self.new)) }
-        ensures stops { (before : List ℕ) (byte : ℕ) → IsByteMore context.limit before byte self.old.unfinished.items
-            → IfErr result (λ refusal. FlowStops (Declines S.agrees S.refuses) context.limit (body_context context) (flow_of at (record { unfinished = before; lost = false }) connections.old) (byte ∷ []) sink.old sink.new refusal) }
-    {
-        match fixed_header(self.unfinished.as_slice()) {
-            FixedHeader::Short => Ok(()),
-            FixedHeader::Lost => self.mark_lost(context, connections, at, sink),
-            FixedHeader::Whole { length, size } => {
-                if length == self.unfinished.len() && size > context.limit as usize {
-                    Err(Refusal::TooLarge(at))
-                } else if size == self.unfinished.len() {
-                    self.emit_buffered(context, connections, at, sink)
-                } else {
-                    Ok(())
-                }
-            }
         }
     }
 
@@ -417,6 +370,98 @@ impl Deframer {
             item_event(context.direction, Item::Lost),
             sink,
         )
+    }
+}
+
+impl Unfinished {
+    /// No bytes.
+    fn new(alloc: Global) -> Self
+        ensures { result.items ≡ [] }
+    {
+        Unfinished {
+            bytes: BytesMut::new(alloc),
+        }
+    }
+
+    /// How many bytes there are.
+    pub fn len(&self) -> usize
+        ensures value { result ≡ length self.now.items }
+        ensures bound { result < 2 ^ 63 }
+    {
+        self.bytes.len()
+    }
+
+    /// Whether there are none.
+    #[inline(always)]
+    fn is_empty(&self) -> bool
+        ensures { result ≡ (length self.now.items == 0) }
+    {
+        self.bytes.is_empty()
+    }
+
+    #[inline(always)]
+    fn as_slice(&self) -> &[u8]
+        ensures { result.now ≡ self.now.items }
+    {
+        self.bytes.as_slice()
+    }
+
+    /// Drops all bytes.
+    fn clear(&mut self)
+        ensures { self.new.items ≡ [] }
+    {
+        self.bytes.clear();
+    }
+
+    /// Appends bytes of the packet, of which more is to come.
+    ///
+    /// # Errors
+    ///
+    /// If there is no memory for them and one byte more. Nothing is appended then.
+    fn extend(&mut self, bytes: &[u8]) -> Result<(), AllocError>
+        ensures ok { OnOk result (self.new.items ≡ self.old.items ++ bytes.now) }
+        ensures same { OnErr result (self.new.items ≡ self.old.items) }
+        ensures wanted { OnErr result (self.old.spare ≤ length bytes.now) }
+    {
+        self.bytes.reserve(bytes.len() + 1)?;
+        self.bytes.extend_reserved(bytes);
+        Ok(())
+    }
+
+    /// Appends the packet's last bytes, the first of which has this offset in the log, emits the packet, and drops its bytes.
+    ///
+    /// # Errors
+    ///
+    /// The refusal that applies at the last of them; the sink's own refusal; `Memory`, at the first of them, if there are several.
+    #[inline(never)]
+    fn complete<S: Sink>(
+        &mut self,
+        context: BodyContext,
+        connections: &mut Connections,
+        at: u64,
+        bytes: &[u8],
+        sink: &mut S,
+    ) -> Result<(), Refusal>
+        requires begun { 1 ≤ length self.old.items }
+        requires some { 1 ≤ length bytes.now }
+        requires room { at + length bytes.now < 2 ^ 64 }
+        requires whole { frame_size (self.old.items ++ bytes.now) ≡ Some (length (self.old.items ++ bytes.now)) }
+        requires within { length (self.old.items ++ bytes.now) ≤ context.limit }
+        ensures comes { OnOk result (FlowComes S.agrees context.limit (body_context context) (flow_of at (record { unfinished = self.old.items; lost = false }) connections.old)
+            (flow_of (at + length bytes.now) (record { unfinished = []; lost = false }) connections.new) bytes.now sink.old sink.new) }
+        ensures empty { OnOk result (self.new.items ≡ []) }
+        ensures stops { IfErr result (λ refusal. FlowStops (Declines S.agrees S.refuses) context.limit (body_context context) (flow_of at (record { unfinished = self.old.items; lost = false }) connections.old) bytes.now sink.old sink.new refusal) }
+    {
+        let last = at + (bytes.len() - 1) as u64;
+        match self.bytes.extend_from_slice(bytes) {
+            Ok(()) => {
+                let frame = self.bytes.as_slice();
+                let emitted = emit_frame(context, connections, last, header_of(frame), frame, sink);
+                self.bytes.clear();
+                emitted
+            }
+            Err(_) => Err(Refusal::Memory(at)),
+        }
     }
 }
 

@@ -38,8 +38,8 @@ pub enum Refusal {
     TooLong(u64),
     /// 15: the reader failed, or the bound on the number of reads was reached.
     Read(u64),
-    /// 16: there was no memory. A sink that can't go on, for whatever reason, returns it too, at offset 0: the tracer moves it to
-    /// the byte that completed the event.
+    /// 16: there was no memory, and no condition applies at the byte. A sink that can't go on, for whatever reason, returns it too,
+    /// at offset 0: the tracer moves it to the byte that completed the event.
     Memory(u64),
 }
 

@@ -93,10 +93,9 @@ impl Tracer {
     /// # Errors
     ///
     /// The refusal whose condition applies at the earliest byte, and at one byte the one with the lowest number; the sink's own
-    /// refusal, at the byte that completed the event, if no condition applies at it; or `Memory`, at a byte of a packet that
-    /// couldn't be kept. No condition applies before the byte that is named, and the sink has received all events that are complete
-    /// before it. `Memory` comes before the conditions for which the packet must be read: `OtherVersion`, `Early` and `TooLong`.
-    /// From then on each call fails with the same refusal.
+    /// refusal, at the byte that completed the event, if no condition applies at it; or `Memory`, at a byte that couldn't be kept, if
+    /// no condition applies at it: it belongs to a packet of which more is to come. No condition applies before the byte that is
+    /// named, and the sink has received all events that are complete before it. From then on each call fails with the same refusal.
     pub fn feed<S: Sink>(&mut self, piece: &[u8], sink: &mut S) -> Result<(), Refusal>
         ensures answers { (log : List ℕ) → IsTracedTo self.old log → TracesPiece S.agrees S.refuses self.old.reading.limit log piece.now sink.old sink.new result }
         ensures follows { (log : List ℕ) → IsTracedTo self.old log → OnOk result (IsTracedTo self.new (log ++ piece.now)) }

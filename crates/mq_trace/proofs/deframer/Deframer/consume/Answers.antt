@@ -9,7 +9,7 @@ use Rattle.mq_trace.specs.Reception.{Declines, AreEvents}
 use Rattle.mq_trace.specs.Flows.{flow_after_bytes, flow_refused, flow_events}
 use Rattle.mq_trace.specs.Deframing.{body_context, flow_of, FlowStops}
 use Rattle.mq_trace.proofs.FlowLaws.{lost-refused, lost-events}
-use Rattle.mq_trace.proofs.DeframerLaws.{frame_front, header_front, first_front, lost_kept, stops_front, stops_memory, small_first, empty_state, begins, begins_unfinished}
+use Rattle.mq_trace.proofs.DeframerLaws.{frame_front, header_front, first_front, lost_kept, stops_front, stops_memory, empty_state, begins_short, stays, stays_unfinished}
 use Rattle.mq_trace.proofs.deframer.Deframer.consume.Goals as goal
 
 pub returns-then-self-clause-unrefused : goal.returns-then-self-clause-unrefused
@@ -62,30 +62,32 @@ returns-in-Err-consume_byte-clause-stops g c =
 
 pub returns-in-Ok-buffer-clause-unrefused : goal.returns-in-Ok-buffer-clause-unrefused
 returns-in-Ok-buffer-clause-unrefused g c =
-    let comes = begins g.S.Sink.agrees c.args.context.limit (body_context c.args.context) c.args.at c.args.connections.now (state_in c.args.self.now) (state_in c.buffer.new.self) c.args.bytes.now c.args.sink.now
-    c.in-Beginning.ensures.0 c.if-self.false c.in-Ok-buffer.ensures.ok c.in-Beginning.ensures.1 in
+    let comes = stays g.S.Sink.agrees c.args.context.limit (body_context c.args.context) c.args.at c.args.connections.now (state_in c.args.self.now) (state_in c.buffer.new.self) c.args.bytes.now c.args.sink.now
+    c.if-self.false c.in-Ok-buffer.ensures.ok (begins_short c.args.context.limit c.args.self.now.unfinished.items c.args.bytes.now c.in-Beginning.ensures.0 c.in-Beginning.ensures.1) in
     ap (flow_refused c.args.context.limit (body_context c.args.context) (flow_of c.args.at (state_in c.args.self.now) c.args.connections.now)) (take_all (length c.args.bytes.now) c.args.bytes.now (omega arith)) ∙ comes.unrefused
 
 pub returns-in-Ok-buffer-clause-kept : goal.returns-in-Ok-buffer-clause-kept
 returns-in-Ok-buffer-clause-kept g c =
-    let comes = begins g.S.Sink.agrees c.args.context.limit (body_context c.args.context) c.args.at c.args.connections.now (state_in c.args.self.now) (state_in c.buffer.new.self) c.args.bytes.now c.args.sink.now
-    c.in-Beginning.ensures.0 c.if-self.false c.in-Ok-buffer.ensures.ok c.in-Beginning.ensures.1 in
+    let comes = stays g.S.Sink.agrees c.args.context.limit (body_context c.args.context) c.args.at c.args.connections.now (state_in c.args.self.now) (state_in c.buffer.new.self) c.args.bytes.now c.args.sink.now
+    c.if-self.false c.in-Ok-buffer.ensures.ok (begins_short c.args.context.limit c.args.self.now.unfinished.items c.args.bytes.now c.in-Beginning.ensures.0 c.in-Beginning.ensures.1) in
     ap (flow_after_bytes (body_context c.args.context) (flow_of c.args.at (state_in c.args.self.now) c.args.connections.now)) (take_all (length c.args.bytes.now) c.args.bytes.now (omega arith)) ∙ comes.kept
 
 pub returns-in-Ok-buffer-clause-receives : goal.returns-in-Ok-buffer-clause-receives
 returns-in-Ok-buffer-clause-receives g c =
-    let comes = begins g.S.Sink.agrees c.args.context.limit (body_context c.args.context) c.args.at c.args.connections.now (state_in c.args.self.now) (state_in c.buffer.new.self) c.args.bytes.now c.args.sink.now
-    c.in-Beginning.ensures.0 c.if-self.false c.in-Ok-buffer.ensures.ok c.in-Beginning.ensures.1 in
+    let comes = stays g.S.Sink.agrees c.args.context.limit (body_context c.args.context) c.args.at c.args.connections.now (state_in c.args.self.now) (state_in c.buffer.new.self) c.args.bytes.now c.args.sink.now
+    c.if-self.false c.in-Ok-buffer.ensures.ok (begins_short c.args.context.limit c.args.self.now.unfinished.items c.args.bytes.now c.in-Beginning.ensures.0 c.in-Beginning.ensures.1) in
     subst (λ (t : List ℕ). (earlier : List Placed) → g.S.Sink.agrees c.args.sink.now earlier → AreEvents (flow_events (body_context c.args.context) (flow_of c.args.at (state_in c.args.self.now) c.args.connections.now) t ++ earlier)
     → g.S.Sink.agrees c.args.sink.now (flow_events (body_context c.args.context) (flow_of c.args.at (state_in c.args.self.now) c.args.connections.now) t ++ earlier))
     (sym (take_all (length c.args.bytes.now) c.args.bytes.now (omega arith))) comes.emitted
 
 pub returns-in-Ok-buffer-clause-sound : goal.returns-in-Ok-buffer-clause-sound
-returns-in-Ok-buffer-clause-sound g c = begins_unfinished c.args.context.limit (state_in c.args.self.now) (state_in c.buffer.new.self) c.args.bytes.now c.in-Beginning.ensures.0 c.if-self.false c.in-Ok-buffer.ensures.ok c.in-Beginning.ensures.1
+returns-in-Ok-buffer-clause-sound g c =
+    stays_unfinished c.args.context.limit (state_in c.args.self.now) (state_in c.buffer.new.self) c.args.bytes.now c.if-self.false c.in-Ok-buffer.ensures.ok
+    (begins_short c.args.context.limit c.args.self.now.unfinished.items c.args.bytes.now c.in-Beginning.ensures.0 c.in-Beginning.ensures.1)
 
 pub returns-in-Err-buffer-clause-stops : goal.returns-in-Err-buffer-clause-stops
 returns-in-Err-buffer-clause-stops g c =
     subst (λ (refusal : Refusal). FlowStops {S = g.row.S.Denot} (Declines g.S.Sink.agrees g.S.Sink.refuses) c.args.context.limit (body_context c.args.context) (flow_of c.args.at (state_in c.args.self.now) c.args.connections.now)
     c.args.bytes.now c.args.sink.now c.args.sink.now refusal) (sym c.in-Err-buffer.ensures.err)
     (stops_memory (Declines g.S.Sink.agrees g.S.Sink.refuses) c.args.context.limit (body_context c.args.context) (flow_of c.args.at (state_in c.args.self.now) c.args.connections.now) c.args.bytes.now c.args.sink.now (omega (arith, c.requires.some)) c.if-self.false
-    (small_first c.args.context.limit c.args.self.now.unfinished.items c.args.bytes.now c.in-Beginning.ensures.0 c.in-Beginning.ensures.1))
+    (begins_short c.args.context.limit c.args.self.now.unfinished.items c.args.bytes.now c.in-Beginning.ensures.0 c.in-Beginning.ensures.1))

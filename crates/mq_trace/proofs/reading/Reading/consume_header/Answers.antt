@@ -1,5 +1,4 @@
-use Rattle.std.proofs.Common.{◌≡◌, Some, sym, ◌∙◌}
-use Rattle.mq_trace.specs.Refusals.{header_refusal}
+use Rattle.std.proofs.Common.{sym, ◌∙◌}
 use Rattle.mq_trace.proofs.StopLaws.{header_offset}
 use Rattle.mq_trace.proofs.reading.Reading.consume_header.Goals as goal
 

@@ -1,0 +1,30 @@
+-- The last bytes of an unfinished packet.
+use Rattle.std.proofs.Common.{◌≡◌, ◌++◌, ◌∙◌, ◌<◌, false, length, arith, ap, refl}
+use Rattle.bytes.specs.Filled.{Filled}
+use Rattle.mq_trace.specs.Deframing.{body_context, flow_of}
+use Rattle.mq_trace.proofs.DeframerLaws.{ended, ended_stops, stops_part}
+use Rattle.mq_trace.specs.Reception.{Declines}
+use Rattle.mq_trace.proofs.deframer.Unfinished.complete.Goals as goal
+
+pub returns-in-Ok-clause-comes : goal.returns-in-Ok-clause-comes
+returns-in-Ok-clause-comes g c =
+    let frame : c.as_slice-frame.result.now ≡ c.args.self.now.items ++ c.args.bytes.now = c.as_slice-frame.ensures ∙ c.in-Ok.ensures.ok ∙ ap (λ (b : Filled). b.items ++ c.args.bytes.now) c.self.view_is in
+    ended g.S.Sink.agrees (Declines g.S.Sink.agrees g.S.Sink.refuses) c.args.context.limit c.args.context c.args.at _ c.args.connections.now c.args.self.now.items c.args.bytes.now c.as_slice-frame.result.now
+    frame c.requires.whole (omega (arith, c.requires.some)) (omega (arith, c.requires.some)) c.requires.within
+    c.emit_frame-emitted.result c.emit_frame-emitted.new.connections c.args.sink.now c.emit_frame-emitted.new.sink
+    c.emit_frame-emitted.ensures.met c.emit_frame-emitted.ensures.kept c.emit_frame-emitted.ensures.receives
+
+pub returns-in-Ok-clause-stops : goal.returns-in-Ok-clause-stops
+returns-in-Ok-clause-stops g c =
+    let frame : c.as_slice-frame.result.now ≡ c.args.self.now.items ++ c.args.bytes.now = c.as_slice-frame.ensures ∙ c.in-Ok.ensures.ok ∙ ap (λ (b : Filled). b.items ++ c.args.bytes.now) c.self.view_is in
+    ended_stops g.S.Sink.agrees (Declines g.S.Sink.agrees g.S.Sink.refuses) c.args.context.limit c.args.context c.args.at _ c.args.connections.now c.args.self.now.items c.args.bytes.now c.as_slice-frame.result.now
+    frame c.requires.whole (omega (arith, c.requires.some)) (omega (arith, c.requires.some)) c.requires.within
+    c.emit_frame-emitted.result c.args.sink.now c.emit_frame-emitted.new.sink c.emit_frame-emitted.ensures.err
+
+-- there is room for one byte, so memory is refused for several
+pub returns-in-Err-clause-stops : goal.returns-in-Err-clause-stops
+returns-in-Err-clause-stops g c =
+    let begun : 0 < length c.self.inside.bytes.items = omega (arith, c.requires.begun, ap (λ (b : Filled). length b.items) c.self.view_is) in
+    let room : 0 < c.self.inside.bytes.spare = c.self.invariant begun in
+    stops_part (Declines g.S.Sink.agrees g.S.Sink.refuses) c.args.context.limit (body_context c.args.context) (flow_of c.args.at (record { unfinished = c.args.self.now.items; lost = false }) c.args.connections.now)
+    c.args.bytes.now c.args.sink.now (omega (arith, room, c.in-Err.ensures.spare.0)) refl c.requires.whole c.requires.within
