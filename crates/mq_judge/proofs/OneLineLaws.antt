@@ -194,7 +194,7 @@ packet_fits (auth code properties) = words_both (code_words code) (property_word
 
 item_fits : (item : Item) → list_all is_on_one_line (item_details item) ≡ true
 item_fits (whole_item size entry) = packet_fits entry
-item_fits (broken_item first_byte rule at) = refl
+item_fits (broken_item bytes rule at) = refl
 item_fits lost_item = refl
 
 -- whatever the event

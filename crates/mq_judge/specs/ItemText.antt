@@ -104,5 +104,5 @@ lost_text = codes "LOST"
 -- an item: a packet with its size, bytes that break a rule, or a direction that is lost
 abbrev pub item_text : Item → List ℕ
 item_text (whole_item size entry) = packet_text (packet_summary entry) size
-item_text (broken_item first rule at) = broken_text rule at
+item_text (broken_item bytes rule at) = broken_text rule at
 item_text lost_item = lost_text

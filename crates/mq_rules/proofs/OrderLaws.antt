@@ -61,11 +61,11 @@ role_of header = (tested_as header).role
 -- a CONNACK from the server
 answer-noted : (server releases : Bool) (e : Event) → is_answer server e ≡ is_some (connack_of (role_of (record { server = server; releases = releases })) (note_of e))
 answer-noted true releases (sent (packet size entry)) = ap is_connack_type (type-noted directions.Sent entry) ∙ connack-typed (packet_fields directions.Sent entry)
-answer-noted true releases (sent (bad first rule at)) = refl
+answer-noted true releases (sent (bad bytes rule at)) = refl
 answer-noted true releases (sent lost) = refl
 answer-noted true releases _ = refl
 answer-noted false releases (received (packet size entry)) = ap is_connack_type (type-noted directions.Recv entry) ∙ connack-typed (packet_fields directions.Recv entry)
-answer-noted false releases (received (bad first rule at)) = refl
+answer-noted false releases (received (bad bytes rule at)) = refl
 answer-noted false releases (received lost) = refl
 answer-noted false releases _ = refl
 
@@ -76,10 +76,10 @@ or_false false = refl
 -- a session packet or a RELEASE
 needs-noted : (e : Event) → needs_answer e ≡ needs_session (note_of e)
 needs-noted (sent (packet size entry)) = ap is_session_type (type-noted directions.Sent entry) ∙ or_false (is_session_type (fields_type (packet_fields directions.Sent entry)))
-needs-noted (sent (bad first rule at)) = refl
+needs-noted (sent (bad bytes rule at)) = refl
 needs-noted (sent lost) = refl
 needs-noted (received (packet size entry)) = ap is_session_type (type-noted directions.Recv entry)
-needs-noted (received (bad first rule at)) = refl
+needs-noted (received (bad bytes rule at)) = refl
 needs-noted (received lost) = refl
 needs-noted _ = refl
 

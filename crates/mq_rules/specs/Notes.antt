@@ -1,5 +1,5 @@
 -- What the statements look at in one event, and what one event is to them.
-use Rattle.std.specs.Prelude.{ℕ, ◌/◌, ◌==◌, nat_le, Bool, true, false, ◌&&◌, ◌||◌, not, cond, if◌then◌else◌, List, [], ◌∷◌, length, map, Option, Some, None, is_some, unwrap_or, option_map}
+use Rattle.std.specs.Prelude.{ℕ, ◌/◌, ◌==◌, nat_le, Bool, true, false, ◌&&◌, ◌||◌, not, cond, if◌then◌else◌, List, [], ◌∷◌, length, map, slice_index, Option, Some, None, is_some, unwrap_or, option_map}
 use Rattle.std.specs.Option.{option_and_then}
 use Rattle.mq_props.specs.Values.{Property}
 use Rattle.mq_props.specs.First.{first_byte, first_two_bytes, first_four_bytes, first_varint, first_text, first_pair}
@@ -161,7 +161,7 @@ packet_note direction size entry = record {
 -- of an item that went this way, and of an event
 abbrev pub item_note : Direction → Item → ItemNote
 item_note direction (packet size entry) = items.Packet (packet_note direction size entry)
-item_note direction (bad first rule at) = items.Bad first rule at
+item_note direction (bad bytes rule at) = items.Bad (slice_index bytes 0) rule at
 item_note direction lost = items.Lost
 
 abbrev pub note_of : Event → Note

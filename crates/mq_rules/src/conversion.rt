@@ -2,7 +2,7 @@
 //!
 //! Memory is taken only for a text that some statement looks at: the Topic Name of a PUBLISH that was sent, the Topic Filters of a
 //! SUBSCRIBE that was received, and the Reason Codes of a SUBACK that was sent.
-ghost use Rattle.std.specs.Prelude.{◌≡◌, ◌<◌, ◌≤◌, ℕ, List, [], true, is_some, length, option_map, unwrap_or, IfOk, OnErr};
+ghost use Rattle.std.specs.Prelude.{◌≡◌, ◌<◌, ◌≤◌, ℕ, List, [], true, is_some, length, slice_index, option_map, unwrap_or, IfOk, OnErr};
 ghost use Rattle.mq_props.specs.First.{first_two_bytes, first_four_bytes, first_varint, first_text, first_pair};
 ghost use Rattle.mq_packet.specs.declared.packet.RequestKind.TheVariants as requests;
 ghost use Rattle.mq_packet.specs.Reading.{view, connect_view, publish_view};
@@ -385,6 +385,16 @@ impl PacketNote {
     }
 }
 
+/// The first byte of a packet's bytes. Without any it is 0, but each packet has two at least.
+fn first_of(bytes: &[u8]) -> u8
+    ensures { result ≡ slice_index bytes.now 0 }
+{
+    match bytes {
+        [first, ..] => *first,
+        [] => 0,
+    }
+}
+
 impl ItemNote {
     /// What the statements look at in this item, which went this way. A packet that was read has a size.
     ///
@@ -402,8 +412,8 @@ impl ItemNote {
                 let note = PacketNote::of(alloc, direction, size, packet)?;
                 Ok(ItemNote::Packet(note))
             }
-            Item::Bad { first, rule, at } => Ok(ItemNote::Bad {
-                first: *first,
+            Item::Bad { bytes, rule, at } => Ok(ItemNote::Bad {
+                first: first_of(bytes),
                 rule: *rule,
                 at: *at,
             }),

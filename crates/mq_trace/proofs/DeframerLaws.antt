@@ -58,7 +58,7 @@ no_item direction (Some item) e = absurd (cc)
 -- a frame that is no item is met by a refusal
 pub met_none : (at : ℕ) (f : Flow) (direction : Direction) (frame : List ℕ) → frame_event direction frame ≡ None → frame_refusal at f direction frame ≡ Some (refusals.OtherVersion at)
 met_none at f direction frame e =
-    (let other : is_other_version (read_frame frame) ≡ true = met_other frame (no_item direction (item_read (length frame) (slice_index frame 0) (read_frame frame)) e) in
+    (let other : is_other_version (read_frame frame) ≡ true = met_other frame (no_item direction (item_read frame (read_frame frame)) e) in
     rw (other) refl)
 
 -- A packet with one byte more isn't whole, and not known to be larger than the limit.

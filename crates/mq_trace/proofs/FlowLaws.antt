@@ -1,6 +1,6 @@
 -- What several bytes of one direction do, within the body of a record: byte by byte, and a whole packet at a time.
 use Rattle.std.proofs.Common.{◌≡◌, ℕ, ◌+◌, ◌<◌, ◌≤◌, Bool, true, false, cond, ◌&&◌, ◌⊎◌, inl, inr, List, [], ◌∷◌, ◌++◌, length, Option, Some, None, refl, sym, ◌∙◌, ap, subst, arith, append_assoc, length-append}
-use Rattle.std.specs.Prelude.{◌==◌, is_some, nat_le, option_map, slice_index}
+use Rattle.std.specs.Prelude.{◌==◌, is_some, nat_le, option_map}
 use Rattle.std.proofs.lemmas.List.{append-nil}
 use Rattle.std.proofs.lemmas.Bool.{le-ltb, lt-ltb, ne_eqb, eq-eqb}
 use Rattle.std.specs.Option.{option_or}
@@ -136,11 +136,11 @@ going_on unfinished = record { unfinished = unfinished; lost = false }
 
 -- what the bytes so far of a packet complete, and what they leave of their direction, by what stands at their front
 pub item_by : (so_far : List ℕ) (l : Bool) (size : Option ℕ) → is_lost so_far ≡ l → frame_size so_far ≡ size
-    → item_at so_far ≡ cond l (Some lost) (cond (is_some size) (item_read (length so_far) (slice_index so_far 0) (read_frame so_far)) None)
+    → item_at so_far ≡ cond l (Some lost) (cond (is_some size) (item_read so_far (read_frame so_far)) None)
 unfolding item_at
 item_by so_far l size e s =
-    ap (λ b. cond b (Some lost) (cond (is_some (frame_size so_far)) (item_read (length so_far) (slice_index so_far 0) (read_frame so_far)) None)) e
-    ∙ ap (λ o. cond l (Some lost) (cond (is_some o) (item_read (length so_far) (slice_index so_far 0) (read_frame so_far)) None)) s
+    ap (λ b. cond b (Some lost) (cond (is_some (frame_size so_far)) (item_read so_far (read_frame so_far)) None)) e
+    ∙ ap (λ o. cond l (Some lost) (cond (is_some o) (item_read so_far (read_frame so_far)) None)) s
 
 state_by_front : (u : List ℕ) (byte : ℕ) (l : Bool) (size : Option ℕ) → is_lost (u ++ byte ∷ []) ≡ l → frame_size (u ++ byte ∷ []) ≡ size
     → state_after (going_on u) byte ≡ cond l (record { unfinished = []; lost = true }) (cond (is_some size) (going_on []) (going_on (u ++ byte ∷ [])))
@@ -328,7 +328,7 @@ header_stood a c header size e fit =
 
 -- the event that a whole frame is
 abbrev frame_event : BodyContext → List ℕ → Option Event
-frame_event context frame = option_map (item_event context.direction) (item_read (length frame) (slice_index frame 0) (read_frame frame))
+frame_event context frame = option_map (item_event context.direction) (item_read frame (read_frame frame))
 
 -- the lines for a byte that completes a packet
 abbrev frame_lines : Flow → List ℕ → Option Event → ℕ → Option Refusal
@@ -349,7 +349,7 @@ module _ (context : BodyContext) (f : Flow) (t : List ℕ) (byte : ℕ) (e : f.s
 
   last_event : flow_event context f byte ≡ frame_event context (t ++ byte ∷ [])
   last_event =
-      event_is context f byte (t ++ byte ∷ []) (item_read (length (t ++ byte ∷ [])) (slice_index (t ++ byte ∷ []) 0) (read_frame (t ++ byte ∷ [])))
+      event_is context f byte (t ++ byte ∷ []) (item_read (t ++ byte ∷ []) (read_frame (t ++ byte ∷ [])))
       (ap (λ state. so_far_in state byte) e) (item_by (t ++ byte ∷ []) false (Some (length (t ++ byte ∷ []))) last_lost whole)
 
   last_after : flow_after context f byte ≡ flow_with context (record f { at = f.at + 1; state = going_on [] }) (frame_event context (t ++ byte ∷ []))
@@ -457,8 +457,8 @@ pub complete-refused : (limit : ℕ) (context : BodyContext) (f : Flow) (u bytes
     → fixed_header_of (u ++ bytes) ≡ headers.Whole header size → size ≡ length (u ++ bytes) → 0 < length bytes → at + 1 ≡ f.at + length bytes → (size ≤ limit) ⊎ (header ≤ length u)
     → flow_refused limit context f bytes ≡ first_that_applies (
     (is_other_version (read_frame (u ++ bytes)), refusals.OtherVersion at)
-    ∷ (comes_early f (option_map (item_event context.direction) (item_read (length (u ++ bytes)) (slice_index (u ++ bytes) 0) (read_frame (u ++ bytes)))), refusals.Early at)
-    ∷ (is_some (option_map (item_event context.direction) (item_read (length (u ++ bytes)) (slice_index (u ++ bytes) 0) (read_frame (u ++ bytes)))) && nat_le 4294967295 f.events, refusals.TooLong at)
+    ∷ (comes_early f (option_map (item_event context.direction) (item_read (u ++ bytes) (read_frame (u ++ bytes)))), refusals.Early at)
+    ∷ (is_some (option_map (item_event context.direction) (item_read (u ++ bytes) (read_frame (u ++ bytes)))) && nat_le 4294967295 f.events, refusals.TooLong at)
     ∷ [])
 complete-refused limit context f u bytes header size at e known all some last may =
     let cut : HasLast bytes = has_last bytes some in
@@ -472,7 +472,7 @@ complete-refused limit context f u bytes header size at e known all some last ma
 
 pub complete-events : (context : BodyContext) (f : Flow) (u bytes : List ℕ) (header size : ℕ) → f.state ≡ record { unfinished = u; lost = false }
     → fixed_header_of (u ++ bytes) ≡ headers.Whole header size → size ≡ length (u ++ bytes) → 0 < length bytes
-    → flow_events context f bytes ≡ put (flow_placed_with context f (option_map (item_event context.direction) (item_read (length (u ++ bytes)) (slice_index (u ++ bytes) 0) (read_frame (u ++ bytes))))) []
+    → flow_events context f bytes ≡ put (flow_placed_with context f (option_map (item_event context.direction) (item_read (u ++ bytes) (read_frame (u ++ bytes))))) []
 complete-events context f u bytes header size e known all some =
     let cut : HasLast bytes = has_last bytes some in
     let frame : (u ++ cut.before) ++ cut.byte ∷ [] ≡ u ++ bytes = rejoined u bytes cut.before cut.byte cut.joined in
@@ -483,7 +483,7 @@ complete-events context f u bytes header size e known all some =
 pub complete-after : (context : BodyContext) (f : Flow) (u bytes : List ℕ) (header size : ℕ) → f.state ≡ record { unfinished = u; lost = false }
     → fixed_header_of (u ++ bytes) ≡ headers.Whole header size → size ≡ length (u ++ bytes) → 0 < length bytes
     → flow_after_bytes context f bytes ≡ flow_with context (record f { at = f.at + length bytes; state = record { unfinished = []; lost = false } })
-    (option_map (item_event context.direction) (item_read (length (u ++ bytes)) (slice_index (u ++ bytes) 0) (read_frame (u ++ bytes))))
+    (option_map (item_event context.direction) (item_read (u ++ bytes) (read_frame (u ++ bytes))))
 complete-after context f u bytes header size e known all some =
     let cut : HasLast bytes = has_last bytes some in
     let frame : (u ++ cut.before) ++ cut.byte ∷ [] ≡ u ++ bytes = rejoined u bytes cut.before cut.byte cut.joined in
@@ -497,8 +497,8 @@ pub complete-refused-within : (limit : ℕ) (context : BodyContext) (f : Flow) (
     → frame_size (u ++ bytes) ≡ Some (length (u ++ bytes)) → 0 < length bytes → at + 1 ≡ f.at + length bytes → length (u ++ bytes) ≤ limit
     → flow_refused limit context f bytes ≡ first_that_applies (
     (is_other_version (read_frame (u ++ bytes)), refusals.OtherVersion at)
-    ∷ (comes_early f (option_map (item_event context.direction) (item_read (length (u ++ bytes)) (slice_index (u ++ bytes) 0) (read_frame (u ++ bytes)))), refusals.Early at)
-    ∷ (is_some (option_map (item_event context.direction) (item_read (length (u ++ bytes)) (slice_index (u ++ bytes) 0) (read_frame (u ++ bytes)))) && nat_le 4294967295 f.events, refusals.TooLong at)
+    ∷ (comes_early f (option_map (item_event context.direction) (item_read (u ++ bytes) (read_frame (u ++ bytes)))), refusals.Early at)
+    ∷ (is_some (option_map (item_event context.direction) (item_read (u ++ bytes) (read_frame (u ++ bytes)))) && nat_le 4294967295 f.events, refusals.TooLong at)
     ∷ [])
 complete-refused-within limit context f u bytes at e whole some last within =
     let found : (header : ℕ) × (fixed_header_of (u ++ bytes) ≡ headers.Whole header (length (u ++ bytes))) × (length (u ++ bytes) ≤ length (u ++ bytes)) = header_from_frame (u ++ bytes) (length (u ++ bytes)) whole in
@@ -506,7 +506,7 @@ complete-refused-within limit context f u bytes at e whole some last within =
 
 pub complete-events-frame : (context : BodyContext) (f : Flow) (u bytes : List ℕ) → f.state ≡ record { unfinished = u; lost = false }
     → frame_size (u ++ bytes) ≡ Some (length (u ++ bytes)) → 0 < length bytes
-    → flow_events context f bytes ≡ put (flow_placed_with context f (option_map (item_event context.direction) (item_read (length (u ++ bytes)) (slice_index (u ++ bytes) 0) (read_frame (u ++ bytes))))) []
+    → flow_events context f bytes ≡ put (flow_placed_with context f (option_map (item_event context.direction) (item_read (u ++ bytes) (read_frame (u ++ bytes))))) []
 complete-events-frame context f u bytes e whole some =
     let found : (header : ℕ) × (fixed_header_of (u ++ bytes) ≡ headers.Whole header (length (u ++ bytes))) × (length (u ++ bytes) ≤ length (u ++ bytes)) = header_from_frame (u ++ bytes) (length (u ++ bytes)) whole in
     complete-events context f u bytes found.0 (length (u ++ bytes)) e found.1 refl some
@@ -514,7 +514,7 @@ complete-events-frame context f u bytes e whole some =
 pub complete-after-frame : (context : BodyContext) (f : Flow) (u bytes : List ℕ) → f.state ≡ record { unfinished = u; lost = false }
     → frame_size (u ++ bytes) ≡ Some (length (u ++ bytes)) → 0 < length bytes
     → flow_after_bytes context f bytes ≡ flow_with context (record f { at = f.at + length bytes; state = record { unfinished = []; lost = false } })
-    (option_map (item_event context.direction) (item_read (length (u ++ bytes)) (slice_index (u ++ bytes) 0) (read_frame (u ++ bytes))))
+    (option_map (item_event context.direction) (item_read (u ++ bytes) (read_frame (u ++ bytes))))
 complete-after-frame context f u bytes e whole some =
     let found : (header : ℕ) × (fixed_header_of (u ++ bytes) ≡ headers.Whole header (length (u ++ bytes))) × (length (u ++ bytes) ≤ length (u ++ bytes)) = header_from_frame (u ++ bytes) (length (u ++ bytes)) whole in
     complete-after context f u bytes found.0 (length (u ++ bytes)) e found.1 refl some

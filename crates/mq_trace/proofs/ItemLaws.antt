@@ -67,53 +67,53 @@ packet_read frame header size p bytes whole e is = ap (λ (o : Option ℕ). pack
 -- What a frame is, by what its body says.
 pub packet_item : (frame : List ℕ) (header : ℕ) (p : Packet) → ((i : ℕ) → slice_index frame i < 256) → Whole header (length frame) ≡ fixed_header_of frame
     → remaining_length p ≡ length (take (length frame - header) (drop header frame)) → decoded (slice_index frame 0) (take (length frame - header) (drop header frame)) ≡ Ok (view p)
-    → item_read (length frame) (slice_index frame 0) (read_frame frame) ≡ Some (packet (unwrap_or (size_with (remaining_length p)) 0) (view p))
+    → item_read frame (read_frame frame) ≡ Some (packet (unwrap_or (size_with (remaining_length p)) 0) (view p))
 packet_item frame header p bytes e is read =
     (let whole : frame_size frame ≡ Some (length frame) = frame_by_header frame header (sym e) in
-    ap (item_read (length frame) (slice_index frame 0)) (read_by_body frame header (length frame) e ∙ read)
+    ap (item_read frame) (read_by_body frame header (length frame) e ∙ read)
     ∙ ap Some (sym (packet_read frame header (length frame) p bytes whole e is)))
 
 pub fault_item : (frame : List ℕ) (header : ℕ) (fault : DecodeFault) → Whole header (length frame) ≡ fixed_header_of frame
     → decoded (slice_index frame 0) (take (length frame - header) (drop header frame)) ≡ Err fault
-    → item_read (length frame) (slice_index frame 0) (read_frame frame) ≡ item_read (length frame) (slice_index frame 0) (Err fault)
-fault_item frame header fault e read = ap (item_read (length frame) (slice_index frame 0)) (read_by_body frame header (length frame) e ∙ read)
+    → item_read frame (read_frame frame) ≡ item_read frame (Err fault)
+fault_item frame header fault e read = ap (item_read frame) (read_by_body frame header (length frame) e ∙ read)
 
 -- A frame that is an item meets what its event meets, and what is kept and received is the event's.
-met_read : (at n b : ℕ) (state : StreamState) (c : Connections) (direction : Direction) (item : Item) (read : Result Entry DecodeFault) → item_read n b read ≡ Some item → is_other_version read ≡ false
-met_read at n b state c direction item (Ok entry) e = refl
-met_read at n b state c direction item (Err (Broken fault)) e = refl
-met_read at n b state c direction item (Err (OtherVersion version)) e = absurd (cc)
+met_read : (frame : List ℕ) (at : ℕ) (state : StreamState) (c : Connections) (direction : Direction) (item : Item) (read : Result Entry DecodeFault) → item_read frame read ≡ Some item → is_other_version read ≡ false
+met_read frame at state c direction item (Ok entry) e = refl
+met_read frame at state c direction item (Err (Broken fault)) e = refl
+met_read frame at state c direction item (Err (OtherVersion version)) e = absurd (cc)
 
-frame_event_is : (direction : Direction) (frame : List ℕ) (item : Item) → item_read (length frame) (slice_index frame 0) (read_frame frame) ≡ Some item → frame_event direction frame ≡ Some (item_event direction item)
+frame_event_is : (direction : Direction) (frame : List ℕ) (item : Item) → item_read frame (read_frame frame) ≡ Some item → frame_event direction frame ≡ Some (item_event direction item)
 frame_event_is direction frame item e = ap (option_map (item_event direction)) e
 
-pub met_item : (at : ℕ) (state : StreamState) (c : Connections) (direction : Direction) (frame : List ℕ) (item : Item) → item_read (length frame) (slice_index frame 0) (read_frame frame) ≡ Some item
+pub met_item : (at : ℕ) (state : StreamState) (c : Connections) (direction : Direction) (frame : List ℕ) (item : Item) → item_read frame (read_frame frame) ≡ Some item
     → frame_refusal at (flow_of at state c) direction frame ≡ event_refusal at c (item_event direction item)
 met_item at state c direction frame item e =
-    (let other : is_other_version (read_frame frame) ≡ false = met_read at (length frame) (slice_index frame 0) state c direction item (read_frame frame) e in
+    (let other : is_other_version (read_frame frame) ≡ false = met_read frame at state c direction item (read_frame frame) e in
     let event : frame_event direction frame ≡ Some (item_event direction item) = frame_event_is direction frame item e in
     rw (other, event) refl)
 
-pub kept_item : (server : Bool) (c : Connections) (direction : Direction) (frame : List ℕ) (item : Item) → item_read (length frame) (slice_index frame 0) (read_frame frame) ≡ Some item
+pub kept_item : (server : Bool) (c : Connections) (direction : Direction) (frame : List ℕ) (item : Item) → item_read frame (read_frame frame) ≡ Some item
     → connections_then server c (frame_event direction frame) ≡ connections_with server c (item_event direction item)
 kept_item server c direction frame item e = ap (connections_then server c) (frame_event_is direction frame item e)
 
-pub placed_item : (at : ℕ) (context : BodyContext) (state : StreamState) (c : Connections) (frame : List ℕ) (item : Item) → item_read (length frame) (slice_index frame 0) (read_frame frame) ≡ Some item
+pub placed_item : (at : ℕ) (context : BodyContext) (state : StreamState) (c : Connections) (frame : List ℕ) (item : Item) → item_read frame (read_frame frame) ≡ Some item
     → flow_placed_with context (flow_of at state c) (frame_event context.direction frame) ≡ Some (next_placed c context.record_no (item_event context.direction item))
 placed_item at context state c frame item e = ap (flow_placed_with context (flow_of at state c)) (frame_event_is context.direction frame item e)
 
 -- A frame that is no item is of another protocol version.
-other_read : (n b : ℕ) (read : Result Entry DecodeFault) → item_read n b read ≡ None → is_other_version read ≡ true
-other_read n b (Ok entry) e = absurd (cc)
-other_read n b (Err (Broken fault)) e = absurd (cc)
-other_read n b (Err (OtherVersion version)) e = refl
+other_read : (frame : List ℕ) (read : Result Entry DecodeFault) → item_read frame read ≡ None → is_other_version read ≡ true
+other_read frame (Ok entry) e = absurd (cc)
+other_read frame (Err (Broken fault)) e = absurd (cc)
+other_read frame (Err (OtherVersion version)) e = refl
 
-pub met_other : (frame : List ℕ) → item_read (length frame) (slice_index frame 0) (read_frame frame) ≡ None → is_other_version (read_frame frame) ≡ true
-met_other frame e = other_read (length frame) (slice_index frame 0) (read_frame frame) e
+pub met_other : (frame : List ℕ) → item_read frame (read_frame frame) ≡ None → is_other_version (read_frame frame) ≡ true
+met_other frame e = other_read frame (read_frame frame) e
 
 -- A sink that received an item received the frame that is it.
 module _ {S : Type 0} (agrees : S → List Placed → Type 0) (declines : S → S → List Placed → Refusal → Type 0) {A : Type 0} (r : Result A Refusal) (at : ℕ) (state : StreamState) (c : Connections) (context : BodyContext) (frame : List ℕ) (item : Item)
-    (e : item_read (length frame) (slice_index frame 0) (read_frame frame) ≡ Some item) where
+    (e : item_read frame (read_frame frame) ≡ Some item) where
   pub emitted_met : OnOk r (event_refusal at c (item_event context.direction item) ≡ None) → OnOk r (frame_refusal at (flow_of at state c) context.direction frame ≡ None)
   emitted_met = subst (λ (m : Option Refusal). OnOk r (m ≡ None)) (sym (met_item at state c context.direction frame item e))
 
@@ -132,6 +132,6 @@ module _ {S : Type 0} (agrees : S → List Placed → Type 0) (declines : S → 
       (subst (λ (m : Option Refusal). IfErr r (λ refusal. NotEmitted declines at m (next_placed c context.record_no (item_event context.direction item) ∷ []) old new refusal)) (sym (met_item at state c context.direction frame item e)) unemitted)
 
 -- A frame of another version is refused as that.
-pub other_met : {S : Type 0} (declines : S → S → List Placed → Refusal → Type 0) {completed : List Placed} (at : ℕ) (state : StreamState) (c : Connections) (direction : Direction) (frame : List ℕ) (sink : S) → item_read (length frame) (slice_index frame 0) (read_frame frame) ≡ None
+pub other_met : {S : Type 0} (declines : S → S → List Placed → Refusal → Type 0) {completed : List Placed} (at : ℕ) (state : StreamState) (c : Connections) (direction : Direction) (frame : List ℕ) (sink : S) → item_read frame (read_frame frame) ≡ None
     → NotEmitted declines at (frame_refusal at (flow_of at state c) direction frame) completed sink sink (refusals.OtherVersion at)
 other_met declines at state c direction frame sink e = inl (rw (met_other frame e) refl, refl)

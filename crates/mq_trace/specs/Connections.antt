@@ -47,7 +47,7 @@ is_session_entry entry = is_session_type (type_of entry)
 -- the item is a packet that passes the test
 abbrev pub is_packet : (Entry → Bool) → Item → Bool
 is_packet test (packet size entry) = test entry
-is_packet test (bad first rule at) = false
+is_packet test (bad bytes rule at) = false
 is_packet test lost = false
 
 -- A CONNACK from the server, which a tested client receives and a tested server sends.

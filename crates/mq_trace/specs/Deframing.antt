@@ -1,6 +1,6 @@
 -- One direction in memory: what a step takes in, and what stops it.
-use Rattle.std.specs.Prelude.{◌≡◌, ℕ, ◌+◌, ◌<◌, ◌⊎◌, nat_le, Bool, false, ◌&&◌, List, [], ◌∷◌, ◌++◌, length, slice_index, Option, Some, None, option_map, is_some}
-use Rattle.mq_packet.specs.Stream.{frame_size, is_lost}
+use Rattle.std.specs.Prelude.{◌≡◌, ℕ, ◌+◌, ◌<◌, ◌⊎◌, nat_le, Bool, false, ◌&&◌, List, [], ◌∷◌, ◌++◌, length, Option, Some, None, option_map, is_some}
+use Rattle.mq_packet.specs.Stream.{fixed_header_of}
 use Rattle.mq_trace.specs.declared.kind.Direction.{Direction}
 use Rattle.mq_trace.specs.declared.refusal.Refusal.{Refusal}
 use Rattle.mq_trace.specs.declared.refusal.Refusal.TheVariants as refusals
@@ -21,7 +21,7 @@ flow_of at state c = record { at = at; state = state; events = c.events; connect
 
 -- the event of a whole packet
 abbrev pub frame_event : Direction → List ℕ → Option Event
-frame_event direction frame = option_map (item_event direction) (item_read (length frame) (slice_index frame 0) (read_frame frame))
+frame_event direction frame = option_map (item_event direction) (item_read frame (read_frame frame))
 
 -- the refusal that applies at the last byte of a whole packet
 abbrev pub frame_refusal : ℕ → Flow → Direction → List ℕ → Option Refusal

@@ -16,11 +16,11 @@ use Rattle.mq_trace.specs.Framing.{kind_of, direction_of, begun_records, carried
 use Rattle.mq_packet.specs.Entries.{Entry}
 use Rattle.mq_packet.specs.Decoding.{decoded}
 
--- An item of one direction's stream of packets: a packet, with its size in bytes; bytes that break a rule, with the first of them, the rule
--- and where it is broken; or the point from which the stream can't be parsed.
+-- An item of one direction's stream of packets: a packet, with its size in bytes; the bytes of a packet that breaks a rule, from its first byte to its last, the rule,
+-- and the offset at which they break it; or the point from which the stream can't be parsed.
 pub data Item : Type 0 where
   packet : ℕ → Entry → Item
-  bad : ℕ → PacketRule → ℕ → Item
+  bad : List ℕ → PacketRule → ℕ → Item
   lost : Item
 
 pub data Event : Type 0 where
@@ -33,11 +33,11 @@ pub record Placed : Type 0 where
   pub place : Place3
   pub event : Event
 
--- What a whole frame of this size and this first byte is: a packet, or bytes that break a rule. A CONNECT of another protocol version is neither.
-abbrev pub item_read : ℕ → ℕ → Result Entry DecodeFault → Option Item
-item_read size first (Ok entry) = Some (packet size entry)
-item_read size first (Err (Broken fault)) = Some (bad first fault.rule fault.at)
-item_read size first (Err (OtherVersion version)) = None
+-- What a whole frame is, by what it says: a packet, or bytes that break a rule. A CONNECT of another protocol version is neither.
+abbrev pub item_read : List ℕ → Result Entry DecodeFault → Option Item
+item_read frame (Ok entry) = Some (packet (length frame) entry)
+item_read frame (Err (Broken fault)) = Some (bad frame fault.rule fault.at)
+item_read frame (Err (OtherVersion version)) = None
 
 -- what follows a packet's fixed header
 abbrev pub after_fixed_header : FixedHeader → List ℕ → List ℕ
@@ -52,7 +52,7 @@ read_frame frame = decoded (slice_index frame 0) (after_fixed_header (fixed_head
 -- The item that the last of these bytes completes, if they are the bytes so far of one packet: the packet is whole, or its
 -- Remaining Length is invalid.
 unfoldable pub item_at : List ℕ → Option Item
-item_at so_far = cond (is_lost so_far) (Some lost) (cond (is_some (frame_size so_far)) (item_read (length so_far) (slice_index so_far 0) (read_frame so_far)) None)
+item_at so_far = cond (is_lost so_far) (Some lost) (cond (is_some (frame_size so_far)) (item_read so_far (read_frame so_far)) None)
 
 -- The bytes so far of the packet that a direction's next byte belongs to, that byte included; none if the direction was lost before it.
 abbrev pub packet_with : List ℕ → ℕ → List ℕ

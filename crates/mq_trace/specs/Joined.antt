@@ -1,5 +1,5 @@
 -- The events of a log, one connection and one direction at a time: they are the items of that direction's stream of packets.
-use Rattle.std.specs.Prelude.{ℕ, ◌+◌, ◌==◌, cond, List, [], ◌∷◌, ◌++◌, length, drop, slice_index, Option, Some, None}
+use Rattle.std.specs.Prelude.{ℕ, ◌+◌, ◌==◌, cond, List, [], ◌∷◌, ◌++◌, drop, Option, Some, None}
 use Rattle.mq_trace.specs.declared.kind.Direction.{Direction}
 use Rattle.mq_trace.specs.declared.kind.Direction.TheVariants as directions
 use Rattle.mq_packet.specs.Stream.{is_lost}
@@ -27,7 +27,7 @@ if_some (Some item) = item ∷ []
 
 -- what a frame is
 abbrev pub frame_item : List ℕ → Option Item
-frame_item frame = item_read (length frame) (slice_index frame 0) (read_frame frame)
+frame_item frame = item_read frame (read_frame frame)
 
 -- the items of frames, in order; a CONNECT of another protocol version doesn't count as one
 abbrev pub frame_items : List (List ℕ) → List Item

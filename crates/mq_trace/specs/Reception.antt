@@ -17,7 +17,7 @@ use Rattle.mq_trace.specs.Refusals.{refused}
 -- an item and an event, apart from where their bytes are in memory
 abbrev pub item_of : EmittedItem → Item
 item_of (items.Packet p) = packet (unwrap_or (size_with (remaining_length p)) 0) (view p)
-item_of (items.Bad first rule at) = bad first rule at
+item_of (items.Bad bytes rule at) = bad bytes.now rule at
 item_of items.Lost = lost
 
 abbrev pub event_of : EmittedEvent → Event

@@ -762,7 +762,7 @@ fn emit_fault<S: Sink>(
             context,
             connections,
             at,
-            frame[0],
+            frame,
             broken.rule,
             broken.at,
             sink,
@@ -771,25 +771,25 @@ fn emit_fault<S: Sink>(
     }
 }
 
-/// Emits a packet with this first byte, which breaks a rule at this offset.
+/// Emits a packet with these bytes, which breaks a rule at this offset.
 #[inline(never)]
 fn emit_bad<S: Sink>(
     context: BodyContext,
     connections: &mut Connections,
     at: u64,
-    first: u8,
+    frame: &[u8],
     rule: PacketRule,
     place: u32,
     sink: &mut S,
 ) -> Result<(), Refusal>
-    ensures met { OnOk result (event_refusal at connections.old (item_event context.direction (bad first rule place)) ≡ None) }
-    ensures kept { OnOk result (connections.new ≡ connections_with context.server connections.old (item_event context.direction (bad first rule place))) }
-    ensures receives { (earlier : List Placed) → S.agrees sink.old earlier → AreEvents (next_placed connections.old context.record_no (item_event context.direction (bad first rule place)) ∷ earlier)
-        → OnOk result (S.agrees sink.new (next_placed connections.old context.record_no (item_event context.direction (bad first rule place)) ∷ earlier)) }
-    ensures err { IfErr result (λ refusal. NotEmitted (Declines S.agrees S.refuses) at (event_refusal at connections.old (item_event context.direction (bad first rule place))) (next_placed connections.old context.record_no (item_event context.direction (bad first rule place)) ∷ []) sink.old sink.new refusal) }
+    ensures met { OnOk result (event_refusal at connections.old (item_event context.direction (bad frame.now rule place)) ≡ None) }
+    ensures kept { OnOk result (connections.new ≡ connections_with context.server connections.old (item_event context.direction (bad frame.now rule place))) }
+    ensures receives { (earlier : List Placed) → S.agrees sink.old earlier → AreEvents (next_placed connections.old context.record_no (item_event context.direction (bad frame.now rule place)) ∷ earlier)
+        → OnOk result (S.agrees sink.new (next_placed connections.old context.record_no (item_event context.direction (bad frame.now rule place)) ∷ earlier)) }
+    ensures err { IfErr result (λ refusal. NotEmitted (Declines S.agrees S.refuses) at (event_refusal at connections.old (item_event context.direction (bad frame.now rule place))) (next_placed connections.old context.record_no (item_event context.direction (bad frame.now rule place)) ∷ []) sink.old sink.new refusal) }
 {
     let item = Item::Bad {
-        first,
+        bytes: frame,
         rule,
         at: place,
     };

@@ -14,8 +14,8 @@ pub enum Item<'a> {
     Packet(Packet<'a>),
     /// A packet whose bytes break a rule.
     Bad {
-        /// The packet's first byte.
-        first: u8,
+        /// The packet's bytes, from the first one, which names its type (MQTT 5.0, section 2.1.2), to the last one.
+        bytes: &'a [u8],
         /// The first rule that it breaks.
         rule: PacketRule,
         /// The offset in the packet of the field that breaks it.

@@ -56,7 +56,9 @@ impl Lines {
                 let size = packet.size().unwrap_or(0);
                 writeln!(self.text, "{direction} {kind:?} {size}")
             }
-            Item::Bad { rule, at, .. } => writeln!(self.text, "{direction} {rule:?} {at}"),
+            Item::Bad { bytes, rule, at } => {
+                writeln!(self.text, "{direction} {rule:?} {at} of {bytes:?}")
+            }
             Item::Lost => writeln!(self.text, "{direction} LOST"),
         }
     }

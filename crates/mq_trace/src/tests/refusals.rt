@@ -84,7 +84,7 @@ static REFUSALS: [Refused; 21] = [
             Recv(b"\x20\x03\x02\x00\x00"),
             Recv(PUBACK),
         ],
-        "1 record 1 OPEN\n2 record 2 SENT Connect 15\n3 record 3 RECV W20 2\n",
+        "1 record 1 OPEN\n2 record 2 SENT Connect 15\n3 record 3 RECV W20 2 of [32, 3, 2, 0, 0]\n",
         Early(51),
     ),
     // The refusal comes at the packet's last byte, in whatever record.

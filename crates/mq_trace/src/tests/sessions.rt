@@ -39,7 +39,7 @@ pub static SESSIONS: [Row; 15] = [
             Recv(b"\xd0\x00"),
             Sent(b"x"),
         ],
-        lines: "4 record 12 RECV Pingresp 2\n5 record 13 SENT W09 5\n",
+        lines: "4 record 12 RECV Pingresp 2\n5 record 13 SENT W09 5 of [50, 7, 0, 1, 97, 0, 0, 0, 120]\n",
         answer: Ok(()),
     },
     Row {
@@ -65,7 +65,8 @@ pub static SESSIONS: [Row; 15] = [
             Sent(b"\xc0\x00\x40\x02\x00\x02\xc0\x00\x32\x07\x00\x01a\x00\x00\x00x\xc0\x00\x40"),
             Sent(b"\x02\x00\x03\xc0\x00"),
         ],
-        lines: "4 record 4 SENT Pingreq 2\n5 record 4 SENT Puback 4\n6 record 4 SENT Pingreq 2\n7 record 4 SENT W09 5\n\
+        lines: "4 record 4 SENT Pingreq 2\n5 record 4 SENT Puback 4\n6 record 4 SENT Pingreq 2\n\
+            7 record 4 SENT W09 5 of [50, 7, 0, 1, 97, 0, 0, 0, 120]\n\
             8 record 4 SENT Pingreq 2\n9 record 5 SENT Puback 4\n10 record 5 SENT Pingreq 2\n",
         answer: Ok(()),
     },
@@ -176,7 +177,8 @@ pub static SESSIONS: [Row; 15] = [
             Rest,
         ],
         lines: "1 record 1 OPEN\n2 record 2 SENT Connect 15\n3 record 3 SENT Pingreq 2\n4 record 4 RECV Pingresp 2\n\
-            5 record 4 RECV Auth 2\n6 record 5 SENT W09 5\n7 record 6 SENT Disconnect 2\n8 record 7 RECV LOST\n9 record 8 REST\n",
+            5 record 4 RECV Auth 2\n6 record 5 SENT W09 5 of [50, 7, 0, 1, 97, 0, 0, 0, 120]\n\
+            7 record 6 SENT Disconnect 2\n8 record 7 RECV LOST\n9 record 8 REST\n",
         answer: Ok(()),
     },
     // A second CONNACK of a connection changes nothing here.

@@ -147,7 +147,7 @@ fn has_no_details(alloc: Global, event: &Event<'_>) -> bool {
 #[test]
 fn nothing_is_said_of_other_events(rt: HostRuntime) {
     let bad = Item::Bad {
-        first: 0x30,
+        bytes: b"\x40\x02\x00\x00",
         rule: PacketRule::W09,
         at: 2,
     };

@@ -1,17 +1,10 @@
 -- A whole packet with a fault is emitted as what it is.
-use Rattle.std.proofs.Common.{◌<◌, [], false, Err, length, sym, ap, ◌∙◌, arith, rules}
-use Rattle.mq_packet.proofs.Exports.{size_above}
+use Rattle.std.proofs.Common.{[], false, Err, sym, ap, ◌∙◌}
 use Rattle.mq_packet.specs.declared.fault.DecodeFault.TheVariants as faults
 use Rattle.mq_trace.specs.Deframing.{body_context}
 use Rattle.mq_trace.specs.Reception.{Declines}
 use Rattle.mq_trace.proofs.ItemLaws.{fault_item, emitted_met, emitted_kept, emitted_receives, emitted_err, other_met}
 use Rattle.mq_trace.proofs.deframer.emit_fault.Goals as goal
-
-pub bounds-frame-0 : goal.bounds-frame-0
-bounds-frame-0 g c =
-    let known = size_above c.args.frame.now c.args.header (length c.args.frame.now) c.requires.whole in
-    let inside : 0 < length c.args.frame.now = omega (arith, known.0, known.1) in
-    search rules
 
 pub returns-in-Broken-clause-met : goal.returns-in-Broken-clause-met
 returns-in-Broken-clause-met g c =
