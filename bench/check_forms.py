@@ -4,8 +4,9 @@
 usage: bench/check_forms.py PROGRAM [LOG ..]
 
 The text report of each log is made into the other forms here, in Python: each of the worked logs of mq_judge's tests, a log of
-3,000 faults, refused logs, and the logs that are named. JSON is also read back by Python's json module. What `show --faults` is
-to print is made of the text report and of what `show` prints.
+3,000 faults, one of long packets that break a rule, refused logs, and the logs that are named. JSON is also read back by Python's
+json module. What `show --faults` is to print is made of the text report and of what `show` prints. The bytes of packets that break
+a rule are those that reference.py finds in the log.
 """
 import json
 import subprocess
@@ -16,6 +17,7 @@ from pathlib import Path
 
 sys.dont_write_bytecode = True  # the repository stays as it is
 import check_rows
+import reference
 
 CONNECT = bytes.fromhex("100D00044D5154540502003C000000")
 CONNACK = bytes.fromhex("2003000000")
@@ -29,6 +31,20 @@ def many_faults(count: int) -> bytes:
     return check_rows.log_of("client " + " ".join(words), names)
 
 
+def long_broken() -> bytes:
+    """A client that sends packets with a fault at an offset from 60 to 70, near to their end or far from it, and in pieces."""
+    packets = []
+    for length in range(55, 66):
+        for payload in (b"", b"x" * 100):
+            # The second property is the first one again.
+            body = length.to_bytes(2, "big") + b"t" * length + b"\x04\x01\x01\x01\x01" + payload
+            size = len(body)
+            packets.append(b"\x30" + (bytes([size]) if size < 128 else bytes([size % 128 + 128, size // 128])) + body)
+    words = ["OPEN", ">" + CONNECT.hex(), "<" + CONNACK.hex()]
+    words += [">" + part.hex() for packet in packets for part in (packet[:40], packet[40:])]
+    return check_rows.log_of("client " + " ".join(words), {})
+
+
 def logs(paths: list[str]) -> list[tuple[str, bytes]]:
     names, found = check_rows.packets(), []
     for path in sorted(check_rows.FOLDER.glob("*.rt")):
@@ -36,6 +52,7 @@ def logs(paths: list[str]) -> list[tuple[str, bytes]]:
             name, log, _ = (part.strip() for part in row.split("|"))
             found.append((f"{path.name}: {name}", check_rows.log_of(log, names)))
     found.append(("3,000 faults", many_faults(3000)))
+    found.append(("long packets that break a rule", long_broken()))
     found += [(f"{count} bytes", many_faults(1)[:count]) for count in range(0, 60)]
     found += [(path, Path(path).read_bytes()) for path in paths]
     return found
@@ -70,6 +87,30 @@ def in_short(text: str) -> str:
         for code, found in sorted(codes.items(), key=lambda entry: order[entry[0]])
     ]
     return "".join(f"{line}\n" for line in [*lines, last])
+
+
+def bytes_around(packet: bytes, at: int) -> str:
+    """A packet's bytes with the one at fault in brackets: the first 64, or if it isn't among them 32 before it and 31 after it."""
+    begin = 0 if at < 64 else at - 32
+    words = [f"{byte:02X}" for byte in packet[begin : begin + 64]]
+    here = slice(at - begin, at - begin + 1)
+    words[here] = [f"[{''.join(words[here])}]"]
+    before, after = [".."] if begin > 0 else [], [".."] if begin + 64 < len(packet) else []
+    return " ".join([*before, *words, *after])
+
+
+def with_bytes(events: str, log: bytes) -> str:
+    """What `show` prints, with the type and the bytes of each packet that breaks a rule; of a refused log what it prints."""
+    lines = events.splitlines()
+    if lines[-1:] and lines[-1].startswith("refused"):
+        return events
+    found = reference.Recording(log, 16_777_216, False).events
+    for n, (line, event) in enumerate(zip(lines, found, strict=True)):
+        if isinstance(event.item, reference.Bad):
+            packet, at = event.item.packet, event.item.at
+            name = reference.NAMES[packet[0] >> 4] or "Reserved"
+            lines[n] = f"{line.partition(' type ')[0]} type {name} bytes {bytes_around(packet, at)}"
+    return "".join(f"{line}\n" for line in lines)
 
 
 def under_events(events: str, text: str, sentences: dict[str, str], around: int | None) -> str:
@@ -126,9 +167,12 @@ def wanted_of(program: str, log: bytes, path: str, sentences: dict[str, str]) ->
     }
     for long in ((), ("--long",)):
         shown = run(program, log, "show", *long)
+        events = with_bytes(shown[1], log)
+        if long:
+            wanted["show", *long] = (shown[0], events, shown[2])
         for around in (None, 0, 1, 3):
             nearness = () if around is None else ("--around", str(around))
-            answer = (shown[0], under_events(shown[1], text, sentences, around), shown[2])
+            answer = (shown[0], under_events(events, text, sentences, around), shown[2])
             wanted["show", "--faults", *long, *nearness, path] = answer
     return wanted
 

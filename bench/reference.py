@@ -198,7 +198,7 @@ class Packet:
 class Bad(Exception):
     rule: str
     at: int
-    first: int = 0
+    packet: bytes = b""
 
 
 @dataclass
@@ -313,11 +313,10 @@ def is_filter(text: bytes) -> bool:
 
 def decode(packet: bytes, begin: int) -> Packet:
     """Reads a whole packet, whose body begins there. It raises Bad or OtherVersion where it has to."""
-    first = packet[0]
     try:
-        return decode_fields(first, Reader(packet, begin))
+        return decode_fields(packet[0], Reader(packet, begin))
     except Bad as bad:
-        raise Bad(bad.rule, bad.at, first) from None
+        raise Bad(bad.rule, bad.at, packet) from None
 
 
 def decode_fields(first: int, reader: Reader) -> Packet:
@@ -865,7 +864,7 @@ def type_of(item: Packet | Bad | Lost | None) -> int | None:
         case Packet():
             return item.type
         case Bad():
-            return item.first >> 4
+            return item.packet[0] >> 4
     return None
 
 

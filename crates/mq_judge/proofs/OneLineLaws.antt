@@ -1,5 +1,5 @@
 -- What `show --long` says of an event stays on its line.
-use Rattle.std.proofs.Common.{◌≡◌, ℕ, zero, suc, ◌+◌, ◌/◌, ◌%◌, ◌==◌, nat_lt, nat_le, Bool, true, false, List, [], ◌∷◌, ◌++◌, codes, decimal, Option, Some, None, if◌then◌else◌, refl, arith}
+use Rattle.std.proofs.Common.{◌≡◌, ℕ, zero, suc, ◌+◌, ◌/◌, ◌%◌, ◌==◌, nat_lt, nat_le, Bool, true, false, List, [], ◌∷◌, ◌++◌, length, codes, decimal, Option, Some, None, if◌then◌else◌, refl, arith}
 use Rattle.std.proofs.lemmas.Bool.{and_from, and_parts, or_parts, le-leb}
 use Rattle.std.proofs.lemmas.Grind.{common_steps}
 use Rattle.std.specs.Fmt.{digit_glyph, digits, digits_onto}
@@ -11,7 +11,7 @@ use Rattle.mq_trace.specs.Events.{Event, Item, packet as whole_item, bad as brok
 use Rattle.mq_rules.specs.Notes.{qos_number}
 use Rattle.mq_judge.specs.ItemText.{flag_number, with_spaces}
 use Rattle.mq_judge.specs.OneLine.{is_on_one_line}
-use Rattle.mq_judge.specs.Details.{hex_digits, is_quoting, is_control, escaped, quoted, reason_text, flag_text, size_text, property_names, name_beside, property_name, value_words, with_prefix, property_after, properties_after, property_words, will_words, user_words, password_words, connect_words, publish_words, option_words, filter_words, code_words, packet_words, item_details, detail_text}
+use Rattle.mq_judge.specs.Details.{hex_digits, is_quoting, is_control, escaped, quoted, reason_text, flag_text, size_text, property_names, name_beside, property_name, value_words, with_prefix, property_after, properties_after, property_words, will_words, user_words, password_words, connect_words, publish_words, option_words, filter_words, code_words, packet_words, type_names, type_words, between, hex_words, marked, gap_words, shown_from, words_from, broken_words, broken_details, item_details, detail_text, broken_detail_text}
 
 -- a test that holds of each part of a list holds of all of it
 all_both : {X : Type 0} (test : X → Bool) (xs ys : List X) → list_all test xs ≡ true → list_all test ys ≡ true → list_all test (xs ++ ys) ≡ true
@@ -192,9 +192,42 @@ packet_fits pingresp = refl
 packet_fits (disconnect code properties) = words_both (code_words code) (property_words properties) (code_fits code) (own_fit properties)
 packet_fits (auth code properties) = words_both (code_words code) (property_words properties) (code_fits code) (own_fit properties)
 
+-- packets that break a rule
+type_fits : (bytes : List ℕ) → list_all is_on_one_line (type_words bytes) ≡ true
+type_fits [] = refl
+type_fits (byte ∷ others) = alone (name_beside (byte / 16) type_names) (name_fits (byte / 16) type_names refl)
+
+hex_all_fit : (bytes : List ℕ) → list_all is_on_one_line (flat_map hex_words bytes) ≡ true
+hex_all_fit bytes = all_mapped is_on_one_line hex_words (λ byte. alone (hex_digits byte) (hex_fits byte)) bytes
+
+marked_fits : (bytes : List ℕ) → is_on_one_line (marked bytes) ≡ true
+marked_fits bytes = both (flat_map hex_digits bytes) (codes "]") (all_mapped (λ byte. nat_le 32 byte) hex_digits hex_fits bytes) refl
+
+gap_fits : (left_out : Bool) → list_all is_on_one_line (gap_words left_out) ≡ true
+gap_fits true = refl
+gap_fits false = refl
+
+from_fit : (start at : ℕ) (bytes : List ℕ) → list_all is_on_one_line (words_from start at bytes) ≡ true
+from_fit start at bytes =
+    let there = marked (between at (at + 1) bytes) in
+    let after = flat_map hex_words (between (at + 1) (start + 64) bytes) in
+    let end = gap_words (nat_lt (start + 64) (length bytes)) in
+    words_both (gap_words (nat_lt 0 start)) (flat_map hex_words (between start at bytes) ++ (there ∷ (after ++ end))) (gap_fits (nat_lt 0 start))
+    (words_both (flat_map hex_words (between start at bytes)) (there ∷ (after ++ end)) (hex_all_fit (between start at bytes))
+    (first there (after ++ end) (marked_fits (between at (at + 1) bytes))
+    (words_both after end (hex_all_fit (between (at + 1) (start + 64) bytes)) (gap_fits (nat_lt (start + 64) (length bytes))))))
+
+broken_fits : (bytes : List ℕ) (at : ℕ) → list_all is_on_one_line (broken_words bytes at) ≡ true
+broken_fits bytes at = words_both (type_words bytes) (words_from (shown_from at) at bytes) (type_fits bytes) (from_fit (shown_from at) at bytes)
+
+broken_item_fits : (item : Item) → list_all is_on_one_line (broken_details item) ≡ true
+broken_item_fits (whole_item size entry) = refl
+broken_item_fits (broken_item bytes rule at) = broken_fits bytes at
+broken_item_fits lost_item = refl
+
 item_fits : (item : Item) → list_all is_on_one_line (item_details item) ≡ true
 item_fits (whole_item size entry) = packet_fits entry
-item_fits (broken_item bytes rule at) = refl
+item_fits (broken_item bytes rule at) = broken_fits bytes at
 item_fits lost_item = refl
 
 -- whatever the event
@@ -205,3 +238,11 @@ details_fit rested = refl
 details_fit (released identifier) = refl
 details_fit (sent item) = spaces_fit (item_details item) (item_fits item)
 details_fit (received item) = spaces_fit (item_details item) (item_fits item)
+
+pub broken_details_fit : (event : Event) → is_on_one_line (broken_detail_text event) ≡ true
+broken_details_fit opened = refl
+broken_details_fit closed = refl
+broken_details_fit rested = refl
+broken_details_fit (released identifier) = refl
+broken_details_fit (sent item) = spaces_fit (broken_details item) (broken_item_fits item)
+broken_details_fit (received item) = spaces_fit (broken_details item) (broken_item_fits item)

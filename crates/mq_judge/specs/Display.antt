@@ -18,7 +18,7 @@ use Rattle.mq_rules.specs.Naming.{sentence_of}
 use Rattle.mq_rules.specs.Rules.{code_of, citation_of}
 use Rattle.mq_judge.specs.declared.report.RunFault.{RunFault}
 use Rattle.mq_judge.specs.declared.report.RunFault.TheVariants as run_faults
-use Rattle.mq_judge.specs.Details.{detail_text}
+use Rattle.mq_judge.specs.Details.{detail_text, broken_detail_text}
 use Rattle.mq_judge.specs.declared.report.summary.PacketSummary.{PacketSummary}
 use Rattle.mq_judge.specs.ItemText.{item_text, packet_text}
 use Rattle.mq_judge.specs.Report.{line}
@@ -58,9 +58,13 @@ packet_line place direction packet size =
 abbrev pub long_line : Placed → List ℕ
 long_line placed = line (event_words placed ++ detail_text placed.event)
 
--- the line of an event, short or long
+-- the line of an event with the type and the bytes of its packet, if that breaks a rule
+abbrev pub line_with_bytes : Placed → List ℕ
+line_with_bytes placed = line (event_words placed ++ broken_detail_text placed.event)
+
+-- the line of an event under which its faults stand, short or long
 abbrev pub shown_line : (long : Bool) → Placed → List ℕ
-shown_line false placed = event_line placed
+shown_line false placed = line_with_bytes placed
 shown_line true placed = long_line placed
 
 -- the lines of events, each made by this function: the events are given the newest first, and their lines are the oldest first

@@ -177,6 +177,10 @@ pub fn show<R: Read, W: Write>(
 }
 
 /// The same with long lines: the words of each line are followed by the other fields of its packet and its properties, each by its name.
+/// Those of a packet that breaks a rule are followed by `type <TYPE> bytes <bytes>`: the type that its first byte names (`Reserved`
+/// if that is 0), and at most 64 of its bytes, with the one at the offset in brackets. They are the first ones, or if the offset
+/// isn't among them, 32 before it, the one there and 31 after it; `..` stands where bytes are left out, and `[]` at the end if the
+/// packet ends before the offset.
 ///
 /// # Errors
 ///
@@ -194,8 +198,8 @@ pub fn show_long<R: Read, W: Write>(
 
 /// Writes the events of the log that a reader gives, as `show` does, or as `show_long` if `long` is true, and under each the faults at its position, a
 /// line for each: `  fault <code> <citation> <sentence>`, with ` (decided at event <n>)` if that is a later one, and ` (offset <n>)` if the fault is on
-/// a packet's bytes. The faults are those of an end in this role. With `around`, only events at most that many positions from a fault are shown, and
-/// each run of others is a line `..`.
+/// a packet's bytes. The faults are those of an end in this role. A packet that breaks a rule has its type and its bytes on its line, as in `show_long`.
+/// With `around`, only events at most that many positions from a fault are shown, and each run of others is a line `..`.
 ///
 /// # Errors
 ///

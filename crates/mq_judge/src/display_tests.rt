@@ -57,7 +57,7 @@ const TWO_FAULTS_AROUND_0: &str = "..\n\
     4 record 4 RECV PUBLISH size 9 qos 1 dup 0 id 1\n\
     \x20 fault E1R MQTT-4.3.2-4 A PUBLISH of QoS 1 is answered by a PUBACK. (decided at event 7)\n\
     ..\n\
-    8 record 8 SENT BAD W09 offset 5\n\
+    8 record 8 SENT BAD W09 offset 5 type PUBLISH bytes 32 07 00 01 61 [00] 00 00 78\n\
     \x20 fault W09 sec-2.2.1 A Packet Identifier isn't 0. (offset 5)\n";
 
 // A client's log, the `around` of its view, and what is shown.
@@ -108,7 +108,8 @@ fn shows_3000_faults(rt: HostRuntime) -> Result<(), Fail> {
     text.push_str("..\n")?;
     for position in 4..3004_u32 {
         add_record(&mut log, 2, PUBLISH_UNIDENTIFIED)?;
-        write!(text, "{position} record {position} SENT BAD W09 offset 5\n")?;
+        write!(text, "{position} record {position} SENT BAD W09 offset 5")?;
+        text.push_str(" type PUBLISH bytes 32 07 00 01 61 [00] 00 00 78\n")?;
         text.push_str("  fault W09 sec-2.2.1 A Packet Identifier isn't 0. (offset 5)\n")?;
     }
     assert!(rt; is_shown(alloc, log.as_slice(), Some(0), text.as_bytes())?);

@@ -9,7 +9,7 @@ ghost use Rattle.mq_rules.specs.FaultKeys.{faults_at};
 ghost use Rattle.mq_trace.specs.Reception.{placed_at};
 
 use super::outgoing::Outgoing;
-use super::view::{put_event_line, put_long_line};
+use super::view::{put_line_with_bytes, put_long_line};
 use mq_rules::{Fault, FaultKey, Faults, Role, Rule};
 use mq_trace::{Event, Place3};
 use std::io::Write;
@@ -88,14 +88,14 @@ fn is_near(faults: &Faults, around: Option<u32>, position: u32) -> bool
     }
 }
 
-/// Appends the line of an event at its place, long or short.
+/// Appends the line of an event at its place: the long one, or the short one with the bytes of a packet that breaks a rule.
 fn put_shown_line<W: Write>(out: &mut Outgoing<'_, W>, long: bool, place: Place3, event: &Event<'_>)
     ensures { Puts W.contents out.old (shown_line long (placed_at place event.now)) out.new }
 {
     if long {
         put_long_line(out, place, event);
     } else {
-        put_event_line(out, place, event);
+        put_line_with_bytes(out, place, event);
     }
 }
 

@@ -1,4 +1,5 @@
-//! What `show --long` prints of an event after its line's usual words: the fields and properties of its packet, by name.
+//! What `show --long` prints of an event after its line's usual words: the fields and properties of its packet, by name, or the
+//! bytes of one that breaks a rule.
 #![tactic(auto, using(crate::proofs::OutgoingLaws::putting, crate::proofs::DetailLaws::detailing))]
 
 ghost use Rattle.std.specs.Prelude.{ℕ, List, ◌++◌};
@@ -7,11 +8,12 @@ ghost use Rattle.std.specs.Option.{option_map};
 ghost use Rattle.mq_packet.specs.declared.packet.Packet.TheVariants as packets;
 ghost use Rattle.mq_packet.specs.Elements.{filter_view};
 ghost use Rattle.mq_packet.specs.Reading.{view, connect_view, publish_view, will_view};
-ghost use Rattle.mq_judge.specs.Details.{detail_text, item_details, packet_words, connect_words, publish_words, will_words, user_words, password_words, property_words, filter_words, option_words, code_words};
+ghost use Rattle.mq_judge.specs.Details.{detail_text, broken_detail_text, broken_details, item_details, packet_words, connect_words, publish_words, will_words, user_words, password_words, property_words, filter_words, option_words, code_words};
 ghost use Rattle.mq_judge.specs.ItemText.{with_spaces};
 ghost use Rattle.mq_judge.specs.Outgoing.{Puts};
 ghost use Rattle.mq_trace.specs.Reception.{event_of, item_of};
 
+mod broken;
 mod detail;
 mod laws;
 mod property;
@@ -19,6 +21,7 @@ mod quoting;
 
 use super::super::report::item::qos_number;
 use super::outgoing::Outgoing;
+use broken::put_broken;
 use detail::{Detail, Shown, put_all, put_detail};
 use mq_packet::{Answer, Codes, Connack, Connect, Filter, Filters, Packet, Publish, Request, Will};
 use mq_props::Props;
@@ -27,7 +30,7 @@ use property::put_properties;
 use std::io::Write;
 
 /// Appends what `--long` prints of an event after its line's usual words, each word with a space before it: the fields and the
-/// properties of a packet, and nothing for any other event.
+/// properties of a packet, the type and the bytes of one that breaks a rule, and nothing for any other event.
 pub fn put_details<W: Write>(out: &mut Outgoing<'_, W>, event: &Event<'_>)
     ensures { Puts W.contents out.old (detail_text (event_of event.now)) out.new }
 {
@@ -43,7 +46,28 @@ fn put_item_details<W: Write>(out: &mut Outgoing<'_, W>, item: &Item<'_>)
 {
     match item {
         Item::Packet(packet) => put_packet_details(out, packet),
-        Item::Bad { .. } | Item::Lost => {}
+        Item::Bad { bytes, at, .. } => put_broken(out, bytes, *at),
+        Item::Lost => {}
+    }
+}
+
+/// Appends only the type and the bytes of a packet that breaks a rule, in the same way, and nothing for any other event.
+pub fn put_broken_details<W: Write>(out: &mut Outgoing<'_, W>, event: &Event<'_>)
+    ensures { Puts W.contents out.old (broken_detail_text (event_of event.now)) out.new }
+{
+    match event {
+        Event::Sent(item) | Event::Recv(item) => put_broken_item(out, item),
+        Event::Open | Event::Close | Event::Rest | Event::Release(_) => {}
+    }
+}
+
+// Appends the type and the bytes of what was sent or received, if it breaks a rule.
+fn put_broken_item<W: Write>(out: &mut Outgoing<'_, W>, item: &Item<'_>)
+    ensures { Puts W.contents out.old (with_spaces (broken_details (item_of item.now))) out.new }
+{
+    match item {
+        Item::Bad { bytes, at, .. } => put_broken(out, bytes, *at),
+        Item::Packet(_) | Item::Lost => {}
     }
 }
 

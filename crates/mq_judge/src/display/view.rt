@@ -2,7 +2,7 @@
 ghost use Rattle.std.specs.Prelude.{◌≡◌, ◌+◌, ◌<◌, ◌≤◌, ◌∷◌, ◌++◌, ℕ, List, Option, IfErr, OnOk, length, unwrap_or};
 ghost use Rattle.mq_packet.specs.Sizes.{size_with, remaining_length};
 ghost use Rattle.mq_judge.specs.Outgoing.{Carries, Puts};
-ghost use Rattle.mq_judge.specs.Display.{direction_word, event_line, event_text, event_words, long_line, packet_line};
+ghost use Rattle.mq_judge.specs.Display.{line_with_bytes, direction_word, event_line, event_text, event_words, long_line, packet_line};
 ghost use Rattle.mq_judge.specs.Views.{IsStateAfter, text_by};
 ghost use Rattle.mq_trace.specs.Events.{Placed};
 ghost use Rattle.mq_trace.specs.Reception.{event_of, packet_event_at, placed_at};
@@ -11,7 +11,7 @@ use super::super::lines::Lines;
 use super::super::report::item::{put_item, put_packet};
 use super::super::report::summary::PacketSummary;
 use super::annotated::Annotated;
-use super::details::put_details;
+use super::details::{put_broken_details, put_details};
 use super::outgoing::Outgoing;
 use mq_packet::Packet;
 use mq_trace::{Direction, Event, Item, Place3};
@@ -157,9 +157,9 @@ fn direction_word(direction: Direction) -> &'static str
     }
 }
 
-/// Appends the line of an event at its place.
+// Appends the line of an event at its place.
 #[inline(always)]
-pub fn put_event_line<W: Write>(out: &mut Outgoing<'_, W>, place: Place3, event: &Event<'_>)
+fn put_event_line<W: Write>(out: &mut Outgoing<'_, W>, place: Place3, event: &Event<'_>)
     ensures { Puts W.contents out.old (event_line (placed_at place event.now)) out.new }
 {
     out.make_room();
@@ -173,6 +173,15 @@ pub fn put_long_line<W: Write>(out: &mut Outgoing<'_, W>, place: Place3, event: 
 {
     put_event_words(out, place, event);
     put_details(out, event);
+    out.put("\n");
+}
+
+/// Appends the line of an event at its place, with the type and the bytes of its packet if that breaks a rule.
+pub fn put_line_with_bytes<W: Write>(out: &mut Outgoing<'_, W>, place: Place3, event: &Event<'_>)
+    ensures { Puts W.contents out.old (line_with_bytes (placed_at place event.now)) out.new }
+{
+    put_event_words(out, place, event);
+    put_broken_details(out, event);
     out.put("\n");
 }
 

@@ -146,21 +146,84 @@ fn has_no_details(alloc: Global, event: &Event<'_>) -> bool {
 
 #[test]
 fn nothing_is_said_of_other_events(rt: HostRuntime) {
-    let bad = Item::Bad {
-        bytes: b"\x40\x02\x00\x00",
-        rule: PacketRule::W09,
-        at: 2,
-    };
     for event in [
         Event::Open,
         Event::Close,
         Event::Rest,
         Event::Release(7),
-        Event::Sent(bad),
         Event::Recv(Item::Lost),
     ] {
         assert!(rt; has_no_details(rt.alloc(), &event));
     }
+}
+
+/// Whether this is printed of a packet that has these bytes and breaks a rule at this offset.
+fn is_broken_as(alloc: Global, bytes: &[u8], at: u32, text: &str) -> bool {
+    let item = Item::Bad {
+        bytes,
+        rule: PacketRule::W09,
+        at,
+    };
+    let mut written = Vec::new(alloc);
+    let answer = write_details(&Event::Sent(item), &mut written);
+    answer.is_ok() && written.as_slice() == text.as_bytes()
+}
+
+#[test]
+fn a_packet_that_breaks_a_rule_has_its_type_and_its_bytes(rt: HostRuntime) {
+    let rows: [(&[u8], u32, &str); 20] = [
+        (b"\x00\x00", 0, " type Reserved bytes [00] 00"),
+        (b"\x11\x00", 0, " type CONNECT bytes [11] 00"),
+        (b"\x20\x02\x00\x85", 3, " type CONNACK bytes 20 02 00 [85]"),
+        (b"\x32\x00", 1, " type PUBLISH bytes 32 [00]"),
+        (b"\x40\x02\x00\x00", 2, " type PUBACK bytes 40 02 [00] 00"),
+        (b"\x51\x00", 0, " type PUBREC bytes [51] 00"),
+        (b"\x6F\x00", 0, " type PUBREL bytes [6F] 00"),
+        (b"\x71\x00", 0, " type PUBCOMP bytes [71] 00"),
+        (b"\x82\x00", 0, " type SUBSCRIBE bytes [82] 00"),
+        (b"\x91\x00", 0, " type SUBACK bytes [91] 00"),
+        (b"\xA0\x00", 0, " type UNSUBSCRIBE bytes [A0] 00"),
+        (b"\xB1\x00", 0, " type UNSUBACK bytes [B1] 00"),
+        (b"\xC1\x00", 0, " type PINGREQ bytes [C1] 00"),
+        (b"\xD1\x00", 0, " type PINGRESP bytes [D1] 00"),
+        (b"\xE1\x00", 0, " type DISCONNECT bytes [E1] 00"),
+        (b"\xF1\x00", 0, " type AUTH bytes [F1] 00"),
+        // The packet ends before the field, or right after its first byte.
+        (b"\x40\x00", 2, " type PUBACK bytes 40 00 []"),
+        (b"\x40\x01\x00", 2, " type PUBACK bytes 40 01 [00]"),
+        // No packet is like these.
+        (b"\x40\x00", 7, " type PUBACK bytes 40 00 []"),
+        (b"", 0, " bytes []"),
+    ];
+    for (bytes, at, text) in rows {
+        assert!(rt; is_broken_as(rt.alloc(), bytes, at, text), "{text}");
+    }
+}
+
+/// So many bytes: 0x30, 0x31, and so on.
+fn counting(alloc: Global, count: u8) -> Result<Vec<u8>, Fail> {
+    let mut bytes = Vec::new(alloc);
+    for number in 0..count {
+        bytes.push(number.wrapping_add(0x30))?;
+    }
+    Ok(bytes)
+}
+
+#[test]
+#[rattlefmt::skip]
+fn of_a_long_packet_at_most_64_bytes_are_shown(rt: HostRuntime) -> Result<(), Fail> {
+    let rows = [
+        (64, 0, " type PUBLISH bytes [30] 31 32 33 34 35 36 37 38 39 3A 3B 3C 3D 3E 3F 40 41 42 43 44 45 46 47 48 49 4A 4B 4C 4D 4E 4F 50 51 52 53 54 55 56 57 58 59 5A 5B 5C 5D 5E 5F 60 61 62 63 64 65 66 67 68 69 6A 6B 6C 6D 6E 6F"),
+        (65, 63, " type PUBLISH bytes 30 31 32 33 34 35 36 37 38 39 3A 3B 3C 3D 3E 3F 40 41 42 43 44 45 46 47 48 49 4A 4B 4C 4D 4E 4F 50 51 52 53 54 55 56 57 58 59 5A 5B 5C 5D 5E 5F 60 61 62 63 64 65 66 67 68 69 6A 6B 6C 6D 6E [6F] .."),
+        (65, 64, " type PUBLISH bytes .. 50 51 52 53 54 55 56 57 58 59 5A 5B 5C 5D 5E 5F 60 61 62 63 64 65 66 67 68 69 6A 6B 6C 6D 6E 6F [70]"),
+        (64, 64, " type PUBLISH bytes .. 50 51 52 53 54 55 56 57 58 59 5A 5B 5C 5D 5E 5F 60 61 62 63 64 65 66 67 68 69 6A 6B 6C 6D 6E 6F []"),
+        (200, 100, " type PUBLISH bytes .. 74 75 76 77 78 79 7A 7B 7C 7D 7E 7F 80 81 82 83 84 85 86 87 88 89 8A 8B 8C 8D 8E 8F 90 91 92 93 [94] 95 96 97 98 99 9A 9B 9C 9D 9E 9F A0 A1 A2 A3 A4 A5 A6 A7 A8 A9 AA AB AC AD AE AF B0 B1 B2 B3 .."),
+    ];
+    for (count, at, text) in rows {
+        let bytes = counting(rt.alloc(), count)?;
+        assert!(rt; is_broken_as(rt.alloc(), bytes.as_slice(), at, text), "{text}");
+    }
+    Ok(())
 }
 
 /// The details of a PUBLISH with a topic of `count` quotes.
