@@ -20,10 +20,9 @@ use Rattle.mq_rules.specs.Statements.{statement}
 use Rattle.mq_rules.specs.Steps.{turns}
 use Rattle.mq_rules.specs.FaultKeys.{FaultMap, fault_at}
 use Rattle.mq_rules.specs.Faults.{reported, fault_in}
-use Rattle.mq_rules.specs.Keeping.{news, GrowsBy, GrowsByWithin}
 use Rattle.mq_rules.proofs.Exports.{and_false, beginning, fault_in-start, fault_in-step, newest-first, or_parts}
 use Rattle.mq_rules.specs.Under.{is_by_session, is_on_session, IsInTurn, Follows}
-use Rattle.mq_rules.specs.Growing.{added, Gains, GainsWithin}
+use Rattle.mq_rules.specs.Growing.{added, Gains, GainsWithin, news, GrowsBy, GrowsByWithin}
 use Rattle.mq_books.specs.Judging.{IsWhole}
 use Rattle.mq_books.specs.Holding.{turns_session}
 use Rattle.mq_books.specs.Grouping.{of_sessions}

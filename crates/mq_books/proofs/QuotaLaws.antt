@@ -22,7 +22,7 @@ use Rattle.mq_rules.specs.Rules.{binds, found_line, line_of, lines, same_rule}
 use Rattle.mq_rules.specs.Statements.{statement}
 use Rattle.mq_rules.specs.Faults.{offset_of}
 use Rattle.mq_rules.specs.FaultKeys.{FaultMap}
-use Rattle.mq_rules.proofs.Exports.{S07-before, connection-newest as connection-next, earliest-next}
+use Rattle.mq_rules.proofs.Exports.{S07-before, connection-newest as connection-next, first_found-next}
 use Rattle.mq_books.specs.declared.quota.Quota.{Quota}
 use Rattle.mq_rules.specs.Under.{IsUnder, turns_with, fate_before}
 use Rattle.mq_rules.specs.Growing.{Gains}
@@ -60,13 +60,13 @@ room-kept Server e past = go (first_connect Server (connection past))
 
 -- the peer
 pub peer-next : (role : Role) (e : Seen) (past : List Seen) → peer_room role (e ∷ past) ≡ option_or (cond (is_open e.note) None (peer_room role past)) (announced role e.note)
-peer-next Client e past = ap connack_room (earliest-next (connack_of Client) e past) ∙ go (is_open e.note) (first_connack Client (connection past)) (connack_of Client e.note)
+peer-next Client e past = ap connack_room (first_found-next (connack_of Client) e past) ∙ go (is_open e.note) (first_connack Client (connection past)) (connack_of Client e.note)
   where
     go : (b : Bool) (o p : Option ConnackNote) → connack_room (option_or (cond b None o) p) ≡ option_or (cond b None (connack_room o)) (connack_room p)
     go true o p = refl
     go false None p = refl
     go false (Some a) p = refl
-peer-next Server e past = ap connect_room (earliest-next (connect_of Server) e past) ∙ go (is_open e.note) (first_connect Server (connection past)) (connect_of Server e.note)
+peer-next Server e past = ap connect_room (first_found-next (connect_of Server) e past) ∙ go (is_open e.note) (first_connect Server (connection past)) (connect_of Server e.note)
   where
     go : (b : Bool) (o p : Option ConnectNote) → connect_room (option_or (cond b None o) p) ≡ option_or (cond b None (connect_room o)) (connect_room p)
     go true o p = refl

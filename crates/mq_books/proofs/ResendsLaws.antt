@@ -23,7 +23,7 @@ use Rattle.mq_rules.specs.Identifiers.{counts, is_used_up, has_announced, shows_
 use Rattle.mq_rules.specs.Rules.{binds, found_line, line_of, lines, same_rule}
 use Rattle.mq_rules.specs.Faults.{reported}
 use Rattle.mq_rules.specs.FaultKeys.{FaultMap}
-use Rattle.mq_rules.proofs.Exports.{among-moment, both_true, earliest-next, latest_fate-same, moment-among, moment-placed, moment-stays, not_true, or_false, rest-opens-nothing, session-descend, session-members, used_up-counted}
+use Rattle.mq_rules.proofs.Exports.{among-moment, both_true, first_found-next, latest_fate-same, moment-among, moment-placed, moment-stays, not_true, or_false, rest-opens-nothing, session-descend, session-members, used_up-counted}
 use Rattle.mq_books.specs.declared.inflight.entry.Entry.{Entry}
 use Rattle.mq_books.specs.declared.inflight.Inflight.{Inflight}
 use Rattle.mq_rules.specs.Under.{IsUnder, fate_before, turns_with}
@@ -185,13 +185,13 @@ resends-gains tested s f at e past m rests excused under u rest_is excused_is = 
 -- ---- the state, with one event more
 
 pub bounds-next : (role : Role) (e : Seen) (past : List Seen) → peer_bounds role (e ∷ past) ≡ bounds_next role e.note (peer_bounds role past)
-bounds-next Client e past = ap connack_bounds (earliest-next (connack_of Client) e past) ∙ go (is_open e.note) (first_connack Client (connection past)) (connack_of Client e.note)
+bounds-next Client e past = ap connack_bounds (first_found-next (connack_of Client) e past) ∙ go (is_open e.note) (first_connack Client (connection past)) (connack_of Client e.note)
   where
     go : (b : Bool) (o p : Option ConnackNote) → connack_bounds (option_or (cond b None o) p) ≡ option_or (cond b None (connack_bounds o)) (connack_bounds p)
     go true o p = refl
     go false None p = refl
     go false (Some a) p = refl
-bounds-next Server e past = ap connect_bounds (earliest-next (connect_of Server) e past) ∙ go (is_open e.note) (first_connect Server (connection past)) (connect_of Server e.note)
+bounds-next Server e past = ap connect_bounds (first_found-next (connect_of Server) e past) ∙ go (is_open e.note) (first_connect Server (connection past)) (connect_of Server e.note)
   where
     go : (b : Bool) (o p : Option ConnectNote) → connect_bounds (option_or (cond b None o) p) ≡ option_or (cond b None (connect_bounds o)) (connect_bounds p)
     go true o p = refl

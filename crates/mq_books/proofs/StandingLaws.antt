@@ -15,10 +15,10 @@ use Rattle.mq_rules.specs.declared.note.Seen.{Seen}
 use Rattle.mq_rules.specs.declared.text.NotedFilter.{NotedFilter}
 use Rattle.mq_rules.specs.Words.{is_some_and, only}
 use Rattle.mq_rules.specs.Notes.{is_open, is_release, refuses, Subscription, Grant, received_subscription, sent_grant}
-use Rattle.mq_rules.specs.Moments.{Moment, newest, note, moments, position, is_after, some, those, earliest, Among}
+use Rattle.mq_rules.specs.Moments.{Moment, newest, note, moments, position, is_after, some, those, first_found, Among}
 use Rattle.mq_rules.specs.Connections.{begun, number, of_connection, connection, latest_fate, accepts, accepted, begins, voided, any_accepted, has_session, with_first, session}
 use Rattle.mq_rules.specs.Subscriptions.{Standing, granted, codes_under, standing_from, standing_of, asks_to_share, is_shared, topic_set, last_set}
-use Rattle.mq_rules.proofs.Exports.{among-within, and_false, begun-least, begun-open, begun-same, connection-newest as connection-next, none-earliest, option_or-none, or_false, session-members, those-among}
+use Rattle.mq_rules.proofs.Exports.{among-within, and_false, begun-least, begun-open, begun-same, connection-newest as connection-next, none-first_found, option_or-none, or_false, session-members, those-among}
 use Rattle.mq_rules.specs.Under.{fate_before}
 use Rattle.mq_books.specs.Standings.{Waits, asked, codes_in, waits_by, standing_by, settled_by, waiting_by, settled_from, waiting_from, first_code, other_codes, with_code, with_codes, goes_on, is_answered, grants_some, settled_next, waiting_next, sharing_next, topic_next, IsStanding, any_kept}
 
@@ -115,13 +115,13 @@ codes-next i j e past within = go (begun (e ∷ past) == number j)
     later : is_after (newest e past) j ≡ true
     later = let p : length j.past + 1 ≤ length past = within in grind (arith, nat_tests)
 
-    go : (b : Bool) → earliest (codes_under i) (those (λ m. is_after m j) (cond b (newest e past ∷ rest) rest)) ≡ option_or (earliest (codes_under i) (those (λ m. is_after m j) rest)) (cond b (codes_under i e.note) None)
-    go true = ap (λ b. earliest (codes_under i) (cond b (newest e past ∷ those (λ m. is_after m j) rest) (those (λ m. is_after m j) rest))) later
-    go false = sym (option_or-none (earliest (codes_under i) (those (λ m. is_after m j) rest)))
+    go : (b : Bool) → first_found (codes_under i) (those (λ m. is_after m j) (cond b (newest e past ∷ rest) rest)) ≡ option_or (first_found (codes_under i) (those (λ m. is_after m j) rest)) (cond b (codes_under i e.note) None)
+    go true = ap (λ b. first_found (codes_under i) (cond b (newest e past ∷ those (λ m. is_after m j) rest) (those (λ m. is_after m j) rest))) later
+    go false = sym (option_or-none (first_found (codes_under i) (those (λ m. is_after m j) rest)))
 
 -- a SUBSCRIBE has no SUBACK when it comes
 codes-newest : (i : ℕ) (e : Seen) (past : List Seen) → codes_in (e ∷ past) (newest e past) i ≡ None
-codes-newest i e past = none-earliest (codes_under i) (those (λ m. is_after m (newest e past)) (of_connection (number (newest e past)) (e ∷ past))) (λ m among. absurd (never m among))
+codes-newest i e past = none-first_found (codes_under i) (those (λ m. is_after m (newest e past)) (of_connection (number (newest e past)) (e ∷ past))) (λ m among. absurd (never m among))
   where
     never : (m : Moment) → Among m (those (λ m. is_after m (newest e past)) (of_connection (number (newest e past)) (e ∷ past))) → ⊥
     never m among =

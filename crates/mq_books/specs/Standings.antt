@@ -11,7 +11,7 @@ use Rattle.mq_rules.specs.declared.note.Seen.{Seen}
 use Rattle.mq_rules.specs.declared.packet_note.PublishNote.{PublishNote}
 use Rattle.mq_rules.specs.Words.{is_some_and, only}
 use Rattle.mq_rules.specs.Notes.{is_open, Subscription, Grant, received_subscription, sent_grant, sent_publish, refuses, qos_number}
-use Rattle.mq_rules.specs.Moments.{Moment, note, is_after, some, those, earliest}
+use Rattle.mq_rules.specs.Moments.{Moment, note, is_after, some, those, first_found}
 use Rattle.mq_rules.specs.Connections.{begun, number, of_connection, connection, accepts, begins, session}
 use Rattle.mq_rules.specs.Subscriptions.{Standing, granted, codes_under, asks_to_share, is_shared, topic_set, last_set}
 
@@ -27,7 +27,7 @@ asked s = record { identifier = s.identifier; filters = granted s.filters [] }
 
 -- The Reason Codes of the SUBACK of a SUBSCRIBE j under i, if this log has it.
 abbrev pub codes_in : List Seen → Moment → ℕ → Option (List ℕ)
-codes_in past j i = earliest (codes_under i) (those (λ m. is_after m j) (of_connection (number j) past))
+codes_in past j i = first_found (codes_under i) (those (λ m. is_after m j) (of_connection (number j) past))
 
 -- a SUBSCRIBE waits if it is on the latest connection, and these say no Reason Codes for its identifier
 abbrev pub waits_by : Bool → (ℕ → Option (List ℕ)) → Option Subscription → Bool

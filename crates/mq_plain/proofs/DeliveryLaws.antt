@@ -6,7 +6,7 @@ use Rattle.mq_rules.specs.declared.fate.Fate.{Fate}
 use Rattle.mq_rules.specs.declared.note.Seen.{Seen}
 use Rattle.mq_rules.specs.Words.{is_some_and}
 use Rattle.mq_rules.specs.Notes.{is_open, is_release, Subscription, received_subscription, sent_publish, qos_number}
-use Rattle.mq_rules.specs.Moments.{Moment, newest, note, some, those, earliest, is_after}
+use Rattle.mq_rules.specs.Moments.{Moment, newest, note, some, those, first_found, is_after}
 use Rattle.mq_rules.specs.Connections.{begun, number, of_connection, connection, latest_fate, accepted, voided, begins, any_accepted, has_session, with_first, session}
 use Rattle.mq_rules.specs.Subscriptions.{Standing, granted, codes_under, standing_from, standing_of, standing_at, is_shared, asks_to_share, topic_of, topic_set, last_set, breaks_B01, breaks_B02}
 use Rattle.mq_rules.specs.Identifiers.{session_before}
@@ -163,11 +163,11 @@ none_after e past c (x ∷ log) h =
 
 -- the first SUBACK after j on its connection, where these events came after j, the newest first
 ahead-back : (i : ℕ) (e : Seen) (past later : List Seen)
-    → earliest (codes_under i) (those (λ m. is_after m (newest e past)) (of_connection (begun (e ∷ past)) (later ++ (e ∷ past)))) ≡ codes_ahead i (reverse later)
+    → first_found (codes_under i) (those (λ m. is_after m (newest e past)) (of_connection (begun (e ∷ past)) (later ++ (e ∷ past)))) ≡ codes_ahead i (reverse later)
 unfolding opens
-ahead-back i e past [] = let le : length (e ∷ past) ≤ length past + 1 = omega arith in ap (earliest (codes_under i)) (none_after e past (begun (e ∷ past)) (e ∷ past) le)
+ahead-back i e past [] = let le : length (e ∷ past) ≤ length past + 1 = omega arith in ap (first_found (codes_under i)) (none_after e past (begun (e ∷ past)) (e ∷ past) le)
 ahead-back i e past (x ∷ later) =
-    ap (λ b. earliest (codes_under i) (those after (cond b (newest x whole ∷ of_connection c whole) (of_connection c whole)))) (begun-same (x ∷ later) (e ∷ past))
+    ap (λ b. first_found (codes_under i) (those after (cond b (newest x whole ∷ of_connection c whole) (of_connection c whole)))) (begun-same (x ∷ later) (e ∷ past))
     ∙ (go (list_any opens (x ∷ later))
     ∙ (ap (λ o. cond (list_any opens (x ∷ later)) o (option_or o (codes_under i x.note))) (ahead-back i e past later)
     ∙ (ap (λ b. cond b (codes_ahead i (reverse later)) (option_or (codes_ahead i (reverse later)) (codes_under i x.note))) (sym (any-reverse opens (x ∷ later)) ∙ ap (list_any opens) (one_back x later))
@@ -182,26 +182,26 @@ ahead-back i e past (x ∷ later) =
     after : Moment → Bool
     after m = is_after m (newest e past)
 
-    go : (b : Bool) → earliest (codes_under i) (those after (cond (not b) (newest x whole ∷ of_connection c whole) (of_connection c whole)))
-        ≡ cond b (earliest (codes_under i) (those after (of_connection c whole))) (option_or (earliest (codes_under i) (those after (of_connection c whole))) (codes_under i x.note))
+    go : (b : Bool) → first_found (codes_under i) (those after (cond (not b) (newest x whole ∷ of_connection c whole) (of_connection c whole)))
+        ≡ cond b (first_found (codes_under i) (those after (of_connection c whole))) (option_or (first_found (codes_under i) (those after (of_connection c whole))) (codes_under i x.note))
     go true = refl
     go false =
         let long : length whole ≡ length later + (length past + 1) = simp length-append (omega arith) in
         let late : nat_lt (length past + 1) (length whole + 1) ≡ true = grind (arith, nat_tests) in
-        ap (λ b. earliest (codes_under i) (cond b (newest x whole ∷ those after (of_connection c whole)) (those after (of_connection c whole)))) late
+        ap (λ b. first_found (codes_under i) (cond b (newest x whole ∷ those after (of_connection c whole)) (those after (of_connection c whole)))) late
 
 -- ---- looking back over the session
 
 -- some filter that the SUBSCRIBE j makes stand allows the topic, after these events
 abbrev pub stands : List ℕ → ℕ → List Seen → Moment → Bool
-stands topic least whole j = list_any (allows topic least) (unwrap_or (option_map (λ s. granted s.filters (unwrap_or (earliest (codes_under s.identifier) (those (λ m. is_after m j) (of_connection (number j) whole))) [])) (received_subscription (note j))) [])
+stands topic least whole j = list_any (allows topic least) (unwrap_or (option_map (λ s. granted s.filters (unwrap_or (first_found (codes_under s.identifier) (those (λ m. is_after m j) (of_connection (number j) whole))) [])) (received_subscription (note j))) [])
 
 -- so it is by the events that came after the SUBSCRIBE
 stands-here : (topic : List ℕ) (least : ℕ) (e : Seen) (past later : List Seen) → stands topic least (reverse later ++ (e ∷ past)) (newest e past) ≡ subscribes_to topic least later e.note
 stands-here topic least e past later = go (received_subscription e.note)
   where
     found : ℕ → Option (List ℕ)
-    found i = earliest (codes_under i) (those (λ m. is_after m (newest e past)) (of_connection (begun (e ∷ past)) (reverse later ++ (e ∷ past))))
+    found i = first_found (codes_under i) (those (λ m. is_after m (newest e past)) (of_connection (begun (e ∷ past)) (reverse later ++ (e ∷ past))))
 
     same : (i : ℕ) → found i ≡ codes_ahead i later
     same i = ahead-back i e past (reverse later) ∙ ap (codes_ahead i) (reverse-reverse later)
@@ -230,7 +230,7 @@ stands_back topic least role f g e past later whole here over joined is_here is_
     own = ap (λ log. stands topic least log (newest e past)) joined ∙ stands-here topic least e past later
 
     idle : is_release e.note ≡ true → stands topic least whole (newest e past) ≡ false
-    idle h = release_idle e.note (allows topic least) (λ s. granted s.filters (unwrap_or (earliest (codes_under s.identifier) (those (λ m. is_after m (newest e past)) (of_connection (number (newest e past)) whole))) [])) h
+    idle h = release_idle e.note (allows topic least) (λ s. granted s.filters (unwrap_or (first_found (codes_under s.identifier) (those (λ m. is_after m (newest e past)) (of_connection (number (newest e past)) whole))) [])) h
 
 -- the standing filters are asked one SUBSCRIBE after another
 pub standing-stands : (topic : List ℕ) (least : ℕ) (role : Role) (f : Fate) (k : Seen) (past : List Seen)

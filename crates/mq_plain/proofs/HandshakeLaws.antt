@@ -6,7 +6,7 @@ use Rattle.mq_rules.specs.declared.role.Role.TheVariants.{Client, Server}
 use Rattle.mq_rules.specs.declared.note.Note.{Note}
 use Rattle.mq_rules.specs.declared.note.Seen.{Seen}
 use Rattle.mq_rules.specs.Notes.{is_open, connect_of, connack_of}
-use Rattle.mq_rules.specs.Moments.{newest, earliest}
+use Rattle.mq_rules.specs.Moments.{newest, first_found}
 use Rattle.mq_rules.specs.Connections.{connection, first_connect, first_connack}
 use Rattle.mq_rules.specs.Pasts.{peer_receive_maximum}
 use Rattle.mq_rules.specs.Identifiers.{counts, has_announced}
@@ -15,11 +15,11 @@ use Rattle.mq_plain.specs.Handshakes.{handshake, receive_maximum_in, counts_afte
 use Rattle.mq_rules.proofs.Exports.{or_false, connection-next}
 
 -- what is found at the earliest event of a connection, with one event more
-pub earliest-next : {A : Type 0} (found : Note → Option A) (e : Seen) (past : List Seen)
-    → earliest found (connection (e ∷ past)) ≡ option_or (cond (is_open e.note) None (earliest found (connection past))) (found e.note)
-earliest-next found e past = ap (earliest found) (connection-next e past) ∙ go (is_open e.note)
+pub first_found-next : {A : Type 0} (found : Note → Option A) (e : Seen) (past : List Seen)
+    → first_found found (connection (e ∷ past)) ≡ option_or (cond (is_open e.note) None (first_found found (connection past))) (found e.note)
+first_found-next found e past = ap (first_found found) (connection-next e past) ∙ go (is_open e.note)
   where
-    go : (b : Bool) → earliest found (cond b (newest e past ∷ []) (newest e past ∷ connection past)) ≡ option_or (cond b None (earliest found (connection past))) (found e.note)
+    go : (b : Bool) → first_found found (cond b (newest e past ∷ []) (newest e past ∷ connection past)) ≡ option_or (cond b None (first_found found (connection past))) (found e.note)
     go true = refl
     go false = refl
 
@@ -34,23 +34,23 @@ in_turn false (Some a) here after = refl
 in_turn false None here after = refl
 
 back-next : {A : Type 0} (found : Note → Option A) (after : Option A) (e : Seen) (past : List Seen)
-    → option_or (earliest found (connection (e ∷ past))) after ≡ cond (is_open e.note) (option_or (found e.note) after) (option_or (earliest found (connection past)) (option_or (found e.note) after))
+    → option_or (first_found found (connection (e ∷ past))) after ≡ cond (is_open e.note) (option_or (found e.note) after) (option_or (first_found found (connection past)) (option_or (found e.note) after))
 back-next found after e past =
-    ap (λ o. option_or o after) (earliest-next found e past) ∙ in_turn (is_open e.note) (earliest found (connection past)) (found e.note) after ∙ go (is_open e.note)
+    ap (λ o. option_or o after) (first_found-next found e past) ∙ in_turn (is_open e.note) (first_found found (connection past)) (found e.note) after ∙ go (is_open e.note)
   where
-    go : (b : Bool) → option_or (cond b None (earliest found (connection past))) (option_or (found e.note) after) ≡ cond b (option_or (found e.note) after) (option_or (earliest found (connection past)) (option_or (found e.note) after))
+    go : (b : Bool) → option_or (cond b None (first_found found (connection past))) (option_or (found e.note) after) ≡ cond b (option_or (found e.note) after) (option_or (first_found found (connection past)) (option_or (found e.note) after))
     go true = refl
     go false = refl
 
 back-open : {A : Type 0} (found : Note → Option A) (after : Option A) (e : Seen) (past : List Seen) → is_open e.note ≡ true
-    → option_or (earliest found (connection (e ∷ past))) after ≡ option_or (found e.note) after
+    → option_or (first_found found (connection (e ∷ past))) after ≡ option_or (found e.note) after
 back-open found after e past opens =
-    back-next found after e past ∙ ap (λ b. cond b (option_or (found e.note) after) (option_or (earliest found (connection past)) (option_or (found e.note) after))) opens
+    back-next found after e past ∙ ap (λ b. cond b (option_or (found e.note) after) (option_or (first_found found (connection past)) (option_or (found e.note) after))) opens
 
 back-on : {A : Type 0} (found : Note → Option A) (after : Option A) (e : Seen) (past : List Seen) → is_open e.note ≡ false
-    → option_or (earliest found (connection (e ∷ past))) after ≡ option_or (earliest found (connection past)) (option_or (found e.note) after)
+    → option_or (first_found found (connection (e ∷ past))) after ≡ option_or (first_found found (connection past)) (option_or (found e.note) after)
 back-on found after e past opens =
-    back-next found after e past ∙ ap (λ b. cond b (option_or (found e.note) after) (option_or (earliest found (connection past)) (option_or (found e.note) after))) opens
+    back-next found after e past ∙ ap (λ b. cond b (option_or (found e.note) after) (option_or (first_found found (connection past)) (option_or (found e.note) after))) opens
 
 -- one event further back
 pub handshake_back-open : (role : Role) (found : Handshake) (e : Seen) (past : List Seen) → is_open e.note ≡ true

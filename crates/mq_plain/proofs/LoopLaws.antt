@@ -23,7 +23,7 @@ use Rattle.mq_rules.specs.Statements.{statement, in_session, at_release}
 use Rattle.mq_rules.specs.Steps.{turns, JudgedAtOnce}
 use Rattle.mq_rules.specs.FaultKeys.{FaultMap, fault_at, judged}
 use Rattle.mq_rules.specs.Faults.{offset_of, reported}
-use Rattle.mq_rules.specs.Keeping.{GrowsBy}
+use Rattle.mq_rules.specs.Growing.{GrowsBy}
 use Rattle.mq_rules.proofs.Exports.{and_false, or-turn, fault_at-judged, latest_fate-next, in_order-turns, in_order-releases}
 use Rattle.mq_plain.specs.declared.turn.Turn.{Turn}
 use Rattle.mq_plain.specs.Events.{ComesNext, asks, some_asks}

@@ -32,7 +32,7 @@ use Rattle.mq_rules.specs.Releases.{breaks_L1, breaks_L2, breaks_L3}
 use Rattle.mq_rules.specs.Subscriptions.{breaks_B01, breaks_B02, breaks_B03, breaks_B04}
 use Rattle.mq_rules.specs.FaultKeys.{FaultMap, fault_at}
 use Rattle.mq_rules.specs.Faults.{reported}
-use Rattle.mq_rules.specs.Keeping.{GrowsBy}
+use Rattle.mq_rules.specs.Growing.{GrowsBy}
 use Rattle.mq_rules.proofs.Exports.{and_false, or_false, both_true, option_or-none, in_order-turns, in_order-releases}
 use Rattle.mq_plain.specs.Chosen.{is_plain_se, is_plain_lb, is_plain_rule}
 use Rattle.mq_plain.specs.Events.{is_client, is_spoken_of, is_quiet, is_asking, asks, some_asks, is_unacknowledged, is_idle, AreSilent}

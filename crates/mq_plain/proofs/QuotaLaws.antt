@@ -9,13 +9,13 @@ use Rattle.mq_rules.specs.declared.note.Note.{Note}
 use Rattle.mq_rules.specs.declared.note.Note.TheVariants as notes
 use Rattle.mq_rules.specs.declared.note.Seen.{Seen}
 use Rattle.mq_rules.specs.Notes.{is_open, delivery_of, closer_of, connack_of}
-use Rattle.mq_rules.specs.Moments.{Moment, newest, note, those, earliest, count, some_stretch}
+use Rattle.mq_rules.specs.Moments.{Moment, newest, note, those, first_found, count, some_stretch}
 use Rattle.mq_rules.specs.Connections.{connection}
 use Rattle.mq_rules.specs.Pasts.{peer_receive_maximum}
 use Rattle.mq_rules.specs.Identifiers.{is_delivery, is_closer, counts, passes, breaks_S07, is_used_up}
 use Rattle.mq_rules.proofs.Exports.{same_test, both_true, connection-next}
 use Rattle.mq_plain.specs.Quota.{counted, room_back}
-use Rattle.mq_plain.proofs.HandshakeLaws.{earliest-next}
+use Rattle.mq_plain.proofs.HandshakeLaws.{first_found-next}
 
 -- ---- tests on numbers
 
@@ -118,8 +118,8 @@ counted-next role e past = ap (those (counts role)) (connection-next e past) ∙
 -- where the next event isn't counted, neither is the one before it
 uncounted-before : (role : Role) (d e : Seen) (past : List Seen) → is_open e.note ≡ false → counts role (newest d (e ∷ past)) ≡ false → counts role (newest e past) ≡ false
 uncounted-before Client d e past opens h =
-    go (earliest (connack_of Client) (connection past)) (connack_of Client e.note)
-    (sym (ap is_some (earliest-next (connack_of Client) e past ∙ ap (λ b. option_or (cond b None (earliest (connack_of Client) (connection past))) (connack_of Client e.note)) opens)) ∙ h)
+    go (first_found (connack_of Client) (connection past)) (connack_of Client e.note)
+    (sym (ap is_some (first_found-next (connack_of Client) e past ∙ ap (λ b. option_or (cond b None (first_found (connack_of Client) (connection past))) (connack_of Client e.note)) opens)) ∙ h)
   where
     go : {A : Type 0} (o p : Option A) → is_some (option_or o p) ≡ false → is_some o ≡ false
     go None p h = refl

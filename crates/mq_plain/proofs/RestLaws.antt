@@ -20,7 +20,7 @@ use Rattle.mq_rules.specs.Statements.{statement, at_rest}
 use Rattle.mq_rules.specs.Steps.{shows, turns}
 use Rattle.mq_rules.specs.FaultKeys.{FaultMap, fault_at, with_fault}
 use Rattle.mq_rules.specs.Faults.{record_of, offset_of, reported}
-use Rattle.mq_rules.specs.Keeping.{news, GrowsBy, GrowsByWithin}
+use Rattle.mq_rules.specs.Growing.{news, GrowsBy, GrowsByWithin}
 use Rattle.mq_rules.proofs.Exports.{and_false, option_or-none, same_test, fault_at-with_fault, moment-stays}
 use Rattle.mq_plain.specs.Shown.{IsShown}
 use Rattle.mq_plain.specs.Blames.{place_at, decided_by, Blames, BlamesWithin}

@@ -16,7 +16,7 @@ pub trait Evaluator: Drop {
     ghost use Rattle.std.specs.Prelude.{Bool, reverse, OnOk, OnErr};
     ghost use Rattle.mq_rules.specs.declared.role.Tested.{Tested};
     ghost use Rattle.mq_rules.specs.declared.rule.Rule.{Rule};
-    ghost use Rattle.mq_rules.specs.Keeping.{GrowsBy, GrowsByWithin};
+    ghost use Rattle.mq_rules.specs.Growing.{GrowsBy, GrowsByWithin};
     ghost use Rattle.mq_plain.specs.Events.{ComesNext};
 
     // The statements that are judged.

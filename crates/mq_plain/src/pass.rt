@@ -8,7 +8,7 @@ ghost use Rattle.mq_rules.specs.Notes.{is_open, is_rest, decides};
 ghost use Rattle.mq_rules.specs.Moments.{IsPlaced};
 ghost use Rattle.mq_rules.specs.Connections.{IsInOrder, latest_fate};
 ghost use Rattle.mq_rules.specs.Faults.{Grows, GrowsWithin};
-ghost use Rattle.mq_rules.specs.Keeping.{GrowsBy, GrowsByWithin};
+ghost use Rattle.mq_rules.specs.Growing.{GrowsBy, GrowsByWithin};
 ghost use Rattle.mq_plain.specs.Events.{AreSilent, asks as asks_for, is_asking as asking, is_idle as idle, is_quiet as quiet, is_spoken_of as spoken_of, is_unacknowledged as unacknowledged, some_asks};
 
 use crate::binding::is_binding_rest;

@@ -3,7 +3,7 @@ ghost use Rattle.std.specs.Prelude.{◌≡◌, ◌&&◌, reverse, OnOk, OnErr};
 ghost use Rattle.mq_rules.specs.Words.{is_some_and};
 ghost use Rattle.mq_rules.specs.Moments.{newest};
 ghost use Rattle.mq_rules.specs.Rules.{same_rule, binds as is_bound};
-ghost use Rattle.mq_rules.specs.Keeping.{GrowsBy};
+ghost use Rattle.mq_rules.specs.Growing.{GrowsBy};
 ghost use Rattle.mq_plain.specs.Events.{ComesNext};
 
 use crate::turn::Turn;

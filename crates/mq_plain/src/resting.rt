@@ -1,7 +1,7 @@
 //! Judging an event by one statement that a later REST shows.
 ghost use Rattle.std.specs.Prelude.{◌≡◌, reverse, OnOk, OnErr};
 ghost use Rattle.mq_rules.specs.Rules.{same_rule, binds as is_bound};
-ghost use Rattle.mq_rules.specs.Keeping.{GrowsBy, GrowsByWithin};
+ghost use Rattle.mq_rules.specs.Growing.{GrowsBy, GrowsByWithin};
 ghost use Rattle.mq_plain.specs.Blames.{Blames, BlamesWithin};
 ghost use Rattle.mq_plain.specs.Events.{ComesNext};
 

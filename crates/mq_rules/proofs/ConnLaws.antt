@@ -10,7 +10,7 @@ use Rattle.mq_rules.specs.declared.note.Seen.{Seen}
 use Rattle.mq_rules.specs.declared.conn.state.ConnectionState.{ConnectionState}
 use Rattle.mq_rules.specs.Words.{is_id, is_some_and}
 use Rattle.mq_rules.specs.Notes.{is_open, sent_item, is_typed, connect_of, connack_of, client_disconnect, decides, sends_type, receives_type}
-use Rattle.mq_rules.specs.Moments.{Moment, newest, note, some, earliest}
+use Rattle.mq_rules.specs.Moments.{Moment, newest, note, some, first_found}
 use Rattle.mq_rules.specs.Connections.{begun, of_connection, connection, accepted, session_expiry, may_be_accepted, is_alive_after}
 use Rattle.mq_rules.specs.Pasts.{sends_typed, is_sent_disconnect, is_sent_refusal, set_alias}
 use Rattle.mq_rules.proofs.BoolLaws.{or-turn}
@@ -54,12 +54,12 @@ some-next test e past = ap (some test) (connection-next e past) ∙ ap (λ b. te
 some-last : (test : Moment → Bool) (e : Seen) (past : List Seen) → some test (connection (e ∷ past)) ≡ ((not (is_open e.note) && some test (connection past)) || test (newest e past))
 some-last test e past = some-next test e past ∙ or-turn (test (newest e past)) (not (is_open e.note) && some test (connection past))
 
-pub earliest-next : {A : Type 0} (found : Note → Option A) (e : Seen) (past : List Seen) → earliest found (connection (e ∷ past)) ≡ option_or (cond (is_open e.note) None (earliest found (connection past))) (found e.note)
-earliest-next found e past =
-    ap (earliest found) (connection-next e past)
+pub first_found-next : {A : Type 0} (found : Note → Option A) (e : Seen) (past : List Seen) → first_found found (connection (e ∷ past)) ≡ option_or (cond (is_open e.note) None (first_found found (connection past))) (found e.note)
+first_found-next found e past =
+    ap (first_found found) (connection-next e past)
     ∙ ap (λ o. option_or o (found e.note)) (go (is_open e.note))
   where
-    go : (b : Bool) → earliest found (cond b [] (connection past)) ≡ cond b None (earliest found (connection past))
+    go : (b : Bool) → first_found found (cond b [] (connection past)) ≡ cond b None (first_found found (connection past))
     go true = refl
     go false = refl
 
@@ -72,14 +72,14 @@ of_connection-earlier c e past h =
 
 -- what a connection's events say of the session after it, which was alive before it or not
 alive_by : Role → List Moment → Bool → Bool
-alive_by role ms before = cond (accepted (earliest (decides role) ms)) (not (session_expiry role ms == 0)) (may_be_accepted role ms || before)
+alive_by role ms before = cond (accepted (first_found (decides role) ms)) (not (session_expiry role ms == 0)) (may_be_accepted role ms || before)
 
 suc_no_zero : (c : ℕ) → (suc c == 0) ≡ false
 suc_no_zero c = ne_eqb (suc c) 0 (λ same. absurd (omega arith))
 
 alive-suc : (role : Role) (c : ℕ) (log : List Seen) → is_alive_after role (suc c) log ≡ alive_by role (of_connection (suc c) log) (is_alive_after role c log)
 unfolding alive_by
-alive-suc role c log = ap (λ b. cond (accepted (cond b (Some Void) (earliest (decides role) (of_connection (suc c) log)))) (not (session_expiry role (of_connection (suc c) log) == 0))
+alive-suc role c log = ap (λ b. cond (accepted (cond b (Some Void) (first_found (decides role) (of_connection (suc c) log)))) (not (session_expiry role (of_connection (suc c) log) == 0))
     (may_be_accepted role (of_connection (suc c) log) || is_alive_after role c log)) (suc_no_zero c)
 
 below : (c n : ℕ) → suc c ≤ n - 1 → suc c < n
@@ -165,10 +165,10 @@ kept-next role e past =
     (λ i. record {
       has_begun = begun-next e past i;
       was_alive = alive-next role e past i;
-      fate = earliest-next (decides role) e past i;
-      connect = earliest-next (connect_of role) e past i;
-      connack = earliest-next (connack_of role) e past i;
-      disconnect = earliest-next (client_disconnect role) e past i;
+      fate = first_found-next (decides role) e past i;
+      connect = first_found-next (connect_of role) e past i;
+      connack = first_found-next (connack_of role) e past i;
+      disconnect = first_found-next (client_disconnect role) e past i;
       has_sent = some-last sends_typed e past i;
       has_sent_connect = some-last (λ m. sends_type types.Connect (note m)) e past i;
       has_sent_connack = some-last (λ m. sends_type types.Connack (note m)) e past i;

@@ -1,6 +1,6 @@
 -- The laws on statements, moments and faults that the crates above cite. They cite no other file of these proofs.
 pub use Rattle.mq_rules.proofs.BoolLaws.{and-over, and-past, and_false, and_true, both_true, differ, not_true, option_or-none, or-turn, or_false, or_left, or_parts, or_right, same_test, there}
-pub use Rattle.mq_rules.proofs.ConnLaws.{connection-next as connection-newest, earliest-next, some-next}
+pub use Rattle.mq_rules.proofs.ConnLaws.{connection-next as connection-newest, first_found-next, some-next}
 pub use Rattle.mq_rules.proofs.CounterLaws.{S07-before, used_up-counted}
 pub use Rattle.mq_rules.proofs.DecidedLaws.{fault_in-start, fault_in-step}
 pub use Rattle.mq_rules.proofs.FateLaws.{begun-least, begun-open, begun-same, connection-next, fate-elsewhere, latest_fate-next, latest_fate-open, latest_fate-same}
@@ -14,7 +14,7 @@ pub use Rattle.mq_rules.proofs.ListingLaws.{entries-listed}
 pub use Rattle.mq_rules.proofs.OpenLaws.{on_connections}
 pub use Rattle.mq_rules.proofs.OrderLaws.{orderly}
 pub use Rattle.mq_rules.proofs.PlainLaws.{beginning, grows-next, newest-first, within-next}
-pub use Rattle.mq_rules.proofs.PositionLaws.{among-moment, among-some, among-within, earliest_since-is, earliest_since-there, latest-is, moment-among, moment-beginning, moment-newest, moment-older, moment-placed, moments-descend, none-earliest, session-descend, since-stands, some-among, stands-since, those-among, those-descend}
+pub use Rattle.mq_rules.proofs.PositionLaws.{among-moment, among-some, among-within, earliest_since-is, earliest_since-there, latest-is, moment-among, moment-beginning, moment-newest, moment-older, moment-placed, moments-descend, none-first_found, session-descend, since-stands, some-among, stands-since, those-among, those-descend}
 pub use Rattle.mq_rules.proofs.SessionLaws.{session-members}
 pub use Rattle.mq_rules.proofs.StepLaws.{fails-step, fate-step, moment-newest as moment-newest-of-step, moment-next, moment-stays, moment-within}
 pub use Rattle.mq_rules.proofs.SubjectLaws.{in_order-releases, in_order-turns}

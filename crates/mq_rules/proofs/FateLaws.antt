@@ -11,7 +11,7 @@ use Rattle.mq_rules.specs.declared.note.Note.{Note}
 use Rattle.mq_rules.specs.declared.note.Note.TheVariants as notes
 use Rattle.mq_rules.specs.declared.note.Seen.{Seen}
 use Rattle.mq_rules.specs.Notes.{is_open, is_close, decides, fate_by, connack_of}
-use Rattle.mq_rules.specs.Moments.{newest, note, earliest}
+use Rattle.mq_rules.specs.Moments.{newest, note, first_found}
 use Rattle.mq_rules.specs.Connections.{begun, of_connection, connection, fate, latest_fate, is_connected}
 use Rattle.mq_rules.proofs.BoolLaws.{differ, option_or-none, option_or-other, option_or-there}
 
@@ -58,11 +58,11 @@ connection-next e past =
 pub fate-next : (role : Role) (c : ℕ) (e : Seen) (past : List Seen) → fate role c (e ∷ past) ≡ option_or (fate role c past) (cond (begun (e ∷ past) == c) (decides role e.note) None)
 fate-next role c e past = go (c == 0) (begun (e ∷ past) == c)
   where
-    go : (zeroth own : Bool) → cond zeroth (Some Void) (earliest (decides role) (cond own (newest e past ∷ of_connection c past) (of_connection c past)))
-        ≡ option_or (cond zeroth (Some Void) (earliest (decides role) (of_connection c past))) (cond own (decides role e.note) None)
+    go : (zeroth own : Bool) → cond zeroth (Some Void) (first_found (decides role) (cond own (newest e past ∷ of_connection c past) (of_connection c past)))
+        ≡ option_or (cond zeroth (Some Void) (first_found (decides role) (of_connection c past))) (cond own (decides role e.note) None)
     go true own = refl
     go false true = refl
-    go false false = sym (option_or-none (earliest (decides role) (of_connection c past)))
+    go false false = sym (option_or-none (first_found (decides role) (of_connection c past)))
 
 pub fate-kept : (role : Role) (c : ℕ) (f : Fate) (e : Seen) (past : List Seen) → fate role c past ≡ Some f → fate role c (e ∷ past) ≡ Some f
 fate-kept role c f e past h = fate-next role c e past ∙ ap (λ o. option_or o (cond (begun (e ∷ past) == c) (decides role e.note) None)) h
@@ -93,7 +93,7 @@ fate-followed role c (e ∷ later) past h =
 pub fate-none : (role : Role) (c : ℕ) (log : List Seen) → begun log < c → fate role c log ≡ None
 fate-none role c log h =
     let later : (c == 0) ≡ false = differ c 0 (λ q. omega arith) in
-    ap (λ b. cond b (Some Void) (earliest (decides role) (of_connection c log))) later ∙ ap (earliest (decides role)) (of_connection-none c log h)
+    ap (λ b. cond b (Some Void) (first_found (decides role) (of_connection c log))) later ∙ ap (first_found (decides role)) (of_connection-none c log h)
 
 -- ---- the fate of the latest connection
 

@@ -22,7 +22,8 @@ use Rattle.mq_rules.specs.Pasts.{set_alias, is_sent_disconnect, is_sent_refusal,
 use Rattle.mq_rules.specs.Rules.{same_rule, binds, found_line, lines, line_of}
 use Rattle.mq_rules.specs.Statements.{Statement, on_bytes, on_past, in_session, at_release, at_rest, statement, is_by_past, is_on_past}
 use Rattle.mq_rules.specs.Steps.{shows, turns}
-use Rattle.mq_rules.specs.Keeping.{kept, is_alias_set, item_verdicts, packet_verdicts, publish_verdicts, connack_verdicts, disconnect_verdicts, rest_verdicts, is_among, is_found, connection_after, at_place, Judges, JudgesWithin, news, GrowsBy, GrowsByWithin, Agrees}
+use Rattle.mq_rules.specs.Growing.{at_place, Judges, JudgesWithin, news, GrowsBy, GrowsByWithin}
+use Rattle.mq_rules.specs.Keeping.{kept, is_alias_set, item_verdicts, packet_verdicts, publish_verdicts, connack_verdicts, disconnect_verdicts, rest_verdicts, is_among, is_found, connection_after, Agrees}
 use Rattle.mq_rules.specs.FaultKeys.{FaultMap, fault_at}
 use Rattle.mq_rules.specs.Faults.{record_of, offset_of}
 use Rattle.mq_rules.proofs.BoolLaws.{and_false, or-turn}

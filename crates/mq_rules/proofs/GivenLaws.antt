@@ -10,7 +10,7 @@ use Rattle.mq_rules.specs.declared.note.Note.{Note}
 use Rattle.mq_rules.specs.declared.note.Note.TheVariants as notes
 use Rattle.mq_rules.specs.declared.note.Seen.{Seen}
 use Rattle.mq_rules.specs.Notes.{is_open, is_rest, decides, needs_session}
-use Rattle.mq_rules.specs.Moments.{Moment, newest, moment, is_next, earliest}
+use Rattle.mq_rules.specs.Moments.{Moment, newest, moment, is_next, first_found}
 use Rattle.mq_rules.specs.Connections.{number, begun, of_connection, fate, latest_fate}
 use Rattle.mq_rules.specs.Steps.{given}
 use Rattle.mq_rules.proofs.BoolLaws.{differ, not_true}
@@ -90,8 +90,8 @@ none-of c (e ∷ past) h =
 -- and no fate
 pub fate-unbegun : (role : Role) (c : ℕ) (log : List Seen) → begun log < c → fate role c log ≡ None
 fate-unbegun role c log h =
-    ap (λ b. cond b (Some Void) (earliest (decides role) (of_connection c log))) (differ c 0 (λ is. omega arith))
-    ∙ ap (earliest (decides role)) (none-of c log h)
+    ap (λ b. cond b (Some Void) (first_found (decides role) (of_connection c log))) (differ c 0 (λ is. omega arith))
+    ∙ ap (first_found (decides role)) (none-of c log h)
 
 -- ---- the latest connection's fate with one event more
 

@@ -13,7 +13,8 @@ use Rattle.mq_rules.specs.Rules.{same_rule}
 use Rattle.mq_rules.specs.Steps.{turns}
 use Rattle.mq_rules.specs.FaultKeys.{FaultMap, fault_at, judged}
 use Rattle.mq_rules.specs.Faults.{reported, fault_in, Grows, GrowsWithin}
-use Rattle.mq_rules.specs.Keeping.{is_among, is_any_broken, at_place, Judges, JudgesWithin, news, GrowsBy, GrowsByWithin}
+use Rattle.mq_rules.specs.Growing.{at_place, Judges, JudgesWithin, news, GrowsBy, GrowsByWithin}
+use Rattle.mq_rules.specs.Keeping.{is_among, is_any_broken}
 use Rattle.mq_rules.proofs.BoolLaws.{and_false, or_false, option_or-none}
 use Rattle.mq_rules.proofs.FaultKeyLaws.{fault_at-judged, same_told}
 use Rattle.mq_rules.proofs.DecidedLaws.{fault_in-step, fault_in-start}

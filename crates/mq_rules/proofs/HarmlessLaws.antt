@@ -30,7 +30,8 @@ use Rattle.mq_rules.specs.Notes.{is_open, sent_fault, fields_type, foreign_types
 use Rattle.mq_rules.specs.Pasts.{set_alias}
 use Rattle.mq_rules.specs.Statements.{is_on_past}
 use Rattle.mq_rules.specs.FaultKeys.{FaultMap}
-use Rattle.mq_rules.specs.Keeping.{connection_after, is_ordinary_in, is_ordinary, size_limit, alias_limit, qos_limit, may_look, item_verdicts, packet_verdicts, publish_verdicts, connack_verdicts, disconnect_verdicts, rest_verdicts, is_among, is_any_broken, is_found, may_go_on, too_large, size_bound, is_harmless_in, is_harmless, Judges, GrowsBy, Agrees}
+use Rattle.mq_rules.specs.Growing.{Judges, GrowsBy}
+use Rattle.mq_rules.specs.Keeping.{connection_after, is_ordinary_in, is_ordinary, size_limit, alias_limit, qos_limit, may_look, item_verdicts, packet_verdicts, publish_verdicts, connack_verdicts, disconnect_verdicts, rest_verdicts, is_among, is_any_broken, is_found, may_go_on, too_large, size_bound, is_harmless_in, is_harmless, Agrees}
 use Rattle.mq_rules.proofs.BoolLaws.{both_true, and_false, or_false}
 use Rattle.mq_rules.proofs.GrowLaws.{judges-none, judges-unbroken}
 use Rattle.mq_rules.proofs.JudgeLaws.{no_item, no_packet, no_publish, no_connack, no_disconnect, judged-all}

@@ -11,7 +11,8 @@ use Rattle.mq_rules.specs.declared.conn.state.ConnectionState.{ConnectionState}
 use Rattle.mq_rules.specs.Notes.{is_rest, sent_item, sent_packet, sent_publish, sent_connack, sent_disconnect}
 use Rattle.mq_rules.specs.Rules.{same_rule}
 use Rattle.mq_rules.specs.FaultKeys.{FaultMap}
-use Rattle.mq_rules.specs.Keeping.{item_verdicts, packet_verdicts, publish_verdicts, connack_verdicts, disconnect_verdicts, rest_verdicts, is_among, is_found, Judges, JudgesWithin}
+use Rattle.mq_rules.specs.Growing.{Judges, JudgesWithin}
+use Rattle.mq_rules.specs.Keeping.{item_verdicts, packet_verdicts, publish_verdicts, connack_verdicts, disconnect_verdicts, rest_verdicts, is_among, is_found}
 use Rattle.mq_rules.proofs.GrowLaws.{judges-none, judges-same, judges-then, within-first, within-second}
 
 -- ---- nothing is found of what the event is not

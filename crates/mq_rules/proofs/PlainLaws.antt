@@ -24,7 +24,7 @@ use Rattle.mq_rules.specs.Statements.{Statement, on_bytes, on_past, in_session, 
 use Rattle.mq_rules.specs.Steps.{shows, turns}
 use Rattle.mq_rules.specs.FaultKeys.{FaultMap, fault_at, with_fault}
 use Rattle.mq_rules.specs.Faults.{record_of, offset_of, Grows, GrowsWithin}
-use Rattle.mq_rules.specs.Keeping.{GrowsBy, GrowsByWithin}
+use Rattle.mq_rules.specs.Growing.{GrowsBy, GrowsByWithin}
 use Rattle.mq_rules.proofs.BoolLaws.{and_false, option_or-none, same_test, not_true}
 use Rattle.mq_rules.proofs.FaultKeyLaws.{fault_at-with_fault}
 use Rattle.mq_rules.proofs.GrowLaws.{grows-step, within-later, grows-within, within-step}

@@ -8,7 +8,7 @@ use Rattle.mq_rules.specs.declared.fate.Fate.{Fate}
 use Rattle.mq_rules.specs.declared.note.Note.{Note}
 use Rattle.mq_rules.specs.declared.note.Seen.{Seen}
 use Rattle.mq_rules.specs.Notes.{is_open}
-use Rattle.mq_rules.specs.Moments.{Moment, newest, position, note, moments, moment, some, since, those, latest, earliest, earliest_since, count, some_stretch, IsMomentAt, Among, IsDescending, HoldsSince, IsLatest, IsEarliest, IsEarliestSince, IsPlaced}
+use Rattle.mq_rules.specs.Moments.{Moment, newest, position, note, moments, moment, some, since, those, latest, first_found, earliest_since, count, some_stretch, IsMomentAt, Among, IsDescending, HoldsSince, IsLatest, IsFirstFound, IsEarliestSince, IsPlaced}
 use Rattle.mq_rules.specs.Connections.{begins, latest_fate, has_session, with_first, session}
 use Rattle.mq_rules.proofs.BoolLaws.{differ, or_parts, or_right}
 use Rattle.mq_rules.proofs.SessionLaws.{session-members}
@@ -229,51 +229,51 @@ pub none-latest : (test : Moment → Bool) (ms : List Moment) → ((m : Moment) 
 none-latest test [] none = refl
 none-latest test (m ∷ ms) none = ap (λ b. cond b (Some m) (latest test ms)) (none m (inl refl)) ∙ none-latest test ms (λ n there. none n (inr there))
 
--- ---- `earliest`
+-- ---- `first_found`
 
 option_or-absent : {A : Type 0} (o p : Option A) → option_or o p ≡ None → (o ≡ None) × (p ≡ None)
 option_or-absent None p h = (refl, h)
 option_or-absent (Some a) p h = absurd (cc)
 
-pub earliest-none : {A : Type 0} (found : Note → Option A) (ms : List Moment) → earliest found ms ≡ None → (m : Moment) → Among m ms → found (note m) ≡ None
-earliest-none found [] h m there = absurd there
-earliest-none found (n ∷ ms) h m (inl is) = ap (λ (l : Moment). found (note l)) is ∙ (option_or-absent (earliest found ms) (found (note n)) h).1
-earliest-none found (n ∷ ms) h m (inr there) = earliest-none found ms (option_or-absent (earliest found ms) (found (note n)) h).0 m there
+pub first_found-none : {A : Type 0} (found : Note → Option A) (ms : List Moment) → first_found found ms ≡ None → (m : Moment) → Among m ms → found (note m) ≡ None
+first_found-none found [] h m there = absurd there
+first_found-none found (n ∷ ms) h m (inl is) = ap (λ (l : Moment). found (note l)) is ∙ (option_or-absent (first_found found ms) (found (note n)) h).1
+first_found-none found (n ∷ ms) h m (inr there) = first_found-none found ms (option_or-absent (first_found found ms) (found (note n)) h).0 m there
 
-pub none-earliest : {A : Type 0} (found : Note → Option A) (ms : List Moment) → ((m : Moment) → Among m ms → found (note m) ≡ None) → earliest found ms ≡ None
-none-earliest found [] none = refl
-none-earliest found (m ∷ ms) none = ap (λ o. option_or o (found (note m))) (none-earliest found ms (λ n there. none n (inr there))) ∙ none m (inl refl)
+pub none-first_found : {A : Type 0} (found : Note → Option A) (ms : List Moment) → ((m : Moment) → Among m ms → found (note m) ≡ None) → first_found found ms ≡ None
+none-first_found found [] none = refl
+none-first_found found (m ∷ ms) none = ap (λ o. option_or o (found (note m))) (none-first_found found ms (λ n there. none n (inr there))) ∙ none m (inl refl)
 
-pub earliest-is : {A : Type 0} (found : Note → Option A) (ms : List Moment) (a : A) → IsDescending ms → earliest found ms ≡ Some a → IsEarliest found ms a
-earliest-is found [] a d h = absurd (cc)
-earliest-is {A = A} found (m ∷ ms) a d h = go (earliest found ms) refl h (earliest-is found ms a d.1)
+pub first_found-is : {A : Type 0} (found : Note → Option A) (ms : List Moment) (a : A) → IsDescending ms → first_found found ms ≡ Some a → IsFirstFound found ms a
+first_found-is found [] a d h = absurd (cc)
+first_found-is {A = A} found (m ∷ ms) a d h = go (first_found found ms) refl h (first_found-is found ms a d.1)
   where
-    before : IsEarliest found ms a → IsEarliest found (m ∷ ms) a
+    before : IsFirstFound found ms a → IsFirstFound found (m ∷ ms) a
     before r = record { at = r.at; there = inr r.there; has = r.has; none_before = λ n h lt. none n h lt }
       where
         none : (n : Moment) → Among n (m ∷ ms) → position n < position r.at → found (note n) ≡ None
         none n (inl same) lt = absurd (let p : position n ≡ position m = ap position same in let later = d.0 r.at r.there in omega arith)
         none n (inr h) lt = r.none_before n h lt
 
-    here : earliest found ms ≡ None → found (note m) ≡ Some a → IsEarliest found (m ∷ ms) a
+    here : first_found found ms ≡ None → found (note m) ≡ Some a → IsFirstFound found (m ∷ ms) a
     here absent has = record { at = m; there = inl refl; has = has; none_before = λ n h lt. none n h lt }
       where
         none : (n : Moment) → Among n (m ∷ ms) → position n < position m → found (note n) ≡ None
         none n (inl same) lt = absurd (let p : position n ≡ position m = ap position same in omega arith)
-        none n (inr h) lt = earliest-none found ms absent n h
+        none n (inr h) lt = first_found-none found ms absent n h
 
-    go : (o : Option A) → earliest found ms ≡ o → option_or o (found (note m)) ≡ Some a → (earliest found ms ≡ Some a → IsEarliest found ms a) → IsEarliest found (m ∷ ms) a
+    go : (o : Option A) → first_found found ms ≡ o → option_or o (found (note m)) ≡ Some a → (first_found found ms ≡ Some a → IsFirstFound found ms a) → IsFirstFound found (m ∷ ms) a
     go (Some b) is h rest = before (rest (is ∙ h))
     go None is h rest = here is h
 
-pub is-earliest : {A : Type 0} (found : Note → Option A) (ms : List Moment) (a : A) → IsDescending ms → IsEarliest found ms a → earliest found ms ≡ Some a
-is-earliest found [] a d r = absurd (r.there)
-is-earliest {A = A} found (m ∷ ms) a d r = go r.there (is-earliest found ms a d.1)
+pub is-first_found : {A : Type 0} (found : Note → Option A) (ms : List Moment) (a : A) → IsDescending ms → IsFirstFound found ms a → first_found found ms ≡ Some a
+is-first_found found [] a d r = absurd (r.there)
+is-first_found {A = A} found (m ∷ ms) a d r = go r.there (is-first_found found ms a d.1)
   where
-    go : (r.at ≡ m) ⊎ Among r.at ms → (IsEarliest found ms a → earliest found ms ≡ Some a) → earliest found (m ∷ ms) ≡ Some a
+    go : (r.at ≡ m) ⊎ Among r.at ms → (IsFirstFound found ms a → first_found found ms ≡ Some a) → first_found found (m ∷ ms) ≡ Some a
     go (inl is) rest =
         let same : position r.at ≡ position m = ap position is in
-        ap (λ o. option_or o (found (note m))) (none-earliest found ms (λ n h. r.none_before n (inr h) (let before = d.0 n h in omega arith)))
+        ap (λ o. option_or o (found (note m))) (none-first_found found ms (λ n h. r.none_before n (inr h) (let before = d.0 n h in omega arith)))
         ∙ ap (λ (n : Moment). found (note n)) (sym is) ∙ r.has
     go (inr h) rest = ap (λ o. option_or o (found (note m))) (rest (record { at = r.at; there = h; has = r.has; none_before = λ n there lt. r.none_before n (inr there) lt }))
 

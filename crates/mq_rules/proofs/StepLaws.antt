@@ -10,7 +10,7 @@ use Rattle.mq_rules.specs.declared.rule.Rule.{Rule}
 use Rattle.mq_rules.specs.declared.note.Seen.{Seen}
 use Rattle.mq_rules.specs.Words.{is_some_and}
 use Rattle.mq_rules.specs.Notes.{decides}
-use Rattle.mq_rules.specs.Moments.{Moment, newest, position, moments, moment, is_next, is_after, some, earliest}
+use Rattle.mq_rules.specs.Moments.{Moment, newest, position, moments, moment, is_next, is_after, some, first_found}
 use Rattle.mq_rules.specs.Connections.{number, of_connection, fate, is_binding}
 use Rattle.mq_rules.specs.Rules.{binds}
 use Rattle.mq_rules.specs.Statements.{Statement, on_bytes, on_past, in_session, at_release, at_rest, statement, breaks_bytes, is_false_under, where_accepted, is_false, fails}
@@ -63,10 +63,10 @@ fate-step role c e past = go (c == 0) (number (newest e past) == c)
     none None = refl
     none (Some f) = refl
 
-    go : (z b : Bool) → cond z (Some Void) (earliest (decides role) (cond b (newest e past ∷ older) older)) ≡ option_or (cond z (Some Void) (earliest (decides role) older)) (cond b (decides role e.note) None)
+    go : (z b : Bool) → cond z (Some Void) (first_found (decides role) (cond b (newest e past ∷ older) older)) ≡ option_or (cond z (Some Void) (first_found (decides role) older)) (cond b (decides role e.note) None)
     go true b = refl
     go false true = refl
-    go false false = none (earliest (decides role) older)
+    go false false = none (first_found (decides role) older)
 
 -- once decided, it stays
 pub fate-kept : (role : Role) (c : ℕ) (f : Fate) (e : Seen) (past : List Seen) → fate role c past ≡ Some f → fate role c (e ∷ past) ≡ Some f

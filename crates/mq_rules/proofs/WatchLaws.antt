@@ -21,9 +21,9 @@ use Rattle.mq_rules.specs.Pasts.{set_alias}
 use Rattle.mq_rules.specs.Statements.{is_on_past}
 use Rattle.mq_rules.specs.Steps.{turns}
 use Rattle.mq_rules.specs.Under.{Follows}
-use Rattle.mq_rules.specs.Growing.{Gains, GainsWithin}
+use Rattle.mq_rules.specs.Growing.{Gains, GainsWithin, Judges, JudgesWithin}
 use Rattle.mq_rules.specs.Burden.{sets_another, aliases_sent}
-use Rattle.mq_rules.specs.Keeping.{kept, is_alias_set, is_another, connection_after, is_found, Judges, JudgesWithin, Agrees, IsConn}
+use Rattle.mq_rules.specs.Keeping.{kept, is_alias_set, is_another, connection_after, is_found, Agrees, IsConn}
 use Rattle.mq_rules.specs.FaultKeys.{FaultMap}
 use Rattle.mq_rules.proofs.BoolLaws.{or_false, or-turn}
 use Rattle.mq_rules.proofs.ConnLaws.{connection-next, kept-next, is_alias_set-next}

@@ -11,7 +11,7 @@ use Rattle.mq_rules.specs.declared.packet_note.ConnectNote.{ConnectNote}
 use Rattle.mq_rules.specs.declared.packet_note.ConnackNote.{ConnackNote}
 use Rattle.mq_rules.specs.Words.{is_some_and}
 use Rattle.mq_rules.specs.Notes.{is_open, is_close, is_rest, is_release, is_broken, sent_item, received_item, sent_fields, received_fields, disconnect_in, connect_of, connack_of, client_disconnect, decides, needs_session}
-use Rattle.mq_rules.specs.Moments.{Moment, newest, note, moments, some, since, those, earliest, count}
+use Rattle.mq_rules.specs.Moments.{Moment, newest, note, moments, some, since, those, first_found, count}
 
 -- ---- connections
 
@@ -38,7 +38,7 @@ connection log = of_connection (begun log) log
 -- The fate of the connection of this number, if this log decides it: the first CONNACK from the server does, or a CLOSE before one came. Before
 -- the first connection there is none to wait for.
 abbrev pub fate : Role → ℕ → List Seen → Option Fate
-fate role c log = cond (c == 0) (Some Void) (earliest (decides role) (of_connection c log))
+fate role c log = cond (c == 0) (Some Void) (first_found (decides role) (of_connection c log))
 
 abbrev pub latest_fate : Role → List Seen → Option Fate
 latest_fate role log = fate role (begun log) log
@@ -123,15 +123,15 @@ is_binding role m = is_rest (note m) && (accepted (latest_fate role m.past) && n
 
 -- the first CONNECT from the client, and the first CONNACK from the server, among these
 abbrev pub first_connect : Role → List Moment → Option ConnectNote
-first_connect role ms = earliest (connect_of role) ms
+first_connect role ms = first_found (connect_of role) ms
 
 abbrev pub first_connack : Role → List Moment → Option ConnackNote
-first_connack role ms = earliest (connack_of role) ms
+first_connack role ms = first_found (connack_of role) ms
 
 -- The Session Expiry Interval of a connection: that of the client's first DISCONNECT, else that of the CONNACK, else that of the CONNECT, else 0
 -- (MQTT 5.0, sections 3.1.2.11.2, 3.2.2.3.2 and 3.14.2.2.2).
 abbrev pub session_expiry : Role → List Moment → ℕ
-session_expiry role ms = unwrap_or (option_or (option_and_then (λ d. d.session_expiry) (earliest (client_disconnect role) ms))
+session_expiry role ms = unwrap_or (option_or (option_and_then (λ d. d.session_expiry) (first_found (client_disconnect role) ms))
     (option_or (option_and_then (λ a. a.session_expiry) (first_connack role ms)) (option_and_then (λ c. c.session_expiry) (first_connect role ms)))) 0
 
 -- The connection had a CONNECT and closed without a CONNACK, so that the server may have accepted it.

@@ -1,12 +1,11 @@
 -- What is kept of the latest connection, so that C01 to C23 are judged in one pass: what it is after these events, how one more event updates it,
 -- and which statements it shows to be false at that event.
-use Rattle.std.specs.Prelude.{ℕ, ◌≡◌, ◌+◌, ◌-◌, ◌==◌, ◌⊎◌, nat_lt, Bool, true, false, ◌&&◌, ◌||◌, not, cond, List, [], ◌∷◌, length, Option, Some, None, is_some, is_none, unwrap_or, option_map}
+use Rattle.std.specs.Prelude.{ℕ, ◌≡◌, ◌+◌, ◌-◌, ◌==◌, nat_lt, Bool, true, false, ◌&&◌, ◌||◌, not, cond, List, [], ◌∷◌, length, Option, Some, None, is_some, is_none, unwrap_or, option_map}
 use Rattle.std.specs.Option.{option_and_then, option_or}
 use Rattle.std.specs.List.{list_any}
 use Rattle.std.specs.Borrow.{Bor}
 use Rattle.std.specs.BTreeSet.{contains, btree_set_len}
 use Rattle.std.specs.Ordering.{nat_cmp}
-use Rattle.mq_trace.specs.declared.place.Place3.{Place3}
 use Rattle.mq_packet.specs.declared.packet.PacketType.{PacketType}
 use Rattle.mq_packet.specs.declared.packet.PacketType.TheVariants as types
 use Rattle.mq_rules.specs.declared.role.Role.{Role}
@@ -15,7 +14,6 @@ use Rattle.mq_rules.specs.declared.role.Tested.{Tested}
 use Rattle.mq_rules.specs.declared.rule.Rule.{Rule}
 use Rattle.mq_rules.specs.declared.rule.Rule.TheVariants.{C01, C02, C03, C04, C05, C06, C07, C08, C09, C10, C11, C12, C13, C14, C15, C16, C17, C18, C19, C20, C21, C22, C23}
 use Rattle.mq_rules.specs.declared.fate.Fate.{Fate}
-use Rattle.mq_rules.specs.declared.fault.Fault.{Fault}
 use Rattle.mq_rules.specs.declared.note.Note.{Note}
 use Rattle.mq_rules.specs.declared.note.Note.TheVariants as notes
 use Rattle.mq_rules.specs.declared.note.ItemNote.{ItemNote}
@@ -31,14 +29,11 @@ use Rattle.mq_rules.specs.declared.conn.state.ConnectionState.{ConnectionState}
 use Rattle.mq_rules.specs.declared.conn.Conn.{Conn}
 use Rattle.mq_rules.specs.Words.{is_some_and, is_id, only}
 use Rattle.mq_rules.specs.Notes.{is_open, is_rest, is_typed, is_of_type, foreign_types, sent_item, sent_packet, sent_fields, received_fields, sends_type, receives_type, sent_publish, sent_connack, sent_disconnect, disconnect_in, connect_of, connack_of, client_disconnect, decides, may_explain, resumed_by, is_acknowledged, qos_number}
-use Rattle.mq_rules.specs.Moments.{note, moment, some, earliest}
+use Rattle.mq_rules.specs.Moments.{note, some, first_found}
 use Rattle.mq_rules.specs.Connections.{begun, is_connected, connection, first_connect, first_connack, accepted, is_alive_after}
 use Rattle.mq_rules.specs.Pasts.{sends_typed, is_sent_disconnect, is_sent_refusal, set_alias}
 use Rattle.mq_rules.specs.Burden.{aliases_sent}
 use Rattle.mq_rules.specs.Rules.{same_rule}
-use Rattle.mq_rules.specs.Steps.{turns}
-use Rattle.mq_rules.specs.FaultKeys.{FaultMap, fault_at}
-use Rattle.mq_rules.specs.Faults.{reported}
 
 -- ---- what is kept after these events
 
@@ -46,10 +41,10 @@ unfoldable pub kept : Role → List Seen → ConnectionState
 kept role past = record {
   has_begun = not (begun past == 0);
   was_alive = is_alive_after role (begun past - 1) past;
-  fate = earliest (decides role) (connection past);
+  fate = first_found (decides role) (connection past);
   connect = first_connect role (connection past);
   connack = first_connack role (connection past);
-  disconnect = earliest (client_disconnect role) (connection past);
+  disconnect = first_found (client_disconnect role) (connection past);
   has_sent = some sends_typed (connection past);
   has_sent_connect = some (λ m. sends_type types.Connect (note m)) (connection past);
   has_sent_connack = some (λ m. sends_type types.Connack (note m)) (connection past);
@@ -306,32 +301,6 @@ abbrev pub is_harmless : ℕ → Note → Bool
 is_harmless bound (notes.Sent (items.Packet p)) = nat_lt p.size bound && (not (p.has_reason_string || p.has_user_property) && is_harmless_in p.fields)
 is_harmless bound (notes.Recv (items.Packet p)) = nat_lt 0 bound && is_ordinary_in p.fields
 is_harmless bound _ = false
-
--- ---- faults
-
--- the fault of a statement that is judged at this place, if it is false there
-abbrev pub at_place : Place3 → ℕ → Bool → Option Fault
-at_place place k broken = cond ((k == place.position) && broken) (Some (record { decided = place.position; record_no = place.record_no; offset = None })) None
-
--- Each pair keeps the fault that it had, or else gets that of a statement that is false at this place.
-pub record Judges (is_false : Rule → Bool) (place : Place3) (old new : FaultMap) : Type 0 where
-  pub each : (k : ℕ) (rule : Rule) → fault_at new k rule ≡ option_or (fault_at old k rule) (at_place place k (is_false rule))
-
--- Each pair keeps the fault that it had, and may have got that of a statement that is false at this place.
-pub record JudgesWithin (is_false : Rule → Bool) (place : Place3) (old new : FaultMap) : Type 0 where
-  pub each : (k : ℕ) (rule : Rule) → (fault_at new k rule ≡ fault_at old k rule) ⊎ (fault_at new k rule ≡ option_or (fault_at old k rule) (at_place place k (is_false rule)))
-
--- the fault that a pair gets with this event, if its statement is chosen and turns out to fail
-abbrev pub news : (Rule → Bool) → Tested → Seen → List Seen → ℕ → Rule → Option Fault
-news chosen tested e past k rule = cond (chosen rule && turns tested e past k rule) (Some (reported tested.role (moment (e ∷ past) k) rule (length past + 1))) None
-
--- Each pair keeps the fault that it had, or else gets the new one, if its statement is chosen and turns out to fail with this event; the others are unchanged.
-pub record GrowsBy (chosen : Rule → Bool) (tested : Tested) (e : Seen) (past : List Seen) (old new : FaultMap) : Type 0 where
-  pub each : (k : ℕ) (rule : Rule) → fault_at new k rule ≡ option_or (fault_at old k rule) (news chosen tested e past k rule)
-
--- Each pair keeps the fault that it had, and those of the chosen statements that turn out to fail with this event may have got the new one.
-pub record GrowsByWithin (chosen : Rule → Bool) (tested : Tested) (e : Seen) (past : List Seen) (old new : FaultMap) : Type 0 where
-  pub each : (k : ℕ) (rule : Rule) → (fault_at new k rule ≡ fault_at old k rule) ⊎ (fault_at new k rule ≡ option_or (fault_at old k rule) (news chosen tested e past k rule))
 
 -- ---- what is kept agrees with the events so far
 

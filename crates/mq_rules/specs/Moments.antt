@@ -69,9 +69,9 @@ latest test [] = None
 latest test (m ∷ ms) = cond (test m) (Some m) (latest test ms)
 
 -- what is found at the earliest moment that has it
-abbrev pub earliest : {A : Type 0} → (Note → Option A) → List Moment → Option A
-earliest found [] = None
-earliest found (m ∷ ms) = option_or (earliest found ms) (found (note m))
+abbrev pub first_found : {A : Type 0} → (Note → Option A) → List Moment → Option A
+first_found found [] = None
+first_found found (m ∷ ms) = option_or (first_found found ms) (found (note m))
 
 -- the earliest moment that passes the first test with no later one that passes the second
 abbrev pub earliest_since : (Moment → Bool) → (Moment → Bool) → List Moment → Option Moment
@@ -120,7 +120,7 @@ pub record IsLatest (test : Moment → Bool) (ms : List Moment) (at : Moment) : 
   pub none_after : (n : Moment) → Among n ms → position at < position n → test n ≡ false
 
 -- At this moment among these something is found, and at none among them at an earlier position.
-pub record IsEarliest {A : Type 0} (found : Note → Option A) (ms : List Moment) (a : A) : Type 0 where
+pub record IsFirstFound {A : Type 0} (found : Note → Option A) (ms : List Moment) (a : A) : Type 0 where
   pub at : Moment
   pub there : Among at ms
   pub has : found (note at) ≡ Some a

@@ -12,7 +12,7 @@ use Rattle.mq_rules.specs.declared.text.NotedFilter.{NotedFilter}
 use Rattle.mq_rules.specs.declared.packet_note.PublishNote.{PublishNote}
 use Rattle.mq_rules.specs.Words.{is_some_and, is_id, only}
 use Rattle.mq_rules.specs.Notes.{sent_publish, received_subscription, sent_grant, received_unsubscription, sent_unsuback, refuses, qos_number}
-use Rattle.mq_rules.specs.Moments.{Moment, note, is_after, some, those, earliest}
+use Rattle.mq_rules.specs.Moments.{Moment, note, is_after, some, those, first_found}
 use Rattle.mq_rules.specs.Connections.{number, of_connection, connection}
 use Rattle.mq_rules.specs.Pasts.{set_alias}
 use Rattle.mq_rules.specs.Identifiers.{session_before}
@@ -42,7 +42,7 @@ codes_under i n = option_map (λ a. a.codes) (option_and_then (λ a. only (a.ide
 
 -- The Reason Codes of the SUBACK of a SUBSCRIBE j, if it was sent before k: the first SUBACK under the identifier after j on j's connection.
 abbrev pub codes_for : ℕ → Moment → Moment → List ℕ
-codes_for i j k = unwrap_or (earliest (codes_under i) (those (λ m. is_after m j) (of_connection (number j) k.past))) []
+codes_for i j k = unwrap_or (first_found (codes_under i) (those (λ m. is_after m j) (of_connection (number j) k.past))) []
 
 -- the standing filters at k of the moment j, if that is a SUBSCRIBE that was received
 abbrev pub standing_from : Moment → Moment → List Standing

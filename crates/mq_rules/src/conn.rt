@@ -14,7 +14,8 @@ ghost use Rattle.mq_rules.specs.Statements.{is_on_past};
 ghost use Rattle.mq_rules.specs.Steps.{turns};
 ghost use Rattle.mq_rules.specs.Burden.{aliases_sent};
 ghost use Rattle.mq_rules.specs.Keeping as keeping;
-ghost use Rattle.mq_rules.specs.Keeping.{Agrees, IsConn, Judges, JudgesWithin, GrowsBy, GrowsByWithin, is_among, is_another};
+ghost use Rattle.mq_rules.specs.Growing.{Judges, JudgesWithin, GrowsBy, GrowsByWithin};
+ghost use Rattle.mq_rules.specs.Keeping.{Agrees, IsConn, is_among, is_another};
 
 mod harmless;
 mod state;

@@ -49,8 +49,9 @@ pub use packet_note::{
 };
 pub use plain::{plain_c, plain_w};
 pub use position_laws::{
-    earliest_by_positions, earliest_since_by_positions, latest_by_positions, moments_by_positions,
-    scopes_descend, since_by_positions, some_stretch_by_positions, tests_by_positions,
+    earliest_since_by_positions, first_found_by_positions, latest_by_positions,
+    moments_by_positions, scopes_descend, since_by_positions, some_stretch_by_positions,
+    tests_by_positions,
 };
 pub use role::{Role, Tested};
 pub use rule::Rule;

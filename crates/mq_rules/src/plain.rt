@@ -5,7 +5,7 @@ ghost use Rattle.mq_rules.specs.declared.note.Seen.{Seen as TheSeen};
 ghost use Rattle.mq_rules.specs.Moments.{IsPlaced};
 ghost use Rattle.mq_rules.specs.Statements.{is_on_bytes, is_on_past};
 ghost use Rattle.mq_rules.specs.Faults.{Grows, GrowsWithin};
-ghost use Rattle.mq_rules.specs.Keeping.{GrowsBy};
+ghost use Rattle.mq_rules.specs.Growing.{GrowsBy};
 
 use crate::conn::{Conn, is_harmless};
 use crate::fault::Fault;

@@ -4,7 +4,7 @@ ghost use Rattle.mq_rules.specs.declared.role.Role.{Role};
 ghost use Rattle.mq_rules.specs.declared.fate.Fate.{Fate};
 ghost use Rattle.mq_rules.specs.declared.note.Note.{Note};
 ghost use Rattle.mq_rules.specs.declared.note.Seen.{Seen};
-ghost use Rattle.mq_rules.specs.Moments.{Moment, position, note, moments, moment, some, since, those, latest, earliest, earliest_since, count, some_stretch, Among, IsMomentAt, IsDescending, HoldsSince, IsLatest, IsEarliest, IsEarliestSince, IsPlaced};
+ghost use Rattle.mq_rules.specs.Moments.{Moment, position, note, moments, moment, some, since, those, latest, first_found, earliest_since, count, some_stretch, Among, IsMomentAt, IsDescending, HoldsSince, IsLatest, IsFirstFound, IsEarliestSince, IsPlaced};
 ghost use Rattle.mq_rules.specs.Connections.{connection, of_connection, session};
 
 /// The moment at a position of the log is the event there with all that comes before it; no other position has a moment. The moments of a log are those of
@@ -42,10 +42,10 @@ pub fn latest_by_positions()
     ensures none { (test : Moment → Bool) (ms : List Moment) → (latest test ms ≡ None) ↔ ((m : Moment) → Among m ms → test m ≡ false) }
 {}
 
-/// `earliest`: what is found at the earliest position that has something, if one has.
-pub fn earliest_by_positions<A>()
-    ensures there { (found : Note → Option A) (ms : List Moment) (a : A) → IsDescending ms → (earliest found ms ≡ Some a) ↔ IsEarliest found ms a }
-    ensures none { (found : Note → Option A) (ms : List Moment) → (earliest found ms ≡ None) ↔ ((m : Moment) → Among m ms → found (note m) ≡ None) }
+/// `first_found`: what is found at the earliest position that has something, if one has.
+pub fn first_found_by_positions<A>()
+    ensures there { (found : Note → Option A) (ms : List Moment) (a : A) → IsDescending ms → (first_found found ms ≡ Some a) ↔ IsFirstFound found ms a }
+    ensures none { (found : Note → Option A) (ms : List Moment) → (first_found found ms ≡ None) ↔ ((m : Moment) → Among m ms → found (note m) ≡ None) }
 {}
 
 /// `earliest_since`: the earliest moment that passes the first test with no later one that passes the second; there is one exactly if `since` says so.

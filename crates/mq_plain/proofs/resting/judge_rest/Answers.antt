@@ -2,7 +2,7 @@ use Rattle.std.specs.Prelude.{reverse}
 use Rattle.mq_rules.specs.Moments.{newest}
 use Rattle.mq_rules.specs.Rules.{same_rule}
 use Rattle.mq_rules.specs.Connections.{is_binding}
-use Rattle.mq_rules.specs.Keeping.{GrowsByWithin}
+use Rattle.mq_rules.specs.Growing.{GrowsByWithin}
 use Rattle.mq_rules.proofs.Exports.{on_err}
 use Rattle.mq_plain.proofs.RestLaws.{rest-none, rest-shown, rest-within, unbound, unbinding, judged-here, blames-of, blames_within-of}
 use Rattle.mq_plain.proofs.resting.judge_rest.Goals as goal

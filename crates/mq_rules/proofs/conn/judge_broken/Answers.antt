@@ -1,5 +1,6 @@
 use Rattle.std.proofs.Common.{sym, subst}
-use Rattle.mq_rules.specs.Keeping.{is_among, JudgesWithin}
+use Rattle.mq_rules.specs.Growing.{JudgesWithin}
+use Rattle.mq_rules.specs.Keeping.{is_among}
 use Rattle.mq_rules.proofs.FaultKeyLaws.{on_err}
 use Rattle.mq_rules.proofs.GrowLaws.{unasked, judges-none, judges-more, within-part}
 use Rattle.mq_rules.proofs.conn.judge_broken.Goals as goal

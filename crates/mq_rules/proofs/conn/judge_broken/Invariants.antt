@@ -1,5 +1,6 @@
 use Rattle.std.proofs.Common.{take}
-use Rattle.mq_rules.specs.Keeping.{is_among, Judges}
+use Rattle.mq_rules.specs.Growing.{Judges}
+use Rattle.mq_rules.specs.Keeping.{is_among}
 use Rattle.mq_rules.proofs.conn.judge_broken.Given as goal
 
 -- the statements so far have been judged

@@ -6,7 +6,8 @@ use Rattle.mq_rules.specs.declared.packet_note.PublishNote.{PublishNote}
 use Rattle.mq_rules.specs.declared.packet_note.ConnackNote.{ConnackNote}
 use Rattle.mq_rules.specs.declared.packet_note.DisconnectNote.{DisconnectNote}
 use Rattle.mq_rules.specs.declared.note.ItemNote.{ItemNote}
-use Rattle.mq_rules.specs.Keeping.{item_verdicts, packet_verdicts, publish_verdicts, connack_verdicts, disconnect_verdicts, rest_verdicts, is_among, is_found, Judges, JudgesWithin}
+use Rattle.mq_rules.specs.Growing.{Judges, JudgesWithin}
+use Rattle.mq_rules.specs.Keeping.{item_verdicts, packet_verdicts, publish_verdicts, connack_verdicts, disconnect_verdicts, rest_verdicts, is_among, is_found}
 use Rattle.mq_rules.proofs.FaultKeyLaws.{on_err}
 use Rattle.mq_rules.proofs.JudgeLaws.{judged-all, refused-item, refused-packet, refused-publish, refused-connack, refused-disconnect, refused-rest}
 use Rattle.mq_rules.proofs.conn.Conn.judge.Goals as goal

@@ -1,7 +1,7 @@
 use Rattle.std.proofs.Common.{◌≡◌, sym, subst, ◌∙◌, Some}
 use Rattle.mq_rules.specs.Statements.{is_on_bytes}
 use Rattle.mq_rules.specs.FaultKeys.{with_fault}
-use Rattle.mq_rules.specs.Keeping.{GrowsBy}
+use Rattle.mq_rules.specs.Growing.{GrowsBy}
 use Rattle.mq_rules.proofs.PlainLaws.{bytes-none, bytes-some}
 use Rattle.mq_rules.specs.Under.{seen}
 use Rattle.mq_rules.proofs.shapes.ShapesWatch.step.Goals as goal
