@@ -16,7 +16,7 @@ use Rattle.mq_rules.specs.Moments.{moment, IsPlaced}
 use Rattle.mq_rules.specs.Connections.{latest_fate}
 use Rattle.mq_rules.specs.Words.{is_some_and}
 use Rattle.mq_rules.specs.Rules.{same_rule}
-use Rattle.mq_rules.specs.Statements.{statement}
+use Rattle.mq_rules.specs.Statements.{Statement, on_bytes, on_past, in_session, at_release, at_rest, statement, is_by_bytes, is_by_past, is_on_bytes, is_on_past}
 use Rattle.mq_rules.specs.Steps.{turns}
 use Rattle.mq_rules.specs.FaultKeys.{FaultMap, fault_at}
 use Rattle.mq_rules.specs.Faults.{reported, fault_in}
@@ -69,6 +69,30 @@ joined false t = refl
 
 pub sessions-whole : (tested : Tested) (e : Seen) (past : List Seen) (k : ℕ) (r : Rule) → (of_sessions r && turns_session tested e past k r) ≡ (is_on_session tested r && turns tested e past k r)
 sessions-whole tested e past k r = ap (λ b. b && turns_session tested e past k r) (sessions-all tested.role r) ∙ joined (is_on_session tested r) (turns tested e past k r)
+
+-- ---- the watchers of all statements
+
+-- what each watcher adds
+abbrev pub turns_by_all : Tested → Seen → List Seen → ℕ → Rule → Bool
+turns_by_all tested e past k r = (is_on_bytes tested r && turns tested e past k r) || ((is_on_past tested r && turns tested e past k r) || (of_sessions r && turns_session tested e past k r))
+
+-- each statement is watched by one of the three
+any_of : (s : Statement) (t : Bool) → ((is_by_bytes s && t) || ((is_by_past s && t) || (is_by_session s && t))) ≡ t
+any_of (on_bytes rule) true = refl
+any_of (on_bytes rule) false = refl
+any_of (on_past breaks) true = refl
+any_of (on_past breaks) false = refl
+any_of (in_session breaks) true = refl
+any_of (in_session breaks) false = refl
+any_of (at_release breaks) true = refl
+any_of (at_release breaks) false = refl
+any_of (at_rest test) true = refl
+any_of (at_rest test) false = refl
+
+pub all-turns : (tested : Tested) (e : Seen) (past : List Seen) (k : ℕ) (r : Rule) → turns_by_all tested e past k r ≡ turns tested e past k r
+all-turns tested e past k r =
+    ap (λ b. (is_on_bytes tested r && turns tested e past k r) || ((is_on_past tested r && turns tested e past k r) || b)) (sessions-whole tested e past k r)
+    ∙ any_of (statement tested.role r) (turns tested e past k r)
 
 -- what follows from what holds after an Ok, and from what holds after an error
 pub on_ok : {A E : Type 0} (r : Result A E) (P Q : Type 0) → (P → Q) → OnOk r P → OnOk r Q

@@ -24,6 +24,7 @@ mod requests;
 mod sessions;
 mod subs;
 mod subs_all;
+mod watchers;
 
 pub use asked::Asked;
 pub use counts::{Counted, Counts, Replies, Subacks, Unsubacks};
@@ -43,3 +44,4 @@ pub use requests::Requests;
 pub use sessions::Sessions;
 pub use subs::Deliveries;
 pub use subs_all::Subs;
+pub use watchers::Watchers;

@@ -3,6 +3,7 @@ pub use Rattle.mq_rules.proofs.BoolLaws.{and-over, and-past, and_false, and_true
 pub use Rattle.mq_rules.proofs.ConnLaws.{connection-next as connection-newest, first_found-next, some-next}
 pub use Rattle.mq_rules.proofs.CounterLaws.{S07-before, used_up-counted}
 pub use Rattle.mq_rules.proofs.DecidedLaws.{fault_in-start, fault_in-step}
+pub use Rattle.mq_rules.proofs.DropLaws.{fault_in-dropped}
 pub use Rattle.mq_rules.proofs.FateLaws.{begun-least, begun-open, begun-same, connection-next, fate-elsewhere, latest_fate-next, latest_fate-open, latest_fate-same}
 pub use Rattle.mq_rules.proofs.FatedLaws.{fated-known, fated-on, fated-open}
 pub use Rattle.mq_rules.proofs.FaultKeyLaws.{fault_at-judged, fault_at-with_fault, on_err}
@@ -18,4 +19,4 @@ pub use Rattle.mq_rules.proofs.PositionLaws.{among-moment, among-some, among-wit
 pub use Rattle.mq_rules.proofs.SessionLaws.{session-members}
 pub use Rattle.mq_rules.proofs.StepLaws.{fails-step, fate-step, moment-newest as moment-newest-of-step, moment-next, moment-stays, moment-within}
 pub use Rattle.mq_rules.proofs.SubjectLaws.{in_order-releases, in_order-turns}
-pub use Rattle.mq_rules.proofs.TurnLaws.{turned}
+pub use Rattle.mq_rules.proofs.TurnLaws.{turned, turned_for}

@@ -32,3 +32,4 @@ pub mod NamingLaws
 pub mod IdleLaws
 pub mod HarmlessLaws
 pub mod Exports
+pub mod DropLaws

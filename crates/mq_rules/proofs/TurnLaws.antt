@@ -162,34 +162,35 @@ turned_put limit log byte None long unrefused is role turn free = turn
 turned_put limit log byte (Some event) long unrefused is role turn free =
     ((λ h. closed-decided role (seen_in log) (sym (connected_context log) ∙ opens-free limit (context log) byte event long unrefused free is h)), turn)
 
-turned_step : (limit : ℕ) (log : List ℕ) (byte : ℕ) (b : Bool) → nat_lt (length log) 8 ≡ b → refusal_at limit log byte ≡ None
-    → IsTurned (tested_by log).role (seen_in log) (context log) → IsTurned (tested_by (log ++ byte ∷ [])).role (seen_in (log ++ byte ∷ [])) (context (log ++ byte ∷ []))
-turned_step limit log byte true is unrefused t =
+turned_step : (role : Role) (limit : ℕ) (log : List ℕ) (byte : ℕ) (b : Bool) → nat_lt (length log) 8 ≡ b → refusal_at limit log byte ≡ None
+    → IsTurned role (seen_in log) (context log) → IsTurned role (seen_in (log ++ byte ∷ [])) (context (log ++ byte ∷ []))
+turned_step role limit log byte true is unrefused t =
     let l = length-append log (byte ∷ []) in
     let short = ltb-true (length log) 8 is in
     record {
-      in_turn = subst (IsInTurn (tested_by (log ++ byte ∷ [])).role) (sym (seen-header (log ++ byte ∷ []) (omega arith))) tt;
+      in_turn = subst (IsInTurn role) (sym (seen-header (log ++ byte ∷ []) (omega arith))) tt;
       free = subst IsFree (sym (context-grow log byte)) (header-free (context log) byte (ap (λ n. nat_lt n 8) (at_context log) ∙ is) t.free);
     }
-turned_step limit log byte false is unrefused t =
+turned_step role limit log byte false is unrefused t =
     let long = ltb-false (length log) 8 is in
     let at : 8 ≤ (context log).at = subst (λ (n : ℕ). 8 ≤ n) (sym (at_context log)) long in
     let fits = sym (refusal-kept limit log byte) ∙ unrefused in
-    let P : Header → Type 0 = λ header. IsInTurn (role_of header) (seen_in (log ++ byte ∷ [])) in
     record {
-      in_turn = subst P (sym (header-unchanged log byte long)) (subst (IsInTurn (tested_by log).role) (sym (seen-kept log byte))
-          (turned_put limit log byte (event_for (context log) byte) at fits refl (tested_by log).role t.in_turn t.free));
+      in_turn = subst (IsInTurn role) (sym (seen-kept log byte)) (turned_put limit log byte (event_for (context log) byte) at fits refl role t.in_turn t.free);
       free = subst IsFree (sym (context-grow log byte)) (free-next limit (context log) byte at fits t.free);
     }
 
--- a log that isn't refused
-pub turned : (limit : ℕ) (bytes : List ℕ) → refused limit bytes ≡ None → IsInTurn (tested_by bytes).role (seen_in bytes)
-turned limit bytes unrefused = (along (λ log. refused limit log ≡ None → IsTurned (tested_by log).role (seen_in log) (context log))
-    (λ unrefused. record { in_turn = subst (IsInTurn (tested_by []).role) (sym (seen-header [] (omega arith))) tt; free = subst IsFree (sym context-nothing) nothing })
+-- A log that isn't refused. Whichever end is tested, a CLOSE decides a connection.
+pub turned_for : (role : Role) (limit : ℕ) (bytes : List ℕ) → refused limit bytes ≡ None → IsInTurn role (seen_in bytes)
+turned_for role limit bytes unrefused = (along (λ log. refused limit log ≡ None → IsTurned role (seen_in log) (context log))
+    (λ unrefused. record { in_turn = subst (IsInTurn role) (sym (seen-header [] (omega arith))) tt; free = subst IsFree (sym context-nothing) nothing })
     (λ log byte before unrefused.
     let parts = unrefused-grow limit log byte unrefused in
-    turned_step limit log byte (nat_lt (length log) 8) refl parts.1 (before parts.0))
+    turned_step role limit log byte (nat_lt (length log) 8) refl parts.1 (before parts.0))
     bytes unrefused).in_turn
   where
     nothing : IsFree fresh
     nothing opens lt = refl
+
+pub turned : (limit : ℕ) (bytes : List ℕ) → refused limit bytes ≡ None → IsInTurn (tested_by bytes).role (seen_in bytes)
+turned limit bytes = turned_for (tested_by bytes).role limit bytes

@@ -22,3 +22,4 @@ pub mod StopLaws
 pub mod WritingLaws
 pub mod Exports
 pub mod HeadLaws
+pub mod BeginLaws

@@ -1,5 +1,5 @@
 -- The state of a tracer, and what its calls return.
-use Rattle.std.specs.Prelude.{◌≡◌, ℕ, ◌≤◌, nat_lt, ◌⊎◌, Bool, true, false, List, ◌∷◌, ◌++◌, length, Option, Some, None, is_some, Result, Ok, Err}
+use Rattle.std.specs.Prelude.{◌≡◌, ℕ, ◌<◌, ◌≤◌, nat_lt, ◌⊎◌, Bool, true, false, List, [], ◌∷◌, ◌++◌, length, Option, Some, None, is_some, Result, Ok, Err}
 use Rattle.mq_trace.specs.declared.refusal.Refusal.{Refusal}
 use Rattle.mq_trace.specs.declared.refusal.Refusal.TheVariants as refusals
 use Rattle.mq_trace.specs.declared.stage.Stage.{Stage}
@@ -82,10 +82,23 @@ pub record Stops {S : Type 0} (agrees : S → List Placed → Type 0) (refuses :
 abbrev pub StopsAt : {S : Type 0} → (S → List Placed → Type 0) → (S → List Placed → Refusal → Type 0) → ℕ → List ℕ → List ℕ → S → S → Reading → Refusal → Type 0
 StopsAt agrees refuses limit log piece old new reading refusal = (stops : Stops agrees refuses limit log piece old new refusal) × KeepsHeader reading (log ++ stops.taken)
 
+-- The same for a byte of the log's header, where no sink is asked.
+abbrev pub StopsInHeader : ℕ → List ℕ → List ℕ → Reading → Refusal → Type 0
+StopsInHeader limit log piece reading refusal =
+    (stops : StopsAt {S = Unit {0}} (λ _ _. Unit {0}) (λ _ _ _. ⊥) limit log piece tt tt reading refusal) × (length (log ++ stops.0.taken) < 8)
+
 -- What feeding a piece after a log returns.
 abbrev pub TracesPiece : {S : Type 0} → (S → List Placed → Type 0) → (S → List Placed → Refusal → Type 0) → ℕ → List ℕ → List ℕ → S → S → Result (Unit {0}) Refusal → Type 0
 TracesPiece agrees refuses limit log piece old new (Ok _) = (refused limit (log ++ piece) ≡ None) × HasReceived agrees log piece old new
 TracesPiece agrees refuses limit log piece old new (Err refusal) = Stops agrees refuses limit log piece old new refusal
+
+-- A tracer has taken in these bytes of a piece after a log, which complete no event, and this is the rest of the piece. It is empty unless the header is whole.
+pub record Begins (tracer : Traced) (log piece rest : List ℕ) : Type 0 where
+  pub taken : List ℕ
+  pub is : piece ≡ taken ++ rest
+  pub follows : IsTracedTo tracer (log ++ taken)
+  pub no_event : events (log ++ taken) ≡ events log
+  pub whole : (8 ≤ length (log ++ taken)) ⊎ (rest ≡ [])
 
 -- What ending a log that wasn't refused returns.
 abbrev pub Ends : List ℕ → Result (Unit {0}) Refusal → Type 0

@@ -106,3 +106,14 @@ pub trait Sink {
         self.packet(place, direction, size, Packet::Publish(publish))
     }
 }
+
+/// A sink that does nothing with what it receives.
+impl Sink for () {
+    ghost agrees = { λ _ _. Unit {0} };
+
+    ghost refuses = { λ _ _ _. ⊥ };
+
+    fn event(&mut self, _: Place3, _: Event<'_>) -> Result<(), Refusal> {
+        Ok(())
+    }
+}

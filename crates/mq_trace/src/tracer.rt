@@ -1,9 +1,9 @@
 //! Reads a log that is fed in pieces, and emits its events to a sink.
 
-ghost use Rattle.std.specs.Prelude.{◌≡◌, ℕ, ◌+◌, ◌*◌, ◌≤◌, List, [], ◌++◌, ◌||◌, not, nat_lt, length, Some, None, Err, IfErr, IfSome, OnOk, if◌then◌else◌};
+ghost use Rattle.std.specs.Prelude.{◌≡◌, ℕ, ◌+◌, ◌-◌, ◌*◌, ◌≤◌, min, List, [], ◌++◌, ◌||◌, not, nat_lt, length, Some, None, Err, IfErr, IfOk, IfSome, OnOk, if◌then◌else◌};
 ghost use Rattle.mq_trace.specs.Framing.{header_by};
 ghost use Rattle.mq_trace.specs.Keeping.{IsSound};
-ghost use Rattle.mq_trace.specs.Tracing.{IsTracedTo, TracesPiece, Ends, HasRead, HasReceived, KeepsHeader, StopsAt, is_between};
+ghost use Rattle.mq_trace.specs.Tracing.{IsTracedTo, Begins, TracesPiece, Ends, HasRead, HasReceived, KeepsHeader, StopsAt, StopsInHeader, is_between};
 ghost use Rattle.mq_trace.specs.Refusing.{refusal_offset};
 
 use super::header::{HEADER_LENGTH, Header};
@@ -85,6 +85,34 @@ impl Tracer {
             Some(refusal) => refusal.byte(),
             None => self.reading.at,
         }
+    }
+
+    /// Takes in what of the next piece belongs to the log's header, and returns the rest of the piece. A header completes no event.
+    ///
+    /// # Errors
+    ///
+    /// As `feed`.
+    pub fn begin<'a>(&mut self, piece: &'a [u8]) -> Result<&'a [u8], Refusal>
+        ensures begins { (log : List ℕ) → IsTracedTo self.old log → IfOk result (λ rest. Begins self.new log piece.now rest.now) }
+        ensures stopped { (log : List ℕ) → IsTracedTo self.old log → IfErr result (λ refusal. StopsInHeader self.old.reading.limit log piece.now self.new.reading refusal) }
+        ensures limit { OnOk result (self.new.reading.limit ≡ self.old.reading.limit) }
+        ensures refuses { IfErr result (λ refusal. self.new.refusal ≡ Some refusal) }
+        ensures for_ever { IfSome self.old.refusal (λ refusal. (result ≡ Err refusal) × (self.new ≡ self.old)) }
+    {
+        let (header, rest) = piece.split_at(self.header_count(piece.len()));
+        match self.feed(header, &mut ()) {
+            Ok(()) => Ok(rest),
+            Err(refusal) => Err(refusal),
+        }
+    }
+
+    /// How many of the next `count` bytes of the log belong to its header.
+    fn header_count(&self, count: usize) -> usize
+        ensures within { result ≤ count }
+        ensures count { (log : List ℕ) → IsTracedTo self.now log → result ≡ min (8 - length log) count }
+    {
+        let left = HEADER_LENGTH.saturating_sub(self.byte_count());
+        (left as usize).min(count)
     }
 
     /// Takes in the next piece of the log, and emits the events whose last bytes are in it. It doesn't matter how the log is cut

@@ -1,0 +1,53 @@
+//! All statements.
+ghost use Rattle.std.specs.Prelude.{◌≡◌, [], Some};
+ghost use Rattle.mq_rules.specs.declared.fate.Fate.TheVariants.{Void};
+ghost use Rattle.mq_rules.specs.Connections.{IsOnConnection};
+ghost use Rattle.mq_rules.specs.Steps.{turns};
+
+use crate::early::Early;
+use crate::sessions::Sessions;
+use mq_rules::{Both, Conn, Faults, Memory, Note, Shapes, Tested, Watch};
+use mq_trace::Place3;
+use std::alloc::Global;
+
+/// Watches all 74 statements: W and C as the events come, and those on sessions once their connection is decided.
+#[derive(Drop)]
+pub struct Watchers {
+    parts: Both<Shapes, Both<Conn, Early<Sessions>>>,
+}
+
+impl Watchers {
+    /// The watchers before the first event, for this tested end.
+    pub fn new(alloc: Global, tested: Tested) -> Self
+        ensures { ⟦<Watchers as Watch>⟧.agrees result tested (Some Void) [] }
+    {
+        Watchers {
+            parts: Both::new(
+                Shapes::new(tested),
+                Both::new(
+                    Conn::new(alloc, tested),
+                    Early::new(alloc, tested, Sessions::new(alloc, tested)),
+                ),
+            ),
+        }
+    }
+}
+
+impl Watch for Watchers {
+    ghost agrees = { λ s. ⟦<Both<Shapes, Both<Conn, Early<Sessions>>> as Watch>⟧.agrees s.parts };
+
+    ghost takes = { λ tested taken e past. IsOnConnection e past };
+
+    ghost adds = { turns };
+
+    ghost bound = { ⟦<Both<Shapes, Both<Conn, Early<Sessions>>> as Watch>⟧.bound };
+
+    fn step(&mut self, at: Place3, note: &Note, faults: &mut Faults) -> Result<(), Memory> {
+        self.parts.step(at, note, faults)?;
+        Ok(())
+    }
+
+    fn weight(&self) -> usize {
+        self.parts.weight()
+    }
+}
