@@ -323,11 +323,11 @@ static ROWS: [Row; 27] = [
 const FAULTY_LINES: &str = "1 record 1 OPEN\n\
     2 record 2 SENT CONNECT size 15\n\
     3 record 3 RECV CONNACK size 5\n\
-    4 record 4 SENT BAD W09 offset 5\n\
+    4 record 4 SENT BAD W09 offset 5 type PUBLISH bytes 32 07 00 01 61 [00] 00 00 78\n\
     \x20 fault W09 sec-2.2.1 A Packet Identifier isn't 0. (offset 5)\n";
 
 const NEAR_LINES: &str = "..\n\
-    4 record 4 SENT BAD W09 offset 5\n\
+    4 record 4 SENT BAD W09 offset 5 type PUBLISH bytes 32 07 00 01 61 [00] 00 00 78\n\
     \x20 fault W09 sec-2.2.1 A Packet Identifier isn't 0. (offset 5)\n";
 
 const NO_FILE: &str =

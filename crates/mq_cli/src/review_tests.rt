@@ -27,7 +27,7 @@ const ALL: &str = "1 record 1 OPEN\n\
     5 record 5 SENT PINGREQ size 2\n\
     6 record 6 RECV PINGRESP size 2\n\
     7 record 7 REST\n\
-    8 record 8 SENT BAD W09 offset 2\n\
+    8 record 8 SENT BAD W09 offset 2 type SUBACK bytes 90 03 [00] 00 00\n\
     \x20 fault W09 sec-2.2.1 A Packet Identifier isn't 0. (offset 2)\n\
     \x20 fault C01 sec-2.1.2 A packet has a type that this end may send.\n\
     9 record 9 CLOSE\n";
@@ -36,7 +36,7 @@ const AROUND_0: &str = "..\n\
     4 record 4 RECV PUBLISH size 9 qos 1 dup 0 id 1\n\
     \x20 fault E1R MQTT-4.3.2-4 A PUBLISH of QoS 1 is answered by a PUBACK. (decided at event 7)\n\
     ..\n\
-    8 record 8 SENT BAD W09 offset 2\n\
+    8 record 8 SENT BAD W09 offset 2 type SUBACK bytes 90 03 [00] 00 00\n\
     \x20 fault W09 sec-2.2.1 A Packet Identifier isn't 0. (offset 2)\n\
     \x20 fault C01 sec-2.1.2 A packet has a type that this end may send.\n\
     ..\n";
@@ -48,7 +48,7 @@ const AROUND_1: &str = "..\n\
     5 record 5 SENT PINGREQ size 2\n\
     ..\n\
     7 record 7 REST\n\
-    8 record 8 SENT BAD W09 offset 2\n\
+    8 record 8 SENT BAD W09 offset 2 type SUBACK bytes 90 03 [00] 00 00\n\
     \x20 fault W09 sec-2.2.1 A Packet Identifier isn't 0. (offset 2)\n\
     \x20 fault C01 sec-2.1.2 A packet has a type that this end may send.\n\
     9 record 9 CLOSE\n";
@@ -57,7 +57,7 @@ const LONG_AROUND_0: &str = "..\n\
     4 record 4 RECV PUBLISH size 9 qos 1 dup 0 id 1 retain 0 topic \"a\" payload 1\n\
     \x20 fault E1R MQTT-4.3.2-4 A PUBLISH of QoS 1 is answered by a PUBACK. (decided at event 7)\n\
     ..\n\
-    8 record 8 SENT BAD W09 offset 2\n\
+    8 record 8 SENT BAD W09 offset 2 type SUBACK bytes 90 03 [00] 00 00\n\
     \x20 fault W09 sec-2.2.1 A Packet Identifier isn't 0. (offset 2)\n\
     \x20 fault C01 sec-2.1.2 A packet has a type that this end may send.\n\
     ..\n";
@@ -229,7 +229,8 @@ fn shows_3000_faults(rt: HostRuntime) -> Result<(), Fail> {
     text.push_str("..\n")?;
     for position in 4..3004_u32 {
         add_record(&mut log, 2, b"\x32\x07\x00\x01a\x00\x00\x00x")?;
-        write!(text, "{position} record {position} SENT BAD W09 offset 5\n")?;
+        write!(text, "{position} record {position} SENT BAD W09 offset 5")?;
+        text.push_str(" type PUBLISH bytes 32 07 00 01 61 [00] 00 00 78\n")?;
         text.push_str("  fault W09 sec-2.2.1 A Packet Identifier isn't 0. (offset 5)\n")?;
     }
     let logs = [log.as_slice(), log.as_slice()];
