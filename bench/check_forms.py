@@ -32,7 +32,7 @@ def many_faults(count: int) -> bytes:
 
 
 def long_broken() -> bytes:
-    """A client that sends packets with a fault at an offset from 60 to 70, near to their end or far from it, and in pieces."""
+    """A client that sends packets with a fault at offsets from 62 to 73, near to their end or far from it, and in pieces."""
     packets = []
     for length in range(55, 66):
         for payload in (b"", b"x" * 100):
