@@ -3,7 +3,7 @@
 
 usage: bench/check_forms.py PROGRAM [LOG ..]
 
-The text report of each log is made into the other forms here, in Python: each of the worked logs of mq_judge's tests, a log of
+The text report of each log is made into the other forms here, in Python: each of the worked logs of check_rows.py, a log of
 3,000 faults, one of long packets that break a rule, refused logs, and the logs that are named. JSON is also read back by Python's
 json module. What `show --faults` is to print is made of the text report and of what `show` prints. The bytes of packets that break
 a rule are those that reference.py finds in the log.
@@ -46,11 +46,7 @@ def long_broken() -> bytes:
 
 
 def logs(paths: list[str]) -> list[tuple[str, bytes]]:
-    names, found = check_rows.packets(), []
-    for path in sorted(check_rows.FOLDER.glob("*.rt")):
-        for row in (row for table in check_rows.TABLE.findall(path.read_text()) for row in table.split("\n")):
-            name, log, _ = (part.strip() for part in row.split("|"))
-            found.append((f"{path.name}: {name}", check_rows.log_of(log, names)))
+    found = [(row.name, row.log) for row in check_rows.rows()]
     found.append(("3,000 faults", many_faults(3000)))
     found.append(("long packets that break a rule", long_broken()))
     found += [(f"{count} bytes", many_faults(1)[:count]) for count in range(0, 60)]
@@ -104,7 +100,7 @@ def with_bytes(events: str, log: bytes) -> str:
     lines = events.splitlines()
     if lines[-1:] and lines[-1].startswith("refused"):
         return events
-    found = reference.Recording(log, 16_777_216, False).events
+    found = reference.Recording(log).events
     for n, (line, event) in enumerate(zip(lines, found, strict=True)):
         if isinstance(event.item, reference.Bad):
             packet, at = event.item.packet, event.item.at

@@ -6,15 +6,14 @@ A log must have as many events as it was asked for, and no fault. With --mqjudge
 usage: bench/check_logs.py [--mqjudge PATH]
 """
 import argparse
-import subprocess
 import sys
 from collections.abc import Iterator
 from pathlib import Path
 
 sys.dont_write_bytecode = True  # the repository stays as it is
 import make_log
-import reference
 import session_logs
+from judges import judges
 
 SIZES = (1, 7, 60, 241)
 # Of ten thousand filters, so that a message comes after all are subscribed to.
@@ -33,24 +32,18 @@ def logs() -> Iterator[tuple[str, int, bytes]]:
         yield f"{kind} of {MESSAGES} messages", make_log.events_of(kind, MESSAGES), b"".join(make_log.log(kind, MESSAGES))
 
 
-def judged(program: Path, log: bytes) -> str:
-    return subprocess.run([program, "check"], input=log, stdout=subprocess.PIPE, check=False).stdout.decode()
-
-
 def main() -> int:
     words = argparse.ArgumentParser(description="Checks the logs that are made for measuring.")
     words.add_argument("--mqjudge", type=Path, help="a program that has to pass them too")
     given = words.parse_args()
     count = wrong = 0
     for name, events, log in logs():
-        reports = {"reference.py": reference.report(log)}
-        if given.mqjudge:
-            reports["mqjudge"] = judged(given.mqjudge.absolute(), log)
-        for judge, report in reports.items():
+        for by, judge in judges(given.mqjudge).items():
             count += 1
+            report = judge(log)
             if report != f"pass {events} events\n":
                 wrong += 1
-                print(f"{name}, by {judge}:", *report.splitlines()[:5], sep="\n  ")
+                print(f"{name}, by {by}:", *report.splitlines()[:5], sep="\n  ")
     print(f"{count} reports, {wrong} wrong")
     return 1 if wrong else 0
 

@@ -5,9 +5,10 @@ This is a second opinion, and no part of the program. It was written from the wo
 log for each position and statement: it keeps no state from one position to the next, so it takes time that grows with the square
 of the log's length. What it shares with the program is nothing but the standard: where the two differ, one of them is wrong.
 
-usage: bench/reference.py check [FILE] [--held] [--limit 16777216]
+Packets before the CONNACK need no words of their own here. Whether their connection is accepted, and which session they are in, is
+looked up in the whole log, so it doesn't matter where the CONNACK is; and `decided` is found by trying the log's beginnings.
 
---held takes session packets before the CONNACK, at most 4,096 events of them on a connection. Without it they are refused.
+usage: bench/reference.py check [FILE] [--limit 16777216]
 """
 import argparse
 import sys
@@ -111,7 +112,6 @@ NAMES = ("", "CONNECT", "CONNACK", "PUBLISH", "PUBACK", "PUBREC", "PUBREL", "PUB
          "PINGREQ", "PINGRESP", "DISCONNECT", "AUTH")
 FROM_CLIENT_ALONE = {CONNECT, SUBSCRIBE, UNSUBSCRIBE, PINGREQ}
 FROM_SERVER_ALONE = {CONNACK, SUBACK, UNSUBACK, PINGRESP}
-OF_SESSIONS = {PUBLISH, PUBACK, PUBREC, PUBREL, PUBCOMP, SUBSCRIBE, SUBACK, UNSUBSCRIBE, UNSUBACK}
 WILL = 0  # the list of a Will's properties, beside those of the packets' types
 ACKNOWLEDGEMENTS = (PUBACK, PUBREC, PUBREL, PUBCOMP)
 WITH_REASON = {CONNACK, *ACKNOWLEDGEMENTS, SUBACK, UNSUBACK, DISCONNECT, AUTH}
@@ -463,11 +463,11 @@ BODIES: dict[int, Callable[[Packet, Reader], None]] = {
 # ---- the log: its records and events, and why it may be refused
 
 REFUSALS = ("", "Header", "Version", "Role", "Flags", "Kind", "Length", "Nested", "NotOpen", "ReleaseUnrecorded", "Cut", "TooLarge",
-            "OtherVersion", "Early")
-TOO_MANY_EARLY = "TooManyEarly"
-MOST_EARLY = 4_096
+            "OtherVersion", "TooManyEarly")
+MOST_EARLY = 4_096  # events of a connection before its CONNACK
 OPEN, SENT, RECV, CLOSE, REST, RELEASE = range(1, 7)
 MOST_IN_RECORD = 1_048_576
+DEFAULT_LIMIT = 16_777_216  # the size of a packet, in bytes
 
 
 @dataclass
@@ -482,10 +482,9 @@ class Event:
 class Refusal(Exception):
     number: int
     at: int
-    name: str = ""
 
     def text(self) -> str:
-        return f"refused {self.number} {self.name or REFUSALS[self.number]} at {self.at}"
+        return f"refused {self.number} {REFUSALS[self.number]} at {self.at}"
 
 
 def frame(stream: bytes) -> tuple[int, int] | Lost | None:
@@ -504,11 +503,11 @@ def frame(stream: bytes) -> tuple[int, int] | Lost | None:
 class Recording:
     """The events of a log's bytes. The bytes are looked at in turn, so the first refusal that is met is the earliest."""
 
-    def __init__(self, log: bytes, limit: int, held: bool):
-        self.log, self.limit, self.held = log, limit, held
+    def __init__(self, log: bytes, limit: int = DEFAULT_LIMIT):
+        self.log, self.limit = log, limit
         self.role, self.releases = "client", False
         self.events: list[Event] = []
-        self.is_open, self.has_connack, self.begun_at = False, False, 0
+        self.is_open, self.has_connack, self.begun_after = False, False, 0
         # What has come of an unfinished packet in each direction; None after Lost.
         self.streams: dict[int, bytearray | None] = {}
         self.frames: dict[int, tuple[int, int] | Lost | None] = {}
@@ -562,10 +561,10 @@ class Recording:
             return
         self.byte(begin + length - 1)
         if kind == OPEN:
-            self.is_open, self.has_connack, self.begun_at = True, False, len(self.events)
+            self.is_open, self.has_connack, self.begun_after = True, False, len(self.events)
             self.streams = {SENT: bytearray(), RECV: bytearray()}
         released = int.from_bytes(self.log[begin : begin + length], "big")
-        self.add(Event(kind, record, None, released), begin + length - 1, kind == RELEASE)
+        self.add(Event(kind, record, None, released), begin + length - 1)
         if kind == CLOSE:
             self.is_open = False
 
@@ -581,7 +580,7 @@ class Recording:
         match self.frames[way]:
             case Lost() as lost:
                 self.streams[way] = None
-                self.add(Event(way, record, lost), at, False)
+                self.add(Event(way, record, lost), at)
             case (header, size):
                 if len(stream) == header and size > self.limit:
                     raise Refusal(11, at)
@@ -596,19 +595,18 @@ class Recording:
             raise Refusal(12, at) from None
         except Bad as bad:
             item = bad
-        is_packet = isinstance(item, Packet)
         from_server = (way == SENT) == (self.role == "server")
-        if is_packet and item.type == CONNACK and from_server:
+        if isinstance(item, Packet) and item.type == CONNACK and from_server:
             self.has_connack = True
-        self.add(Event(way, record, item), at, is_packet and item.type in OF_SESSIONS)
+        self.add(Event(way, record, item), at)
 
-    def add(self, event: Event, at: int, needs_session: bool) -> None:
-        is_early = self.is_open and not self.has_connack
-        if is_early and needs_session and not self.held:
+    def add(self, event: Event, at: int) -> None:
+        """One more event, at this byte. A RELEASE between connections is on none."""
+        is_early = self.is_open and not self.has_connack and event.kind != CLOSE
+        if is_early and len(self.events) - self.begun_after >= MOST_EARLY:
             raise Refusal(13, at)
-        if is_early and self.held and event.kind != CLOSE and len(self.events) - self.begun_at >= MOST_EARLY:
-            raise Refusal(13, at, TOO_MANY_EARLY)
         self.events.append(event)
+
 
 # ---- connections and sessions (MQTT 5.0, sections 3.1.2.4, 3.2 and 4.1)
 
@@ -703,6 +701,10 @@ class Log:
     @cached_property
     def first_connacks(self) -> list[int | None]:
         return [next((k for k in ks if self.from_server(k, CONNACK)), None) for ks in self.connection_positions]
+
+    @cached_property
+    def first_sent_disconnects(self) -> list[int | None]:
+        return [next((k for k in ks if self.sent_packet(k, DISCONNECT)), None) for ks in self.connection_positions]
 
     def connack_code(self, k: int) -> Packet:
         p = self.from_server(k, CONNACK)
@@ -935,7 +937,8 @@ def has_refused(log: Log, k: int) -> bool:
 
 
 def has_disconnected(log: Log, k: int) -> bool:
-    return any(log.sent_packet(j, DISCONNECT) for j in log.before_on(k))
+    at = log.first_sent_disconnects[log.places[k]]
+    return at is not None and at < k
 
 
 @says("C11")
@@ -1428,9 +1431,9 @@ def offset(log: Log, k: int, rule: str) -> str:
     return str(item.at) if isinstance(item, Bad) else "1"
 
 
-def report(bytes: bytes, limit: int = 16_777_216, held: bool = False) -> str:
+def report(bytes: bytes, limit: int = DEFAULT_LIMIT) -> str:
     try:
-        recording = Recording(bytes, limit, held)
+        recording = Recording(bytes, limit)
     except Refusal as refusal:
         return refusal.text() + "\n"
     log = Log(recording.events, recording.role, recording.releases)
@@ -1446,11 +1449,10 @@ def main() -> None:
     parser = argparse.ArgumentParser(description=(__doc__ or "").partition("\n")[0])
     parser.add_argument("task", choices=["check"])
     parser.add_argument("file", nargs="?")
-    parser.add_argument("--held", action="store_true")
-    parser.add_argument("--limit", type=int, default=16_777_216)
+    parser.add_argument("--limit", type=int, default=DEFAULT_LIMIT)
     arguments = parser.parse_args()
     log = Path(arguments.file).read_bytes() if arguments.file else sys.stdin.buffer.read()
-    text = report(log, arguments.limit, arguments.held)
+    text = report(log, arguments.limit)
     sys.stdout.write(text)
     sys.exit({"pass": 0, "fail": 1, "refused": 2}[text.splitlines()[-1].split()[0]])
 

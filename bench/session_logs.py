@@ -26,6 +26,7 @@ SESSION_EXPIRY_INTERVAL = b"\x11\x00\x00\x02\x58"  # 600 seconds
 # The largest packet that a server takes from a client whose messages in flight are all larger.
 MAXIMUM_PACKET_SIZE = b"\x27\x00\x00\x00\x10"
 FILTERS_IN_A_SUBSCRIBE = 50
+MOST_EARLY = 4_096  # events of a connection that may come before its CONNACK, with its OPEN
 
 Records = Iterator[bytes]
 Order = Callable[[int], Iterable[int]]
@@ -108,10 +109,11 @@ class End:
         """The record of what the server sends."""
         return record(RECV if self.role == CLIENT else SENT, bytes_sent)
 
-    def connection(self, resumed: bool, properties: bytes = b"") -> Records:
-        """A connection begins: it resumes the session, or begins a new one. The CONNACK may have properties."""
+    def connection(self, resumed: bool, properties: bytes = b"", early: Iterable[bytes] = ()) -> Records:
+        """A connection begins: it resumes the session, or begins a new one. The CONNACK may have properties, and records before it."""
         yield record(OPEN)
         yield self.client(connect(clean_start=not resumed))
+        yield from early
         yield self.server(connack(resumed, properties))
 
     def subscription(self, identifier: int, filters: list[str]) -> Records:
@@ -406,6 +408,35 @@ def new_sessions_with_filters(events: int) -> Records:
         yield record(REST)
 
 
+# ---- packets before the CONNACK
+
+
+def early(events: int, role: int) -> Records:
+    """On each connection the client sends many messages of QoS 1 before the CONNACK comes, and gets their PUBACKs after it."""
+    end, size = End(role), min(MOST_EARLY - 2, round_size(events, 2))
+    for n in count():
+        yield from end.connection(resumed=n > 0, early=[end.client(publish(1, identifier)) for identifier in in_order(size)])
+        yield from (end.server(puback(identifier)) for identifier in in_order(size))
+        yield record(REST)
+        yield record(CLOSE)
+
+
+def unanswered(events: int) -> Records:
+    """Every other connection closes before its CONNACK, after a PUBLISH of the client, which is sent again on the next one."""
+    end = End(CLIENT)
+    for n in count():
+        identifier = n % IDENTIFIERS + 1
+        yield record(OPEN)
+        yield end.client(connect(clean_start=False))
+        yield end.client(publish(1, identifier))
+        yield record(CLOSE)
+        yield from end.connection(resumed=n > 0)
+        yield end.client(publish(1, identifier, dup=True))
+        yield end.server(puback(identifier))
+        yield record(REST)
+        yield record(CLOSE)
+
+
 # ---- the kinds
 
 
@@ -435,6 +466,9 @@ KINDS: dict[str, Kind] = {
     "resubscribed": Kind(SERVER, resubscribed),
     "new-sessions": Kind(CLIENT, new_sessions),
     "new-sessions-filters": Kind(SERVER, new_sessions_with_filters),
+    "client-early": Kind(CLIENT, partial(early, role=CLIENT)),
+    "server-early": Kind(SERVER, partial(early, role=SERVER)),
+    "unanswered": Kind(CLIENT, unanswered),
 }
 
 

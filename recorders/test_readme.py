@@ -25,13 +25,10 @@ from testing import PAHO, PATHS, PATIENCE, TOP, broker, free_port, judge_program
 
 SLOWER = 3
 CLIENT = """
-import time
 import paho.mqtt.client
 {lines}
 client.connect("127.0.0.1", {port})
 client.loop_start()
-while not client.is_connected():  # what goes before the CONNACK isn't judged
-    time.sleep(0.02)
 client.publish("hello", "world", 2).wait_for_publish(20)
 client.disconnect()
 client.loop_stop()

@@ -8,6 +8,7 @@ const MAGIC: [u8; 4] = *b"MQTR";
 const HEADER_SIZE: u64 = 8;
 const LARGEST_BODY: u32 = 1_048_576;
 const LARGEST_PACKET: usize = 16_777_216;
+const MOST_EARLY: u32 = 4_096;
 
 /// Why a log is refused, and the offset of the byte that shows it.
 #[derive(Debug, Clone, Copy, PartialEq)]
@@ -32,7 +33,7 @@ impl Display for Refusal {
             "Cut",
             "TooLarge",
             "OtherVersion",
-            "Early",
+            "TooManyEarly",
             "TooLong",
         ];
         write!(
@@ -125,6 +126,7 @@ pub struct Log<S> {
     has_releases: bool,
     is_open: bool,
     has_connack: bool,
+    early: u32, // events of the open connection before its CONNACK
     records: u32,
     events: u32,
     sent: Direction,
@@ -141,6 +143,7 @@ impl<S: Sink> Log<S> {
             has_releases: false,
             is_open: false,
             has_connack: false,
+            early: 0,
             records: 0,
             events: 0,
             sent: Direction::default(),
@@ -278,6 +281,7 @@ impl<S: Sink> Log<S> {
     fn connect(&mut self, is_open: bool, event: &Event) -> Result<(), Stop> {
         self.is_open = is_open;
         self.has_connack = false;
+        self.early = 0;
         self.sent.forget();
         self.received.forget();
         self.event(self.offset, event)
@@ -293,13 +297,17 @@ impl<S: Sink> Log<S> {
             return Ok(());
         }
         self.state = State::Kind;
-        if self.is_open && !self.has_connack {
-            return refuse(13, self.offset);
-        }
         self.event(self.offset, &Event::Release(value))
     }
 
+    // An event, which is complete at this byte. What a CLOSE ends isn't open any more, and a CONNACK has come where it is the event.
     fn event(&mut self, byte: u64, event: &Event) -> Result<(), Stop> {
+        if self.is_open && !self.has_connack {
+            if self.early == MOST_EARLY {
+                return refuse(13, byte);
+            }
+            self.early += 1;
+        }
         let Some(events) = self.events.checked_add(1) else {
             return refuse(14, byte);
         };
@@ -392,9 +400,6 @@ impl<S: Sink> Log<S> {
             Err(Fault::OtherVersion(_)) => return refuse(12, last),
             Err(Fault::Broken { rule, at }) => Item::Bad { rule, at },
             Ok(packet) => {
-                if packet.is_of_session() && !self.has_connack {
-                    return refuse(13, last);
-                }
                 let is_from_server = (kind == Kind::Sent) == self.is_server;
                 self.has_connack |= packet.kind() == packet::CONNACK && is_from_server;
                 Item::Packet(packet)

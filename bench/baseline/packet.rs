@@ -69,11 +69,6 @@ impl Summary {
     pub fn kind(&self) -> u8 {
         self.first >> 4
     }
-
-    /// Whether the packet belongs to a session: PUBLISH to UNSUBACK.
-    pub fn is_of_session(&self) -> bool {
-        (3..=11).contains(&self.kind())
-    }
 }
 
 /// Decodes a whole packet, whose body begins at `body`. The first check that fails decides.

@@ -27,6 +27,16 @@ fn received(body: &str) -> String {
     record(3, body)
 }
 
+// A client's connection with so many packets before its CONNACK, beside the CONNECT.
+fn undecided(packets: usize) -> String {
+    [
+        OPEN.into(),
+        sent(CONNECT),
+        sent(&"30050001610078".repeat(packets)),
+    ]
+    .concat()
+}
+
 // A client's log in which the connection was accepted, and then `records`.
 fn accepted(records: &[String]) -> Vec<u8> {
     let start = [HEADER.into(), OPEN.into(), sent(CONNECT), received(CONNACK)];
@@ -204,13 +214,42 @@ fn refuses_at_the_first_byte_that_shows_it() {
             open.clone() + &sent("100C00044D51545404020 03C0000"),
             "12 OtherVersion at 31",
         ),
-        (open.clone() + &record(6, "0001"), "13 Early at 19"),
         (
-            [accepted_once, OPEN.into(), sent(CONNECT), sent(PUBLISH)].concat(),
-            "13 Early at 100",
+            HEADER.to_string() + &undecided(4_095),
+            "13 TooManyEarly at 28702",
+        ),
+        (
+            HEADER.to_string() + &undecided(4_094) + REST,
+            "13 TooManyEarly at 28700",
+        ),
+        (
+            accepted_once + &undecided(4_094) + &record(6, "0001"),
+            "13 TooManyEarly at 28756",
         ),
     ] {
         assert_eq!(last_line(&bytes(&hex)), format!("refused {text}"), "{hex}");
+    }
+}
+
+#[test]
+fn shows_what_comes_before_the_connack() {
+    for (records, line) in [
+        (undecided(1), "3 record 3 SENT PUBLISH size 7 qos 0 dup 0"),
+        (
+            OPEN.to_string() + &record(6, "0001"),
+            "2 record 2 RELEASE 1",
+        ),
+        (
+            undecided(4_094) + &received(CONNACK),
+            "4097 record 4 RECV CONNACK size 5",
+        ),
+        (undecided(4_094) + CLOSE, "4097 record 4 CLOSE"),
+        (
+            undecided(4_094) + CLOSE + &record(6, "0001") + &undecided(4_094),
+            "8194 record 8 SENT PUBLISH size 7 qos 0 dup 0",
+        ),
+    ] {
+        assert_eq!(last_line(&bytes(&(HEADER.to_string() + &records))), line);
     }
 }
 

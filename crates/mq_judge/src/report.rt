@@ -293,7 +293,10 @@ mod tests {
             (Refusal::Cut(7), "refused 10 Cut at 7\n"),
             (Refusal::Nested(13), "refused 7 Nested at 13\n"),
             (Refusal::OtherVersion(31), "refused 12 OtherVersion at 31\n"),
-            (Refusal::Early(112), "refused 13 Early at 112\n"),
+            (
+                Refusal::TooManyEarly(28_702),
+                "refused 13 TooManyEarly at 28702\n",
+            ),
             (
                 Refusal::ReleaseUnrecorded(u64::MAX),
                 "refused 9 ReleaseUnrecorded at 18446744073709551615\n",

@@ -134,7 +134,7 @@ latest_fate-next role e past = go (is_open e.note) refl
 
 -- ---- what is not connected is decided
 
-close-decides : (role : Role) (note : Note) → is_close note ≡ true → is_some (decides role note) ≡ true
+pub close-decides : (role : Role) (note : Note) → is_close note ≡ true → is_some (decides role note) ≡ true
 close-decides role note h = ap (λ b. is_some (cond b (Some Void) (option_map fate_by (connack_of role note)))) h
 
 pub closed-decided : (role : Role) (log : List Seen) → is_connected log ≡ false → is_some (latest_fate role log) ≡ true

@@ -1,8 +1,8 @@
--- In a log that isn't refused each event has its place, and each session packet and each RELEASE comes where the latest connection is decided.
-use Rattle.std.proofs.Common.{◌≡◌, ℕ, ◌+◌, ◌≤◌, Bool, true, false, cond, nat_lt, List, [], ◌∷◌, ◌++◌, length, map, reverse, Option, Some, None, is_some, refl, sym, ◌∙◌, ap, subst, arith, length-append}
-use Rattle.std.specs.Prelude.{◌||◌, ◌&&◌, not, if◌then◌else◌, option_map}
+-- In a log that isn't refused each event has its place, and a connection that isn't decided has few events.
+use Rattle.std.proofs.Common.{◌≡◌, ℕ, ◌+◌, ◌<◌, ◌≤◌, Bool, true, false, cond, nat_lt, List, [], ◌∷◌, ◌++◌, length, map, reverse, Option, Some, None, is_some, refl, sym, ◌∙◌, ap, subst, arith, length-append}
+use Rattle.std.specs.Prelude.{nat_le, ◌||◌, ◌&&◌, not, if◌then◌else◌, option_map}
 use Rattle.std.proofs.lemmas.List.{reverse-append, reverse-reverse, length-map}
-use Rattle.std.proofs.lemmas.Bool.{ltb-true, ltb-false, le-ltb}
+use Rattle.std.proofs.lemmas.Bool.{ltb-true, ltb-false, le-ltb, leb-false}
 use Rattle.std.specs.Option.{option_or}
 use Rattle.mq_packet.specs.declared.packet.AcknowledgementKind.TheVariants as acknowledgements
 use Rattle.mq_packet.specs.declared.packet.RequestKind.TheVariants as requests
@@ -13,23 +13,24 @@ use Rattle.mq_trace.specs.declared.kind.Direction.TheVariants as directions
 use Rattle.mq_trace.specs.declared.refusal.Refusal.{Refusal}
 use Rattle.mq_trace.specs.declared.header.Header.{Header}
 use Rattle.mq_trace.specs.Framing.{header_by}
-use Rattle.mq_trace.specs.Events.{Event, Placed, event_in, events, packet, bad, lost, opened, closed, sent, received}
-use Rattle.mq_trace.specs.Connections.{begins_connection, ends_connection, is_connack_type, is_session_type, is_answer, needs_answer, has_open_connection, is_connack_seen as trace_connack_seen}
-use Rattle.mq_trace.specs.Refusals.{Situation, first_that_applies, conditions, header_refusal, record_refusal, refusal_at, refused, is_early}
-use Rattle.mq_trace.specs.Context.{Context, context, situated, so_far_for, refusal_for, event_for, placed_with, placed_for, put}
-use Rattle.mq_trace.proofs.Exports.{refused-grow, refusal-kept, events-kept, events-header, header-unchanged, at_context}
+use Rattle.mq_trace.specs.Events.{Event, Placed, part_at, packet_at, event_in, event_at, events, packet, bad, lost, opened, closed, sent, received}
+use Rattle.mq_trace.specs.Connections.{begins_connection, ends_connection, is_connack_type, is_answer, has_open_connection, is_connack_seen as trace_connack_seen, events_on_connection, most_early_events}
+use Rattle.mq_trace.specs.Refusals.{Situation, situation, first_that_applies, conditions, header_refusal, record_refusal, refusal_at, refused, comes_too_early}
+use Rattle.mq_trace.specs.Context.{Context, context, event_for, placed_with, placed_for, put}
+use Rattle.mq_trace.proofs.Exports.{refused-grow, event-kept, events-kept, events-header, header-unchanged}
 use Rattle.mq_rules.specs.declared.role.Role.{Role}
+use Rattle.mq_rules.specs.declared.fate.Fate.{Fate}
 use Rattle.mq_rules.specs.declared.fate.Fate.TheVariants.{Void}
 use Rattle.mq_rules.specs.declared.note.Note.{Note}
 use Rattle.mq_rules.specs.declared.note.Seen.{Seen}
 use Rattle.mq_rules.specs.declared.packet_note.PacketFields.{PacketFields}
 use Rattle.mq_rules.specs.declared.packet_note.PacketFields.TheVariants.{Connack}
 use Rattle.mq_rules.specs.declared.packet_note.ConnackNote.{ConnackNote}
-use Rattle.mq_rules.specs.Notes.{tested_as, tested_by, note_of, seen, seen_in, packet_fields, fields_type, connack_in, connack_of, is_open, is_close, fate_by, decides, needs_session}
-use Rattle.mq_rules.specs.Moments.{note, moments, since, IsPlaced}
-use Rattle.mq_rules.specs.Connections.{latest_fate, is_connected, IsInOrder}
+use Rattle.mq_rules.specs.Notes.{tested_as, tested_by, note_of, seen, seen_in, packet_fields, fields_type, connack_in, connack_of, is_open, is_close, fate_by, decides}
+use Rattle.mq_rules.specs.Moments.{Moment, newest, note, moments, since, IsPlaced}
+use Rattle.mq_rules.specs.Connections.{connection, latest_fate, is_connected}
 use Rattle.mq_rules.proofs.BoolLaws.{option_or-there, option_or-other}
-use Rattle.mq_rules.proofs.FateLaws.{latest_fate-next, closed-decided, open-decides}
+use Rattle.mq_rules.proofs.FateLaws.{connection-next, latest_fate-next, closed-decided, close-decides, open-decides}
 
 -- ---- what the log's reader knows of an event is what the statements look at of it
 
@@ -69,20 +70,6 @@ answer-noted false releases (received (bad bytes rule at)) = refl
 answer-noted false releases (received lost) = refl
 answer-noted false releases _ = refl
 
-or_false : (b : Bool) → b ≡ (b || false)
-or_false true = refl
-or_false false = refl
-
--- a session packet or a RELEASE
-needs-noted : (e : Event) → needs_answer e ≡ needs_session (note_of e)
-needs-noted (sent (packet size entry)) = ap is_session_type (type-noted directions.Sent entry) ∙ or_false (is_session_type (fields_type (packet_fields directions.Sent entry)))
-needs-noted (sent (bad bytes rule at)) = refl
-needs-noted (sent lost) = refl
-needs-noted (received (packet size entry)) = ap is_session_type (type-noted directions.Recv entry)
-needs-noted (received (bad bytes rule at)) = refl
-needs-noted (received lost) = refl
-needs-noted _ = refl
-
 begins-noted : (e : Event) → begins_connection e ≡ is_open (note_of e)
 begins-noted opened = refl
 begins-noted _ = refl
@@ -109,6 +96,19 @@ connack_seen-noted header (e ∷ past) =
     ap (λ b. b || (not (begins_connection e.event) && trace_connack_seen header.server past)) (answer-noted header.server header.releases e.event)
     ∙ ap (λ b. is_some (connack_of (role_of header) (note_of e.event)) || (not b && trace_connack_seen header.server past)) (begins-noted e.event)
     ∙ ap (λ b. is_some (connack_of (role_of header) (note_of e.event)) || (not (is_open (note_of e.event)) && b)) (connack_seen-noted header past)
+
+-- the events on the latest connection
+on_connection-noted : (log : List Placed) → events_on_connection log ≡ length (connection (map seen log))
+on_connection-noted [] = refl
+on_connection-noted (e ∷ past) =
+    ap (λ b. if b then 1 else events_on_connection past + 1) (begins-noted e.event)
+    ∙ ap (λ n. if is_open (note_of e.event) then 1 else n + 1) (on_connection-noted past)
+    ∙ one_more (is_open (note_of e.event))
+    ∙ sym (ap (length {A = Moment}) (connection-next (seen e) (map seen past)))
+  where
+    one_more : (b : Bool) → (if b then 1 else length (connection (map seen past)) + 1) ≡ length (cond b (newest (seen e) (map seen past) ∷ []) (newest (seen e) (map seen past) ∷ connection (map seen past)))
+    one_more true = refl
+    one_more false = omega arith
 
 -- ---- what its CONNACK decides is decided
 
@@ -157,7 +157,7 @@ none_applies (line ∷ lines) h = go (none_applies lines) line.0 line.1 refl h
     go others true r is e = absurd (cc)
     go others false r is e = (is, others e)
 
-not-early : (limit : ℕ) (s : Situation) → record_refusal limit s ≡ None → is_early s (event_in s.part s.so_far) ≡ false
+not-early : (limit : ℕ) (s : Situation) → record_refusal limit s ≡ None → comes_too_early s (event_in s.part s.so_far) ≡ false
 unfolding record_refusal
 not-early limit s h = (none_applies (conditions limit s) h).1.1.1.1.1.1.1.0
 
@@ -169,23 +169,36 @@ unrefused-grow limit log byte h = go (refused limit log) (refusal_at limit log b
     go None b e = (refl, e)
     go (Some r) b e = absurd (cc)
 
--- the event that the next byte completes is not early
-unrefused-event : (limit : ℕ) (c : Context) (byte : ℕ) (event : Event) → 8 ≤ c.at → refusal_for limit c byte ≡ None → event_for c byte ≡ Some event
-    → (needs_session (note_of event) && (c.connected && not c.connack_seen)) ≡ false
-unfolding refusal_for event_for situated
-unrefused-event limit c byte event long unrefused is =
-    let after_header : nat_lt c.at 8 ≡ false = le-ltb c.at 8 long in
-    let unrefused : record_refusal limit (situated c byte) ≡ None =
-    sym (ap (λ b. if b then header_refusal c.at byte else record_refusal limit (situated c byte)) after_header) ∙ unrefused in
-    let here : event_in (c.part ++ byte ∷ []) (so_far_for c byte) ≡ Some event =
-    sym (ap (λ b. if b then None else event_in (c.part ++ byte ∷ []) (so_far_for c byte)) after_header) ∙ is in
-    ap (λ b. b && (c.connected && not c.connack_seen)) (sym (needs-noted event)) ∙ ap (is_early (situated c byte)) (sym here) ∙ not-early limit (situated c byte) unrefused
+-- one event more comes too early, by what was noted of it and of those before it
+abbrev is_one_too_many : (connected connack_seen : Bool) (count : ℕ) (ends answers : Bool) → Bool
+is_one_too_many connected connack_seen count ends answers = (connected && (not connack_seen && nat_le most_early_events count)) && not (ends || answers)
+
+-- the event that the next byte completes doesn't come too early
+unrefused-event : (limit : ℕ) (log : List ℕ) (byte : ℕ) (event : Event) → 8 ≤ length log → refusal_at limit log byte ≡ None → event_for (context log) byte ≡ Some event
+    → is_one_too_many (is_connected (seen_in log)) (is_connack_seen (tested_by log).role (seen_in log)) (length (connection (seen_in log))) (is_close (note_of event)) (is_some (connack_of (tested_by log).role (note_of event))) ≡ false
+unfolding refusal_at event_at situation seen_in
+unrefused-event limit log byte event long unrefused is =
+    let header = header_by log in
+    let log_seen = map seen (events log) in
+    let connected = has_open_connection (events log) in
+    let connack_seen = trace_connack_seen header.server (events log) in
+    let count = events_on_connection (events log) in
+    let closes = is_close (note_of event) in
+    let answers = is_some (connack_of (role_of header) (note_of event)) in
+    let after_header : nat_lt (length log) 8 ≡ false = le-ltb (length log) 8 long in
+    let none : record_refusal limit (situation log byte) ≡ None =
+    sym (ap (λ b. if b then header_refusal (length log) byte else record_refusal limit (situation log byte)) after_header) ∙ unrefused in
+    let here : event_in (part_at log byte) (packet_at log byte) ≡ Some event =
+    sym (ap (λ b. if b then None else event_in (part_at log byte) (packet_at log byte)) after_header) ∙ event-kept log byte ∙ is in
+    ap (λ b. is_one_too_many b (is_connack_seen (role_of header) log_seen) (length (connection log_seen)) closes answers) (sym (connected-noted (events log)))
+    ∙ ap (λ b. is_one_too_many connected b (length (connection log_seen)) closes answers) (sym (connack_seen-noted header (events log)))
+    ∙ ap (λ n. is_one_too_many connected connack_seen n closes answers) (sym (on_connection-noted (events log)))
+    ∙ ap (λ b. is_one_too_many connected connack_seen count b answers) (sym (ends-noted event))
+    ∙ ap (λ b. is_one_too_many connected connack_seen count (ends_connection event) b) (sym (answer-noted header.server header.releases event))
+    ∙ ap (comes_too_early (situation log byte)) (sym here)
+    ∙ not-early limit (situation log byte) none
 
 -- ---- what is kept of a log
-
-connack_seen_context : (log : List ℕ) → (context log).connack_seen ≡ is_connack_seen (tested_by log).role (seen_in log)
-unfolding context seen_in
-connack_seen_context log = connack_seen-noted (header_by log) (events log)
 
 pub connected_context : (log : List ℕ) → (context log).connected ≡ is_connected (seen_in log)
 unfolding context seen_in
@@ -212,42 +225,57 @@ pub seen-header : (log : List ℕ) → length log ≤ 8 → seen_in log ≡ []
 unfolding seen_in
 seen-header log h = ap (map seen) (events-header log h)
 
--- ---- order
+-- ---- places, and how many events an undecided connection has
 
 pub record IsOrderly (role : Role) (log : List Seen) : Type 0 where
   pub placed : IsPlaced log
-  pub in_order : IsInOrder role log
+  pub few : latest_fate role log ≡ None → length (connection log) ≤ most_early_events
 
 orderly_nothing : (role : Role) (log : List Seen) → log ≡ [] → IsOrderly role log
-orderly_nothing role log e = subst (IsOrderly role) (sym e) (record { placed = tt; in_order = tt })
+orderly_nothing role log e = subst (IsOrderly role) (sym e) (record { placed = tt; few = λ none. omega arith })
 
--- where the latest connection is closed or has its CONNACK, it is decided
-settle : (role : Role) (log : List Seen) (needs : Bool) → (needs && (is_connected log && not (is_connack_seen role log))) ≡ false → needs ≡ true → is_some (latest_fate role log) ≡ true
-settle role log needs early h = go needs (is_connected log) (is_connack_seen role log) early h (closed-decided role log) (connack_seen-decided role log)
+-- where an event doesn't come too early, its connection has few events with it, or is decided
+few-next : (role : Role) (e : Seen) (past : List Seen)
+    → is_one_too_many (is_connected past) (is_connack_seen role past) (length (connection past)) (is_close e.note) (is_some (connack_of role e.note)) ≡ false
+    → latest_fate role (e ∷ past) ≡ None → length (connection (e ∷ past)) ≤ most_early_events
+few-next role e past in_time none =
+    subst (λ (ms : List Moment). length ms ≤ most_early_events) (sym (connection-next e past)) (go (is_open e.note) (sym (latest_fate-next role e past) ∙ none))
   where
-    go : (needs connected connack_seen : Bool) → (needs && (connected && not connack_seen)) ≡ false → needs ≡ true → (connected ≡ false → is_some (latest_fate role log) ≡ true)
-        → (connack_seen ≡ true → is_some (latest_fate role log) ≡ true) → is_some (latest_fate role log) ≡ true
-    go needs false connack_seen early h over came = over refl
-    go needs true true early h over came = came refl
-    go true true false early h over came = absurd (cc)
-    go false true false early h over came = absurd (cc)
+    both_none : (a b : Option Fate) → option_or a b ≡ None → (a ≡ None) × (b ≡ None)
+    both_none None b h = (refl, h)
+    both_none (Some f) b h = absurd (cc)
+
+    room : (connected connack_seen full closes answers : Bool) → ((connected && (not connack_seen && full)) && not (closes || answers)) ≡ false
+        → (connected ≡ false → ⊥) → (connack_seen ≡ true → ⊥) → (closes ≡ true → ⊥) → (answers ≡ true → ⊥) → full ≡ false
+    room false connack_seen full closes answers h open_yet unseen goes_on unanswered = absurd (open_yet refl)
+    room true true full closes answers h open_yet unseen goes_on unanswered = absurd (unseen refl)
+    room true false full true answers h open_yet unseen goes_on unanswered = absurd (goes_on refl)
+    room true false full false true h open_yet unseen goes_on unanswered = absurd (unanswered refl)
+    room true false true false false h open_yet unseen goes_on unanswered = absurd (cc)
+    room true false false false false h open_yet unseen goes_on unanswered = refl
+
+    go : (opens : Bool) → cond opens None (option_or (latest_fate role past) (decides role e.note)) ≡ None
+        → length (cond opens (newest e past ∷ []) (newest e past ∷ connection past)) ≤ most_early_events
+    go true h = omega arith
+    go false h =
+        let undecided = both_none (latest_fate role past) (decides role e.note) h in
+        let full : nat_le most_early_events (length (connection past)) ≡ false =
+        room (is_connected past) (is_connack_seen role past) (nat_le most_early_events (length (connection past))) (is_close e.note) (is_some (connack_of role e.note)) in_time
+        (λ closed. (let some = closed-decided role past closed in let never = undecided.0 in cc))
+        (λ answered. (let some = connack_seen-decided role past answered in let never = undecided.0 in cc))
+        (λ closes. (let some = close-decides role e.note closes in let never = undecided.1 in cc))
+        (λ answers. (let some = connack-decides role e.note answers in let never = undecided.1 in cc)) in
+        let few : length (connection past) < most_early_events = leb-false most_early_events (length (connection past)) full in
+        omega arith
 
 orderly_put : (limit : ℕ) (log : List ℕ) (byte : ℕ) (o : Option Event) → 8 ≤ length log → refusal_at limit log byte ≡ None → event_for (context log) byte ≡ o
     → IsOrderly (tested_by log).role (seen_in log) → IsOrderly (tested_by log).role (seen_with (context log) o (seen_in log))
 orderly_put limit log byte None long unrefused is before = before
-orderly_put limit log byte (Some event) long unrefused is before =
-    let at : 8 ≤ (context log).at = subst (λ (n : ℕ). 8 ≤ n) (sym (at_context log)) long in
-    let fits = unrefused-event limit (context log) byte event at (sym (refusal-kept limit log byte) ∙ unrefused) is in
-    record {
-      placed = (ap (λ n. n + 1) (events_context log), before.placed);
-      in_order = (
-        settle (tested_by log).role (seen_in log) (needs_session (note_of event))
-            (ap (λ b. needs_session (note_of event) && (b && not (is_connack_seen (tested_by log).role (seen_in log)))) (sym (connected_context log))
-            ∙ ap (λ b. needs_session (note_of event) && ((context log).connected && not b)) (sym (connack_seen_context log))
-            ∙ fits),
-        before.in_order,
-      );
-    }
+orderly_put limit log byte (Some event) long unrefused is before = record {
+  placed = (ap (λ n. n + 1) (events_context log), before.placed);
+  few = few-next (tested_by log).role (record { place = record { position = (context log).events + 1; record_no = (context log).records + 1 }; note = note_of event }) (seen_in log)
+      (unrefused-event limit log byte event long unrefused is);
+}
 
 orderly_step : (limit : ℕ) (log : List ℕ) (byte : ℕ) (b : Bool) → nat_lt (length log) 8 ≡ b → refusal_at limit log byte ≡ None
     → IsOrderly (tested_by log).role (seen_in log) → IsOrderly (tested_by (log ++ byte ∷ [])).role (seen_in (log ++ byte ∷ []))
@@ -262,7 +290,7 @@ orderly_step limit log byte false is unrefused before =
     (subst (IsOrderly (tested_by log).role) (sym (seen-kept log byte))
     (orderly_put limit log byte (event_for (context log) byte) long unrefused refl before))
 
--- a log that isn't refused is in order
+-- a log that isn't refused is like this
 pub orderly : (limit : ℕ) (bytes : List ℕ) → refused limit bytes ≡ None → IsOrderly (tested_by bytes).role (seen_in bytes)
 orderly limit bytes =
     along (λ log. refused limit log ≡ None → IsOrderly (tested_by log).role (seen_in log))

@@ -156,7 +156,8 @@ pub record IsAlive (role : Role) (c : ℕ) (log : List Seen) : Type 0 where
 
 -- ---- order
 
--- The latest connection is decided before each session packet and each RELEASE. Every log that isn't refused is like this.
+-- The latest connection is decided before each session packet and each RELEASE: those of a connection come after its CONNACK. A client may send them before it, so a log that isn't
+-- refused needn't be like this; in one that is, each statement on sessions but those that a REST shows is judged at its own event.
 abbrev pub IsInOrder : Role → List Seen → Type 0
 IsInOrder role [] = Unit {0}
 IsInOrder role (e ∷ past) = (needs_session e.note ≡ true → is_some (latest_fate role past) ≡ true) × IsInOrder role past

@@ -57,8 +57,7 @@ pub use role::{Role, Tested};
 pub use rule::Rule;
 pub use session_laws::{
     alive_by_connections, connection_goes_on, event_decides_its_connection, fate_stays,
-    fold_goes_on, session_by_positions, since_goes_on, unrefused_logs_are_in_order,
-    words_are_folds,
+    fold_goes_on, session_by_positions, since_goes_on, unrefused_logs_are_orderly, words_are_folds,
 };
 pub use shapes::Shapes;
 pub use statement_laws::{first_rest_decides, in_flight_by_a_counter};

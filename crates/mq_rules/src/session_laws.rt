@@ -1,5 +1,5 @@
 //! Laws of connections, fates, sessions and order, each proved as the contract of a function that does nothing.
-ghost use Rattle.std.specs.Prelude.{◌≡◌, ◌<◌, ◌==◌, ◌∷◌, ◌++◌, ◌↔◌, [], ℕ, List, Option, Some, None, cond, is_some, Bool, true, false, ◌&&◌, not};
+ghost use Rattle.std.specs.Prelude.{◌≡◌, ◌<◌, ◌≤◌, ◌==◌, ◌∷◌, ◌++◌, ◌↔◌, [], ℕ, List, length, Option, Some, None, cond, is_some, Bool, true, false, ◌&&◌, not};
 ghost use Rattle.std.specs.Option.{option_or};
 ghost use Rattle.mq_trace.specs.Refusals.{refused};
 ghost use Rattle.mq_rules.specs.declared.role.Role.{Role};
@@ -56,11 +56,11 @@ pub fn alive_by_connections()
     ensures { (role : Role) (c : ℕ) (log : List Seen) → (is_alive_after role c log ≡ true) ↔ IsAlive role c log }
 {}
 
-/// In a log that isn't refused the place of each event has its position, the latest connection is decided before each session packet and each
-/// RELEASE, each connection is decided before the next one begins, and nothing is sent or received, no REST and no CLOSE comes, but on an open connection.
-pub fn unrefused_logs_are_in_order()
+/// In a log that isn't refused the place of each event has its position, a connection that isn't decided has at most 4,096 events, each connection is decided
+/// before the next one begins, and nothing is sent or received, no REST and no CLOSE comes, but on an open connection.
+pub fn unrefused_logs_are_orderly()
     ensures placed { (limit : ℕ) (bytes : List ℕ) → refused limit bytes ≡ None → IsPlaced (seen_in bytes) }
-    ensures in_order { (limit : ℕ) (bytes : List ℕ) → refused limit bytes ≡ None → IsInOrder (tested_by bytes).role (seen_in bytes) }
+    ensures few { (limit : ℕ) (bytes : List ℕ) → refused limit bytes ≡ None → latest_fate (tested_by bytes).role (seen_in bytes) ≡ None → length (connection (seen_in bytes)) ≤ 4096 }
     ensures in_turn { (limit : ℕ) (bytes : List ℕ) → refused limit bytes ≡ None → IsInTurn (tested_by bytes).role (seen_in bytes) }
     ensures on_connections { (limit : ℕ) (bytes : List ℕ) → refused limit bytes ≡ None → AreOnConnections (seen_in bytes) }
 {}

@@ -43,6 +43,18 @@ connected_after_bytes : (context : BodyContext) (f : Flow) (bytes : List ℕ) �
 connected_after_bytes context f [] = refl
 connected_after_bytes context f (byte ∷ bytes) = connected_after_bytes context (flow_after context f byte) bytes ∙ connected_after context f byte
 
+before_with : (context : BodyContext) (f : Flow) (event : Option Event) → (flow_with context f event).before_open ≡ f.before_open
+before_with context f None = refl
+before_with context f (Some event) = refl
+
+before_after : (context : BodyContext) (f : Flow) (byte : ℕ) → (flow_after context f byte).before_open ≡ f.before_open
+unfolding flow_after
+before_after context f byte = before_with context _ (flow_event context f byte)
+
+before_after_bytes : (context : BodyContext) (f : Flow) (bytes : List ℕ) → (flow_after_bytes context f bytes).before_open ≡ f.before_open
+before_after_bytes context f [] = refl
+before_after_bytes context f (byte ∷ bytes) = before_after_bytes context (flow_after context f byte) bytes ∙ before_after context f byte
+
 limit_same : (r : Reading) (direction : Direction) (d : Deframer) → (redirected r direction d).limit ≡ r.limit
 limit_same r directions.Sent d = refl
 limit_same r directions.Recv d = refl
@@ -51,12 +63,14 @@ place_same : (r : Reading) (direction : Direction) (d : Deframer) → (redirecte
 place_same r directions.Sent d = refl
 place_same r directions.Recv d = refl
 
-flowed_context : (r : Reading) (direction : Direction) (part bytes : List ℕ) (d : Deframer) (connections : Connections) (at left : ℕ) → connections.connected ≡ r.connections.connected
+flowed_context : (r : Reading) (direction : Direction) (part bytes : List ℕ) (d : Deframer) (connections : Connections) (at left : ℕ) → connections.connected ≡ r.connections.connected → connections.before_open ≡ r.connections.before_open
     → flowed (context_of r part) direction (left == 0) (flow_of at (state_in d) connections) bytes ≡ context_of (carried_on r direction at d connections left) (cond (left == 0) [] (part ++ bytes))
-flowed_context r directions.Sent part bytes d connections at left same =
-    ap (λ b. record (context_of (carried_on r directions.Sent at d connections left) (cond (left == 0) [] (part ++ bytes))) { connected = b }) (sym same)
-flowed_context r directions.Recv part bytes d connections at left same =
-    ap (λ b. record (context_of (carried_on r directions.Recv at d connections left) (cond (left == 0) [] (part ++ bytes))) { connected = b }) (sym same)
+flowed_context r directions.Sent part bytes d connections at left same before =
+    ap (λ b. record (context_of (carried_on r directions.Sent at d connections left) (cond (left == 0) [] (part ++ bytes))) { connected = b; before_open = r.connections.before_open }) (sym same)
+    ∙ ap (λ n. record (context_of (carried_on r directions.Sent at d connections left) (cond (left == 0) [] (part ++ bytes))) { before_open = n }) (sym before)
+flowed_context r directions.Recv part bytes d connections at left same before =
+    ap (λ b. record (context_of (carried_on r directions.Recv at d connections left) (cond (left == 0) [] (part ++ bytes))) { connected = b; before_open = r.connections.before_open }) (sym same)
+    ∙ ap (λ n. record (context_of (carried_on r directions.Recv at d connections left) (cond (left == 0) [] (part ++ bytes))) { before_open = n }) (sym before)
 
 redirected_sound : (r : Reading) (direction : Direction) (d : Deframer) (connections : Connections) (at left : ℕ) → at ≤ 8 + 1048581 * r.records + (1048581 - left) → left ≤ 1048576 → 8 ≤ at → r.records < 4294967295
     → IsUnfinished r.limit (state_in r.sent) → IsUnfinished r.limit (state_in r.recv) → IsUnfinished r.limit (state_in d) → IsSound (carried_on r direction at d connections left)
@@ -160,7 +174,8 @@ module _ (r : Reading) (direction : Direction) (left : ℕ) (sound : IsSound r) 
       body_refused part bytes is short ∙ none,
       body_kept part bytes is short
           ∙ ap (λ f. flowed (context_of r part) direction (left - length bytes == 0) f bytes) kept
-          ∙ flowed_context r direction part bytes d connections at (left - length bytes) (sym (ap (λ (f : Flow). f.connected) kept) ∙ connected_after_bytes (context_for r direction) (flow_for r direction) bytes),
+          ∙ flowed_context r direction part bytes d connections at (left - length bytes) (sym (ap (λ (f : Flow). f.connected) kept) ∙ connected_after_bytes (context_for r direction) (flow_for r direction) bytes)
+          (sym (ap (λ (f : Flow). f.before_open) kept) ∙ before_after_bytes (context_for r direction) (flow_for r direction) bytes),
       body_events part bytes is short,
     );
   }

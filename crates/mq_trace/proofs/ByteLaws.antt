@@ -1,19 +1,15 @@
 -- What the next byte of a direction comes to, which may belong to a fixed header.
 use Rattle.std.proofs.Common.{◌≡◌, ℕ, ◌+◌, ◌<◌, ◌≤◌, inl, inr, Bool, true, false, List, [], ◌∷◌, ◌++◌, length, Option, Some, None, Result, Ok, Err, refl, sym, ◌∙◌, ap, subst, arith, length-append}
-use Rattle.std.specs.Prelude.{◌==◌, nat_le, OnOk, IfErr}
+use Rattle.std.specs.Prelude.{◌==◌, OnOk, IfErr}
 use Rattle.std.proofs.lemmas.Bool.{eqb-true}
 use Rattle.mq_packet.specs.declared.header.FixedHeader.{FixedHeader}
 use Rattle.mq_packet.specs.declared.header.FixedHeader.TheVariants as headers
 use Rattle.mq_packet.specs.Stream.{fixed_header_of, is_lost}
 use Rattle.mq_packet.proofs.Exports.{whole_stays, header_lost, frame_from_header, ends_header}
-use Rattle.mq_trace.specs.declared.kind.Direction.{Direction}
-use Rattle.mq_trace.specs.declared.kind.Direction.TheVariants as directions
 use Rattle.mq_trace.specs.declared.refusal.Refusal.{Refusal}
-use Rattle.mq_trace.specs.declared.refusal.Refusal.TheVariants as refusals
 use Rattle.mq_trace.specs.declared.connections.Connections.{Connections}
 use Rattle.mq_trace.specs.declared.deframer.BodyContext.{BodyContext as ContextInMemory}
 use Rattle.mq_trace.specs.Events.{Placed, lost}
-use Rattle.mq_trace.specs.Refusals.{first_that_applies}
 use Rattle.mq_trace.specs.Context.{StreamState, so_far_in, put}
 use Rattle.mq_trace.specs.Reception.{AreEvents}
 use Rattle.mq_trace.specs.Emission.{event_refusal, connections_with, next_placed, RefusedBySink, NotEmitted}
@@ -83,16 +79,11 @@ module _ {S : Type 0} (agrees : S → List Placed → Type 0) (declines : S → 
   lost_events : is_lost (u ++ byte ∷ []) ≡ true → flow_events (body_context context) before (byte ∷ []) ≡ next_placed c context.record_no (item_event context.direction lost) ∷ []
   lost_events l = ap (λ (o : Option Placed). put o []) (loses-placed (body_context context) before u byte refl l)
 
-  -- What is lost isn't early.
-  lost_met : is_lost (u ++ byte ∷ []) ≡ true → flow_refused limit (body_context context) before (byte ∷ []) ≡ event_refusal at c (item_event context.direction lost)
-  lost_met l = refused-one limit (body_context context) before byte ∙ loses-refusal limit (body_context context) before u byte refl l ∙ sym (in_time context.direction)
-    where
-      in_time : (direction : Direction) → event_refusal at c (item_event direction lost) ≡ first_that_applies ((nat_le 4294967295 c.events, refusals.TooLong at) ∷ [])
-      in_time directions.Sent = refl
-      in_time directions.Recv = refl
+  lost_met : is_lost (u ++ byte ∷ []) ≡ true → flow_refused limit (body_context context) before (byte ∷ []) ≡ event_refusal at context.server c (item_event context.direction lost)
+  lost_met l = refused-one limit (body_context context) before byte ∙ loses-refusal limit (body_context context) before u byte refl l
 
   pub lost_comes : {A : Type 0} (r : Result A Refusal) (c' : Connections) (old new : S) → fixed_header_of (u ++ byte ∷ []) ≡ headers.Lost
-      → OnOk r ((event_refusal at c (item_event context.direction lost) ≡ None) × (c' ≡ connections_with context.server c (item_event context.direction lost)))
+      → OnOk r ((event_refusal at context.server c (item_event context.direction lost) ≡ None) × (c' ≡ connections_with context.server c (item_event context.direction lost)))
       → ((earlier : List Placed) → agrees old earlier → AreEvents (next_placed c context.record_no (item_event context.direction lost) ∷ earlier) → OnOk r (agrees new (next_placed c context.record_no (item_event context.direction lost) ∷ earlier)))
       → OnOk r (FlowComes agrees limit (body_context context) before (flow_of (at + 1) lost_state c') (byte ∷ []) old new)
   lost_comes (Err refusal) c' old new gone ok emitted = tt
@@ -107,7 +98,7 @@ module _ {S : Type 0} (agrees : S → List Placed → Type 0) (declines : S → 
       })
 
   pub lost_stops : {A : Type 0} (r : Result A Refusal) (old new : S) → fixed_header_of (u ++ byte ∷ []) ≡ headers.Lost
-      → IfErr r (λ refusal. NotEmitted declines at (event_refusal at c (item_event context.direction lost)) (next_placed c context.record_no (item_event context.direction lost) ∷ []) old new refusal)
+      → IfErr r (λ refusal. NotEmitted declines at (event_refusal at context.server c (item_event context.direction lost)) (next_placed c context.record_no (item_event context.direction lost) ∷ []) old new refusal)
       → IfErr r (λ refusal. FlowStops declines limit (body_context context) before (byte ∷ []) old new refusal)
   lost_stops (Ok x) old new gone unemitted = tt
   lost_stops (Err refusal) old new gone unemitted =
@@ -124,8 +115,8 @@ module _ {S : Type 0} (agrees : S → List Placed → Type 0) (declines : S → 
             (why_by (so_far_in (going_on u) byte) (flow_refused limit (body_context context) before (byte ∷ [])) (flow_events (body_context context) before (byte ∷ [])) (lost_met l) (lost_events l) unemitted);
       })
     where
-      why_by : (so_far : List ℕ) (met : Option Refusal) (completed : List Placed) → met ≡ event_refusal at c (item_event context.direction lost) → completed ≡ next_placed c context.record_no (item_event context.direction lost) ∷ []
-          → NotEmitted declines at (event_refusal at c (item_event context.direction lost)) (next_placed c context.record_no (item_event context.direction lost) ∷ []) old new refusal → FlowWhy declines at so_far met completed old new refusal
+      why_by : (so_far : List ℕ) (met : Option Refusal) (completed : List Placed) → met ≡ event_refusal at context.server c (item_event context.direction lost) → completed ≡ next_placed c context.record_no (item_event context.direction lost) ∷ []
+          → NotEmitted declines at (event_refusal at context.server c (item_event context.direction lost)) (next_placed c context.record_no (item_event context.direction lost) ∷ []) old new refusal → FlowWhy declines at so_far met completed old new refusal
       why_by so_far met completed same one (inl x) = inl (same ∙ x.0, x.1)
       why_by so_far met completed same one (inr x) = inr (inr (same ∙ x.0, ap length one, subst (λ (l : List Placed). RefusedBySink declines at l old new refusal) (sym one) x.1))
 

@@ -11,7 +11,7 @@ use Rattle.mq_trace.specs.declared.header.Header.{Header}
 use Rattle.mq_trace.specs.Pieces.{Pieces}
 use Rattle.mq_trace.specs.Framing.{header_by, kind_of, direction_of, begun_records, carried, records, record_size}
 use Rattle.mq_trace.specs.Events.{Event, Placed, newest_record, part_at, packet_at, packet_by, event_in, event_at, with_event, events_back, events}
-use Rattle.mq_trace.specs.Connections.{has_open_connection, is_connack_seen}
+use Rattle.mq_trace.specs.Connections.{begins_connection, has_open_connection, is_connack_seen, events_on_connection, events_before_open}
 use Rattle.mq_trace.specs.Refusals.{Situation, situation, header_refusal, record_refusal, refusal_at, refused_back, refused}
 use Rattle.mq_trace.specs.Context.{StreamState, Context, fresh, state_of, state_then, so_far_by, so_far_for, context, situated, refusal_for, event_for, placed_with, placed_for, put, with_completed, after_header, after_part, after}
 use Rattle.mq_trace.proofs.FramingLaws.{records-header, begun-header, begun-grow, length-begun-grow, whole-grow, rest-grow}
@@ -89,11 +89,31 @@ situated_with log part record_no so_far = record {
   events = length (events log);
   connected = has_open_connection (events log);
   connack_seen = is_connack_seen (header_by log).server (events log);
+  on_connection = events_on_connection (events log);
 }
+
+-- The events on the latest connection are those that don't come before its OPEN.
+before_within : (log : List Placed) → events_before_open log ≤ length log
+before_within [] = omega arith
+before_within (e ∷ past) = by (begins_connection e.event) (before_within past)
+  where
+    by : (b : Bool) → events_before_open past ≤ length past → (if b then length past else events_before_open past) ≤ length (e ∷ past)
+    by true within = omega arith
+    by false within = omega arith
+
+on_connection : (log : List Placed) → events_on_connection log ≡ length log - events_before_open log
+on_connection [] = refl
+on_connection (e ∷ past) = by (begins_connection e.event) (before_within past) (on_connection past)
+  where
+    by : (b : Bool) → events_before_open past ≤ length past → events_on_connection past ≡ length past - events_before_open past
+        → (if b then 1 else events_on_connection past + 1) ≡ length (e ∷ past) - (if b then length past else events_before_open past)
+    by true within rest = omega arith
+    by false within rest = omega arith
 
 situated_context : (log : List ℕ) (byte : ℕ) → situated_with log ((context log).part ++ byte ∷ []) (length (records log).whole + 1) (so_far_for (context log) byte) ≡ situated (context log) byte
 unfolding situated context
-situated_context log byte = refl
+situated_context log byte =
+    ap (λ n. record (situated_with log ((context log).part ++ byte ∷ []) (length (records log).whole + 1) (so_far_for (context log) byte)) { on_connection = n }) (on_connection (events log))
 
 pub situation-kept : (log : List ℕ) (byte : ℕ) → 8 ≤ length log → situation log byte ≡ situated (context log) byte
 unfolding situation
@@ -120,7 +140,7 @@ pub events-more : (log : List ℕ) (byte : ℕ) → events (log ++ byte ∷ []) 
 events-more log byte =
     events-grow log byte ∙ ap (λ o. with_event (length (begun_records (log ++ byte ∷ []))) o (events log)) (event-kept log byte)
 
--- a context from its parts, of which the events give the last three
+-- a context from its parts, of which the events give the last four
 abbrev context_with : ℕ → Header → List ℕ → ℕ → StreamState → StreamState → List Placed → Context
 context_with at header part whole sent recv log = record {
   at = at;
@@ -132,6 +152,7 @@ context_with at header part whole sent recv log = record {
   events = length log;
   connected = has_open_connection log;
   connack_seen = is_connack_seen header.server log;
+  before_open = events_before_open log;
 }
 
 pub context_is : (log : List ℕ) → context log ≡ context_with (length log) (header_by log) (records log).rest (length (records log).whole)

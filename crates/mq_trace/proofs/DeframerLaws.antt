@@ -31,7 +31,7 @@ abbrev pub going_on : List ℕ → StreamState
 going_on unfinished = record { unfinished = unfinished; lost = false }
 
 -- an item that goes either way neither begins nor ends a connection
-with_item : (server : Bool) (c : Connections) (direction : Direction) (item : Item) → connections_with server c (item_event direction item) ≡ record { events = c.events + 1; connected = c.connected; connack_seen = is_answer server (item_event direction item) || c.connack_seen }
+with_item : (server : Bool) (c : Connections) (direction : Direction) (item : Item) → connections_with server c (item_event direction item) ≡ record { events = c.events + 1; connected = c.connected; connack_seen = is_answer server (item_event direction item) || c.connack_seen; before_open = c.before_open }
 with_item server c directions.Sent item = refl
 with_item server c directions.Recv item = refl
 
@@ -56,9 +56,9 @@ no_item direction None e = refl
 no_item direction (Some item) e = absurd (cc)
 
 -- a frame that is no item is met by a refusal
-pub met_none : (at : ℕ) (f : Flow) (direction : Direction) (frame : List ℕ) → frame_event direction frame ≡ None → frame_refusal at f direction frame ≡ Some (refusals.OtherVersion at)
-met_none at f direction frame e =
-    (let other : is_other_version (read_frame frame) ≡ true = met_other frame (no_item direction (item_read frame (read_frame frame)) e) in
+pub met_none : (at : ℕ) (context : BodyContext) (f : Flow) (frame : List ℕ) → frame_event context.direction frame ≡ None → frame_refusal at context f frame ≡ Some (refusals.OtherVersion at)
+met_none at context f frame e =
+    (let other : is_other_version (read_frame frame) ≡ true = met_other frame (no_item context.direction (item_read frame (read_frame frame)) e) in
     rw (other) refl)
 
 -- A packet with one byte more isn't whole, and not known to be larger than the limit.
@@ -200,7 +200,7 @@ stops_over declines limit context f byte sink open_yet over =
 module _ {S : Type 0} (agrees : S → List Placed → Type 0) (declines : S → S → List Placed → Refusal → Type 0) (limit : ℕ) (context : ContextInMemory) (at last : ℕ) (c : Connections) (u bytes : List ℕ)
     (whole : frame_size (u ++ bytes) ≡ Some (length (u ++ bytes))) (some : 0 < length bytes) (is_last : last + 1 ≡ at + length bytes) (within : length (u ++ bytes) ≤ limit) where
   -- The bytes that complete a packet come to what emitting it comes to ..
-  pub completes : (c' : Connections) (old new : S) → frame_refusal last (flow_of last (going_on []) c) context.direction (u ++ bytes) ≡ None
+  pub completes : (c' : Connections) (old new : S) → frame_refusal last (body_context context) (flow_of last (going_on []) c) (u ++ bytes) ≡ None
       → c' ≡ connections_then context.server c (frame_event context.direction (u ++ bytes))
       → ((earlier : List Placed) → agrees old earlier → AreEvents (put (flow_placed_with (body_context context) (flow_of last (going_on []) c) (frame_event context.direction (u ++ bytes))) earlier)
       → agrees new (put (flow_placed_with (body_context context) (flow_of last (going_on []) c) (frame_event context.direction (u ++ bytes))) earlier))
@@ -220,7 +220,7 @@ module _ {S : Type 0} (agrees : S → List Placed → Type 0) (declines : S → 
 
   -- .. and stop where emitting it stops: at the last of them.
   pub stops_by : HasLast bytes → (old new : S) (refusal : Refusal)
-      → NotEmitted declines last (frame_refusal last (flow_of last (going_on []) c) context.direction (u ++ bytes)) (put (flow_placed_with (body_context context) (flow_of last (going_on []) c) (frame_event context.direction (u ++ bytes))) []) old new refusal
+      → NotEmitted declines last (frame_refusal last (body_context context) (flow_of last (going_on []) c) (u ++ bytes)) (put (flow_placed_with (body_context context) (flow_of last (going_on []) c) (frame_event context.direction (u ++ bytes))) []) old new refusal
       → FlowStops declines limit (body_context context) (flow_of at (going_on u) c) bytes old new refusal
   stops_by cut old new refusal unemitted =
       (let f : Flow = flow_of at (going_on u) c in
@@ -233,7 +233,7 @@ module _ {S : Type 0} (agrees : S → List Placed → Type 0) (declines : S → 
       = until_last (body_context context) f u cut.before cut.byte refl found.0 (length (u ++ bytes)) known (ap length frame) limit (inl within) in
       let more : length bytes ≡ length cut.before + 1 = ap length joined ∙ length-append cut.before (cut.byte ∷ []) in
       let here : last ≡ at + length cut.before = omega arith in
-      let met : flow_refused limit (body_context context) f (cut.before ++ cut.byte ∷ []) ≡ frame_refusal last (flow_of last (going_on []) c) context.direction (u ++ bytes)
+      let met : flow_refused limit (body_context context) f (cut.before ++ cut.byte ∷ []) ≡ frame_refusal last (body_context context) (flow_of last (going_on []) c) (u ++ bytes)
       = ap (flow_refused limit (body_context context) f) (sym joined) ∙ complete-refused-within limit (body_context context) f u bytes last refl whole some is_last within in
       let completed : flow_events (body_context context) f (cut.before ++ cut.byte ∷ []) ≡ put (flow_placed_with (body_context context) f (frame_event context.direction (u ++ bytes))) []
       = ap (flow_events (body_context context) f) (sym joined) ∙ complete-events-frame (body_context context) f u bytes refl whole some in
@@ -251,20 +251,20 @@ module _ {S : Type 0} (agrees : S → List Placed → Type 0) (declines : S → 
       })
     where
       -- what isn't met is an item, and is received
-      one_completed : (event : Option Event) → frame_event context.direction (u ++ bytes) ≡ event → frame_refusal last (flow_of last (going_on []) c) context.direction (u ++ bytes) ≡ None
+      one_completed : (event : Option Event) → frame_event context.direction (u ++ bytes) ≡ event → frame_refusal last (body_context context) (flow_of last (going_on []) c) (u ++ bytes) ≡ None
           → length (put (flow_placed_with (body_context context) (flow_of last (going_on []) c) (frame_event context.direction (u ++ bytes))) []) ≡ 1
-      one_completed None e none = let some : frame_refusal last (flow_of last (going_on []) c) context.direction (u ++ bytes) ≡ Some (refusals.OtherVersion last) = met_none last (flow_of last (going_on []) c) context.direction (u ++ bytes) e in absurd (cc)
+      one_completed None e none = let some : frame_refusal last (body_context context) (flow_of last (going_on []) c) (u ++ bytes) ≡ Some (refusals.OtherVersion last) = met_none last (body_context context) (flow_of last (going_on []) c) (u ++ bytes) e in absurd (cc)
       one_completed (Some event) e none = ap (λ (o : Option Event). length (put (flow_placed_with (body_context context) (flow_of last (going_on []) c) o) [])) e
 
-      why_by : (so_far : List ℕ) (met : Option Refusal) (completed : List Placed) → met ≡ frame_refusal last (flow_of last (going_on []) c) context.direction (u ++ bytes)
+      why_by : (so_far : List ℕ) (met : Option Refusal) (completed : List Placed) → met ≡ frame_refusal last (body_context context) (flow_of last (going_on []) c) (u ++ bytes)
           → completed ≡ (put (flow_placed_with (body_context context) (flow_of last (going_on []) c) (frame_event context.direction (u ++ bytes))) []) → (old new : S) (refusal : Refusal)
-          → NotEmitted declines last (frame_refusal last (flow_of last (going_on []) c) context.direction (u ++ bytes)) (put (flow_placed_with (body_context context) (flow_of last (going_on []) c) (frame_event context.direction (u ++ bytes))) []) old new refusal
+          → NotEmitted declines last (frame_refusal last (body_context context) (flow_of last (going_on []) c) (u ++ bytes)) (put (flow_placed_with (body_context context) (flow_of last (going_on []) c) (frame_event context.direction (u ++ bytes))) []) old new refusal
           → FlowWhy declines last so_far met completed old new refusal
       why_by so_far met completed same one old new refusal (inl x) = inl (same ∙ x.0, x.1)
       why_by so_far met completed same one old new refusal (inr x) =
           inr (inr (same ∙ x.0, ap length one ∙ one_completed (frame_event context.direction (u ++ bytes)) refl x.0, subst (λ (l : List Placed). RefusedBySink declines last l old new refusal) (sym one) x.1))
 
-  pub comes_of : {A : Type 0} (r : Result A Refusal) (c' : Connections) (old new : S) → OnOk r (frame_refusal last (flow_of last (going_on []) c) context.direction (u ++ bytes) ≡ None)
+  pub comes_of : {A : Type 0} (r : Result A Refusal) (c' : Connections) (old new : S) → OnOk r (frame_refusal last (body_context context) (flow_of last (going_on []) c) (u ++ bytes) ≡ None)
       → OnOk r (c' ≡ connections_then context.server c (frame_event context.direction (u ++ bytes)))
       → ((earlier : List Placed) → agrees old earlier → AreEvents (put (flow_placed_with (body_context context) (flow_of last (going_on []) c) (frame_event context.direction (u ++ bytes))) earlier)
       → OnOk r (agrees new (put (flow_placed_with (body_context context) (flow_of last (going_on []) c) (frame_event context.direction (u ++ bytes))) earlier)))
@@ -272,7 +272,7 @@ module _ {S : Type 0} (agrees : S → List Placed → Type 0) (declines : S → 
   comes_of (Ok x) c' old new met kept emitted = completes c' old new met kept emitted
   comes_of (Err refusal) c' old new met kept emitted = tt
 
-  pub stops_of : {A : Type 0} (r : Result A Refusal) (old new : S) → IfErr r (λ refusal. NotEmitted declines last (frame_refusal last (flow_of last (going_on []) c) context.direction (u ++ bytes)) (put (flow_placed_with (body_context context) (flow_of last (going_on []) c) (frame_event context.direction (u ++ bytes))) []) old new refusal)
+  pub stops_of : {A : Type 0} (r : Result A Refusal) (old new : S) → IfErr r (λ refusal. NotEmitted declines last (frame_refusal last (body_context context) (flow_of last (going_on []) c) (u ++ bytes)) (put (flow_placed_with (body_context context) (flow_of last (going_on []) c) (frame_event context.direction (u ++ bytes))) []) old new refusal)
       → IfErr r (λ refusal. FlowStops declines limit (body_context context) (flow_of at (going_on u) c) bytes old new refusal)
   stops_of (Ok x) old new unemitted = tt
   stops_of (Err refusal) old new unemitted = stops_by (has_last bytes some) old new refusal unemitted
@@ -280,23 +280,23 @@ module _ {S : Type 0} (agrees : S → List Placed → Type 0) (declines : S → 
 -- The same for a packet whose bytes in memory are these.
 module _ {S : Type 0} (agrees : S → List Placed → Type 0) (declines : S → S → List Placed → Refusal → Type 0) (limit : ℕ) (context : ContextInMemory) (at last : ℕ) (c : Connections) (u bytes frame : List ℕ)
     (is : frame ≡ u ++ bytes) (whole : frame_size (u ++ bytes) ≡ Some (length (u ++ bytes))) (some : 0 < length bytes) (is_last : last + 1 ≡ at + length bytes) (within : length (u ++ bytes) ≤ limit) where
-  pub ended : {A : Type 0} (r : Result A Refusal) (c' : Connections) (old new : S) → OnOk r (frame_refusal last (flow_of last (going_on []) c) context.direction frame ≡ None)
+  pub ended : {A : Type 0} (r : Result A Refusal) (c' : Connections) (old new : S) → OnOk r (frame_refusal last (body_context context) (flow_of last (going_on []) c) frame ≡ None)
       → OnOk r (c' ≡ connections_then context.server c (frame_event context.direction frame))
       → ((earlier : List Placed) → agrees old earlier → AreEvents (put (flow_placed_with (body_context context) (flow_of last (going_on []) c) (frame_event context.direction frame)) earlier)
       → OnOk r (agrees new (put (flow_placed_with (body_context context) (flow_of last (going_on []) c) (frame_event context.direction frame)) earlier)))
       → OnOk r (FlowComes agrees limit (body_context context) (flow_of at (going_on u) c) (flow_of (at + length bytes) (going_on []) c') bytes old new)
   ended {A} r c' old new =
-      (let P : List ℕ → Type 0 = λ t. OnOk r (frame_refusal last (flow_of last (going_on []) c) context.direction t ≡ None)
+      (let P : List ℕ → Type 0 = λ t. OnOk r (frame_refusal last (body_context context) (flow_of last (going_on []) c) t ≡ None)
       → OnOk r (c' ≡ connections_then context.server c (frame_event context.direction t))
       → ((earlier : List Placed) → agrees old earlier → AreEvents (put (flow_placed_with (body_context context) (flow_of last (going_on []) c) (frame_event context.direction t)) earlier)
       → OnOk r (agrees new (put (flow_placed_with (body_context context) (flow_of last (going_on []) c) (frame_event context.direction t)) earlier)))
       → OnOk r (FlowComes agrees limit (body_context context) (flow_of at (going_on u) c) (flow_of (at + length bytes) (going_on []) c') bytes old new) in
       subst P (sym is) (comes_of agrees declines limit context at last c u bytes whole some is_last within r c' old new))
 
-  pub ended_stops : {A : Type 0} (r : Result A Refusal) (old new : S) → IfErr r (λ refusal. NotEmitted declines last (frame_refusal last (flow_of last (going_on []) c) context.direction frame) (put (flow_placed_with (body_context context) (flow_of last (going_on []) c) (frame_event context.direction frame)) []) old new refusal)
+  pub ended_stops : {A : Type 0} (r : Result A Refusal) (old new : S) → IfErr r (λ refusal. NotEmitted declines last (frame_refusal last (body_context context) (flow_of last (going_on []) c) frame) (put (flow_placed_with (body_context context) (flow_of last (going_on []) c) (frame_event context.direction frame)) []) old new refusal)
       → IfErr r (λ refusal. FlowStops declines limit (body_context context) (flow_of at (going_on u) c) bytes old new refusal)
   ended_stops {A} r old new =
-      (let P : List ℕ → Type 0 = λ t. IfErr r (λ refusal. NotEmitted declines last (frame_refusal last (flow_of last (going_on []) c) context.direction t) (put (flow_placed_with (body_context context) (flow_of last (going_on []) c) (frame_event context.direction t)) []) old new refusal)
+      (let P : List ℕ → Type 0 = λ t. IfErr r (λ refusal. NotEmitted declines last (frame_refusal last (body_context context) (flow_of last (going_on []) c) t) (put (flow_placed_with (body_context context) (flow_of last (going_on []) c) (frame_event context.direction t)) []) old new refusal)
       → IfErr r (λ refusal. FlowStops declines limit (body_context context) (flow_of at (going_on u) c) bytes old new refusal) in
       subst P (sym is) (stops_of agrees declines limit context at last c u bytes whole some is_last within r old new))
 

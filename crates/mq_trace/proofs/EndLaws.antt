@@ -12,7 +12,8 @@ use Rattle.mq_trace.specs.declared.refusal.Refusal.TheVariants as refusals
 use Rattle.mq_trace.specs.declared.connections.Connections.{Connections}
 use Rattle.mq_trace.specs.declared.reading.Reading.{Reading}
 use Rattle.mq_trace.specs.Framing.{kind_of, direction_of, body_length}
-use Rattle.mq_trace.specs.Events.{Event, opened, closed, rested, released, event_of_head}
+use Rattle.mq_trace.specs.Events.{Event, released, event_of_head}
+use Rattle.mq_trace.specs.Connections.{is_too_early}
 use Rattle.mq_trace.specs.Refusals.{first_that_applies, allows_length}
 use Rattle.mq_trace.specs.Context.{Context, refusal_for, event_for, placed_for, put, after, with_completed}
 use Rattle.mq_trace.specs.Emission.{event_refusal, next_placed}
@@ -24,11 +25,11 @@ use Rattle.mq_trace.proofs.StageLaws.{one_step, begun_some, head_after, head_roo
 
 -- What a step that completes an event does with each part: what it meets, what is received, and what is kept.
 abbrev pub CompletesEvent : Reading → ℕ → Event → Type 0
-CompletesEvent r b event = (part : List ℕ) → IsAt r.stage part → (refusal_for r.limit (context_of r part) b ≡ event_refusal r.at r.connections event)
+CompletesEvent r b event = (part : List ℕ) → IsAt r.stage part → (refusal_for r.limit (context_of r part) b ≡ event_refusal r.at r.header.server r.connections event)
     × (placed_for (context_of r part) b ≡ Some (next_placed r.connections (r.records + 1) event))
     × (after (context_of r part) b ≡ context_of (marked r event) [])
 
-pub emits_advances : (r : Reading) (b : ℕ) (event : Event) → CompletesEvent r b event → event_refusal r.at r.connections event ≡ None
+pub emits_advances : (r : Reading) (b : ℕ) (event : Event) → CompletesEvent r b event → event_refusal r.at r.header.server r.connections event ≡ None
     → Advances r (marked r event) (b ∷ []) (next_placed r.connections (r.records + 1) event ∷ [])
 emits_advances r b event emits met = one_step r (marked r event) b (next_placed r.connections (r.records + 1) event ∷ []) refl (λ part at. (
     let emitted = emits part at in
@@ -64,16 +65,18 @@ no_body kinds.Release event number e allowed = absurd (cc)
 no_body kinds.Sent event number e allowed = absurd (cc)
 no_body kinds.Recv event number e allowed = absurd (cc)
 
-abbrev head_refusal : RecordKind → ℕ → Connections → Option Refusal
-head_refusal kind at c = first_that_applies ((is_some (event_of_head kind) && nat_le 4294967295 c.events, refusals.TooLong at) ∷ [])
+-- the refusal of the event that a head completes, if it completes one
+abbrev completed_refusal : Option Event → ℕ → Bool → Connections → Option Refusal
+completed_refusal o at server c = first_that_applies (
+    (is_too_early server c.connected c.connack_seen (c.events - c.before_open) o, refusals.TooManyEarly at)
+    ∷ (is_some o && nat_le 4294967295 c.events, refusals.TooLong at)
+    ∷ [])
 
-head_meets : (kind : RecordKind) (event : Event) (at : ℕ) (c : Connections) → event_of_head kind ≡ Some event → head_refusal kind at c ≡ event_refusal at c event
-head_meets kinds.Open event at c e = ap (event_refusal at c) (let same : opened ≡ event = cc in same)
-head_meets kinds.Close event at c e = ap (event_refusal at c) (let same : closed ≡ event = cc in same)
-head_meets kinds.Rest event at c e = ap (event_refusal at c) (let same : rested ≡ event = cc in same)
-head_meets kinds.Release event at c e = absurd (cc)
-head_meets kinds.Sent event at c e = absurd (cc)
-head_meets kinds.Recv event at c e = absurd (cc)
+abbrev head_refusal : RecordKind → ℕ → Bool → Connections → Option Refusal
+head_refusal kind at server c = completed_refusal (event_of_head kind) at server c
+
+head_meets : (kind : RecordKind) (event : Event) (at : ℕ) (server : Bool) (c : Connections) → event_of_head kind ≡ Some event → head_refusal kind at server c ≡ event_refusal at server c event
+head_meets kind event at server c e = ap (λ o. completed_refusal o at server c) e
 
 -- the last byte of a record's head
 module _ (r : Reading) (kind : RecordKind) (number b : ℕ) (sound : IsSound r) (staged : r.stage ≡ stages.Head kind 3 number) where
@@ -92,10 +95,10 @@ module _ (r : Reading) (kind : RecordKind) (number b : ℕ) (sound : IsSound r) 
   ended_kind part at = (head_is r kind 3 number sound staged part at).3
 
   ended_refusal : (part : List ℕ) → IsAt r.stage part → refusal_for r.limit (context_of r part) b
-      ≡ cond (not (allows_length (Some kind) emitted)) (Some (refusals.Length r.at)) (head_refusal kind r.at r.connections)
+      ≡ cond (not (allows_length (Some kind) emitted)) (Some (refusals.Length r.at)) (head_refusal kind r.at r.header.server r.connections)
   ended_refusal part at =
       fifth_refusal r.limit (context_of r part) b kind (head_after r kind 3 number sound staged) (ended_four part at) (ended_kind part at)
-      ∙ ap (λ m. cond (not (allows_length (Some kind) m)) (Some (refusals.Length r.at)) (head_refusal kind r.at r.connections)) (ended_length part at)
+      ∙ ap (λ m. cond (not (allows_length (Some kind) m)) (Some (refusals.Length r.at)) (head_refusal kind r.at r.header.server r.connections)) (ended_length part at)
 
   ended_event : (part : List ℕ) → IsAt r.stage part → event_for (context_of r part) b ≡ event_of_head kind
   ended_event part at = fifth_event (context_of r part) b kind (head_after r kind 3 number sound staged) (ended_four part at) (ended_kind part at)
@@ -112,21 +115,21 @@ module _ (r : Reading) (kind : RecordKind) (number b : ℕ) (sound : IsSound r) 
       ∙ ap (λ m. with_completed (kept m) (event_for c b)) (ended_length part at)
       ∙ ap (with_completed (kept emitted)) (ended_event part at)
 
-  allowed_refusal : allows_length (Some kind) emitted ≡ true → (part : List ℕ) → IsAt r.stage part → refusal_for r.limit (context_of r part) b ≡ head_refusal kind r.at r.connections
+  allowed_refusal : allows_length (Some kind) emitted ≡ true → (part : List ℕ) → IsAt r.stage part → refusal_for r.limit (context_of r part) b ≡ head_refusal kind r.at r.header.server r.connections
   allowed_refusal allowed part at =
-      ended_refusal part at ∙ ap (λ t. cond (not t) (Some (refusals.Length r.at)) (head_refusal kind r.at r.connections)) allowed
+      ended_refusal part at ∙ ap (λ t. cond (not t) (Some (refusals.Length r.at)) (head_refusal kind r.at r.header.server r.connections)) allowed
 
   -- A length that the kind doesn't allow.
   pub length_refused : allows_length (Some kind) emitted ≡ false → (part : List ℕ) → IsAt r.stage part → refusal_for r.limit (context_of r part) b ≡ Some (refusals.Length r.at)
   length_refused barred part at =
-      ended_refusal part at ∙ ap (λ t. cond (not t) (Some (refusals.Length r.at)) (head_refusal kind r.at r.connections)) barred
+      ended_refusal part at ∙ ap (λ t. cond (not t) (Some (refusals.Length r.at)) (head_refusal kind r.at r.header.server r.connections)) barred
 
   -- A record that is its head alone.
   pub mark_emits : (event : Event) → event_of_head kind ≡ Some event → allows_length (Some kind) emitted ≡ true → CompletesEvent r b event
   mark_emits event is allowed part at =
       let c = context_of r part in
       let none = no_body kind event emitted is allowed in (
-        allowed_refusal allowed part at ∙ head_meets kind event r.at r.connections is,
+        allowed_refusal allowed part at ∙ head_meets kind event r.at r.header.server r.connections is,
         placed_some c b event (ended_event part at ∙ is),
         ended_after part at
             ∙ ap (λ m. with_completed (record c { at = r.at + 1; part = cond (m == 0) [] (part ++ b ∷ []); records = cond (m == 0) (r.records + 1) r.records }) (event_of_head kind)) none
@@ -135,7 +138,7 @@ module _ (r : Reading) (kind : RecordKind) (number b : ℕ) (sound : IsSound r) 
 
   quiet_refusal : event_of_head kind ≡ None → allows_length (Some kind) emitted ≡ true → (part : List ℕ) → IsAt r.stage part → refusal_for r.limit (context_of r part) b ≡ None
   quiet_refusal is allowed part at =
-      allowed_refusal allowed part at ∙ ap (λ (o : Option Event). first_that_applies ((is_some o && nat_le 4294967295 r.connections.events, refusals.TooLong r.at) ∷ [])) is
+      allowed_refusal allowed part at ∙ ap (λ (o : Option Event). completed_refusal o r.at r.header.server r.connections) is
 
   quiet_after : event_of_head kind ≡ None → (part : List ℕ) → IsAt r.stage part → after (context_of r part) b ≡ record (context_of r part) {
     at = r.at + 1;

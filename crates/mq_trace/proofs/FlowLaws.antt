@@ -8,14 +8,12 @@ use Rattle.mq_packet.specs.declared.header.FixedHeader.{FixedHeader}
 use Rattle.mq_packet.specs.declared.header.FixedHeader.TheVariants as headers
 use Rattle.mq_packet.specs.Stream.{fixed_header_of, frame_size, is_lost}
 use Rattle.mq_packet.proofs.Exports.{whole_stays, lost_stays, short_before, lost_header, lost_no_frame, short_no_frame, no_frame_yet, frame_from_header, header_from_frame, frame_stood}
-use Rattle.mq_trace.specs.declared.kind.Direction.{Direction}
-use Rattle.mq_trace.specs.declared.kind.Direction.TheVariants as directions
 use Rattle.mq_trace.specs.declared.refusal.Refusal.{Refusal}
 use Rattle.mq_trace.specs.declared.refusal.Refusal.TheVariants as refusals
 use Rattle.mq_trace.specs.Events.{lost, Item, Event, item_at, item_read, read_frame}
 use Rattle.mq_trace.specs.Refusals.{first_that_applies, is_too_large, is_other_version}
 use Rattle.mq_trace.specs.Context.{StreamState, so_far_in, state_after, put}
-use Rattle.mq_trace.specs.Flows.{BodyContext, Flow, item_event, comes_early, flow_event, flow_refusal, flow_placed, flow_placed_with, flow_with, flow_after, flow_after_bytes, flow_refused, flow_events}
+use Rattle.mq_trace.specs.Flows.{BodyContext, Flow, item_event, flows_too_early, flow_event, flow_refusal, flow_placed, flow_placed_with, flow_with, flow_after, flow_after_bytes, flow_refused, flow_events}
 
 -- Any two parts of some bytes give what the bytes leave after them, refuse and complete.
 pub flow_after_bytes-append : (context : BodyContext) (f : Flow) (a b : List ℕ) → flow_after_bytes context f (a ++ b) ≡ flow_after_bytes context (flow_after_bytes context f a) b
@@ -39,11 +37,11 @@ events-append context f (byte ∷ a) b =
     ∙ append_assoc (flow_events context (flow_after_bytes context (flow_after context f byte) a) b) (flow_events context (flow_after context f byte) a) (put (flow_placed context f byte) [])
 
 -- the refusal of a byte, from its packet so far and its event
-abbrev refusal_with : ℕ → Flow → List ℕ → Option Event → Option Refusal
-refusal_with limit f so_far event = first_that_applies (
+abbrev refusal_with : ℕ → BodyContext → Flow → List ℕ → Option Event → Option Refusal
+refusal_with limit context f so_far event = first_that_applies (
     (is_too_large limit so_far (fixed_header_of so_far), refusals.TooLarge f.at)
     ∷ (is_some (frame_size so_far) && is_other_version (read_frame so_far), refusals.OtherVersion f.at)
-    ∷ (comes_early f event, refusals.Early f.at)
+    ∷ (flows_too_early context f event, refusals.TooManyEarly f.at)
     ∷ (is_some event && nat_le 4294967295 f.events, refusals.TooLong f.at)
     ∷ [])
 
@@ -52,9 +50,9 @@ unfolding flow_event
 event_is context f byte so_far item e i = ap (λ t. option_map (item_event context.direction) (item_at t)) e ∙ ap (option_map (item_event context.direction)) i
 
 refusal_is : (limit : ℕ) (context : BodyContext) (f : Flow) (byte : ℕ) (so_far : List ℕ) (event : Option Event) → so_far_in f.state byte ≡ so_far → flow_event context f byte ≡ event
-    → flow_refusal limit context f byte ≡ refusal_with limit f so_far event
+    → flow_refusal limit context f byte ≡ refusal_with limit context f so_far event
 unfolding flow_refusal
-refusal_is limit context f byte so_far event e i = ap (λ t. refusal_with limit f t (flow_event context f byte)) e ∙ ap (refusal_with limit f so_far) i
+refusal_is limit context f byte so_far event e i = ap (λ t. refusal_with limit context f t (flow_event context f byte)) e ∙ ap (refusal_with limit context f so_far) i
 
 after_is : (context : BodyContext) (f : Flow) (byte : ℕ) (state : StreamState) (event : Option Event) → state_after f.state byte ≡ state → flow_event context f byte ≡ event
     → flow_after context f byte ≡ flow_with context (record f { at = f.at + 1; state = state }) event
@@ -97,9 +95,9 @@ pub nothing_item : item_at [] ≡ None
 unfolding item_at is_lost frame_size fixed_header_of
 nothing_item = refl
 
-nothing_refused : (limit : ℕ) (f : Flow) → refusal_with limit f [] None ≡ None
+nothing_refused : (limit : ℕ) (context : BodyContext) (f : Flow) → refusal_with limit context f [] None ≡ None
 unfolding fixed_header_of frame_size
-nothing_refused limit f = refl
+nothing_refused limit context f = refl
 
 lost_after : (state : StreamState) (byte : ℕ) → state.lost ≡ true → state_after state byte ≡ state
 unfolding state_after
@@ -111,7 +109,7 @@ lost_byte limit context f byte e =
     let nothing : so_far_in f.state byte ≡ [] = ap (λ lost. cond lost [] (f.state.unfinished ++ byte ∷ [])) e in
     let none : flow_event context f byte ≡ None = event_is context f byte [] None nothing nothing_item in
     record {
-      refused = refusal_is limit context f byte [] None nothing none ∙ nothing_refused limit f;
+      refused = refusal_is limit context f byte [] None nothing none ∙ nothing_refused limit context f;
       placed = placed_is context f byte None none;
       after_bytes = after_is context f byte f.state None (lost_after f.state byte e) none;
     }
@@ -149,8 +147,8 @@ state_by_front u byte l size e s =
     ap (λ b. cond {A = StreamState} b (record { unfinished = []; lost = true }) (cond (is_some (frame_size (u ++ byte ∷ []))) (going_on []) (going_on (u ++ byte ∷ [])))) e
     ∙ ap (λ o. cond {A = StreamState} l (record { unfinished = []; lost = true }) (cond (is_some o) (going_on []) (going_on (u ++ byte ∷ [])))) s
 
-open_refused : (limit : ℕ) (f : Flow) (so_far : List ℕ) → frame_size so_far ≡ None → is_too_large limit so_far (fixed_header_of so_far) ≡ false → refusal_with limit f so_far None ≡ None
-open_refused limit f so_far s large = rw (s, large) refl
+open_refused : (limit : ℕ) (context : BodyContext) (f : Flow) (so_far : List ℕ) → frame_size so_far ≡ None → is_too_large limit so_far (fixed_header_of so_far) ≡ false → refusal_with limit context f so_far None ≡ None
+open_refused limit context f so_far s large = rw (s, large) refl
 
 open_byte : (limit : ℕ) (context : BodyContext) (f : Flow) (u : List ℕ) (byte : ℕ) → f.state ≡ going_on u
     → is_lost (u ++ byte ∷ []) ≡ false → frame_size (u ++ byte ∷ []) ≡ None → is_too_large limit (u ++ byte ∷ []) (fixed_header_of (u ++ byte ∷ [])) ≡ false
@@ -159,7 +157,7 @@ open_byte limit context f u byte e l s large =
     let so_far : so_far_in f.state byte ≡ u ++ byte ∷ [] = ap (λ state. so_far_in state byte) e in
     let none : flow_event context f byte ≡ None = event_is context f byte (u ++ byte ∷ []) None so_far (item_by (u ++ byte ∷ []) false None l s) in
     record {
-      refused = refusal_is limit context f byte (u ++ byte ∷ []) None so_far none ∙ open_refused limit f (u ++ byte ∷ []) s large;
+      refused = refusal_is limit context f byte (u ++ byte ∷ []) None so_far none ∙ open_refused limit context f (u ++ byte ∷ []) s large;
       placed = placed_is context f byte None none;
       after_bytes = after_is context f byte (going_on (u ++ byte ∷ [])) None (ap (λ state. state_after state byte) e ∙ state_by_front u byte false None l s) none;
     }
@@ -276,20 +274,19 @@ lost_event : (context : BodyContext) (f : Flow) (u : List ℕ) (byte : ℕ) → 
 lost_event context f u byte e l =
     event_is context f byte (u ++ byte ∷ []) (Some lost) (ap (λ state. so_far_in state byte) e) (item_by (u ++ byte ∷ []) true None l (lost_no_frame (u ++ byte ∷ []) l))
 
-lost_in_time : (direction : Direction) (f : Flow) → comes_early f (Some (item_event direction lost)) ≡ false
-lost_in_time directions.Sent f = refl
-lost_in_time directions.Recv f = refl
-
 -- Where it turns out with a byte that its packet has no size, the direction is lost.
 pub loses-event : (context : BodyContext) (f : Flow) (u : List ℕ) (byte : ℕ) → f.state ≡ record { unfinished = u; lost = false } → is_lost (u ++ byte ∷ []) ≡ true
     → flow_event context f byte ≡ Some (item_event context.direction lost)
 loses-event context f u byte e l = lost_event context f u byte e l
 
 pub loses-refusal : (limit : ℕ) (context : BodyContext) (f : Flow) (u : List ℕ) (byte : ℕ) → f.state ≡ record { unfinished = u; lost = false } → is_lost (u ++ byte ∷ []) ≡ true
-    → flow_refusal limit context f byte ≡ first_that_applies ((nat_le 4294967295 f.events, refusals.TooLong f.at) ∷ [])
+    → flow_refusal limit context f byte ≡ first_that_applies (
+    (flows_too_early context f (Some (item_event context.direction lost)), refusals.TooManyEarly f.at)
+    ∷ (nat_le 4294967295 f.events, refusals.TooLong f.at)
+    ∷ [])
 loses-refusal limit context f u byte e l =
     refusal_is limit context f byte (u ++ byte ∷ []) (Some (item_event context.direction lost)) (ap (λ state. so_far_in state byte) e) (lost_event context f u byte e l)
-    ∙ rw (lost_header (u ++ byte ∷ []) l, lost_no_frame (u ++ byte ∷ []) l, lost_in_time context.direction f) refl
+    ∙ rw (lost_header (u ++ byte ∷ []) l, lost_no_frame (u ++ byte ∷ []) l) refl
 
 pub loses-after : (context : BodyContext) (f : Flow) (u : List ℕ) (byte : ℕ) → f.state ≡ record { unfinished = u; lost = false } → is_lost (u ++ byte ∷ []) ≡ true
     → flow_after context f byte ≡ flow_with context (record f { at = f.at + 1; state = record { unfinished = []; lost = true } }) (Some (item_event context.direction lost))
@@ -331,10 +328,10 @@ abbrev frame_event : BodyContext → List ℕ → Option Event
 frame_event context frame = option_map (item_event context.direction) (item_read frame (read_frame frame))
 
 -- the lines for a byte that completes a packet
-abbrev frame_lines : Flow → List ℕ → Option Event → ℕ → Option Refusal
-frame_lines f frame event at = first_that_applies (
+abbrev frame_lines : BodyContext → Flow → List ℕ → Option Event → ℕ → Option Refusal
+frame_lines context f frame event at = first_that_applies (
     (is_other_version (read_frame frame), refusals.OtherVersion at)
-    ∷ (comes_early f event, refusals.Early at)
+    ∷ (flows_too_early context f event, refusals.TooManyEarly at)
     ∷ (is_some event && nat_le 4294967295 f.events, refusals.TooLong at)
     ∷ [])
 
@@ -358,7 +355,7 @@ module _ (context : BodyContext) (f : Flow) (t : List ℕ) (byte : ℕ) (e : f.s
       (ap (λ state. state_after state byte) e ∙ state_by_front t byte false (Some (length (t ++ byte ∷ []))) last_lost whole) last_event
 
   last_refusal : (limit header size : ℕ) → fixed_header_of (t ++ byte ∷ []) ≡ headers.Whole header size → (size ≤ limit) ⊎ (header ≤ length t)
-      → flow_refusal limit context f byte ≡ frame_lines f (t ++ byte ∷ []) (frame_event context (t ++ byte ∷ [])) f.at
+      → flow_refusal limit context f byte ≡ frame_lines context f (t ++ byte ∷ []) (frame_event context (t ++ byte ∷ [])) f.at
   last_refusal limit header size known may =
       let fits : is_too_large limit (t ++ byte ∷ []) (fixed_header_of (t ++ byte ∷ [])) ≡ false = ap (is_too_large limit (t ++ byte ∷ [])) known ∙ small limit t byte header size may in
       refusal_is limit context f byte (t ++ byte ∷ []) (frame_event context (t ++ byte ∷ [])) (ap (λ state. so_far_in state byte) e) last_event
@@ -388,12 +385,8 @@ module _ (context : BodyContext) (f : Flow) (u p : List ℕ) (byte : ℕ) (e : f
   still limit (inl within) = inl within
   still limit (inr before) = inr (let longer : length (u ++ p) ≡ length u + length p = length-append u p in omega arith)
 
-  same_early : (event : Option Event) → comes_early before event ≡ comes_early f event
-  same_early None = refl
-  same_early (Some event) = refl
-
   all_refused : (limit : ℕ) → (size ≤ limit) ⊎ (header ≤ length u)
-      → flow_refused limit context f (p ++ byte ∷ []) ≡ frame_lines f ((u ++ p) ++ byte ∷ []) (frame_event context ((u ++ p) ++ byte ∷ [])) (f.at + length p)
+      → flow_refused limit context f (p ++ byte ∷ []) ≡ frame_lines context f ((u ++ p) ++ byte ∷ []) (frame_event context ((u ++ p) ++ byte ∷ [])) (f.at + length p)
   all_refused limit may =
       let quiet : IsQuiet limit context f p (going_on (u ++ p)) = until_last limit may in
       refused-append limit context f p (byte ∷ [])
@@ -401,11 +394,6 @@ module _ (context : BodyContext) (f : Flow) (u p : List ℕ) (byte : ℕ) (e : f
       ∙ ap (λ g. flow_refused limit context g (byte ∷ [])) quiet.after_bytes
       ∙ refused-one limit context before byte
       ∙ last_refusal context before (u ++ p) byte refl last_whole limit header size known (still limit may)
-      ∙ ap (λ early. first_that_applies (
-      (is_other_version (read_frame ((u ++ p) ++ byte ∷ [])), refusals.OtherVersion (f.at + length p))
-      ∷ (early, refusals.Early (f.at + length p))
-      ∷ (is_some (frame_event context ((u ++ p) ++ byte ∷ [])) && nat_le 4294967295 f.events, refusals.TooLong (f.at + length p))
-      ∷ [])) (same_early (frame_event context ((u ++ p) ++ byte ∷ [])))
 
   same_place : (event : Option Event) → flow_placed_with context before event ≡ flow_placed_with context f event
   same_place None = refl
@@ -457,7 +445,7 @@ pub complete-refused : (limit : ℕ) (context : BodyContext) (f : Flow) (u bytes
     → fixed_header_of (u ++ bytes) ≡ headers.Whole header size → size ≡ length (u ++ bytes) → 0 < length bytes → at + 1 ≡ f.at + length bytes → (size ≤ limit) ⊎ (header ≤ length u)
     → flow_refused limit context f bytes ≡ first_that_applies (
     (is_other_version (read_frame (u ++ bytes)), refusals.OtherVersion at)
-    ∷ (comes_early f (option_map (item_event context.direction) (item_read (u ++ bytes) (read_frame (u ++ bytes)))), refusals.Early at)
+    ∷ (flows_too_early context f (option_map (item_event context.direction) (item_read (u ++ bytes) (read_frame (u ++ bytes)))), refusals.TooManyEarly at)
     ∷ (is_some (option_map (item_event context.direction) (item_read (u ++ bytes) (read_frame (u ++ bytes)))) && nat_le 4294967295 f.events, refusals.TooLong at)
     ∷ [])
 complete-refused limit context f u bytes header size at e known all some last may =
@@ -467,8 +455,8 @@ complete-refused limit context f u bytes header size at e known all some last ma
     let place : f.at + length cut.before ≡ at = omega arith in
     ap (flow_refused limit context f) cut.joined
     ∙ all_refused context f u cut.before cut.byte e header size (ap fixed_header_of frame ∙ known) (all ∙ ap length (sym frame)) limit may
-    ∙ ap (λ t. frame_lines f t (frame_event context t) (f.at + length cut.before)) frame
-    ∙ ap (frame_lines f (u ++ bytes) (frame_event context (u ++ bytes))) place
+    ∙ ap (λ t. frame_lines context f t (frame_event context t) (f.at + length cut.before)) frame
+    ∙ ap (frame_lines context f (u ++ bytes) (frame_event context (u ++ bytes))) place
 
 pub complete-events : (context : BodyContext) (f : Flow) (u bytes : List ℕ) (header size : ℕ) → f.state ≡ record { unfinished = u; lost = false }
     → fixed_header_of (u ++ bytes) ≡ headers.Whole header size → size ≡ length (u ++ bytes) → 0 < length bytes
@@ -497,7 +485,7 @@ pub complete-refused-within : (limit : ℕ) (context : BodyContext) (f : Flow) (
     → frame_size (u ++ bytes) ≡ Some (length (u ++ bytes)) → 0 < length bytes → at + 1 ≡ f.at + length bytes → length (u ++ bytes) ≤ limit
     → flow_refused limit context f bytes ≡ first_that_applies (
     (is_other_version (read_frame (u ++ bytes)), refusals.OtherVersion at)
-    ∷ (comes_early f (option_map (item_event context.direction) (item_read (u ++ bytes) (read_frame (u ++ bytes)))), refusals.Early at)
+    ∷ (flows_too_early context f (option_map (item_event context.direction) (item_read (u ++ bytes) (read_frame (u ++ bytes)))), refusals.TooManyEarly at)
     ∷ (is_some (option_map (item_event context.direction) (item_read (u ++ bytes) (read_frame (u ++ bytes)))) && nat_le 4294967295 f.events, refusals.TooLong at)
     ∷ [])
 complete-refused-within limit context f u bytes at e whole some last within =

@@ -87,11 +87,11 @@ met_read frame at state c direction item (Err (OtherVersion version)) e = absurd
 frame_event_is : (direction : Direction) (frame : List ℕ) (item : Item) → item_read frame (read_frame frame) ≡ Some item → frame_event direction frame ≡ Some (item_event direction item)
 frame_event_is direction frame item e = ap (option_map (item_event direction)) e
 
-pub met_item : (at : ℕ) (state : StreamState) (c : Connections) (direction : Direction) (frame : List ℕ) (item : Item) → item_read frame (read_frame frame) ≡ Some item
-    → frame_refusal at (flow_of at state c) direction frame ≡ event_refusal at c (item_event direction item)
-met_item at state c direction frame item e =
-    (let other : is_other_version (read_frame frame) ≡ false = met_read frame at state c direction item (read_frame frame) e in
-    let event : frame_event direction frame ≡ Some (item_event direction item) = frame_event_is direction frame item e in
+pub met_item : (at : ℕ) (state : StreamState) (c : Connections) (context : BodyContext) (frame : List ℕ) (item : Item) → item_read frame (read_frame frame) ≡ Some item
+    → frame_refusal at context (flow_of at state c) frame ≡ event_refusal at context.server c (item_event context.direction item)
+met_item at state c context frame item e =
+    (let other : is_other_version (read_frame frame) ≡ false = met_read frame at state c context.direction item (read_frame frame) e in
+    let event : frame_event context.direction frame ≡ Some (item_event context.direction item) = frame_event_is context.direction frame item e in
     rw (other, event) refl)
 
 pub kept_item : (server : Bool) (c : Connections) (direction : Direction) (frame : List ℕ) (item : Item) → item_read frame (read_frame frame) ≡ Some item
@@ -114,8 +114,8 @@ met_other frame e = other_read frame (read_frame frame) e
 -- A sink that received an item received the frame that is it.
 module _ {S : Type 0} (agrees : S → List Placed → Type 0) (declines : S → S → List Placed → Refusal → Type 0) {A : Type 0} (r : Result A Refusal) (at : ℕ) (state : StreamState) (c : Connections) (context : BodyContext) (frame : List ℕ) (item : Item)
     (e : item_read frame (read_frame frame) ≡ Some item) where
-  pub emitted_met : OnOk r (event_refusal at c (item_event context.direction item) ≡ None) → OnOk r (frame_refusal at (flow_of at state c) context.direction frame ≡ None)
-  emitted_met = subst (λ (m : Option Refusal). OnOk r (m ≡ None)) (sym (met_item at state c context.direction frame item e))
+  pub emitted_met : OnOk r (event_refusal at context.server c (item_event context.direction item) ≡ None) → OnOk r (frame_refusal at context (flow_of at state c) frame ≡ None)
+  emitted_met = subst (λ (m : Option Refusal). OnOk r (m ≡ None)) (sym (met_item at state c context frame item e))
 
   pub emitted_kept : (c' : Connections) → OnOk r (c' ≡ connections_with context.server c (item_event context.direction item)) → OnOk r (c' ≡ connections_then context.server c (frame_event context.direction frame))
   emitted_kept c' = subst (λ (then' : Connections). OnOk r (c' ≡ then')) (sym (kept_item context.server c context.direction frame item e))
@@ -125,13 +125,13 @@ module _ {S : Type 0} (agrees : S → List Placed → Type 0) (declines : S → 
       → OnOk r (agrees new (put (flow_placed_with context (flow_of at state c) (frame_event context.direction frame)) earlier))
   emitted_receives old new = subst (λ (o : Option Placed). (earlier : List Placed) → agrees old earlier → AreEvents (put o earlier) → OnOk r (agrees new (put o earlier))) (sym (placed_item at context state c frame item e))
 
-  pub emitted_err : (old new : S) → IfErr r (λ refusal. NotEmitted declines at (event_refusal at c (item_event context.direction item)) (next_placed c context.record_no (item_event context.direction item) ∷ []) old new refusal)
-      → IfErr r (λ refusal. NotEmitted declines at (frame_refusal at (flow_of at state c) context.direction frame) (put (flow_placed_with context (flow_of at state c) (frame_event context.direction frame)) []) old new refusal)
+  pub emitted_err : (old new : S) → IfErr r (λ refusal. NotEmitted declines at (event_refusal at context.server c (item_event context.direction item)) (next_placed c context.record_no (item_event context.direction item) ∷ []) old new refusal)
+      → IfErr r (λ refusal. NotEmitted declines at (frame_refusal at context (flow_of at state c) frame) (put (flow_placed_with context (flow_of at state c) (frame_event context.direction frame)) []) old new refusal)
   emitted_err old new unemitted =
-      subst (λ (o : Option Placed). IfErr r (λ refusal. NotEmitted declines at (frame_refusal at (flow_of at state c) context.direction frame) (put o []) old new refusal)) (sym (placed_item at context state c frame item e))
-      (subst (λ (m : Option Refusal). IfErr r (λ refusal. NotEmitted declines at m (next_placed c context.record_no (item_event context.direction item) ∷ []) old new refusal)) (sym (met_item at state c context.direction frame item e)) unemitted)
+      subst (λ (o : Option Placed). IfErr r (λ refusal. NotEmitted declines at (frame_refusal at context (flow_of at state c) frame) (put o []) old new refusal)) (sym (placed_item at context state c frame item e))
+      (subst (λ (m : Option Refusal). IfErr r (λ refusal. NotEmitted declines at m (next_placed c context.record_no (item_event context.direction item) ∷ []) old new refusal)) (sym (met_item at state c context frame item e)) unemitted)
 
 -- A frame of another version is refused as that.
-pub other_met : {S : Type 0} (declines : S → S → List Placed → Refusal → Type 0) {completed : List Placed} (at : ℕ) (state : StreamState) (c : Connections) (direction : Direction) (frame : List ℕ) (sink : S) → item_read frame (read_frame frame) ≡ None
-    → NotEmitted declines at (frame_refusal at (flow_of at state c) direction frame) completed sink sink (refusals.OtherVersion at)
-other_met declines at state c direction frame sink e = inl (rw (met_other frame e) refl, refl)
+pub other_met : {S : Type 0} (declines : S → S → List Placed → Refusal → Type 0) {completed : List Placed} (at : ℕ) (state : StreamState) (c : Connections) (context : BodyContext) (frame : List ℕ) (sink : S) → item_read frame (read_frame frame) ≡ None
+    → NotEmitted declines at (frame_refusal at context (flow_of at state c) frame) completed sink sink (refusals.OtherVersion at)
+other_met declines at state c context frame sink e = inl (rw (met_other frame e) refl, refl)

@@ -13,10 +13,10 @@ use Rattle.mq_trace.specs.declared.refusal.Refusal.{Refusal}
 use Rattle.mq_trace.specs.declared.refusal.Refusal.TheVariants as refusals
 use Rattle.mq_trace.specs.Framing.{kind_of, body_length, record_size, direction_of, opens}
 use Rattle.mq_trace.specs.Events.{Item, Event, item_at, event_by, event_in, read_frame}
-use Rattle.mq_trace.specs.Refusals.{first_that_applies, allows_length, is_open_kind, needs_connection, is_release_kind, is_too_large, is_other_version, is_early, record_refusal, header_refusal}
+use Rattle.mq_trace.specs.Refusals.{first_that_applies, allows_length, is_open_kind, needs_connection, is_release_kind, is_too_large, is_other_version, record_refusal, header_refusal}
 use Rattle.mq_trace.specs.Context.{StreamState, Context, state_for, so_far_in, so_far_by, so_far_for, situated, state_after, state_by, state_then, with_completed, after_header, after_part, after, put, placed_with, placed_for, refusal_for, event_for}
 use Rattle.mq_trace.specs.Runs.{after_bytes, refused_in, events_by}
-use Rattle.mq_trace.specs.Flows.{BodyContext, Flow, item_event, comes_early, flow_event, flow_refusal, flow_placed, flow_placed_with, flow_with, flow_after, flow_after_bytes, flow_refused, flow_events, context_in, flow_in, state_after_body, flowed}
+use Rattle.mq_trace.specs.Flows.{BodyContext, Flow, item_event, flows_too_early, flow_event, flow_refusal, flow_placed, flow_placed_with, flow_with, flow_after, flow_after_bytes, flow_refused, flow_events, context_in, flow_in, state_after_body, flowed}
 
 -- A record that carries packets opens no connection, and its events are what its packets are.
 pub opens_none : (kind : Option RecordKind) (direction : Direction) → direction_of kind ≡ Some direction → opens kind ≡ false
@@ -64,14 +64,9 @@ lines limit c part so_far first head early event = first_that_applies (
     ∷ (first && (is_release_kind (kind_of part) && not c.header.releases), refusals.ReleaseUnrecorded c.at)
     ∷ (is_too_large limit so_far (fixed_header_of so_far), refusals.TooLarge c.at)
     ∷ (is_some (frame_size so_far) && is_other_version (read_frame so_far), refusals.OtherVersion c.at)
-    ∷ (early, refusals.Early c.at)
+    ∷ (early, refusals.TooManyEarly c.at)
     ∷ ((first && nat_lt 4294967295 (c.records + 1)) || (is_some event && nat_le 4294967295 c.events), refusals.TooLong c.at)
     ∷ [])
-
-early_same : (c : Context) (direction : Direction) (byte : ℕ) (event : Option Event) → is_early (situated c byte) event ≡ comes_early (flow_in c direction) event
-unfolding situated
-early_same c direction byte None = refl
-early_same c direction byte (Some event) = refl
 
 -- A record is whole where all of its body is there.
 whole_by : (part : List ℕ) → 5 ≤ length part → is_some (record_size part) ≡ nat_le (5 + body_length part) (length part)
@@ -157,11 +152,11 @@ module _ (c : Context) (direction : Direction) (byte : ℕ) (past_header : 8 ≤
   event_within = event_by_item (kind_of part) direction part (so_far_for c byte) goes_on ∙ ap (λ t. option_map (item_event direction) (item_at t)) so_far_is
 
   by_lines : (limit : ℕ) → record_refusal limit (situated c byte)
-      ≡ lines limit c part (so_far_for c byte) (length part == 1) (length part == 5) (is_early (situated c byte) (event_in part (so_far_for c byte))) (event_in part (so_far_for c byte))
+      ≡ lines limit c part (so_far_for c byte) (length part == 1) (length part == 5) (flows_too_early context flow (event_in part (so_far_for c byte))) (event_in part (so_far_for c byte))
   unfolding record_refusal situated
   by_lines limit = refl
 
-  by_flow : (limit : ℕ) → lines limit c part (so_far_in (state_for c direction) byte) false false (comes_early flow (flow_event context flow byte)) (flow_event context flow byte) ≡ flow_refusal limit context flow byte
+  by_flow : (limit : ℕ) → lines limit c part (so_far_in (state_for c direction) byte) false false (flows_too_early context flow (flow_event context flow byte)) (flow_event context flow byte) ≡ flow_refusal limit context flow byte
   unfolding flow_refusal
   by_flow limit = refl
 
@@ -171,11 +166,10 @@ module _ (c : Context) (direction : Direction) (byte : ℕ) (past_header : 8 ≤
   refusal_lifted limit =
       ap (λ b. if b then header_refusal c.at byte else record_refusal limit (situated c byte)) (le-ltb c.at 8 past_header)
       ∙ by_lines limit
-      ∙ ap (λ b. lines limit c part (so_far_for c byte) b (length part == 5) (is_early (situated c byte) (event_in part (so_far_for c byte))) (event_in part (so_far_for c byte))) not_first
-      ∙ ap (λ b. lines limit c part (so_far_for c byte) false b (is_early (situated c byte) (event_in part (so_far_for c byte))) (event_in part (so_far_for c byte))) not_head
-      ∙ ap (λ e. lines limit c part (so_far_for c byte) false false (is_early (situated c byte) e) e) event_within
-      ∙ ap (λ b. lines limit c part (so_far_for c byte) false false b (flow_event context flow byte)) (early_same c direction byte (flow_event context flow byte))
-      ∙ ap (λ t. lines limit c part t false false (comes_early flow (flow_event context flow byte)) (flow_event context flow byte)) so_far_is
+      ∙ ap (λ b. lines limit c part (so_far_for c byte) b (length part == 5) (flows_too_early context flow (event_in part (so_far_for c byte))) (event_in part (so_far_for c byte))) not_first
+      ∙ ap (λ b. lines limit c part (so_far_for c byte) false b (flows_too_early context flow (event_in part (so_far_for c byte))) (event_in part (so_far_for c byte))) not_head
+      ∙ ap (λ e. lines limit c part (so_far_for c byte) false false (flows_too_early context flow e) e) event_within
+      ∙ ap (λ t. lines limit c part t false false (flows_too_early context flow (flow_event context flow byte)) (flow_event context flow byte)) so_far_is
       ∙ by_flow limit
 
   place_same : (event : Option Event) → placed_with c event ≡ flow_placed_with context flow event
@@ -259,6 +253,10 @@ flow_with_connected : (context : BodyContext) (f : Flow) (event : Option Event) 
 flow_with_connected _ f None = refl
 flow_with_connected _ f (Some event) = refl
 
+flow_with_before : (context : BodyContext) (f : Flow) (event : Option Event) → (flow_with context f event).before_open ≡ f.before_open
+flow_with_before _ f None = refl
+flow_with_before _ f (Some event) = refl
+
 after_at : (context : BodyContext) (f : Flow) (byte : ℕ) → (flow_after context f byte).at ≡ f.at + 1
 unfolding flow_after
 after_at context f byte = flow_with_at context (record f { at = f.at + 1; state = state_after f.state byte }) (flow_event context f byte)
@@ -267,10 +265,14 @@ after_connected : (context : BodyContext) (f : Flow) (byte : ℕ) → (flow_afte
 unfolding flow_after
 after_connected context f byte = flow_with_connected context (record f { at = f.at + 1; state = state_after f.state byte }) (flow_event context f byte)
 
+after_before : (context : BodyContext) (f : Flow) (byte : ℕ) → (flow_after context f byte).before_open ≡ f.before_open
+unfolding flow_after
+after_before context f byte = flow_with_before context (record f { at = f.at + 1; state = state_after f.state byte }) (flow_event context f byte)
+
 -- A flow is found again in what is kept after it.
-flow_again : (c : Context) (direction : Direction) (g : Flow) (bytes : List ℕ) → g.connected ≡ c.connected → flow_in (flowed c direction false g bytes) direction ≡ g
-flow_again c directions.Sent g bytes e = ap (λ b. record g { connected = b }) (sym e)
-flow_again c directions.Recv g bytes e = ap (λ b. record g { connected = b }) (sym e)
+flow_again : (c : Context) (direction : Direction) (g : Flow) (bytes : List ℕ) → g.connected ≡ c.connected → g.before_open ≡ c.before_open → flow_in (flowed c direction false g bytes) direction ≡ g
+flow_again c directions.Sent g bytes e f = ap (λ b. record g { connected = b; before_open = c.before_open }) (sym e) ∙ ap (λ n. record g { before_open = n }) (sym f)
+flow_again c directions.Recv g bytes e f = ap (λ b. record g { connected = b; before_open = c.before_open }) (sym e) ∙ ap (λ n. record g { before_open = n }) (sym f)
 
 flowed_twice : (c : Context) (direction : Direction) (whole : Bool) (g h : Flow) (bytes more : List ℕ) → flowed (flowed c direction false g bytes) direction whole h more ≡ flowed c direction whole h (bytes ++ more)
 flowed_twice c directions.Sent whole g h bytes more = ap (λ t. record (flowed c directions.Sent whole h (bytes ++ more)) { part = cond whole [] t }) (append_assoc c.part bytes more)
@@ -316,7 +318,7 @@ module _ (c : Context) (direction : Direction) (byte next : ℕ) (bytes : List �
   then_less = let l = then_longer in let b = then_body in omega arith
 
   then_flows : flow_in then_kept direction ≡ then_flow
-  then_flows = flow_again c direction then_flow (byte ∷ []) (after_connected (context_in c direction) (flow_in c direction) byte)
+  then_flows = flow_again c direction then_flow (byte ∷ []) (after_connected (context_in c direction) (flow_in c direction) byte) (after_before (context_in c direction) (flow_in c direction) byte)
 
   then_whole : (length then_kept.part + length (next ∷ bytes) == 5 + body_length then_kept.part) ≡ (length c.part + length (byte ∷ next ∷ bytes) == 5 + body_length c.part)
   then_whole =

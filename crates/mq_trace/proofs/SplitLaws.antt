@@ -173,6 +173,17 @@ flow_connected around f (byte ∷ bytes) =
     flow_connected around (flow_after around f byte) bytes
     ∙ flow_with_connected around (record f { at = f.at + 1; state = state_after f.state byte }) (flow_event around f byte)
 
+flow_with_before : (around : BodyContext) (f : Flow) (event : Option Event) → (flow_with around f event).before_open ≡ f.before_open
+flow_with_before around f None = refl
+flow_with_before around f (Some event) = refl
+
+flow_before : (around : BodyContext) (f : Flow) (bytes : List ℕ) → (flow_after_bytes around f bytes).before_open ≡ f.before_open
+unfolding flow_after
+flow_before around f [] = refl
+flow_before around f (byte ∷ bytes) =
+    flow_before around (flow_after around f byte) bytes
+    ∙ flow_with_before around (record f { at = f.at + 1; state = state_after f.state byte }) (flow_event around f byte)
+
 flow_at : (around : BodyContext) (f : Flow) (bytes : List ℕ) → (flow_after_bytes around f bytes).at ≡ place_after f.at bytes
 unfolding flow_after
 flow_at around f [] = refl
@@ -323,9 +334,11 @@ framed_events c direction body h none fits =
     record_events c direction (emitted_in (length body) 0) (emitted_in (length body) 1) (emitted_in (length body) 2) (emitted_in (length body) 3) body h none (from_be_bytes-to_be_bytes_4 (length body) fits)
 
 -- A second record of the same direction goes on where the first one ended ..
-entered_again : (c : Context) (direction : Direction) (g : Flow) → g.connected ≡ c.connected → entered (whole_after c direction g) direction ≡ moved g (after_head g.at)
-entered_again c directions.Sent g e = ap (λ t. record g { at = after_head g.at; connected = t }) (sym e)
-entered_again c directions.Recv g e = ap (λ t. record g { at = after_head g.at; connected = t }) (sym e)
+entered_again : (c : Context) (direction : Direction) (g : Flow) → g.connected ≡ c.connected → g.before_open ≡ c.before_open → entered (whole_after c direction g) direction ≡ moved g (after_head g.at)
+entered_again c directions.Sent g e f =
+    ap (λ t. record g { at = after_head g.at; connected = t; before_open = c.before_open }) (sym e) ∙ ap (λ n. record g { at = after_head g.at; before_open = n }) (sym f)
+entered_again c directions.Recv g e f =
+    ap (λ t. record g { at = after_head g.at; connected = t; before_open = c.before_open }) (sym e) ∙ ap (λ n. record g { at = after_head g.at; before_open = n }) (sym f)
 
 -- .. and leaves what one record of both bodies does, but for the numbers.
 after_again : (c : Context) (direction : Direction) (g f : Flow) (at : ℕ) → whole_after (whole_after c direction g) direction (moved f at) ≡ counted (whole_after c direction f) at (c.records + 1 + 1)
@@ -362,7 +375,7 @@ module _ (c : Context) (direction : Direction) (a b : List ℕ) (h : 8 ≤ c.at)
   end_place = place_after (after_head amid.at) b
 
   entered_amid : entered (whole_after c direction amid) direction ≡ moved amid (after_head amid.at)
-  entered_amid = entered_again c direction amid (flow_connected around (entered c direction) a)
+  entered_amid = entered_again c direction amid (flow_connected around (entered c direction) a) (flow_before around (entered c direction) a)
 
   one_after_bytes : after_bytes c (framed (direction_byte direction) (a ++ b)) ≡ whole_after c direction ended
   one_after_bytes = framed_after c direction (a ++ b) h none fits ∙ ap (whole_after c direction) (flow_after_bytes-append around (entered c direction) a b)

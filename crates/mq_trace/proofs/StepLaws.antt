@@ -1,5 +1,5 @@
 -- What one byte of the log's header, of a record's head, or of a RELEASE's body does.
-use Rattle.std.proofs.Common.{◌≡◌, ℕ, ◌+◌, ◌<◌, ◌≤◌, Bool, true, false, cond, ◌&&◌, nat_lt, List, [], ◌∷◌, ◌++◌, length, Option, Some, None, is_some, refl, sym, ◌∙◌, ap, arith, length-append, append_assoc, drop}
+use Rattle.std.proofs.Common.{◌≡◌, ℕ, ◌+◌, ◌-◌, ◌<◌, ◌≤◌, Bool, true, false, cond, ◌&&◌, nat_lt, List, [], ◌∷◌, ◌++◌, length, Option, Some, None, is_some, refl, sym, ◌∙◌, ap, arith, length-append, append_assoc, drop}
 use Rattle.std.specs.Prelude.{◌==◌, ◌||◌, nat_le, not, if◌then◌else◌, is_none, option_map}
 use Rattle.std.specs.Int.{w16, w32, from_be_bytes}
 use Rattle.std.proofs.lemmas.Bool.{le-ltb, lt-ltb, le-leb, lt-leb, eqb-true, eqb-false, eq-eqb, ne_eqb}
@@ -13,7 +13,8 @@ use Rattle.mq_trace.specs.declared.refusal.Refusal.{Refusal}
 use Rattle.mq_trace.specs.declared.refusal.Refusal.TheVariants as refusals
 use Rattle.mq_trace.specs.Framing.{kind_named, kind_of, body_length, record_size, opens, direction_of}
 use Rattle.mq_trace.specs.Events.{Event, opened, closed, rested, released, sent, received, item_at, event_by, event_in, event_of_head}
-use Rattle.mq_trace.specs.Refusals.{Situation, header_refusal, record_refusal, first_that_applies, is_early, allows_length, is_open_kind, is_release_kind, needs_connection}
+use Rattle.mq_trace.specs.Refusals.{Situation, header_refusal, record_refusal, first_that_applies, comes_too_early, allows_length, is_open_kind, is_release_kind, needs_connection}
+use Rattle.mq_trace.specs.Connections.{is_too_early}
 use Rattle.mq_trace.specs.Context.{StreamState, Context, emptied, so_far_by, so_far_for, situated, refusal_for, event_for, placed_with, placed_for, state_by, state_then, with_completed, after_header, after_part, after, put}
 use Rattle.mq_trace.specs.Runs.{after_bytes, refused_in, events_by}
 use Rattle.mq_trace.proofs.FramingLaws.{body_length-append, kind_of-append}
@@ -51,6 +52,7 @@ situation_with c part = record {
   events = c.events;
   connected = c.connected;
   connack_seen = c.connack_seen;
+  on_connection = c.events - c.before_open;
 }
 
 -- the refusal lines of such a byte, with the answers of all tests
@@ -61,7 +63,7 @@ lines_with c part first ends kind event long =
     ∷ (first && (is_open_kind kind && c.connected), refusals.Nested c.at)
     ∷ (first && (needs_connection kind && not c.connected), refusals.NotOpen c.at)
     ∷ (first && (is_release_kind kind && not c.header.releases), refusals.ReleaseUnrecorded c.at)
-    ∷ (is_early (situation_with c part) event, refusals.Early c.at)
+    ∷ (comes_too_early (situation_with c part) event, refusals.TooManyEarly c.at)
     ∷ (long, refusals.TooLong c.at)
     ∷ []
 
@@ -92,6 +94,7 @@ situated_with c b part is none =
       events = c.events;
       connected = c.connected;
       connack_seen = c.connack_seen;
+      on_connection = c.events - c.before_open;
     }) is
     ∙ ap (λ bytes. record {
       at = c.at;
@@ -102,6 +105,7 @@ situated_with c b part is none =
       events = c.events;
       connected = c.connected;
       connack_seen = c.connack_seen;
+      on_connection = c.events - c.before_open;
     }) none
 
 refusal_with : (limit : ℕ) (c : Context) (b : ℕ) (part : List ℕ) → 8 ≤ c.at → c.part ++ b ∷ [] ≡ part → so_far_for c b ≡ [] → refusal_for limit c b ≡ record_refusal limit (situation_with c part)
@@ -355,13 +359,9 @@ head_event kinds.Release part five seven = ap (λ t. if t then Some (released (f
 head_event kinds.Sent part five seven = ap (option_map sent) no_item
 head_event kinds.Recv part five seven = ap (option_map received) no_item
 
-head_early : (s : Situation) (kind : RecordKind) → is_early s (event_of_head kind) ≡ false
-head_early s kinds.Open = refl
-head_early s kinds.Close = refl
-head_early s kinds.Rest = refl
-head_early s kinds.Release = refl
-head_early s kinds.Sent = refl
-head_early s kinds.Recv = refl
+-- an event comes too early, from what is kept
+abbrev pub kept_too_early : Context → Option Event → Bool
+kept_too_early c event = is_too_early c.header.server c.connected c.connack_seen (c.events - c.before_open) event
 
 -- the kind of a record with a byte more
 kind_more : (c : Context) (b : ℕ) (kind : RecordKind) → 1 ≤ length c.part → kind_of c.part ≡ Some kind → kind_of (c.part ++ b ∷ []) ≡ Some kind
@@ -379,6 +379,7 @@ fifth_event c b kind h four is = event_with c b (c.part ++ b ∷ []) h refl (hea
 
 pub fifth_refusal : (limit : ℕ) (c : Context) (b : ℕ) (kind : RecordKind) → 8 ≤ c.at → length c.part ≡ 4 → kind_of c.part ≡ Some kind → refusal_for limit c b ≡ first_that_applies (
     (not (allows_length (Some kind) (body_length (c.part ++ b ∷ []))), refusals.Length c.at)
+    ∷ (kept_too_early c (event_of_head kind), refusals.TooManyEarly c.at)
     ∷ (is_some (event_of_head kind) && nat_le 4294967295 c.events, refusals.TooLong c.at)
     ∷ [])
 fifth_refusal limit c b kind h four is =
@@ -388,7 +389,6 @@ fifth_refusal limit c b kind h four is =
     refusal_with limit c b part h refl (head_packet c b (omega arith))
     ∙ lines_emitted limit c part false true (Some kind) (event_of_head kind) long (ne_eqb (length part) 1 (λ e. omega arith)) (eq-eqb (length part) 5 (omega arith))
     (kind_more c b kind (omega arith) is) (fifth_in c b kind four is) refl
-    ∙ ap (λ t. first_that_applies ((not (allows_length (Some kind) (body_length part)), refusals.Length c.at) ∷ (t, refusals.Early c.at) ∷ (long, refusals.TooLong c.at) ∷ [])) (head_early (situation_with c part) kind)
 
 some_if : (t : Bool) (n : ℕ) → is_some (if t then Some n else None) ≡ t
 some_if true n = refl
@@ -495,7 +495,7 @@ release_low_event c b head first h kind is five =
 
 pub release_low_refusal : (limit : ℕ) (c : Context) (b : ℕ) (head : List ℕ) (first : ℕ) → 8 ≤ c.at → kind_of c.part ≡ Some kinds.Release → c.part ≡ head ++ first ∷ [] → length head ≡ 5
     → refusal_for limit c b ≡ first_that_applies (
-    (c.connected && not c.connack_seen, refusals.Early c.at)
+    (kept_too_early c (Some (released (from_be_bytes w16 (first ∷ b ∷ [])))), refusals.TooManyEarly c.at)
     ∷ (nat_le 4294967295 c.events, refusals.TooLong c.at)
     ∷ [])
 release_low_refusal limit c b head first h kind is five =

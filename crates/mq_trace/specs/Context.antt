@@ -1,10 +1,10 @@
 -- What a reader of the log keeps from one byte to the next, as a function of all bytes so far. It looks at nothing else of them.
-use Rattle.std.specs.Prelude.{ℕ, ◌+◌, ◌==◌, nat_lt, Bool, true, false, ◌&&◌, ◌||◌, not, cond, if◌then◌else◌, List, [], ◌∷◌, ◌++◌, length, Option, Some, None, is_some}
+use Rattle.std.specs.Prelude.{ℕ, ◌+◌, ◌-◌, ◌==◌, nat_lt, Bool, true, false, ◌&&◌, ◌||◌, not, cond, if◌then◌else◌, List, [], ◌∷◌, ◌++◌, length, Option, Some, None, is_some}
 use Rattle.mq_trace.specs.declared.kind.Direction.{Direction}
 use Rattle.mq_trace.specs.declared.kind.Direction.TheVariants as directions
 use Rattle.mq_trace.specs.declared.refusal.Refusal.{Refusal}
 use Rattle.mq_trace.specs.declared.header.Header.{Header}
-use Rattle.mq_trace.specs.Connections.{begins_connection, ends_connection, is_answer, has_open_connection, is_connack_seen}
+use Rattle.mq_trace.specs.Connections.{begins_connection, ends_connection, is_answer, has_open_connection, is_connack_seen, events_before_open}
 use Rattle.mq_packet.specs.Stream.{frame_size, is_lost}
 use Rattle.mq_trace.specs.Framing.{header_by, kind_of, direction_of, opens, record_size, records, begun_records, carried, stream}
 use Rattle.mq_trace.specs.Events.{Event, Placed, event_in, events}
@@ -24,10 +24,11 @@ pub record Context : Type 0 where
   pub records : ℕ
   pub sent : StreamState
   pub recv : StreamState
-  -- of the events: how many, whether a connection is open, and whether the latest one's CONNACK came
+  -- of the events: how many, whether a connection is open, whether the latest one's CONNACK came, and how many events came before its OPEN
   pub events : ℕ
   pub connected : Bool
   pub connack_seen : Bool
+  pub before_open : ℕ
 
 -- what is kept of a direction that carried nothing
 abbrev pub emptied : StreamState
@@ -45,6 +46,7 @@ fresh = record {
   events = 0;
   connected = false;
   connack_seen = false;
+  before_open = 0;
 }
 
 -- what is kept of a direction that carried these bytes
@@ -66,6 +68,7 @@ context log = record {
   events = length (events log);
   connected = has_open_connection (events log);
   connack_seen = is_connack_seen (header_by log).server (events log);
+  before_open = events_before_open (events log);
 }
 
 -- The bytes so far of the next byte's packet, that byte included, from what is kept.
@@ -94,6 +97,7 @@ situated c byte = record {
   events = c.events;
   connected = c.connected;
   connack_seen = c.connack_seen;
+  on_connection = c.events - c.before_open;
 }
 
 -- the refusal that applies first at the next byte
@@ -140,6 +144,7 @@ with_completed c (Some event) = record c {
   events = c.events + 1;
   connected = begins_connection event || (not (ends_connection event) && c.connected);
   connack_seen = is_answer c.header.server event || (not (begins_connection event) && c.connack_seen);
+  before_open = if begins_connection event then c.events else c.before_open;
 }
 
 -- after one more byte of the header

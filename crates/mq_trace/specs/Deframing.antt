@@ -10,25 +10,25 @@ use Rattle.mq_trace.specs.Events.{Event, Placed, item_read, read_frame}
 use Rattle.mq_trace.specs.Refusals.{first_that_applies, is_other_version}
 use Rattle.mq_trace.specs.Context.{StreamState, so_far_in}
 use Rattle.mq_trace.specs.Reception.{AreEvents}
-use Rattle.mq_trace.specs.Flows.{BodyContext, Flow, item_event, comes_early, flow_refused, flow_after_bytes, flow_events}
+use Rattle.mq_trace.specs.Flows.{BodyContext, Flow, item_event, flows_too_early, flow_refused, flow_after_bytes, flow_events}
 use Rattle.mq_trace.specs.Emission.{connections_with, RefusedBySink}
 
 abbrev pub body_context : ContextInMemory → BodyContext
 body_context context = record { direction = context.direction; server = context.server; record_no = context.record_no }
 
 abbrev pub flow_of : ℕ → StreamState → Connections → Flow
-flow_of at state c = record { at = at; state = state; events = c.events; connected = c.connected; connack_seen = c.connack_seen }
+flow_of at state c = record { at = at; state = state; events = c.events; connected = c.connected; connack_seen = c.connack_seen; before_open = c.before_open }
 
 -- the event of a whole packet
 abbrev pub frame_event : Direction → List ℕ → Option Event
 frame_event direction frame = option_map (item_event direction) (item_read frame (read_frame frame))
 
 -- the refusal that applies at the last byte of a whole packet
-abbrev pub frame_refusal : ℕ → Flow → Direction → List ℕ → Option Refusal
-frame_refusal at f direction frame = first_that_applies (
+abbrev pub frame_refusal : ℕ → BodyContext → Flow → List ℕ → Option Refusal
+frame_refusal at context f frame = first_that_applies (
     (is_other_version (read_frame frame), refusals.OtherVersion at)
-    ∷ (comes_early f (frame_event direction frame), refusals.Early at)
-    ∷ (is_some (frame_event direction frame) && nat_le 4294967295 f.events, refusals.TooLong at)
+    ∷ (flows_too_early context f (frame_event context.direction frame), refusals.TooManyEarly at)
+    ∷ (is_some (frame_event context.direction frame) && nat_le 4294967295 f.events, refusals.TooLong at)
     ∷ [])
 
 -- what is kept of the events after one more, if there is one

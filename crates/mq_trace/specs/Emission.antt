@@ -1,17 +1,17 @@
 -- Emitting an event to a sink: which refusals can apply, and what is kept after it.
-use Rattle.std.specs.Prelude.{◌≡◌, ℕ, ◌+◌, ◌⊎◌, nat_le, Bool, ◌&&◌, ◌||◌, not, List, [], ◌∷◌, Option, Some, None}
+use Rattle.std.specs.Prelude.{◌≡◌, ℕ, ◌+◌, ◌-◌, ◌⊎◌, nat_le, Bool, ◌&&◌, ◌||◌, not, if◌then◌else◌, List, [], ◌∷◌, Option, Some, None}
 use Rattle.mq_trace.specs.declared.refusal.Refusal.{Refusal}
 use Rattle.mq_trace.specs.declared.refusal.Refusal.TheVariants as refusals
 use Rattle.mq_trace.specs.declared.connections.Connections.{Connections}
 use Rattle.mq_trace.specs.Events.{Event, Placed}
-use Rattle.mq_trace.specs.Connections.{begins_connection, ends_connection, is_answer, needs_answer}
+use Rattle.mq_trace.specs.Connections.{begins_connection, ends_connection, is_answer, is_too_early}
 use Rattle.mq_trace.specs.Refusals.{first_that_applies}
 use Rattle.mq_trace.specs.Refusing.{moved}
 
--- the refusal that applies to an event that this byte completes
-abbrev pub event_refusal : ℕ → Connections → Event → Option Refusal
-event_refusal at connections event = first_that_applies (
-    (needs_answer event && (connections.connected && not connections.connack_seen), refusals.Early at)
+-- the refusal that applies to an event that this byte completes; the flag says whether the tested end is a server
+abbrev pub event_refusal : ℕ → Bool → Connections → Event → Option Refusal
+event_refusal at server connections event = first_that_applies (
+    (is_too_early server connections.connected connections.connack_seen (connections.events - connections.before_open) (Some event), refusals.TooManyEarly at)
     ∷ (nat_le 4294967295 connections.events, refusals.TooLong at)
     ∷ [])
 
@@ -21,6 +21,7 @@ connections_with server connections event = record {
   events = connections.events + 1;
   connected = begins_connection event || (not (ends_connection event) && connections.connected);
   connack_seen = is_answer server event || (not (begins_connection event) && connections.connack_seen);
+  before_open = if begins_connection event then connections.events else connections.before_open;
 }
 
 -- the event at the next place

@@ -1,5 +1,5 @@
 -- One direction while the body of a SENT or RECV record is read: what each byte of the body does.
-use Rattle.std.specs.Prelude.{ℕ, ◌+◌, nat_le, Bool, false, ◌&&◌, ◌||◌, not, cond, List, [], ◌∷◌, ◌++◌, Option, Some, None, option_map, is_some}
+use Rattle.std.specs.Prelude.{ℕ, ◌+◌, ◌-◌, nat_le, Bool, ◌&&◌, ◌||◌, cond, List, [], ◌∷◌, ◌++◌, Option, Some, None, option_map, is_some}
 use Rattle.std.specs.Option.{option_or}
 use Rattle.mq_trace.specs.declared.kind.Direction.{Direction}
 use Rattle.mq_trace.specs.declared.kind.Direction.TheVariants as directions
@@ -7,7 +7,7 @@ use Rattle.mq_trace.specs.declared.refusal.Refusal.{Refusal}
 use Rattle.mq_trace.specs.declared.refusal.Refusal.TheVariants as refusals
 use Rattle.mq_packet.specs.Stream.{fixed_header_of, frame_size}
 use Rattle.mq_trace.specs.Events.{Item, Event, Placed, sent, received, read_frame, item_at}
-use Rattle.mq_trace.specs.Connections.{needs_answer, is_answer}
+use Rattle.mq_trace.specs.Connections.{is_answer, is_too_early}
 use Rattle.mq_trace.specs.Refusals.{first_that_applies, is_too_large, is_other_version}
 use Rattle.mq_trace.specs.Context.{StreamState, Context, state_for, so_far_in, state_after, put}
 
@@ -17,13 +17,14 @@ pub record BodyContext : Type 0 where
   pub server : Bool
   pub record_no : ℕ
 
--- what changes: how many bytes of the log came, the direction's state, how many events there are, whether a connection is open, and whether its CONNACK came
+-- what else is kept: how many bytes of the log came, the direction's state, how many events there are, whether a connection is open, whether its CONNACK came, and how many events came before its OPEN
 pub record Flow : Type 0 where
   pub at : ℕ
   pub state : StreamState
   pub events : ℕ
   pub connected : Bool
   pub connack_seen : Bool
+  pub before_open : ℕ
 
 -- the event of an item in this direction
 abbrev pub item_event : Direction → Item → Event
@@ -34,17 +35,16 @@ item_event directions.Recv item = received item
 unfoldable pub flow_event : BodyContext → Flow → ℕ → Option Event
 flow_event context f byte = option_map (item_event context.direction) (item_at (so_far_in f.state byte))
 
--- the event needs the CONNACK of its open connection, and that hasn't come
-abbrev pub comes_early : Flow → Option Event → Bool
-comes_early f None = false
-comes_early f (Some event) = needs_answer event && (f.connected && not f.connack_seen)
+-- the event comes on a connection that has as many events as it may have without its CONNACK
+abbrev pub flows_too_early : BodyContext → Flow → Option Event → Bool
+flows_too_early context f event = is_too_early context.server f.connected f.connack_seen (f.events - f.before_open) event
 
 -- the refusal that applies first at the next byte
 unfoldable pub flow_refusal : ℕ → BodyContext → Flow → ℕ → Option Refusal
 flow_refusal limit context f byte = first_that_applies (
     (is_too_large limit (so_far_in f.state byte) (fixed_header_of (so_far_in f.state byte)), refusals.TooLarge f.at)
     ∷ (is_some (frame_size (so_far_in f.state byte)) && is_other_version (read_frame (so_far_in f.state byte)), refusals.OtherVersion f.at)
-    ∷ (comes_early f (flow_event context f byte), refusals.Early f.at)
+    ∷ (flows_too_early context f (flow_event context f byte), refusals.TooManyEarly f.at)
     ∷ (is_some (flow_event context f byte) && nat_le 4294967295 f.events, refusals.TooLong f.at)
     ∷ [])
 
@@ -83,7 +83,7 @@ abbrev pub context_in : Context → Direction → BodyContext
 context_in c direction = record { direction = direction; server = c.header.server; record_no = c.records + 1 }
 
 abbrev pub flow_in : Context → Direction → Flow
-flow_in c direction = record { at = c.at; state = state_for c direction; events = c.events; connected = c.connected; connack_seen = c.connack_seen }
+flow_in c direction = record { at = c.at; state = state_for c direction; events = c.events; connected = c.connected; connack_seen = c.connack_seen; before_open = c.before_open }
 
 -- a direction after bytes of this one: what the flow keeps of it, or what was kept before if it is the other one
 abbrev pub state_after_body : Direction → Direction → StreamState → StreamState → StreamState

@@ -47,6 +47,7 @@ context_of r part = record {
   events = r.connections.events;
   connected = r.connections.connected;
   connack_seen = r.connections.connack_seen;
+  before_open = r.connections.before_open;
 }
 
 -- A bound on how many bytes of the unfinished record came.

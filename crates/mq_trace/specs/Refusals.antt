@@ -10,7 +10,7 @@ use Rattle.mq_trace.specs.declared.kind.RecordKind.TheVariants as kinds
 use Rattle.mq_trace.specs.declared.refusal.Refusal.{Refusal}
 use Rattle.mq_trace.specs.declared.refusal.Refusal.TheVariants as refusals
 use Rattle.mq_trace.specs.declared.header.Header.{Header}
-use Rattle.mq_trace.specs.Connections.{needs_answer, has_open_connection, is_connack_seen}
+use Rattle.mq_trace.specs.Connections.{has_open_connection, is_connack_seen, events_on_connection, is_too_early}
 use Rattle.mq_packet.specs.Stream.{fixed_header_of, frame_size}
 use Rattle.mq_trace.specs.Framing.{header_by, kind_of, body_length, records, begun_records}
 use Rattle.mq_trace.specs.Events.{Event, event_in, read_frame, part_at, packet_at, events}
@@ -41,10 +41,11 @@ pub record Situation : Type 0 where
   pub record_no : ℕ
   -- the bytes so far of the byte's packet, the byte included; none if it belongs to no packet, or its direction is lost
   pub so_far : List ℕ
-  -- the events before it: how many, whether a connection is open, and whether the latest one's CONNACK came
+  -- the events before it: how many, whether a connection is open, whether the latest one's CONNACK came, and how many events that one has
   pub events : ℕ
   pub connected : Bool
   pub connack_seen : Bool
+  pub on_connection : ℕ
 
 -- the situation of the next byte of a log
 unfoldable pub situation : List ℕ → ℕ → Situation
@@ -57,6 +58,7 @@ situation before byte = record {
   events = length (events before);
   connected = has_open_connection (events before);
   connack_seen = is_connack_seen (header_by before).server (events before);
+  on_connection = events_on_connection (events before);
 }
 
 -- the byte is its record's first, or the last of its length
@@ -108,10 +110,9 @@ is_other_version (Ok entry) = false
 abbrev pub ends_packet : Situation → Bool
 ends_packet s = is_some (frame_size s.so_far)
 
--- A session packet or a RELEASE comes on an open connection whose CONNACK hasn't come. A RELEASE between connections isn't early.
-abbrev pub is_early : Situation → Option Event → Bool
-is_early s None = false
-is_early s (Some event) = needs_answer event && (s.connected && not s.connack_seen)
+-- The event is one too many on a connection whose CONNACK hasn't come (`is_too_early`). Between connections nothing is too early.
+abbrev pub comes_too_early : Situation → Option Event → Bool
+comes_too_early s event = is_too_early s.header.server s.connected s.connack_seen s.on_connection event
 
 -- the refusal of the first line whose condition applies
 abbrev pub first_that_applies : List (Bool × Refusal) → Option Refusal
@@ -128,7 +129,7 @@ conditions limit s =
     ∷ (is_first s && (is_release_kind (kind_of s.part) && not s.header.releases), refusals.ReleaseUnrecorded s.at)
     ∷ (is_too_large limit s.so_far (fixed_header_of s.so_far), refusals.TooLarge s.at)
     ∷ (ends_packet s && is_other_version (read_frame s.so_far), refusals.OtherVersion s.at)
-    ∷ (is_early s (event_in s.part s.so_far), refusals.Early s.at)
+    ∷ (comes_too_early s (event_in s.part s.so_far), refusals.TooManyEarly s.at)
     ∷ ((is_first s && nat_lt 4294967295 s.record_no) || (is_some (event_in s.part s.so_far) && nat_le 4294967295 s.events), refusals.TooLong s.at)
     ∷ []
 

@@ -2,7 +2,7 @@
 use Rattle.std.specs.Prelude.{ℕ, List, [], ◌∷◌, codes, decimal}
 use Rattle.std.specs.List.{join_with_byte}
 use Rattle.mq_trace.specs.declared.refusal.Refusal.{Refusal}
-use Rattle.mq_trace.specs.declared.refusal.Refusal.TheVariants.{Header, Version, Role, Flags, Kind, Length, Nested, NotOpen, ReleaseUnrecorded, Cut, TooLarge, OtherVersion, Early, TooLong, Read, Memory}
+use Rattle.mq_trace.specs.declared.refusal.Refusal.TheVariants.{Header, Version, Role, Flags, Kind, Length, Nested, NotOpen, ReleaseUnrecorded, Cut, TooLarge, OtherVersion, TooManyEarly, TooLong, Read, Memory}
 
 -- words, with a space between two of them
 abbrev pub spaced : List (List ℕ) → List ℕ
@@ -22,7 +22,7 @@ number_of (ReleaseUnrecorded at) = 9
 number_of (Cut at) = 10
 number_of (TooLarge at) = 11
 number_of (OtherVersion at) = 12
-number_of (Early at) = 13
+number_of (TooManyEarly at) = 13
 number_of (TooLong at) = 14
 number_of (Read at) = 15
 number_of (Memory at) = 16
@@ -41,7 +41,7 @@ name_of (ReleaseUnrecorded at) = codes "ReleaseUnrecorded"
 name_of (Cut at) = codes "Cut"
 name_of (TooLarge at) = codes "TooLarge"
 name_of (OtherVersion at) = codes "OtherVersion"
-name_of (Early at) = codes "Early"
+name_of (TooManyEarly at) = codes "TooManyEarly"
 name_of (TooLong at) = codes "TooLong"
 name_of (Read at) = codes "Read"
 name_of (Memory at) = codes "Memory"
@@ -60,7 +60,7 @@ refusal_offset (ReleaseUnrecorded at) = at
 refusal_offset (Cut at) = at
 refusal_offset (TooLarge at) = at
 refusal_offset (OtherVersion at) = at
-refusal_offset (Early at) = at
+refusal_offset (TooManyEarly at) = at
 refusal_offset (TooLong at) = at
 refusal_offset (Read at) = at
 refusal_offset (Memory at) = at
@@ -83,7 +83,7 @@ moved (ReleaseUnrecorded _) at = ReleaseUnrecorded at
 moved (Cut _) at = Cut at
 moved (TooLarge _) at = TooLarge at
 moved (OtherVersion _) at = OtherVersion at
-moved (Early _) at = Early at
+moved (TooManyEarly _) at = TooManyEarly at
 moved (TooLong _) at = TooLong at
 moved (Read _) at = Read at
 moved (Memory _) at = Memory at

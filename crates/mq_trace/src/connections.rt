@@ -1,6 +1,6 @@
 //! What is kept of the events of a log, and emitting the next one to a sink.
 
-ghost use Rattle.std.specs.Prelude.{◌≡◌, ◌+◌, ℕ, Bool, [], ◌∷◌, ◌<◌, ◌&&◌, not, List, Some, None, OnOk, IfErr, unwrap_or};
+ghost use Rattle.std.specs.Prelude.{◌≡◌, ◌+◌, ◌-◌, ℕ, Bool, [], ◌∷◌, ◌<◌, nat_le, ◌&&◌, ◌||◌, not, List, Some, None, OnOk, IfErr, unwrap_or};
 ghost use Rattle.mq_packet.specs.Entries.{PublishFields, publish};
 ghost use Rattle.mq_packet.specs.Reading.{view};
 ghost use Rattle.mq_packet.specs.Sizes.{size_with, remaining_length};
@@ -8,7 +8,7 @@ ghost use Rattle.mq_packet.specs.declared.packet.Packet.TheVariants as packets;
 ghost use Rattle.mq_trace.specs.Events.{Placed, packet};
 ghost use Rattle.mq_trace.specs.Flows.{item_event};
 ghost use Rattle.mq_trace.specs.declared.event.Item.TheVariants as items;
-ghost use Rattle.mq_trace.specs.Connections.{begins_connection, ends_connection, is_answer, needs_answer, is_packet, is_connack, is_session_entry};
+ghost use Rattle.mq_trace.specs.Connections.{begins_connection, ends_connection, is_answer, is_packet, is_connack, most_early_events, is_too_early};
 ghost use Rattle.mq_trace.specs.Reception.{AreEvents, Declines, event_of, item_of};
 ghost use Rattle.mq_trace.specs.Emission.{event_refusal, connections_with, next_placed, NotEmitted, RefusedBySink};
 
@@ -19,6 +19,9 @@ use super::refusal::Refusal;
 use super::sink::Sink;
 use mq_packet::{Packet, Publish};
 
+/// How many events a connection may have without its CONNACK, its OPEN counted.
+const MOST_EARLY_EVENTS: u32 = 4096;
+
 /// What is kept of the events of a log.
 #[derive(Clone, Copy, Debug, PartialEq, Eq)]
 pub struct Connections {
@@ -28,14 +31,16 @@ pub struct Connections {
     pub connected: bool,
     /// Whether the latest connection's CONNACK came.
     pub connack_seen: bool,
+    /// How many events came before the latest connection's OPEN.
+    pub before_open: u32,
 }
 
 /// Emits the next event to a sink. The byte at this offset of the log completes it, in the record of this number.
 ///
 /// # Errors
 ///
-/// `Early` if the event needs its connection's CONNACK, which hasn't come; `TooLong` if there are 4,294,967,295 events
-/// already; the sink's own refusal. Each names this byte.
+/// `TooManyEarly` if the open connection has 4,096 events and no CONNACK, and the event is neither its CONNACK nor its CLOSE;
+/// `TooLong` if there are 4,294,967,295 events already; the sink's own refusal. Each names this byte.
 #[inline(always)]
 pub fn emit<S: Sink>(
     connections: &mut Connections,
@@ -45,19 +50,19 @@ pub fn emit<S: Sink>(
     event: Event<'_>,
     sink: &mut S,
 ) -> Result<(), Refusal>
-    ensures ok { OnOk result ((event_refusal at connections.old (event_of event.entry) ≡ None) × (connections.new ≡ connections_with server connections.old (event_of event.entry))) }
+    ensures ok { OnOk result ((event_refusal at server connections.old (event_of event.entry) ≡ None) × (connections.new ≡ connections_with server connections.old (event_of event.entry))) }
     ensures receives { (earlier : List Placed) → S.agrees sink.old earlier → AreEvents (next_placed connections.old record_no (event_of event.entry) ∷ earlier)
         → OnOk result (S.agrees sink.new (next_placed connections.old record_no (event_of event.entry) ∷ earlier)) }
-    ensures err { IfErr result (λ refusal. NotEmitted (Declines S.agrees S.refuses) at (event_refusal at connections.old (event_of event.entry)) (next_placed connections.old record_no (event_of event.entry) ∷ []) sink.old sink.new refusal) }
+    ensures err { IfErr result (λ refusal. NotEmitted (Declines S.agrees S.refuses) at (event_refusal at server connections.old (event_of event.entry)) (next_placed connections.old record_no (event_of event.entry) ∷ []) sink.old sink.new refusal) }
 {
-    match event_refusal(*connections, at, &event) {
+    match event_refusal(*connections, server, at, &event) {
         Some(refusal) => Err(refusal),
         None => emit_next(connections, server, at, record_no, event, sink),
     }
 }
 
-/// Emits the next event, a PUBLISH of `size` bytes in this direction, as any event is emitted. A PUBLISH needs its connection's
-/// CONNACK, and doesn't begin, answer or end a connection.
+/// Emits the next event, a PUBLISH of `size` bytes in this direction, as any event is emitted. A PUBLISH doesn't begin, answer or
+/// end a connection.
 ///
 /// # Errors
 ///
@@ -73,11 +78,11 @@ pub fn emit_publish<S: Sink>(
     sink: &mut S,
 ) -> Result<(), Refusal>
     requires { size ≡ unwrap_or (size_with (remaining_length (packets.Publish publish))) 0 }
-    ensures met { OnOk result (event_refusal at connections.old (item_event direction (item_of (items.Packet (packets.Publish publish.entry)))) ≡ None) }
+    ensures met { (server : Bool) → OnOk result (event_refusal at server connections.old (item_event direction (item_of (items.Packet (packets.Publish publish.entry)))) ≡ None) }
     ensures kept { (server : Bool) → OnOk result (connections.new ≡ connections_with server connections.old (item_event direction (item_of (items.Packet (packets.Publish publish.entry))))) }
     ensures receives { (earlier : List Placed) → S.agrees sink.old earlier → AreEvents (next_placed connections.old record_no (item_event direction (item_of (items.Packet (packets.Publish publish.entry)))) ∷ earlier)
         → OnOk result (S.agrees sink.new (next_placed connections.old record_no (item_event direction (item_of (items.Packet (packets.Publish publish.entry)))) ∷ earlier)) }
-    ensures err { IfErr result (λ refusal. NotEmitted (Declines S.agrees S.refuses) at (event_refusal at connections.old (item_event direction (item_of (items.Packet (packets.Publish publish.entry))))) (next_placed connections.old record_no (item_event direction (item_of (items.Packet (packets.Publish publish.entry)))) ∷ []) sink.old sink.new refusal) }
+    ensures err { (server : Bool) → IfErr result (λ refusal. NotEmitted (Declines S.agrees S.refuses) at (event_refusal at server connections.old (item_event direction (item_of (items.Packet (packets.Publish publish.entry))))) (next_placed connections.old record_no (item_event direction (item_of (items.Packet (packets.Publish publish.entry)))) ∷ []) sink.old sink.new refusal) }
 {
     match publish_refusal(*connections, at) {
         Some(met) => Err(met),
@@ -88,11 +93,11 @@ pub fn emit_publish<S: Sink>(
 /// The refusal that applies to a PUBLISH that the byte at this offset completes.
 #[inline(always)]
 fn publish_refusal(connections: Connections, at: u64) -> Option<Refusal>
-    ensures met { (direction : Direction) (size : ℕ) (fields : PublishFields) → result ≡ event_refusal at connections (item_event direction (packet size (publish fields))) }
+    ensures met { (server : Bool) (direction : Direction) (size : ℕ) (fields : PublishFields) → result ≡ event_refusal at server connections (item_event direction (packet size (publish fields))) }
     ensures room { result ≡ None → connections.events < 4294967295 }
 {
-    if connections.connected && !connections.connack_seen {
-        Some(Refusal::Early(at))
+    if must_be_answered(connections) {
+        Some(Refusal::TooManyEarly(at))
     } else if connections.events == u32::MAX {
         Some(Refusal::TooLong(at))
     } else {
@@ -152,13 +157,13 @@ pub fn emit_packet<S: Sink>(
     sink: &mut S,
 ) -> Result<(), Refusal>
     requires { size ≡ unwrap_or (size_with (remaining_length packet)) 0 }
-    ensures met { OnOk result (event_refusal at connections.old (item_event direction (item_of (items.Packet packet.entry))) ≡ None) }
+    ensures met { OnOk result (event_refusal at server connections.old (item_event direction (item_of (items.Packet packet.entry))) ≡ None) }
     ensures kept { OnOk result (connections.new ≡ connections_with server connections.old (item_event direction (item_of (items.Packet packet.entry)))) }
     ensures receives { (earlier : List Placed) → S.agrees sink.old earlier → AreEvents (next_placed connections.old record_no (item_event direction (item_of (items.Packet packet.entry))) ∷ earlier)
         → OnOk result (S.agrees sink.new (next_placed connections.old record_no (item_event direction (item_of (items.Packet packet.entry))) ∷ earlier)) }
-    ensures err { IfErr result (λ refusal. NotEmitted (Declines S.agrees S.refuses) at (event_refusal at connections.old (item_event direction (item_of (items.Packet packet.entry)))) (next_placed connections.old record_no (item_event direction (item_of (items.Packet packet.entry))) ∷ []) sink.old sink.new refusal) }
+    ensures err { IfErr result (λ refusal. NotEmitted (Declines S.agrees S.refuses) at (event_refusal at server connections.old (item_event direction (item_of (items.Packet packet.entry)))) (next_placed connections.old record_no (item_event direction (item_of (items.Packet packet.entry))) ∷ []) sink.old sink.new refusal) }
 {
-    match packet_refusal(*connections, at, &packet) {
+    match packet_refusal(*connections, server, at, direction, &packet) {
         Some(met) => Err(met),
         None => emit_next_packet(
             connections,
@@ -173,14 +178,20 @@ pub fn emit_packet<S: Sink>(
     }
 }
 
-/// The refusal that applies to a packet that the byte at this offset completes.
+/// The refusal that applies to a packet in this direction that the byte at this offset completes.
 #[inline(always)]
-fn packet_refusal(connections: Connections, at: u64, packet: &Packet<'_>) -> Option<Refusal>
-    ensures met { (direction : Direction) → result ≡ event_refusal at connections (item_event direction (item_of (items.Packet packet.now))) }
+fn packet_refusal(
+    connections: Connections,
+    server: bool,
+    at: u64,
+    direction: Direction,
+    packet: &Packet<'_>,
+) -> Option<Refusal>
+    ensures met { result ≡ event_refusal at server connections (item_event direction (item_of (items.Packet packet.now))) }
     ensures room { result ≡ None → connections.events < 4294967295 }
 {
-    if is_early_packet(connections, packet) {
-        Some(Refusal::Early(at))
+    if must_be_answered(connections) && !is_answer_packet(server, direction, packet) {
+        Some(Refusal::TooManyEarly(at))
     } else if connections.events == u32::MAX {
         Some(Refusal::TooLong(at))
     } else {
@@ -188,12 +199,13 @@ fn packet_refusal(connections: Connections, at: u64, packet: &Packet<'_>) -> Opt
     }
 }
 
-/// Whether the packet needs its connection's CONNACK, while that hasn't come.
+/// Whether a connection is open that has as many events as it may have without its CONNACK, and the CONNACK hasn't come.
 #[inline(always)]
-fn is_early_packet(connections: Connections, packet: &Packet<'_>) -> bool
-    ensures { (direction : Direction) → result ≡ (needs_answer (item_event direction (item_of (items.Packet packet.now))) && (connections.connected && not connections.connack_seen)) }
+fn must_be_answered(connections: Connections) -> bool
+    ensures { result ≡ (connections.connected && (not connections.connack_seen && nat_le most_early_events (connections.events - connections.before_open))) }
 {
-    is_session_packet(packet) && connections.connected && !connections.connack_seen
+    let waits = connections.connected && !connections.connack_seen;
+    waits && connections.events.saturating_sub(connections.before_open) >= MOST_EARLY_EVENTS
 }
 
 /// Emits the next event, a packet to which no refusal applies.
@@ -248,6 +260,7 @@ fn connections_with_packet(
         events: connections.events + 1,
         connected: connections.connected,
         connack_seen: is_answer_packet(server, direction, packet) || connections.connack_seen,
+        before_open: connections.before_open,
     }
 }
 
@@ -264,12 +277,17 @@ fn is_answer_packet(server: bool, direction: Direction, packet: &Packet<'_>) -> 
 
 /// The refusal that applies to an event that the byte at this offset completes.
 #[inline(always)]
-fn event_refusal(connections: Connections, at: u64, event: &Event<'_>) -> Option<Refusal>
-    ensures met { result ≡ event_refusal at connections (event_of event.now) }
+fn event_refusal(
+    connections: Connections,
+    server: bool,
+    at: u64,
+    event: &Event<'_>,
+) -> Option<Refusal>
+    ensures met { result ≡ event_refusal at server connections (event_of event.now) }
     ensures room { result ≡ None → connections.events < 4294967295 }
 {
-    if is_early(connections, event) {
-        Some(Refusal::Early(at))
+    if is_too_early(connections, server, event) {
+        Some(Refusal::TooManyEarly(at))
     } else if connections.events == u32::MAX {
         Some(Refusal::TooLong(at))
     } else {
@@ -277,12 +295,20 @@ fn event_refusal(connections: Connections, at: u64, event: &Event<'_>) -> Option
     }
 }
 
-/// Whether the event needs its connection's CONNACK, while that hasn't come.
+/// Whether the event is one too many on a connection whose CONNACK hasn't come.
 #[inline(always)]
-fn is_early(connections: Connections, event: &Event<'_>) -> bool
-    ensures { result ≡ (needs_answer (event_of event.now) && (connections.connected && not connections.connack_seen)) }
+fn is_too_early(connections: Connections, server: bool, event: &Event<'_>) -> bool
+    ensures { result ≡ is_too_early server connections.connected connections.connack_seen (connections.events - connections.before_open) (Some (event_of event.now)) }
 {
-    needs_answer(event) && connections.connected && !connections.connack_seen
+    must_be_answered(connections) && !decides(server, event)
+}
+
+/// Whether the event is its connection's CLOSE or a CONNACK from the server.
+#[inline(always)]
+fn decides(server: bool, event: &Event<'_>) -> bool
+    ensures { result ≡ (ends_connection (event_of event.now) || is_answer server (event_of event.now)) }
+{
+    ends(event) || is_answer(server, event)
 }
 
 /// Emits the next event, to which no refusal applies.
@@ -329,6 +355,11 @@ fn connections_with(connections: Connections, server: bool, event: &Event<'_>) -
         events: connections.events + 1,
         connected: begins(event) || (!ends(event) && connections.connected),
         connack_seen: is_answer(server, event) || (!begins(event) && connections.connack_seen),
+        before_open: if begins(event) {
+            connections.events
+        } else {
+            connections.before_open
+        },
     }
 }
 
@@ -365,18 +396,6 @@ fn is_answer(server: bool, event: &Event<'_>) -> bool
     }
 }
 
-/// Whether the event is a session packet or a RELEASE: on a connection it must come after the CONNACK (MQTT 5.0, section 4.1).
-#[inline(always)]
-fn needs_answer(event: &Event<'_>) -> bool
-    ensures { result ≡ needs_answer (event_of event.now) }
-{
-    match event {
-        Event::Release(_) => true,
-        Event::Sent(item) | Event::Recv(item) => needs_session(item),
-        Event::Open | Event::Close | Event::Rest => false,
-    }
-}
-
 #[inline(always)]
 fn is_connack(item: &Item<'_>) -> bool
     ensures { result ≡ is_packet is_connack (item_of item.now) }
@@ -394,40 +413,5 @@ fn is_connack_packet(packet: &Packet<'_>) -> bool
     match packet {
         Packet::Connack(_) => true,
         _ => false,
-    }
-}
-
-/// Whether the item is a session packet.
-#[inline(always)]
-fn needs_session(item: &Item<'_>) -> bool
-    ensures { result ≡ is_packet is_session_entry (item_of item.now) }
-{
-    match item {
-        Item::Packet(packet) => is_session_packet(packet),
-        Item::Bad { .. } | Item::Lost => false,
-    }
-}
-
-/// Whether the packet is a PUBLISH, a SUBSCRIBE, an UNSUBSCRIBE, or what acknowledges one (MQTT 5.0, section 4.1).
-#[inline(always)]
-fn is_session_packet(packet: &Packet<'_>) -> bool
-    ensures { result ≡ is_session_entry (view packet.now) }
-{
-    match packet {
-        Packet::Publish(_)
-        | Packet::Puback(_)
-        | Packet::Pubrec(_)
-        | Packet::Pubrel(_)
-        | Packet::Pubcomp(_)
-        | Packet::Subscribe(_)
-        | Packet::Suback(_)
-        | Packet::Unsubscribe(_)
-        | Packet::Unsuback(_) => true,
-        Packet::Connect(_)
-        | Packet::Connack(_)
-        | Packet::Pingreq
-        | Packet::Pingresp
-        | Packet::Disconnect(_)
-        | Packet::Auth(_) => false,
     }
 }

@@ -345,7 +345,7 @@ impl Deframer {
     ///
     /// # Errors
     ///
-    /// `TooLong` if there are 4,294,967,295 events already; the sink's own refusal.
+    /// The refusal that applies to the event, `TooManyEarly` or `TooLong`; the sink's own refusal.
     #[inline(never)]
     fn mark_lost<S: Sink>(
         &mut self,
@@ -355,10 +355,10 @@ impl Deframer {
         sink: &mut S,
     ) -> Result<(), Refusal>
         ensures gone { state_in self.new ≡ record { unfinished = []; lost = true } }
-        ensures ok { OnOk result ((event_refusal at connections.old (item_event context.direction lost) ≡ None) × (connections.new ≡ connections_with context.server connections.old (item_event context.direction lost))) }
+        ensures ok { OnOk result ((event_refusal at context.server connections.old (item_event context.direction lost) ≡ None) × (connections.new ≡ connections_with context.server connections.old (item_event context.direction lost))) }
         ensures receives { (earlier : List Placed) → S.agrees sink.old earlier → AreEvents (next_placed connections.old context.record_no (item_event context.direction lost) ∷ earlier)
             → OnOk result (S.agrees sink.new (next_placed connections.old context.record_no (item_event context.direction lost) ∷ earlier)) }
-        ensures err { IfErr result (λ refusal. NotEmitted (Declines S.agrees S.refuses) at (event_refusal at connections.old (item_event context.direction lost)) (next_placed connections.old context.record_no (item_event context.direction lost) ∷ []) sink.old sink.new refusal) }
+        ensures err { IfErr result (λ refusal. NotEmitted (Declines S.agrees S.refuses) at (event_refusal at context.server connections.old (item_event context.direction lost)) (next_placed connections.old context.record_no (item_event context.direction lost) ∷ []) sink.old sink.new refusal) }
     {
         self.unfinished.clear();
         self.lost = true;
@@ -531,12 +531,12 @@ fn emit_frame<S: Sink>(
 ) -> Result<(), Refusal>
     requires whole { fixed_header_of frame.now ≡ headers.Whole header (length frame.now) }
     requires fits { length frame.now ≤ header + 268435455 }
-    ensures met { OnOk result (frame_refusal at (flow_of at (record { unfinished = []; lost = false }) connections.old) context.direction frame.now ≡ None) }
+    ensures met { OnOk result (frame_refusal at (body_context context) (flow_of at (record { unfinished = []; lost = false }) connections.old) frame.now ≡ None) }
     ensures kept { OnOk result (connections.new ≡ connections_then context.server connections.old (frame_event context.direction frame.now)) }
     ensures receives { (earlier : List Placed) → S.agrees sink.old earlier
         → AreEvents (put (flow_placed_with (body_context context) (flow_of at (record { unfinished = []; lost = false }) connections.old) (frame_event context.direction frame.now)) earlier)
         → OnOk result (S.agrees sink.new (put (flow_placed_with (body_context context) (flow_of at (record { unfinished = []; lost = false }) connections.old) (frame_event context.direction frame.now)) earlier)) }
-    ensures err { IfErr result (λ refusal. NotEmitted (Declines S.agrees S.refuses) at (frame_refusal at (flow_of at (record { unfinished = []; lost = false }) connections.old) context.direction frame.now)
+    ensures err { IfErr result (λ refusal. NotEmitted (Declines S.agrees S.refuses) at (frame_refusal at (body_context context) (flow_of at (record { unfinished = []; lost = false }) connections.old) frame.now)
         (put (flow_placed_with (body_context context) (flow_of at (record { unfinished = []; lost = false }) connections.old) (frame_event context.direction frame.now)) []) sink.old sink.new refusal) }
 {
     match frame[0] {
@@ -563,12 +563,12 @@ fn emit_brief_publish_frame<S: Sink>(
     requires whole { fixed_header_of frame.now ≡ headers.Whole header (length frame.now) }
     requires publish { (48 ≤ slice_index frame.now 0) × (slice_index frame.now 0 < 64) }
     requires fits { length frame.now ≤ header + 268435455 }
-    ensures met { OnOk result (frame_refusal at (flow_of at (record { unfinished = []; lost = false }) connections.old) context.direction frame.now ≡ None) }
+    ensures met { OnOk result (frame_refusal at (body_context context) (flow_of at (record { unfinished = []; lost = false }) connections.old) frame.now ≡ None) }
     ensures kept { OnOk result (connections.new ≡ connections_then context.server connections.old (frame_event context.direction frame.now)) }
     ensures receives { (earlier : List Placed) → S.agrees sink.old earlier
         → AreEvents (put (flow_placed_with (body_context context) (flow_of at (record { unfinished = []; lost = false }) connections.old) (frame_event context.direction frame.now)) earlier)
         → OnOk result (S.agrees sink.new (put (flow_placed_with (body_context context) (flow_of at (record { unfinished = []; lost = false }) connections.old) (frame_event context.direction frame.now)) earlier)) }
-    ensures err { IfErr result (λ refusal. NotEmitted (Declines S.agrees S.refuses) at (frame_refusal at (flow_of at (record { unfinished = []; lost = false }) connections.old) context.direction frame.now)
+    ensures err { IfErr result (λ refusal. NotEmitted (Declines S.agrees S.refuses) at (frame_refusal at (body_context context) (flow_of at (record { unfinished = []; lost = false }) connections.old) frame.now)
         (put (flow_placed_with (body_context context) (flow_of at (record { unfinished = []; lost = false }) connections.old) (frame_event context.direction frame.now)) []) sink.old sink.new refusal) }
 {
     match decode_brief_publish(frame[0], &frame[header..]) {
@@ -598,12 +598,12 @@ fn emit_publish_frame<S: Sink>(
     requires whole { fixed_header_of frame.now ≡ headers.Whole header (length frame.now) }
     requires publish { (48 ≤ slice_index frame.now 0) × (slice_index frame.now 0 < 64) }
     requires fits { length frame.now ≤ header + 268435455 }
-    ensures met { OnOk result (frame_refusal at (flow_of at (record { unfinished = []; lost = false }) connections.old) context.direction frame.now ≡ None) }
+    ensures met { OnOk result (frame_refusal at (body_context context) (flow_of at (record { unfinished = []; lost = false }) connections.old) frame.now ≡ None) }
     ensures kept { OnOk result (connections.new ≡ connections_then context.server connections.old (frame_event context.direction frame.now)) }
     ensures receives { (earlier : List Placed) → S.agrees sink.old earlier
         → AreEvents (put (flow_placed_with (body_context context) (flow_of at (record { unfinished = []; lost = false }) connections.old) (frame_event context.direction frame.now)) earlier)
         → OnOk result (S.agrees sink.new (put (flow_placed_with (body_context context) (flow_of at (record { unfinished = []; lost = false }) connections.old) (frame_event context.direction frame.now)) earlier)) }
-    ensures err { IfErr result (λ refusal. NotEmitted (Declines S.agrees S.refuses) at (frame_refusal at (flow_of at (record { unfinished = []; lost = false }) connections.old) context.direction frame.now)
+    ensures err { IfErr result (λ refusal. NotEmitted (Declines S.agrees S.refuses) at (frame_refusal at (body_context context) (flow_of at (record { unfinished = []; lost = false }) connections.old) frame.now)
         (put (flow_placed_with (body_context context) (flow_of at (record { unfinished = []; lost = false }) connections.old) (frame_event context.direction frame.now)) []) sink.old sink.new refusal) }
 {
     match decode_publish(frame[0], &frame[header..]) {
@@ -634,12 +634,12 @@ fn emit_puback_frame<S: Sink>(
     requires whole { fixed_header_of frame.now ≡ headers.Whole header (length frame.now) }
     requires puback { slice_index frame.now 0 ≡ 64 }
     requires fits { length frame.now ≤ header + 268435455 }
-    ensures met { OnOk result (frame_refusal at (flow_of at (record { unfinished = []; lost = false }) connections.old) context.direction frame.now ≡ None) }
+    ensures met { OnOk result (frame_refusal at (body_context context) (flow_of at (record { unfinished = []; lost = false }) connections.old) frame.now ≡ None) }
     ensures kept { OnOk result (connections.new ≡ connections_then context.server connections.old (frame_event context.direction frame.now)) }
     ensures receives { (earlier : List Placed) → S.agrees sink.old earlier
         → AreEvents (put (flow_placed_with (body_context context) (flow_of at (record { unfinished = []; lost = false }) connections.old) (frame_event context.direction frame.now)) earlier)
         → OnOk result (S.agrees sink.new (put (flow_placed_with (body_context context) (flow_of at (record { unfinished = []; lost = false }) connections.old) (frame_event context.direction frame.now)) earlier)) }
-    ensures err { IfErr result (λ refusal. NotEmitted (Declines S.agrees S.refuses) at (frame_refusal at (flow_of at (record { unfinished = []; lost = false }) connections.old) context.direction frame.now)
+    ensures err { IfErr result (λ refusal. NotEmitted (Declines S.agrees S.refuses) at (frame_refusal at (body_context context) (flow_of at (record { unfinished = []; lost = false }) connections.old) frame.now)
         (put (flow_placed_with (body_context context) (flow_of at (record { unfinished = []; lost = false }) connections.old) (frame_event context.direction frame.now)) []) sink.old sink.new refusal) }
 {
     match decode_brief_acknowledgement(0x40, &frame[header..]) {
@@ -660,12 +660,12 @@ fn emit_ping_frame<S: Sink>(
 ) -> Result<(), Refusal>
     requires whole { fixed_header_of frame.now ≡ headers.Whole header (length frame.now) }
     requires fits { length frame.now ≤ header + 268435455 }
-    ensures met { OnOk result (frame_refusal at (flow_of at (record { unfinished = []; lost = false }) connections.old) context.direction frame.now ≡ None) }
+    ensures met { OnOk result (frame_refusal at (body_context context) (flow_of at (record { unfinished = []; lost = false }) connections.old) frame.now ≡ None) }
     ensures kept { OnOk result (connections.new ≡ connections_then context.server connections.old (frame_event context.direction frame.now)) }
     ensures receives { (earlier : List Placed) → S.agrees sink.old earlier
         → AreEvents (put (flow_placed_with (body_context context) (flow_of at (record { unfinished = []; lost = false }) connections.old) (frame_event context.direction frame.now)) earlier)
         → OnOk result (S.agrees sink.new (put (flow_placed_with (body_context context) (flow_of at (record { unfinished = []; lost = false }) connections.old) (frame_event context.direction frame.now)) earlier)) }
-    ensures err { IfErr result (λ refusal. NotEmitted (Declines S.agrees S.refuses) at (frame_refusal at (flow_of at (record { unfinished = []; lost = false }) connections.old) context.direction frame.now)
+    ensures err { IfErr result (λ refusal. NotEmitted (Declines S.agrees S.refuses) at (frame_refusal at (body_context context) (flow_of at (record { unfinished = []; lost = false }) connections.old) frame.now)
         (put (flow_placed_with (body_context context) (flow_of at (record { unfinished = []; lost = false }) connections.old) (frame_event context.direction frame.now)) []) sink.old sink.new refusal) }
 {
     match decode_ping(frame[0], &frame[header..]) {
@@ -686,12 +686,12 @@ fn emit_other_frame<S: Sink>(
 ) -> Result<(), Refusal>
     requires whole { fixed_header_of frame.now ≡ headers.Whole header (length frame.now) }
     requires fits { length frame.now ≤ header + 268435455 }
-    ensures met { OnOk result (frame_refusal at (flow_of at (record { unfinished = []; lost = false }) connections.old) context.direction frame.now ≡ None) }
+    ensures met { OnOk result (frame_refusal at (body_context context) (flow_of at (record { unfinished = []; lost = false }) connections.old) frame.now ≡ None) }
     ensures kept { OnOk result (connections.new ≡ connections_then context.server connections.old (frame_event context.direction frame.now)) }
     ensures receives { (earlier : List Placed) → S.agrees sink.old earlier
         → AreEvents (put (flow_placed_with (body_context context) (flow_of at (record { unfinished = []; lost = false }) connections.old) (frame_event context.direction frame.now)) earlier)
         → OnOk result (S.agrees sink.new (put (flow_placed_with (body_context context) (flow_of at (record { unfinished = []; lost = false }) connections.old) (frame_event context.direction frame.now)) earlier)) }
-    ensures err { IfErr result (λ refusal. NotEmitted (Declines S.agrees S.refuses) at (frame_refusal at (flow_of at (record { unfinished = []; lost = false }) connections.old) context.direction frame.now)
+    ensures err { IfErr result (λ refusal. NotEmitted (Declines S.agrees S.refuses) at (frame_refusal at (body_context context) (flow_of at (record { unfinished = []; lost = false }) connections.old) frame.now)
         (put (flow_placed_with (body_context context) (flow_of at (record { unfinished = []; lost = false }) connections.old) (frame_event context.direction frame.now)) []) sink.old sink.new refusal) }
 {
     let read = decode(frame[0], &frame[header..]);
@@ -713,12 +713,12 @@ fn emit_decoded<S: Sink>(
     requires fits { length frame.now ≤ header + 268435455 }
     requires exact { Gives view read (decoded (slice_index frame.now 0) (take (length frame.now - header) (drop header frame.now))) }
     requires size { IfOk read (λ packet. remaining_length packet ≡ length (take (length frame.now - header) (drop header frame.now))) }
-    ensures met { OnOk result (frame_refusal at (flow_of at (record { unfinished = []; lost = false }) connections.old) context.direction frame.now ≡ None) }
+    ensures met { OnOk result (frame_refusal at (body_context context) (flow_of at (record { unfinished = []; lost = false }) connections.old) frame.now ≡ None) }
     ensures kept { OnOk result (connections.new ≡ connections_then context.server connections.old (frame_event context.direction frame.now)) }
     ensures receives { (earlier : List Placed) → S.agrees sink.old earlier
         → AreEvents (put (flow_placed_with (body_context context) (flow_of at (record { unfinished = []; lost = false }) connections.old) (frame_event context.direction frame.now)) earlier)
         → OnOk result (S.agrees sink.new (put (flow_placed_with (body_context context) (flow_of at (record { unfinished = []; lost = false }) connections.old) (frame_event context.direction frame.now)) earlier)) }
-    ensures err { IfErr result (λ refusal. NotEmitted (Declines S.agrees S.refuses) at (frame_refusal at (flow_of at (record { unfinished = []; lost = false }) connections.old) context.direction frame.now)
+    ensures err { IfErr result (λ refusal. NotEmitted (Declines S.agrees S.refuses) at (frame_refusal at (body_context context) (flow_of at (record { unfinished = []; lost = false }) connections.old) frame.now)
         (put (flow_placed_with (body_context context) (flow_of at (record { unfinished = []; lost = false }) connections.old) (frame_event context.direction frame.now)) []) sink.old sink.new refusal) }
 {
     match read {
@@ -749,12 +749,12 @@ fn emit_fault<S: Sink>(
 ) -> Result<(), Refusal>
     requires whole { fixed_header_of frame.now ≡ headers.Whole header (length frame.now) }
     requires exact { decoded (slice_index frame.now 0) (take (length frame.now - header) (drop header frame.now)) ≡ Err fault }
-    ensures met { OnOk result (frame_refusal at (flow_of at (record { unfinished = []; lost = false }) connections.old) context.direction frame.now ≡ None) }
+    ensures met { OnOk result (frame_refusal at (body_context context) (flow_of at (record { unfinished = []; lost = false }) connections.old) frame.now ≡ None) }
     ensures kept { OnOk result (connections.new ≡ connections_then context.server connections.old (frame_event context.direction frame.now)) }
     ensures receives { (earlier : List Placed) → S.agrees sink.old earlier
         → AreEvents (put (flow_placed_with (body_context context) (flow_of at (record { unfinished = []; lost = false }) connections.old) (frame_event context.direction frame.now)) earlier)
         → OnOk result (S.agrees sink.new (put (flow_placed_with (body_context context) (flow_of at (record { unfinished = []; lost = false }) connections.old) (frame_event context.direction frame.now)) earlier)) }
-    ensures err { IfErr result (λ refusal. NotEmitted (Declines S.agrees S.refuses) at (frame_refusal at (flow_of at (record { unfinished = []; lost = false }) connections.old) context.direction frame.now)
+    ensures err { IfErr result (λ refusal. NotEmitted (Declines S.agrees S.refuses) at (frame_refusal at (body_context context) (flow_of at (record { unfinished = []; lost = false }) connections.old) frame.now)
         (put (flow_placed_with (body_context context) (flow_of at (record { unfinished = []; lost = false }) connections.old) (frame_event context.direction frame.now)) []) sink.old sink.new refusal) }
 {
     match fault {
@@ -782,11 +782,11 @@ fn emit_bad<S: Sink>(
     place: u32,
     sink: &mut S,
 ) -> Result<(), Refusal>
-    ensures met { OnOk result (event_refusal at connections.old (item_event context.direction (bad frame.now rule place)) ≡ None) }
+    ensures met { OnOk result (event_refusal at context.server connections.old (item_event context.direction (bad frame.now rule place)) ≡ None) }
     ensures kept { OnOk result (connections.new ≡ connections_with context.server connections.old (item_event context.direction (bad frame.now rule place))) }
     ensures receives { (earlier : List Placed) → S.agrees sink.old earlier → AreEvents (next_placed connections.old context.record_no (item_event context.direction (bad frame.now rule place)) ∷ earlier)
         → OnOk result (S.agrees sink.new (next_placed connections.old context.record_no (item_event context.direction (bad frame.now rule place)) ∷ earlier)) }
-    ensures err { IfErr result (λ refusal. NotEmitted (Declines S.agrees S.refuses) at (event_refusal at connections.old (item_event context.direction (bad frame.now rule place))) (next_placed connections.old context.record_no (item_event context.direction (bad frame.now rule place)) ∷ []) sink.old sink.new refusal) }
+    ensures err { IfErr result (λ refusal. NotEmitted (Declines S.agrees S.refuses) at (event_refusal at context.server connections.old (item_event context.direction (bad frame.now rule place))) (next_placed connections.old context.record_no (item_event context.direction (bad frame.now rule place)) ∷ []) sink.old sink.new refusal) }
 {
     let item = Item::Bad {
         bytes: frame,

@@ -1,12 +1,13 @@
 //! Laws of the definitions on whole logs, each proved as the contract of a function that does nothing.
-ghost use Rattle.std.specs.Prelude.{◌≡◌, ℕ, true, false, take, drop, List, [], ◌∷◌, ◌++◌, None, Some};
+ghost use Rattle.std.specs.Prelude.{◌≡◌, ℕ, Bool, true, false, take, drop, List, [], ◌∷◌, ◌++◌, Option, None, Some};
 ghost use Rattle.mq_packet.specs.Stream.{frame_size};
 ghost use Rattle.mq_trace.specs.declared.refusal.Refusal.{Refusal};
-ghost use Rattle.mq_trace.specs.declared.refusal.Refusal.TheVariants.{Version, Nested, NotOpen, ReleaseUnrecorded, Early};
+ghost use Rattle.mq_trace.specs.declared.refusal.Refusal.TheVariants.{Version, Nested, NotOpen, ReleaseUnrecorded};
 ghost use Rattle.mq_trace.specs.declared.kind.Direction.{Direction};
 ghost use Rattle.mq_trace.specs.Pieces.{Pieces, AreCut};
 ghost use Rattle.mq_trace.specs.Framing.{record_size, records, stream, kind_of, opens, carried};
-ghost use Rattle.mq_trace.specs.Events.{events};
+ghost use Rattle.mq_trace.specs.Connections.{events_on_connection, is_answer, is_too_early};
+ghost use Rattle.mq_trace.specs.Events.{Event, closed, released, events};
 ghost use Rattle.mq_trace.specs.Refusals.{refused, is_cut_short};
 ghost use Rattle.mq_trace.specs.Rows.{client_header, silent_header, open_bytes, close_bytes, release_bytes};
 ghost use Rattle.mq_trace.specs.Context.{context, after, put, placed_for};
@@ -48,8 +49,19 @@ pub fn worked_logs()
     ensures second { refused 16777216 (client_header ++ open_bytes ++ close_bytes ++ open_bytes) ≡ None }
     ensures between { refused 16777216 (client_header ++ release_bytes) ≡ None }
     ensures after_closed { refused 16777216 (client_header ++ open_bytes ++ close_bytes ++ release_bytes) ≡ None }
-    ensures early { refused 16777216 (client_header ++ open_bytes ++ release_bytes) ≡ Some (Early 19) }
+    ensures early { refused 16777216 (client_header ++ open_bytes ++ release_bytes) ≡ None }
+    ensures counted { events_on_connection (events (client_header ++ open_bytes ++ release_bytes ++ close_bytes ++ open_bytes ++ release_bytes)) ≡ 2 }
     ensures unrecorded { refused 16777216 (silent_header ++ release_bytes) ≡ Some (ReleaseUnrecorded 8) }
     ensures unopened { refused 16777216 (client_header ++ close_bytes) ≡ Some (NotOpen 8) }
     ensures version { refused 16777216 (77 ∷ 81 ∷ 84 ∷ 82 ∷ 2 ∷ []) ≡ Some (Version 4) }
+{}
+
+/// On a connection without its CONNACK 4,096 events may come, and after them only its CLOSE and its CONNACK.
+pub fn early_events_are_counted()
+    ensures room { (server connected : Bool) (event : Option Event) → is_too_early server connected false 4095 event ≡ false }
+    ensures full { (server : Bool) (identifier : ℕ) → is_too_early server true false 4096 (Some (released identifier)) ≡ true }
+    ensures closes { (server connected connack_seen : Bool) (count : ℕ) → is_too_early server connected connack_seen count (Some closed) ≡ false }
+    ensures answered { (server connected : Bool) (count : ℕ) (event : Option Event) → is_too_early server connected true count event ≡ false }
+    ensures answers { (server connected connack_seen : Bool) (count : ℕ) (event : Event) → is_answer server event ≡ true → is_too_early server connected connack_seen count (Some event) ≡ false }
+    ensures between { (server connack_seen : Bool) (count : ℕ) (event : Option Event) → is_too_early server false connack_seen count event ≡ false }
 {}

@@ -78,6 +78,7 @@ impl Reading {
                 events: 0,
                 connected: false,
                 connack_seen: false,
+                before_open: 0,
             },
         }
     }
@@ -495,11 +496,11 @@ impl Reading {
     fn end_mark<S: Sink>(&mut self, event: Event<'_>, sink: &mut S) -> Result<(), Refusal>
         requires room { self.old.at + 1 < 2 ^ 64 }
         requires numbered { self.old.records < 4294967295 }
-        ensures met { OnOk result (event_refusal self.old.at self.old.connections (event_of event.entry) ≡ None) }
+        ensures met { OnOk result (event_refusal self.old.at self.old.header.server self.old.connections (event_of event.entry) ≡ None) }
         ensures kept { OnOk result (self.new ≡ marked self.old (event_of event.entry)) }
         ensures receives { (earlier : List Placed) → S.agrees sink.old earlier → AreEvents (next_placed self.old.connections (self.old.records + 1) (event_of event.entry) ∷ earlier)
             → OnOk result (S.agrees sink.new (next_placed self.old.connections (self.old.records + 1) (event_of event.entry) ∷ earlier)) }
-        ensures err { IfErr result (λ refusal. NotEmitted (Declines S.agrees S.refuses) self.old.at (event_refusal self.old.at self.old.connections (event_of event.entry)) (next_placed self.old.connections (self.old.records + 1) (event_of event.entry) ∷ []) sink.old sink.new refusal) }
+        ensures err { IfErr result (λ refusal. NotEmitted (Declines S.agrees S.refuses) self.old.at (event_refusal self.old.at self.old.header.server self.old.connections (event_of event.entry)) (next_placed self.old.connections (self.old.records + 1) (event_of event.entry) ∷ []) sink.old sink.new refusal) }
         ensures stays { OnErr result (HoldsHeader self.old self.new) }
     {
         match emit(

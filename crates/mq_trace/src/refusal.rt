@@ -32,8 +32,8 @@ pub enum Refusal {
     TooLarge(u64),
     /// 12: a CONNECT of another protocol version.
     OtherVersion(u64),
-    /// 13: a session packet or a RELEASE on a connection whose CONNACK hasn't come.
-    Early(u64),
+    /// 13: the 4,097th event of a connection, its OPEN counted, which isn't its CLOSE, where none of the 4,097 is its CONNACK.
+    TooManyEarly(u64),
     /// 14: more than 4,294,967,295 records or events.
     TooLong(u64),
     /// 15: the reader failed, or the bound on the number of reads was reached.
@@ -61,7 +61,7 @@ impl Refusal {
             Refusal::Cut(_) => 10,
             Refusal::TooLarge(_) => 11,
             Refusal::OtherVersion(_) => 12,
-            Refusal::Early(_) => 13,
+            Refusal::TooManyEarly(_) => 13,
             Refusal::TooLong(_) => 14,
             Refusal::Read(_) => 15,
             Refusal::Memory(_) => 16,
@@ -85,7 +85,7 @@ impl Refusal {
             Refusal::Cut(_) => "Cut",
             Refusal::TooLarge(_) => "TooLarge",
             Refusal::OtherVersion(_) => "OtherVersion",
-            Refusal::Early(_) => "Early",
+            Refusal::TooManyEarly(_) => "TooManyEarly",
             Refusal::TooLong(_) => "TooLong",
             Refusal::Read(_) => "Read",
             Refusal::Memory(_) => "Memory",
@@ -109,7 +109,7 @@ impl Refusal {
             | Refusal::Cut(at)
             | Refusal::TooLarge(at)
             | Refusal::OtherVersion(at)
-            | Refusal::Early(at)
+            | Refusal::TooManyEarly(at)
             | Refusal::TooLong(at)
             | Refusal::Read(at)
             | Refusal::Memory(at) => at,
@@ -135,7 +135,7 @@ impl Refusal {
             Refusal::Cut(_) => Refusal::Cut(at),
             Refusal::TooLarge(_) => Refusal::TooLarge(at),
             Refusal::OtherVersion(_) => Refusal::OtherVersion(at),
-            Refusal::Early(_) => Refusal::Early(at),
+            Refusal::TooManyEarly(_) => Refusal::TooManyEarly(at),
             Refusal::TooLong(_) => Refusal::TooLong(at),
             Refusal::Read(_) => Refusal::Read(at),
             Refusal::Memory(_) => Refusal::Memory(at),
@@ -177,7 +177,10 @@ mod tests {
             (Refusal::Cut(33), "refused 10 Cut at 33"),
             (Refusal::TooLarge(52), "refused 11 TooLarge at 52"),
             (Refusal::OtherVersion(47), "refused 12 OtherVersion at 47"),
-            (Refusal::Early(63), "refused 13 Early at 63"),
+            (
+                Refusal::TooManyEarly(28_702),
+                "refused 13 TooManyEarly at 28702",
+            ),
             (
                 Refusal::TooLong(4294967296),
                 "refused 14 TooLong at 4294967296",

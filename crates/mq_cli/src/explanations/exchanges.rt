@@ -7,8 +7,8 @@ pub const E1A: &str = "E1A both MQTT-2.2.1-5\n\
     another message, which then is lost.\n\n\
     Judged: At a PUBACK, on a connection that the server accepted, whose identifier\n\
     has no unanswered PUBLISH of QoS 1 before it: none in the session, or only ones\n\
-    that were answered on this connection. Decided at once, since the CONNACK came\n\
-    before.\n\n\
+    that were answered on this connection. Decided at once, or at the CONNACK if\n\
+    that comes later.\n\n\
     In a client: A PUBACK is sent twice, once by the library and once by the\n\
     application, or with the identifier of another message. Keep a list of what is\n\
     to be acknowledged, and take each entry out as it is answered.\n\n\
@@ -41,7 +41,7 @@ pub const E1O: &str = "E1O client MQTT-4.6.0-2\n\
     Why: A sender may rely on acknowledgements in the order of its messages.\n\n\
     Judged: At a PUBACK, where a PUBLISH of QoS 1 under another identifier came\n\
     earlier on this connection and is still unanswered, on a connection that the\n\
-    server accepted. Decided at once, since the CONNACK came before.\n\n\
+    server accepted. Decided at once, or at the CONNACK if that comes later.\n\n\
     In a client: Handlers run at the same time, and each acknowledges when it ends.\n\
     Put acknowledgements into a queue in the order of arrival, and send one only\n\
     when all before it are ready.\n\n\
@@ -54,8 +54,8 @@ pub const E2A: &str = "E2A both MQTT-2.2.1-5\n\
     to a message that hasn't arrived.\n\n\
     Judged: At a PUBREC, on a connection that the server accepted, whose identifier\n\
     has no unanswered PUBLISH of QoS 2 before it: none in the session, or only ones\n\
-    that were answered on this connection. Decided at once, since the CONNACK came\n\
-    before.\n\n\
+    that were answered on this connection. Decided at once, or at the CONNACK if\n\
+    that comes later.\n\n\
     In a client: A PUBREC answers a PUBLISH of QoS 1, or is sent a second time.\n\
     Choose the answer by the QoS of the PUBLISH, and send it once for each.\n\n\
     In a server: A PUBREC answers a PUBLISH of QoS 1, or is sent again after a\n\
@@ -87,7 +87,7 @@ pub const E2O: &str = "E2O client MQTT-4.6.0-3\n\
     Why: A sender may rely on PUBRECs in the order of its messages.\n\n\
     Judged: At a PUBREC, where a PUBLISH of QoS 2 under another identifier came\n\
     earlier on this connection and is still unanswered, on a connection that the\n\
-    server accepted. Decided at once, since the CONNACK came before.\n\n\
+    server accepted. Decided at once, or at the CONNACK if that comes later.\n\n\
     In a client: Messages are stored by several tasks, and each sends its PUBREC\n\
     when done. Put PUBRECs into a queue in the order of arrival.\n\n\
     See: MQTT 5.0, section 4.6.\n";
@@ -99,8 +99,8 @@ pub const E3A: &str = "E3A both MQTT-2.2.1-5\n\
     identifier. Without an accepting PUBREC the message may not have arrived.\n\n\
     Judged: At a PUBREL, on a connection that the server accepted, whose identifier\n\
     has no unanswered PUBREC below 0x80 before it: none in the session, or only ones\n\
-    that were answered on this connection. Decided at once, since the CONNACK came\n\
-    before.\n\n\
+    that were answered on this connection. Decided at once, or at the CONNACK if\n\
+    that comes later.\n\n\
     In a client: A PUBREL follows a PUBREC of 0x80 or more, or is sent after a\n\
     reconnect for a message whose PUBREC never came. Look at the Reason Code, and\n\
     keep for each message whether its PUBREC came.\n\n\
@@ -134,7 +134,7 @@ pub const E3O: &str = "E3O client MQTT-4.6.0-4\n\
     the receiver releases them at the PUBREL.\n\n\
     Judged: At a PUBREL, where a PUBREC under another identifier came earlier on\n\
     this connection and is still unanswered, on a connection that the server\n\
-    accepted. Decided at once, since the CONNACK came before.\n\n\
+    accepted. Decided at once, or at the CONNACK if that comes later.\n\n\
     In a client: PUBRELs are sent when a write to the store is done, in whatever\n\
     order that happens. Put them into a queue in the order of the PUBRECs.\n\n\
     See: MQTT 5.0, section 4.6.\n";
@@ -146,7 +146,8 @@ pub const E4A: &str = "E4A both MQTT-2.2.1-5\n\
     peer still uses it.\n\n\
     Judged: At a PUBCOMP, on a connection that the server accepted, whose identifier\n\
     has no unanswered PUBREL before it: none in the session, or only ones that were\n\
-    answered on this connection. Decided at once, since the CONNACK came before.\n\n\
+    answered on this connection. Decided at once, or at the CONNACK if that comes\n\
+    later.\n\n\
     In a client: The PUBCOMP is sent right after the PUBREC, or once by the library\n\
     and once by the application. Send it only when a PUBREL comes.\n\n\
     In a server: The PUBCOMP is sent together with the PUBREC, or again after a\n\
@@ -176,8 +177,8 @@ pub const E5A: &str = "E5A server MQTT-2.2.1-6\n\
     to another packet.\n\n\
     Judged: At a SUBACK, on a connection that the server accepted, whose identifier\n\
     has no unanswered SUBSCRIBE before it: none in the session, or only ones that\n\
-    were answered on this connection. Decided at once, since the CONNACK came\n\
-    before.\n\n\
+    were answered on this connection. Decided at once, or at the CONNACK if that\n\
+    comes later.\n\n\
     In a server: A SUBACK is sent for each filter and not for each SUBSCRIBE, or by\n\
     two plugins. Collect the codes of all filters, and answer once.\n\n\
     See: MQTT 5.0, section 2.2.1.\n";
@@ -202,8 +203,8 @@ pub const E6A: &str = "E6A server MQTT-2.2.1-6\n\
     to another packet.\n\n\
     Judged: At an UNSUBACK, on a connection that the server accepted, whose\n\
     identifier has no unanswered UNSUBSCRIBE before it: none in the session, or only\n\
-    ones that were answered on this connection. Decided at once, since the CONNACK\n\
-    came before.\n\n\
+    ones that were answered on this connection. Decided at once, or at the CONNACK\n\
+    if that comes later.\n\n\
     In a server: An UNSUBACK is sent for each filter and not for each UNSUBSCRIBE.\n\
     Collect the codes of all filters, and answer once.\n\n\
     See: MQTT 5.0, section 2.2.1.\n";

@@ -6,8 +6,9 @@ pub const L1: &str = "L1 both sec-4.3.3\n\
     released.\n\n\
     Why: A release hands a message on. One without a message, or after its exchange\n\
     is over, delivers a message twice, or one that never came.\n\n\
-    Judged: At a RELEASE, on an accepted connection or between connections. Decided\n\
-    at once. This is judged where the log's header says that releases are recorded.\n\n\
+    Judged: At a RELEASE. Decided at once; on a connection whose CONNACK hasn't\n\
+    come, at the CONNACK or at the CLOSE. This is judged where the log's header says\n\
+    that releases are recorded.\n\n\
     In a client: The message is handed to the application again from the store after\n\
     its PUBCOMP, or after a PUBREC that refused it. Delete the stored message when\n\
     it is handed on, or refused.\n\n\
@@ -22,7 +23,8 @@ pub const L2: &str = "L2 both MQTT-4.3.3-10\n\
     Why: Exactly once is the promise of QoS 2. A second release of the same message\n\
     breaks it.\n\n\
     Judged: At the second RELEASE under the identifier in a session, with no PUBCOMP\n\
-    and no PUBREC of 0x80 or more between. Decided at once. This is judged where the\n\
+    and no PUBREC of 0x80 or more between. Decided at once; on a connection whose\n\
+    CONNACK hasn't come, at the CONNACK or at the CLOSE. This is judged where the\n\
     log's header says that releases are recorded.\n\n\
     In a client: A PUBLISH with DUP 1 is handed on like a new one, or the message\n\
     goes out both at the PUBLISH and at the PUBREL. Keep the identifiers that were\n\
@@ -38,10 +40,10 @@ pub const L3: &str = "L3 both sec-4.3.3\n\
     Why: The PUBCOMP makes the sender forget the message. If it wasn't released\n\
     before, nobody has it if this end fails now.\n\n\
     Judged: At a PUBCOMP of code 0x00 for a message of QoS 2 that wasn't released,\n\
-    on a connection that the server accepted. Decided at once, since the CONNACK\n\
-    came before. It is excused if the PUBLISH had a Message Expiry Interval, or a\n\
-    PUBREC of 0x10 was sent for it. This is judged where the log's header says that\n\
-    releases are recorded.\n\n\
+    on a connection that the server accepted. Decided at once, or at the CONNACK if\n\
+    that comes later. It is excused if the PUBLISH had a Message Expiry Interval, or\n\
+    a PUBREC of 0x10 was sent for it. This is judged where the log's header says\n\
+    that releases are recorded.\n\n\
     In a client: The PUBCOMP is sent by the network task while the application still\n\
     has the message in its queue. Release it first, and then send the PUBCOMP.\n\n\
     In a server: The PUBCOMP is sent before the message was routed to the\n\

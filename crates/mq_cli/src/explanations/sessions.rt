@@ -7,9 +7,9 @@ pub const S01: &str = "S01 both MQTT-2.2.1-3;MQTT-2.2.1-4\n\
     Why: The peer joins answers to packets by the identifier alone. With two packets\n\
     under one, an answer could be for either.\n\n\
     Judged: At a PUBLISH of QoS above 0 with DUP 0, and a client's SUBSCRIBE or\n\
-    UNSUBSCRIBE, on a connection that the server accepted. Decided at once, since\n\
-    the CONNACK came before. An identifier is in use in the whole session until a\n\
-    PUBACK, a PUBCOMP or a PUBREC of 0x80 or more; that of a SUBSCRIBE or\n\
+    UNSUBSCRIBE, on a connection that the server accepted. Decided at once, or at\n\
+    the CONNACK if that comes later. An identifier is in use in the whole session\n\
+    until a PUBACK, a PUBCOMP or a PUBREC of 0x80 or more; that of a SUBSCRIBE or\n\
     UNSUBSCRIBE until its answer.\n\n\
     In a client: The counter continues or starts over without regard to what is\n\
     unacknowledged, often after a reconnect or a restart. Keep the set of\n\
@@ -28,7 +28,7 @@ pub const S02: &str = "S02 both MQTT-4.3.2-2,MQTT-4.3.3-2\n\
     Judged: At a PUBLISH with DUP 1 of QoS above 0, whose identifier isn't open in\n\
     the session and which wasn't sent before on a void connection (refused, or\n\
     closed without a CONNACK), on a connection that the server accepted. Decided at\n\
-    once, since the CONNACK came before.\n\n\
+    once, or at the CONNACK if that comes later.\n\n\
     In a client: DUP is set for every message from the queue after a reconnect, also\n\
     for those that never left. Set it only where a PUBLISH was written before; and\n\
     drop a message when its acknowledgement comes.\n\n\
@@ -44,7 +44,7 @@ pub const S03: &str = "S03 both MQTT-4.4.0-1\n\
     duplicates.\n\n\
     Judged: At a PUBLISH with DUP 1 that was sent on this connection already, with\n\
     no acknowledgement since, on a connection that the server accepted. Decided at\n\
-    once, since the CONNACK came before.\n\n\
+    once, or at the CONNACK if that comes later.\n\n\
     In a client: A timer sends again what isn't acknowledged in time, as was done in\n\
     MQTT 3.1. Remove the timer, and send again only after a reconnect that resumes\n\
     the session.\n\n\
@@ -58,8 +58,8 @@ pub const S04: &str = "S04 both MQTT-4.3.3-6\n\
     Why: The PUBREL shows that the receiver has the message. A PUBLISH after it\n\
     could be taken for a new message, and be delivered twice.\n\n\
     Judged: At a PUBLISH with DUP 1 of QoS 2 after whose first sending a PUBREL was\n\
-    sent, on a connection that the server accepted. Decided at once, since the\n\
-    CONNACK came before.\n\n\
+    sent, on a connection that the server accepted. Decided at once, or at the\n\
+    CONNACK if that comes later.\n\n\
     In a client: The store keeps the PUBLISH until the PUBCOMP and sends it again\n\
     after a reconnect. When a PUBREC comes, replace it by a mark, so that the PUBREL\n\
     is sent again in its place.\n\n\
@@ -75,7 +75,7 @@ pub const S05: &str = "S05 client MQTT-4.6.0-1\n\
     order of the first sending.\n\n\
     Judged: At a PUBLISH with DUP 1, where one that was first sent after it was sent\n\
     again before it on this connection, on a connection that the server accepted.\n\
-    Decided at once, since the CONNACK came before.\n\n\
+    Decided at once, or at the CONNACK if that comes later.\n\n\
     In a client: What is unacknowledged is kept in a hash map, or is sorted by\n\
     Packet Identifier. Keep it in a queue in the order of sending; the order of\n\
     identifiers isn't it, since they wrap.\n\n\
@@ -106,8 +106,8 @@ pub const S07: &str = "S07 both MQTT-4.9.0-2\n\
     Why: The peer has reserved room for that many unacknowledged messages of QoS 1\n\
     and 2, and may close the connection above it.\n\n\
     Judged: At a PUBLISH of QoS above 0; for a client those after its CONNACK count,\n\
-    on a connection that the server accepted. Decided at once, since the CONNACK\n\
-    came before. In flight are PUBLISHes on this connection without a PUBACK, a\n\
+    on a connection that the server accepted. Decided at once, or at the CONNACK if\n\
+    that comes later. In flight are PUBLISHes on this connection without a PUBACK, a\n\
     PUBCOMP or a PUBREC of 0x80 or more.\n\n\
     In a client: The Receive Maximum of the CONNACK isn't kept, or what is sent\n\
     again after a reconnect isn't counted. Let one counter per connection gate all\n\

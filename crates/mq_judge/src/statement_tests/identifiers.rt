@@ -17,4 +17,4 @@ S01, server: it is free again | server OPEN <CONNECT-NAMED >CONNACK <SUBSCRIBE-A
 S01, server: in use on a session that is resumed | server OPEN <CONNECT-KEPT >CONNACK <SUBSCRIBE-ALL:1 >PUBLISH1:1 CLOSE OPEN <RECONNECT >CONNACK-RESUMED >PUBLISH1:1 | fault 10 S01 MQTT-2.2.1-4 decided 10 record 10 offset -; fail 1 faults 10 events
 does a closer on a connection that the server refuses free an identifier? no, it is in no session | client OPEN >CONNECT-KEPT <CONNACK >PUBLISH1:1 CLOSE OPEN >RECONNECT <CONNACK-REFUSED <PUBACK:1 CLOSE OPEN >RECONNECT <CONNACK-RESUMED >PUBLISH1:1 | fault 14 S01 MQTT-2.2.1-3 decided 14 record 14 offset -; fail 1 faults 14 events
 is a PUBLISH on a connection that the server refuses judged? no | client OPEN >CONNECT-KEPT <CONNACK-REFUSED >PUBLISH1:1 >PUBLISH1:1 | pass 5 events
-is a session packet taken before the CONNACK? | client OPEN >CONNECT >CONNACK >PUBLISH1:1 | refused 13 Early at 56";
+is a session packet taken before the CONNACK? yes, and one that the client sends isn't it | client OPEN >CONNECT >CONNACK >PUBLISH1:1 | fault 3 C01 sec-2.1.2 decided 3 record 3 offset -; fail 1 faults 4 events";

@@ -40,6 +40,9 @@ pub const END: &[u8] = b"\x00\x01\x00x";
 
 pub const PUBACK: &[u8] = b"\x40\x02\x00\x01";
 
+/// PUBLISH of QoS 0.
+pub const QUICK_PUBLISH: &[u8] = b"\x30\x05\x00\x01a\x00x";
+
 /// After these bytes the direction can't be parsed.
 pub const LOST: &[u8] = b"\x30\xff\xff\xff\xff";
 
@@ -102,6 +105,26 @@ pub fn log_of(
     }
     for part in parts {
         put(&mut log, *part, split)?;
+    }
+    Ok(log)
+}
+
+/// The log of these parts, then one record in which the tested end sent this packet so many times, and then those parts.
+pub fn log_with_many(
+    alloc: Global,
+    before: &[Part],
+    packet: &[u8],
+    times: usize,
+    after: &[Part],
+) -> Result<Vec<u8>, AllocError> {
+    let mut body = Vec::new(alloc);
+    for _ in 0..times {
+        body.extend_from_slice(packet)?;
+    }
+    let mut log = log_of(alloc, false, before, false)?;
+    put_record(&mut log, 2, body.as_slice())?;
+    for part in after {
+        put(&mut log, *part, false)?;
     }
     Ok(log)
 }

@@ -31,7 +31,7 @@ decode_brief_publish-requires-clause-bound g c =
 pub returns-in-Some-clause-met : goal.returns-in-Some-clause-met
 returns-in-Some-clause-met g c =
     let is = packet_item c.args.frame.now c.args.header (packets.Publish c.in-Some.publish) (λ i. omega (arith, c.type_inv.frame i)) (sym c.requires.whole) c.in-Some.ensures.size c.in-Some.ensures.exact in
-    emitted_met g.S.Sink.agrees (Declines g.S.Sink.agrees g.S.Sink.refuses) c.emit_publish.result c.args.at (record { unfinished = []; lost = false }) c.args.connections.now (body_context c.args.context) c.args.frame.now (item_of (items.Packet (packets.Publish c.in-Some.publish))) is c.emit_publish.ensures.met
+    emitted_met g.S.Sink.agrees (Declines g.S.Sink.agrees g.S.Sink.refuses) c.emit_publish.result c.args.at (record { unfinished = []; lost = false }) c.args.connections.now (body_context c.args.context) c.args.frame.now (item_of (items.Packet (packets.Publish c.in-Some.publish))) is (c.emit_publish.ensures.met c.args.context.server)
 
 pub returns-in-Some-clause-kept : goal.returns-in-Some-clause-kept
 returns-in-Some-clause-kept g c =
@@ -46,7 +46,7 @@ returns-in-Some-clause-receives g c =
 pub returns-in-Some-clause-err : goal.returns-in-Some-clause-err
 returns-in-Some-clause-err g c =
     let is = packet_item c.args.frame.now c.args.header (packets.Publish c.in-Some.publish) (λ i. omega (arith, c.type_inv.frame i)) (sym c.requires.whole) c.in-Some.ensures.size c.in-Some.ensures.exact in
-    emitted_err g.S.Sink.agrees (Declines g.S.Sink.agrees g.S.Sink.refuses) c.emit_publish.result c.args.at (record { unfinished = []; lost = false }) c.args.connections.now (body_context c.args.context) c.args.frame.now (item_of (items.Packet (packets.Publish c.in-Some.publish))) is c.args.sink.now c.emit_publish.new.sink c.emit_publish.ensures.err
+    emitted_err g.S.Sink.agrees (Declines g.S.Sink.agrees g.S.Sink.refuses) c.emit_publish.result c.args.at (record { unfinished = []; lost = false }) c.args.connections.now (body_context c.args.context) c.args.frame.now (item_of (items.Packet (packets.Publish c.in-Some.publish))) is c.args.sink.now c.emit_publish.new.sink (c.emit_publish.ensures.err c.args.context.server)
 
 pub overflow_cast-frame : goal.overflow_cast-frame
 overflow_cast-frame g c =

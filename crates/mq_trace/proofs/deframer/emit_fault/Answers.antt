@@ -28,5 +28,5 @@ returns-in-Broken-clause-err g c =
 
 pub returns-in-OtherVersion-clause-err : goal.returns-in-OtherVersion-clause-err
 returns-in-OtherVersion-clause-err g c =
-    other_met (Declines g.S.Sink.agrees g.S.Sink.refuses) c.args.at (record { unfinished = []; lost = false }) c.args.connections.now c.args.context.direction c.args.frame.now c.args.sink.now
+    other_met (Declines g.S.Sink.agrees g.S.Sink.refuses) c.args.at (record { unfinished = []; lost = false }) c.args.connections.now (body_context c.args.context) c.args.frame.now c.args.sink.now
     (fault_item c.args.frame.now c.args.header _ (sym c.requires.whole) (c.requires.exact ∙ ap Err c.in-OtherVersion.is))

@@ -31,7 +31,7 @@ decode_publish-requires-clause-bound g c =
 pub returns-in-Ok-clause-met : goal.returns-in-Ok-clause-met
 returns-in-Ok-clause-met g c =
     let is = packet_item c.args.frame.now c.args.header (packets.Publish c.in-Ok.publish) (λ i. omega (arith, c.type_inv.frame i)) (sym c.requires.whole) (rw c.in-Ok.is at c.decode_publish.ensures.size) (rw c.in-Ok.is at c.decode_publish.ensures.exact) in
-    emitted_met g.S.Sink.agrees (Declines g.S.Sink.agrees g.S.Sink.refuses) c.emit_publish.result c.args.at (record { unfinished = []; lost = false }) c.args.connections.now (body_context c.args.context) c.args.frame.now (item_of (items.Packet (packets.Publish c.in-Ok.publish))) is c.emit_publish.ensures.met
+    emitted_met g.S.Sink.agrees (Declines g.S.Sink.agrees g.S.Sink.refuses) c.emit_publish.result c.args.at (record { unfinished = []; lost = false }) c.args.connections.now (body_context c.args.context) c.args.frame.now (item_of (items.Packet (packets.Publish c.in-Ok.publish))) is (c.emit_publish.ensures.met c.args.context.server)
 
 pub returns-in-Ok-clause-kept : goal.returns-in-Ok-clause-kept
 returns-in-Ok-clause-kept g c =
@@ -46,7 +46,7 @@ returns-in-Ok-clause-receives g c =
 pub returns-in-Ok-clause-err : goal.returns-in-Ok-clause-err
 returns-in-Ok-clause-err g c =
     let is = packet_item c.args.frame.now c.args.header (packets.Publish c.in-Ok.publish) (λ i. omega (arith, c.type_inv.frame i)) (sym c.requires.whole) (rw c.in-Ok.is at c.decode_publish.ensures.size) (rw c.in-Ok.is at c.decode_publish.ensures.exact) in
-    emitted_err g.S.Sink.agrees (Declines g.S.Sink.agrees g.S.Sink.refuses) c.emit_publish.result c.args.at (record { unfinished = []; lost = false }) c.args.connections.now (body_context c.args.context) c.args.frame.now (item_of (items.Packet (packets.Publish c.in-Ok.publish))) is c.args.sink.now c.emit_publish.new.sink c.emit_publish.ensures.err
+    emitted_err g.S.Sink.agrees (Declines g.S.Sink.agrees g.S.Sink.refuses) c.emit_publish.result c.args.at (record { unfinished = []; lost = false }) c.args.connections.now (body_context c.args.context) c.args.frame.now (item_of (items.Packet (packets.Publish c.in-Ok.publish))) is c.args.sink.now c.emit_publish.new.sink (c.emit_publish.ensures.err c.args.context.server)
 
 pub overflow_cast-frame : goal.overflow_cast-frame
 overflow_cast-frame g c =

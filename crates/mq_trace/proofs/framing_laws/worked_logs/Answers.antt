@@ -34,6 +34,10 @@ pub returns-clause-early : goal.returns-clause-early
 unfolding read_frame item_at part_at packet_at event_in event_at events_back events kind_of body_length record_size records begun_records carried stream pieces header_refusal situation record_refusal refusal_at refused_back refused is_cut_short fixed_header_of frame_size is_lost
 returns-clause-early c = refl
 
+pub returns-clause-counted : goal.returns-clause-counted
+unfolding read_frame item_at part_at packet_at event_in event_at events_back events kind_of body_length record_size records begun_records carried stream pieces header_refusal situation record_refusal refusal_at refused_back refused is_cut_short fixed_header_of frame_size is_lost
+returns-clause-counted c = refl
+
 pub returns-clause-unrecorded : goal.returns-clause-unrecorded
 unfolding read_frame item_at part_at packet_at event_in event_at events_back events kind_of body_length record_size records begun_records carried stream pieces header_refusal situation record_refusal refusal_at refused_back refused is_cut_short fixed_header_of frame_size is_lost
 returns-clause-unrecorded c = refl

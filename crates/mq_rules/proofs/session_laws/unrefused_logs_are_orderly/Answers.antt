@@ -1,13 +1,13 @@
 use Rattle.mq_rules.proofs.OrderLaws.{orderly}
 use Rattle.mq_rules.proofs.TurnLaws.{turned}
 use Rattle.mq_rules.proofs.OpenLaws.{on_connections}
-use Rattle.mq_rules.proofs.session_laws.unrefused_logs_are_in_order.Goals as goal
+use Rattle.mq_rules.proofs.session_laws.unrefused_logs_are_orderly.Goals as goal
 
 pub returns-clause-placed : goal.returns-clause-placed
 returns-clause-placed c = λ limit bytes unrefused. (orderly limit bytes unrefused).placed
 
-pub returns-clause-in_order : goal.returns-clause-in_order
-returns-clause-in_order c = λ limit bytes unrefused. (orderly limit bytes unrefused).in_order
+pub returns-clause-few : goal.returns-clause-few
+returns-clause-few c = λ limit bytes unrefused. (orderly limit bytes unrefused).few
 
 pub returns-clause-in_turn : goal.returns-clause-in_turn
 returns-clause-in_turn c = turned

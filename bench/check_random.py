@@ -1,0 +1,102 @@
+#!/usr/bin/env python3
+"""Compares what `mqjudge check` reports with what reference.py does: on random sessions, about half of which have packets before
+the CONNACK, and on logs with the most events that may come before a CONNACK, and one more.
+
+A session on which they differ is made as short as it can be by leaving out records, and printed with both reports. Where there is
+no program reference.py alone judges the logs. The last line says how many of the faults were decided by a later event than their
+own.
+
+usage: bench/check_random.py [--mqjudge PATH] [--logs 2000] [--seed 1]
+"""
+import argparse
+import sys
+from collections.abc import Callable, Iterator
+from pathlib import Path
+
+sys.dont_write_bytecode = True  # the repository stays as it is
+import random_logs
+import reference
+from judges import BUILT, Judge, judge_by
+
+HEADER_SIZE, HEAD_SIZE = 8, 5
+SHORT = 5_000  # bytes of a log that is made shorter
+KINDS = ("", "OPEN", "SENT", "RECV", "CLOSE", "REST", "RELEASE")
+
+
+def records(log: bytes) -> Iterator[bytes]:
+    """The records of a log, each whole."""
+    at = HEADER_SIZE
+    while at < len(log):
+        end = at + HEAD_SIZE + int.from_bytes(log[at + 1 : at + HEAD_SIZE], "big")
+        yield log[at:end]
+        at = end
+
+
+def shortest(log: bytes, differs: Callable[[bytes], bool]) -> bytes:
+    """A log that differs still, and doesn't if any one record is left out."""
+    header, parts = log[:HEADER_SIZE], list(records(log))
+    at = len(parts)
+    while at > 0:
+        at -= 1
+        fewer = parts[:at] + parts[at + 1 :]
+        if differs(header + b"".join(fewer)):
+            parts, at = fewer, len(fewer)
+    return header + b"".join(parts)
+
+
+def words(log: bytes) -> str:
+    """The log as words: its records, with their bodies in hexadecimal digits."""
+    end = "server" if log[5] else "client"
+    return " ".join([end, *(f"{KINDS[part[0]]} {part[HEAD_SIZE:].hex()}".rstrip() for part in records(log))])
+
+
+class Comparison:
+    def __init__(self, judge: Judge | None):
+        self.judge = judge
+        self.logs = self.wrong = self.faults = self.late = 0
+
+    def wrongly(self, name: str, *lines: str) -> None:
+        self.wrong += 1
+        print(f"{name}:", *lines, sep="\n  ")
+
+    def differs(self, log: bytes) -> bool:
+        return self.judge is not None and self.judge(log) != reference.report(log)
+
+    def compare(self, name: str, log: bytes) -> str:
+        """What reference.py reports."""
+        self.logs += 1
+        report = reference.report(log)
+        faults = [line.split() for line in report.splitlines() if line.startswith("fault ")]
+        self.faults += len(faults)
+        self.late += sum(position != decided for _, position, _, _, _, decided, *_ in faults)
+        if self.judge is not None and self.judge(log) != report:
+            least = shortest(log, self.differs) if len(log) < SHORT else log
+            both = {"mqjudge": self.judge(least), "reference.py": reference.report(least)}
+            said = [f"{judge}: {'; '.join(text.splitlines())}" for judge, text in both.items()]
+            self.wrongly(name, f"{words(least):.1000}", *(f"{line:.1000}" for line in said))
+        return report
+
+
+def main() -> int:
+    arguments = argparse.ArgumentParser(description="Compares mqjudge with reference.py on random logs.")
+    arguments.add_argument("--mqjudge", type=Path, default=BUILT)
+    arguments.add_argument("--logs", type=int, default=2_000, help="how many sessions")
+    arguments.add_argument("--seed", type=int, default=1)
+    given = arguments.parse_args()
+    is_there = given.mqjudge.is_file()
+    if not is_there:
+        print(f"no program at {given.mqjudge}: reference.py alone judges")
+    comparison = Comparison(judge_by(given.mqjudge) if is_there else None)
+    for which in range(given.logs):
+        comparison.compare(f"bench/random_logs.py {given.seed} {which}", random_logs.session(given.seed, which))
+    for name, log, is_refused in random_logs.crowded():
+        report = comparison.compare(name, log)
+        # The byte that completes the last event is the log's last one.
+        if is_refused != (report == f"refused 13 TooManyEarly at {len(log) - 1}\n"):
+            comparison.wrongly(f"{name}, by reference.py", report)
+    print(f"{comparison.logs} logs, {comparison.faults} faults, {comparison.late} decided later, {comparison.wrong} wrong")
+    return 1 if comparison.wrong else 0
+
+
+if __name__ == "__main__":
+    sys.exit(main())

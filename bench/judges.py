@@ -1,0 +1,28 @@
+"""Those that judge a log: reference.py, and a built program beside it."""
+import subprocess
+from collections.abc import Callable
+from pathlib import Path
+
+import reference
+
+BUILT = Path(__file__).resolve().parent.parent / "crates/mq_cli/out/mq_cli"
+STATUSES = {"pass": 0, "fail": 1, "refused": 2}
+
+Judge = Callable[[bytes], str]
+
+
+def judge_by(program: Path) -> Judge:
+    """What `check` of the program prints. Where its status isn't the report's, that is said too."""
+
+    def judge(log: bytes) -> str:
+        ran = subprocess.run([program.absolute(), "check"], input=log, stdout=subprocess.PIPE, check=False)
+        report = ran.stdout.decode(errors="replace")
+        word = report.splitlines()[-1].split()[0] if report.strip() else ""
+        return report if STATUSES.get(word) == ran.returncode else f"{report}status {ran.returncode}\n"
+
+    return judge
+
+
+def judges(program: Path | None) -> dict[str, Judge]:
+    """All judges by their names. The program is left out if there is none."""
+    return {"reference.py": reference.report} | ({"mqjudge": judge_by(program)} if program else {})
