@@ -27,3 +27,6 @@ pub mod CountLaws
 pub mod StandingLaws
 pub mod DeliveryLaws
 pub mod KeepLaws
+pub mod ConcernLaws
+pub mod UsingConcernLaws
+pub mod SelectingLaws

@@ -54,14 +54,6 @@ requests_add r t =
 abbrev pub of_subscriptions : Rule → Bool
 of_subscriptions r = (same_rule r B01 || same_rule r B02) || (same_rule r B03 || same_rule r B04)
 
-abbrev pub by_subscriptions : Rule → Bool → Bool
-by_subscriptions r t = ((same_rule r B01 || same_rule r B02) && t) || ((same_rule r B03 && t) || (same_rule r B04 && t))
-
-pub subscriptions_add : (r : Rule) (t : Bool) → by_subscriptions r t ≡ (of_subscriptions r && t)
-subscriptions_add r t =
-    either_adds ((same_rule r B01 || same_rule r B02) && t) ((same_rule r B03 && t) || (same_rule r B04 && t)) (same_rule r B01 || same_rule r B02) (same_rule r B03 || same_rule r B04) t refl
-    (either_adds (same_rule r B03 && t) (same_rule r B04 && t) (same_rule r B03) (same_rule r B04) t refl refl)
-
 -- ---- all statements on sessions
 
 -- on identifiers, the send quota and pings
@@ -83,12 +75,12 @@ abbrev pub of_sessions : Rule → Bool
 of_sessions r = of_sending r || ((of_messages r || of_requests r) || (of_releases r || of_subscriptions r))
 
 abbrev pub by_sessions : Rule → Bool → Bool
-by_sessions r t = by_sending r t || ((by_messages r t || by_requests r t) || ((of_releases r && t) || by_subscriptions r t))
+by_sessions r t = by_sending r t || (((of_messages r && t) || (of_requests r && t)) || ((of_releases r && t) || (of_subscriptions r && t)))
 
 pub sessions_add : (r : Rule) (t : Bool) → by_sessions r t ≡ (of_sessions r && t)
 sessions_add r t =
-    either_adds (by_sending r t) ((by_messages r t || by_requests r t) || ((of_releases r && t) || by_subscriptions r t)) (of_sending r) ((of_messages r || of_requests r) || (of_releases r || of_subscriptions r)) t
+    either_adds (by_sending r t) (((of_messages r && t) || (of_requests r && t)) || ((of_releases r && t) || (of_subscriptions r && t))) (of_sending r) ((of_messages r || of_requests r) || (of_releases r || of_subscriptions r)) t
     (sending_adds r t)
-    (either_adds (by_messages r t || by_requests r t) ((of_releases r && t) || by_subscriptions r t) (of_messages r || of_requests r) (of_releases r || of_subscriptions r) t
-    (either_adds (by_messages r t) (by_requests r t) (of_messages r) (of_requests r) t (messages_add r t) (requests_add r t))
-    (either_adds (of_releases r && t) (by_subscriptions r t) (of_releases r) (of_subscriptions r) t refl (subscriptions_add r t)))
+    (either_adds ((of_messages r && t) || (of_requests r && t)) ((of_releases r && t) || (of_subscriptions r && t)) (of_messages r || of_requests r) (of_releases r || of_subscriptions r) t
+    (either_adds (of_messages r && t) (of_requests r && t) (of_messages r) (of_requests r) t refl refl)
+    (either_adds (of_releases r && t) (of_subscriptions r && t) (of_releases r) (of_subscriptions r) t refl refl))

@@ -13,3 +13,5 @@ pub mod Releasing
 pub mod Countings
 pub mod Standings
 pub mod Grouping
+pub mod Concerns
+pub mod Selecting

@@ -7,10 +7,12 @@ ghost use Rattle.mq_rules.specs.Rules.{same_rule, binds as is_bound};
 ghost use Rattle.mq_rules.specs.Under.{IsKnown, turns_known};
 ghost use Rattle.mq_books.specs.Askings as keeping;
 ghost use Rattle.mq_books.specs.Askings.{IsAsked, answered_next};
+ghost use Rattle.mq_books.specs.Concerns.{concerns_asked};
 
 use crate::exchange::Exchange;
 use crate::fated::Fated;
 use crate::known::judge_by;
+use crate::selective::Selective;
 use indexmap::IndexMap;
 use mq_rules::{Fate, Faults, Memory, Note, Tested, Watch};
 use mq_trace::Place3;
@@ -160,4 +162,10 @@ impl<X: Exchange> Fated for Asked<X> {
     ghost known_taken = { λ tested taken e past known. known };
 
     ghost known_adds = { λ tested e past k r. refl };
+}
+
+impl<X: Exchange> Selective for Asked<X> {
+    ghost concerns = { λ tested. concerns_asked X.exchange };
+
+    fn passes(&self) {}
 }

@@ -14,10 +14,12 @@ ghost use Rattle.mq_rules.specs.Rules.{same_rule, binds as is_bound};
 ghost use Rattle.mq_rules.specs.Faults.{offset_of};
 ghost use Rattle.std.specs.Prelude.{Option, None};
 ghost use Rattle.mq_rules.specs.Under.{IsKnown, turns_known};
+ghost use Rattle.mq_books.specs.Concerns.{concerns_count};
 ghost use Rattle.mq_books.specs.Countings.{Counting, IsCounting, IsCounted, counted_next, differs, subscribes, unsubscribes, subscribe_request as the_subscribe, suback_reply as the_suback, unsubscribe_request as the_unsubscribe, unsuback_reply as the_unsuback, subscribes_so, unsubscribes_so};
 
 use crate::fated::Fated;
 use crate::known::judge_by;
+use crate::selective::Selective;
 use indexmap::IndexMap;
 use mq_rules::{Fate, Faults, Memory, Note, PacketFields, Rule, Tested, Watch};
 use mq_trace::Place3;
@@ -170,6 +172,12 @@ impl<R: Replies> Fated for Counts<R> {
     ghost known_taken = { λ tested taken e past known. known };
 
     ghost known_adds = { λ tested e past k r. refl };
+}
+
+impl<R: Replies> Selective for Counts<R> {
+    ghost concerns = { λ tested. concerns_count R.counting };
+
+    fn passes(&self) {}
 }
 
 /// SUBSCRIBE and SUBACK: B03.

@@ -9,6 +9,7 @@ use crate::asked::Asked;
 use crate::exchange::Exchange;
 use crate::fated::Fated;
 use crate::owed::Owed;
+use crate::selective::Selective;
 use mq_rules::{Both, Fate, Faults, Memory, Note, Tested, Watch};
 use mq_trace::Place3;
 use std::alloc::Global;
@@ -69,4 +70,12 @@ impl<X: Exchange> Fated for Debts<X> {
     ghost known_taken = { λ tested taken e past known. (known, known) };
 
     ghost known_adds = { λ tested e past k r. either_adds (same_rule r X.asked && turns_known tested e past k r) ((same_rule r X.settled || is_some_and (same_rule r) X.ordered) && turns_known tested e past k r) (same_rule r X.asked) (same_rule r X.settled || is_some_and (same_rule r) X.ordered) (turns_known tested e past k r) refl refl };
+}
+
+impl<X: Exchange> Selective for Debts<X> {
+    ghost concerns = { ⟦<Both<Asked<X>, Owed<X>> as Selective>⟧.concerns };
+
+    fn passes(&self) {
+        self.parts.passes();
+    }
 }

@@ -12,20 +12,24 @@ ghost use Rattle.mq_books.specs.Quotas.{announced, may_count as counts_now, flow
 ghost use Rattle.mq_books.specs.Opened.{entry_next};
 ghost use Rattle.mq_books.specs.Resending.{bounds_next};
 ghost use Rattle.mq_books.specs.Using.{IsUsing, breaks, is_inflight, waits_next, void_next, resent_next};
+ghost use Rattle.mq_books.specs.Concerns.{concerns_flight};
+ghost use Rattle.mq_books.specs.Selecting as selecting;
 
 mod broken;
 mod entry;
 mod resends;
 
 use crate::fated::Fated;
+use crate::messages::is_acknowledged;
 use crate::pings::ended_after;
 use crate::quota::{flown, may_count, peer_after};
+use crate::selective::Selective;
 use broken::{
     Broken, is_out_of_order, is_past_pubrel, is_twice, is_unopened, judge_all, resent_after, takes,
 };
 use entry::{Entry, take_entries};
 use indexmap::{IndexMap, IndexSet};
-use mq_rules::{Fate, Faults, Memory, Note, Role, Rule, Tested, Watch};
+use mq_rules::{Fate, Faults, ItemNote, Memory, Note, PacketFields, Role, Rule, Tested, Watch};
 use mq_trace::Place3;
 use resends::{bounds_after, is_excused, rests_now, settle};
 use std::alloc::Global;
@@ -263,4 +267,60 @@ impl Fated for Inflight {
     ghost known_taken = { λ tested taken e past known. known };
 
     ghost known_adds = { λ tested e past k r. refl };
+}
+
+impl Selective for Inflight {
+    ghost concerns = { concerns_flight };
+
+    fn passes(&self) {}
+
+    #[inline(always)]
+    fn may_concern(&self, note: &Note) -> bool {
+        may_concern_identifiers(note)
+    }
+}
+
+/// Whether an event may have to do with Packet Identifiers that are in use.
+#[inline(always)]
+fn may_concern_identifiers(note: &Note) -> bool
+    ensures { result ≡ selecting.may_concern_identifiers note.now }
+{
+    match note {
+        Note::Open | Note::Rest => true,
+        Note::Close | Note::Release(_) => false,
+        Note::Sent(ItemNote::Packet(packet)) => uses_identifier(&packet.fields),
+        Note::Recv(ItemNote::Packet(packet)) => frees_identifier(&packet.fields),
+        Note::Sent(_) | Note::Recv(_) => true,
+    }
+}
+
+#[inline(always)]
+fn uses_identifier(fields: &PacketFields) -> bool
+    ensures { result ≡ selecting.uses_identifier fields.now }
+{
+    match fields {
+        PacketFields::Publish(publish) => is_acknowledged(publish.qos),
+        PacketFields::Pubrel { .. }
+        | PacketFields::Subscribe { .. }
+        | PacketFields::Unsubscribe { .. }
+        | PacketFields::Disconnect(_) => true,
+        _ => false,
+    }
+}
+
+#[inline(always)]
+fn frees_identifier(fields: &PacketFields) -> bool
+    ensures { result ≡ selecting.frees_identifier fields.now }
+{
+    matches!(
+        fields,
+        PacketFields::Connect(_)
+            | PacketFields::Connack(_)
+            | PacketFields::Puback { .. }
+            | PacketFields::Pubrec { .. }
+            | PacketFields::Pubcomp { .. }
+            | PacketFields::Suback { .. }
+            | PacketFields::Unsuback { .. }
+            | PacketFields::Disconnect(_)
+    )
 }

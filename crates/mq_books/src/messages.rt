@@ -3,11 +3,15 @@ ghost use Rattle.std.specs.Prelude.{◌≡◌, [], Some};
 ghost use Rattle.mq_rules.specs.declared.fate.Fate.TheVariants.{Void};
 ghost use Rattle.mq_rules.specs.Under.{turns_known};
 ghost use Rattle.mq_books.specs.Grouping.{of_messages, by_messages, messages_add};
+ghost use Rattle.mq_books.specs.Selecting as selecting;
+ghost use Rattle.mq_rules.specs.Notes.{is_acknowledged};
 
 use crate::debts::Debts;
 use crate::exchange::{E1, E2, E3, E4};
 use crate::fated::Fated;
-use mq_rules::{Both, Fate, Faults, Memory, Note, Tested, Watch};
+use crate::selective::Selective;
+use mq_packet::Qos;
+use mq_rules::{Both, Fate, Faults, ItemNote, Memory, Note, PacketFields, Tested, Watch};
 use mq_trace::Place3;
 use std::alloc::Global;
 
@@ -68,4 +72,68 @@ impl Fated for Messages {
     ghost known_taken = { λ tested taken e past known. (((known, known), (known, known)), ((known, known), (known, known))) };
 
     ghost known_adds = { λ tested e past k r. messages_add r (turns_known tested e past k r) };
+}
+
+impl Selective for Messages {
+    ghost concerns = { ⟦<Both<Both<Debts<E1>, Debts<E2>>, Both<Debts<E3>, Debts<E4>>> as Selective>⟧.concerns };
+
+    fn passes(&self) {
+        self.watchers.passes();
+    }
+
+    #[inline(always)]
+    fn may_concern(&self, note: &Note) -> bool {
+        may_concern_messages(note)
+    }
+}
+
+/// Whether an event may have to do with an exchange of messages.
+#[inline(always)]
+fn may_concern_messages(note: &Note) -> bool
+    ensures { result ≡ selecting.may_concern_messages note.now }
+{
+    match note {
+        Note::Open | Note::Rest => true,
+        Note::Close | Note::Release(_) => false,
+        Note::Sent(ItemNote::Packet(packet)) => answers_message(&packet.fields),
+        Note::Recv(ItemNote::Packet(packet)) => asks_by_message(&packet.fields),
+        Note::Sent(_) | Note::Recv(_) => true,
+    }
+}
+
+#[inline(always)]
+fn answers_message(fields: &PacketFields) -> bool
+    ensures { result ≡ selecting.answers_message fields.now }
+{
+    matches!(
+        fields,
+        PacketFields::Puback { .. }
+            | PacketFields::Pubrec { .. }
+            | PacketFields::Pubrel { .. }
+            | PacketFields::Pubcomp { .. }
+            | PacketFields::Disconnect(_)
+    )
+}
+
+#[inline(always)]
+fn asks_by_message(fields: &PacketFields) -> bool
+    ensures { result ≡ selecting.asks_by_message fields.now }
+{
+    match fields {
+        PacketFields::Publish(publish) => is_acknowledged(publish.qos),
+        PacketFields::Pubrec { .. } | PacketFields::Pubrel { .. } | PacketFields::Disconnect(_) =>
+            true,
+        _ => false,
+    }
+}
+
+/// Whether a PUBLISH of this QoS is acknowledged (MQTT 5.0, section 4.3).
+#[inline(always)]
+pub fn is_acknowledged(qos: Qos) -> bool
+    ensures { result ≡ is_acknowledged qos }
+{
+    match qos {
+        Qos::AtMostOnce => false,
+        Qos::AtLeastOnce | Qos::ExactlyOnce => true,
+    }
 }

@@ -9,11 +9,13 @@ ghost use Rattle.mq_rules.specs.Under.{IsKnown, turns_known};
 ghost use Rattle.mq_books.specs.Owings.{IsOwing, due_next, blamed, Keeps, binds_by};
 ghost use Rattle.mq_books.specs.Orderings as passing;
 ghost use Rattle.mq_books.specs.Orderings.{looked_at};
+ghost use Rattle.mq_books.specs.Concerns.{concerns_owed};
 
 use crate::exchange::Exchange;
 use crate::fated::Fated;
 use crate::ordering::{Debt, judge_order, passes_over, take_queue, tidy};
 use crate::pings::ended_after;
+use crate::selective::Selective;
 use indexmap::IndexMap;
 use mq_rules::{Fate, Fault, FaultKey, Faults, Memory, Note, Rule, Tested, Watch};
 use mq_trace::Place3;
@@ -230,4 +232,10 @@ impl<X: Exchange> Fated for Owed<X> {
     ghost known_taken = { λ tested taken e past known. known };
 
     ghost known_adds = { λ tested e past k r. refl };
+}
+
+impl<X: Exchange> Selective for Owed<X> {
+    ghost concerns = { λ tested. concerns_owed X.exchange };
+
+    fn passes(&self) {}
 }

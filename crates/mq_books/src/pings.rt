@@ -8,11 +8,14 @@ ghost use Rattle.mq_rules.specs.Notes.{is_open};
 ghost use Rattle.mq_rules.specs.Under.{IsKnown, turns_known};
 ghost use Rattle.mq_books.specs.Pingings as keeping;
 ghost use Rattle.mq_books.specs.Pingings.{IsPings};
+ghost use Rattle.mq_books.specs.Concerns.{concerns_pings};
+ghost use Rattle.mq_books.specs.Selecting as selecting;
 
 use crate::fated::Fated;
 use crate::known::judge_by;
 use crate::quota::more;
-use mq_rules::{Fate, Faults, ItemNote, Memory, Note, Role, Rule, Tested, Watch};
+use crate::selective::Selective;
+use mq_rules::{Fate, Faults, ItemNote, Memory, Note, PacketFields, Role, Rule, Tested, Watch};
 use mq_trace::Place3;
 
 /// Watches E7R.
@@ -145,4 +148,35 @@ impl Fated for Pings {
     ghost known_taken = { λ tested taken e past known. known };
 
     ghost known_adds = { λ tested e past k r. refl };
+}
+
+impl Selective for Pings {
+    ghost concerns = { λ tested. concerns_pings };
+
+    fn passes(&self) {}
+
+    #[inline(always)]
+    fn may_concern(&self, note: &Note) -> bool {
+        may_concern_pings(note)
+    }
+}
+
+/// Whether an event may have to do with pings.
+#[inline(always)]
+fn may_concern_pings(note: &Note) -> bool
+    ensures { result ≡ selecting.may_concern_pings note.now }
+{
+    match note {
+        Note::Open | Note::Rest => true,
+        Note::Close | Note::Release(_) => false,
+        Note::Sent(ItemNote::Packet(packet)) => matches!(
+            packet.fields,
+            PacketFields::Pingresp | PacketFields::Disconnect(_)
+        ),
+        Note::Recv(ItemNote::Packet(packet)) => matches!(
+            packet.fields,
+            PacketFields::Pingreq | PacketFields::Disconnect(_)
+        ),
+        Note::Sent(_) | Note::Recv(_) => true,
+    }
 }

@@ -10,10 +10,14 @@ ghost use Rattle.std.specs.Prelude.{cond};
 ghost use Rattle.mq_rules.specs.Under.{IsKnown, turns_known};
 ghost use Rattle.mq_books.specs.Quotas as keeping;
 ghost use Rattle.mq_books.specs.Quotas.{IsQuota};
+ghost use Rattle.mq_books.specs.Concerns.{concerns_quota};
+ghost use Rattle.mq_books.specs.Selecting as selecting;
 
 use crate::fated::Fated;
 use crate::known::judge_by;
-use mq_rules::{Fate, Faults, Memory, Note, Role, Rule, Tested, Watch};
+use crate::messages::is_acknowledged;
+use crate::selective::Selective;
+use mq_rules::{Fate, Faults, ItemNote, Memory, Note, PacketFields, Role, Rule, Tested, Watch};
 use mq_trace::Place3;
 
 /// The Receive Maximum of a peer that announces none.
@@ -161,4 +165,39 @@ impl Fated for Quota {
     ghost known_taken = { λ tested taken e past known. known };
 
     ghost known_adds = { λ tested e past k r. refl };
+}
+
+impl Selective for Quota {
+    ghost concerns = { concerns_quota };
+
+    fn passes(&self) {}
+
+    #[inline(always)]
+    fn may_concern(&self, note: &Note) -> bool {
+        may_concern_quota(note)
+    }
+}
+
+/// Whether an event may have to do with the send quota.
+#[inline(always)]
+fn may_concern_quota(note: &Note) -> bool
+    ensures { result ≡ selecting.may_concern_quota note.now }
+{
+    match note {
+        Note::Open => true,
+        Note::Close | Note::Rest | Note::Release(_) => false,
+        Note::Sent(ItemNote::Packet(packet)) => match &packet.fields {
+            PacketFields::Publish(publish) => is_acknowledged(publish.qos),
+            _ => false,
+        },
+        Note::Recv(ItemNote::Packet(packet)) => matches!(
+            packet.fields,
+            PacketFields::Connect(_)
+                | PacketFields::Connack(_)
+                | PacketFields::Puback { .. }
+                | PacketFields::Pubrec { .. }
+                | PacketFields::Pubcomp { .. }
+        ),
+        Note::Sent(_) | Note::Recv(_) => false,
+    }
 }

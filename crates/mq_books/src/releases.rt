@@ -10,11 +10,15 @@ ghost use Rattle.mq_rules.specs.Rules.{same_rule};
 ghost use Rattle.mq_rules.specs.Under.{IsKnown, turns_known};
 ghost use Rattle.mq_books.specs.Releasing as keeping;
 ghost use Rattle.mq_books.specs.Releasing.{IsReleasing};
+ghost use Rattle.mq_books.specs.Concerns.{concerns_releases};
+ghost use Rattle.mq_books.specs.Selecting as selecting;
 
 use crate::fated::Fated;
 use crate::known::judge_by;
+use crate::messages::is_acknowledged;
+use crate::selective::Selective;
 use indexmap::IndexSet;
-use mq_rules::{Fate, Faults, Memory, Note, Role, Rule, Tested, Watch};
+use mq_rules::{Fate, Faults, ItemNote, Memory, Note, PacketFields, Role, Rule, Tested, Watch};
 use mq_trace::Place3;
 use std::alloc::Global;
 
@@ -238,4 +242,35 @@ impl Fated for Releases {
     ghost known_taken = { λ tested taken e past known. known };
 
     ghost known_adds = { λ tested e past k r. refl };
+}
+
+impl Selective for Releases {
+    ghost concerns = { λ tested. concerns_releases };
+
+    fn passes(&self) {}
+
+    #[inline(always)]
+    fn may_concern(&self, note: &Note) -> bool {
+        may_concern_releases(note)
+    }
+}
+
+/// Whether an event may have to do with a QoS 2 message that is received.
+#[inline(always)]
+fn may_concern_releases(note: &Note) -> bool
+    ensures { result ≡ selecting.may_concern_releases note.now }
+{
+    match note {
+        Note::Open | Note::Release(_) => true,
+        Note::Close | Note::Rest => false,
+        Note::Sent(ItemNote::Packet(packet)) => matches!(
+            packet.fields,
+            PacketFields::Pubrec { .. } | PacketFields::Pubcomp { .. }
+        ),
+        Note::Recv(ItemNote::Packet(packet)) => match &packet.fields {
+            PacketFields::Publish(publish) => is_acknowledged(publish.qos),
+            _ => false,
+        },
+        Note::Sent(_) | Note::Recv(_) => false,
+    }
 }

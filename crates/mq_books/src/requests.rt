@@ -3,11 +3,13 @@ ghost use Rattle.std.specs.Prelude.{◌≡◌, [], Some};
 ghost use Rattle.mq_rules.specs.declared.fate.Fate.TheVariants.{Void};
 ghost use Rattle.mq_rules.specs.Under.{turns_known};
 ghost use Rattle.mq_books.specs.Grouping.{of_requests, by_requests, requests_add};
+ghost use Rattle.mq_books.specs.Selecting as selecting;
 
 use crate::debts::Debts;
 use crate::exchange::{E5, E6};
 use crate::fated::Fated;
-use mq_rules::{Both, Fate, Faults, Memory, Note, Tested, Watch};
+use crate::selective::Selective;
+use mq_rules::{Both, Fate, Faults, ItemNote, Memory, Note, PacketFields, Tested, Watch};
 use mq_trace::Place3;
 use std::alloc::Global;
 
@@ -65,4 +67,53 @@ impl Fated for Requests {
     ghost known_taken = { λ tested taken e past known. ((known, known), (known, known)) };
 
     ghost known_adds = { λ tested e past k r. requests_add r (turns_known tested e past k r) };
+}
+
+impl Selective for Requests {
+    ghost concerns = { ⟦<Both<Debts<E5>, Debts<E6>> as Selective>⟧.concerns };
+
+    fn passes(&self) {
+        self.watchers.passes();
+    }
+
+    #[inline(always)]
+    fn may_concern(&self, note: &Note) -> bool {
+        may_concern_requests(note)
+    }
+}
+
+/// Whether an event may have to do with a SUBSCRIBE, an UNSUBSCRIBE or its answer.
+#[inline(always)]
+fn may_concern_requests(note: &Note) -> bool
+    ensures { result ≡ selecting.may_concern_requests note.now }
+{
+    match note {
+        Note::Open | Note::Rest => true,
+        Note::Close | Note::Release(_) => false,
+        Note::Sent(ItemNote::Packet(packet)) => answers_request(&packet.fields),
+        Note::Recv(ItemNote::Packet(packet)) => asks_by_request(&packet.fields),
+        Note::Sent(_) | Note::Recv(_) => true,
+    }
+}
+
+#[inline(always)]
+fn answers_request(fields: &PacketFields) -> bool
+    ensures { result ≡ selecting.answers_request fields.now }
+{
+    matches!(
+        fields,
+        PacketFields::Suback { .. } | PacketFields::Unsuback { .. } | PacketFields::Disconnect(_)
+    )
+}
+
+#[inline(always)]
+fn asks_by_request(fields: &PacketFields) -> bool
+    ensures { result ≡ selecting.asks_by_request fields.now }
+{
+    matches!(
+        fields,
+        PacketFields::Subscribe { .. }
+            | PacketFields::Unsubscribe { .. }
+            | PacketFields::Disconnect(_)
+    )
 }

@@ -11,18 +11,25 @@ use crate::pings::Pings;
 use crate::quota::Quota;
 use crate::releases::Releases;
 use crate::requests::Requests;
+use crate::selective::Selecting;
 use crate::subs_all::Subs;
 use mq_rules::{Both, Fate, Faults, Memory, Note, Tested, Watch};
 use mq_trace::Place3;
 use std::alloc::Global;
 
 /// What is sent under Packet Identifiers, within the send quota, and in answer to pings.
-type Sending = Both<Inflight, Both<Quota, Pings>>;
+type Sending = Both<Selecting<Inflight>, Both<Selecting<Quota>, Selecting<Pings>>>;
 
 /// Watches S01 to S07, E1A to E7R, L1 to L3 and B01 to B04.
 #[derive(Drop)]
 pub struct Sessions {
-    watchers: Both<Sending, Both<Both<Messages, Requests>, Both<Releases, Subs>>>,
+    watchers: Both<
+        Sending,
+        Both<
+            Both<Selecting<Messages>, Selecting<Requests>>,
+            Both<Selecting<Releases>, Selecting<Subs>>,
+        >,
+    >,
 }
 
 impl Sessions {
@@ -33,12 +40,21 @@ impl Sessions {
         Sessions {
             watchers: Both::new(
                 Both::new(
-                    Inflight::new(alloc, tested),
-                    Both::new(Quota::new(tested), Pings::new(tested)),
+                    Selecting::new(Inflight::new(alloc, tested)),
+                    Both::new(
+                        Selecting::new(Quota::new(tested)),
+                        Selecting::new(Pings::new(tested)),
+                    ),
                 ),
                 Both::new(
-                    Both::new(Messages::new(alloc, tested), Requests::new(alloc, tested)),
-                    Both::new(Releases::new(alloc, tested), Subs::new(alloc, tested)),
+                    Both::new(
+                        Selecting::new(Messages::new(alloc, tested)),
+                        Selecting::new(Requests::new(alloc, tested)),
+                    ),
+                    Both::new(
+                        Selecting::new(Releases::new(alloc, tested)),
+                        Selecting::new(Subs::new(alloc, tested)),
+                    ),
                 ),
             ),
         }
@@ -46,13 +62,13 @@ impl Sessions {
 }
 
 impl Watch for Sessions {
-    ghost agrees = { λ s. ⟦<Both<Both<Inflight, Both<Quota, Pings>>, Both<Both<Messages, Requests>, Both<Releases, Subs>>> as Watch>⟧.agrees s.watchers };
+    ghost agrees = { λ s. ⟦<Both<Both<Selecting<Inflight>, Both<Selecting<Quota>, Selecting<Pings>>>, Both<Both<Selecting<Messages>, Selecting<Requests>>, Both<Selecting<Releases>, Selecting<Subs>>>> as Watch>⟧.agrees s.watchers };
 
-    ghost takes = { ⟦<Both<Both<Inflight, Both<Quota, Pings>>, Both<Both<Messages, Requests>, Both<Releases, Subs>>> as Watch>⟧.takes };
+    ghost takes = { ⟦<Both<Both<Selecting<Inflight>, Both<Selecting<Quota>, Selecting<Pings>>>, Both<Both<Selecting<Messages>, Selecting<Requests>>, Both<Selecting<Releases>, Selecting<Subs>>>> as Watch>⟧.takes };
 
     ghost adds = { λ tested e past k r. by_sessions r (turns_known tested e past k r) };
 
-    ghost bound = { ⟦<Both<Both<Inflight, Both<Quota, Pings>>, Both<Both<Messages, Requests>, Both<Releases, Subs>>> as Watch>⟧.bound };
+    ghost bound = { ⟦<Both<Both<Selecting<Inflight>, Both<Selecting<Quota>, Selecting<Pings>>>, Both<Both<Selecting<Messages>, Selecting<Requests>>, Both<Selecting<Releases>, Selecting<Subs>>>> as Watch>⟧.bound };
 
     fn step(&mut self, at: Place3, note: &Note, faults: &mut Faults) -> Result<(), Memory> {
         self.watchers.step(at, note, faults)?;
@@ -79,7 +95,7 @@ impl Fated for Sessions {
         Ok(())
     }
 
-    ghost known_taken = { λ tested taken e past known. ((known, (known, known)), (((((known, known), (known, known)), ((known, known), (known, known))), ((known, known), (known, known))), (known, (known, (known, known))))) };
+    ghost known_taken = { λ tested taken e past known. ((known, (known, known)), ((known, known), (known, known))) };
 
     ghost known_adds = { λ tested e past k r. sessions_add r (turns_known tested e past k r) };
 }

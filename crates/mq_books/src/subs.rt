@@ -15,9 +15,11 @@ ghost use Rattle.mq_rules.specs.Subscriptions.{Standing, granted, is_shared as b
 ghost use Rattle.mq_rules.specs.Rules.{same_rule, binds as is_bound};
 ghost use Rattle.mq_rules.specs.Under.{IsKnown, turns_known};
 ghost use Rattle.mq_books.specs.Standings.{Waits, asked, first_code, other_codes, with_code, with_codes, goes_on as keeps_session, is_answered, grants_some, settled_next, waiting_next, sharing_next, topic_next, IsStanding, any_kept, topic_kept, delivers_so, judged_topic as topic_judged, is_unasked as unasked, is_above as above};
+ghost use Rattle.mq_books.specs.Concerns.{concerns_deliveries};
 
 use crate::fated::Fated;
 use crate::known::judge_by;
+use crate::selective::Selective;
 use indexmap::IndexMap;
 use mq_packet::Qos;
 use mq_rules::{
@@ -506,6 +508,14 @@ impl Deliveries {
         }
     }
 
+    /// Whether deliveries are judged.
+    #[inline(always)]
+    pub fn is_bound(&self) -> bool
+        ensures { result ≡ self.now.bound }
+    {
+        self.bound
+    }
+
     /// Whether no filter matches the topic of a PUBLISH.
     fn is_unasked(&self, publish: &PublishNote) -> bool
         ensures { result ≡ is_some_and (unasked self.now.settled.items self.now.waiting.items publish.now) (topic_judged self.now.sharing (get nat_eq self.now.topics) publish.now) }
@@ -605,4 +615,10 @@ impl Fated for Deliveries {
     ghost known_taken = { λ tested taken e past known. known };
 
     ghost known_adds = { λ tested e past k r. refl };
+}
+
+impl Selective for Deliveries {
+    ghost concerns = { concerns_deliveries };
+
+    fn passes(&self) {}
 }

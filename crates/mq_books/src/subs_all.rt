@@ -4,11 +4,13 @@ ghost use Rattle.mq_rules.specs.declared.rule.Rule.TheVariants.{B01, B02, B03, B
 ghost use Rattle.mq_rules.specs.Rules.{same_rule};
 ghost use Rattle.mq_rules.specs.Under.{turns_known, either_adds};
 ghost use Rattle.mq_rules.specs.declared.fate.Fate.TheVariants.{Void};
+ghost use Rattle.mq_books.specs.Selecting as selecting;
 
 use crate::counts::{Counts, Subacks, Unsubacks};
 use crate::fated::Fated;
+use crate::selective::Selective;
 use crate::subs::Deliveries;
-use mq_rules::{Both, Fate, Faults, Memory, Note, Tested, Watch};
+use mq_rules::{Both, Fate, Faults, ItemNote, Memory, Note, PacketFields, Tested, Watch};
 use mq_trace::Place3;
 use std::alloc::Global;
 
@@ -69,4 +71,45 @@ impl Fated for Subs {
     ghost known_taken = { λ tested taken e past known. (known, (known, known)) };
 
     ghost known_adds = { λ tested e past k r. either_adds ((same_rule r B01 || same_rule r B02) && turns_known tested e past k r) ((same_rule r B03 && turns_known tested e past k r) || (same_rule r B04 && turns_known tested e past k r)) (same_rule r B01 || same_rule r B02) (same_rule r B03 || same_rule r B04) (turns_known tested e past k r) refl (either_adds (same_rule r B03 && turns_known tested e past k r) (same_rule r B04 && turns_known tested e past k r) (same_rule r B03) (same_rule r B04) (turns_known tested e past k r) refl refl) };
+}
+
+impl Selective for Subs {
+    ghost concerns = { ⟦<Both<Deliveries, Both<Counts<Subacks>, Counts<Unsubacks>>> as Selective>⟧.concerns };
+
+    fn passes(&self) {
+        self.watchers.passes();
+    }
+
+    #[inline(always)]
+    fn may_concern(&self, note: &Note) -> bool {
+        may_concern_subscriptions(self.watchers.a.is_bound(), note)
+    }
+}
+
+/// Whether an event may have to do with what a client subscribed to, where deliveries are judged or not.
+#[inline(always)]
+fn may_concern_subscriptions(bound: bool, note: &Note) -> bool
+    ensures { result ≡ selecting.may_concern_subscriptions bound note.now }
+{
+    match note {
+        Note::Open => true,
+        Note::Close | Note::Rest | Note::Release(_) => false,
+        Note::Sent(ItemNote::Packet(packet)) => delivers_or_grants(bound, &packet.fields),
+        Note::Recv(ItemNote::Packet(packet)) => matches!(
+            packet.fields,
+            PacketFields::Subscribe { .. } | PacketFields::Unsubscribe { .. }
+        ),
+        Note::Sent(_) | Note::Recv(_) => false,
+    }
+}
+
+#[inline(always)]
+fn delivers_or_grants(bound: bool, fields: &PacketFields) -> bool
+    ensures { result ≡ selecting.delivers_or_grants bound fields.now }
+{
+    match fields {
+        PacketFields::Publish(publish) => bound || publish.topic_alias.is_some(),
+        PacketFields::Suback { .. } | PacketFields::Unsuback { .. } => true,
+        _ => false,
+    }
 }

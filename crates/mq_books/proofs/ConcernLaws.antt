@@ -1,0 +1,330 @@
+-- Events that don't concern a book.
+use Rattle.std.proofs.Common.{◌≡◌, ℕ, zero, suc, ◌+◌, ◌-◌, ◌<◌, ◌==◌, nat_eq, nat_lt, arith, Bool, true, false, cond, ◌&&◌, ◌||◌, not, List, [], ◌∷◌, ◌++◌, length, ◌⊎◌, inl, inr, Option, Some, None, option_map, refl, ap, sym, subst, ◌∙◌, append-nil}
+use Rattle.std.specs.Prelude.{is_some, nat_le, unwrap_or}
+use Rattle.std.specs.List.{IsDistinct, list_any}
+use Rattle.std.specs.Map.{keys_of, values_of, lookup}
+use Rattle.std.specs.Option.{option_or}
+use Rattle.indexmap.specs.IndexMap.{get}
+use Rattle.indexmap.specs.IndexSet.{contains}
+use Rattle.mq_trace.specs.declared.place.Place3.{Place3}
+use Rattle.mq_rules.specs.declared.role.Role.{Role}
+use Rattle.mq_rules.specs.declared.role.Role.TheVariants.{Client, Server}
+use Rattle.mq_rules.specs.declared.role.Tested.{Tested}
+use Rattle.mq_rules.specs.declared.rule.Rule.{Rule}
+use Rattle.mq_rules.specs.declared.rule.Rule.TheVariants.{S07, E7R, L1, L2, L3, B01, B02}
+use Rattle.mq_rules.specs.declared.fate.Fate.{Fate}
+use Rattle.mq_rules.specs.declared.packet_note.PublishNote.{PublishNote}
+use Rattle.mq_rules.specs.declared.note.Note.{Note}
+use Rattle.mq_rules.specs.declared.note.Seen.{Seen}
+use Rattle.mq_rules.specs.Words.{is_some_and, is_id, only}
+use Rattle.mq_rules.specs.Notes.{is_open, is_rest, is_release, released_id, received_exactly_once, sent_as, received_as, ended_in, unmatched_pubrec_in, success_pubcomp_in, received_subscription, sent_grant, sent_publish, delivery_of, closer_of, is_received_pingreq, is_sent_pingresp}
+use Rattle.mq_rules.specs.Moments.{Moment}
+use Rattle.mq_rules.specs.Connections.{latest_fate, accepts, begins}
+use Rattle.mq_rules.specs.Pasts.{set_alias}
+use Rattle.mq_rules.specs.Subscriptions.{Standing, is_shared}
+use Rattle.mq_rules.specs.Exchanges.{Exchange, breaks_A, breaks_O, shows_R}
+use Rattle.mq_rules.specs.Rules.{same_rule, binds}
+use Rattle.mq_rules.specs.Statements.{statement, in_session, at_rest}
+use Rattle.mq_rules.specs.Faults.{offset_of}
+use Rattle.mq_rules.specs.FaultKeys.{FaultMap}
+use Rattle.mq_rules.specs.Under.{IsUnder, fate_before, turns_with}
+use Rattle.mq_rules.specs.Growing.{Gains}
+use Rattle.mq_rules.proofs.Exports.{and_false, gains_either, option_or-none, or_false}
+use Rattle.mq_books.specs.declared.ordering.Debt.{Debt}
+use Rattle.mq_books.specs.declared.quota.Quota.{Quota}
+use Rattle.mq_books.specs.declared.pings.Pings.{Pings}
+use Rattle.mq_books.specs.Concerns.{Passes, concerns_count, concerns_asked, concerns_owed, concerns_pings, concerns_quota, concerns_releases, concerns_deliveries}
+use Rattle.mq_books.specs.Answering.{IsApart}
+use Rattle.mq_books.specs.Askings.{IsAsked, answered_next, is_unasked}
+use Rattle.mq_books.specs.Owings.{due_next, binds_by, IsOwing}
+use Rattle.mq_books.specs.Orderings.{looked_at, passes_over, queued_next, ordered_by}
+use Rattle.mq_books.specs.Countings.{Counting, IsCounting, IsCounted, counted_next, differs}
+use Rattle.mq_books.specs.Pingings.{ends_by, counted, unanswered, is_server, IsPings}
+use Rattle.mq_books.specs.Quotas.{announced, may_count, flown, exceeds, IsQuota}
+use Rattle.mq_books.specs.Releasing as releasing
+use Rattle.mq_books.specs.Releasing.{IsReleasing, is_inside, starts_over, kept_next, lasting}
+use Rattle.mq_books.specs.Standings.{Waits, IsStanding, asked, is_answered, goes_on, grants_some, judged_topic, delivers_so, is_unasked as unasked, is_above}
+use Rattle.mq_books.proofs.AskedLaws.{asked-next, asked-gains}
+use Rattle.mq_books.proofs.CountLaws.{counted-next, counted-gains}
+use Rattle.mq_books.proofs.DeliveryLaws.{B01-gains, B02-gains}
+use Rattle.mq_books.proofs.OwingLaws.{owing-next, rest-gains, answer-gains}
+use Rattle.mq_books.proofs.PingLaws.{pings-next, pings-gains}
+use Rattle.mq_books.proofs.QuotaLaws.{quota-next, quota-gains}
+use Rattle.mq_books.proofs.ReleaseLaws.{releasing-next, releases-gains}
+use Rattle.mq_books.proofs.StandingLaws.{standing-next}
+
+-- ---- words
+
+pub nothing : {A : Type 0} (o : Option A) → is_some o ≡ false → o ≡ None
+nothing None h = refl
+nothing (Some a) h = absurd (cc)
+
+pub same_cond : {A : Type 0} (b : Bool) (a : A) → cond b a a ≡ a
+same_cond true a = refl
+same_cond false a = refl
+
+pub only-none : {A : Type 0} (b : Bool) → only {A = A} b None ≡ None
+only-none true = refl
+only-none false = refl
+
+pub some-same : (f g : Fate) → Some f ≡ Some g → f ≡ g
+some-same f g h = cc
+
+-- two conditions that fail
+pub and2_false : (a b c : Bool) → c ≡ false → (a && (b && c)) ≡ false
+and2_false a b c h = ap (λ t. a && (b && t)) h ∙ ap (λ t. a && t) (and_false b) ∙ and_false a
+
+-- two watchers pass it together
+pub neither : (a b : Bool) → (a || b) ≡ false → (a ≡ false) × (b ≡ false)
+neither true b h = absurd (cc)
+neither false b h = (refl, h)
+
+pub both_pass : (P Q : List Seen → Type 0) (a b : Rule → Bool) (tested : Tested) (f : Fate) (at : ℕ) (e : Seen) (past : List Seen) → Passes P a tested f at e past → Passes Q b tested f at e past
+    → Passes (λ log. P log × Q log) (λ r. a r || b r) tested f at e past
+both_pass P Q a b tested f at e past p q = record {
+  stays = (p.stays, q.stays);
+  shows = λ m. gains_either a b (turns_with tested f e past) tested (e ∷ past) at m m m (p.shows m) (q.shows m);
+}
+
+-- where no connection begins, the fate before the event is that of its connection
+pub closed-before : (tested : Tested) (f : Fate) (e : Seen) (past : List Seen) → is_open e.note ≡ false → Some f ≡ fate_before tested f e past
+closed-before tested f e past h = sym (ap (λ b. cond b (latest_fate tested.role past) (Some f)) h)
+
+-- ---- how many Reason Codes there are
+
+pub counted-passes : (tested : Tested) (rule : Rule) (c : Counting) (breaks : Moment → Bool) → IsCounting c breaks → ((role : Role) → statement role rule ≡ in_session (λ f. breaks)) → ((role : Role) (m : Option Moment) → offset_of (statement role rule) m ≡ None)
+    → (fate f : Fate) (counts : ℕ → Option ℕ) (at : ℕ) (e : Seen) (past : List Seen) (bound : Bool) → concerns_count c e.note ≡ false → IsUnder tested f at e past → bound ≡ binds rule tested → IsCounted c fate counts (fate_before tested f e past) past
+    → IsCounted c fate counts (Some f) (e ∷ past) × ((m : FaultMap) → Gains (λ k r. same_rule r rule && turns_with tested f e past k r) tested (e ∷ past) at m m)
+counted-passes tested rule c breaks is says plain fate f counts at e past bound h under judged was =
+    let n = e.note in
+    let h1 = neither (is_open n) (is_some (c.request n) || is_some (c.reply n)) h in
+    let h2 = neither (is_some (c.request n)) (is_some (c.reply n)) h1.1 in
+    let o : IsCounted c fate counts (Some f) past = subst (λ (t : Option Fate). IsCounted c fate counts t past) (sym (closed-before tested f e past h1.0)) was in
+    let asks : c.request n ≡ None = nothing (c.request n) h2.0 in
+    let gives : c.reply n ≡ None = nothing (c.reply n) h2.1 in
+    let next : IsCounted c f counts (Some f) (e ∷ past) = counted-next c breaks is fate f counts counts (Some f) e past o (λ i. sym (
+    ap (λ b. counted_next b (c.request n) (c.reply n) i (counts i)) h1.0
+    ∙ ap (λ q. counted_next false q (c.reply n) i (counts i)) asks
+    ∙ ap (λ q. counted_next false None q i (counts i)) gives
+    ∙ option_or-none (counts i))) in (
+      subst (λ (g : Fate). IsCounted c g counts (Some f) (e ∷ past)) (some-same f fate o.same_fate) next,
+      λ m. counted-gains tested rule c breaks is says plain fate f counts (Some f) at e past m bound false under o judged
+          (sym (and2_false bound (accepts f) (differs counts (c.reply n)) (ap (λ q. differs counts q) gives))),
+    )
+
+-- ---- whether answers were asked for
+
+pub asked-passes : (tested : Tested) (rule : Rule) (x : Exchange) → IsApart x → statement tested.role rule ≡ in_session (breaks_A x tested.role) → (f fate : Fate) (opened : ℕ) (answered : ℕ → Option ℕ) (at : ℕ) (e : Seen) (past : List Seen) (bound : Bool)
+    → concerns_asked x e.note ≡ false → IsUnder tested f at e past → bound ≡ binds rule tested → IsAsked x fate opened answered tested (fate_before tested f e past) past
+    → IsAsked x fate opened answered tested (Some f) (e ∷ past) × ((m : FaultMap) → Gains (λ k r. same_rule r rule && turns_with tested f e past k r) tested (e ∷ past) at m m)
+asked-passes tested rule x apart says f fate opened answered at e past bound h under judged before =
+    let n = e.note in
+    let h1 = neither (is_open n) (is_some (x.cause n) || is_some (x.answer n)) h in
+    let h2 = neither (is_some (x.cause n)) (is_some (x.answer n)) h1.1 in
+    let asks : x.cause n ≡ None = nothing (x.cause n) h2.0 in
+    let gives : x.answer n ≡ None = nothing (x.answer n) h2.1 in
+    let o : IsAsked x fate opened answered tested (Some f) past = subst (λ (t : Option Fate). IsAsked x fate opened answered tested t past) (sym (closed-before tested f e past h1.0)) before in
+    let next : IsAsked x f opened answered tested (Some f) (e ∷ past) =
+    asked-next tested x f fate opened opened answered answered e past apart under.follows.placed.0 before (sym (ap (λ b. cond b e.place.position opened) h1.0)) (λ i. sym (
+    ap (λ q. answered_next f n q (x.answer n) e.place.position i (answered i)) asks
+    ∙ ap (λ q. answered_next f n None q e.place.position i (answered i)) gives
+    ∙ ap (λ b. cond b (cond (begins (Some f)) None (answered i)) (cond (accepts f) (answered i) (answered i))) h1.0
+    ∙ same_cond (accepts f) (answered i))) in (
+      subst (λ (g : Fate). IsAsked x g opened answered tested (Some f) (e ∷ past)) (some-same f fate o.same_fate) next,
+      λ m. asked-gains tested rule x apart says f fate opened answered at e past m bound false under.follows.placed.0 before judged
+          (sym (ap (λ q. bound && is_unasked f opened q answered) gives ∙ and2_false bound (accepts f) false refl)),
+    )
+
+-- ---- what is owed
+
+pub owing-passes : (tested : Tested) (x : Exchange) → IsApart x → (settled : Rule) (ordered : Option Rule) → statement tested.role settled ≡ at_rest (shows_R x) → ((rule : Rule) → ordered ≡ Some rule → statement tested.role rule ≡ in_session (λ f. breaks_O x))
+    → (binding order_binding : Bool) (f fate : Fate) (ended : Bool) (es : List (ℕ × Place3)) (queue : List Debt) (at : ℕ) (e : Seen) (past : List Seen)
+    → concerns_owed x e.note ≡ false → IsUnder tested f at e past → IsDistinct nat_eq (keys_of es) → IsOwing x settled ordered binding order_binding fate ended (λ i. lookup (nat_eq i) es) queue tested (fate_before tested f e past) past
+    → IsOwing x settled ordered binding order_binding fate ended (λ i. lookup (nat_eq i) es) queue tested (Some f) (e ∷ past)
+    × ((m : FaultMap) → Gains (λ k r. (same_rule r settled || is_some_and (same_rule r) ordered) && turns_with tested f e past k r) tested (e ∷ past) at m m)
+owing-passes tested x apart settled ordered says_settled says_ordered binding order_binding f fate ended es queue at e past h under distinct before =
+    let n = e.note in
+    let due : ℕ → Option Place3 = λ i. lookup (nat_eq i) es in
+    let h1 = neither (is_open n) (is_rest n || (ends_by n || (is_some (x.cause n) || is_some (x.answer n)))) h in
+    let h2 = neither (is_rest n) (ends_by n || (is_some (x.cause n) || is_some (x.answer n))) h1.1 in
+    let h3 = neither (ends_by n) (is_some (x.cause n) || is_some (x.answer n)) h2.1 in
+    let h4 = neither (is_some (x.cause n)) (is_some (x.answer n)) h3.1 in
+    let asks : x.cause n ≡ None = nothing (x.cause n) h4.0 in
+    let gives : x.answer n ≡ None = nothing (x.answer n) h4.1 in
+    let o : IsOwing x settled ordered binding order_binding fate ended (λ i. lookup (nat_eq i) es) queue tested (Some f) past =
+    subst (λ (t : Option Fate). IsOwing x settled ordered binding order_binding fate ended (λ i. lookup (nat_eq i) es) queue tested t past) (sym (closed-before tested f e past h1.0)) before in
+    let next : IsOwing x settled ordered binding order_binding f ended (λ i. lookup (nat_eq i) es) queue tested (Some f) (e ∷ past) =
+    owing-next tested x apart settled ordered binding order_binding f fate at ended ended (λ i. lookup (nat_eq i) es) (λ i. lookup (nat_eq i) es) queue queue queue queue e past under before
+    (sym (ap (λ b. b || (not (is_open n) && ended)) h3.0 ∙ ap (λ b. not b && ended) h1.0))
+    (λ accepted i. sym (
+    ap (λ q. due_next n q (x.answer n) e.place i (lookup (nat_eq i) es)) asks
+    ∙ ap (λ q. due_next n None q e.place i (lookup (nat_eq i) es)) gives
+    ∙ ap (λ b. option_or (cond b None (lookup (nat_eq i) es)) None) h1.0
+    ∙ option_or-none (lookup (nat_eq i) es)))
+    (sym (ap (λ q. cond (order_binding && accepts f) (looked_at (λ i. lookup (nat_eq i) es) q queue) queue) gives ∙ same_cond (order_binding && accepts f) queue))
+    (sym (ap (λ q. cond (is_some ordered && accepts f) (queued_next n q e.place.position (λ i. lookup (nat_eq i) es) queue) queue) asks
+    ∙ ap (λ b. cond (is_some ordered && accepts f) (cond b [] (queue ++ [])) queue) h1.0
+    ∙ ap (λ q. cond (is_some ordered && accepts f) q queue) (append-nil queue)
+    ∙ same_cond (is_some ordered && accepts f) queue))
+    (inl refl) in (
+      subst (λ (g : Fate). IsOwing x settled ordered binding order_binding g ended (λ i. lookup (nat_eq i) es) queue tested (Some f) (e ∷ past)) (some-same f fate o.owed.same_fate) next,
+      λ m. gains_either (λ r. same_rule r settled) (λ r. is_some_and (same_rule r) ordered) (turns_with tested f e past) tested (e ∷ past) at m m m
+          (rest-gains tested x apart settled ordered says_settled binding order_binding f fate ended es queue at e past m false under distinct before
+          (sym (ap (λ b. binding && (b && ((at == e.place.position) && (accepts f && not ended)))) h2.0 ∙ and_false binding)))
+          (silent-order ordered m (answer-gains tested x apart settled ordered says_ordered binding order_binding f fate ended (λ i. lookup (nat_eq i) es) queue at e past m false under before
+          (sym (ap (λ q. order_binding && (accepts f && passes_over (λ i. lookup (nat_eq i) es) q (looked_at (λ i. lookup (nat_eq i) es) q queue))) gives ∙ and2_false order_binding (accepts f) false refl)))),
+    )
+  where
+    silent-order : (o : Option Rule) (m : FaultMap) → Gains (λ k r. is_some_and (same_rule r) o && turns_with tested f e past k r) tested (e ∷ past) at m (ordered_by o false e.place at m)
+        → Gains (λ k r. is_some_and (same_rule r) o && turns_with tested f e past k r) tested (e ∷ past) at m m
+    silent-order None m g = g
+    silent-order (Some rule) m g = g
+
+-- ---- pings
+
+zero-more : (n : ℕ) → 0 + n ≡ n
+zero-more n = omega arith
+
+pub pings-passes : (tested : Tested) (s : Pings) (f : Fate) (at : ℕ) (e : Seen) (past : List Seen) → concerns_pings e.note ≡ false → IsUnder tested f at e past → IsPings s tested (fate_before tested f e past) past
+    → IsPings s tested (Some f) (e ∷ past) × ((m : FaultMap) → Gains (λ k r. same_rule r E7R && turns_with tested f e past k r) tested (e ∷ past) at m m)
+pings-passes tested s f at e past h under was =
+    let n = e.note in
+    let h1 = neither (is_open n) (is_rest n || (ends_by n || (is_received_pingreq n || is_sent_pingresp n))) h in
+    let h2 = neither (is_rest n) (ends_by n || (is_received_pingreq n || is_sent_pingresp n)) h1.1 in
+    let h3 = neither (ends_by n) (is_received_pingreq n || is_sent_pingresp n) h2.1 in
+    let h4 = neither (is_received_pingreq n) (is_sent_pingresp n) h3.1 in
+    let p : IsPings s tested (Some f) past = subst (λ (t : Option Fate). IsPings s tested t past) (sym (closed-before tested f e past h1.0)) was in
+    let next : IsPings (record { role = s.role; fate = f; ended = s.ended; asked = s.asked; answered = s.answered }) tested (Some f) (e ∷ past) =
+    pings-next tested s (Some f) f at e past s.ended s.asked s.answered p under
+    (sym (ap (λ b. b || (not (is_open n) && s.ended)) h3.0 ∙ ap (λ b. not b && s.ended) h1.0))
+    (λ below. sym (ap (λ b. counted b (is_open n) s.asked) h4.0 ∙ ap (λ b. counted false b s.asked) h1.0 ∙ zero-more s.asked))
+    (λ below. sym (ap (λ b. counted b (is_open n) s.answered) h4.1 ∙ ap (λ b. counted false b s.answered) h1.0 ∙ zero-more s.answered)) in (
+      subst (λ (g : Fate). IsPings (record { role = s.role; fate = g; ended = s.ended; asked = s.asked; answered = s.answered }) tested (Some f) (e ∷ past)) (some-same f s.fate p.same_fate) next,
+      λ m. pings-gains tested s f (Some f) at e past m false under p
+          (sym (ap (λ b. is_server s.role && (accepts f && ((b && ((at == e.place.position) && (accepts f && not s.ended))) && nat_lt s.answered s.asked))) h2.0 ∙ and2_false (is_server s.role) (accepts f) false refl)),
+    )
+
+-- ---- the send quota
+
+pub quota-passes : (tested : Tested) (s : Quota) (f : Fate) (at : ℕ) (e : Seen) (past : List Seen) → concerns_quota tested e.note ≡ false → IsUnder tested f at e past → IsQuota s tested (fate_before tested f e past) past
+    → IsQuota s tested (Some f) (e ∷ past) × ((m : FaultMap) → Gains (λ k r. same_rule r S07 && turns_with tested f e past k r) tested (e ∷ past) at m m)
+quota-passes tested s f at e past h under was =
+    let n = e.note in
+    let h1 = neither (is_open n) (is_some (announced tested.role n) || (is_some (delivery_of n) || is_some (closer_of n))) h in
+    let h2 = neither (is_some (announced tested.role n)) (is_some (delivery_of n) || is_some (closer_of n)) h1.1 in
+    let h3 = neither (is_some (delivery_of n)) (is_some (closer_of n)) h2.1 in
+    let q : IsQuota s tested (Some f) past = subst (λ (t : Option Fate). IsQuota s tested t past) (sym (closed-before tested f e past h1.0)) was in
+    let quiet : announced s.role n ≡ None = ap (λ r. announced r n) q.same_role ∙ nothing (announced tested.role n) h2.0 in
+    let next : IsQuota (record { role = s.role; fate = f; peer = s.peer; in_flight = s.in_flight }) tested (Some f) (e ∷ past) =
+    quota-next tested s (Some f) f e past s.peer s.in_flight at q under
+    (sym (ap (λ o. option_or (cond (is_open n) None s.peer) o) quiet ∙ ap (λ b. option_or (cond b None s.peer) None) h1.0 ∙ option_or-none s.peer))
+    (λ below. sym (
+    ap (λ b. cond b 0 (cond (may_count s.role s.peer) (cond (is_some (delivery_of n)) (s.in_flight + 1) (cond (is_some (closer_of n)) (s.in_flight - 1) s.in_flight)) s.in_flight)) h1.0
+    ∙ ap (λ b. cond (may_count s.role s.peer) (cond b (s.in_flight + 1) (cond (is_some (closer_of n)) (s.in_flight - 1) s.in_flight)) s.in_flight) h3.0
+    ∙ ap (λ b. cond (may_count s.role s.peer) (cond b (s.in_flight - 1) s.in_flight) s.in_flight) h3.1
+    ∙ same_cond (may_count s.role s.peer) s.in_flight)) in (
+      subst (λ (g : Fate). IsQuota (record { role = s.role; fate = g; peer = s.peer; in_flight = s.in_flight }) tested (Some f) (e ∷ past)) (some-same f s.fate q.same_fate) next,
+      λ m. quota-gains tested s f (Some f) at e past m false under q
+          (sym (ap (λ b. accepts f && (b && (may_count s.role s.peer && nat_le (unwrap_or s.peer 65535) s.in_flight))) h3.0 ∙ and_false (accepts f))),
+    )
+
+-- ---- releases
+
+gained-nothing : (inside over old : Bool) → over ≡ false → kept_next over inside None None 0 old ≡ old
+gained-nothing inside over old h = ap (λ b. kept_next b inside None None 0 old) h ∙ same_cond inside old
+
+pub releasing-passes : (tested : Tested) (role : Role) (releases : Bool) (fate f : Fate) (any : Bool) (brought released due : ℕ → Bool) (at : ℕ) (e : Seen) (past : List Seen)
+    → concerns_releases e.note ≡ false → IsUnder tested f at e past → IsReleasing role releases fate any brought released due tested (fate_before tested f e past) past
+    → IsReleasing role releases fate any brought released due tested (Some f) (e ∷ past)
+    × ((m : FaultMap) → Gains (λ k r. ((same_rule r L1 || same_rule r L2) || same_rule r L3) && turns_with tested f e past k r) tested (e ∷ past) at m m)
+releasing-passes tested role releases fate f any brought released due at e past h under before =
+    let n = e.note in
+    let h1 = neither (is_open n) (is_release n || (is_some (released_id n) || (is_some (received_exactly_once n) || (is_some (sent_as ended_in n) || (is_some (sent_as unmatched_pubrec_in n) || is_some (sent_as success_pubcomp_in n)))))) h in
+    let h2 = neither (is_release n) (is_some (released_id n) || (is_some (received_exactly_once n) || (is_some (sent_as ended_in n) || (is_some (sent_as unmatched_pubrec_in n) || is_some (sent_as success_pubcomp_in n))))) h1.1 in
+    let h3 = neither (is_some (released_id n)) (is_some (received_exactly_once n) || (is_some (sent_as ended_in n) || (is_some (sent_as unmatched_pubrec_in n) || is_some (sent_as success_pubcomp_in n)))) h2.1 in
+    let h4 = neither (is_some (received_exactly_once n)) (is_some (sent_as ended_in n) || (is_some (sent_as unmatched_pubrec_in n) || is_some (sent_as success_pubcomp_in n))) h3.1 in
+    let h5 = neither (is_some (sent_as ended_in n)) (is_some (sent_as unmatched_pubrec_in n) || is_some (sent_as success_pubcomp_in n)) h4.1 in
+    let h6 = neither (is_some (sent_as unmatched_pubrec_in n)) (is_some (sent_as success_pubcomp_in n)) h5.1 in
+    let frees : released_id n ≡ None = nothing (released_id n) h3.0 in
+    let brings : received_exactly_once n ≡ None = nothing (received_exactly_once n) h4.0 in
+    let ends : sent_as ended_in n ≡ None = nothing (sent_as ended_in n) h5.0 in
+    let unmatched : sent_as unmatched_pubrec_in n ≡ None = nothing (sent_as unmatched_pubrec_in n) h6.0 in
+    let completes : sent_as success_pubcomp_in n ≡ None = nothing (sent_as success_pubcomp_in n) h6.1 in
+    let over : starts_over f n ≡ false = ap (λ b. b && begins (Some f)) h1.0 in
+    let inside = is_inside f n any in
+    let r : IsReleasing role releases fate any brought released due tested (Some f) past =
+    subst (λ (t : Option Fate). IsReleasing role releases fate any brought released due tested t past) (sym (closed-before tested f e past h1.0)) before in
+    let lasts : lasting n brought ≡ None = ap (λ o. only (not (is_some_and brought o) && not (releasing.expires n)) o) brings ∙ only-none {A = ℕ} (true && not (releasing.expires n)) in
+    let next : IsReleasing role releases f any brought released due tested (Some f) (e ∷ past) =
+    releasing-next tested role releases fate f any brought released due inside (starts_over f n) any brought released due e past before refl refl
+    (sym (ap (λ b. any || (b && accepts f)) h1.0 ∙ or_false any))
+    (λ i. sym (
+    ap (λ o. kept_next false inside o (sent_as ended_in n) i (kept_next (starts_over f n) inside None (sent_as unmatched_pubrec_in n) i (due i))) lasts
+    ∙ ap (λ o. kept_next false inside None o i (kept_next (starts_over f n) inside None (sent_as unmatched_pubrec_in n) i (due i))) ends
+    ∙ ap (λ o. kept_next false inside None None i (kept_next (starts_over f n) inside None o i (due i))) unmatched
+    ∙ gained-nothing inside false (kept_next (starts_over f n) inside None None i (due i)) refl
+    ∙ gained-nothing inside (starts_over f n) (due i) over))
+    (λ i. sym (
+    ap (λ o. kept_next (starts_over f n) inside o (sent_as ended_in n) i (brought i)) brings
+    ∙ ap (λ o. kept_next (starts_over f n) inside None o i (brought i)) ends
+    ∙ gained-nothing inside (starts_over f n) (brought i) over))
+    (λ i. sym (
+    ap (λ o. kept_next (starts_over f n) inside o (sent_as ended_in n) i (released i)) frees
+    ∙ ap (λ o. kept_next (starts_over f n) inside None o i (released i)) ends
+    ∙ gained-nothing inside (starts_over f n) (released i) over)) in (
+      subst (λ (g : Fate). IsReleasing role releases g any brought released due tested (Some f) (e ∷ past)) (some-same f fate r.same_fate) next,
+      λ m. releases-gains tested role releases fate f any brought released due at e past m m m m false false false under before
+          (sym (ap (λ o. releases && is_some_and (λ i. not (brought i)) o) frees ∙ and_false releases)) refl
+          (sym (ap (λ o. releases && is_some_and released o) frees ∙ and_false releases)) refl
+          (sym (and2_false releases (accepts f) (is_some_and (λ i. not (released i) && due i) (sent_as success_pubcomp_in n)) (ap (λ o. is_some_and (λ i. not (released i) && due i) o) completes))) refl,
+    )
+
+-- ---- deliveries
+
+with_true : (a : Bool) → (a && true) ≡ a
+with_true true = refl
+with_true false = refl
+
+undelivered : (bound b : Bool) (n : Note) (sharing : Bool) (topics : ℕ → Option (List ℕ)) (test : PublishNote → List ℕ → Bool) → (is_some (sent_publish n) && bound) ≡ false → (bound && (b && delivers_so n sharing topics test)) ≡ false
+undelivered true b n sharing topics test h = ap (λ o. b && is_some_and (λ p. is_some_and (test p) (judged_topic sharing topics p)) o) (nothing (sent_publish n) (sym (with_true (is_some (sent_publish n))) ∙ h)) ∙ and_false b
+undelivered false b n sharing topics test h = refl
+
+pub standing-passes : (tested : Tested) (fate f : Fate) (settled : List Standing) (waiting : List Waits) (sharing : Bool) (topics : ℕ → Option (List ℕ)) (at : ℕ) (e : Seen) (past : List Seen) (bound : Bool)
+    → concerns_deliveries tested e.note ≡ false → IsUnder tested f at e past → bound ≡ binds B01 tested → IsStanding fate settled waiting sharing topics tested (fate_before tested f e past) past
+    → IsStanding fate settled waiting sharing topics tested (Some f) (e ∷ past)
+    × ((m : FaultMap) → Gains (λ k r. (same_rule r B01 || same_rule r B02) && turns_with tested f e past k r) tested (e ∷ past) at m m)
+standing-passes tested fate f settled waiting sharing topics at e past bound h under judged before =
+    let n = e.note in
+    let h1 = neither (is_open n) (is_some (received_subscription n) || (is_some (sent_grant n) || (is_some (set_alias n) || (is_some (sent_publish n) && binds B01 tested)))) h in
+    let h2 = neither (is_some (received_subscription n)) (is_some (sent_grant n) || (is_some (set_alias n) || (is_some (sent_publish n) && binds B01 tested))) h1.1 in
+    let h3 = neither (is_some (sent_grant n)) (is_some (set_alias n) || (is_some (sent_publish n) && binds B01 tested)) h2.1 in
+    let h4 = neither (is_some (set_alias n)) (is_some (sent_publish n) && binds B01 tested) h3.1 in
+    let asks : received_subscription n ≡ None = nothing (received_subscription n) h2.0 in
+    let grants : sent_grant n ≡ None = nothing (sent_grant n) h3.0 in
+    let sets : set_alias n ≡ None = nothing (set_alias n) h4.0 in
+    let silent : (is_some (sent_publish n) && bound) ≡ false = ap (λ b. is_some (sent_publish n) && b) judged ∙ h4.1 in
+    let s : IsStanding fate settled waiting sharing topics tested (Some f) past =
+    subst (λ (t : Option Fate). IsStanding fate settled waiting sharing topics tested t past) (sym (closed-before tested f e past h1.0)) before in
+    let next : IsStanding f settled waiting sharing topics tested (Some f) (e ∷ past) =
+    standing-next tested fate f settled settled waiting waiting sharing sharing topics topics e past before
+    (λ t. sym (
+    ap (λ b. cond b (goes_on f n && (list_any t settled || list_any (λ w. list_any t w.filters) waiting)) (list_any t settled || grants_some t (sent_grant n) (λ p. list_any p waiting))) h1.0
+    ∙ ap (λ o. list_any t settled || grants_some t o (λ p. list_any p waiting)) grants
+    ∙ or_false (list_any t settled)))
+    (λ t. sym (
+    ap (λ b. cond b false ((accepts f && is_some_and t (option_map asked (received_subscription n))) || list_any (λ w. not (is_answered (sent_grant n) w) && t w) waiting)) h1.0
+    ∙ ap (λ o. (accepts f && is_some_and t (option_map asked o)) || list_any (λ w. not (is_answered (sent_grant n) w) && t w) waiting) asks
+    ∙ ap (λ b. b || list_any (λ w. not (is_answered (sent_grant n) w) && t w) waiting) (and_false (accepts f))
+    ∙ ap (λ o. list_any (λ w. not (is_answered o w) && t w) waiting) grants))
+    (sym (
+    ap (λ o. (accepts f && is_some_and (λ s. list_any is_shared s.filters) o) || (goes_on f n && sharing)) asks
+    ∙ ap (λ b. b || (goes_on f n && sharing)) (and_false (accepts f))
+    ∙ ap (λ b. not (b && begins (Some f)) && sharing) h1.0))
+    (λ alias. sym (
+    ap (λ o. option_or (only (is_id alias o) (option_map (λ p. p.topic) (sent_publish n))) (cond (is_open n) None (topics alias))) sets
+    ∙ ap (λ b. cond b None (topics alias)) h1.0)) in (
+      subst (λ (g : Fate). IsStanding g settled waiting sharing topics tested (Some f) (e ∷ past)) (some-same f fate s.same_fate) next,
+      λ m. gains_either (λ r. same_rule r B01) (λ r. same_rule r B02) (λ k r. turns_with tested f e past k r) tested (e ∷ past) at m m m
+          (B01-gains tested fate f settled waiting sharing topics at e past m bound false under before judged (sym (undelivered bound (accepts f) n sharing topics (unasked settled waiting) silent)))
+          (B02-gains tested fate f settled waiting sharing topics at e past m bound false under before judged (sym (undelivered bound (accepts f) n sharing topics (is_above settled waiting) silent))),
+    )

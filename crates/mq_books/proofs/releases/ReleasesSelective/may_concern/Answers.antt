@@ -1,0 +1,6 @@
+use Rattle.std.proofs.Common.{sym, ◌∙◌}
+use Rattle.mq_books.proofs.SelectingLaws.{releases-unconcerned}
+use Rattle.mq_books.proofs.releases.ReleasesSelective.may_concern.Goals as goal
+
+pub returns : goal.returns
+returns c = λ h tested taken past agree. releases-unconcerned c.args.note.now (sym c.may_concern_releases.ensures ∙ h)

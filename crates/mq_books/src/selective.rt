@@ -1,0 +1,101 @@
+//! Watchers that are given only the events that may concern them.
+ghost use Rattle.std.specs.Prelude.{◌≡◌, ◌&&◌, ◌||◌, ℕ, Bool, false, List, Option, Some, refl};
+ghost use Rattle.mq_rules.specs.declared.role.Tested.{Tested};
+ghost use Rattle.mq_rules.specs.declared.fate.Fate.{Fate as TheFate};
+ghost use Rattle.mq_rules.specs.declared.note.Note.{Note as TheNote};
+ghost use Rattle.mq_rules.specs.declared.note.Seen.{Seen};
+ghost use Rattle.mq_rules.specs.Under.{IsUnder, IsKnown, fate_before, turns_known};
+ghost use Rattle.mq_books.specs.Concerns.{Passes};
+
+use crate::fated::Fated;
+use mq_rules::{Both, Fate, Faults, Memory, Note, Watch};
+use mq_trace::Place3;
+
+/// A watcher of which it is known which events concern it: any other event leaves what it keeps as it is, and shows none of its statements to be false.
+pub trait Selective: Fated {
+    /// The notes of the events that concern it.
+    ghost concerns: { Tested → TheNote → Bool };
+
+    /// The law on all others. The call does nothing.
+    fn passes(&self)
+        ensures { (tested : Tested) (fate : TheFate) (at : ℕ) (e : Seen) (past : List Seen) → concerns tested e.note ≡ false → IsUnder tested fate at e past → Self.agrees self.now tested (fate_before tested fate e past) past → Passes (Self.agrees self.now tested (Some fate)) Self.judges tested fate at e past };
+
+    /// Whether an event may concern it. By default any event may.
+    fn may_concern(&self, note: &Note) -> bool
+        ensures { result ≡ false → (tested : Tested) (taken : Option TheFate) (past : List Seen) → Self.agrees self.now tested taken past → concerns tested note.now ≡ false }
+    {
+        let _ = note;
+        true
+    }
+}
+
+impl<A: Selective, B: Selective> Selective for Both<A, B> {
+    ghost concerns = { λ tested n. A.concerns tested n || B.concerns tested n };
+
+    fn passes(&self) {
+        self.a.passes();
+        self.b.passes();
+    }
+}
+
+/// A watcher that is given only the events that may concern it.
+#[derive(Drop)]
+pub struct Selecting<W> {
+    watcher: W,
+}
+
+impl<W> Selecting<W> {
+    /// Around this watcher.
+    pub fn new(watcher: W) -> Self
+        ensures { result ≡ record { watcher = watcher } }
+    {
+        Selecting { watcher }
+    }
+}
+
+impl<W: Selective> Watch for Selecting<W> {
+    ghost agrees = { λ s. W.agrees s.watcher };
+
+    ghost takes = { IsKnown };
+
+    ghost adds = { λ tested e past k r. W.judges r && turns_known tested e past k r };
+
+    ghost bound = { W.bound };
+
+    fn step(&mut self, at: Place3, note: &Note, faults: &mut Faults) -> Result<(), Memory> {
+        if !self.watcher.may_concern(note) {
+            self.watcher.passes();
+            return Ok(());
+        }
+        self.watcher.step(at, note, faults)?;
+        Ok(())
+    }
+
+    fn weight(&self) -> usize {
+        self.watcher.weight()
+    }
+}
+
+impl<W: Selective> Fated for Selecting<W> {
+    ghost judges = { W.judges };
+
+    fn fated(
+        &mut self,
+        at: Place3,
+        decided: u32,
+        fate: Fate,
+        note: &Note,
+        faults: &mut Faults,
+    ) -> Result<(), Memory> {
+        if !self.watcher.may_concern(note) {
+            self.watcher.passes();
+            return Ok(());
+        }
+        self.watcher.fated(at, decided, fate, note, faults)?;
+        Ok(())
+    }
+
+    ghost known_taken = { λ tested taken e past known. known };
+
+    ghost known_adds = { λ tested e past k r. refl };
+}
