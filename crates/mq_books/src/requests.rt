@@ -14,9 +14,18 @@ use mq_trace::Place3;
 use std::alloc::Global;
 
 /// Watches what a server owes for each SUBSCRIBE and UNSUBSCRIBE: E5A to E6R.
-#[derive(Drop)]
 pub struct Requests {
     watchers: Both<Debts<E5>, Debts<E6>>,
+}
+
+// As a derived one, but a call of its own.
+impl Drop for Requests {
+    #[inline(never)]
+    fn drop(self) {
+        let Requests {
+            watchers: _watchers,
+        } = self;
+    }
 }
 
 impl Requests {

@@ -20,16 +20,58 @@ use std::alloc::Global;
 /// What is sent under Packet Identifiers, within the send quota, and in answer to pings.
 type Sending = Both<Selecting<Inflight>, Both<Selecting<Quota>, Selecting<Pings>>>;
 
+/// What is received and answered.
+type Exchanges = Both<Selecting<Messages>, Selecting<Requests>>;
+
+/// What is released for onward delivery, and what is delivered.
+type Delivering = Both<Selecting<Releases>, Selecting<Subs>>;
+
 /// Watches S01 to S07, E1A to E7R, L1 to L3 and B01 to B04.
-#[derive(Drop)]
 pub struct Sessions {
-    watchers: Both<
-        Sending,
-        Both<
-            Both<Selecting<Messages>, Selecting<Requests>>,
-            Both<Selecting<Releases>, Selecting<Subs>>,
-        >,
-    >,
+    watchers: Both<Sending, Both<Exchanges, Delivering>>,
+}
+
+// As a derived one, but a call of its own.
+impl Drop for Sessions {
+    #[inline(never)]
+    fn drop(self) {
+        let Sessions {
+            watchers: _watchers,
+        } = self;
+    }
+}
+
+/// What is sent, before any event.
+fn sending(alloc: Global, tested: Tested) -> Sending
+    ensures { ⟦<Both<Selecting<Inflight>, Both<Selecting<Quota>, Selecting<Pings>>> as Watch>⟧.agrees result tested (Some Void) [] }
+{
+    Both::new(
+        Selecting::new(Inflight::new(alloc, tested)),
+        Both::new(
+            Selecting::new(Quota::new(tested)),
+            Selecting::new(Pings::new(tested)),
+        ),
+    )
+}
+
+/// The exchanges, before any event.
+fn exchanges(alloc: Global, tested: Tested) -> Exchanges
+    ensures { ⟦<Both<Selecting<Messages>, Selecting<Requests>> as Watch>⟧.agrees result tested (Some Void) [] }
+{
+    Both::new(
+        Selecting::new(Messages::new(alloc, tested)),
+        Selecting::new(Requests::new(alloc, tested)),
+    )
+}
+
+/// What is delivered, before any event.
+fn delivering(alloc: Global, tested: Tested) -> Delivering
+    ensures { ⟦<Both<Selecting<Releases>, Selecting<Subs>> as Watch>⟧.agrees result tested (Some Void) [] }
+{
+    Both::new(
+        Selecting::new(Releases::new(alloc, tested)),
+        Selecting::new(Subs::new(alloc, tested)),
+    )
 }
 
 impl Sessions {
@@ -39,23 +81,8 @@ impl Sessions {
     {
         Sessions {
             watchers: Both::new(
-                Both::new(
-                    Selecting::new(Inflight::new(alloc, tested)),
-                    Both::new(
-                        Selecting::new(Quota::new(tested)),
-                        Selecting::new(Pings::new(tested)),
-                    ),
-                ),
-                Both::new(
-                    Both::new(
-                        Selecting::new(Messages::new(alloc, tested)),
-                        Selecting::new(Requests::new(alloc, tested)),
-                    ),
-                    Both::new(
-                        Selecting::new(Releases::new(alloc, tested)),
-                        Selecting::new(Subs::new(alloc, tested)),
-                    ),
-                ),
+                sending(alloc, tested),
+                Both::new(exchanges(alloc, tested), delivering(alloc, tested)),
             ),
         }
     }

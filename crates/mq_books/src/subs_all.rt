@@ -15,9 +15,18 @@ use mq_trace::Place3;
 use std::alloc::Global;
 
 /// Watches B01 to B04.
-#[derive(Drop)]
 pub struct Subs {
     watchers: Both<Deliveries, Both<Counts<Subacks>, Counts<Unsubacks>>>,
+}
+
+// As a derived one, but a call of its own.
+impl Drop for Subs {
+    #[inline(never)]
+    fn drop(self) {
+        let Subs {
+            watchers: _watchers,
+        } = self;
+    }
 }
 
 impl Subs {

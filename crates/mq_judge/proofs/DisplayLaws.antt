@@ -211,7 +211,7 @@ module _ {S : Type 0} (agrees : S → List Placed → Type 0) (refuses : S → L
           later = [];
           is = sym (append-nil all.log);
           unrefused = unrefused all.log all.followed.0 all.within;
-          why = inl (inl (c.1, refl));
+          why = inl (c.1, refl);
         },
         written held (has_failed sink) now new lines (text (events all.log)) (sends (events all.log) all.followed.1) fine last,
       ))

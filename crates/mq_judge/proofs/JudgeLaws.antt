@@ -1,96 +1,274 @@
 -- What a judge keeps, piece by piece.
-use Rattle.std.proofs.Common.{◌≡◌, ℕ, inl, inr, Bool, true, false, nat_lt, List, [], ◌++◌, length, map, reverse, Some, None, Result, Ok, Err, is_ok, OnOk, IfErr, refl, sym, ◌∙◌, ap, subst}
-use Rattle.std.specs.Prelude.{◌||◌, if◌then◌else◌}
-use Rattle.std.proofs.lemmas.List.{length-map, length-reverse}
-use Rattle.std.specs.Option.{option_or}
+use Rattle.std.proofs.Common.{◌≡◌, ℕ, zero, suc, ◌+◌, ◌<◌, ◌≤◌, ◌⊎◌, inl, inr, Bool, true, false, nat_lt, List, [], ◌∷◌, ◌++◌, length, map, Option, Some, None, Result, Ok, Err, OnOk, IfErr, refl, sym, ◌∙◌, ap, subst, arith, length-append, append_assoc, append-nil}
+use Rattle.std.specs.Prelude.{◌||◌, IfSome, if◌then◌else◌}
+use Rattle.std.proofs.lemmas.Bool.{ltb-true, ltb-false}
+use Rattle.std.proofs.lemmas.List.{length-map, nil_from_length}
 use Rattle.mq_trace.specs.declared.refusal.Refusal.{Refusal}
 use Rattle.mq_trace.specs.declared.refusal.Refusal.TheVariants as refusals
 use Rattle.mq_trace.specs.declared.header.Header.{Header}
+use Rattle.mq_trace.specs.declared.reading.Reading.{Reading}
 use Rattle.mq_trace.specs.Framing.{header_by}
 use Rattle.mq_trace.specs.Events.{Placed, events, events_back}
 use Rattle.mq_trace.specs.Refusals.{refused, is_cut_short}
 use Rattle.mq_trace.specs.Refusing.{moved}
-use Rattle.mq_trace.specs.Tracing.{Traced, IsTracedTo, TracesPiece, Why, StopsAt}
-use Rattle.mq_trace.proofs.Exports.{keeps_header}
+use Rattle.mq_trace.specs.Tracing.{Traced, IsTracedTo, KeepsHeader, TracesPiece, Why, StopsAt, StopsInHeader, Begins}
+use Rattle.mq_trace.proofs.Exports.{events-header, header-unchanged, keeps_header}
 use Rattle.mq_rules.specs.declared.note.Seen.{Seen}
 use Rattle.mq_rules.specs.declared.role.Tested.{Tested}
 use Rattle.mq_rules.specs.declared.rule.Rule.{Rule}
-use Rattle.mq_rules.specs.Moments.{IsPlaced}
-use Rattle.mq_rules.specs.Under.{IsInTurn}
-use Rattle.mq_rules.specs.Faults.{chosen_fault}
-use Rattle.mq_judge.specs.Chosen.{is_judged}
-use Rattle.mq_rules.specs.FaultKeys.{FaultMap, fault_at}
-use Rattle.mq_rules.specs.Notes.{tested_by, seen, seen_in}
-use Rattle.mq_judge.specs.Judging.{Judged, Follows, RefusesIn, JudgesPiece, AreFaultsOf, judge_of}
+use Rattle.mq_rules.specs.FaultKeys.{fault_at}
+use Rattle.mq_rules.specs.Faults.{fault_in}
+use Rattle.mq_rules.specs.Notes.{tested_as, tested_by, seen, seen_in}
+use Rattle.mq_rules.proofs.Exports.{fault_in-start}
+use Rattle.mq_judge.specs.declared.watching.Watching.{Watching}
+use Rattle.mq_judge.specs.Watching.{IsFound, IsWatching}
+use Rattle.mq_judge.specs.declared.judge.Judge.{Judge}
+use Rattle.mq_judge.specs.Judging.{FollowsBy, KnowsBy, RefusesIn, JudgesPiece, JudgesPieceBy, TakesEvents, AreFaultsOf}
 use Rattle.mq_judge.specs.Stopping.{IsRefusedByte}
-use Rattle.mq_rules.proofs.Exports.{orderly, turned}
+
+-- ---- the events and the header
 
 -- a log of no bytes has no events
 seen-nothing : seen_in [] ≡ []
 unfolding seen_in events events_back
 seen-nothing = refl
 
-pub follows-nothing : (limit : ℕ) (tracer : Traced) (seen : List Seen) → IsTracedTo tracer [] → tracer.reading.limit ≡ limit → seen ≡ []
-    → Follows (judge_of limit tracer seen) []
-follows-nothing limit tracer seen traced within none =
-    record { traced = traced; within = within; knows = record { header = keeps_header tracer.reading [] traced.keeps; events = none ∙ sym seen-nothing } }
+-- nor has a header
+unseen : (log : List ℕ) → length log ≤ 8 → seen_in log ≡ []
+unfolding seen_in
+unseen log h = ap (map seen) (events-header log h)
+
+header-stays : (log more : List ℕ) → 8 ≤ length log → header_by (log ++ more) ≡ header_by log
+header-stays log [] long = ap header_by (append-nil log)
+header-stays log (byte ∷ more) long =
+    ap header_by (sym (append_assoc log (byte ∷ []) more))
+    ∙ header-stays (log ++ byte ∷ []) more (omega (arith, length-append log (byte ∷ [])))
+    ∙ header-unchanged log byte long
+
+-- the end that a whole header names
+tested-stays : (log more : List ℕ) → 8 ≤ length log → tested_by (log ++ more) ≡ tested_by log
+tested-stays log more long = ap tested_as (header-stays log more long)
+
+-- ---- what is known
+
+-- the faults that are found are those of the log
+faults-found : (w : Watching) (log : List ℕ) → (8 ≤ length log → w.tested ≡ tested_by log) → IsFound w (seen_in log) → AreFaultsOf log w.faults
+faults-found w log named found k rule = go (nat_lt (length log) 8) refl
+  where
+    none : nat_lt (length log) 8 ≡ true → seen_in log ≡ []
+    none is = let short = ltb-true (length log) 8 is in unseen log (omega (arith, short))
+
+    go : (b : Bool) → nat_lt (length log) 8 ≡ b → fault_at w.faults k rule ≡ fault_in (tested_by log) (seen_in log) k rule
+    go true is =
+        found.each k rule
+        ∙ ap (λ s. fault_in w.tested s k rule) (none is)
+        ∙ fault_in-start w.tested k rule
+        ∙ sym (fault_in-start (tested_by log) k rule)
+        ∙ ap (λ s. fault_in (tested_by log) s k rule) (sym (none is))
+    go false is = found.each k rule ∙ ap (λ t. fault_in t (seen_in log) k rule) (named (ltb-false (length log) 8 is))
+
+events-counted : (w : Watching) (log : List ℕ) → IsFound w (seen_in log) → w.events ≡ length (events log)
+unfolding seen_in
+events-counted w log found = found.count ∙ length-map (events log) seen
+
+pub knows-found : (tracer : Traced) (w : Watching) (log : List ℕ) → KeepsHeader tracer.reading log → (8 ≤ length log → w.tested ≡ tested_by log) → IsFound w (seen_in log)
+    → KnowsBy tracer.reading w log
+knows-found tracer w log header named found = record { header = header; faults = faults-found w log named found; events = events-counted w log found }
+
+pub follows-nothing : (limit : ℕ) (tracer : Traced) (w : Watching) → IsTracedTo tracer [] → tracer.reading.limit ≡ limit → IsWatching w [] → FollowsBy limit tracer w []
+follows-nothing limit tracer w traced within watches =
+    let here : IsWatching w (seen_in []) = subst (IsWatching w) (sym seen-nothing) watches in
+    record {
+      traced = traced;
+      within = within;
+      knows = knows-found tracer w [] (keeps_header tracer.reading [] traced.keeps) (λ long. absurd (omega (arith, long))) here.found;
+      named = λ long. absurd (omega (arith, long));
+      watches = here;
+    }
 
 -- nothing is refused in a log that a judge follows
-pub unrefused : (judge : Judged) (log : List ℕ) → Follows judge log → refused judge.limit log ≡ None
-unrefused judge log f = subst (λ l. refused l log ≡ None) f.within f.traced.keeps.unrefused
+pub unrefused : (limit : ℕ) (tracer : Traced) (w : Watching) (log : List ℕ) → FollowsBy limit tracer w log → refused limit log ≡ None
+unrefused limit tracer w log f = subst (λ l. refused l log ≡ None) f.within f.traced.keeps.unrefused
 
--- ---- a piece that is taken in by a tracer, whose sink notes the events
+-- ---- a piece that is taken in by a tracer, whose sink judges the events
 
--- the sink refuses for want of memory alone, and then has the notes of the events before
-abbrev pub WantsMemory : {S : Type 0} → (S → List Seen) → (S → List Placed → Refusal → Type 0) → Type 0
-WantsMemory {S} noted refuses = (s : S) (received : List Placed) (own : Refusal) → refuses s received own
-    → (own ≡ refusals.Memory 0) × (noted s ≡ map seen received)
+abbrev Agrees : {S : Type 0} → (S → Watching) → Tested → S → List Placed → Type 0
+Agrees watching tested s received = ((watching s).tested ≡ tested) × IsWatching (watching s) (map seen received)
 
-why-refused : {S : Type 0} (noted : S → List Seen) (refuses : S → List Placed → Refusal → Type 0) → WantsMemory noted refuses
-    → (limit : ℕ) (log taken : List ℕ) (byte : ℕ) (old new : S) (r : Refusal) → noted old ≡ map seen (events log)
-    → Why (λ s received. noted s ≡ map seen received) refuses limit log taken byte old new r
-    → IsRefusedByte limit (log ++ taken) byte r × (noted new ≡ map seen (events (log ++ taken)))
-why-refused noted refuses wants limit log taken byte old new r was (inl met) = (inl met.met, met.receives was)
-why-refused noted refuses wants limit log taken byte old new r was (inr (inl lacks)) = (inr (lacks.unmet, lacks.is, inl lacks.needs), lacks.receives was)
-why-refused noted refuses wants limit log taken byte old new r was (inr (inr own)) =
-    let is = wants new (events (log ++ taken)) own.own (own.refused was) in
-    (inr (own.unmet, own.is ∙ ap (λ o. moved o (length (log ++ taken))) is.0, inr own.completes), is.1)
+-- the sink refuses for want of memory alone, and then has the faults of the events before
+abbrev Refuses : {S : Type 0} → (S → Watching) → Tested → S → List Placed → Refusal → Type 0
+Refuses watching tested s received refusal = (refusal ≡ refusals.Memory 0) × ((watching s).tested ≡ tested) × IsFound (watching s) (map seen received)
 
--- a judge that is fed a piece, by what its tracer returns
-pub fed-judge : {S : Type 0} (noted : S → List Seen) (refuses : S → List Placed → Refusal → Type 0) → WantsMemory noted refuses
-    → (limit : ℕ) (first next : Traced) (log piece : List ℕ) (old new : S) (result : Result (Unit {0}) Refusal) → Follows (judge_of limit first (noted old)) log
-    → OnOk result (IsTracedTo next (log ++ piece)) → OnOk result (next.reading.limit ≡ first.reading.limit) → IfErr result (λ r. next.refusal ≡ Some r)
-    → TracesPiece (λ s received. noted s ≡ map seen received) refuses first.reading.limit log piece old new result
-    → IfErr result (λ r. StopsAt (λ s received. noted s ≡ map seen received) refuses first.reading.limit log piece old new next.reading r)
-    → JudgesPiece log piece (judge_of limit next (noted new)) result
+why-refused : {S : Type 0} (watching : S → Watching) (tested : Tested) (limit : ℕ) (log taken : List ℕ) (byte : ℕ) (old new : S) (r : Refusal) → Agrees watching tested old (events log)
+    → Why (Agrees watching tested) (Refuses watching tested) limit log taken byte old new r
+    → IsRefusedByte limit (log ++ taken) byte r × ((watching new).tested ≡ tested) × IsFound (watching new) (map seen (events (log ++ taken)))
+why-refused watching tested limit log taken byte old new r was (inl met) = let now = met.receives was in (inl met.met, now.0, now.1.found)
+why-refused watching tested limit log taken byte old new r was (inr (inl lacks)) = let now = lacks.receives was in (inr (lacks.unmet, lacks.is, inl lacks.needs), now.0, now.1.found)
+why-refused watching tested limit log taken byte old new r was (inr (inr own)) =
+    let is = own.refused was in
+    (inr (own.unmet, own.is ∙ ap (λ o. moved o (length (log ++ taken))) is.0, inr own.completes), is.1, is.2)
+
+pub fed-events : {S : Type 0} (watching : S → Watching) (tested : Tested) (limit : ℕ) (next : Traced) (log piece : List ℕ) (old new : S) (result : Result (Unit {0}) Refusal)
+    → (watching old).tested ≡ tested → IsWatching (watching old) (seen_in log)
+    → OnOk result (IsTracedTo next (log ++ piece)) → OnOk result (next.reading.limit ≡ limit)
+    → TracesPiece (Agrees watching tested) (Refuses watching tested) limit log piece old new result
+    → IfErr result (λ r. StopsAt (Agrees watching tested) (Refuses watching tested) limit log piece old new next.reading r)
+    → TakesEvents limit tested log piece next (watching new) result
 unfolding seen_in
-fed-judge noted refuses wants limit first next log piece old new (Ok done) f traced same given t stops =
-    let follows : Follows (judge_of limit next (noted new)) (log ++ piece) = record {
-      traced = traced;
-      within = same ∙ f.within;
-      knows = record { header = keeps_header next.reading (log ++ piece) traced.keeps; events = t.1 f.knows.events };
-    } in
-    (unrefused (judge_of limit next (noted new)) (log ++ piece) follows, follows)
-fed-judge noted refuses wants limit first next log piece old new (Err r) f traced same given t stops =
+fed-events watching tested limit next log piece old new (Ok done) whom watches traced same t stops =
+    let now = t.1 (whom, watches) in
+    (traced, same, now.0, now.1)
+fed-events watching tested limit next log piece old new (Err r) whom watches traced same t stops =
     let s = stops.0 in
-    let w = why-refused noted refuses wants first.reading.limit log s.taken s.byte old new r f.knows.events s.why in
-    subst (λ (l : ℕ). RefusesIn l (judge_of limit next (noted new)) log piece r) f.within (
-      record { taken = s.taken; byte = s.byte; later = s.later; is = s.is; unrefused = s.unrefused; why = w.0 },
-      record { answers = given; knows = record { header = stops.1; events = w.1 } },
+    let w = why-refused watching tested limit log s.taken s.byte old new r (whom, watches) s.why in
+    (record { taken = s.taken; byte = s.byte; later = s.later; is = s.is; unrefused = s.unrefused; why = w.0 }, stops.1, w.1, w.2)
+
+-- ---- the tested end, once the header is whole
+
+-- what is kept of the events, after what belongs to the header
+pub record Begun (w : Watching) (log : List ℕ) : Type 0 where
+  pub named : 8 ≤ length log → w.tested ≡ tested_by log
+  pub watches : IsWatching w (seen_in log)
+
+no-events : (log : List ℕ) (count : ℕ) → count ≡ length (seen_in log) → count ≡ 0 → seen_in log ≡ []
+no-events log count is none = nil_from_length (seen_in log) (sym is ∙ none)
+
+-- no event is complete in the header, so its end is taken up by watchers that have taken in none
+pub begun : (limit : ℕ) (first mid : Traced) (w v : Watching) (log piece rest : List ℕ) (header : Option Header) → FollowsBy limit first w log → (b : Begins mid log piece rest)
+    → header ≡ (if nat_lt (length (log ++ b.taken)) 8 then None else Some (header_by (log ++ b.taken)))
+    → (w.events ≡ 0 → IfSome header (λ named. (v.tested ≡ tested_as named) × IsWatching v [])) → (header ≡ None → v ≡ w) → ((w.events ≡ 0 → ⊥) → v ≡ w)
+    → Begun v (log ++ b.taken)
+unfolding seen_in
+begun limit first mid w v log piece rest header f b is anew unnamed later = go (nat_lt (length (log ++ b.taken)) 8) refl
+  where
+    same : seen_in (log ++ b.taken) ≡ seen_in log
+    same = ap (map seen) b.no_event
+
+    kept : v ≡ w → IsWatching v (seen_in (log ++ b.taken))
+    kept e = subst (IsWatching v) (sym same) (subst (λ (u : Watching). IsWatching u (seen_in log)) (sym e) f.watches)
+
+    -- before the first event
+    fresh : header ≡ Some (header_by (log ++ b.taken)) → w.events ≡ 0 → Begun v (log ++ b.taken)
+    fresh whole none =
+        let now : (v.tested ≡ tested_as (header_by (log ++ b.taken))) × IsWatching v [] = subst (λ (o : Option Header). IfSome o (λ named. (v.tested ≡ tested_as named) × IsWatching v [])) whole (anew none) in
+        record {
+          named = λ long. now.0;
+          watches = subst (IsWatching v) (sym (same ∙ no-events log w.events f.watches.found.count none)) now.1;
+        }
+
+    -- after it
+    after : (w.events ≡ 0 → ⊥) → Begun v (log ++ b.taken)
+    after some =
+        let e : v ≡ w = later some in
+        let long : nat_lt (length log) 8 ≡ false → Begun v (log ++ b.taken) = λ is.
+        let whole : 8 ≤ length log = ltb-false (length log) 8 is in
+        record { named = λ h. ap (λ (u : Watching). u.tested) e ∙ f.named whole ∙ sym (tested-stays log b.taken whole); watches = kept e } in
+        let short : nat_lt (length log) 8 ≡ true → Begun v (log ++ b.taken) = λ is.
+        let few : length log < 8 = ltb-true (length log) 8 is in
+        absurd (some (f.watches.found.count ∙ ap length (unseen log (omega (arith, few))))) in
+        by_length (nat_lt (length log) 8) refl long short
+      where
+        by_length : {G : Type 0} (t : Bool) → nat_lt (length log) 8 ≡ t → (nat_lt (length log) 8 ≡ false → G) → (nat_lt (length log) 8 ≡ true → G) → G
+        by_length true is p q = q is
+        by_length false is p q = p is
+
+    by_count : (n : ℕ) → w.events ≡ n → header ≡ Some (header_by (log ++ b.taken)) → Begun v (log ++ b.taken)
+    by_count zero none whole = fresh whole none
+    by_count (suc n) some whole = after (λ none. omega (arith, some, none))
+
+    go : (t : Bool) → nat_lt (length (log ++ b.taken)) 8 ≡ t → Begun v (log ++ b.taken)
+    go true short =
+        let few : length (log ++ b.taken) < 8 = ltb-true (length (log ++ b.taken)) 8 short in
+        record {
+          named = λ long. absurd (omega (arith, few, long));
+          watches = kept (unnamed (is ∙ ap (λ (t : Bool). if t then None else Some (header_by (log ++ b.taken))) short));
+        }
+    go false long = by_count w.events refl (is ∙ ap (λ (t : Bool). if t then None else Some (header_by (log ++ b.taken))) long)
+
+-- ---- a piece of a log
+
+-- the end that a longer log names, where its header is whole or nothing was added
+named-on : (v : Watching) (log more : List ℕ) → Begun v log → (8 ≤ length log) ⊎ (more ≡ []) → 8 ≤ length (log ++ more) → v.tested ≡ tested_by (log ++ more)
+named-on v log more b (inl whole) long = b.named whole ∙ sym (tested-stays log more whole)
+named-on v log more b (inr none) long =
+    let same : log ++ more ≡ log = ap (λ (l : List ℕ). log ++ l) none ∙ append-nil log in
+    b.named (subst (λ (l : List ℕ). 8 ≤ length l) same long) ∙ ap tested_by (sym same)
+
+-- the bytes after the header are taken in, or one of them isn't
+pub consumed : (limit : ℕ) (first mid next : Traced) (w v x : Watching) (log piece rest : List ℕ) (result : Result (Unit {0}) Refusal) → FollowsBy limit first w log → (b : Begins mid log piece rest)
+    → mid.reading.limit ≡ first.reading.limit → Begun v (log ++ b.taken) → IfErr result (λ r. next.refusal ≡ Some r)
+    → TakesEvents mid.reading.limit v.tested (log ++ b.taken) rest next x result → JudgesPieceBy limit next x log piece result
+consumed limit first mid next w v x log piece rest (Ok done) f b lim from given t =
+    let all : (log ++ b.taken) ++ rest ≡ log ++ piece = append_assoc log b.taken rest ∙ ap (λ (p : List ℕ). log ++ p) (sym b.is) in
+    let named : 8 ≤ length ((log ++ b.taken) ++ rest) → x.tested ≡ tested_by ((log ++ b.taken) ++ rest) = λ long. t.2 ∙ named-on v (log ++ b.taken) rest from b.whole long in
+    let here : FollowsBy limit next x ((log ++ b.taken) ++ rest) = record {
+      traced = t.0;
+      within = t.1 ∙ lim ∙ f.within;
+      knows = knows-found next x ((log ++ b.taken) ++ rest) (keeps_header next.reading ((log ++ b.taken) ++ rest) t.0.keeps) named t.3.found;
+      named = named;
+      watches = t.3;
+    } in
+    let follows : FollowsBy limit next x (log ++ piece) = subst (FollowsBy limit next x) all here in
+    (unrefused limit next x (log ++ piece) follows, follows)
+consumed limit first mid next w v x log piece rest (Err r) f b lim from given t =
+    let s = t.0 in
+    let all : (log ++ b.taken) ++ s.taken ≡ log ++ (b.taken ++ s.taken) = append_assoc log b.taken s.taken in
+    let same : mid.reading.limit ≡ limit = lim ∙ f.within in
+    let some : (8 ≤ length (log ++ b.taken)) ⊎ (s.taken ≡ []) = elim b.whole [
+      | inl whole ↦ inl whole
+      | inr none ↦ absurd (omega (arith, ap length (sym none ∙ s.is), length-append s.taken (s.byte ∷ s.later)))
+    ] in
+    let here : KnowsBy next.reading x ((log ++ b.taken) ++ s.taken) =
+    knows-found next x ((log ++ b.taken) ++ s.taken) t.1 (λ long. t.2 ∙ named-on v (log ++ b.taken) s.taken from some long) t.3 in (
+      record {
+        taken = b.taken ++ s.taken;
+        byte = s.byte;
+        later = s.later;
+        is = b.is ∙ ap (λ (l : List ℕ). b.taken ++ l) s.is ∙ sym (append_assoc b.taken s.taken (s.byte ∷ s.later));
+        unrefused = subst (λ (l : List ℕ). refused limit l ≡ None) all (subst (λ (n : ℕ). refused n ((log ++ b.taken) ++ s.taken) ≡ None) same s.unrefused);
+        why = subst (λ (l : List ℕ). IsRefusedByte limit l s.byte r) all (subst (λ (n : ℕ). IsRefusedByte n ((log ++ b.taken) ++ s.taken) s.byte r) same s.why);
+      },
+      record { answers = given; knows = subst (KnowsBy next.reading x) all here },
     )
 
+-- a byte of the header isn't taken in
+pub refused-first : (limit : ℕ) (first next : Traced) (w : Watching) (log piece : List ℕ) (r : Refusal) → FollowsBy limit first w log → next.refusal ≡ Some r
+    → StopsInHeader first.reading.limit log piece next.reading r → JudgesPieceBy limit next w log piece (Err r)
+refused-first limit first next w log piece r f given t =
+    let s = t.0.0 in
+    let few : length (log ++ s.taken) < 8 = t.1 in
+    let part : length log ≤ 8 = omega (arith, few, length-append log s.taken) in
+    let most : length (log ++ s.taken) ≤ 8 = omega (arith, few) in
+    let found : IsFound w (seen_in (log ++ s.taken)) = subst (IsFound w) (unseen log part ∙ sym (unseen (log ++ s.taken) most)) f.watches.found in (
+      record {
+        taken = s.taken;
+        byte = s.byte;
+        later = s.later;
+        is = s.is;
+        unrefused = subst (λ (n : ℕ). refused n (log ++ s.taken) ≡ None) f.within s.unrefused;
+        why = subst (λ (n : ℕ). IsRefusedByte n (log ++ s.taken) s.byte r) f.within (why first.reading.limit s.taken s.byte s.why);
+      },
+      record { answers = given; knows = knows-found next w (log ++ s.taken) t.0.1 (λ long. absurd (omega (arith, few, long))) found },
+    )
+  where
+    why : (n : ℕ) (taken : List ℕ) (byte : ℕ) → Why {S = Unit {0}} (λ _ _. Unit {0}) (λ _ _ _. ⊥) n log taken byte tt tt r → IsRefusedByte n (log ++ taken) byte r
+    why n taken byte (inl met) = inl met.met
+    why n taken byte (inr (inl lacks)) = inr (lacks.unmet, lacks.is, inl lacks.needs)
+    why n taken byte (inr (inr own)) = absurd (own.refused tt)
+
 -- a judge that takes no more in, where it answers a refusal
-pub refuses-where-err : (log piece : List ℕ) (old new : Judged) (result : Result (Unit {0}) Refusal) → new.limit ≡ old.limit → JudgesPiece log piece new result
+pub refuses-where-err : (log piece : List ℕ) (old new : Judge) (result : Result (Unit {0}) Refusal) → new.limit ≡ old.limit → JudgesPiece log piece new result
     → IfErr result (λ r. RefusesIn old.limit new log piece r)
 refuses-where-err log piece old new (Ok done) same t = tt
 refuses-where-err log piece old new (Err r) same t = subst (λ (l : ℕ). RefusesIn l new log piece r) same t
 
 -- ---- the end
 
--- what holds at an Ok holds where the answer is one
-pub where_ok : {T E P : Type 0} (r : Result T E) → is_ok r ≡ true → OnOk r P → P
-where_ok (Ok x) e h = h
-where_ok (Err x) e h = absurd (cc)
+-- a tracer that had refused a byte returns that refusal, and not Ok
+pub not-refused : {A B : Type 0} (o : Option Refusal) (done : A) (P : Refusal → Type 0) (result : Result B Refusal) → IfSome o (λ refusal. (Ok done ≡ Err refusal) × P refusal)
+    → IfSome o (λ refusal. result ≡ Err refusal)
+not-refused None done P result h = tt
+not-refused (Some x) done P result h = absurd (let bad = h.0 in cc)
 
 -- where no header is known, it isn't whole
 pub cut_unnamed : (log : List ℕ) → None ≡ (if nat_lt (length log) 8 then None else Some (header_by log)) → is_cut_short log ≡ true
@@ -108,24 +286,3 @@ named_by log found h = go (nat_lt (length log) 8) h
     go : (b : Bool) → Some found ≡ (if b then None else Some (header_by log)) → found ≡ header_by log
     go true h = absurd (cc)
     go false h = cc
-
--- how many events a log has that isn't refused, by what was noted of them
-pub counted : (limit : ℕ) (items : List Seen) (log : List ℕ) (count : ℕ) → refused limit log ≡ None → reverse items ≡ seen_in log → (IsPlaced (reverse items) → count ≡ length items) → count ≡ length (events log)
-unfolding seen_in
-counted limit items log count none e counts =
-    counts (subst IsPlaced (sym e) (orderly limit log none).placed) ∙ sym (length-reverse items) ∙ ap length e ∙ length-map (events log) seen
-
--- the faults of the events that are kept are those of the log
-pub faults-of : (limit : ℕ) (seen : List Seen) (log : List ℕ) (tested : Tested) (old faults : FaultMap) → refused limit log ≡ None → seen ≡ seen_in log → tested ≡ tested_by log
-    → ((k : ℕ) (rule : Rule) → fault_at old k rule ≡ None)
-    → (IsPlaced seen → IsInTurn tested.role seen → (k : ℕ) (rule : Rule) → fault_at faults k rule ≡ option_or (fault_at old k rule) (chosen_fault (is_judged tested) tested seen k rule))
-    → AreFaultsOf log faults
-faults-of limit seen log tested old faults none events whom fresh grown =
-    let o = orderly limit log none in
-    let placed : IsPlaced seen = subst IsPlaced (sym events) o.placed in
-    let in_turn : IsInTurn tested.role seen = subst (λ (t : Tested). IsInTurn t.role seen) (sym whom) (subst (IsInTurn (tested_by log).role) (sym events) (turned limit log none)) in
-    λ p rule.
-    grown placed in_turn p rule
-    ∙ ap (λ f. option_or f (chosen_fault (is_judged tested) tested seen p rule)) (fresh p rule)
-    ∙ ap (λ t. chosen_fault (is_judged t) t seen p rule) whom
-    ∙ ap (λ log_seen. chosen_fault (is_judged (tested_by log)) (tested_by log) log_seen p rule) events

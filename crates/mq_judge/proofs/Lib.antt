@@ -6,7 +6,6 @@ pub mod ReportLaws
 pub mod RunnerLaws
 pub mod DisplayLaws
 pub mod LineLaws
-pub mod EvaluatingLaws
 pub mod CodeLaws
 pub mod JsonLaws
 pub mod SummaryLaws
@@ -15,3 +14,4 @@ pub mod DetailLaws
 pub mod OneLineLaws
 pub mod NearLaws
 pub mod ViewLaws
+pub mod WatchingLaws

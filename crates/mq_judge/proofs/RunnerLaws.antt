@@ -10,7 +10,8 @@ use Rattle.mq_judge.specs.declared.report.Outcome.TheVariants.{Pass, Fail}
 use Rattle.mq_judge.specs.declared.report.RunFault.{RunFault}
 use Rattle.mq_judge.specs.declared.report.RunFault.TheVariants as run_faults
 use Rattle.mq_rules.specs.declared.role.Role.{Role}
-use Rattle.mq_judge.specs.Judging.{Judged, Finishes, Follows, RefusesIn, AreFaultsOf}
+use Rattle.mq_judge.specs.declared.judge.Judge.{Judge}
+use Rattle.mq_judge.specs.Judging.{Finishes, Follows, RefusesIn, AreFaultsOf}
 use Rattle.mq_trace.specs.Refusals.{refused, is_cut_short}
 use Rattle.mq_trace.specs.Events.{events}
 use Rattle.mq_rules.specs.Notes.{tested_by, seen_in}
@@ -25,15 +26,15 @@ use Rattle.mq_judge.specs.Chosen.{is_judged}
 use Rattle.mq_rules.proofs.Exports.{entries-listed}
 
 -- nothing is refused in what a judge with the default limit follows
-unrefused-yet : {judge : Judged} (log : List ℕ) → judge.limit ≡ default_limit → Follows judge log → refused default_limit log ≡ None
-unrefused-yet {judge} log e follows = subst (λ l. refused l log ≡ None) e (unrefused judge log follows)
+unrefused-yet : {judge : Judge} (log : List ℕ) → judge.limit ≡ default_limit → Follows judge log → refused default_limit log ≡ None
+unrefused-yet {judge} log e follows = subst (λ l. refused l log ≡ None) e (unrefused judge.limit judge.tracer judge.judging.watching log follows)
 
 -- what a verdict says of its log
 abbrev pub SaysOf : List ℕ → ℕ → FaultMap → Type 0
 SaysOf log count faults = (is_cut_short log ≡ false) × (count ≡ length (events log)) × AreFaultsOf log faults
 
 -- a verdict on a log that was fed whole, with the role of the end that was judged
-judge-ends : {first : ℕ} {x y : Option (List ℕ)} {judge : Judged} (count : ℕ) (faults : FaultMap) (role : Role)
+judge-ends : {first : ℕ} {x y : Option (List ℕ)} {judge : Judge} (count : ℕ) (faults : FaultMap) (role : Role)
     → FedAll {S = Unit {0}} (λ j. j.limit) (λ j _. Follows j) first x y judge tt → first ≡ default_limit → ((log : List ℕ) → Follows judge log → SaysOf log count faults)
     → ((log : List ℕ) → Follows judge log → role ≡ (tested_by log).role) → IfSome x (λ log. IsVerdictOn log role count faults)
 judge-ends {first} {x} {y} {judge} count faults role took default verdict named =
@@ -47,7 +48,7 @@ judge-ends {first} {x} {y} {judge} count faults role took default verdict named 
     })
 
 -- a log that was fed whole, and that the judge refused at its end
-run-refused-at-end : {first : ℕ} {x y : Option (List ℕ)} {judge : Judged} (refusal : Refusal) → FedAll {S = Unit {0}} (λ j. j.limit) (λ j _. Follows j) first x y judge tt → first ≡ default_limit
+run-refused-at-end : {first : ℕ} {x y : Option (List ℕ)} {judge : Judge} (refusal : Refusal) → FedAll {S = Unit {0}} (λ j. j.limit) (λ j _. Follows j) first x y judge tt → first ≡ default_limit
     → ((log : List ℕ) → Follows judge log → IsRefusedEnd log refusal) → IfSome x (λ log. IsRefusedAt default_limit log y refusal)
 run-refused-at-end {first} {x} {y} refusal took default why =
     let log = took.log in
@@ -60,7 +61,7 @@ run-refused-at-end {first} {x} {y} refusal took default why =
     })
 
 -- what finishing a judge gives that was fed a whole log
-pub judge-finishes : {V : Type 0} (count_in : V → ℕ) (faults_in : V → FaultMap) {first : ℕ} {x y : Option (List ℕ)} {judge : Judged} (result : Result (V × Role) Refusal)
+pub judge-finishes : {V : Type 0} (count_in : V → ℕ) (faults_in : V → FaultMap) {first : ℕ} {x y : Option (List ℕ)} {judge : Judge} (result : Result (V × Role) Refusal)
     → FedAll {S = Unit {0}} (λ j. j.limit) (λ j _. Follows j) first x y judge tt → first ≡ default_limit
     → ((log : List ℕ) → Follows judge log → Finishes (λ (answer : V × Role). count_in answer.0) (λ (answer : V × Role). faults_in answer.0) log result)
     → ((log : List ℕ) → Follows judge log → IfOk result (λ answer. answer.1 ≡ (tested_by log).role))
@@ -106,7 +107,7 @@ run-stops-writing x y form w z count faults role fault judged stopped =
     (λ log v. stops-with form log y w z fault v.judged (subst (λ (t : List ℕ). FailsToReport form w z t fault) (report-is form log role count faults v) stopped)) judged
 
 -- a run that was stopped while it was feeding the judge
-pub run-stopped : {first : ℕ} {x y : Option (List ℕ)} {judge : Judged} (refusal : Refusal) → FedSome {S = Unit {0}} (λ j. j.limit) (λ j _. Follows j) (λ l j _. RefusesIn l j) first x y judge tt refusal → first ≡ default_limit
+pub run-stopped : {first : ℕ} {x y : Option (List ℕ)} {judge : Judge} (refusal : Refusal) → FedSome {S = Unit {0}} (λ j. j.limit) (λ j _. Follows j) (λ l j _. RefusesIn l j) first x y judge tt refusal → first ≡ default_limit
     → IfSome x (λ log. IsRefusedAt default_limit log y refusal)
 run-stopped {first} {x} {y} {judge} refusal fed default =
     some-taken x y (fed.log ++ fed.piece) (λ l left. IsRefusedAt default_limit l left refusal) fed.consumed (λ left. by_why left fed.why)

@@ -1,54 +1,74 @@
 -- The state of a judge, and what its calls return.
-use Rattle.std.specs.Prelude.{◌≡◌, ℕ, false, List, ◌++◌, length, Some, None, Result, Ok, Err}
+use Rattle.std.specs.Prelude.{◌≡◌, ℕ, ◌≤◌, false, List, ◌++◌, length, Some, None, Result, Ok, Err}
 use Rattle.mq_trace.specs.declared.refusal.Refusal.{Refusal}
+use Rattle.mq_trace.specs.declared.reading.Reading.{Reading}
 use Rattle.mq_trace.specs.Tracing.{Traced, IsTracedTo, KeepsHeader}
 use Rattle.mq_trace.specs.Events.{events}
 use Rattle.mq_trace.specs.Refusals.{refused, is_cut_short}
-use Rattle.mq_rules.specs.declared.note.Seen.{Seen}
+use Rattle.mq_rules.specs.declared.role.Tested.{Tested}
 use Rattle.mq_rules.specs.declared.rule.Rule.{Rule}
 use Rattle.mq_rules.specs.Notes.{tested_by, seen_in}
 use Rattle.mq_rules.specs.Faults.{chosen_fault}
 use Rattle.mq_judge.specs.Chosen.{is_judged}
 use Rattle.mq_rules.specs.FaultKeys.{FaultMap, fault_at}
 use Rattle.mq_judge.specs.Stopping.{StopsIn, IsRefusedEnd}
+use Rattle.mq_judge.specs.Watching.{IsFound, IsWatching}
+use Rattle.mq_judge.specs.declared.judge.Judge.{Judge}
+use Rattle.mq_judge.specs.declared.watching.Watching.{Watching}
 
--- a judge: its limit, the state of its tracer, and the events that were noted, the newest first
-pub record Judged : Type 0 where
-  pub limit : ℕ
-  pub tracer : Traced
-  pub seen : List Seen
-
-abbrev pub judge_of : ℕ → Traced → List Seen → Judged
-judge_of limit tracer seen = record { limit = limit; tracer = tracer; seen = seen }
-
--- All that a judge knows of a log is what these first bytes of it say: their header, which names the tested end, and the events that they complete.
-pub record Knows (judge : Judged) (taken : List ℕ) : Type 0 where
-  pub header : KeepsHeader judge.tracer.reading taken
-  pub events : judge.seen ≡ seen_in taken
-
--- The judge has taken in this log, and refused none of it.
-pub record Follows (judge : Judged) (log : List ℕ) : Type 0 where
-  pub traced : IsTracedTo judge.tracer log
-  pub within : judge.tracer.reading.limit ≡ judge.limit
-  pub knows : Knows judge log
-
--- The judge has refused the byte after these bytes of its log, and knows nothing of that byte. From then on it returns this refusal.
-pub record HasRefused (judge : Judged) (taken : List ℕ) (refusal : Refusal) : Type 0 where
-  pub answers : judge.tracer.refusal ≡ Some refusal
-  pub knows : Knows judge taken
-
--- A judge with this limit has refused, after this log, a byte of this piece, and nothing before that byte.
-abbrev pub RefusesIn : ℕ → Judged → List ℕ → List ℕ → Refusal → Type 0
-RefusesIn limit judge log piece refusal = (stops : StopsIn limit log piece refusal) × HasRefused judge (log ++ stops.taken) refusal
-
--- What feeding a piece after a log returns, and the judge's state then: Ok if nothing is refused, else the refusal.
-abbrev pub JudgesPiece : List ℕ → List ℕ → Judged → Result (Unit {0}) Refusal → Type 0
-JudgesPiece log piece judge (Ok _) = (refused judge.limit (log ++ piece) ≡ None) × Follows judge (log ++ piece)
-JudgesPiece log piece judge (Err refusal) = RefusesIn judge.limit judge log piece refusal
-
--- The faults are exactly the pairs of a position and a statement that fail in the whole log, each with where it was decided.
+-- The faults are exactly the pairs of a position and a statement that fail in these bytes of a log, each with where it was decided.
 abbrev pub AreFaultsOf : List ℕ → FaultMap → Type 0
 AreFaultsOf log faults = (k : ℕ) (rule : Rule) → fault_at faults k rule ≡ chosen_fault (is_judged (tested_by log)) (tested_by log) (seen_in log) k rule
+
+-- All that a judge knows of a log, by what its tracer and its watchers keep, is what these first bytes of it say: their header, which names the tested end, and how
+-- many events they complete, with their faults.
+pub record KnowsBy (reading : Reading) (watching : Watching) (taken : List ℕ) : Type 0 where
+  pub header : KeepsHeader reading taken
+  pub faults : AreFaultsOf taken watching.faults
+  pub events : watching.events ≡ length (events taken)
+
+-- A judge with this limit has taken in this log, and refused none of it. Its watchers have taken in the events, as those of the end that the header names, once that is
+-- whole.
+pub record FollowsBy (limit : ℕ) (tracer : Traced) (watching : Watching) (log : List ℕ) : Type 0 where
+  pub traced : IsTracedTo tracer log
+  pub within : tracer.reading.limit ≡ limit
+  pub knows : KnowsBy tracer.reading watching log
+  pub named : 8 ≤ length log → watching.tested ≡ tested_by log
+  pub watches : IsWatching watching (seen_in log)
+
+-- A judge has refused the byte after these bytes of its log, and knows nothing of that byte. From then on it returns this refusal.
+pub record HasRefused (tracer : Traced) (watching : Watching) (taken : List ℕ) (refusal : Refusal) : Type 0 where
+  pub answers : tracer.refusal ≡ Some refusal
+  pub knows : KnowsBy tracer.reading watching taken
+
+-- A judge with this limit has refused, after this log, a byte of this piece, and nothing before that byte.
+abbrev pub RefusesBy : ℕ → Traced → Watching → List ℕ → List ℕ → Refusal → Type 0
+RefusesBy limit tracer watching log piece refusal = (stops : StopsIn limit log piece refusal) × HasRefused tracer watching (log ++ stops.taken) refusal
+
+-- What feeding a piece after a log returns, and the judge's state then: Ok if nothing is refused, else the refusal.
+abbrev pub JudgesPieceBy : ℕ → Traced → Watching → List ℕ → List ℕ → Result (Unit {0}) Refusal → Type 0
+JudgesPieceBy limit tracer watching log piece (Ok _) = (refused limit (log ++ piece) ≡ None) × FollowsBy limit tracer watching (log ++ piece)
+JudgesPieceBy limit tracer watching log piece (Err refusal) = RefusesBy limit tracer watching log piece refusal
+
+-- the same of a judge
+abbrev pub Knows : Judge → List ℕ → Type 0
+Knows judge = KnowsBy judge.tracer.reading judge.judging.watching
+
+abbrev pub Follows : Judge → List ℕ → Type 0
+Follows judge = FollowsBy judge.limit judge.tracer judge.judging.watching
+
+abbrev pub RefusesIn : ℕ → Judge → List ℕ → List ℕ → Refusal → Type 0
+RefusesIn limit judge = RefusesBy limit judge.tracer judge.judging.watching
+
+abbrev pub JudgesPiece : List ℕ → List ℕ → Judge → Result (Unit {0}) Refusal → Type 0
+JudgesPiece log piece judge = JudgesPieceBy judge.limit judge.tracer judge.judging.watching log piece
+
+-- The same for a tracer with this limit, whose events are judged as those of this end.
+abbrev pub TakesEvents : ℕ → Tested → List ℕ → List ℕ → Traced → Watching → Result (Unit {0}) Refusal → Type 0
+TakesEvents limit tested log piece tracer watching (Ok _) =
+    IsTracedTo tracer (log ++ piece) × (tracer.reading.limit ≡ limit) × (watching.tested ≡ tested) × IsWatching watching (seen_in (log ++ piece))
+TakesEvents limit tested log piece tracer watching (Err refusal) =
+    (stops : StopsIn limit log piece refusal) × KeepsHeader tracer.reading (log ++ stops.taken) × (watching.tested ≡ tested) × IsFound watching (seen_in (log ++ stops.taken))
 
 -- What finishing a log that wasn't refused so far returns: the verdict if the log is whole, else why its end is refused.
 abbrev pub Finishes : {A : Type 0} → (A → ℕ) → (A → FaultMap) → List ℕ → Result A Refusal → Type 0

@@ -15,3 +15,4 @@ pub mod Details
 pub mod Detailing
 pub mod OneLine
 pub mod Views
+pub mod Watching

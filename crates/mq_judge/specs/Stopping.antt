@@ -1,5 +1,5 @@
 -- How far a log is taken in: the bytes in which nothing is refused, and why the byte after them, or the log's end, is refused.
-use Rattle.std.specs.Prelude.{◌≡◌, ℕ, true, false, List, [], ◌∷◌, ◌++◌, length, ◌⊎◌, Option, Some, None, is_some}
+use Rattle.std.specs.Prelude.{◌≡◌, ℕ, true, List, [], ◌∷◌, ◌++◌, length, ◌⊎◌, Option, Some, None, is_some}
 use Rattle.mq_trace.specs.declared.refusal.Refusal.{Refusal}
 use Rattle.mq_trace.specs.declared.refusal.Refusal.TheVariants as refusals
 use Rattle.mq_trace.specs.Deframing.{NeedsMemory}
@@ -15,10 +15,9 @@ abbrev pub IsRefusedByte : ℕ → List ℕ → ℕ → Refusal → Type 0
 IsRefusedByte limit taken byte refusal = (refusal_at limit taken byte ≡ Some refusal)
     ⊎ ((refusal_at limit taken byte ≡ None) × (refusal ≡ refusals.Memory (length taken)) × MayLackMemory taken byte)
 
--- Why the end of a log of these bytes is refused: it is cut short; or it isn't, and there was no memory.
+-- Why the end of a log of these bytes is refused: it is cut short.
 abbrev pub IsRefusedEnd : List ℕ → Refusal → Type 0
-IsRefusedEnd log refusal = ((is_cut_short log ≡ true) × (refusal ≡ refusals.Cut (length log)))
-    ⊎ ((is_cut_short log ≡ false) × (refusal ≡ refusals.Memory (length log)))
+IsRefusedEnd log refusal = (is_cut_short log ≡ true) × (refusal ≡ refusals.Cut (length log))
 
 -- A byte of a piece that follows a log is refused, and nothing is refused before that byte.
 pub record StopsIn (limit : ℕ) (log piece : List ℕ) (refusal : Refusal) : Type 0 where

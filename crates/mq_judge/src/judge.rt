@@ -1,15 +1,16 @@
 //! The judge: it is fed a log, in any pieces, and returns the verdict on it.
 ghost use Rattle.std.specs.Prelude.{◌≡◌, ℕ, List, [], nat_lt, length, Some, None, Err, IfErr, IfOk, IfSome, if◌then◌else◌};
-ghost use Rattle.mq_judge.specs.Judging.{Knows, Follows, JudgesPiece, Finishes};
-ghost use Rattle.mq_rules.specs.Notes.{tested_by};
+ghost use Rattle.mq_judge.specs.Judging.{Knows, Follows, FollowsBy, JudgesPiece, JudgesPieceBy, TakesEvents, AreFaultsOf, Finishes};
+ghost use Rattle.mq_judge.specs.Watching.{IsWatching};
+ghost use Rattle.mq_rules.specs.Notes.{tested_by, seen_in};
+ghost use Rattle.mq_trace.specs.Tracing.{IsTracedTo};
 
-use super::evaluating::judge_all;
 use super::feeding::Feed;
-use super::notes::Notes;
+use super::watching::{End, Judging, Watching};
 use mq_rules::{Faults, Role, Tested};
 use mq_trace::{Refusal, Tracer};
 use std::alloc::Global;
-use std::marker::Model;
+use std::marker::Brand;
 
 /// Options of a judge.
 #[derive(Clone, Copy, Debug, PartialEq, Eq)]
@@ -52,19 +53,9 @@ pub struct Verdict {
 /// ```
 #[derive(Drop)]
 pub struct Judge {
-    alloc: Global,
     limit: u32,
     tracer: Tracer,
-    notes: Notes,
-}
-
-impl Model for Judge {
-    ghost use Rattle.std.specs.Prelude.{reverse};
-    ghost use Rattle.mq_judge.specs.Judging.{Judged};
-
-    ghost Value = { Judged };
-
-    ghost view = { λ j. record { limit = j.limit; tracer = j.tracer; seen = reverse j.notes.seen.items } };
+    judging: Judging<Brand>,
 }
 
 impl Judge {
@@ -73,11 +64,15 @@ impl Judge {
         ensures follows { Follows result [] }
         ensures limit { result.limit ≡ options.limit }
     {
+        // Until the log's header is whole, it doesn't matter which end this is.
+        let tested = Tested {
+            role: Role::Client,
+            releases: false,
+        };
         Judge {
-            alloc,
             limit: options.limit,
             tracer: Tracer::new(alloc, options.limit),
-            notes: Notes::new(alloc),
+            judging: Judging::new(Watching::new(alloc, tested)),
         }
     }
 
@@ -87,6 +82,14 @@ impl Judge {
     {
         let header = self.tracer.header()?;
         Some(Tested::of(header).role)
+    }
+
+    /// The faults that are known: those of the events so far, each with the event that shows it. What is known stays, whatever comes after it. After a refusal
+    /// they are those of the events that are complete before the refused byte.
+    pub fn known(&self) -> &Faults
+        ensures { (taken : List ℕ) → Knows self.now taken → AreFaultsOf taken result.now }
+    {
+        &self.judging.watching.faults
     }
 
     /// Takes in the next piece of the log. It doesn't matter how the log is cut into pieces.
@@ -101,15 +104,14 @@ impl Judge {
         ensures refuses { IfErr result (λ refusal. self.new.tracer.refusal ≡ Some refusal) }
         ensures for_ever { IfSome self.old.tracer.refusal (λ refusal. (result ≡ Err refusal) × (self.new ≡ self.old)) }
     {
-        self.tracer.feed(piece, &mut self.notes)
+        consume(&mut self.tracer, &mut self.judging, piece)
     }
 
-    /// Ends the log, and returns the verdict on it.
+    /// Ends the log, and returns the verdict on it. It needs no memory.
     ///
     /// # Errors
     ///
-    /// The refusal that an earlier call returned; `Cut`, at the log's length, if the log ends inside its header or a record; else `Memory`, at the log's
-    /// length, if there is no memory to judge it.
+    /// The refusal that an earlier call returned; `Cut`, at the log's length, if the log ends inside its header or a record.
     pub fn finish(self) -> Result<Verdict, Refusal>
         ensures verdict { (log : List ℕ) → Follows self log → Finishes (λ v. v.events) (λ v. v.faults) log result }
         ensures for_ever { IfSome self.tracer.refusal (λ refusal. result ≡ Err refusal) }
@@ -128,19 +130,48 @@ impl Judge {
         ensures role { (log : List ℕ) → Follows self log → IfOk result (λ answer. answer.1 ≡ (tested_by log).role) }
         ensures for_ever { IfSome self.tracer.refusal (λ refusal. result ≡ Err refusal) }
     {
-        let mut tracer = self.tracer;
-        tracer.finish()?;
-        let at = tracer.byte_count();
-        let Some(header) = tracer.header() else {
-            return Err(Refusal::Cut(at));
+        let mut judge = self;
+        judge.tracer.finish()?;
+        let Some(header) = judge.tracer.header() else {
+            return Err(Refusal::Cut(judge.tracer.byte_count()));
         };
-        let tested = Tested::of(header);
-        let mut faults = Faults::new(self.alloc);
-        let judged = judge_all(self.alloc, tested, self.notes.seen.as_slice(), &mut faults);
-        judged.map_err(|_| Refusal::Memory(at))?;
-        let events = self.notes.count();
-        Ok((Verdict { events, faults }, tested.role))
+        let role = Tested::of(header).role;
+        let watching = &mut judge.judging.watching;
+        let verdict = Verdict {
+            events: watching.events,
+            faults: watching.take_faults(),
+        };
+        Ok((verdict, role))
     }
+}
+
+/// Takes in a piece of a log: first what belongs to its header, which names the end that is judged, and then the rest, in which events are complete.
+fn consume(tracer: &mut Tracer, judging: &mut Judging<Brand>, piece: &[u8]) -> Result<(), Refusal>
+    ensures answers { (limit : ℕ) (log : List ℕ) → FollowsBy limit tracer.old judging.old.watching log → JudgesPieceBy limit tracer.new judging.new.watching log piece.now result }
+    ensures refuses { IfErr result (λ refusal. tracer.new.refusal ≡ Some refusal) }
+    ensures for_ever { IfSome tracer.old.refusal (λ refusal. (result ≡ Err refusal) × (tracer.new ≡ tracer.old) × (judging.new ≡ judging.old)) }
+{
+    match tracer.begin(piece) {
+        Ok(rest) => {
+            judging.watching.begin(tracer.header());
+            take_events::<Brand>(tracer, judging, rest)
+        }
+        Err(refusal) => Err(refusal),
+    }
+}
+
+/// Takes in a piece of a log of the end that is picked.
+fn take_events<K: End>(
+    tracer: &mut Tracer,
+    judging: &mut Judging<K>,
+    piece: &[u8],
+) -> Result<(), Refusal>
+    requires tested { judging.old.watching.tested ≡ K.tested }
+    ensures answers { (log : List ℕ) → IsTracedTo tracer.old log → IsWatching judging.old.watching (seen_in log) → TakesEvents tracer.old.reading.limit judging.old.watching.tested log piece.now tracer.new judging.new.watching result }
+    ensures refuses { IfErr result (λ refusal. tracer.new.refusal ≡ Some refusal) }
+    ensures for_ever { IfSome tracer.old.refusal (λ refusal. (result ≡ Err refusal) × (tracer.new ≡ tracer.old) × (judging.new ≡ judging.old)) }
+{
+    tracer.feed(piece, judging)
 }
 
 impl Feed<()> for Judge {

@@ -2,15 +2,14 @@
 #![tactic(auto)]
 
 mod display;
-mod evaluating;
 mod feeding;
 mod judge;
 mod lines;
-mod notes;
 mod packet_line;
 mod report;
 mod runner;
 mod turns;
+mod watching;
 
 pub use display::{show, show_faults, show_long};
 pub use judge::{Judge, Options, Verdict};

@@ -1,14 +1,35 @@
-//! Watchers find the same faults as the plain evaluators, which look back over all events.
-use crate::evaluating::judge_all;
-use crate::notes::Notes;
+//! The judge finds the same faults as the plain evaluators, which look back over all events.
+use crate::judge::{Judge, Options};
 use mq_plain::plain_sessions;
-use mq_rules::{Faults, Memory, Seen, Tested, plain_connections};
-use mq_trace::Tracer;
+use mq_rules::{Faults, Memory, Note, Role, Seen, Tested, plain_connections};
+use mq_trace::{Event, Place3, Refusal, Sink, Tracer};
 use std::alloc::Global;
 use std::test::Fail;
 
-// The largest packet that the tests read.
-const LIMIT: u32 = 16_777_216;
+// The events of a log, as the statements see them.
+#[derive(Drop)]
+struct Notes {
+    alloc: Global,
+    seen: Vec<Seen>,
+}
+
+impl Sink for Notes {
+    ghost use Rattle.std.specs.Prelude.{⊤};
+
+    ghost agrees = { λ _ _. ⊤ };
+
+    ghost refuses = { λ _ _ _. ⊤ };
+
+    fn event(&mut self, place: Place3, event: Event<'_>) -> Result<(), Refusal> {
+        let Ok(note) = Note::of(self.alloc, &event) else {
+            return Err(Refusal::Memory(0));
+        };
+        match self.seen.push(Seen { place, note }) {
+            Ok(()) => Ok(()),
+            Err(_) => Err(Refusal::Memory(0)),
+        }
+    }
+}
 
 // The faults by the plain evaluators.
 fn plain_faults(alloc: Global, tested: Tested, seen: &[Seen]) -> Result<Faults, Memory> {
@@ -26,23 +47,45 @@ fn are_same(these: &Faults, those: &Faults) -> bool {
             .all(|(key, fault)| those.get(*key) == Some(*fault))
 }
 
-/// Whether both find the same faults in a log, unless it is refused.
+// Whether each packet that needs a session, and each RELEASE, comes after the CONNACK of its connection. The plain evaluators judge only such logs.
+fn is_in_order(role: Role, seen: &[Seen]) -> bool {
+    let mut is_decided = true;
+    for event in seen {
+        if event.note.needs_session() && !is_decided {
+            return false;
+        }
+        if event.note.is_open() {
+            is_decided = false;
+        } else if event.note.decides(role).is_some() {
+            is_decided = true;
+        }
+    }
+    true
+}
+
+/// Whether both find the same faults in a log, unless it is refused, or is one that the plain evaluators don't judge.
 ///
 /// # Errors
 ///
 /// `Fail` if there is no memory.
 pub fn are_faults_alike(alloc: Global, log: &[u8]) -> Result<bool, Fail> {
-    let mut tracer = Tracer::new(alloc, LIMIT);
-    let mut notes = Notes::new(alloc);
+    let mut judge = Judge::new(alloc, Options::default());
+    let mut tracer = Tracer::new(alloc, Options::default().limit);
+    let mut notes = Notes {
+        alloc,
+        seen: Vec::new(alloc),
+    };
+    let judged = judge.feed(log);
     if tracer.feed(log, &mut notes).is_err() {
-        return Ok(true);
+        return Ok(judged.is_err());
     }
     let Some(header) = tracer.header() else {
         return Ok(true);
     };
     let tested = Tested::of(header);
-    let mut watched = Faults::new(alloc);
-    judge_all(alloc, tested, notes.seen.as_slice(), &mut watched)?;
+    if !is_in_order(tested.role, notes.seen.as_slice()) {
+        return Ok(true);
+    }
     let plain = plain_faults(alloc, tested, notes.seen.as_slice())?;
-    Ok(are_same(&watched, &plain))
+    Ok(are_same(judge.known(), &plain))
 }

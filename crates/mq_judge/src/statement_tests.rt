@@ -252,6 +252,12 @@ fn judges_sessions_over_several_connections(rt: HostRuntime) -> Result<(), Fail>
 }
 
 #[test]
+fn judges_packets_before_the_connack(rt: HostRuntime) -> Result<(), Fail> {
+    assert_eq!(rt; first_wrong(rt.alloc(), early::ROWS)?, None);
+    Ok(())
+}
+
+#[test]
 fn judges_corners_of_sessions(rt: HostRuntime) -> Result<(), Fail> {
     assert_eq!(rt; first_wrong(rt.alloc(), corners::ROWS)?, None);
     Ok(())

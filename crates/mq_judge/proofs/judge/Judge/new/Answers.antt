@@ -1,6 +1,5 @@
-use Rattle.std.proofs.Common.{reverse}
 use Rattle.mq_judge.proofs.JudgeLaws.{follows-nothing}
 use Rattle.mq_judge.proofs.judge.Judge.new.Goals as goal
 
 pub returns-clause-follows : goal.returns-clause-follows
-returns-clause-follows c = follows-nothing c.args.options.limit c.new.result (reverse c.new-2.result.seen.items) c.new.ensures.follows c.new.ensures.limit c.new-2.ensures
+returns-clause-follows c = rw c.new-3.ensures (follows-nothing c.args.options.limit c.new.result c.new-2.result c.new.ensures.follows c.new.ensures.limit c.new-2.ensures.watches)

@@ -1,0 +1,14 @@
+use Rattle.mq_judge.proofs.JudgeLaws.{Begun, begun, consumed, refused-first}
+use Rattle.mq_judge.proofs.judge.consume.Goals as goal
+
+pub returns-in-Ok-clause-answers : goal.returns-in-Ok-clause-answers
+returns-in-Ok-clause-answers c = λ limit log f.
+    let b = c.in-Ok.ensures.begins log f.traced in
+    let from = begun limit c.args.tracer.now c.begin.new.self c.args.judging.now.watching c.begin-in-Ok.new.self log c.args.piece.now c.in-Ok.rest.now c.header.result f b
+    (c.header.ensures.follows _ b.follows) c.begin-in-Ok.ensures.first c.begin-in-Ok.ensures.unnamed c.begin-in-Ok.ensures.later in
+    consumed limit c.args.tracer.now c.begin.new.self c.take_events.new.tracer c.args.judging.now.watching c.begin-in-Ok.new.self c.take_events.new.judging.watching log c.args.piece.now c.in-Ok.rest.now
+    c.take_events.result f b c.in-Ok.ensures.limit from c.take_events.ensures.refuses (c.take_events.ensures.answers _ b.follows from.watches)
+
+pub returns-in-Err-clause-answers : goal.returns-in-Err-clause-answers
+returns-in-Err-clause-answers c = λ limit log f.
+    refused-first limit c.args.tracer.now c.begin.new.self c.args.judging.now.watching log c.args.piece.now c.in-Err.refusal f c.in-Err.ensures.refuses (c.in-Err.ensures.stopped log f.traced)

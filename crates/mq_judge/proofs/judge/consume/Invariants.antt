@@ -1,0 +1,5 @@
+use Rattle.mq_judge.proofs.judge.consume.Given as goal
+
+-- the end that is judged
+abbrev pub ghosts-take_events : goal.ghosts-take_events
+ghosts-take_events a = record { tested = a.judging.now.watching.tested }

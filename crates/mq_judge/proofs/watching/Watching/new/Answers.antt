@@ -1,0 +1,6 @@
+use Rattle.std.proofs.Common.{refl}
+use Rattle.mq_judge.proofs.WatchingLaws.{none-found}
+use Rattle.mq_judge.proofs.watching.Watching.new.Goals as goal
+
+pub returns-clause-watches : goal.returns-clause-watches
+returns-clause-watches c = record { agree = c.new.ensures; found = record { each = none-found c.args.tested c.new-2.result c.new-2.ensures; count = refl } }

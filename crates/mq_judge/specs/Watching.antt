@@ -1,0 +1,26 @@
+-- What a judge keeps of the events so far.
+use Rattle.std.specs.Prelude.{◌≡◌, ℕ, List, length}
+use Rattle.mq_rules.specs.declared.role.Tested.{Tested}
+use Rattle.mq_rules.specs.declared.rule.Rule.{Rule}
+use Rattle.mq_rules.specs.declared.note.Seen.{Seen}
+use Rattle.mq_rules.specs.Connections.{latest_fate, IsOnConnection}
+use Rattle.mq_rules.specs.FaultKeys.{fault_at}
+use Rattle.mq_rules.specs.Faults.{fault_in}
+use Rattle.mq_rules.specs.Under.{Follows}
+use Rattle.mq_books.specs.contracts.watchers.WatchersWatch.TheImpl as watchers
+use Rattle.mq_judge.specs.declared.watching.Watching.{Watching}
+
+-- The faults are those of these events, the newest first, each with where it was decided; and so many events there are.
+pub record IsFound (w : Watching) (past : List Seen) : Type 0 where
+  pub each : (k : ℕ) (rule : Rule) → fault_at w.faults k rule ≡ fault_in w.tested past k rule
+  pub count : w.events ≡ length past
+
+-- The watchers have taken in these events, and their faults are found.
+pub record IsWatching (w : Watching) (past : List Seen) : Type 0 where
+  pub agree : (watchers.ghosts).agrees w.watchers w.tested (latest_fate w.tested.role past) past
+  pub found : IsFound w past
+
+-- The event may follow these: each has its place, connections follow one another, and what happens only on an open connection comes where one is open.
+pub record MayCome (tested : Tested) (e : Seen) (past : List Seen) : Type 0 where
+  pub follows : Follows tested e past
+  pub on_connection : IsOnConnection e past

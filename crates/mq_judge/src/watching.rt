@@ -1,0 +1,186 @@
+//! Judging each event as it comes.
+ghost use Rattle.std.specs.Prelude.{◌≡◌, ◌∷◌, [], None, List, length, ◌≤◌, IfSome, IsTrue, OnOk, OnErr};
+ghost use Rattle.mq_rules.specs.declared.note.Seen.{Seen as TheSeen};
+ghost use Rattle.mq_rules.specs.Notes.{tested_as};
+ghost use Rattle.mq_rules.specs.Under.{seen};
+ghost use Rattle.mq_judge.specs.Watching.{IsFound, IsWatching, MayCome};
+
+use mq_books::Watchers;
+use mq_packet::{Packet, Publish};
+use mq_rules::{Faults, Memory, Note, Tested, Text, Watch};
+use mq_trace::{Direction, Event, Header, Place3, Refusal, Sink};
+use std::alloc::Global;
+use std::marker::{Brand, PhantomData};
+use std::mem::replace;
+
+/// The watchers of all statements, and the faults of the events that they have taken in.
+#[derive(Drop)]
+pub struct Watching {
+    alloc: Global,
+    /// The end that is judged: that of the log's header once an event has come.
+    tested: Tested,
+    watchers: Watchers,
+    /// The faults of the events so far.
+    pub faults: Faults,
+    /// How many events there were.
+    pub events: u32,
+}
+
+impl Watching {
+    /// Judges this end, before any event.
+    pub fn new(alloc: Global, tested: Tested) -> Self
+        ensures tested { result.tested ≡ tested }
+        ensures watches { IsWatching result [] }
+    {
+        Watching {
+            alloc,
+            tested,
+            watchers: Watchers::new(alloc, tested),
+            faults: Faults::new(alloc),
+            events: 0,
+        }
+    }
+
+    /// Judges the end that the log's header names, once the header is whole, and before any event.
+    pub fn begin(&mut self, header: Option<Header>)
+        ensures first { self.old.events ≡ 0 → IfSome header (λ named. (self.new.tested ≡ tested_as named) × IsWatching self.new []) }
+        ensures unnamed { header ≡ None → self.new ≡ self.old }
+        ensures later { (self.old.events ≡ 0 → ⊥) → self.new ≡ self.old }
+    {
+        if self.events != 0 {
+            return;
+        }
+        if let Some(header) = header {
+            *self = Watching::new(self.alloc, Tested::of(header));
+        }
+    }
+
+    /// Takes the faults out.
+    pub fn take_faults(&mut self) -> Faults
+        ensures { result ≡ self.old.faults }
+    {
+        replace(&mut self.faults, Faults::new(self.alloc))
+    }
+
+    /// Takes in the next event, and finds the faults that it shows.
+    ///
+    /// # Errors
+    ///
+    /// `Memory` if there is no memory for a fault, or for what is kept. The faults are then those of the events before it, and nothing more can be taken in.
+    fn take_in(&mut self, place: Place3, note: &Note) -> Result<(), Memory>
+        ensures tested { self.new.tested ≡ self.old.tested }
+        ensures ok { OnOk result ((past : List TheSeen) → MayCome self.old.tested (seen place note.now) past → IsWatching self.old past → IsWatching self.new (seen place note.now ∷ past)) }
+        ensures memory { OnErr result ((past : List TheSeen) → MayCome self.old.tested (seen place note.now) past → IsWatching self.old past → IsFound self.new past) }
+    {
+        match self.watchers.step(place, note, &mut self.faults) {
+            Ok(()) => {
+                self.events = place.position;
+                Ok(())
+            }
+            Err(Memory) => {
+                self.faults.drop_decided(place.position);
+                Err(Memory)
+            }
+        }
+    }
+}
+
+/// Which end is judged. Each call of `take_events` picks it.
+pub trait End {
+    ghost use Rattle.mq_rules.specs.declared.role.Tested.{Tested};
+
+    ghost tested: { Tested };
+}
+
+impl End for Brand {
+    ghost use Rattle.std.specs.Prelude.{false};
+    ghost use Rattle.mq_rules.specs.declared.role.Role.TheVariants.{Client};
+
+    ghost tested = { record { role = Client; releases = false } };
+}
+
+/// A sink that judges the events that it receives.
+#[derive(Drop)]
+pub struct Judging<K> {
+    /// What is kept of them.
+    pub watching: Watching,
+    end: PhantomData<K>,
+}
+
+impl<K> Judging<K> {
+    /// Judges by these watchers.
+    pub fn new(watching: Watching) -> Self
+        ensures { result.watching ≡ watching }
+    {
+        Judging {
+            watching,
+            end: PhantomData,
+        }
+    }
+}
+
+/// Whether a PUBLISH has a short Topic Name and no properties.
+#[inline(always)]
+fn is_brief(publish: &Publish<'_>) -> bool
+    ensures { IsTrue result → length publish.now.topic.now ≤ 30 }
+{
+    Text::is_short(publish.topic) && publish.properties.as_bytes().is_empty()
+}
+
+impl<K: End> Sink for Judging<K> {
+    ghost use Rattle.std.specs.Prelude.{◌≡◌, map};
+    ghost use Rattle.mq_trace.specs.declared.refusal.Refusal.TheVariants as refusals;
+    ghost use Rattle.mq_rules.specs.Notes.{seen as seen_of};
+    ghost use Rattle.mq_judge.specs.Watching.{IsFound, IsWatching};
+
+    ghost agrees = { λ sink received. (sink.watching.tested ≡ K.tested) × IsWatching sink.watching (map seen_of received) };
+
+    // There was no memory, and the faults are those of the earlier events.
+    ghost refuses = { λ sink received refusal. (refusal ≡ refusals.Memory 0) × (sink.watching.tested ≡ K.tested) × IsFound sink.watching (map seen_of received) };
+
+    #[inline(always)]
+    fn event(&mut self, place: Place3, event: Event<'_>) -> Result<(), Refusal> {
+        let Ok(note) = Note::of(self.watching.alloc, &event) else {
+            return Err(Refusal::Memory(0));
+        };
+        match self.watching.take_in(place, &note) {
+            Ok(()) => Ok(()),
+            Err(Memory) => Err(Refusal::Memory(0)),
+        }
+    }
+
+    #[inline(always)]
+    fn packet(
+        &mut self,
+        place: Place3,
+        direction: Direction,
+        size: u32,
+        packet: Packet<'_>,
+    ) -> Result<(), Refusal> {
+        let Ok(note) = Note::of_packet(self.watching.alloc, direction, size, &packet) else {
+            return Err(Refusal::Memory(0));
+        };
+        match self.watching.take_in(place, &note) {
+            Ok(()) => Ok(()),
+            Err(Memory) => Err(Refusal::Memory(0)),
+        }
+    }
+
+    #[inline(always)]
+    fn publish(
+        &mut self,
+        place: Place3,
+        direction: Direction,
+        size: u32,
+        publish: Publish<'_>,
+    ) -> Result<(), Refusal> {
+        if !is_brief(&publish) {
+            return self.packet(place, direction, size, Packet::Publish(publish));
+        }
+        let note = Note::of_short_publish(direction, size, &publish);
+        match self.watching.take_in(place, &note) {
+            Ok(()) => Ok(()),
+            Err(Memory) => Err(Refusal::Memory(0)),
+        }
+    }
+}
