@@ -139,6 +139,31 @@ caused-next tested x packets i f e past = session_since-next tested.role (causes
     go true n = idle (ap (λ b. b || is_release e.note) n) (has_session tested.role (Some f) e past) (not (begins (Some f)) && then (latest_fate tested.role past))
     go false n = apart (accepts f) (is_release e.note) (voided (Some f) && any_accepted tested.role (Some f) past) (then (Some f)) refl
 
+-- a cause stays in the session until that starts over
+pub caused-more : (tested : Tested) (x : Exchange) → IsApart x → (i : ℕ) (f : Fate) (e : Seen) (past : List Seen) → (is_open e.note && begins (Some f)) ≡ false
+    → caused tested.role x i (fate_before tested f e past) past ≡ true → caused tested.role x i (Some f) (e ∷ past) ≡ true
+caused-more tested x packets i f e past on there =
+    caused-next tested x packets i f e past
+    ∙ go (is_open e.note) (begins (Some f)) (accepts f) (is_id i (x.cause e.note)) (caused tested.role x i (fate_before tested f e past) past) on there
+  where
+    go : (o b a c k : Bool) → (o && b) ≡ false → k ≡ true → cond o (not b && k) (cond a (c || k) k) ≡ true
+    go true true a c k on h = absurd (cc)
+    go true false a c k on h = h
+    go false b true true k on h = refl
+    go false b true false k on h = h
+    go false b false c k on h = h
+
+-- a cause on an accepted connection is in the session
+pub caused-new : (tested : Tested) (x : Exchange) → IsApart x → (i : ℕ) (f : Fate) (e : Seen) (past : List Seen) → accepts f ≡ true → is_id i (x.cause e.note) ≡ true → caused tested.role x i (Some f) (e ∷ past) ≡ true
+caused-new tested x packets i f e past ok starts = caused-next tested x packets i f e past ∙ go (is_open e.note) refl
+  where
+    k : Bool
+    k = caused tested.role x i (fate_before tested f e past) past
+
+    go : (b : Bool) → is_open e.note ≡ b → cond b (not (begins (Some f)) && k) (cond (accepts f) (is_id i (x.cause e.note) || k) k) ≡ true
+    go true n = absurd (let none : x.cause e.note ≡ None = (packets.none e.note (ap (λ b. b || is_release e.note) n)).0 in let bad : is_id i (x.cause e.note) ≡ false = ap (is_id i) none in cc)
+    go false n = ap (λ a. cond a (is_id i (x.cause e.note) || k) k) ok ∙ ap (λ c. c || k) starts
+
 pub asked-next : (tested : Tested) (x : Exchange) (f fate : Fate) (opened now : ℕ) (answered next : ℕ → Option ℕ) (e : Seen) (past : List Seen) → IsApart x → e.place.position ≡ length past + 1
     → IsAsked x fate opened answered tested (fate_before tested f e past) past → now ≡ cond (is_open e.note) e.place.position opened
     → ((i : ℕ) → next i ≡ answered_next f e.note (x.cause e.note) (x.answer e.note) e.place.position i (answered i))

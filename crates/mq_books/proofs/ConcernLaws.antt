@@ -1,7 +1,7 @@
 -- Events that don't concern a book.
 use Rattle.std.proofs.Common.{◌≡◌, ℕ, zero, suc, ◌+◌, ◌-◌, ◌<◌, ◌==◌, nat_eq, nat_lt, arith, Bool, true, false, cond, ◌&&◌, ◌||◌, not, List, [], ◌∷◌, ◌++◌, length, ◌⊎◌, inl, inr, Option, Some, None, option_map, refl, ap, sym, subst, ◌∙◌, append-nil}
 use Rattle.std.specs.Prelude.{is_some, nat_le, unwrap_or}
-use Rattle.std.specs.List.{IsDistinct, list_any}
+use Rattle.std.specs.List.{IsDistinct, list_any, sum_by}
 use Rattle.std.specs.Map.{keys_of, values_of, lookup}
 use Rattle.std.specs.Option.{option_or}
 use Rattle.indexmap.specs.IndexMap.{get}
@@ -43,7 +43,7 @@ use Rattle.mq_books.specs.Pingings.{ends_by, counted, unanswered, is_server, IsP
 use Rattle.mq_books.specs.Quotas.{announced, may_count, flown, exceeds, IsQuota}
 use Rattle.mq_books.specs.Releasing as releasing
 use Rattle.mq_books.specs.Releasing.{IsReleasing, is_inside, starts_over, kept_next, lasting}
-use Rattle.mq_books.specs.Standings.{Waits, IsStanding, asked, is_answered, goes_on, grants_some, judged_topic, delivers_so, is_unasked as unasked, is_above}
+use Rattle.mq_books.specs.Standings.{Waits, IsStanding, allows, weighed, asked, is_answered, goes_on, grants_some, judged_topic, delivers_so, is_unasked as unasked, is_above}
 use Rattle.mq_books.proofs.AskedLaws.{asked-next, asked-gains}
 use Rattle.mq_books.proofs.CountLaws.{counted-next, counted-gains}
 use Rattle.mq_books.proofs.DeliveryLaws.{B01-gains, B02-gains}
@@ -161,12 +161,14 @@ owing-passes tested x apart settled ordered says_settled says_ordered binding or
     ∙ ap (λ q. due_next n None q e.place i (lookup (nat_eq i) es)) gives
     ∙ ap (λ b. option_or (cond b None (lookup (nat_eq i) es)) None) h1.0
     ∙ option_or-none (lookup (nat_eq i) es)))
+    (λ rejected i. refl)
     (sym (ap (λ q. cond (order_binding && accepts f) (looked_at (λ i. lookup (nat_eq i) es) q queue) queue) gives ∙ same_cond (order_binding && accepts f) queue))
     (sym (ap (λ q. cond (is_some ordered && accepts f) (queued_next n q e.place.position (λ i. lookup (nat_eq i) es) queue) queue) asks
     ∙ ap (λ b. cond (is_some ordered && accepts f) (cond b [] (queue ++ [])) queue) h1.0
     ∙ ap (λ q. cond (is_some ordered && accepts f) q queue) (append-nil queue)
     ∙ same_cond (is_some ordered && accepts f) queue))
-    (inl refl) in (
+    (inl refl)
+    (λ m test has queued passes. absurd (let bad : false ≡ true = sym h4.0 ∙ has in cc)) in (
       subst (λ (g : Fate). IsOwing x settled ordered binding order_binding g ended (λ i. lookup (nat_eq i) es) queue tested (Some f) (e ∷ past)) (some-same f fate o.owed.same_fate) next,
       λ m. gains_either (λ r. same_rule r settled) (λ r. is_some_and (same_rule r) ordered) (turns_with tested f e past) tested (e ∷ past) at m m m
           (rest-gains tested x apart settled ordered says_settled binding order_binding f fate ended es queue at e past m false under distinct before
@@ -289,6 +291,9 @@ undelivered : (bound b : Bool) (n : Note) (sharing : Bool) (topics : ℕ → Opt
 undelivered true b n sharing topics test h = ap (λ o. b && is_some_and (λ p. is_some_and (test p) (judged_topic sharing topics p)) o) (nothing (sent_publish n) (sym (with_true (is_some (sent_publish n))) ∙ h)) ∙ and_false b
 undelivered false b n sharing topics test h = refl
 
+none-more : (n : ℕ) → 0 + n ≡ n
+none-more n = omega arith
+
 pub standing-passes : (tested : Tested) (fate f : Fate) (settled : List Standing) (waiting : List Waits) (sharing : Bool) (topics : ℕ → Option (List ℕ)) (at : ℕ) (e : Seen) (past : List Seen) (bound : Bool)
     → concerns_deliveries tested e.note ≡ false → IsUnder tested f at e past → bound ≡ binds B01 tested → IsStanding fate settled waiting sharing topics tested (fate_before tested f e past) past
     → IsStanding fate settled waiting sharing topics tested (Some f) (e ∷ past)
@@ -307,15 +312,21 @@ standing-passes tested fate f settled waiting sharing topics at e past bound h u
     subst (λ (t : Option Fate). IsStanding fate settled waiting sharing topics tested t past) (sym (closed-before tested f e past h1.0)) before in
     let next : IsStanding f settled waiting sharing topics tested (Some f) (e ∷ past) =
     standing-next tested fate f settled settled waiting waiting sharing sharing topics topics e past before
-    (λ t. sym (
-    ap (λ b. cond b (goes_on f n && (list_any t settled || list_any (λ w. list_any t w.filters) waiting)) (list_any t settled || grants_some t (sent_grant n) (λ p. list_any p waiting))) h1.0
-    ∙ ap (λ o. list_any t settled || grants_some t o (λ p. list_any p waiting)) grants
-    ∙ or_false (list_any t settled)))
+    (λ among qos. sym (
+    ap (λ b. cond b (goes_on f n && (list_any (allows among qos) settled || list_any (λ w. list_any (allows among qos) w.filters) waiting)) (list_any (allows among qos) settled || grants_some (allows among qos) (sent_grant n) (λ p. list_any p waiting))) h1.0
+    ∙ ap (λ o. list_any (allows among qos) settled || grants_some (allows among qos) o (λ p. list_any p waiting)) grants
+    ∙ or_false (list_any (allows among qos) settled)))
     (λ t. sym (
     ap (λ b. cond b false ((accepts f && is_some_and t (option_map asked (received_subscription n))) || list_any (λ w. not (is_answered (sent_grant n) w) && t w) waiting)) h1.0
     ∙ ap (λ o. (accepts f && is_some_and t (option_map asked o)) || list_any (λ w. not (is_answered (sent_grant n) w) && t w) waiting) asks
     ∙ ap (λ b. b || list_any (λ w. not (is_answered (sent_grant n) w) && t w) waiting) (and_false (accepts f))
     ∙ ap (λ o. list_any (λ w. not (is_answered o w) && t w) waiting) grants))
+    (λ weigh. sym (
+    ap (λ b. cond b 0 (cond (accepts f) (weighed weigh (option_map asked (received_subscription n))) 0 + sum_by (λ w. cond (is_answered (sent_grant n) w) 0 (weigh w)) waiting)) h1.0
+    ∙ ap (λ o. cond (accepts f) (weighed weigh (option_map asked o)) 0 + sum_by (λ w. cond (is_answered (sent_grant n) w) 0 (weigh w)) waiting) asks
+    ∙ ap (λ o. cond (accepts f) 0 0 + sum_by (λ w. cond (is_answered o w) 0 (weigh w)) waiting) grants
+    ∙ ap (λ k. k + sum_by weigh waiting) (same_cond (accepts f) 0)
+    ∙ none-more (sum_by weigh waiting)))
     (sym (
     ap (λ o. (accepts f && is_some_and (λ s. list_any is_shared s.filters) o) || (goes_on f n && sharing)) asks
     ∙ ap (λ b. b || (goes_on f n && sharing)) (and_false (accepts f))

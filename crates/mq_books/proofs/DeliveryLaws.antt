@@ -27,7 +27,7 @@ use Rattle.mq_rules.specs.Growing.{Gains}
 use Rattle.mq_books.specs.Quotas.{judged_by}
 use Rattle.mq_books.specs.Standings.{Waits, IsStanding, any_kept, topic_kept, judged_topic, delivers_so, is_unasked, is_above}
 use Rattle.mq_books.proofs.JudgeLaws.{session-turns_with, gains_judged}
-use Rattle.mq_books.proofs.StandingLaws.{standing-kept}
+use Rattle.mq_books.proofs.StandingLaws.{standing-kept, standing-named}
 
 binds-B02 : (role : Role) (releases : Bool) → binds B02 (record { role = role; releases = releases }) ≡ binds B01 (record { role = role; releases = releases })
 unfolding line_of found_line lines
@@ -88,7 +88,7 @@ B01-gains tested fate f settled waiting sharing topics at e past m bound b under
     session-turns_with tested B01 (breaks_B01 tested.role) refl f e past k
     ∙ ap (λ t. is_next past k && (binds B01 tested && (accepts f && t)))
     (delivered tested fate f settled waiting sharing topics e past (λ p topic. not (list_any (λ s. matches s.filter topic) (standing_at tested.role f (newest e past)))) (is_unasked settled waiting) s
-    (λ same p topic. ap not (standing-kept tested fate settled waiting sharing topics (Some f) e past (λ s. matches s.filter topic) same)))
+    (λ same p topic. ap not (standing-named tested fate settled waiting sharing topics (Some f) e past (λ filter. matches filter topic) same)))
     ∙ ap (λ t. is_next past k && (t && (accepts f && delivers_so e.note sharing topics (is_unasked settled waiting)))) (sym judged)
     ∙ ap (λ t. is_next past k && t) (sym is))
 
@@ -103,7 +103,7 @@ B02-gains tested fate f settled waiting sharing topics at e past m bound b under
     (delivered tested fate f settled waiting sharing topics e past
     (λ p topic. list_any (λ s. matches s.filter topic) (standing_at tested.role f (newest e past)) && not (list_any (λ s. matches s.filter topic && nat_le (qos_number p.qos) s.ceiling) (standing_at tested.role f (newest e past))))
     (is_above settled waiting) s
-    (λ same p topic. ap (λ b. b && not (list_any (λ s. matches s.filter topic && nat_le (qos_number p.qos) s.ceiling) (standing_at tested.role f (newest e past)))) (standing-kept tested fate settled waiting sharing topics (Some f) e past (λ s. matches s.filter topic) same)
-    ∙ ap (λ b. any_kept (λ s. matches s.filter topic) settled waiting && not b) (standing-kept tested fate settled waiting sharing topics (Some f) e past (λ s. matches s.filter topic && nat_le (qos_number p.qos) s.ceiling) same)))
+    (λ same p topic. ap (λ b. b && not (list_any (λ s. matches s.filter topic && nat_le (qos_number p.qos) s.ceiling) (standing_at tested.role f (newest e past)))) (standing-named tested fate settled waiting sharing topics (Some f) e past (λ filter. matches filter topic) same)
+    ∙ ap (λ b. any_kept (λ s. matches s.filter topic) settled waiting && not b) (standing-kept tested fate settled waiting sharing topics (Some f) e past (λ filter. matches filter topic) (qos_number p.qos) same)))
     ∙ ap (λ t. is_next past k && (t && (accepts f && delivers_so e.note sharing topics (is_above settled waiting)))) (binds-B02 tested.role tested.releases ∙ sym judged)
     ∙ ap (λ t. is_next past k && t) (sym is))

@@ -30,3 +30,8 @@ pub mod KeepLaws
 pub mod ConcernLaws
 pub mod UsingConcernLaws
 pub mod SelectingLaws
+pub mod SizeLaws
+pub mod QueueSizeLaws
+pub mod StandLaws
+pub mod StandingSizeLaws
+pub mod AskingSizeLaws

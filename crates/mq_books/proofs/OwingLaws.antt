@@ -1,6 +1,7 @@
 -- What is kept of what is due and of its order, and the faults of both statements.
-use Rattle.std.proofs.Common.{◌≡◌, ℕ, ◌+◌, ◌==◌, arith, Bool, true, false, cond, ◌&&◌, ◌||◌, not, List, ◌∷◌, length, nat_eq, Option, Some, ap, sym, ◌∙◌, subst}
+use Rattle.std.proofs.Common.{◌≡◌, ℕ, ◌+◌, ◌*◌, ◌≤◌, ◌==◌, arith, Bool, true, false, cond, ◌&&◌, ◌||◌, not, List, [], ◌∷◌, ◌++◌, length, nat_eq, Option, Some, None, refl, ap, sym, ◌∙◌, subst}
 use Rattle.std.specs.Prelude.{is_some}
+use Rattle.std.specs.Option.{option_or}
 use Rattle.std.specs.List.{IsDistinct}
 use Rattle.std.specs.Map.{keys_of, values_of, lookup}
 use Rattle.mq_trace.specs.declared.place.Place3.{Place3}
@@ -8,38 +9,47 @@ use Rattle.mq_rules.specs.declared.role.Tested.{Tested}
 use Rattle.mq_rules.specs.declared.rule.Rule.{Rule}
 use Rattle.mq_rules.specs.declared.fate.Fate.{Fate}
 use Rattle.mq_rules.specs.declared.note.Seen.{Seen}
-use Rattle.mq_rules.specs.Words.{is_some_and}
+use Rattle.mq_rules.specs.Words.{is_some_and, is_id}
 use Rattle.mq_rules.specs.Notes.{is_open, is_release}
-use Rattle.mq_rules.specs.Connections.{latest_fate, accepts}
-use Rattle.mq_rules.specs.Exchanges.{Exchange, breaks_O, shows_R}
+use Rattle.mq_rules.specs.Moments.{some}
+use Rattle.mq_rules.specs.Connections.{latest_fate, accepts, resumes, begins, session}
+use Rattle.mq_rules.specs.Exchanges.{Exchange, causes, breaks_O, shows_R}
 use Rattle.mq_rules.specs.Rules.{same_rule}
 use Rattle.mq_rules.specs.Statements.{statement, in_session, at_rest}
 use Rattle.mq_rules.specs.FaultKeys.{FaultMap}
+use Rattle.mq_rules.proofs.Exports.{and_false}
 use Rattle.mq_books.specs.declared.ordering.Debt.{Debt}
 use Rattle.mq_rules.specs.Under.{IsUnder, fate_before, turns_with}
 use Rattle.mq_rules.specs.Growing.{Gains}
 use Rattle.mq_books.specs.Pingings.{ends_by}
 use Rattle.mq_books.specs.Answering.{IsApart}
 use Rattle.mq_books.specs.Owings.{due_next, blamed, binds_by, IsOwing}
-use Rattle.mq_books.specs.Orderings.{looked_at, passes_over, queued_next, ordered_by, IsQueue, IsTidied}
+use Rattle.mq_books.specs.Orderings.{looked_at, passes_over, fallen, queued_next, ordered_by, IsQueue, IsTidied}
+use Rattle.mq_books.specs.Burden.{ids_where, caused_ids}
 use Rattle.mq_books.proofs.OwedLaws.{owed-next, owed-gains}
 use Rattle.mq_books.proofs.QueueLaws.{looked-queue, queue-next, tidied-queue}
 use Rattle.mq_books.proofs.OrderLaws.{order-gains}
+use Rattle.mq_books.proofs.AskedLaws.{caused-more, caused-new}
+use Rattle.mq_books.proofs.SizeLaws.{ids-more, caused-some}
+use Rattle.mq_books.proofs.QueueSizeLaws.{looked-length, tidied-length, joined-length, dropped-none, tidied-none}
 
 pub owing-next : (tested : Tested) (x : Exchange) → IsApart x → (settled : Rule) (ordered : Option Rule) (binding order_binding : Bool) (f fate : Fate) (at : ℕ) (ended now : Bool) (due next : ℕ → Option Place3) (queue looked after tidied : List Debt) (e : Seen) (past : List Seen)
     → IsUnder tested f at e past → IsOwing x settled ordered binding order_binding fate ended due queue tested (fate_before tested f e past) past → now ≡ (ends_by e.note || (not (is_open e.note) && ended))
-    → (accepts f ≡ true → (i : ℕ) → next i ≡ due_next e.note (x.cause e.note) (x.answer e.note) e.place i (due i))
+    → (accepts f ≡ true → (i : ℕ) → next i ≡ due_next e.note (x.cause e.note) (x.answer e.note) e.place i (due i)) → (accepts f ≡ false → (i : ℕ) → next i ≡ due i)
     → looked ≡ cond (order_binding && accepts f) (looked_at due (x.answer e.note) queue) queue
     → after ≡ cond (is_some ordered && accepts f) (queued_next e.note (x.cause e.note) e.place.position due looked) looked
-    → IsTidied next after tidied → IsOwing x settled ordered binding order_binding f now next tidied tested (Some f) (e ∷ past)
-owing-next tested x packets settled ordered binding order_binding f fate at ended now due next queue looked after tidied e past under o is grown looks queues less = record {
+    → IsTidied next after tidied
+    → ((n : ℕ) (test : ℕ → Bool) → is_some (x.cause e.note) ≡ true → IsQueue next after n → ((i : ℕ) → is_some (next i) ≡ true → test i ≡ true) → length tidied ≤ 2 * ids_where test)
+    → IsOwing x settled ordered binding order_binding f now next tidied tested (Some f) (e ∷ past)
+unfolding caused_ids
+owing-next tested x packets settled ordered binding order_binding f fate at ended now due next queue looked after tidied e past under o is grown same looks queues less short = record {
   binds_are = o.binds_are;
   order_binds_are = o.order_binds_are;
   owed = owed-next tested x f fate at ended now due next e past packets under o.owed is grown;
-  queued = λ has ok.
-      tidied-queue next after tidied (length (e ∷ past)) less (subst (λ (q : List Debt). IsQueue next q (length (e ∷ past))) (sym (queues ∙ ap (λ b. cond (b && accepts f) (queued_next e.note (x.cause e.note) e.place.position due looked) looked) has ∙ ap (λ b. cond b (queued_next e.note (x.cause e.note) e.place.position due looked) looked) ok))
-      (subst (λ n. IsQueue next (queued_next e.note (x.cause e.note) e.place.position due looked) n) grows
-      (queue-next due next looked (length past) e.note (x.cause e.note) (x.answer e.note) e.place under.follows.placed.0 (λ n. (packets.none e.note (ap (λ b. b || is_release e.note) n)).0) (packets.apart e.note) (grown ok) (λ n. old has ok n o.owed.same_fate))));
+  queued = λ has ok. tidied-queue next after tidied (length (e ∷ past)) less (after-queue has ok);
+  unordered = λ none. tidied-none next after tidied less (after-none none);
+  due_caused = due-caused;
+  queue_within = by-fate (accepts f) refl;
 }
   where
     grows : length past + 1 ≡ length (e ∷ past)
@@ -54,6 +64,100 @@ owing-next tested x packets settled ordered binding order_binding f fate at ende
         let closed : Some f ≡ Some fate = ap (λ b. cond b (latest_fate tested.role past) (Some f)) (sym n) ∙ same in
         let one : f ≡ fate = cc in
         subst (λ (q : List Debt). IsQueue due q (length past)) (sym looks) (either (order_binding && accepts f) (o.queued has (ap accepts (sym one) ∙ ok)))
+
+    -- the queue before it is tidied
+    put : List Debt
+    put = queued_next e.note (x.cause e.note) e.place.position due looked
+
+    after-is : is_some ordered ≡ true → accepts f ≡ true → after ≡ put
+    after-is has ok = queues ∙ ap (λ b. cond (b && accepts f) put looked) has ∙ ap (λ b. cond b put looked) ok
+
+    no-cause : is_open e.note ≡ true → x.cause e.note ≡ None
+    no-cause n = (packets.none e.note (ap (λ b. b || is_release e.note) n)).0
+
+    after-queue : is_some ordered ≡ true → accepts f ≡ true → IsQueue next after (length (e ∷ past))
+    after-queue has ok =
+        subst (λ (q : List Debt). IsQueue next q (length (e ∷ past))) (sym (after-is has ok))
+        (subst (λ n. IsQueue next put n) grows
+        (queue-next due next looked (length past) e.note (x.cause e.note) (x.answer e.note) e.place under.follows.placed.0 no-cause (packets.apart e.note) (grown ok) (λ n. old has ok n o.owed.same_fate)))
+
+    -- without a statement on the order the queue is empty
+    after-none : is_some ordered ≡ false → after ≡ []
+    after-none none =
+        let stays : looked ≡ [] = looks ∙ (λ i. cond (order_binding && accepts f) (looked_at due (x.answer e.note) (o.unordered none i)) (o.unordered none i)) ∙ empty (order_binding && accepts f) in
+        queues ∙ ap (λ b. cond (b && accepts f) put looked) none ∙ stays
+      where
+        empty : (b : Bool) → cond b (looked_at due (x.answer e.note) []) [] ≡ []
+        empty true = dropped-none due (x.answer e.note) [] refl
+        empty false = refl
+
+    -- what is due has a cause in the session
+    has_cause : ℕ → Bool
+    has_cause i = some (causes x i) (session tested.role (Some f) (e ∷ past))
+
+    had_cause : ℕ → Bool
+    had_cause i = some (causes x i) (session tested.role (fate_before tested f e past) past)
+
+    goes-on : (is_open e.note && begins (Some f)) ≡ false → (i : ℕ) → had_cause i ≡ true → has_cause i ≡ true
+    goes-on on i there =
+        sym (caused-some tested.role x (Some f) (e ∷ past) i)
+        ∙ caused-more tested x packets i f e past on (caused-some tested.role x (fate_before tested f e past) past i ∙ there)
+
+    stale : accepts f ≡ false → (is_open e.note && begins (Some f)) ≡ false
+    stale n = ap (λ a. is_open e.note && (a && not (resumes f))) n ∙ and_false (is_open e.note)
+
+    due-caused : (i : ℕ) → is_some (next i) ≡ true → has_cause i ≡ true
+    due-caused i here = by (accepts f) refl
+      where
+        kept : (a b c : Bool) → is_open e.note ≡ a → is_id i (x.answer e.note) ≡ b → is_id i (x.cause e.note) ≡ c → accepts f ≡ true → (q : Option Place3) → due i ≡ q
+            → is_some (option_or (cond b None (cond a None q)) (cond c (Some e.place) None)) ≡ true → has_cause i ≡ true
+        kept a b true opens answer starts ok q d h = sym (caused-some tested.role x (Some f) (e ∷ past) i) ∙ caused-new tested x packets i f e past ok starts
+        kept a true false opens answer starts ok q d h = absurd (cc)
+        kept true false false opens answer starts ok q d h = absurd (cc)
+        kept false false false opens answer starts ok None d h = absurd (cc)
+        kept false false false opens answer starts ok (Some p) d h = goes-on (ap (λ a. a && begins (Some f)) opens) i (o.due_caused i (ap is_some d))
+
+        by : (b : Bool) → accepts f ≡ b → has_cause i ≡ true
+        by false n = goes-on (stale n) i (o.due_caused i (ap is_some (sym (same n i)) ∙ here))
+        by true n = kept (is_open e.note) (is_id i (x.answer e.note)) (is_id i (x.cause e.note)) refl refl refl n (due i) refl (ap is_some (sym (grown n i)) ∙ here)
+
+    -- how long the queue is
+    looked-least : length looked ≤ length queue
+    looked-least = let is : length looked ≡ length (cond (order_binding && accepts f) (looked_at due (x.answer e.note) queue) queue) = ap (length {A = Debt}) looks in let le = go (order_binding && accepts f) in omega (arith, is, le)
+      where
+        go : (b : Bool) → length (cond b (looked_at due (x.answer e.note) queue) queue) ≤ length queue
+        go true = looked-length due (x.answer e.note) queue
+        go false = omega arith
+
+    tidied-least : length tidied ≤ length after
+    tidied-least = tidied-length next after tidied less
+
+    within-more : (is_open e.note && begins (Some f)) ≡ false → length after ≤ length looked → length tidied ≤ 2 * caused_ids x tested.role (Some f) (e ∷ past)
+    within-more on le = let more = ids-more had_cause has_cause (goes-on on) in let old_bound = o.queue_within in omega (arith, le, more, old_bound, looked-least, tidied-least)
+
+    by-fate : (b : Bool) → accepts f ≡ b → length tidied ≤ 2 * caused_ids x tested.role (Some f) (e ∷ past)
+    by-fate false n =
+        let is : length after ≡ length looked = ap (length {A = Debt}) (queues ∙ ap (λ a. cond (is_some ordered && a) put looked) n ∙ ap (λ b. cond b put looked) (and_false (is_some ordered))) in
+        within-more (stale n) (omega (arith, is))
+    by-fate true n = by-order (is_some ordered) refl
+      where
+        nothing : after ≡ [] → length tidied ≤ 2 * caused_ids x tested.role (Some f) (e ∷ past)
+        nothing none = let is : length tidied ≡ 0 = ap (length {A = Debt}) (tidied-none next after tidied less none) in omega (arith, is)
+
+        by-cause : (c : Option ℕ) → x.cause e.note ≡ c → is_open e.note ≡ false → after ≡ looked ++ fallen due e.place.position c → is_some ordered ≡ true → length tidied ≤ 2 * caused_ids x tested.role (Some f) (e ∷ past)
+        by-cause None q opens is has =
+            let long : length after ≡ length (looked ++ []) = ap (length {A = Debt}) is in
+            let joined = joined-length looked [] in
+            within-more (ap (λ a. a && begins (Some f)) opens) (omega (arith, long, joined))
+        by-cause (Some c) q opens is has = short (length (e ∷ past)) has_cause (ap is_some q) (after-queue has n) due-caused
+
+        by-open : (a : Bool) → is_open e.note ≡ a → is_some ordered ≡ true → length tidied ≤ 2 * caused_ids x tested.role (Some f) (e ∷ past)
+        by-open true opens has = nothing (after-is has n ∙ ap (λ a. cond a [] (looked ++ fallen due e.place.position (x.cause e.note))) opens)
+        by-open false opens has = by-cause (x.cause e.note) refl opens (after-is has n ∙ ap (λ a. cond a [] (looked ++ fallen due e.place.position (x.cause e.note))) opens) has
+
+        by-order : (b : Bool) → is_some ordered ≡ b → length tidied ≤ 2 * caused_ids x tested.role (Some f) (e ∷ past)
+        by-order false none = nothing (after-none none)
+        by-order true has = by-open (is_open e.note) refl has
 
 -- the faults of a REST
 pub rest-gains : (tested : Tested) (x : Exchange) → IsApart x → (settled : Rule) (ordered : Option Rule) → statement tested.role settled ≡ at_rest (shows_R x) → (binding order_binding : Bool) (f fate : Fate) (ended : Bool) (es : List (ℕ × Place3)) (queue : List Debt) (at : ℕ) (e : Seen) (past : List Seen) (m : FaultMap) (rests : Bool)

@@ -62,7 +62,7 @@ looked-queue due (Some i) q n h = dropped-queue due q n h
 -- ---- the first debt that is still due
 
 -- what is due, and where
-still-due : (due : ℕ → Option Place3) (d : Debt) → is_still_due due d ≡ true → (p : Place3) × (due d.identifier ≡ Some p) × (p.position ≡ d.position)
+pub still-due : (due : ℕ → Option Place3) (d : Debt) → is_still_due due d ≡ true → (p : Place3) × (due d.identifier ≡ Some p) × (p.position ≡ d.position)
 still-due due d h = go (due d.identifier) refl h
   where
     go : (o : Option Place3) → due d.identifier ≡ o → is_some_and (λ (p : Place3). p.position == d.position) o ≡ true → (p : Place3) × (due d.identifier ≡ Some p) × (p.position ≡ d.position)

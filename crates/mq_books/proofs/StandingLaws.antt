@@ -1,9 +1,9 @@
 -- Filters that stand, with one event more.
-use Rattle.std.proofs.Common.{◌≡◌, ℕ, ◌+◌, ◌<◌, ◌≤◌, ◌==◌, ◌%◌, nat_lt, arith, Bool, true, false, cond, ◌&&◌, ◌||◌, not, List, [], ◌∷◌, ◌++◌, length, Option, Some, None, refl, ap, sym, ◌∙◌, subst, inl, inr}
+use Rattle.std.proofs.Common.{◌≡◌, ℕ, ◌+◌, ◌<◌, ◌≤◌, ◌==◌, ◌%◌, nat_le, nat_lt, arith, Bool, true, false, cond, ◌&&◌, ◌||◌, not, List, [], ◌∷◌, ◌++◌, length, Option, Some, None, refl, ap, sym, ◌∙◌, subst, inl, inr}
 use Rattle.std.specs.Prelude.{is_none, unwrap_or, option_map}
 use Rattle.std.specs.Option.{option_or, option_and_then}
-use Rattle.std.specs.List.{list_any}
-use Rattle.std.proofs.lemmas.Bool.{eq-eqb}
+use Rattle.std.specs.List.{list_any, sum_by}
+use Rattle.std.proofs.lemmas.Bool.{eq-eqb, le-leb}
 use Rattle.std.proofs.lemmas.Bool.Decides.{nat_tests}
 use Rattle.std.proofs.lemmas.List.Folds.{list_any-append}
 use Rattle.mq_rules.specs.declared.role.Role.{Role}
@@ -20,7 +20,7 @@ use Rattle.mq_rules.specs.Connections.{begun, number, of_connection, connection,
 use Rattle.mq_rules.specs.Subscriptions.{Standing, granted, codes_under, standing_from, standing_of, asks_to_share, is_shared, topic_set, last_set}
 use Rattle.mq_rules.proofs.Exports.{among-within, and_false, begun-least, begun-open, begun-same, connection-newest as connection-next, none-first_found, option_or-none, or_false, session-members, those-among}
 use Rattle.mq_rules.specs.Under.{fate_before}
-use Rattle.mq_books.specs.Standings.{Waits, asked, codes_in, waits_by, standing_by, settled_by, waiting_by, settled_from, waiting_from, first_code, other_codes, with_code, with_codes, goes_on, is_answered, grants_some, settled_next, waiting_next, sharing_next, topic_next, IsStanding, any_kept}
+use Rattle.mq_books.specs.Standings.{allows, Waits, asked, total, weighed, sum_next, codes_in, waits_by, standing_by, settled_by, waiting_by, settled_from, waiting_from, first_code, other_codes, with_code, with_codes, goes_on, is_answered, grants_some, settled_next, waiting_next, sharing_next, topic_next, IsStanding, any_kept}
 
 -- ---- one SUBSCRIBE
 
@@ -82,6 +82,24 @@ waiting-step t here codes more g (Some s) h = ap (λ c. is_some_and t (only (her
     go true None (Some a) = at (a.identifier == s.identifier)
       where
         at : (b : Bool) → is_some_and t (only (is_none (option_map (λ (a : Grant). a.codes) (only b (Some a)))) (Some (asked s))) ≡ (not b && t (asked s))
+        at true = refl
+        at false = refl
+
+sum-step : (weigh : Waits → ℕ) (here : Bool) (codes more : ℕ → Option (List ℕ)) (g : Option Grant) (o : Option Subscription) → ((i : ℕ) → more i ≡ option_or (codes i) (cond here (codes_of i g) None))
+    → weighed weigh (waiting_by here more o) ≡ weighed (λ w. cond (is_answered g w) 0 (weigh w)) (waiting_by here codes o)
+unfolding codes_of
+sum-step weigh true codes more g None h = refl
+sum-step weigh false codes more g None h = refl
+sum-step weigh here codes more g (Some s) h = ap (λ c. weighed weigh (only (here && is_none c) (Some (asked s)))) (h s.identifier) ∙ go here (codes s.identifier) g
+  where
+    go : (here : Bool) (c : Option (List ℕ)) (g : Option Grant) → weighed weigh (only (here && is_none (option_or c (cond here (codes_of s.identifier g) None))) (Some (asked s)))
+        ≡ weighed (λ w. cond (is_answered g w) 0 (weigh w)) (only (here && is_none c) (Some (asked s)))
+    go false c g = refl
+    go true (Some cs) g = refl
+    go true None None = refl
+    go true None (Some a) = at (a.identifier == s.identifier)
+      where
+        at : (b : Bool) → weighed weigh (only (is_none (option_map (λ (a : Grant). a.codes) (only b (Some a)))) (Some (asked s))) ≡ cond b 0 (weigh (asked s))
         at true = refl
         at false = refl
 
@@ -161,6 +179,36 @@ some-grants : (t : Standing → Bool) (g : Option Grant) (w : Moment → Option 
 some-grants t None w ms = some-none ms
 some-grants t (Some a) w ms = refl
 
+total-alike : (p q : Moment → ℕ) (ms : List Moment) → ((j : Moment) → Among j ms → p j ≡ q j) → total p ms ≡ total q ms
+total-alike p q [] h = refl
+total-alike p q (m ∷ ms) h = let first = h m (inl refl) in let rest = total-alike p q ms (λ j a. h j (inr a)) in omega (arith, first, rest)
+
+total-none : (ms : List Moment) → total (λ j. 0) ms ≡ 0
+total-none [] = refl
+total-none (m ∷ ms) = let rest = total-none ms in omega (arith, rest)
+
+-- a number that no RELEASE has, over the session with one event more
+session-total : (tested : Tested) (f : Fate) (p : Moment → ℕ) (e : Seen) (past : List Seen) → (is_release e.note ≡ true → p (newest e past) ≡ 0)
+    → total p (session tested.role (Some f) (e ∷ past)) ≡ cond (accepts f) (p (newest e past)) 0 + cond (goes_on f e.note) (total p (session tested.role (fate_before tested f e past) past)) 0
+session-total tested f p e past idle =
+    first (has_session tested.role (Some f) e past) (is_open e.note) (begins (Some f))
+    ∙ ap (λ n. n + cond (goes_on f e.note) (total p (session tested.role (fate_before tested f e past) past)) 0) (inside (accepts f) (is_release e.note) (voided (Some f) && any_accepted tested.role (Some f) past) idle)
+  where
+    inside : (a r v : Bool) → (r ≡ true → p (newest e past) ≡ 0) → cond (a || (r && v)) (p (newest e past)) 0 ≡ cond a (p (newest e past)) 0
+    inside true r v h = refl
+    inside false false v h = refl
+    inside false true true h = h refl
+    inside false true false h = refl
+
+    first : (b o n : Bool) → total p (with_first b (newest e past) (cond o (cond n [] (session tested.role (latest_fate tested.role past) past)) (session tested.role (Some f) past)))
+        ≡ cond b (p (newest e past)) 0 + cond (not (o && n)) (total p (session tested.role (cond o (latest_fate tested.role past) (Some f)) past)) 0
+    first true true true = refl
+    first true true false = refl
+    first true false n = refl
+    first false true true = refl
+    first false true false = omega arith
+    first false false n = omega arith
+
 -- a test that no RELEASE passes, over the session with one event more
 session-some : (tested : Tested) (f : Fate) (p : Moment → Bool) (e : Seen) (past : List Seen) → (is_release e.note ≡ true → p (newest e past) ≡ false)
     → some p (session tested.role (Some f) (e ∷ past)) ≡ ((accepts f && p (newest e past)) || (goes_on f e.note && some p (session tested.role (fate_before tested f e past) past)))
@@ -216,6 +264,13 @@ module _ (tested : Tested) (f : Fate) (e : Seen) (past : List Seen) where
   newest-waiting t = ap (λ b. is_some_and t (only b (option_map asked (received_subscription e.note)))) (newest-waits (received_subscription e.note)) ∙ go (received_subscription e.note)
     where
       go : (o : Option Subscription) → is_some_and t (only (is_some_and (λ s. true) o) (option_map asked o)) ≡ is_some_and t (option_map asked o)
+      go None = refl
+      go (Some s) = refl
+
+  newest-weighed : (weigh : Waits → ℕ) → weighed weigh (waiting_from (e ∷ past) (newest e past)) ≡ weighed weigh (option_map asked (received_subscription e.note))
+  newest-weighed weigh = ap (λ b. weighed weigh (only b (option_map asked (received_subscription e.note)))) (newest-waits (received_subscription e.note)) ∙ go (received_subscription e.note)
+    where
+      go : (o : Option Subscription) → weighed weigh (only (is_some_and (λ s. true) o) (option_map asked o)) ≡ weighed weigh (option_map asked o)
       go None = refl
       go (Some s) = refl
 
@@ -293,6 +348,36 @@ module _ (tested : Tested) (f : Fate) (e : Seen) (past : List Seen) where
           ∙ ap (λ b. (accepts f && false) || (not (begins (Some f)) && b)) (none h) ∙ ap (λ b. b || (not (begins (Some f)) && false)) (and_false (accepts f)) ∙ and_false (not (begins (Some f)))
       go false h = ap (λ b. (accepts f && is_some_and t (option_map asked (received_subscription e.note))) || b) (closed h)
 
+  sum-is : (weigh : Waits → ℕ) → total (λ j. weighed weigh (waiting_from (e ∷ past) j)) (session tested.role (Some f) (e ∷ past))
+      ≡ sum_next f e.note weigh (λ g. total (λ j. weighed g (waiting_from past j)) before)
+  unfolding codes_of
+  sum-is weigh =
+      session-total tested f (λ j. weighed weigh (waiting_from (e ∷ past) j)) e past (λ r. newest-weighed weigh ∙ ap (λ o. weighed weigh (option_map asked o)) (unsubscribed e.note r))
+      ∙ ap (λ n. cond (accepts f) n 0 + cond (goes_on f e.note) (total (λ j. weighed weigh (waiting_from (e ∷ past) j)) before) 0) (newest-weighed weigh)
+      ∙ go (is_open e.note) refl
+    where
+      none : is_open e.note ≡ true → total (λ j. weighed weigh (waiting_from (e ∷ past) j)) before ≡ 0
+      none h = total-alike (λ j. weighed weigh (waiting_from (e ∷ past) j)) (λ j. 0) before (λ j a. ap (λ b. weighed weigh (waiting_by b (codes_in (e ∷ past) j) (received_subscription (note j)))) (not-here h j a)) ∙ total-none before
+
+      closed : is_open e.note ≡ false → total (λ j. weighed weigh (waiting_from (e ∷ past) j)) before ≡ total (λ j. weighed (λ w. cond (is_answered (sent_grant e.note) w) 0 (weigh w)) (waiting_from past j)) before
+      closed h =
+          total-alike (λ j. weighed weigh (waiting_from (e ∷ past) j)) (λ j. weighed (λ w. cond (is_answered (sent_grant e.note) w) 0 (weigh w)) (waiting_from past j)) before (λ j a.
+          ap (λ n. weighed weigh (waiting_by (n == number j) (codes_in (e ∷ past) j) (received_subscription (note j)))) (begun-same e past h)
+          ∙ sum-step weigh (begun past == number j) (codes_in past j) (codes_in (e ∷ past) j) (sent_grant e.note) (received_subscription (note j)) (λ i. codes-same h j a i))
+
+      empty : (a b : Bool) → cond a 0 0 + cond b 0 0 ≡ 0
+      empty true true = refl
+      empty true false = refl
+      empty false true = refl
+      empty false false = refl
+
+      go : (b : Bool) → is_open e.note ≡ b → cond (accepts f) (weighed weigh (option_map asked (received_subscription e.note))) 0 + cond (not (b && begins (Some f))) (total (λ j. weighed weigh (waiting_from (e ∷ past) j)) before) 0
+          ≡ cond b 0 (cond (accepts f) (weighed weigh (option_map asked (received_subscription e.note))) 0 + total (λ j. weighed (λ w. cond (is_answered (sent_grant e.note) w) 0 (weigh w)) (waiting_from past j)) before)
+      go true h =
+          ap (λ o. cond (accepts f) (weighed weigh (option_map asked o)) 0 + cond (not (begins (Some f))) (total (λ j. weighed weigh (waiting_from (e ∷ past) j)) before) 0) (opens-none e.note h).0
+          ∙ ap (λ n. cond (accepts f) 0 0 + cond (not (begins (Some f))) n 0) (none h) ∙ empty (accepts f) (not (begins (Some f)))
+      go false h = ap (λ n. cond (accepts f) (weighed weigh (option_map asked (received_subscription e.note))) 0 + n) (closed h)
+
   sharing-is : some asks_to_share (session tested.role (Some f) (e ∷ past)) ≡ sharing_next f e.note (some asks_to_share before)
   sharing-is = session-some tested f asks_to_share e past (λ r. ap (is_some_and (λ s. list_any is_shared s.filters)) (unsubscribed e.note r))
 
@@ -313,16 +398,25 @@ same-settled f n t a b p q h same = ap (λ x. settled_next f n t x p) h ∙ ap (
     go None = refl
     go (Some a) = same (λ w. (a.identifier == w.identifier) && list_any t (with_codes w.filters a.codes))
 
+-- the sum over what waits, by two sums that are alike
+same-sum : (f : Fate) (n : Note) (weigh : Waits → ℕ) (p q : (Waits → ℕ) → ℕ) → ((g : Waits → ℕ) → p g ≡ q g) → sum_next f n weigh p ≡ sum_next f n weigh q
+same-sum f n weigh p q same = ap (λ x. cond (is_open n) 0 (cond (accepts f) (weighed weigh (option_map asked (received_subscription n))) 0 + x)) (same (λ w. cond (is_answered (sent_grant n) w) 0 (weigh w)))
+
 pub standing-next : (tested : Tested) (fate f : Fate) (settled more : List Standing) (waiting left : List Waits) (sharing shares : Bool) (topics known : ℕ → Option (List ℕ)) (e : Seen) (past : List Seen)
     → IsStanding fate settled waiting sharing topics tested (fate_before tested f e past) past
-    → ((t : Standing → Bool) → list_any t more ≡ settled_next f e.note t (list_any t settled) (λ p. list_any p waiting))
+    → ((among : List ℕ → Bool) (qos : ℕ) → list_any (allows among qos) more ≡ settled_next f e.note (allows among qos) (list_any (allows among qos) settled) (λ p. list_any p waiting))
     → ((t : Waits → Bool) → list_any t left ≡ waiting_next f e.note t (λ p. list_any p waiting))
+    → ((weigh : Waits → ℕ) → sum_by weigh left ≡ sum_next f e.note weigh (λ g. sum_by g waiting))
     → shares ≡ sharing_next f e.note sharing → ((alias : ℕ) → known alias ≡ topic_next e.note alias (topics alias))
     → IsStanding f more left shares known tested (Some f) (e ∷ past)
-standing-next tested fate f settled more waiting left sharing shares topics known e past s a b c d = record {
+standing-next tested fate f settled more waiting left sharing shares topics known e past s a b u c d = record {
   same_fate = refl;
-  settled_are = λ t. a t ∙ same-settled f e.note t (list_any t settled) (some (λ j. list_any t (settled_from past j)) ms) (λ p. list_any p waiting) (λ p. some (λ j. is_some_and p (waiting_from past j)) ms) (s.settled_are t) s.waiting_are
-      ∙ sym (settled-is tested f e past t);
+  settled_are = λ among qos.
+      a among qos
+      ∙ same-settled f e.note (allows among qos) (list_any (allows among qos) settled) (some (λ j. list_any (allows among qos) (settled_from past j)) ms) (λ p. list_any p waiting) (λ p. some (λ j. is_some_and p (waiting_from past j)) ms) (s.settled_are among qos) s.waiting_are
+      ∙ sym (settled-is tested f e past (allows among qos));
+  waiting_sums = λ weigh.
+      u weigh ∙ same-sum f e.note weigh (λ g. sum_by g waiting) (λ g. total (λ j. weighed g (waiting_from past j)) ms) s.waiting_sums ∙ sym (sum-is tested f e past weigh);
   waiting_are = λ t. b t ∙ ap (λ x. cond (is_open e.note) false ((accepts f && is_some_and t (option_map asked (received_subscription e.note))) || x)) (s.waiting_are (λ w. not (is_answered (sent_grant e.note) w) && t w)) ∙ sym (waiting-is tested f e past t);
   is_sharing = c ∙ ap (sharing_next f e.note) s.is_sharing ∙ sym (sharing-is tested f e past);
   topics_are = λ alias. d alias ∙ ap (topic_next e.note alias) (s.topics_are alias) ∙ sym (topic-is alias e past);
@@ -337,12 +431,39 @@ standing-some : (t : Standing → Bool) (k : Moment) (ms : List Moment) → list
 standing-some t k [] = refl
 standing-some t k (j ∷ js) = list_any-append t (standing_from k j) (standing_of k js) ∙ ap (λ b. list_any t (standing_from k j) || b) (standing-some t k js)
 
-pub standing-kept : (tested : Tested) (fate : Fate) (settled : List Standing) (waiting : List Waits) (sharing : Bool) (topics : ℕ → Option (List ℕ)) (taken : Option Fate) (e : Seen) (past : List Seen) (t : Standing → Bool)
-    → IsStanding fate settled waiting sharing topics tested taken past → list_any t (standing_of (newest e past) (session tested.role taken past)) ≡ any_kept t settled waiting
-standing-kept tested fate settled waiting sharing topics taken e past t s =
+standing-parts-kept : (tested : Tested) (fate : Fate) (settled : List Standing) (waiting : List Waits) (sharing : Bool) (topics : ℕ → Option (List ℕ)) (taken : Option Fate) (e : Seen) (past : List Seen) (t : Standing → Bool)
+    → IsStanding fate settled waiting sharing topics tested taken past → list_any t settled ≡ some (λ j. list_any t (settled_from past j)) (session tested.role taken past)
+    → list_any t (standing_of (newest e past) (session tested.role taken past)) ≡ any_kept t settled waiting
+standing-parts-kept tested fate settled waiting sharing topics taken e past t s are =
     standing-some t (newest e past) (session tested.role taken past)
     ∙ some-alike (λ j. list_any t (standing_from (newest e past) j)) (λ j. list_any t (settled_from past j) || is_some_and (λ w. list_any t w.filters) (waiting_from past j)) (session tested.role taken past)
     (λ j a. standing-parts t (begun past == number j) (codes_in past j) (received_subscription (note j)))
     ∙ some-either (λ j. list_any t (settled_from past j)) (λ j. is_some_and (λ w. list_any t w.filters) (waiting_from past j)) (session tested.role taken past)
-    ∙ ap (λ b. b || some (λ j. is_some_and (λ w. list_any t w.filters) (waiting_from past j)) (session tested.role taken past)) (sym (s.settled_are t))
+    ∙ ap (λ b. b || some (λ j. is_some_and (λ w. list_any t w.filters) (waiting_from past j)) (session tested.role taken past)) (sym are)
     ∙ ap (λ b. list_any t settled || b) (sym (s.waiting_are (λ w. list_any t w.filters)))
+
+-- a filter that passes a test, and allows this QoS
+pub standing-kept : (tested : Tested) (fate : Fate) (settled : List Standing) (waiting : List Waits) (sharing : Bool) (topics : ℕ → Option (List ℕ)) (taken : Option Fate) (e : Seen) (past : List Seen) (among : List ℕ → Bool) (qos : ℕ)
+    → IsStanding fate settled waiting sharing topics tested taken past → list_any (allows among qos) (standing_of (newest e past) (session tested.role taken past)) ≡ any_kept (allows among qos) settled waiting
+standing-kept tested fate settled waiting sharing topics taken e past among qos s = standing-parts-kept tested fate settled waiting sharing topics taken e past (allows among qos) s (s.settled_are among qos)
+
+-- each filter allows QoS 0
+any_qos : (among : List ℕ → Bool) (s : Standing) → allows among 0 s ≡ among s.filter
+any_qos among s = let least : nat_le 0 s.ceiling ≡ true = le-leb 0 s.ceiling (omega arith) in ap (λ b. among s.filter && b) least ∙ whole (among s.filter)
+  where
+    whole : (b : Bool) → (b && true) ≡ b
+    whole true = refl
+    whole false = refl
+
+pub standing-named : (tested : Tested) (fate : Fate) (settled : List Standing) (waiting : List Waits) (sharing : Bool) (topics : ℕ → Option (List ℕ)) (taken : Option Fate) (e : Seen) (past : List Seen) (among : List ℕ → Bool)
+    → IsStanding fate settled waiting sharing topics tested taken past → list_any (λ s. among s.filter) (standing_of (newest e past) (session tested.role taken past)) ≡ any_kept (λ s. among s.filter) settled waiting
+standing-named tested fate settled waiting sharing topics taken e past among s =
+    (λ i. list_any (λ x. sym (any_qos among x) i) (standing_of (newest e past) (session tested.role taken past)))
+    ∙ standing-kept tested fate settled waiting sharing topics taken e past among 0 s
+    ∙ (λ i. any_kept (λ x. any_qos among x i) settled waiting)
+
+-- a filter is settled if it stands
+pub settled-named : (tested : Tested) (fate : Fate) (settled : List Standing) (waiting : List Waits) (sharing : Bool) (topics : ℕ → Option (List ℕ)) (taken : Option Fate) (past : List Seen) (among : List ℕ → Bool)
+    → IsStanding fate settled waiting sharing topics tested taken past → list_any (λ s. among s.filter) settled ≡ some (λ j. list_any (λ s. among s.filter) (settled_from past j)) (session tested.role taken past)
+settled-named tested fate settled waiting sharing topics taken past among s =
+    (λ i. list_any (λ x. sym (any_qos among x) i) settled) ∙ s.settled_are among 0 ∙ (λ i. some (λ j. list_any (λ x. any_qos among x i) (settled_from past j)) (session tested.role taken past))

@@ -61,10 +61,10 @@ pub record IsCounted (c : Counting) (fate : Fate) (counts : ℕ → Option ℕ) 
 
 -- ---- SUBSCRIBE and SUBACK, UNSUBSCRIBE and UNSUBACK
 
-abbrev subscription_count : Subscription → Counted
+abbrev pub subscription_count : Subscription → Counted
 subscription_count s = record { identifier = s.identifier; count = length s.filters }
 
-abbrev grant_count : Grant → Counted
+abbrev pub grant_count : Grant → Counted
 grant_count a = record { identifier = a.identifier; count = length a.codes }
 
 abbrev number_count : Number → Counted

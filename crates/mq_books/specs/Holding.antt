@@ -1,15 +1,17 @@
 -- Events of an undecided connection that are held back. They stand with the newest one first, on top of the events before that connection.
-use Rattle.std.specs.Prelude.{ℕ, ◌≡◌, ◌<◌, Bool, true, false, ◌||◌, ◌&&◌, cond, List, [], ◌∷◌, ◌++◌, length, reverse, Option, Some, None, is_some}
+use Rattle.std.specs.Prelude.{ℕ, ◌≡◌, ◌<◌, ◌+◌, Bool, true, false, ◌||◌, ◌&&◌, cond, List, [], ◌∷◌, ◌++◌, length, reverse, Option, Some, None, is_some}
 use Rattle.mq_rules.specs.declared.role.Role.{Role}
 use Rattle.mq_rules.specs.declared.role.Tested.{Tested}
 use Rattle.mq_rules.specs.declared.fate.Fate.{Fate}
 use Rattle.mq_rules.specs.declared.rule.Rule.{Rule}
+use Rattle.mq_rules.specs.declared.note.Note.{Note}
 use Rattle.mq_rules.specs.declared.note.Seen.{Seen}
-use Rattle.mq_rules.specs.Notes.{is_open}
-use Rattle.mq_rules.specs.Moments.{IsPlaced}
+use Rattle.mq_rules.specs.Notes.{is_open, received_subscription, sent_grant}
+use Rattle.mq_rules.specs.Moments.{note, IsPlaced}
 use Rattle.mq_rules.specs.Connections.{latest_fate, connection}
 use Rattle.mq_rules.specs.Steps.{turns}
 use Rattle.mq_rules.specs.Under.{is_on_session, turns_with, IsInTurn, Follows}
+use Rattle.mq_books.specs.Standings.{total}
 
 abbrev pub is_nothing : List Seen → Bool
 is_nothing [] = true
@@ -61,6 +63,15 @@ pub record CanPass (tested : Tested) (f : Fate) (e : Seen) (hs base : List Seen)
   pub follows : Follows tested e (hs ++ base)
   pub decided : latest_fate tested.role (e ∷ (hs ++ base)) ≡ Some f
 
--- how many events of the latest connection wait for its fate
-abbrev pub waiting : Role → List Seen → ℕ
-waiting role past = cond (is_some (latest_fate role past)) 0 (length (connection past))
+-- a number of what is there, and 0 if nothing is
+abbrev pub number_in : {A : Type 0} → (A → ℕ) → Option A → ℕ
+number_in number None = 0
+number_in number (Some a) = number a
+
+-- how much an event counts that is held: itself, and the filters of a SUBSCRIBE that is received, or the Reason Codes of a SUBACK that is sent
+abbrev pub event_size : Note → ℕ
+event_size n = 1 + (number_in (λ s. length s.filters) (received_subscription n) + number_in (λ a. length a.codes) (sent_grant n))
+
+-- how many events of the latest connection wait for its fate, with the filters and Reason Codes that they carry
+unfoldable pub waiting : Role → List Seen → ℕ
+waiting role past = cond (is_some (latest_fate role past)) 0 (total (λ m. event_size (note m)) (connection past))

@@ -15,3 +15,4 @@ pub mod Standings
 pub mod Grouping
 pub mod Concerns
 pub mod Selecting
+pub mod Burden

@@ -1,5 +1,5 @@
 -- What the book of an exchange keeps of what is owed on the latest connection.
-use Rattle.std.specs.Prelude.{ℕ, ◌≡◌, Bool, true, ◌&&◌, not, cond, List, [], ◌∷◌, length, Option, Some, None, option_map, is_some}
+use Rattle.std.specs.Prelude.{ℕ, ◌≡◌, ◌≤◌, ◌*◌, Bool, true, false, ◌&&◌, not, cond, List, [], ◌∷◌, length, Option, Some, None, option_map, is_some}
 use Rattle.std.specs.Option.{option_or}
 use Rattle.mq_trace.specs.declared.place.Place3.{Place3}
 use Rattle.mq_rules.specs.declared.role.Tested.{Tested}
@@ -10,12 +10,13 @@ use Rattle.mq_rules.specs.declared.note.Seen.{Seen}
 use Rattle.mq_rules.specs.Words.{is_id, is_some_and}
 use Rattle.mq_rules.specs.Notes.{is_open, is_rest}
 use Rattle.mq_rules.specs.Moments.{Moment, some, earliest_since}
-use Rattle.mq_rules.specs.Connections.{connection, accepts, ends_binding}
+use Rattle.mq_rules.specs.Connections.{connection, accepts, ends_binding, session}
 use Rattle.mq_rules.specs.Exchanges.{Exchange, causes, answers}
 use Rattle.mq_rules.specs.Rules.{binds}
 use Rattle.mq_rules.specs.FaultKeys.{FaultMap, fault_at, with_fault}
 use Rattle.mq_books.specs.declared.ordering.Debt.{Debt}
 use Rattle.mq_books.specs.Orderings.{IsQueue}
+use Rattle.mq_books.specs.Burden.{caused_ids}
 
 -- the first cause of i on the latest connection without an answer since
 abbrev pub due_of : Exchange → ℕ → List Seen → Option Moment
@@ -34,12 +35,16 @@ pub record IsOwed (x : Exchange) (fate : Fate) (ended : Bool) (due : ℕ → Opt
   pub is_ended : ended ≡ some ends_binding (connection past)
   pub due_are : accepts fate ≡ true → (i : ℕ) → due i ≡ place_of (due_of x i past)
 
--- What the book keeps is right: whether its statements are judged, what is due, and the queue where there is a statement on the order.
+-- What the book keeps is right: whether its statements are judged, what is due, and the queue where there is a statement on the order. What is due has a cause in
+-- the session, and the queue is at most twice as long as there are identifiers with such a cause.
 pub record IsOwing (x : Exchange) (settled : Rule) (ordered : Option Rule) (binding order_binding : Bool) (fate : Fate) (ended : Bool) (due : ℕ → Option Place3) (queue : List Debt) (tested : Tested) (taken : Option Fate) (past : List Seen) : Type 0 where
   pub binds_are : binding ≡ binds settled tested
   pub order_binds_are : order_binding ≡ is_some_and (λ rule. binds rule tested) ordered
   pub owed : IsOwed x fate ended due tested taken past
   pub queued : is_some ordered ≡ true → accepts fate ≡ true → IsQueue due queue (length past)
+  pub unordered : is_some ordered ≡ false → queue ≡ []
+  pub due_caused : (i : ℕ) → is_some (due i) ≡ true → some (causes x i) (session tested.role taken past) ≡ true
+  pub queue_within : length queue ≤ 2 * caused_ids x tested.role taken past
 
 -- the faults of the moments of these places, decided there
 abbrev pub blamed : Rule → ℕ → List Place3 → FaultMap → FaultMap

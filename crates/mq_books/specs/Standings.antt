@@ -1,7 +1,9 @@
 -- What the book of deliveries keeps: filters that stand, SUBSCRIBEs that wait for their SUBACK, topics by their Topic Alias.
-use Rattle.std.specs.Prelude.{ℕ, ◌≡◌, ◌==◌, nat_le, Bool, false, ◌&&◌, ◌||◌, not, cond, List, [], ◌∷◌, ◌++◌, length, Option, Some, None, is_none, unwrap_or, option_map}
+use Rattle.std.specs.Prelude.{ℕ, ◌≡◌, ◌+◌, ◌==◌, nat_le, Bool, false, ◌&&◌, ◌||◌, not, cond, List, [], ◌∷◌, ◌++◌, length, Option, Some, None, is_none, unwrap_or, option_map}
 use Rattle.std.specs.Option.{option_or, option_and_then}
-use Rattle.std.specs.List.{list_any}
+use Rattle.std.specs.List.{list_any, sum_by}
+use Rattle.std.specs.String.{string_bytes}
+use Rattle.std.specs.declared.string.String.{String}
 use Rattle.mq_topic.specs.Matching.{matches}
 use Rattle.mq_rules.specs.declared.role.Role.{Role}
 use Rattle.mq_rules.specs.declared.role.Tested.{Tested}
@@ -14,6 +16,21 @@ use Rattle.mq_rules.specs.Notes.{is_open, Subscription, Grant, received_subscrip
 use Rattle.mq_rules.specs.Moments.{Moment, note, is_after, some, those, first_found}
 use Rattle.mq_rules.specs.Connections.{begun, number, of_connection, connection, accepts, begins, session}
 use Rattle.mq_rules.specs.Subscriptions.{Standing, granted, codes_under, asks_to_share, is_shared, topic_set, last_set}
+
+-- ---- filters that stand
+
+-- the filter passes the test, and something may be sent for it at this QoS
+abbrev pub allows : (List ℕ → Bool) → ℕ → Standing → Bool
+allows among qos s = among s.filter && nat_le qos s.ceiling
+
+-- the standing filters that a map from filters to the greatest QoS keeps
+abbrev pub standings : {Y : Type 0} → List (String Y × ℕ) → List Standing
+standings [] = []
+standings (e ∷ es) = record { filter = string_bytes e.0; ceiling = e.1 } ∷ standings es
+
+-- one of them allows this
+abbrev pub stands_any : {Y : Type 0} → (List ℕ → Bool) → ℕ → List (String Y × ℕ) → Bool
+stands_any among qos es = list_any (allows among qos) (standings es)
 
 -- ---- SUBSCRIBEs that wait
 
@@ -48,6 +65,19 @@ settled_from past j = settled_by (begun past == number j) (codes_in past j) (rec
 
 abbrev pub waiting_from : List Seen → Moment → Option Waits
 waiting_from past j = waiting_by (begun past == number j) (codes_in past j) (received_subscription (note j))
+
+-- how much it counts: itself, and its filters
+abbrev pub waits_weight : Waits → ℕ
+waits_weight w = 1 + length w.filters
+
+-- the sum of a number over these moments; the number of what is there
+abbrev pub total : (Moment → ℕ) → List Moment → ℕ
+total number [] = 0
+total number (m ∷ ms) = number m + total number ms
+
+abbrev pub weighed : (Waits → ℕ) → Option Waits → ℕ
+weighed weigh None = 0
+weighed weigh (Some w) = weigh w
 
 -- ---- Reason Codes
 
@@ -89,6 +119,11 @@ settled_next f n t old among = cond (is_open n) (goes_on f n && (old || among (�
 abbrev pub waiting_next : Fate → Note → (Waits → Bool) → ((Waits → Bool) → Bool) → Bool
 waiting_next f n t among = cond (is_open n) false ((accepts f && is_some_and t (option_map asked (received_subscription n))) || among (λ w. not (is_answered (sent_grant n) w) && t w))
 
+-- the sum of a number over what waits after an event
+abbrev pub sum_next : Fate → Note → (Waits → ℕ) → ((Waits → ℕ) → ℕ) → ℕ
+sum_next f n weigh among =
+    cond (is_open n) 0 (cond (accepts f) (weighed weigh (option_map asked (received_subscription n))) 0 + among (λ w. cond (is_answered (sent_grant n) w) 0 (weigh w)))
+
 abbrev pub sharing_next : Fate → Note → Bool → Bool
 sharing_next f n old = (accepts f && is_some_and (λ s. list_any is_shared s.filters) (received_subscription n)) || (goes_on f n && old)
 
@@ -100,8 +135,9 @@ topic_next n alias old = option_or (topic_set alias n) (cond (is_open n) None ol
 -- These events lead to what is kept.
 pub record IsStanding (fate : Fate) (settled : List Standing) (waiting : List Waits) (sharing : Bool) (topics : ℕ → Option (List ℕ)) (tested : Tested) (taken : Option Fate) (past : List Seen) : Type 0 where
   pub same_fate : taken ≡ Some fate
-  pub settled_are : (t : Standing → Bool) → list_any t settled ≡ some (λ j. list_any t (settled_from past j)) (session tested.role taken past)
+  pub settled_are : (among : List ℕ → Bool) (qos : ℕ) → list_any (allows among qos) settled ≡ some (λ j. list_any (allows among qos) (settled_from past j)) (session tested.role taken past)
   pub waiting_are : (t : Waits → Bool) → list_any t waiting ≡ some (λ j. is_some_and t (waiting_from past j)) (session tested.role taken past)
+  pub waiting_sums : (weigh : Waits → ℕ) → sum_by weigh waiting ≡ total (λ j. weighed weigh (waiting_from past j)) (session tested.role taken past)
   pub is_sharing : sharing ≡ some asks_to_share (session tested.role taken past)
   pub topics_are : (alias : ℕ) → topics alias ≡ last_set alias (connection past)
 

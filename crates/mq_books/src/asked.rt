@@ -1,10 +1,11 @@
 //! Each answer was asked for (MQTT 5.0, sections 3.8.4, 3.10.4 and 4.3).
-ghost use Rattle.std.specs.Prelude.{◌≡◌, ◌&&◌, ◌^◌, ℕ, OnOk, cond, nat_eq, [], Some, refl};
+ghost use Rattle.std.specs.Prelude.{◌≡◌, ◌&&◌, ℕ, OnOk, cond, nat_eq, [], Some, refl};
 ghost use Rattle.indexmap.specs.IndexMap.{get};
 ghost use Rattle.mq_rules.specs.declared.fate.Fate.TheVariants.{Void};
 ghost use Rattle.mq_rules.specs.Notes.{is_open};
 ghost use Rattle.mq_rules.specs.Rules.{same_rule, binds as is_bound};
 ghost use Rattle.mq_rules.specs.Under.{IsKnown, turns_known};
+ghost use Rattle.mq_books.specs.Burden.{caused_ids};
 ghost use Rattle.mq_books.specs.Askings as keeping;
 ghost use Rattle.mq_books.specs.Askings.{IsAsked, answered_next};
 ghost use Rattle.mq_books.specs.Concerns.{concerns_asked};
@@ -13,6 +14,7 @@ use crate::exchange::Exchange;
 use crate::fated::Fated;
 use crate::known::judge_by;
 use crate::selective::Selective;
+use crate::sizes::map_size;
 use indexmap::IndexMap;
 use mq_rules::{Fate, Faults, Memory, Note, Tested, Watch};
 use mq_trace::Place3;
@@ -116,7 +118,7 @@ impl<X: Exchange> Watch for Asked<X> {
 
     ghost adds = { λ tested e past k r. same_rule r X.asked && turns_known tested e past k r };
 
-    ghost bound = { λ tested taken past. 2 ^ 64 };
+    ghost bound = { λ tested taken past. caused_ids X.exchange tested.role taken past };
 
     fn step(&mut self, at: Place3, note: &Note, faults: &mut Faults) -> Result<(), Memory> {
         let fate = self.fate;
@@ -124,8 +126,9 @@ impl<X: Exchange> Watch for Asked<X> {
         Ok(())
     }
 
+    // The one map of the struct.
     fn weight(&self) -> usize {
-        self.answered.len()
+        map_size(&self.answered)
     }
 }
 

@@ -1,6 +1,6 @@
 //! How many Reason Codes a SUBACK or UNSUBACK has (MQTT 5.0, sections 3.9.3 and 3.11.3).
 ghost use Rattle.std.specs.Prelude.{refl};
-ghost use Rattle.std.specs.Prelude.{◌≡◌, ◌^◌, ◌&&◌, ◌==◌, ℕ, Bool, not, OnOk, nat_eq, [], Some};
+ghost use Rattle.std.specs.Prelude.{◌≡◌, ◌&&◌, ◌==◌, ℕ, Bool, not, OnOk, nat_eq, [], Some};
 ghost use Rattle.indexmap.specs.IndexMap.{get};
 ghost use Rattle.mq_rules.specs.declared.role.Role.{Role as TheRole};
 ghost use Rattle.mq_rules.specs.declared.rule.Rule.{Rule as TheRule};
@@ -15,11 +15,13 @@ ghost use Rattle.mq_rules.specs.Faults.{offset_of};
 ghost use Rattle.std.specs.Prelude.{Option, None};
 ghost use Rattle.mq_rules.specs.Under.{IsKnown, turns_known};
 ghost use Rattle.mq_books.specs.Concerns.{concerns_count};
+ghost use Rattle.mq_books.specs.Burden.{unanswered_ids};
 ghost use Rattle.mq_books.specs.Countings.{Counting, IsCounting, IsCounted, counted_next, differs, subscribes, unsubscribes, subscribe_request as the_subscribe, suback_reply as the_suback, unsubscribe_request as the_unsubscribe, unsuback_reply as the_unsuback, subscribes_so, unsubscribes_so};
 
 use crate::fated::Fated;
 use crate::known::judge_by;
 use crate::selective::Selective;
+use crate::sizes::map_size;
 use indexmap::IndexMap;
 use mq_rules::{Fate, Faults, Memory, Note, PacketFields, Rule, Tested, Watch};
 use mq_trace::Place3;
@@ -137,7 +139,7 @@ impl<R: Replies> Watch for Counts<R> {
 
     ghost adds = { λ tested e past k r. same_rule r R.judged && turns_known tested e past k r };
 
-    ghost bound = { λ tested taken past. 2 ^ 64 };
+    ghost bound = { λ tested taken past. unanswered_ids R.counting.exchange past };
 
     fn step(&mut self, at: Place3, note: &Note, faults: &mut Faults) -> Result<(), Memory> {
         let fate = self.fate;
@@ -145,8 +147,9 @@ impl<R: Replies> Watch for Counts<R> {
         Ok(())
     }
 
+    // The one map of the struct.
     fn weight(&self) -> usize {
-        self.counts.len()
+        map_size(&self.counts)
     }
 }
 

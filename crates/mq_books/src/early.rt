@@ -1,17 +1,18 @@
 //! Events of a connection are held until its fate is decided: a client may send packets before its CONNACK (MQTT 5.0, section 3.1.4).
-ghost use Rattle.std.specs.Prelude.{◌≡◌, ◌∷◌, ◌++◌, ◌&&◌, ◌||◌, ◌+◌, [], ℕ, List, Option, Some, None, reverse, length, cond, OnOk, OnErr, IfOk};
+ghost use Rattle.std.specs.Prelude.{◌≡◌, ◌≤◌, ◌∷◌, ◌++◌, ◌&&◌, ◌||◌, ◌+◌, [], ℕ, List, Option, Some, None, reverse, length, cond, OnOk, OnErr, IfOk};
 ghost use Rattle.std.specs.Option.{option_or};
+ghost use Rattle.std.specs.List.{sum_by};
 ghost use Rattle.mq_rules.specs.declared.role.Tested.{Tested as TheTested};
 ghost use Rattle.mq_rules.specs.declared.fate.Fate.TheVariants as fates;
 ghost use Rattle.mq_rules.specs.declared.note.Seen.{Seen as TheSeen};
-ghost use Rattle.mq_rules.specs.Notes.{is_open, decides};
+ghost use Rattle.mq_rules.specs.Notes.{is_open, decides, received_subscription, sent_grant};
 ghost use Rattle.mq_rules.specs.Connections.{latest_fate};
 ghost use Rattle.mq_rules.specs.Under.{seen, Follows, turns_with};
 ghost use Rattle.mq_rules.specs.Growing.{Gains, GainsWithin};
-ghost use Rattle.mq_books.specs.Holding.{CanHand, CanPass, fate_after, turns_held, turns_session, settled, waiting, Holds};
+ghost use Rattle.mq_books.specs.Holding.{CanHand, CanPass, fate_after, turns_held, turns_session, settled, number_in, event_size as size_of, waiting, Holds};
 
 use crate::fated::Fated;
-use mq_rules::{Fate, Faults, Memory, Note, Role, Seen, Tested, Watch};
+use mq_rules::{Fate, Faults, Memory, Note, PacketFields, Role, Seen, Tested, Watch};
 use mq_trace::Place3;
 use std::alloc::Global;
 
@@ -80,6 +81,44 @@ fn hold(alloc: Global, held: &mut Vec<Seen>, place: Place3, note: &Note) -> Resu
     Ok(())
 }
 
+/// How many filters a SUBSCRIBE has that is received.
+fn filters_in(note: &Note) -> usize
+    ensures { result ≡ number_in (λ s. length s.filters) (received_subscription note.now) }
+{
+    match note.received_fields() {
+        Some(PacketFields::Subscribe { filters, .. }) => filters.len(),
+        _ => 0,
+    }
+}
+
+/// How many Reason Codes a SUBACK has that is sent.
+fn codes_in(note: &Note) -> usize
+    ensures { result ≡ number_in (λ a. length a.codes) (sent_grant note.now) }
+{
+    match note.sent_fields() {
+        Some(PacketFields::Suback { codes, .. }) => codes.len(),
+        _ => 0,
+    }
+}
+
+/// How much an event counts: itself, and the filters or Reason Codes that it carries.
+fn event_size(note: &Note) -> usize
+    ensures { result ≤ size_of note.now }
+{
+    1_usize.saturating_add(filters_in(note).saturating_add(codes_in(note)))
+}
+
+/// How much is held.
+fn held_size(held: &[Seen]) -> usize
+    ensures { result ≤ sum_by (λ e. size_of e.note) held.now }
+{
+    let mut size = 0_usize;
+    for event in held {
+        size = size.saturating_add(event_size(&event.note));
+    }
+    size
+}
+
 impl<W: Fated> Early<W> {
     /// Around this watcher, before any event.
     pub fn new(alloc: Global, tested: Tested, watcher: W) -> Self
@@ -116,7 +155,8 @@ impl<W: Fated> Watch for Early<W> {
         Ok(())
     }
 
+    // The list of the struct, with the filters and Reason Codes of its events, and the watcher.
     fn weight(&self) -> usize {
-        self.held.len().saturating_add(self.watcher.weight())
+        held_size(self.held.as_slice()).saturating_add(self.watcher.weight())
     }
 }

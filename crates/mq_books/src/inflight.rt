@@ -1,12 +1,13 @@
 //! The Packet Identifiers in use, and what is sent again (MQTT 5.0, sections 2.2.1, 4.3 and 4.4).
 ghost use Rattle.std.specs.Prelude.{refl};
-ghost use Rattle.std.specs.Prelude.{◌≡◌, ◌<◌, ◌^◌, ℕ, ◌&&◌, ◌||◌, not, cond, OnOk, nat_eq, [], Some, None};
+ghost use Rattle.std.specs.Prelude.{◌≡◌, ◌<◌, ◌+◌, ℕ, ◌&&◌, ◌||◌, not, cond, OnOk, nat_eq, [], Some, None};
 ghost use Rattle.std.specs.Option.{option_or};
 ghost use Rattle.indexmap.specs.IndexMap.{get, IsUnique};
 ghost use Rattle.indexmap.specs.IndexSet.{contains};
 ghost use Rattle.mq_rules.specs.declared.fate.Fate.TheVariants.{Void};
 ghost use Rattle.mq_rules.specs.Notes.{closer_of, delivery_of, sent_as, received_as, subscribe_in, suback_in, unsubscribe_in, unsuback_in, is_open as opens};
 ghost use Rattle.mq_rules.specs.Under.{IsKnown, turns_known};
+ghost use Rattle.mq_books.specs.Burden.{open_ids, delivering_ids, void_ids, subscribing_ids, unsubscribing_ids};
 ghost use Rattle.mq_books.specs.Pingings.{ends_by};
 ghost use Rattle.mq_books.specs.Quotas.{announced, may_count as counts_now, flown as flown_by};
 ghost use Rattle.mq_books.specs.Opened.{entry_next};
@@ -24,6 +25,7 @@ use crate::messages::is_acknowledged;
 use crate::pings::ended_after;
 use crate::quota::{flown, may_count, peer_after};
 use crate::selective::Selective;
+use crate::sizes::{map_size, set_size};
 use broken::{
     Broken, is_out_of_order, is_past_pubrel, is_twice, is_unopened, judge_all, resent_after, takes,
 };
@@ -226,7 +228,7 @@ impl Watch for Inflight {
 
     ghost adds = { λ tested e past k r. is_inflight r && turns_known tested e past k r };
 
-    ghost bound = { λ tested taken past. 2 ^ 64 };
+    ghost bound = { λ tested taken past. open_ids tested.role taken past + delivering_ids past + void_ids tested.role taken past + subscribing_ids past + unsubscribing_ids past };
 
     fn step(&mut self, at: Place3, note: &Note, faults: &mut Faults) -> Result<(), Memory> {
         let fate = self.fate;
@@ -234,13 +236,13 @@ impl Watch for Inflight {
         Ok(())
     }
 
+    // The map and all four sets of the struct.
     fn weight(&self) -> usize {
-        self.entries
-            .len()
-            .saturating_add(self.delivering.len())
-            .saturating_add(self.void.len())
-            .saturating_add(self.subscribing.len())
-            .saturating_add(self.unsubscribing.len())
+        map_size(&self.entries)
+            .saturating_add(set_size(&self.delivering))
+            .saturating_add(set_size(&self.void))
+            .saturating_add(set_size(&self.subscribing))
+            .saturating_add(set_size(&self.unsubscribing))
     }
 }
 

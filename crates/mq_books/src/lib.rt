@@ -23,6 +23,8 @@ mod releases;
 mod requests;
 mod selective;
 mod sessions;
+mod sizes;
+mod stands;
 mod subs;
 mod subs_all;
 mod watchers;

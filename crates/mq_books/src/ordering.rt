@@ -1,11 +1,13 @@
 //! The order of what is due: a queue, from which what is answered is dropped late.
-ghost use Rattle.std.specs.Prelude.{◌≡◌, ◌&&◌, OnOk, OnErr, cond, filter, is_some, nat_eq};
+ghost use Rattle.std.specs.Prelude.{◌≡◌, ◌≤◌, ◌*◌, ◌&&◌, ℕ, Bool, true, OnOk, OnErr, cond, filter, is_some, length, nat_eq};
 ghost use Rattle.indexmap.specs.IndexMap.{get};
 ghost use Rattle.mq_rules.specs.Connections.{accepts};
+ghost use Rattle.mq_books.specs.Burden.{ids_where};
 ghost use Rattle.mq_books.specs.Orderings as keeping;
-ghost use Rattle.mq_books.specs.Orderings.{first_debt, from_due, queued_next, ordered_by, IsTidied};
+ghost use Rattle.mq_books.specs.Orderings.{first_debt, from_due, queued_next, ordered_by, IsQueue, IsTidied};
 
 use crate::known::judge_by;
+use crate::sizes::map_size;
 use indexmap::IndexMap;
 use mq_rules::{Fate, Faults, Memory, Note, Rule};
 use mq_trace::Place3;
@@ -123,9 +125,14 @@ fn drop_all_settled(queue: &mut VecDeque<Debt>, due: &IndexMap<u16, Place3>)
 /// Drops all that is no longer due, once it is more than half of the queue, so that after a cause the queue is at most twice as long as what is due.
 /// Each debt that is dropped pays for one that is kept.
 pub fn tidy(queue: &mut VecDeque<Debt>, due: &IndexMap<u16, Place3>, cause: Option<u16>)
-    ensures { IsTidied (get nat_eq due.now) queue.old.items queue.new.items }
+    ensures tidied { IsTidied (get nat_eq due.now) queue.old.items queue.new.items }
+    ensures bounded { (n : ℕ) (test : ℕ → Bool) → is_some cause ≡ true → IsQueue (get nat_eq due.now) queue.old.items n → ((i : ℕ) → is_some (get nat_eq due.now i) ≡ true → test i ≡ true) → length queue.new.items ≤ 2 * ids_where test }
 {
-    if cause.is_some() && queue.len().saturating_sub(due.len()) > due.len() {
+    if cause.is_none() {
+        return;
+    }
+    let most = map_size(due);
+    if queue.len().saturating_sub(most) > most {
         drop_all_settled(queue, due);
     }
 }

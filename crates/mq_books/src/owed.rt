@@ -1,11 +1,12 @@
 //! Each cause is answered before a REST, and answers are sent in the order of their causes (MQTT 5.0, sections 3.8.4, 3.10.4, 4.3 and 4.6).
-ghost use Rattle.std.specs.Prelude.{◌≡◌, ℕ, ◌||◌, ◌&&◌, true, OnOk, OnErr, nat_eq, [], Some, cond, ◌^◌, refl};
+ghost use Rattle.std.specs.Prelude.{◌≡◌, ◌*◌, ℕ, ◌||◌, ◌&&◌, true, false, OnOk, OnErr, nat_eq, [], Some, cond, refl};
 ghost use Rattle.indexmap.specs.IndexMap.{get, values, IsUnique};
 ghost use Rattle.mq_rules.specs.declared.fate.Fate.TheVariants.{Void};
 ghost use Rattle.mq_rules.specs.Words.{is_some_and};
 ghost use Rattle.mq_rules.specs.Connections.{accepts};
 ghost use Rattle.mq_rules.specs.Rules.{same_rule, binds as is_bound};
 ghost use Rattle.mq_rules.specs.Under.{IsKnown, turns_known};
+ghost use Rattle.mq_books.specs.Burden.{caused_ids};
 ghost use Rattle.mq_books.specs.Owings.{IsOwing, due_next, blamed, Keeps, binds_by};
 ghost use Rattle.mq_books.specs.Orderings as passing;
 ghost use Rattle.mq_books.specs.Orderings.{looked_at};
@@ -16,6 +17,7 @@ use crate::fated::Fated;
 use crate::ordering::{Debt, judge_order, passes_over, take_queue, tidy};
 use crate::pings::ended_after;
 use crate::selective::Selective;
+use crate::sizes::map_size;
 use indexmap::IndexMap;
 use mq_rules::{Fate, Fault, FaultKey, Faults, Memory, Note, Rule, Tested, Watch};
 use mq_trace::Place3;
@@ -61,6 +63,7 @@ fn take_due(
     answer: Option<u16>,
 ) -> Result<(), Memory>
     ensures due { accepts fate ≡ true → OnOk result ((i : ℕ) → get nat_eq due.new i ≡ due_next note.now cause answer at i (get nat_eq due.old i)) }
+    ensures same { accepts fate ≡ false → OnOk result ((i : ℕ) → get nat_eq due.new i ≡ get nat_eq due.old i) }
     ensures unique { IsUnique nat_eq due.old → OnOk result (IsUnique nat_eq due.new) }
 {
     if !fate.accepts() {
@@ -189,7 +192,7 @@ impl<X: Exchange> Watch for Owed<X> {
 
     ghost adds = { λ tested e past k r. (same_rule r X.settled || is_some_and (same_rule r) X.ordered) && turns_known tested e past k r };
 
-    ghost bound = { λ tested taken past. 2 ^ 64 };
+    ghost bound = { λ tested taken past. 3 * caused_ids X.exchange tested.role taken past };
 
     fn step(&mut self, at: Place3, note: &Note, faults: &mut Faults) -> Result<(), Memory> {
         let fate = self.fate;
@@ -197,8 +200,9 @@ impl<X: Exchange> Watch for Owed<X> {
         Ok(())
     }
 
+    // The map and the queue of the struct.
     fn weight(&self) -> usize {
-        self.due.len().saturating_add(self.queue.len())
+        map_size(&self.due).saturating_add(self.queue.len())
     }
 }
 

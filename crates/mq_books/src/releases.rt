@@ -1,6 +1,6 @@
 //! Releases of QoS 2 messages for onward delivery (MQTT 5.0, section 4.3.3).
 ghost use Rattle.std.specs.Prelude.{refl};
-ghost use Rattle.std.specs.Prelude.{◌≡◌, ◌^◌, ℕ, Bool, ◌||◌, ◌&&◌, not, OnOk, nat_eq, [], Some};
+ghost use Rattle.std.specs.Prelude.{◌≡◌, ◌+◌, ◌*◌, ℕ, Bool, ◌||◌, ◌&&◌, not, OnOk, nat_eq, [], Some};
 ghost use Rattle.indexmap.specs.IndexSet.{contains};
 ghost use Rattle.mq_rules.specs.declared.fate.Fate.TheVariants.{Void};
 ghost use Rattle.mq_rules.specs.declared.rule.Rule.TheVariants.{L1, L2, L3};
@@ -8,6 +8,7 @@ ghost use Rattle.mq_rules.specs.Connections.{accepts};
 ghost use Rattle.mq_rules.specs.Notes.{is_open};
 ghost use Rattle.mq_rules.specs.Rules.{same_rule};
 ghost use Rattle.mq_rules.specs.Under.{IsKnown, turns_known};
+ghost use Rattle.mq_books.specs.Burden.{brought_ids, released_ids};
 ghost use Rattle.mq_books.specs.Releasing as keeping;
 ghost use Rattle.mq_books.specs.Releasing.{IsReleasing};
 ghost use Rattle.mq_books.specs.Concerns.{concerns_releases};
@@ -17,6 +18,7 @@ use crate::fated::Fated;
 use crate::known::judge_by;
 use crate::messages::is_acknowledged;
 use crate::selective::Selective;
+use crate::sizes::set_size;
 use indexmap::IndexSet;
 use mq_rules::{Fate, Faults, ItemNote, Memory, Note, PacketFields, Role, Rule, Tested, Watch};
 use mq_trace::Place3;
@@ -184,7 +186,7 @@ impl Watch for Releases {
 
     ghost adds = { λ tested e past k r. ((same_rule r L1 || same_rule r L2) || same_rule r L3) && turns_known tested e past k r };
 
-    ghost bound = { λ tested taken past. 2 ^ 64 };
+    ghost bound = { λ tested taken past. 2 * brought_ids tested.role taken past + released_ids tested.role taken past };
 
     fn step(&mut self, at: Place3, note: &Note, faults: &mut Faults) -> Result<(), Memory> {
         let fate = self.fate;
@@ -192,11 +194,11 @@ impl Watch for Releases {
         Ok(())
     }
 
+    // All three sets of the struct.
     fn weight(&self) -> usize {
-        self.brought
-            .len()
-            .saturating_add(self.released.len())
-            .saturating_add(self.due.len())
+        set_size(&self.brought)
+            .saturating_add(set_size(&self.released))
+            .saturating_add(set_size(&self.due))
     }
 }
 

@@ -1,8 +1,8 @@
 //! What a server may deliver: topics that were subscribed to, at no more than the QoS that was granted (MQTT 5.0, sections 3.3.1.2,
 //! 3.8.4 and 4.7).
 ghost use Rattle.std.specs.Prelude.{refl};
-ghost use Rattle.std.specs.Prelude.{◌≡◌, ◌^◌, ◌&&◌, ◌||◌, ◌==◌, ◌%◌, ◌++◌, ◌∷◌, nat_le, ℕ, Bool, true, List, cond, not, OnOk, IfOk, nat_eq, [], Some, length, option_map};
-ghost use Rattle.std.specs.List.{list_any};
+ghost use Rattle.std.specs.Prelude.{◌≡◌, ◌≤◌, ◌+◌, ◌*◌, ◌&&◌, ◌||◌, ◌==◌, ◌%◌, ◌++◌, ◌∷◌, nat_le, ℕ, Bool, true, List, cond, not, OnOk, IfOk, nat_eq, [], Some, length, option_map};
+ghost use Rattle.std.specs.List.{list_any, sum_by};
 ghost use Rattle.std.specs.Option.{option_and_then, option_or};
 ghost use Rattle.indexmap.specs.IndexMap.{get};
 ghost use Rattle.mq_topic.specs.Matching.{matches as is_match};
@@ -14,12 +14,15 @@ ghost use Rattle.mq_rules.specs.Connections.{accepts, begins};
 ghost use Rattle.mq_rules.specs.Subscriptions.{Standing, granted, is_shared as begins_shared, topic_set as set_topic};
 ghost use Rattle.mq_rules.specs.Rules.{same_rule, binds as is_bound};
 ghost use Rattle.mq_rules.specs.Under.{IsKnown, turns_known};
-ghost use Rattle.mq_books.specs.Standings.{Waits, asked, first_code, other_codes, with_code, with_codes, goes_on as keeps_session, is_answered, grants_some, settled_next, waiting_next, sharing_next, topic_next, IsStanding, any_kept, topic_kept, delivers_so, judged_topic as topic_judged, is_unasked as unasked, is_above as above};
+ghost use Rattle.mq_books.specs.Burden.{standing_count, asked_filters, aliased_ids};
+ghost use Rattle.mq_books.specs.Standings.{allows, standings, stands_any, Waits, asked, weighed, sum_next, waits_weight, first_code, other_codes, with_code, with_codes, goes_on as keeps_session, is_answered, grants_some, settled_next, waiting_next, sharing_next, topic_next, IsStanding, any_kept, topic_kept, delivers_so, judged_topic as topic_judged, is_unasked as unasked, is_above as above};
 ghost use Rattle.mq_books.specs.Concerns.{concerns_deliveries};
 
 use crate::fated::Fated;
 use crate::known::judge_by;
 use crate::selective::Selective;
+use crate::sizes::map_size;
+use crate::stands::{any_standing_allowing, any_standing_for, filters_size, stand};
 use indexmap::IndexMap;
 use mq_packet::Qos;
 use mq_rules::{
@@ -33,7 +36,7 @@ use std::marker::Model;
 /// The lowest Reason Code that refuses (MQTT 5.0, section 2.4).
 const REFUSING: u8 = 0x80;
 
-/// A Topic Filter that stands, with the greatest QoS of what may be sent for it.
+/// A Topic Filter of a SUBSCRIBE that waits, with the QoS that it asks for.
 #[derive(Drop)]
 struct Kept {
     filter: Text,
@@ -77,22 +80,22 @@ fn add(alloc: Global, kept: &mut Vec<Kept>, filter: &str, ceiling: u8) -> Result
 /// Adds a filter with its Reason Code, unless that refuses it. Without a code it keeps its ceiling.
 fn add_granted(
     alloc: Global,
-    settled: &mut Vec<Kept>,
+    settled: &mut IndexMap<String, u8>,
     kept: &Kept,
     code: Option<u8>,
 ) -> Result<(), Memory>
-    ensures { OnOk result (settled.new.items ≡ settled.old.items ++ with_code kept.now code) }
+    ensures { OnOk result ((among : List ℕ → Bool) (qos : ℕ) → stands_any among qos settled.new.entries ≡ (stands_any among qos settled.old.entries || list_any (allows among qos) (with_code kept.now code))) }
 {
     match code {
         None => {
-            add(alloc, settled, kept.filter.as_str(), kept.ceiling)?;
+            stand(alloc, settled, kept.filter.as_str(), kept.ceiling)?;
             Ok(())
         }
         Some(code) => {
             if code >= REFUSING {
                 return Ok(());
             }
-            add(alloc, settled, kept.filter.as_str(), code)?;
+            stand(alloc, settled, kept.filter.as_str(), code)?;
             Ok(())
         }
     }
@@ -112,11 +115,11 @@ fn next_code(codes: &[u8]) -> (Option<u8>, &[u8])
 /// Adds filters with their Reason Codes (MQTT 5.0, section 3.9.3).
 fn settle(
     alloc: Global,
-    settled: &mut Vec<Kept>,
+    settled: &mut IndexMap<String, u8>,
     filters: &[Kept],
     codes: &[u8],
 ) -> Result<(), Memory>
-    ensures { OnOk result (settled.new.items ≡ settled.old.items ++ with_codes filters.now codes.now) }
+    ensures { OnOk result ((among : List ℕ → Bool) (qos : ℕ) → stands_any among qos settled.new.entries ≡ (stands_any among qos settled.old.entries || list_any (allows among qos) (with_codes filters.now codes.now))) }
 {
     let mut filters = filters;
     let mut codes = codes;
@@ -147,13 +150,14 @@ fn asked_filters(alloc: Global, filters: &[NotedFilter]) -> Result<Vec<Kept>, Me
 /// Settles the SUBSCRIBEs that wait under this identifier.
 fn answer(
     alloc: Global,
-    settled: &mut Vec<Kept>,
+    settled: &mut IndexMap<String, u8>,
     waiting: &mut Vec<Waiting>,
     identifier: u16,
     codes: &[u8],
 ) -> Result<(), Memory>
-    ensures settled { OnOk result ((t : Standing → Bool) → list_any t settled.new.items ≡ (list_any t settled.old.items || list_any (λ w. (identifier == w.identifier) && list_any t (with_codes w.filters codes.now)) waiting.old.items)) }
+    ensures settled { OnOk result ((among : List ℕ → Bool) (qos : ℕ) → stands_any among qos settled.new.entries ≡ (stands_any among qos settled.old.entries || list_any (λ w. (identifier == w.identifier) && list_any (allows among qos) (with_codes w.filters codes.now)) waiting.old.items)) }
     ensures left { OnOk result ((t : Waits → Bool) → list_any t waiting.new.items ≡ list_any (λ w. not (identifier == w.identifier) && t w) waiting.old.items) }
+    ensures sums { OnOk result ((weigh : Waits → ℕ) → sum_by weigh waiting.new.items ≡ sum_by (λ w. cond (identifier == w.identifier) 0 (weigh w)) waiting.old.items) }
 {
     let mut left = Vec::new(alloc);
     while let Some(subscribe) = waiting.pop() {
@@ -171,10 +175,10 @@ fn answer(
 #[tactic(auto, using(crate::proofs::KeepLaws::codes_none))]
 fn settle_as_asked(
     alloc: Global,
-    settled: &mut Vec<Kept>,
+    settled: &mut IndexMap<String, u8>,
     subscribe: &Waiting,
 ) -> Result<(), Memory>
-    ensures { OnOk result (settled.new.items ≡ settled.old.items ++ subscribe.now.filters) }
+    ensures { OnOk result ((among : List ℕ → Bool) (qos : ℕ) → stands_any among qos settled.new.entries ≡ (stands_any among qos settled.old.entries || list_any (allows among qos) subscribe.now.filters)) }
 {
     settle(alloc, settled, subscribe.filters.as_slice(), &[])?;
     Ok(())
@@ -183,10 +187,10 @@ fn settle_as_asked(
 /// Settles all SUBSCRIBEs that wait, since no SUBACK comes for them any more.
 fn settle_all(
     alloc: Global,
-    settled: &mut Vec<Kept>,
+    settled: &mut IndexMap<String, u8>,
     waiting: &mut Vec<Waiting>,
 ) -> Result<(), Memory>
-    ensures settled { OnOk result ((t : Standing → Bool) → list_any t settled.new.items ≡ (list_any t settled.old.items || list_any (λ w. list_any t w.filters) waiting.old.items)) }
+    ensures settled { OnOk result ((among : List ℕ → Bool) (qos : ℕ) → stands_any among qos settled.new.entries ≡ (stands_any among qos settled.old.entries || list_any (λ w. list_any (allows among qos) w.filters) waiting.old.items)) }
     ensures none { OnOk result (waiting.new.items ≡ []) }
 {
     while let Some(subscribe) = waiting.pop() {
@@ -198,15 +202,16 @@ fn settle_all(
 /// Takes in an OPEN of a connection that has this fate.
 fn open(
     alloc: Global,
-    settled: &mut Vec<Kept>,
+    settled: &mut IndexMap<String, u8>,
     waiting: &mut Vec<Waiting>,
     fate: Fate,
 ) -> Result<(), Memory>
-    ensures settled { OnOk result ((t : Standing → Bool) → list_any t settled.new.items ≡ (not (begins (Some fate)) && (list_any t settled.old.items || list_any (λ w. list_any t w.filters) waiting.old.items))) }
+    ensures settled { OnOk result ((among : List ℕ → Bool) (qos : ℕ) → stands_any among qos settled.new.entries ≡ (not (begins (Some fate)) && (stands_any among qos settled.old.entries || list_any (λ w. list_any (allows among qos) w.filters) waiting.old.items))) }
     ensures none { OnOk result (waiting.new.items ≡ []) }
 {
     if matches!(fate, Fate::New) {
-        settled.clear();
+        // A large map that is cleared costs its size each time.
+        *settled = IndexMap::new(alloc);
         waiting.clear();
         return Ok(());
     }
@@ -217,12 +222,13 @@ fn open(
 /// Takes in a SUBACK, if the event sends one.
 fn take_grant(
     alloc: Global,
-    settled: &mut Vec<Kept>,
+    settled: &mut IndexMap<String, u8>,
     waiting: &mut Vec<Waiting>,
     note: &Note,
 ) -> Result<(), Memory>
-    ensures settled { OnOk result ((t : Standing → Bool) → list_any t settled.new.items ≡ (list_any t settled.old.items || grants_some t (sent_grant note.now) (λ p. list_any p waiting.old.items))) }
+    ensures settled { OnOk result ((among : List ℕ → Bool) (qos : ℕ) → stands_any among qos settled.new.entries ≡ (stands_any among qos settled.old.entries || grants_some (allows among qos) (sent_grant note.now) (λ p. list_any p waiting.old.items))) }
     ensures left { OnOk result ((t : Waits → Bool) → list_any t waiting.new.items ≡ list_any (λ w. not (is_answered (sent_grant note.now) w) && t w) waiting.old.items) }
+    ensures sums { OnOk result ((weigh : Waits → ℕ) → sum_by weigh waiting.new.items ≡ sum_by (λ w. cond (is_answered (sent_grant note.now) w) 0 (weigh w)) waiting.old.items) }
 {
     match note.sent_fields() {
         Some(PacketFields::Suback { identifier, codes }) => {
@@ -240,7 +246,8 @@ fn take_request(
     accepted: bool,
     note: &Note,
 ) -> Result<(), Memory>
-    ensures { OnOk result ((t : Waits → Bool) → list_any t waiting.new.items ≡ ((accepted && is_some_and t (option_map asked (received_subscription note.now))) || list_any t waiting.old.items)) }
+    ensures any { OnOk result ((t : Waits → Bool) → list_any t waiting.new.items ≡ ((accepted && is_some_and t (option_map asked (received_subscription note.now))) || list_any t waiting.old.items)) }
+    ensures sums { OnOk result ((weigh : Waits → ℕ) → sum_by weigh waiting.new.items ≡ cond accepted (weighed weigh (option_map asked (received_subscription note.now))) 0 + sum_by weigh waiting.old.items) }
 {
     if !accepted {
         return Ok(());
@@ -266,13 +273,14 @@ fn take_request(
 /// Takes in what an event of a connection that has this fate says of filters.
 fn take_filters(
     alloc: Global,
-    settled: &mut Vec<Kept>,
+    settled: &mut IndexMap<String, u8>,
     waiting: &mut Vec<Waiting>,
     fate: Fate,
     note: &Note,
 ) -> Result<(), Memory>
-    ensures settled { OnOk result ((t : Standing → Bool) → list_any t settled.new.items ≡ settled_next fate note.now t (list_any t settled.old.items) (λ p. list_any p waiting.old.items)) }
+    ensures settled { OnOk result ((among : List ℕ → Bool) (qos : ℕ) → stands_any among qos settled.new.entries ≡ settled_next fate note.now (allows among qos) (stands_any among qos settled.old.entries) (λ p. list_any p waiting.old.items)) }
     ensures waiting { OnOk result ((t : Waits → Bool) → list_any t waiting.new.items ≡ waiting_next fate note.now t (λ p. list_any p waiting.old.items)) }
+    ensures sums { OnOk result ((weigh : Waits → ℕ) → sum_by weigh waiting.new.items ≡ sum_next fate note.now weigh (λ g. sum_by g waiting.old.items)) }
 {
     if note.is_open() {
         open(alloc, settled, waiting, fate)?;
@@ -459,23 +467,47 @@ fn any_waiting_allowing(waiting: &[Waiting], topic: &str, qos: Qos) -> bool
         .any(|subscribe| waits_allowing(subscribe, topic, qos))
 }
 
-/// Whether some filter matches a topic.
-fn is_asked(settled: &[Kept], waiting: &[Waiting], topic: &str) -> bool
-    ensures { result ≡ any_kept (λ s. is_match s.filter topic.now) settled.now waiting.now }
+/// How much a SUBSCRIBE counts: itself, and its filters.
+fn request_size(subscribe: &Waiting) -> usize
+    ensures { result ≤ waits_weight subscribe.now }
 {
-    any_for(settled, topic) || any_waiting_for(waiting, topic)
+    subscribe.filters.len().saturating_add(1)
+}
+
+/// How many SUBSCRIBEs wait, and how many filters they have together.
+fn waiting_size(waiting: &[Waiting]) -> usize
+    ensures { result ≤ sum_by waits_weight waiting.now }
+{
+    let mut size = 0_usize;
+    for subscribe in waiting {
+        size = size.saturating_add(request_size(subscribe));
+    }
+    size
+}
+
+/// Whether some filter matches a topic.
+fn is_asked(settled: &IndexMap<String, u8>, waiting: &[Waiting], topic: &str) -> bool
+    ensures { result ≡ any_kept (λ s. is_match s.filter topic.now) (standings settled.now.entries) waiting.now }
+{
+    any_standing_for(settled, topic) || any_waiting_for(waiting, topic)
 }
 
 /// Whether some filter matches a topic, and allows this QoS.
-fn is_allowed(settled: &[Kept], waiting: &[Waiting], topic: &str, qos: Qos) -> bool
-    ensures { result ≡ any_kept (λ s. is_match s.filter topic.now && nat_le (number_of qos) s.ceiling) settled.now waiting.now }
+fn is_allowed(settled: &IndexMap<String, u8>, waiting: &[Waiting], topic: &str, qos: Qos) -> bool
+    ensures { result ≡ any_kept (λ s. is_match s.filter topic.now && nat_le (number_of qos) s.ceiling) (standings settled.now.entries) waiting.now }
 {
-    any_allowing(settled, topic, qos) || any_waiting_allowing(waiting, topic, qos)
+    any_standing_allowing(settled, topic, qos_number(qos))
+        || any_waiting_allowing(waiting, topic, qos)
 }
 
 /// Whether some filter matches the topic of a PUBLISH, and none that does allows its QoS.
-fn is_over(settled: &[Kept], waiting: &[Waiting], publish: &PublishNote, topic: &str) -> bool
-    ensures { result ≡ above settled.now waiting.now publish.now topic.now }
+fn is_over(
+    settled: &IndexMap<String, u8>,
+    waiting: &[Waiting],
+    publish: &PublishNote,
+    topic: &str,
+) -> bool
+    ensures { result ≡ above (standings settled.now.entries) waiting.now publish.now topic.now }
 {
     is_asked(settled, waiting, topic) && !is_allowed(settled, waiting, topic, publish.qos)
 }
@@ -486,7 +518,8 @@ pub struct Deliveries {
     alloc: Global,
     bound: bool,
     fate: Fate,
-    settled: Vec<Kept>,
+    // The filters that stand whatever comes.
+    settled: IndexMap<String, u8>,
     waiting: Vec<Waiting>,
     sharing: bool,
     topics: IndexMap<u16, Text>,
@@ -501,7 +534,7 @@ impl Deliveries {
             alloc,
             bound: Rule::B01.is_judged(tested),
             fate: Fate::Void,
-            settled: Vec::new(alloc),
+            settled: IndexMap::new(alloc),
             waiting: Vec::new(alloc),
             sharing: false,
             topics: IndexMap::new(alloc),
@@ -518,32 +551,27 @@ impl Deliveries {
 
     /// Whether no filter matches the topic of a PUBLISH.
     fn is_unasked(&self, publish: &PublishNote) -> bool
-        ensures { result ≡ is_some_and (unasked self.now.settled.items self.now.waiting.items publish.now) (topic_judged self.now.sharing (get nat_eq self.now.topics) publish.now) }
+        ensures { result ≡ is_some_and (unasked (standings self.now.settled.entries) self.now.waiting.items publish.now) (topic_judged self.now.sharing (get nat_eq self.now.topics) publish.now) }
     {
         match judged_topic(publish, self.sharing, &self.topics) {
-            Some(topic) => !is_asked(self.settled.as_slice(), self.waiting.as_slice(), topic),
+            Some(topic) => !is_asked(&self.settled, self.waiting.as_slice(), topic),
             None => false,
         }
     }
 
     /// Whether some filter matches the topic of a PUBLISH, and none that does allows its QoS.
     fn is_above(&self, publish: &PublishNote) -> bool
-        ensures { result ≡ is_some_and (above self.now.settled.items self.now.waiting.items publish.now) (topic_judged self.now.sharing (get nat_eq self.now.topics) publish.now) }
+        ensures { result ≡ is_some_and (above (standings self.now.settled.entries) self.now.waiting.items publish.now) (topic_judged self.now.sharing (get nat_eq self.now.topics) publish.now) }
     {
         match judged_topic(publish, self.sharing, &self.topics) {
-            Some(topic) => is_over(
-                self.settled.as_slice(),
-                self.waiting.as_slice(),
-                publish,
-                topic,
-            ),
+            Some(topic) => is_over(&self.settled, self.waiting.as_slice(), publish, topic),
             None => false,
         }
     }
 
     /// Whether an event delivers a message to which nobody subscribed.
     fn breaks_asked(&self, fate: Fate, note: &Note) -> bool
-        ensures { result ≡ (self.now.bound && (accepts fate && delivers_so note.now self.now.sharing (get nat_eq self.now.topics) (unasked self.now.settled.items self.now.waiting.items))) }
+        ensures { result ≡ (self.now.bound && (accepts fate && delivers_so note.now self.now.sharing (get nat_eq self.now.topics) (unasked (standings self.now.settled.entries) self.now.waiting.items))) }
     {
         self.bound
             && (fate.accepts()
@@ -555,7 +583,7 @@ impl Deliveries {
 
     /// Whether an event delivers a message at a higher QoS than was granted.
     fn breaks_granted(&self, fate: Fate, note: &Note) -> bool
-        ensures { result ≡ (self.now.bound && (accepts fate && delivers_so note.now self.now.sharing (get nat_eq self.now.topics) (above self.now.settled.items self.now.waiting.items))) }
+        ensures { result ≡ (self.now.bound && (accepts fate && delivers_so note.now self.now.sharing (get nat_eq self.now.topics) (above (standings self.now.settled.entries) self.now.waiting.items))) }
     {
         self.bound
             && (fate.accepts()
@@ -567,13 +595,13 @@ impl Deliveries {
 }
 
 impl Watch for Deliveries {
-    ghost agrees = { λ s tested taken past. (s.bound ≡ is_bound B01 tested) × IsStanding s.fate s.settled.items s.waiting.items s.sharing (get nat_eq s.topics) tested taken past };
+    ghost agrees = { λ s tested taken past. (s.bound ≡ is_bound B01 tested) × IsStanding s.fate (standings s.settled.entries) s.waiting.items s.sharing (get nat_eq s.topics) tested taken past };
 
     ghost takes = { IsKnown };
 
     ghost adds = { λ tested e past k r. (same_rule r B01 || same_rule r B02) && turns_known tested e past k r };
 
-    ghost bound = { λ tested taken past. 2 ^ 64 };
+    ghost bound = { λ tested taken past. standing_count tested.role taken past + 2 * asked_filters past + aliased_ids past };
 
     fn step(&mut self, at: Place3, note: &Note, faults: &mut Faults) -> Result<(), Memory> {
         let fate = self.fate;
@@ -581,11 +609,11 @@ impl Watch for Deliveries {
         Ok(())
     }
 
+    // Both maps and the list of the struct, with the filters of each SUBSCRIBE that waits.
     fn weight(&self) -> usize {
-        self.settled
-            .len()
-            .saturating_add(self.waiting.len())
-            .saturating_add(self.topics.len())
+        filters_size(&self.settled)
+            .saturating_add(waiting_size(self.waiting.as_slice()))
+            .saturating_add(map_size(&self.topics))
     }
 }
 

@@ -1,8 +1,9 @@
 //! All statements.
-ghost use Rattle.std.specs.Prelude.{◌≡◌, [], Some};
+ghost use Rattle.std.specs.Prelude.{◌≡◌, ◌*◌, [], Some};
 ghost use Rattle.mq_rules.specs.declared.fate.Fate.TheVariants.{Void};
 ghost use Rattle.mq_rules.specs.Connections.{IsOnConnection};
 ghost use Rattle.mq_rules.specs.Steps.{turns};
+ghost use Rattle.mq_books.specs.Burden.{burden};
 
 use crate::early::Early;
 use crate::sessions::Sessions;
@@ -47,7 +48,7 @@ impl Watch for Watchers {
 
     ghost adds = { turns };
 
-    ghost bound = { ⟦<Both<Shapes, Both<Conn, Early<Sessions>>> as Watch>⟧.bound };
+    ghost bound = { λ tested taken past. 4 * burden tested past };
 
     fn step(&mut self, at: Place3, note: &Note, faults: &mut Faults) -> Result<(), Memory> {
         self.parts.step(at, note, faults)?;

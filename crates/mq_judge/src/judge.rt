@@ -1,5 +1,6 @@
 //! The judge: it is fed a log, in any pieces, and returns the verdict on it.
-ghost use Rattle.std.specs.Prelude.{◌≡◌, ℕ, List, [], nat_lt, length, Some, None, Err, IfErr, IfOk, IfSome, if◌then◌else◌};
+ghost use Rattle.mq_books.specs.Burden.{burden};
+ghost use Rattle.std.specs.Prelude.{◌≡◌, ◌≤◌, ◌*◌, ℕ, List, [], nat_lt, length, Some, None, Err, IfErr, IfOk, IfSome, if◌then◌else◌};
 ghost use Rattle.mq_judge.specs.Judging.{Knows, Follows, FollowsBy, JudgesPiece, JudgesPieceBy, TakesEvents, AreFaultsOf, Finishes};
 ghost use Rattle.mq_judge.specs.Watching.{IsWatching};
 ghost use Rattle.mq_rules.specs.Notes.{tested_by, seen_in};
@@ -90,6 +91,14 @@ impl Judge {
         ensures { (taken : List ℕ) → Knows self.now taken → AreFaultsOf taken result.now }
     {
         &self.judging.watching.faults
+    }
+
+    /// How much the judge keeps of the log: the sum of the lengths of all its collections but the faults and the bytes of unfinished packets. It is
+    /// within four times what is open in the log: Packet Identifiers, filters, Topic Aliases, and the events of an undecided connection.
+    pub fn weight(&self) -> usize
+        ensures { (log : List ℕ) → Follows self.now log → result ≤ 4 * burden self.now.judging.watching.tested (seen_in log) }
+    {
+        self.judging.watching.weight()
     }
 
     /// Takes in the next piece of the log. It doesn't matter how the log is cut into pieces.

@@ -22,6 +22,7 @@ mod subscriptions;
 mod worked;
 
 use crate::harness::{FAULTY, PASSED, REFUSED, add_record, is_reported};
+use crate::judge::{Judge, Options};
 use crate::plain_tests::are_faults_alike;
 use crate::report::Outcome;
 use packets::PACKETS;
@@ -147,6 +148,41 @@ fn first_wrong(alloc: Global, rows: &'static str) -> Result<Option<&'static str>
         }
     }
     Ok(None)
+}
+
+// What a judge weighs that has taken in this log, if it isn't refused.
+fn weight_after(alloc: Global, words: &'static str) -> Result<Option<usize>, Fail> {
+    let log = log_of(alloc, words)?;
+    let mut judge = Judge::new(alloc, Options::default());
+    if judge.feed(&log).is_err() {
+        return Ok(None);
+    }
+    Ok(Some(judge.weight()))
+}
+
+// An identifier that is in use is in two collections until it is set free; an undecided connection's events are held.
+#[test]
+fn weighs_what_is_open(rt: HostRuntime) -> Result<(), Fail> {
+    assert_eq!(rt;
+        weight_after(rt.alloc(), "client OPEN >CONNECT <CONNACK")?,
+        Some(0)
+    );
+    assert_eq!(rt;
+        weight_after(rt.alloc(), "client OPEN >CONNECT <CONNACK >PUBLISH1:1")?,
+        Some(2)
+    );
+    assert_eq!(rt;
+        weight_after(
+            rt.alloc(),
+            "client OPEN >CONNECT <CONNACK >PUBLISH1:1 <PUBACK:1"
+        )?,
+        Some(0)
+    );
+    assert_eq!(rt;
+        weight_after(rt.alloc(), "client OPEN >CONNECT >PUBLISH1:1")?,
+        Some(3)
+    );
+    Ok(())
 }
 
 #[test]

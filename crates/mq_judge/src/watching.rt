@@ -1,5 +1,6 @@
 //! Judging each event as it comes.
-ghost use Rattle.std.specs.Prelude.{◌≡◌, ◌∷◌, [], None, List, length, ◌≤◌, IfSome, IsTrue, OnOk, OnErr};
+ghost use Rattle.std.specs.Prelude.{◌≡◌, ◌∷◌, [], None, List, length, ◌≤◌, ◌*◌, IfSome, IsTrue, OnOk, OnErr};
+ghost use Rattle.mq_books.specs.Burden.{burden};
 ghost use Rattle.mq_rules.specs.declared.note.Seen.{Seen as TheSeen};
 ghost use Rattle.mq_rules.specs.Notes.{tested_as};
 ghost use Rattle.mq_rules.specs.Under.{seen};
@@ -53,6 +54,13 @@ impl Watching {
         if let Some(header) = header {
             *self = Watching::new(self.alloc, Tested::of(header));
         }
+    }
+
+    /// How much is kept of the log: the sum of the lengths of all collections that the watchers keep. The faults don't count.
+    pub fn weight(&self) -> usize
+        ensures { (past : List TheSeen) → IsWatching self.now past → result ≤ 4 * burden self.now.tested past }
+    {
+        self.watchers.weight()
     }
 
     /// Takes the faults out.

@@ -25,11 +25,13 @@ returns-clause-agrees g c = λ tested past under q.
           (λ accepted i. c.in_ok-take_due.ensures.due accepted i
           ∙ ap (λ o. due_next e.note o c.answer-answer.result e.place i (get nat_eq s.due i)) c.cause-cause.ensures
           ∙ ap (λ o. due_next e.note (x.cause e.note) o e.place i (get nat_eq s.due i)) c.answer-answer.ensures)
+          c.in_ok-take_due.ensures.same
           (c.is_out_of_order-broken.ensures.queue ∙ ap (λ o. cond (s.order_binds && accepts c.args.fate) (looked_at (get nat_eq s.due) o s.queue.items) s.queue.items) c.answer-answer.ensures)
           (c.in_ok-take_queue.ensures
           ∙ ap (λ o. cond (is_some o && accepts c.args.fate) (queued_next e.note c.cause-cause.result e.place.position (get nat_eq s.due) c.is_out_of_order-broken.new.queue.items) c.is_out_of_order-broken.new.queue.items) c.ordered_rule-ordered.ensures
           ∙ ap (λ o. cond (is_some g.X.Exchange.ordered && accepts c.args.fate) (queued_next e.note o e.place.position (get nat_eq s.due) c.is_out_of_order-broken.new.queue.items) c.is_out_of_order-broken.new.queue.items) c.cause-cause.ensures)
-          c.tidy.ensures,
+          c.tidy.ensures.tidied
+          (λ n test has queue passes. c.tidy.ensures.bounded n test (ap is_some c.cause-cause.ensures ∙ has) queue passes),
     )
 
 pub returns-clause-grows : goal.returns-clause-grows

@@ -1,0 +1,122 @@
+-- How long a queue of debts is.
+use Rattle.std.proofs.Common.{◌≡◌, ℕ, ◌+◌, ◌<◌, ◌≤◌, ◌==◌, arith, nat_eq, Bool, true, false, cond, ◌||◌, inl, inr, List, [], ◌∷◌, ◌++◌, filter, length, Option, Some, None, refl, ap, sym, ◌∙◌}
+use Rattle.std.specs.Prelude.{is_some}
+use Rattle.std.specs.List.{IsDistinct, AllByRecursion, list_any}
+use Rattle.std.specs.Map.{keys_of, lookup}
+use Rattle.std.proofs.lemmas.Bool.{eqb-true}
+use Rattle.std.proofs.lemmas.Cmp.{nat_eq_equiv}
+use Rattle.std.proofs.lemmas.List.{length-map}
+use Rattle.std.proofs.lemmas.Map.Keys.{IsDistinct-cons}
+use Rattle.std.proofs.lemmas.Map.Made.{is_some-lookup, length-le_from_is_member}
+use Rattle.mq_trace.specs.declared.place.Place3.{Place3}
+use Rattle.mq_books.specs.declared.ordering.Debt.{Debt}
+use Rattle.mq_books.specs.Orderings.{is_still_due, from_due, looked_at, Queued, IsAscending, IsQueue, IsTidied}
+use Rattle.mq_books.proofs.QueueLaws.{still-due}
+
+-- ---- what is dropped only shortens it
+
+dropped-length : (due : ℕ → Option Place3) (q : List Debt) → length (from_due due q) ≤ length q
+dropped-length due [] = omega arith
+dropped-length due (d ∷ ds) = go (is_still_due due d) (dropped-length due ds)
+  where
+    go : (b : Bool) → length (from_due due ds) ≤ length ds → length (cond b (d ∷ ds) (from_due due ds)) ≤ length (d ∷ ds)
+    go true h = omega arith
+    go false h = omega (arith, h)
+
+pub looked-length : (due : ℕ → Option Place3) (answer : Option ℕ) (q : List Debt) → length (looked_at due answer q) ≤ length q
+looked-length due None q = omega arith
+looked-length due (Some i) q = dropped-length due q
+
+kept-length : (test : Debt → Bool) (q : List Debt) → length (filter test q) ≤ length q
+kept-length test [] = omega arith
+kept-length test (d ∷ ds) = go (test d) (kept-length test ds)
+  where
+    go : (b : Bool) → length (filter test ds) ≤ length ds → length (cond b (d ∷ filter test ds) (filter test ds)) ≤ length (d ∷ ds)
+    go true h = omega (arith, h)
+    go false h = omega (arith, h)
+
+pub tidied-length : (due : ℕ → Option Place3) (old new : List Debt) → IsTidied due old new → length new ≤ length old
+tidied-length due old new (inl same) = let long : length new ≡ length old = ap (length {A = Debt}) same in omega (arith, long)
+tidied-length due old new (inr less) =
+    let long : length new ≡ length (filter (is_still_due due) old) = ap (length {A = Debt}) less in
+    let le = kept-length (is_still_due due) old in
+    omega (arith, long, le)
+
+pub joined-length : (q r : List Debt) → length (q ++ r) ≡ length q + length r
+joined-length [] r = omega arith
+joined-length (d ∷ ds) r = let rest = joined-length ds r in omega (arith, rest)
+
+pub dropped-none : (due : ℕ → Option Place3) (answer : Option ℕ) (q : List Debt) → q ≡ [] → looked_at due answer q ≡ []
+dropped-none due None q h = h
+dropped-none due (Some i) q h = ap (from_due due) h
+
+pub tidied-none : (due : ℕ → Option Place3) (old new : List Debt) → IsTidied due old new → old ≡ [] → new ≡ []
+tidied-none due old new (inl same) h = same ∙ h
+tidied-none due old new (inr less) h = less ∙ ap (filter (is_still_due due)) h
+
+-- ---- what is still due has different identifiers
+
+abbrev identifiers : List Debt → List ℕ
+identifiers [] = []
+identifiers (d ∷ ds) = d.identifier ∷ identifiers ds
+
+identifiers-length : (q : List Debt) → length (identifiers q) ≡ length q
+identifiers-length [] = refl
+identifiers-length (d ∷ ds) = let rest = identifiers-length ds in omega (arith, rest)
+
+module _ (due : ℕ → Option Place3) where
+  -- two debts under one identifier aren't both still due
+  differ-due : (d e : Debt) → is_still_due due d ≡ true → is_still_due due e ≡ true → d.position < e.position → (d.identifier == e.identifier) ≡ false
+  differ-due d e here there lt = go (d.identifier == e.identifier) refl
+    where
+      go : (b : Bool) → (d.identifier == e.identifier) ≡ b → b ≡ false
+      go false h = refl
+      go true h =
+          let same : d.identifier ≡ e.identifier = eqb-true d.identifier e.identifier h in
+          let a = still-due due d here in
+          let b = still-due due e there in
+          let one : Some a.0 ≡ Some b.0 = sym a.1 ∙ ap due same ∙ b.1 in
+          let place : a.0 ≡ b.0 = cc in
+          let spot : d.position ≡ e.position = sym a.2 ∙ ap (λ (p : Place3). p.position) place ∙ b.2 in
+          absurd (omega (arith, lt, spot))
+
+  others-differ : (d : Debt) → is_still_due due d ≡ true → (q : List Debt) → ((i at : ℕ) → Queued i at q → d.position < at) → AllByRecursion (λ y. nat_eq d.identifier y ≡ false) (identifiers (filter (is_still_due due) q))
+  others-differ d here [] up = tt
+  others-differ d here (e ∷ es) up = go (is_still_due due e) refl (others-differ d here es (λ i at a. up i at (inr a)))
+    where
+      go : (b : Bool) → is_still_due due e ≡ b → AllByRecursion (λ y. nat_eq d.identifier y ≡ false) (identifiers (filter (is_still_due due) es))
+          → AllByRecursion (λ y. nat_eq d.identifier y ≡ false) (identifiers (cond b (e ∷ filter (is_still_due due) es) (filter (is_still_due due) es)))
+      go true there rest = (differ-due d e here there (up e.identifier e.position (inl (refl, refl))), rest)
+      go false there rest = rest
+
+  kept-distinct : (q : List Debt) → IsAscending q → IsDistinct nat_eq (identifiers (filter (is_still_due due) q))
+  unfolding IsDistinct
+  kept-distinct [] up = tt
+  kept-distinct (d ∷ ds) up = go (is_still_due due d) refl (kept-distinct ds up.1)
+    where
+      go : (b : Bool) → is_still_due due d ≡ b → IsDistinct nat_eq (identifiers (filter (is_still_due due) ds)) → IsDistinct nat_eq (identifiers (cond b (d ∷ filter (is_still_due due) ds) (filter (is_still_due due) ds)))
+      go true here rest = IsDistinct-cons nat_eq d.identifier (identifiers (filter (is_still_due due) ds)) (others-differ d here ds up.0) rest
+      go false here rest = rest
+
+  kept-there : (q : List Debt) (i : ℕ) → list_any (nat_eq i) (identifiers (filter (is_still_due due) q)) ≡ true → is_some (due i) ≡ true
+  kept-there [] i h = absurd (cc)
+  kept-there (d ∷ ds) i h = go (is_still_due due d) refl h (kept-there ds i)
+    where
+      go : (b : Bool) → is_still_due due d ≡ b → list_any (nat_eq i) (identifiers (cond b (d ∷ filter (is_still_due due) ds) (filter (is_still_due due) ds))) ≡ true
+          → (list_any (nat_eq i) (identifiers (filter (is_still_due due) ds)) ≡ true → is_some (due i) ≡ true) → is_some (due i) ≡ true
+      go false here h rest = rest h
+      go true here h rest = pick (i == d.identifier) refl h
+        where
+          pick : (b : Bool) → (i == d.identifier) ≡ b → (b || list_any (nat_eq i) (identifiers (filter (is_still_due due) ds))) ≡ true → is_some (due i) ≡ true
+          pick true e h = let a = still-due due d here in ap (λ n. is_some (due n)) (eqb-true i d.identifier e) ∙ ap is_some a.1
+          pick false e h = rest h
+
+-- what is still due is no more than there is under identifiers
+pub due-length : (es : List (ℕ × Place3)) (q : List Debt) (n : ℕ) → IsQueue (λ i. lookup (nat_eq i) es) q n → length (filter (is_still_due (λ i. lookup (nat_eq i) es)) q) ≤ length es
+due-length es q n h =
+    let kept : List Debt = filter (is_still_due (λ i. lookup (nat_eq i) es)) q in
+    let le : length (identifiers kept) ≤ length (keys_of es) = length-le_from_is_member nat_eq_equiv (identifiers kept) (keys_of es) (kept-distinct (λ i. lookup (nat_eq i) es) q h.ascending)
+    (λ i here. sym (is_some-lookup (nat_eq i) es) ∙ kept-there (λ i. lookup (nat_eq i) es) q i here) in
+    let long : length (identifiers kept) ≡ length kept = identifiers-length kept in
+    let keys : length (keys_of es) ≡ length es = length-map es (λ (p : ℕ × Place3). p.0) in
+    omega (arith, le, long, keys)

@@ -1,0 +1,14 @@
+use Rattle.std.proofs.Common.{ap, sym, ◌∙◌}
+use Rattle.std.specs.Prelude.{is_some}
+use Rattle.mq_rules.specs.Moments.{since}
+use Rattle.mq_rules.specs.Connections.{connection}
+use Rattle.mq_rules.specs.Exchanges.{causes, answers}
+use Rattle.mq_books.specs.Burden.{unanswered_ids}
+use Rattle.mq_books.proofs.SizeLaws.{counted-unanswered}
+use Rattle.mq_books.proofs.counts.CountsWatch.weight.Goals as goal
+
+pub returns : goal.returns
+unfolding unanswered_ids
+returns g c = λ tested taken past q.
+    let x = g.R.Replies.counting.exchange in
+    c.map_size.ensures.bounded (λ i. since (causes x i) (answers x i) (connection past)) (λ i here. counted-unanswered g.R.Replies.counting i past (ap is_some (sym (q.1.counts_are i)) ∙ here))

@@ -1,0 +1,13 @@
+use Rattle.std.proofs.Common.{arith}
+use Rattle.mq_rules.specs.Moments.{some}
+use Rattle.mq_rules.specs.Connections.{session}
+use Rattle.mq_rules.specs.Exchanges.{causes}
+use Rattle.mq_books.specs.Burden.{caused_ids}
+use Rattle.mq_books.proofs.owed.OwedWatch.weight.Goals as goal
+
+pub returns : goal.returns
+unfolding caused_ids
+returns g c = λ tested taken past q.
+    let due = c.map_size.ensures.bounded (λ i. some (causes g.X.Exchange.exchange i) (session tested.role taken past)) q.1.due_caused in
+    let queue = q.1.queue_within in
+    omega (arith, c.saturating_add.ensures, c.len.ensures, due, queue)

@@ -1,0 +1,122 @@
+-- How much a log gives the watchers of the statements on sessions to keep. Each item is about a log whose latest connection is taken to have a fate.
+use Rattle.std.specs.Prelude.{ℕ, zero, suc, ◌+◌, ◌*◌, Bool, ◌&&◌, cond, List, [], ◌∷◌, ◌++◌, length, Option, is_some}
+use Rattle.std.specs.Set.{distinct_count}
+use Rattle.std.specs.Str.{bytes_eq}
+use Rattle.mq_rules.specs.declared.role.Role.{Role}
+use Rattle.mq_rules.specs.declared.role.Tested.{Tested}
+use Rattle.mq_rules.specs.declared.fate.Fate.{Fate}
+use Rattle.mq_rules.specs.declared.note.Seen.{Seen}
+use Rattle.mq_rules.specs.Words.{is_id}
+use Rattle.mq_rules.specs.Notes.{received_subscription, sent_as, received_as, subscribe_in, suback_in, unsubscribe_in, unsuback_in}
+use Rattle.mq_rules.specs.Moments.{Moment, note, moments, some, since}
+use Rattle.mq_rules.specs.Burden.{aliases_sent}
+use Rattle.mq_rules.specs.Connections.{number, connection, latest_fate, voided, fate_under, session}
+use Rattle.mq_rules.specs.Identifiers.{opens_id, closes_id, delivers}
+use Rattle.mq_rules.specs.Exchanges.{Exchange, causes, answers, publish_puback, publish_pubrec, pubrec_pubrel, pubrel_pubcomp, subscribe_suback, unsubscribe_unsuback}
+use Rattle.mq_rules.specs.Releases.{brings, releases_message, ends}
+use Rattle.mq_rules.specs.Subscriptions.{Standing, last_set}
+use Rattle.mq_books.specs.Holding.{settled, waiting}
+use Rattle.mq_books.specs.Standings.{codes_in, standing_by, waiting_from, weighed, total}
+
+-- ---- how many Packet Identifiers
+
+-- how many of the numbers below n pass the test
+unfoldable pub count_below : (ℕ → Bool) → ℕ → ℕ
+count_below test zero = 0
+count_below test (suc n) = cond (test n) 1 0 + count_below test n
+
+-- How many Packet Identifiers pass the test. Each is a number of two bytes (MQTT 5.0, section 2.2.1).
+unfoldable pub ids_where : (ℕ → Bool) → ℕ
+ids_where test = count_below test 65536
+
+-- ---- what is sent (MQTT 5.0, sections 2.2.1 and 4.3)
+
+-- how many are open in the session
+unfoldable pub open_ids : Role → Option Fate → List Seen → ℕ
+open_ids role taken log = ids_where (λ i. since (opens_id i) (closes_id i) (session role taken log))
+
+-- how many have a PUBLISH of QoS above 0 sent on the latest connection, and no closer after it there
+unfoldable pub delivering_ids : List Seen → ℕ
+delivering_ids log = ids_where (λ i. since (delivers i) (closes_id i) (connection log))
+
+-- how many had a PUBLISH of QoS above 0 sent on a void connection
+unfoldable pub void_ids : Role → Option Fate → List Seen → ℕ
+void_ids role taken log = ids_where (λ i. some (λ m. delivers i m && voided (fate_under role taken log (number m))) (moments log))
+
+-- how many have a SUBSCRIBE sent on the latest connection, and no SUBACK received after it there; the same for UNSUBSCRIBE and UNSUBACK
+unfoldable pub subscribing_ids : List Seen → ℕ
+subscribing_ids log = ids_where (λ i. since (λ m. is_id i (sent_as subscribe_in (note m))) (λ m. is_id i (received_as suback_in (note m))) (connection log))
+
+unfoldable pub unsubscribing_ids : List Seen → ℕ
+unsubscribing_ids log = ids_where (λ i. since (λ m. is_id i (sent_as unsubscribe_in (note m))) (λ m. is_id i (received_as unsuback_in (note m))) (connection log))
+
+-- ---- what is received (MQTT 5.0, sections 3.8.4, 3.10.4 and 4.3)
+
+-- how many have a cause of the exchange in the session
+unfoldable pub caused_ids : Exchange → Role → Option Fate → List Seen → ℕ
+caused_ids x role taken log = ids_where (λ i. some (causes x i) (session role taken log))
+
+-- how many have a cause of the exchange on the latest connection, and no answer after it there
+unfoldable pub unanswered_ids : Exchange → List Seen → ℕ
+unanswered_ids x log = ids_where (λ i. since (causes x i) (answers x i) (connection log))
+
+-- how many have a QoS 2 PUBLISH received in the session, and no end of its exchange after it; how many have a RELEASE, and no such end after it
+unfoldable pub brought_ids : Role → Option Fate → List Seen → ℕ
+brought_ids role taken log = ids_where (λ i. since (brings i) (ends i) (session role taken log))
+
+unfoldable pub released_ids : Role → Option Fate → List Seen → ℕ
+released_ids role taken log = ids_where (λ i. since (releases_message i) (ends i) (session role taken log))
+
+-- ---- subscriptions (MQTT 5.0, sections 3.3.2.3.4, 3.8 and 3.9)
+
+abbrev pub filters_of : List Standing → List (List ℕ)
+filters_of [] = []
+filters_of (s ∷ ss) = s.filter ∷ filters_of ss
+
+-- the filters of the SUBSCRIBEs among these moments that their SUBACKs in the log don't refuse
+abbrev pub standing_filters : List Seen → List Moment → List (List ℕ)
+standing_filters log [] = []
+standing_filters log (j ∷ js) = filters_of (standing_by (codes_in log j) (received_subscription (note j))) ++ standing_filters log js
+
+-- how many different filters stand in the session
+unfoldable pub standing_count : Role → Option Fate → List Seen → ℕ
+standing_count role taken log = distinct_count bytes_eq (standing_filters log (session role taken log))
+
+abbrev pub at_least_one : ℕ → ℕ
+at_least_one zero = 1
+at_least_one (suc n) = suc n
+
+-- how many filters the SUBSCRIBEs have, counted with repeats, that were received on the latest connection without a SUBACK after it there; each has at least one
+unfoldable pub asked_filters : List Seen → ℕ
+asked_filters log = total (λ j. weighed (λ w. at_least_one (length w.filters)) (waiting_from log j)) (connection log)
+
+-- how many Topic Aliases have a topic that was sent on the latest connection
+unfoldable pub aliased_ids : List Seen → ℕ
+aliased_ids log = ids_where (λ alias. is_some (last_set alias (connection log)))
+
+-- ---- together
+
+-- what is sent under Packet Identifiers; the causes of each exchange; QoS 2 messages that are received; subscriptions and their answers
+abbrev pub sending_burden : Role → Option Fate → List Seen → ℕ
+sending_burden role taken log = open_ids role taken log + delivering_ids log + void_ids role taken log + subscribing_ids log + unsubscribing_ids log
+
+abbrev pub exchange_burden : Role → Option Fate → List Seen → ℕ
+exchange_burden role taken log =
+    caused_ids publish_puback role taken log + caused_ids publish_pubrec role taken log + caused_ids pubrec_pubrel role taken log
+    + caused_ids pubrel_pubcomp role taken log + caused_ids subscribe_suback role taken log + caused_ids unsubscribe_unsuback role taken log
+
+abbrev pub release_burden : Role → Option Fate → List Seen → ℕ
+release_burden role taken log = brought_ids role taken log + released_ids role taken log
+
+abbrev pub subscription_burden : Role → Option Fate → List Seen → ℕ
+subscription_burden role taken log =
+    standing_count role taken log + asked_filters log + unanswered_ids unsubscribe_unsuback log + aliased_ids log
+
+-- what these events give the statements on sessions to keep, where the latest connection is taken to have this fate
+abbrev pub session_burden : Role → Option Fate → List Seen → ℕ
+session_burden role taken log = sending_burden role taken log + exchange_burden role taken log + release_burden role taken log + subscription_burden role taken log
+
+-- How much a log gives its watchers to keep: what the events up to the latest decided connection give the statements on sessions, the events of a connection that is
+-- undecided, and the Topic Aliases that were set on the open connection.
+unfoldable pub burden : Tested → List Seen → ℕ
+burden tested log = session_burden tested.role (latest_fate tested.role (settled tested.role log)) (settled tested.role log) + waiting tested.role log + aliases_sent log
