@@ -6,6 +6,7 @@ standard input of its own, and one where the wrong one is read gives the wrong a
 
 usage: bench/program.py [PROGRAM]      (crates/mq_cli/out/mq_cli if it is missing)
 """
+import gzip
 import os
 import subprocess
 import sys
@@ -43,11 +44,25 @@ NEAR_LINES = """\
 5 record 5 SENT PUBLISH size 9 qos 1 dup 0 id 1
   fault S01 MQTT-2.2.1-3 A new PUBLISH, SUBSCRIBE or UNSUBSCRIBE takes no Packet Identifier that is in use.
 """
-READ_FAILED = "mqjudge: read failed\n"
 WRITE_FAILED = "mqjudge: write failed\n"
 NOT_HEX = "mqjudge: not hex\n"
 NO_FILE = "mqjudge: --faults reads the log twice, so it needs a FILE, not standard input\n"
 NO_FAULTS = "mqjudge: --around needs --faults\n"
+CODES = (
+    [f"W{n:02}" for n in range(1, 22)]
+    + [f"C{n:02}" for n in range(1, 24)]
+    + [f"S{n:02}" for n in range(1, 8)]
+    + "E1A E1R E1O E2A E2R E2O E3A E3R E3O E4A E4R E5A E5R E6A E6R E7R L1 L2 L3 B01 B02 B03 B04".split()
+)
+NO_X99 = f"""\
+mqjudge: no statement X99
+mqjudge: there are {" ".join(CODES)}, and citations such as MQTT-4.4.0-1: see mqjudge rules
+"""
+NO_BROKER = "mqjudge: no role broker\nmqjudge: there are client and server\n"
+CAPTURE_HINT = "mqjudge: it is a capture: recorders/from-capture makes logs of it\n"
+GZIP_HINT = "mqjudge: it is compressed by gzip: unpack it first; of a capture recorders/from-capture makes logs\n"
+NOT_UTF8 = "a word isn't UTF-8; give a file of that name on standard input: mqjudge check < FILE"
+LONG_NAME = 300 * "x" + ".log"
 
 HELP = """\
 Judges the log of one end of an MQTT 5.0 session
@@ -59,7 +74,7 @@ Commands:
   show     Shows each event of a log
   packet   Says which packet some bytes are
   rules    Lists the statements
-  explain  Explains a statement
+  explain  Explains a statement, or those with a citation
   help     Print this message or the help of the given subcommand(s)
 
 Options:
@@ -133,12 +148,25 @@ For more information, try '--help'.
 """
 NO_OPERAND = """\
 error: the following required arguments were not provided:
-  <HEX>
+  <HEX>...
 
-Usage: mqjudge packet <HEX>
+Usage: mqjudge packet <HEX>...
 
 For more information, try '--help'.
 """
+
+
+def unread(place: str, reason: str) -> str:
+    """The lines on what can't be read."""
+    return f"mqjudge: read failed\nmqjudge: {place}: {reason}\n"
+
+
+def missing(path: str) -> str:
+    return unread(path, "there is no such file")
+
+
+def directory(place: str) -> str:
+    return unread(place, "it is a directory")
 
 
 @dataclass
@@ -152,7 +180,13 @@ class Run:
     stdin: bytes | Path = b""
 
 
+PCAP = b"\xd4\xc3\xb2\xa1\x02\x00\x04\x00" + 16 * b"\x00"
+FINE_PCAP = b"\x4d\x3c\xb2\xa1\x02\x00\x04\x00" + 16 * b"\x00"
+PCAPNG = b"\x0a\x0d\x0d\x0a\x1c\x00\x00\x00"
+GZIPPED = gzip.compress(GOOD)
+
 FILES = {"good.log": GOOD, "faulty.log": FAULTY, "nested.log": NESTED, "short.log": GOOD[:-1], "many.log": MANY, "-": FAULTY}
+FILES |= {"a.pcap": PCAP, "fine.pcap": FINE_PCAP, "a.pcapng": PCAPNG, "good.log.gz": GZIPPED, "short.gz": GZIPPED[:2], "two.log": b"MQ"}
 
 RUNS = [
     # A file is read, and not standard input.
@@ -188,18 +222,35 @@ RUNS = [
     Run(["show", "--faults", "-"], 3, errors=NO_FILE, stdin=Path("good.log")),
     Run(["show", "--around", "1", "good.log"], 3, errors=NO_FAULTS),
     Run(["show", "--faults", "--around", "x", "good.log"], 3, errors="mqjudge: no number x\n"),
+    # The file is taken for the number.
+    Run(["show", "--faults", "--around", "bad.log"], 3, errors="mqjudge: no number bad.log\n"),
     # What can't be opened or read.
-    Run(["check", "missing.log"], 4, errors=READ_FAILED, stdin=GOOD),
-    Run(["show", "missing.log"], 4, errors=READ_FAILED, stdin=GOOD),
-    Run(["show", "--faults", "missing.log"], 4, errors=READ_FAILED, stdin=GOOD),
-    Run(["show", "--faults", "."], 4, errors=READ_FAILED, stdin=GOOD),
+    Run(["check", "missing.log"], 4, errors=missing("missing.log"), stdin=GOOD),
+    Run(["show", "missing.log"], 4, errors=missing("missing.log"), stdin=GOOD),
+    Run(["show", "--faults", "missing.log"], 4, errors=missing("missing.log"), stdin=GOOD),
+    Run(["check", "é/missing.log"], 4, errors=missing("é/missing.log"), stdin=GOOD),
+    Run(["show", "--faults", "."], 4, errors=directory("."), stdin=GOOD),
     # (An empty word is a path too, of no file.)
-    Run(["check", ""], 4, errors=READ_FAILED, stdin=GOOD),
-    Run(["check", "."], 4, errors=READ_FAILED, stdin=GOOD),
-    Run(["show", "."], 4, errors=READ_FAILED, stdin=GOOD),
-    Run(["check"], 4, errors=READ_FAILED, stdin=Path(".")),
-    Run(["show"], 4, errors=READ_FAILED, stdin=Path(".")),
-    Run(["check", b"\xff.log"], 4, errors=READ_FAILED, stdin=GOOD),
+    Run(["check", ""], 4, errors=missing(""), stdin=GOOD),
+    Run(["check", "."], 4, errors=directory("."), stdin=GOOD),
+    Run(["show", "."], 4, errors=directory("."), stdin=GOOD),
+    Run(["check"], 4, errors=directory("standard input"), stdin=Path(".")),
+    Run(["show"], 4, errors=directory("standard input"), stdin=Path(".")),
+    Run(["check", "good.log/a"], 4, errors=unread("good.log/a", "part of its path isn't a directory"), stdin=GOOD),
+    Run(["check", LONG_NAME], 4, errors=unread(LONG_NAME, "its name is too long"), stdin=GOOD),
+    Run(["check", "loop.log"], 4, errors=unread("loop.log", "its symbolic links lead back to themselves"), stdin=GOOD),
+    Run(["check", b"\xff.log"], 4, errors=unread("the command line", NOT_UTF8), stdin=GOOD),
+    # Files that aren't logs.
+    Run(["check", "a.pcap"], 2, "refused 1 Header at 0\n", CAPTURE_HINT),
+    Run(["check"], 2, "refused 1 Header at 0\n", CAPTURE_HINT, stdin=Path("a.pcap")),
+    Run(["show", "a.pcapng"], 2, "refused 1 Header at 0\n", CAPTURE_HINT),
+    Run(["show", "--faults", "a.pcap"], 2, "refused 1 Header at 0\n", CAPTURE_HINT),
+    Run(["check", "fine.pcap"], 2, "refused 1 Header at 1\n", CAPTURE_HINT),
+    Run(["check", "good.log.gz"], 2, "refused 1 Header at 0\n", GZIP_HINT),
+    Run(["check", "--json", "-"], 2, '{"at":0,"name":"Header","refused":1}\n', GZIP_HINT, stdin=GZIPPED),
+    Run(["check", "short.gz"], 2, "refused 1 Header at 0\n", GZIP_HINT),
+    Run(["check", "two.log"], 2, "refused 10 Cut at 2\n"),
+    Run(["check"], 2, "refused 1 Header at 0\n", stdin=b"GET / HTTP/1.1"),
     # A packet's bytes are in the words.
     Run(["packet", "40020001"], 0, "PUBACK size 4 id 1\n", stdin=NESTED),
     Run(["packet", "41020001"], 1, "BAD W01 offset 0\n"),
@@ -207,6 +258,12 @@ RUNS = [
     Run(["packet", "4002000"], 3, errors=NOT_HEX),
     Run(["packet", "4002000g"], 3, errors=NOT_HEX),
     Run(["packet", "-"], 3, errors=NOT_HEX, stdin=b"40020001"),
+    Run(["packet", "40 02 00 01"], 0, "PUBACK size 4 id 1\n"),
+    Run(["packet", "40", "02", "00", "01"], 0, "PUBACK size 4 id 1\n"),
+    Run(["packet", "4", "0020001"], 3, errors=NOT_HEX),
+    # Words that name nothing.
+    Run(["explain", "X99"], 3, errors=NO_X99),
+    Run(["rules", "--role", "broker"], 3, errors=NO_BROKER),
     # Help and the version are for standard output, a misuse is for standard error.
     Run(["--help"], 0, HELP),
     Run(["help"], 0, HELP),
@@ -221,7 +278,7 @@ RUNS = [
     Run(["packet"], 3, errors=NO_OPERAND),
 ]
 
-# Where standard output takes nothing: the words.
+# Where standard output takes nothing: the words. On a full disk a line says so; a reader that has gone needs none.
 UNWRITTEN = [
     ["check", "good.log"],
     ["check", "faulty.log"],
@@ -233,6 +290,8 @@ UNWRITTEN = [
     ["show", "--faults", "nested.log"],
     ["packet", "40020001"],
     ["packet", "41020001"],
+    ["rules"],
+    ["explain", "S01"],
     ["--help"],
     ["--version"],
 ]
@@ -245,6 +304,7 @@ UNTOLD = [
     (["show", "--faults"], 4),
     (["check", "missing.log"], 4),
     (["check", "good.log"], 0),
+    (["check", "a.pcap"], 2),
 ]
 
 
@@ -316,6 +376,25 @@ def run_on(program: Path, words: list[str | bytes], stream: str, make: Callable[
     return process.returncode, (output + errors).decode()
 
 
+def unpermitted(program: Path) -> tuple[tuple, tuple]:
+    """What is found and what is wanted of a file that may not be read. The superuser may read any."""
+    path = Path("closed.log")
+    path.write_bytes(GOOD)
+    path.chmod(0)
+    wanted = (0, PASS, "") if os.access(path, os.R_OK) else (4, "", unread("closed.log", "permission to read it is denied"))
+    return run(program, ["check", "closed.log"], b""), wanted
+
+
+def cut_short(program: Path) -> tuple[tuple, tuple]:
+    """What is found and what is wanted where the reader of the output ends after its first line, as `head -n 1` does."""
+    process = start(program, ["show", "many.log"], stdin=subprocess.DEVNULL, stdout=subprocess.PIPE, stderr=subprocess.PIPE)
+    first = process.stdout.readline().decode()
+    process.stdout.close()
+    errors = process.stderr.read().decode()
+    process.stderr.close()
+    return (process.wait(SECONDS), first, errors), (4, "1 record 1 OPEN\n", "")
+
+
 def main() -> int:
     program = Path(sys.argv[1] if len(sys.argv) > 1 else PROGRAM).resolve()
     tally = Tally()
@@ -323,16 +402,20 @@ def main() -> int:
         os.chdir(folder)
         for name, data in FILES.items():
             Path(name).write_bytes(data)
+        Path("loop.log").symlink_to("loop.log")
         for case in RUNS:
             found = run(program, case.words, case.stdin)
             tally.compare(f"{case.words}", found, (case.status, case.output, case.errors))
+        tally.compare("a file that may not be read", *unpermitted(program))
+        tally.compare("a reader that ends", *cut_short(program))
         for make in (full_disk, closed_pipe):
             for words in UNWRITTEN:
                 found = run_on(program, words, "stdout", make)
-                tally.compare(f"{words} with standard output on a {make.__name__}", (found[0], "", found[1]), (4, "", WRITE_FAILED))
+                said = WRITE_FAILED if make is full_disk else ""
+                tally.compare(f"{words} with standard output on a {make.__name__}", (found[0], "", found[1]), (4, "", said))
             for words, status in UNTOLD:
                 found = run_on(program, words, "stderr", make)
-                output = PASS if status == 0 else ""
+                output = {0: PASS, 2: "refused 1 Header at 0\n"}.get(status, "")
                 tally.compare(f"{words} with standard error on a {make.__name__}", (*found, ""), (status, output, ""))
         os.chdir(HERE)
     print(f"{tally.passed} passed, {tally.failed} failed")

@@ -192,7 +192,7 @@ class Printed(Case):
         self.assertEqual((status, printed.splitlines()), (0, ["", wanted[-1]]))
 
     def test_files_that_are_named_and_are_no_logs(self) -> None:
-        self.program.write_text("#!/bin/sh\necho refused 1 Header at 0\nexit 2\n")
+        self.program.write_text("#!/bin/sh\necho refused 1 Header at 0\necho mqjudge: it is a file >&2\nexit 2\n")
         others = {b"\xd4\xc3\xb2\xa1": "it is a capture: recorders/from-capture makes logs of it"}
         others |= {b"\x0a\x0d\x0d\x0a": others[b"\xd4\xc3\xb2\xa1"]}
         others |= {b"\x1f\x8b\x08\0": "it is compressed by gzip: unpack it first"}

@@ -17,6 +17,7 @@ from judging.verdict import FAILED, FAULTS, REFUSED, Verdict
 STATUSES = (0, 1, 2, 4)
 CUT = "refused 10 Cut "
 NO_LOG = "refused 1 Header "
+HINT = "mqjudge: it is "  # what the program says beside that of some files: `what_else` says it of them
 HEADER, RECORD_HEADER = 8, 5  # sizes in bytes (docs/LOG_FORMAT.md)
 CHUNK = 1 << 20
 AROUND = 2  # events before and after a fault that are shown
@@ -80,8 +81,10 @@ class Judge:
             child = self._start("check", os.path.abspath(log), errors=subprocess.STDOUT)
             with child:
                 assert child.stdout is not None
-                for line in child.stdout:
-                    verdict.take(line.decode("utf-8", "replace").rstrip("\r\n"), self._most)
+                for raw in child.stdout:
+                    line = raw.decode("utf-8", "replace").rstrip("\r\n")
+                    if not line.startswith(HINT):
+                        verdict.take(line, self._most)
             self._ended(child)
             verdict.status = child.returncode
         except OSError as error:

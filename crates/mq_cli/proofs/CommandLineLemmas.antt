@@ -1,5 +1,5 @@
 -- Words in which the definition finds no fault name a subcommand.
-use Rattle.std.proofs.Common.{◌≡◌, ◌∙◌, ◌&&◌, ◌||◌, Bool, true, false, true≢false, not, cond, refl, sym, ap, ap₂, subst, ◌⊎◌, ℕ, suc, arith, inl, inr, Result, Ok, Err, IfOk, MatchResult, List, [], ◌∷◌, fold, Option, Some, None, is_some, codes, option_map, unwrap_or}
+use Rattle.std.proofs.Common.{◌≡◌, ◌∙◌, ◌&&◌, ◌||◌, Bool, true, false, true≢false, not, cond, refl, sym, ap, ap₂, subst, ◌⊎◌, ℕ, suc, arith, inl, inr, Result, Ok, Err, IfOk, MatchResult, List, [], ◌∷◌, fold, Option, Some, None, IsSomeAnd, is_some, codes, option_map, unwrap_or}
 use Rattle.std.specs.Str.{bytes_eq}
 use Rattle.std.specs.List.{Any}
 use Rattle.std.proofs.lemmas.Slice.Eq.{bytes_eq-Decides}
@@ -7,8 +7,8 @@ use Rattle.std.proofs.lemmas.Bool.{false_from_ne_true}
 use Rattle.clap.specs.Walk.{Held, Names, Outcome, Row, Rule, Step, Text, Waiting, Walk, after_flag, after_step, answers_to, arg_by_index, arg_by_long, bundle, done, idle, long_met, long_or_other, next, nothing_held, finished, settled, option, plain, plain_word, positional, refused, short_or_plain, subcommand, subcommand_met, subcommand_or_other, to_positional, trailing, value, waits, walk, walk_from, walked, walked_from, word_met}
 use Rattle.clap.specs.Lexer.{long_of, short_of}
 use Rattle.clap.specs.Simple.{Shape, argument_words, built, entered, names_of, rows_at, subcommand_of}
-use Rattle.clap.specs.Words.{first_value, found_of, kind_of, rows_of, subcommand_name_of, subcommand_rows, subcommand_rows_of}
-use Rattle.clap.proofs.WalkLemmas.{first_value-rows}
+use Rattle.clap.specs.Words.{first_value, found_of, kind_of, matched_of, raw_values, rows_of, subcommand_name_of, subcommand_rows, subcommand_rows_of}
+use Rattle.clap.proofs.WalkLemmas.{first_value-rows, raw_values-rows}
 use Rattle.clap.specs.declared.parser.matches.ArgMatches.{ArgMatches}
 use Rattle.clap.specs.declared.parser.matches.ArgMatches.TheViews.{out-ArgMatches, out-SubCommand}
 use Rattle.clap.specs.declared.parser.matches.SubCommand.{SubCommand}
@@ -21,7 +21,8 @@ use Rattle.mq_cli.specs.declared.command_line.EarlyExit.{EarlyExit}
 use Rattle.mq_cli.specs.declared.command_line.EarlyExit.TheVariants.{Help, Memory, Usage}
 use Rattle.clap.specs.Kinds.{FailsBy, HasKind, IsAmong, Kinds, or_else}
 use Rattle.clap.specs.Faults.{defaults_fault, turn_fault, walk_fault, word_fault, step_fault, entered_fault, settle_fault, check_fault, other_fault}
-use Rattle.mq_cli.specs.CommandLine.{IsHelpOrVersion, StopsFor, check_request, explain_request, word_faults, is_true, mqjudge, packet_request, request_in, request_of, rules_request, show_request}
+use Rattle.clap.specs.declared.builder.range.ValueRange.{ValueRange}
+use Rattle.mq_cli.specs.CommandLine.{several, IsHelpOrVersion, StopsFor, check_request, explain_request, word_faults, is_true, mqjudge, packet_request, request_in, request_of, rules_request, show_request}
 
 -- ---- lists of kinds
 
@@ -258,10 +259,10 @@ request_is_show words m shown same named rows =
     (ap is_true (sym (first_value-rows (found_of shown) (codes "faults")))) (sym (first_value-rows (found_of shown) (codes "N")))
 
 pub request_is_packet : (words : List Text) (m packet : ArgMatches) → subcommand_rows_of m ≡ subcommand_of mqjudge words → subcommand_name_of m ≡ Some (codes "packet")
-    → option_map (λ p. p.1) (subcommand_rows_of m) ≡ Some (rows_of (found_of packet)) → request_of words ≡ Some (packet_request (first_value (found_of packet) (codes "HEX")))
+    → option_map (λ p. p.1) (subcommand_rows_of m) ≡ Some (rows_of (found_of packet)) → request_of words ≡ Some (packet_request (option_map raw_values (matched_of (found_of packet) (codes "HEX"))))
 request_is_packet words m packet same named rows =
     ap (option_map request_in) (met_by words m packet (codes "packet") same named rows)
-    ∙ ap (λ (f : Option Text). Some (packet_request f)) (sym (first_value-rows (found_of packet) (codes "HEX")))
+    ∙ ap (λ (f : Option (List Text)). Some (packet_request f)) (sym (raw_values-rows (found_of packet) (codes "HEX")))
 
 pub request_is_rules : (words : List Text) (m listed : ArgMatches) → subcommand_rows_of m ≡ subcommand_of mqjudge words → subcommand_name_of m ≡ Some (codes "rules")
     → option_map (λ p. p.1) (subcommand_rows_of m) ≡ Some (rows_of (found_of listed)) → request_of words ≡ Some (rules_request (first_value (found_of listed) (codes "role")))
@@ -303,3 +304,10 @@ StopsFor-misused error stop (Ok t) misused not_memory is kinds (inr h) = subst (
 pub taken-faultless : {T : Type 0} (kinds : Kinds) (r : Result T Error) → FailsBy kinds r → IfOk r (λ _. kinds ≡ [])
 taken-faultless kinds (Ok matches) h = h
 taken-faultless kinds (Err error) h = tt
+
+-- ---- how many values
+
+-- a range that was made of `1..`
+pub range_is_several : (range : Option ValueRange) → IsSomeAnd range (λ r. r ≡ several) → range ≡ Some several
+range_is_several None h = absurd h
+range_is_several (Some r) h = ap Some h

@@ -3,3 +3,5 @@ pub mod ExplainingLemmas
 pub mod ProgramLemmas
 pub mod ReviewingLemmas
 pub mod MessageLaws
+pub mod StreamLaws
+pub mod BeginningLaws

@@ -2,6 +2,8 @@
 use Rattle.std.proofs.Common.{◌≡◌, ℕ, List, [], append-nil, Option, Some, None, Result, Ok, Err, IfErr, IfOk, IfSome, OnOk, ◌⊎◌, refl, subst, sym, inl, inr, ◌∙◌}
 use Rattle.std.proofs.KnownBytes.{Appends-kept, Keeps-refl}
 use Rattle.std.specs.Io.KnownBytes.{Appends, Keeps}
+use Rattle.std.specs.Prelude.{String, string_bytes}
+use Rattle.std.specs.declared.alloc.Global.{Global}
 use Rattle.mq_trace.specs.Events.{Placed, events}
 use Rattle.mq_trace.specs.Writing.{AppendsBeginning}
 use Rattle.mq_judge.specs.declared.Form.{Form}
@@ -15,7 +17,15 @@ use Rattle.mq_judge.specs.Runner.{RunsOver, default_limit}
 use Rattle.mq_judge.specs.Display.{Shows}
 use Rattle.mq_judge.specs.Stopping.{IsRefusedAt, IsRefusedNext, IsUnread}
 use Rattle.mq_trace.proofs.Exports.{appends-kept, appends-then}
-use Rattle.mq_cli.specs.Messages.{AppendsAfter, AppendsPart, BeginsRefusal, IsOfLog, LacksJsonMemory, IsRefusedBy, RefusesCheck, RefusesShow, StopsCheck, StopsShow, failure_of}
+use Rattle.mq_cli.specs.declared.command_line.Task.{Task}
+use Rattle.mq_cli.specs.declared.command_line.Task.TheVariants.{Check, Show, Packet, Rules, Explain}
+use Rattle.mq_cli.specs.declared.failure.Obstacle.{Obstacle}
+use Rattle.mq_cli.specs.declared.failure.Obstacle.TheVariants as obstacles
+use Rattle.mq_cli.specs.declared.misuse.Misuse.{Misuse}
+use Rattle.mq_cli.specs.Citing.{explained_for}
+use Rattle.mq_cli.specs.Listing.{listed_for}
+use Rattle.mq_cli.specs.Messages.{AppendsAfter, BeginsRefusal, IsOfLog, LacksJsonMemory, IsRefusedBy, RefusesCheck, RefusesShow, StopsCheck, StopsShow, failure_of, FailsMisnamed, IsMisnamed, StopsAttempt, StopsTask, StopsText, misnamed_line}
+use Rattle.mq_cli.specs.Streams.{AppendsPart, IsCutOff, IsTold, Stream, failure_line, misuse_line, no_role_line, no_statement_line}
 use Rattle.mq_cli.specs.declared.failure.Failure.{Failure}
 use Rattle.mq_cli.specs.declared.failure.Failure.TheVariants as failures
 
@@ -52,6 +62,44 @@ pub whole_is_begun : {E : Type 0} (old middle new : Option (List ℕ)) (text : L
     → IfErr status (λ _. AppendsPart old new text)
 whole_is_begun old middle new text (Ok s) a k = tt
 whole_is_begun old middle new text (Err e) a k = part-whole old new text (Appends-kept old middle new text a k)
+
+-- ---- what keeps a task from being done is what keeps its text from being written
+
+pub rules_stop : (word : String Global) (input left old new : Option (List ℕ)) (status : Result ℕ Obstacle)
+    → IfErr status (StopsText (listed_for (Some (string_bytes word))) (no_role_line (string_bytes word)) old new)
+    → IfErr status (StopsAttempt (Rules (Some word)) input left old new)
+rules_stop word input left old new (Ok s) h = tt
+rules_stop word input left old new (Err (obstacles.Failed failure)) h = h
+rules_stop word input left old new (Err (obstacles.Misused misuse)) h = h
+
+pub explanation_stops : (code : String Global) (input left old new : Option (List ℕ)) (status : Result ℕ Obstacle)
+    → IfErr status (StopsText (explained_for (string_bytes code)) (no_statement_line (string_bytes code)) old new)
+    → IfErr status (StopsAttempt (Explain code) input left old new)
+explanation_stops code input left old new (Ok s) h = tt
+explanation_stops code input left old new (Err (obstacles.Failed failure)) h = h
+explanation_stops code input left old new (Err (obstacles.Misused misuse)) h = h
+
+-- ---- what is asked for in vain
+
+-- it is the task's message
+pub misuse_printed : (task : Task) (misuse : Misuse) (old new : Option (List ℕ)) → IsMisnamed task → misuse_line misuse ≡ misnamed_line task
+    → Appends old new (misuse_line misuse) → IsMisnamed task × Appends old new (misnamed_line task)
+misuse_printed task misuse old new misnamed same printed = (misnamed, subst (λ (line : List ℕ). Appends old new line) same printed)
+
+-- memory may run out for it
+memory_stops : (task : Task) (input left old new : Option (List ℕ)) → IsMisnamed task → Keeps old new → StopsTask failures.Memory task input left old new
+memory_stops (Check file json summary) input left old new misnamed kept = absurd misnamed
+memory_stops (Show file long) input left old new misnamed kept = absurd misnamed
+memory_stops (Packet hex) input left old new misnamed kept = kept
+memory_stops (Rules role) input left old new misnamed kept = kept
+memory_stops (Explain code) input left old new misnamed kept = kept
+
+pub misuse_fails : (task : Task) (misuse : Misuse) (input left old new : Option (List ℕ)) (error : Stream) → IsMisnamed task → misuse_line misuse ≡ misnamed_line task
+    → Keeps old new → IsCutOff error (misuse_line misuse) ⊎ IsTold error (failure_line failures.Memory)
+    → (StopsTask failures.Memory task input left old new × IsTold error (failure_line failures.Memory)) ⊎ FailsMisnamed task old new error
+misuse_fails task misuse input left old new error misnamed same kept (inl cut) =
+    inr (record { misnamed = misnamed; unwritten = kept; printed = subst (λ (line : List ℕ). IsCutOff error line) same cut })
+misuse_fails task misuse input left old new error misnamed same kept (inr told) = inl (memory_stops task input left old new misnamed kept, told)
 
 -- ---- refusals
 

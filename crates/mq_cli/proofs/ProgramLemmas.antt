@@ -1,9 +1,116 @@
--- What holds of the words that a host gave.
-use Rattle.std.proofs.Common.{◌≡◌, ◌∙◌, List, map, Option, Some, None, IfSome, ap, subst}
+-- What holds of the words that a host gave, and of the log of a task.
+use Rattle.std.proofs.Common.{◌≡◌, ◌∙◌, ◌⊎◌, inl, inr, Bool, true, ℕ, List, map, Option, Some, None, Result, Ok, Err, IfSome, IsOkAnd, ap, codes, refl, subst, sym}
+use Rattle.std.specs.Io.KnownBytes.{Keeps}
 use Rattle.clap.specs.Words.{Text}
+use Rattle.mq_cli.specs.declared.command_line.Task.{Task}
+use Rattle.mq_cli.specs.declared.command_line.Task.TheVariants.{Check, Show, Packet, Rules, Explain}
+use Rattle.mq_cli.specs.declared.command_line.Work.{Work}
+use Rattle.mq_cli.specs.declared.command_line.Work.TheVariants.{Once, Twice}
+use Rattle.mq_cli.specs.declared.failure.Failure.{Failure}
+use Rattle.mq_cli.specs.declared.failure.Failure.TheVariants as failures
+use Rattle.mq_cli.specs.declared.trouble.Trouble.TheVariants as troubles
+use Rattle.mq_cli.specs.CommandLine.{path_of, reads_log}
+use Rattle.mq_cli.specs.Given.{Given, bytes_at}
+use Rattle.mq_cli.specs.Messages.{FailsMisnamed, StopsCheck, StopsShow, StopsTask, form_of, text_for}
+use Rattle.mq_cli.specs.Program.{FailsLog, FailsRead, FailsTaskOn, IsHinted, Refuses, RefusesWork, input_of}
+use Rattle.mq_cli.specs.Reviewing.{Plan, RefusesPlan, plan_of}
+use Rattle.mq_cli.specs.Streams.{IsTold, Stream, failure_line}
+use Rattle.mq_cli.specs.Troubles.{failure_in, place_of}
+use Rattle.mq_cli.proofs.BeginningLaws.{hinted_of_kept}
 
 -- what holds of the words that were read holds of those that are known
 pub known_words : {A : Type 0} (text : A → Text) (known : Option (List Text)) (read slice : List A) (P : List Text → Type 0)
     → IfSome known (λ words. map text read ≡ words) → slice ≡ read → P (map text slice) → IfSome known P
 known_words text None read slice P given same h = tt
 known_words text (Some words) read slice P given same h = subst P (ap (map text) same ∙ given) h
+
+-- ---- the log of a task
+
+-- a task that names a path reads the log there
+pub path_reads : (task : Task) (path : Text) → path_of task ≡ Some path → reads_log task ≡ true
+path_reads (Check file json summary) path named = refl
+path_reads (Show file long) path named = refl
+path_reads (Packet hex) path named = cc
+path_reads (Rules role) path named = cc
+path_reads (Explain code) path named = cc
+
+-- ---- what a reader gives of a log is the log
+
+known_kept : (log read : Option (List ℕ)) (P : List ℕ → Type 0) → Keeps log read → IfSome read P → IfSome log P
+known_kept None read P k h = tt
+known_kept (Some bytes) None P k h = absurd k
+known_kept (Some bytes) (Some same) P k h = subst P k h
+
+stops_kept : (failure : Failure) (task : Task) (log read left old new : Option (List ℕ)) → Keeps log read → StopsTask failure task read left old new
+    → StopsTask failure task log left old new
+stops_kept failure (Check file json summary) log read left old new k h =
+    known_kept log read (λ bytes. StopsCheck (form_of json summary) failure bytes left old new) k h
+stops_kept failure (Show file long) log read left old new k h = known_kept log read (λ bytes. StopsShow (text_for long) failure bytes left old new) k h
+stops_kept failure (Packet hex) log read left old new k h = h
+stops_kept failure (Rules role) log read left old new k h = h
+stops_kept failure (Explain code) log read left old new k h = h
+
+fails_kept : (task : Task) (place : Text) (log read old new : Option (List ℕ)) (is_closed : Bool) (error : Stream) → Keeps log read
+    → FailsTaskOn task place read is_closed old new error → FailsTaskOn task place log is_closed old new error
+fails_kept task place log read old new is_closed error k (inl fails) = inl (record {
+  left = fails.left;
+  trouble = fails.trouble;
+  stops = stops_kept (failure_in fails.trouble) task log read fails.left old new k fails.stops;
+  told = fails.told;
+})
+fails_kept task place log read old new is_closed error k (inr misnamed) = inr misnamed
+
+log_fails_kept : (task : Task) (place : Text) (log read old new : Option (List ℕ)) (is_closed : Bool) (error : Stream) → Keeps log read
+    → FailsLog task place read is_closed old new error → FailsLog task place log is_closed old new error
+log_fails_kept task place log read old new is_closed error k (inl unbegun) = inl unbegun
+log_fails_kept task place log read old new is_closed error k (inr fails) = inr (fails_kept task place log read old new is_closed error k fails)
+
+-- ---- the log that a task names
+
+-- what was said of a file is said of what it names
+pub file_hinted : (given : Given) (task : Task) (path : Text) (read : Option (List ℕ)) (error : Stream) → Some path ≡ path_of task → Keeps (given.file path) read
+    → IsHinted read error → IsHinted (input_of given task) error
+file_hinted given task path read error named k h =
+    hinted_of_kept (input_of given task) read error (subst (λ (p : Option Text). Keeps (bytes_at given p) read) named k) h
+
+-- it failed on a file
+pub file_fails : (given : Given) (task : Task) (path : Text) (read old new : Option (List ℕ)) (is_closed : Bool) (error : Stream) → Some path ≡ path_of task
+    → Keeps (given.file path) read → FailsLog task path read is_closed old new error → FailsRead given task is_closed old new error
+file_fails given task path read old new is_closed error named k fails =
+    let kept : FailsLog task path (given.file path) is_closed old new error = log_fails_kept task path (given.file path) read old new is_closed error k fails in
+    inr (inl (
+      path_reads task path (sym named),
+      subst (λ (p : Option Text). FailsLog task (place_of p) (bytes_at given p) is_closed old new error) named kept,
+    ))
+
+-- it failed on standard input
+pub input_fails : (given : Given) (task : Task) (read old new : Option (List ℕ)) (is_closed : Bool) (error : Stream) → None ≡ path_of task → reads_log task ≡ true
+    → Keeps given.standard read → FailsLog task (codes "standard input") read is_closed old new error → FailsRead given task is_closed old new error
+input_fails given task read old new is_closed error named reads k fails =
+    let place = codes "standard input" in
+    let kept : FailsLog task place given.standard is_closed old new error = log_fails_kept task place given.standard read old new is_closed error k fails in
+    inr (inl (reads, subst (λ (p : Option Text). FailsLog task (place_of p) (bytes_at given p) is_closed old new error) named kept))
+
+-- ---- what failed
+
+-- what a task asks for can't be done, and that can't be said
+pub misuse_stops : (task : Task) (place : Text) (log left old new : Option (List ℕ)) (is_closed : Bool) (error : Stream)
+    → (StopsTask failures.Memory task log left old new × IsTold error (failure_line failures.Memory)) ⊎ FailsMisnamed task old new error
+    → FailsTaskOn task place log is_closed old new error
+misuse_stops task place log left old new is_closed error (inl (stops, told)) = inl (record { left = left; trouble = troubles.Memory; stops = stops; told = told })
+misuse_stops task place log left old new is_closed error (inr misnamed) = inr misnamed
+
+-- ---- a refused log
+
+-- whatever the log is, no more is said than the line on its first bytes
+planned_hint : (given : Given) (plan : Result Plan Text) (old new : Option (List ℕ)) (error : Stream)
+    → IsOkAnd plan (λ p. IfSome (given.file p.path) (λ log. RefusesPlan p log log old new) × IsHinted (given.file p.path) error) → IsHinted None error
+planned_hint given (Ok plan) old new error h = record { start = h.1.start; shows = tt; told = h.1.told }
+planned_hint given (Err line) old new error h = absurd h
+
+work_hint : (work : Work) (given : Given) (old new : Option (List ℕ)) (error : Stream) → RefusesWork given work old new error → IsHinted None error
+work_hint (Once task) given old new error h = record { start = h.1.start; shows = tt; told = h.1.told }
+work_hint (Twice review) given old new error h = planned_hint given (plan_of review) old new error h
+
+pub refusal_hint : (words : List Text) (given : Given) (old new : Option (List ℕ)) (error : Stream) → Refuses words given old new error → IsHinted None error
+refusal_hint words given old new error h = work_hint h.0 given old new error h.2

@@ -19,7 +19,10 @@ use Rattle.mq_judge.specs.Display.{annotated}
 use Rattle.mq_judge.specs.Stopping.{IsRefusedAt}
 use Rattle.mq_cli.specs.declared.failure.Failure.{Failure}
 use Rattle.mq_cli.specs.declared.failure.Failure.TheVariants as failures
-use Rattle.mq_cli.specs.Program.{Given, StopsFile}
+use Rattle.mq_cli.specs.declared.trouble.Trouble.{Trouble}
+use Rattle.mq_cli.specs.Program.{FailsReaders, StopsReaders}
+use Rattle.mq_cli.specs.Streams.{Stream}
+use Rattle.mq_cli.specs.Troubles.{Tells, failure_in}
 use Rattle.mq_cli.specs.Reviewing.{IfBoth, IsReviewed, Plan, RefusesPlan, StopsJudging, StopsPlan, count_of, is_count, reviewed}
 use Rattle.mq_cli.specs.Messages.{BeginsRefusal, IsOfLog, LacksJsonMemory, RefusesCheck, RefusesShow, StopsShow, failure_of}
 use Rattle.mq_cli.proofs.MessageLaws.{own_refusal, part-kept, refusal_is_printed}
@@ -155,20 +158,48 @@ judging_stops plan judged shown left shown_left old new refusal (Err failure) st
 
 -- ---- a file that was opened twice
 
-pub file_is_refused : {E : Type 0} (file judged shown old new : Option (List ℕ)) (plan : Plan) (status : Result ℕ E) → Keeps file judged → Keeps file shown
-    → IfOk status (λ s. s ≡ 2 → IfBoth judged shown (λ first second. RefusesPlan plan first second old new))
-    → IfOk status (λ s. s ≡ 2 → IfSome file (λ log. RefusesPlan plan log log old new))
-file_is_refused file judged shown old new plan (Err e) k l refused = tt
-file_is_refused file judged shown old new plan (Ok s) k l refused = λ is. for_file file judged shown (λ first second. RefusesPlan plan first second old new) k l (refused is)
+-- both readings of a file stop as readings of its bytes
+for_file_twice : (file judged shown : Option (List ℕ)) (R : List ℕ → List ℕ → Type 0) → Keeps file judged → Keeps file shown → IfBoth judged shown R → IfBoth file file R
+for_file_twice None judged shown R k l h = tt
+for_file_twice (Some log) judged shown R k l h = for_file (Some log) judged shown R k l h
 
-pub file_stops : (given : Given) (plan : Plan) (judged shown judged_left shown_left old new : Option (List ℕ)) (status : Result ℕ Failure)
-    → Keeps (given.file plan.path) judged → Keeps (given.file plan.path) shown
-    → IfErr status (λ failure. IfBoth judged shown (λ first second. StopsPlan plan failure first second judged_left shown_left old new))
-    → IfErr status (λ failure. StopsFile given plan failure old new)
-file_stops given plan judged shown judged_left shown_left old new (Ok s) k l stops = tt
-file_stops given plan judged shown judged_left shown_left old new (Err failure) k l stops =
-    inr (
-      judged_left,
-      shown_left,
-      for_file (given.file plan.path) judged shown (λ first second. StopsPlan plan failure first second judged_left shown_left old new) k l stops,
-    )
+pub file_stops : (plan : Plan) (file judged shown old new : Option (List ℕ)) (is_closed : Bool) (error : Stream) → Keeps file judged → Keeps file shown
+    → FailsReaders plan judged shown is_closed old new error → FailsReaders plan file file is_closed old new error
+file_stops plan file judged shown old new is_closed error k l (inl unbegun) = inl unbegun
+file_stops plan file judged shown old new is_closed error k l (inr stops) = inr (record {
+  judged_left = stops.judged_left;
+  shown_left = stops.shown_left;
+  trouble = stops.trouble;
+  stops = for_file_twice file judged shown (λ first second. StopsPlan plan (failure_in stops.trouble) first second stops.judged_left stops.shown_left old new) k l stops.stops;
+  told = stops.told;
+})
+
+-- both readings stop where the readers that were made of them do
+pub readers_stop : (plan : Plan) (judged shown first second judged_left shown_left old new : Option (List ℕ)) (is_closed : Bool) (error : Stream)
+    (failure : Failure) (trouble : Trouble) → first ≡ judged → second ≡ shown → failure_in trouble ≡ failure
+    → IfBoth first second (λ x y. StopsPlan plan failure x y judged_left shown_left old new) → Tells is_closed plan.path trouble error
+    → StopsReaders plan judged shown is_closed old new error
+readers_stop plan judged shown first second judged_left shown_left old new is_closed error failure trouble one other same stops told = record {
+  judged_left = judged_left;
+  shown_left = shown_left;
+  trouble = trouble;
+  stops = rw (sym one, sym other, same) stops;
+  told = told;
+}
+
+-- what holds of a log whose first bytes were read holds of all of it
+pub rejoin_both : (old judged shown : Option (List ℕ)) (R : List ℕ → List ℕ → Type 0) → Keeps old judged → IfBoth judged shown R → IfBoth old shown R
+rejoin_both None judged shown R k h = tt
+rejoin_both (Some log) None shown R k h = absurd k
+rejoin_both (Some log) (Some first) None R k h = tt
+rejoin_both (Some log) (Some first) (Some second) R k h = subst (λ x. R x second) k h
+
+pub rejoin_stops : (plan : Plan) (old judged shown out_old out_new : Option (List ℕ)) (is_closed : Bool) (error : Stream) → Keeps old judged
+    → StopsReaders plan judged shown is_closed out_old out_new error → StopsReaders plan old shown is_closed out_old out_new error
+rejoin_stops plan old judged shown out_old out_new is_closed error k stops = record {
+  judged_left = stops.judged_left;
+  shown_left = stops.shown_left;
+  trouble = stops.trouble;
+  stops = rejoin_both old judged shown (λ first second. StopsPlan plan (failure_in stops.trouble) first second stops.judged_left stops.shown_left out_old out_new) k stops.stops;
+  told = stops.told;
+}

@@ -2,11 +2,14 @@
 use Rattle.std.specs.Prelude.{◌≡◌, ◌⊎◌, Bool, true, false, if◌then◌else◌, List, [], Option, Some, None, codes, option_map, string_bytes, unwrap_or, IsSome, ⊤}
 use Rattle.std.specs.Str.{bytes_eq}
 use Rattle.std.specs.List.{Any}
-use Rattle.clap.specs.Words.{App, Kinds, Row, Rule, Text, fault_of, first_of, new_app, new_rule, subcommand_of, with_rule, with_subcommand}
+use Rattle.clap.specs.Words.{App, Kinds, Row, Rule, Text, all_of, fault_of, first_of, new_app, new_rule, subcommand_of, with_rule, with_subcommand}
+use Rattle.clap.specs.Lexer.{usize_max}
+use Rattle.clap.specs.declared.builder.range.ValueRange.{ValueRange}
 use Rattle.clap.specs.Simple.{on_top}
 use Rattle.clap.specs.declared.builder.action.ArgAction.TheVariants.{SetTrue}
 use Rattle.clap.specs.declared.error.kind.ErrorKind.{ErrorKind}
 use Rattle.clap.specs.declared.error.kind.ErrorKind.TheVariants.{DisplayHelp, DisplayVersion}
+use Rattle.mq_cli.specs.Digits.{spaced}
 use Rattle.mq_cli.specs.declared.command_line.Work.{Work}
 use Rattle.mq_cli.specs.declared.command_line.Work.TheVariants.{Once, Twice}
 use Rattle.mq_cli.specs.declared.command_line.Task.{Task}
@@ -31,9 +34,13 @@ abbrev pub show_command : App
 show_command = with_rule (with_rule (with_rule (with_rule (new_app (codes "show")) (new_rule (codes "FILE"))) (flag (codes "long"))) (flag (codes "faults")))
     around_option
 
--- `packet HEX`
+-- one value or more
+abbrev pub several : ValueRange
+several = record { start_inclusive = 1; end_inclusive = usize_max }
+
+-- `packet HEX..`
 abbrev pub packet_command : App
-packet_command = with_rule (new_app (codes "packet")) (record (new_rule (codes "HEX")) { required = true })
+packet_command = with_rule (new_app (codes "packet")) (record (new_rule (codes "HEX")) { range = Some several; required = true })
 
 -- `rules [--role ROLE]`
 abbrev pub rules_command : App
@@ -81,15 +88,19 @@ check_request file json summary = record (plain_request (codes "check") file) { 
 abbrev pub show_request : Option Text → (long faults : Bool) → (around : Option Text) → Request
 show_request file long faults around = record (plain_request (codes "show") file) { long = long; faults = faults; around = around }
 
--- `packet` on these digits; the operand is required
-abbrev pub packet_request : Option Text → Request
-packet_request hex = plain_request (codes "packet") (Some (unwrap_or hex []))
+-- `packet` on these digits
+abbrev pub digits_request : Text → Request
+digits_request hex = plain_request (codes "packet") (Some hex)
+
+-- `packet` on the digits in these words, with a space between two; at least one is required
+abbrev pub packet_request : Option (List Text) → Request
+packet_request words = digits_request (spaced (unwrap_or words []))
 
 -- `rules` for the end that this word names
 abbrev pub rules_request : Option Text → Request
 rules_request role = record (plain_request (codes "rules") None) { role = role }
 
--- `explain` of this code; the operand is required
+-- `explain` of this code or citation; the operand is required
 abbrev pub explain_request : Option Text → Request
 explain_request code = plain_request (codes "explain") (Some (unwrap_or code []))
 
@@ -103,7 +114,7 @@ abbrev pub request_in : Text × List Row → Request
 request_in met = if bytes_eq met.0 (codes "check") then check_request (first_of (codes "FILE") met.1) (is_true (first_of (codes "json") met.1)) (is_true (first_of (codes "summary") met.1))
     else (if bytes_eq met.0 (codes "show") then show_request (first_of (codes "FILE") met.1) (is_true (first_of (codes "long") met.1))
     (is_true (first_of (codes "faults") met.1)) (first_of (codes "N") met.1)
-    else (if bytes_eq met.0 (codes "packet") then packet_request (first_of (codes "HEX") met.1)
+    else (if bytes_eq met.0 (codes "packet") then packet_request (all_of (codes "HEX") met.1)
     else (if bytes_eq met.0 (codes "rules") then rules_request (first_of (codes "role") met.1)
     else explain_request (first_of (codes "CODE") met.1))))
 
@@ -119,7 +130,7 @@ word_faults words = fault_of mqjudge words
 abbrev pub request_by : Work → Request
 request_by (Once (Check file json summary)) = check_request (option_map string_bytes file) json summary
 request_by (Once (Show file long)) = show_request (option_map string_bytes file) long false None
-request_by (Once (Packet hex)) = packet_request (Some (string_bytes hex))
+request_by (Once (Packet hex)) = digits_request (string_bytes hex)
 request_by (Once (Rules role)) = rules_request (option_map string_bytes role)
 request_by (Once (Explain code)) = explain_request (Some (string_bytes code))
 request_by (Twice review) = show_request (option_map string_bytes review.file) review.long review.faults (option_map string_bytes review.around)
@@ -152,3 +163,11 @@ path_of (Show file long) = path_named (option_map string_bytes file)
 path_of (Packet hex) = None
 path_of (Rules role) = None
 path_of (Explain code) = None
+
+-- a task reads a log: others need no input
+abbrev pub reads_log : Task → Bool
+reads_log (Check file json summary) = true
+reads_log (Show file long) = true
+reads_log (Packet hex) = false
+reads_log (Rules role) = false
+reads_log (Explain code) = false

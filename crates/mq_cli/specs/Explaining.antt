@@ -5,7 +5,6 @@ use Rattle.std.specs.List.{find}
 use Rattle.std.specs.Option.{option_or}
 use Rattle.mq_rules.specs.declared.rule.Rule.{Rule}
 use Rattle.mq_rules.specs.Rules.{same_rule}
-use Rattle.mq_rules.specs.Naming.{coded_rule}
 use Rattle.mq_cli.specs.declared.explanations.TheConstants.{PACKETS, CONNECTIONS, SESSIONS, EXCHANGES, RELEASES, DELIVERIES}
 
 -- a statement, and the text that explains it
@@ -60,7 +59,3 @@ found_explanation rule = option_or (found_among packets rule) (option_or (found_
 -- the text that explains a statement
 unfoldable pub explanation_of : Rule → List ℕ
 explanation_of rule = unwrap_or (option_map (λ explained. explained.text) (found_explanation rule)) []
-
--- the text that explains the statement that a code names, in capitals or not
-abbrev pub explained_for : List ℕ → Option (List ℕ)
-explained_for code = option_map explanation_of (coded_rule code)

@@ -1,6 +1,11 @@
 pub mod CommandLine
+pub mod Citing
+pub mod Digits
 pub mod Explaining
+pub mod Given
 pub mod Listing
 pub mod Messages
 pub mod Reviewing
 pub mod Program
+pub mod Streams
+pub mod Troubles

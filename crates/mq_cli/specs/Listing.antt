@@ -1,5 +1,5 @@
 -- The list of the statements: a line for each.
-use Rattle.std.specs.Prelude.{ℕ, ◌==◌, Bool, true, not, List, [], ◌∷◌, ◌++◌, length, codes, Option, Some, None, option_map, if◌then◌else◌}
+use Rattle.std.specs.Prelude.{ℕ, ◌==◌, Bool, true, List, [], ◌∷◌, ◌++◌, length, codes, Option, Some, None, option_map, if◌then◌else◌}
 use Rattle.std.specs.List.{flat_map}
 use Rattle.std.specs.Str.{bytes_eq}
 use Rattle.mq_rules.specs.declared.role.Role.{Role}
@@ -47,3 +47,11 @@ role_named word = if bytes_eq word (codes "client") then Some Client else (if by
 abbrev pub listed_for : Option (List ℕ) → Option (List ℕ)
 listed_for None = Some (statement_lines None)
 listed_for (Some word) = option_map (λ role. statement_lines (Some role)) (role_named word)
+
+-- the code of a statement, after a space
+abbrev pub spaced_code : Rule → List ℕ
+spaced_code rule = 32 ∷ code_of rule
+
+-- the codes of all statements, in the order of reports, each after a space
+unfoldable pub all_codes : List ℕ
+all_codes = flat_map spaced_code all_rules

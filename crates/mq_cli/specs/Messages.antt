@@ -1,8 +1,7 @@
 -- What the program writes, and where.
-use Rattle.std.specs.Prelude.{Bool, true, false, ◌≡◌, ◌⊎◌, ⊤, List, ℕ, Option, None, [], ◌∷◌, ◌++◌, codes, string_bytes, unwrap_or, option_map, IfSome, IsSome, IsSomeAnd, IsErr, Ok}
+use Rattle.std.specs.Prelude.{Bool, true, false, ◌≡◌, ◌⊎◌, ⊤, List, ℕ, Option, None, [], ◌++◌, string_bytes, unwrap_or, option_map, IfSome, IsSome, IsSomeAnd, IsErr, Ok}
 use Rattle.std.specs.FinMap as map
 use Rattle.std.specs.Io.KnownBytes.{Appends, Keeps}
-use Rattle.hex.specs.Hex.{decode_of}
 use Rattle.mq_judge.specs.declared.Form.{Form}
 use Rattle.mq_judge.specs.declared.Form.TheVariants.{Text, Json, Summary}
 use Rattle.mq_judge.specs.declared.Refusal.{Refusal}
@@ -14,7 +13,8 @@ use Rattle.mq_judge.specs.Display.{WritesBeginning, annotated, short_lines_of, l
 use Rattle.mq_judge.specs.Stopping.{IsRefusedAt, IsRefusedNext}
 use Rattle.mq_trace.specs.Events.{Placed, events}
 use Rattle.mq_trace.specs.Refusals.{refused}
-use Rattle.mq_cli.specs.Explaining.{explained_for}
+use Rattle.mq_cli.specs.Citing.{explained_for}
+use Rattle.mq_cli.specs.Digits.{bytes_of}
 use Rattle.mq_cli.specs.Listing.{listed_for}
 use Rattle.mq_cli.specs.declared.command_line.Task.{Task}
 use Rattle.mq_cli.specs.declared.command_line.Task.TheVariants.{Check, Show, Packet, Rules, Explain}
@@ -24,6 +24,9 @@ use Rattle.mq_cli.specs.declared.command_line.EarlyExit.{EarlyExit}
 use Rattle.mq_cli.specs.declared.command_line.EarlyExit.TheVariants.{Help, Usage, Memory}
 use Rattle.mq_cli.specs.declared.failure.Failure.{Failure}
 use Rattle.mq_cli.specs.declared.failure.Failure.TheVariants as failures
+use Rattle.mq_cli.specs.declared.failure.Obstacle.{Obstacle}
+use Rattle.mq_cli.specs.declared.failure.Obstacle.TheVariants as obstacles
+use Rattle.mq_cli.specs.Streams.{AppendsPart, IsCutOff, Stream, misuse_line, no_role_line, no_statement_line, not_hex_line}
 
 -- help or the version was asked for, and its text was written
 abbrev pub IsShownOn : EarlyExit → Option (List ℕ) → Option (List ℕ) → Type 0
@@ -36,33 +39,6 @@ abbrev pub IsPrintedOn : EarlyExit → Option (List ℕ) → Option (List ℕ) �
 IsPrintedOn (Help text) old new = ⊥
 IsPrintedOn (Usage text) old new = Appends old new (string_bytes text)
 IsPrintedOn Memory old new = ⊥
-
--- The known bytes grew by a beginning of the text, or by all of it, and by nothing else.
-pub record AppendsPart (old new : Option (List ℕ)) (text : List ℕ) : Type 0 where
-  pub written : List ℕ
-  pub unwritten : List ℕ
-  pub whole : text ≡ written ++ unwritten
-  pub appended : Appends old new written
-
--- What became of the error stream: the bytes that it held and those that it holds, each if known, and whether a message couldn't be
--- written to it.
-pub record Stream : Type 0 where
-  pub old : Option (List ℕ)
-  pub new : Option (List ℕ)
-  pub has_failed : Bool
-
--- the error stream before and after, by what it holds and whether it has failed
-abbrev pub stream : {E : Type 0} → (E → Option (List ℕ)) → (E → Bool) → (old new : E) → Stream
-stream contents has_failed old new = record { old = contents old; new = contents new; has_failed = has_failed new }
-
--- The message couldn't be written to the error stream: only a beginning of it was, or all of it if only a flush failed, and nothing else.
-pub record IsCutOff (error : Stream) (message : List ℕ) : Type 0 where
-  pub failed : error.has_failed ≡ true
-  pub part : AppendsPart error.old error.new message
-
--- The message was written to the error stream and nothing else, unless that failed.
-pub record IsTold (error : Stream) (message : List ℕ) : Type 0 where
-  pub outcome : Appends error.old error.new message ⊎ IsCutOff error message
 
 -- The known bytes grew by one text, then by a beginning of another one, or by all of it, and by nothing else.
 pub record AppendsAfter (old new : Option (List ℕ)) (before text : List ℕ) : Type 0 where
@@ -156,29 +132,19 @@ StopsShow text_of failures.Write log left old new = WritesBeginning text_of log 
     ⊎ ((IsJudged log × Appends old new (text_of (events log)))
     ⊎ ((refusal : Refusal) × (by : IsRefusedBy log refusal) × AppendsAfter old new (text_of (events by.taken)) (refused_line refusal)))
 
--- the line that says what failed
-abbrev pub failure_line : Failure → List ℕ
-failure_line failures.Read = codes "mqjudge: read failed" ++ 10 ∷ []
-failure_line failures.Write = codes "mqjudge: write failed" ++ 10 ∷ []
-failure_line failures.Memory = codes "mqjudge: out of memory" ++ 10 ∷ []
-
 -- ---- the bytes of one packet
 
 -- the digits spell bytes that are one packet
 abbrev pub SpellsPacket : List ℕ → Type 0
-SpellsPacket hex = (bytes : List ℕ) × (decode_of hex ≡ Ok bytes) × IsOnePacket bytes
+SpellsPacket hex = (bytes : List ℕ) × (bytes_of hex ≡ Ok bytes) × IsOnePacket bytes
 
 -- they spell bytes that aren't one packet
 abbrev pub SpellsNoPacket : List ℕ → Type 0
-SpellsNoPacket hex = (bytes : List ℕ) × (decode_of hex ≡ Ok bytes) × (¬ IsOnePacket bytes)
+SpellsNoPacket hex = (bytes : List ℕ) × (bytes_of hex ≡ Ok bytes) × (¬ IsOnePacket bytes)
 
 -- they spell bytes, and the line on these was written and nothing else
 abbrev pub AppendsLineOf : List ℕ → Option (List ℕ) → Option (List ℕ) → Type 0
-AppendsLineOf hex old new = (bytes : List ℕ) × (decode_of hex ≡ Ok bytes) × Appends old new (packet_report bytes)
-
--- the message if they don't spell bytes
-abbrev pub not_hex_line : List ℕ
-not_hex_line = codes "mqjudge: not hex" ++ 10 ∷ []
+AppendsLineOf hex old new = (bytes : List ℕ) × (bytes_of hex ≡ Ok bytes) × Appends old new (packet_report bytes)
 
 -- ---- the statements
 
@@ -189,13 +155,6 @@ Prints text old new = IsSomeAnd text (λ printed. Appends old new printed)
 -- there is such a text, and part of it was written
 abbrev pub PrintsPart : Option (List ℕ) → Option (List ℕ) → Option (List ℕ) → Type 0
 PrintsPart text old new = IsSomeAnd text (λ printed. AppendsPart old new printed)
-
--- the messages for a word that isn't an end, and for one that isn't a statement's code
-abbrev pub no_role_line : List ℕ → List ℕ
-no_role_line word = codes "mqjudge: no role " ++ word ++ 10 ∷ []
-
-abbrev pub no_statement_line : List ℕ → List ℕ
-no_statement_line code = codes "mqjudge: no statement " ++ code ++ 10 ∷ []
 
 -- ---- what a status means for a task, whose input gives these bytes and then has these left, each if known
 
@@ -231,11 +190,11 @@ IsRefusedOn (Packet hex) input old new = ⊥
 IsRefusedOn (Rules role) input old new = ⊥
 IsRefusedOn (Explain code) input old new = ⊥
 
--- 3: the digits of a packet are invalid, or a word isn't an end, or isn't the code of a statement
+-- 3: the digits of a packet are invalid, or a word isn't an end, or is neither the code of a statement nor a citation
 abbrev pub IsMisnamed : Task → Type 0
 IsMisnamed (Check file json summary) = ⊥
 IsMisnamed (Show file long) = ⊥
-IsMisnamed (Packet hex) = IsErr (decode_of (string_bytes hex))
+IsMisnamed (Packet hex) = IsErr (bytes_of (string_bytes hex))
 IsMisnamed (Rules role) = listed_for (option_map string_bytes role) ≡ None
 IsMisnamed (Explain code) = explained_for (string_bytes code) ≡ None
 
@@ -250,15 +209,13 @@ misnamed_line (Explain code) = no_statement_line (string_bytes code)
 -- 4, for a packet: the line on its bytes couldn't be written or flushed, or memory ran out first
 abbrev pub StopsPacket : Failure → List ℕ → Option (List ℕ) → Option (List ℕ) → Type 0
 StopsPacket failures.Read hex old new = ⊥
-StopsPacket failures.Write hex old new = (bytes : List ℕ) × (decode_of hex ≡ Ok bytes) × AppendsPart old new (packet_report bytes)
+StopsPacket failures.Write hex old new = (bytes : List ℕ) × (bytes_of hex ≡ Ok bytes) × AppendsPart old new (packet_report bytes)
 StopsPacket failures.Memory hex old new = Keeps old new
 
--- 4, for these digits: the line that says what failed is written to the error stream, unless that failed too; or they don't spell bytes, and the line
--- that says so couldn't be written to the error stream
-abbrev pub FailsPacket : List ℕ → (old new : Option (List ℕ)) → Stream → Type 0
-FailsPacket hex old new error =
-    ((failure : Failure) × StopsPacket failure hex old new × IsTold error (failure_line failure))
-    ⊎ (IsErr (decode_of hex) × Keeps old new × IsCutOff error not_hex_line)
+-- what keeps a packet's line from being written: something failed, or the digits don't spell bytes
+abbrev pub StopsDigits : List ℕ → (old new : Option (List ℕ)) → Obstacle → Type 0
+StopsDigits hex old new (obstacles.Failed failure) = StopsPacket failure hex old new
+StopsDigits hex old new (obstacles.Misused misuse) = IsErr (bytes_of hex) × (misuse_line misuse ≡ not_hex_line) × Keeps old new
 
 -- 4, for the statements: the text couldn't be written or flushed, or memory ran out first
 abbrev pub StopsPrinting : Failure → Option (List ℕ) → Option (List ℕ) → Option (List ℕ) → Type 0
@@ -266,12 +223,10 @@ StopsPrinting failures.Read text old new = ⊥
 StopsPrinting failures.Write text old new = PrintsPart text old new
 StopsPrinting failures.Memory text old new = Keeps old new
 
--- 4, for this text, or this line if there is none: the line that says what failed is written to the error stream, unless that failed too; or there is
--- no text, and the line that says so couldn't be written to the error stream
-abbrev pub FailsPrinting : (text : Option (List ℕ)) → (line : List ℕ) → (old new : Option (List ℕ)) → Stream → Type 0
-FailsPrinting text line old new error =
-    ((failure : Failure) × StopsPrinting failure text old new × IsTold error (failure_line failure))
-    ⊎ ((text ≡ None) × Keeps old new × IsCutOff error line)
+-- what keeps this text from being written: something failed, or there is no text, and this line says so
+abbrev pub StopsText : (text : Option (List ℕ)) → (line : List ℕ) → (old new : Option (List ℕ)) → Obstacle → Type 0
+StopsText text line old new (obstacles.Failed failure) = StopsPrinting failure text old new
+StopsText text line old new (obstacles.Misused misuse) = (text ≡ None) × (misuse_line misuse ≡ line) × Keeps old new
 
 -- 4: what failed, and what had been written
 abbrev pub StopsTask : Failure → Task → (input left old new : Option (List ℕ)) → Type 0
@@ -281,22 +236,13 @@ StopsTask failure (Packet hex) input left old new = StopsPacket failure (string_
 StopsTask failure (Rules role) input left old new = StopsPrinting failure (listed_for (option_map string_bytes role)) old new
 StopsTask failure (Explain code) input left old new = StopsPrinting failure (explained_for (string_bytes code)) old new
 
--- 4: the line that says what failed is written to the error stream, unless that failed too
-pub record FailsTask (task : Task) (input left old new : Option (List ℕ)) (error : Stream) : Type 0 where
-  pub failure : Failure
-  pub stops : StopsTask failure task input left old new
-  pub printed : IsTold error (failure_line failure)
+-- what keeps a task from being done: something failed, or its digits are invalid, or its word names nothing, and nothing was written
+abbrev pub StopsAttempt : Task → (input left old new : Option (List ℕ)) → Obstacle → Type 0
+StopsAttempt task input left old new (obstacles.Failed failure) = StopsTask failure task input left old new
+StopsAttempt task input left old new (obstacles.Misused misuse) = IsMisnamed task × (misuse_line misuse ≡ misnamed_line task) × Keeps old new
 
--- 4: the digits of a packet are invalid, or a word isn't an end or a statement's code; and the line that says so couldn't be written to the error stream
+-- 4: the digits of a packet are invalid, or a word names nothing; and the line that says so couldn't be written to the error stream
 pub record FailsMisnamed (task : Task) (old new : Option (List ℕ)) (error : Stream) : Type 0 where
   pub misnamed : IsMisnamed task
   pub unwritten : Keeps old new
   pub printed : IsCutOff error (misnamed_line task)
-
--- ---- what a status means if the words ask for no task
-
--- 4: help, the version or a misuse couldn't be written, or memory ran out
-abbrev pub FailsStop : EarlyExit → (old new : Option (List ℕ)) → Stream → Type 0
-FailsStop (Help text) old new error = AppendsPart old new (string_bytes text) × IsTold error (failure_line failures.Write)
-FailsStop (Usage text) old new error = Keeps old new × IsCutOff error (string_bytes text)
-FailsStop Memory old new error = Keeps old new × IsTold error (failure_line failures.Memory)

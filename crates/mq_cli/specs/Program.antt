@@ -1,5 +1,5 @@
 -- What the program does for the words of its command line, by its exit status.
-use Rattle.std.specs.Prelude.{◌≡◌, ◌⊎◌, Option, Some, None, List, ℕ, IfSome, IsErrAnd, IsOkAnd}
+use Rattle.std.specs.Prelude.{◌≡◌, ◌≢◌, ◌⊎◌, ℕ, Bool, true, List, [], Option, Some, IfSome, IsErrAnd, IsOkAnd, string_bytes}
 use Rattle.std.specs.Io.KnownBytes.{Appends, Keeps}
 use Rattle.clap.specs.Words.{Text}
 use Rattle.mq_cli.specs.declared.command_line.EarlyExit.{EarlyExit}
@@ -7,47 +7,66 @@ use Rattle.mq_cli.specs.declared.command_line.Review.{Review}
 use Rattle.mq_cli.specs.declared.command_line.Task.{Task}
 use Rattle.mq_cli.specs.declared.command_line.Work.{Work}
 use Rattle.mq_cli.specs.declared.command_line.Work.TheVariants.{Once, Twice}
-use Rattle.mq_cli.specs.declared.failure.Failure.{Failure}
+use Rattle.mq_cli.specs.declared.command_line.EarlyExit.TheVariants as exits
 use Rattle.mq_cli.specs.declared.failure.Failure.TheVariants.{Memory}
-use Rattle.mq_cli.specs.CommandLine.{ReadsAsAsked, StopsFor, word_faults, path_of, request_by, request_of}
-use Rattle.mq_cli.specs.Reviewing.{IsReviewed, Plan, RefusesPlan, StopsPlan, plan_of}
-use Rattle.mq_cli.specs.Messages.{FailsMisnamed, FailsStop, IsCutOff, IsTold, Stream, FailsTask, HasFailed, HasPassed, IsMisnamed, IsRefusedOn, IsReportedOn, IsShownOn, IsPrintedOn, failure_line, misnamed_line}
-
--- What the program is given: the words of its command line, the bytes of the file at a path and those of standard input, each if
--- known; and why the words couldn't be read, or the file at a path couldn't be opened.
-pub record Given : Type 1 where
-  pub words : Option (List Text)
-  pub file : Text → Option Text
-  pub standard : Option Text
-  pub unread : Failure → Type 0
-  pub unopened : Text → Failure → Type 0
-
--- the bytes at this path, or of standard input if there is no path
-abbrev pub bytes_at : Given → Option Text → Option Text
-bytes_at given None = given.standard
-bytes_at given (Some path) = given.file path
+use Rattle.mq_cli.specs.declared.trouble.Trouble.{Trouble}
+use Rattle.mq_cli.specs.declared.trouble.Trouble.TheVariants as troubles
+use Rattle.mq_cli.specs.CommandLine.{ReadsAsAsked, StopsFor, word_faults, path_of, reads_log, request_by, request_of}
+use Rattle.mq_cli.specs.Given.{Given, bytes_at}
+use Rattle.mq_cli.specs.Reviewing.{IfBoth, IsReviewed, Plan, RefusesPlan, StopsPlan, plan_of}
+use Rattle.mq_cli.specs.Messages.{FailsMisnamed, StopsTask, HasFailed, HasPassed, IsMisnamed, IsRefusedOn, IsReportedOn, IsShownOn, IsPrintedOn, misnamed_line}
+use Rattle.mq_cli.specs.Streams.{AppendsPart, IsCutOff, IsTold, Stream, failure_line}
+use Rattle.mq_cli.specs.Troubles.{Tells, failure_in, hint_line, place_of, words_place}
 
 -- the bytes that a task reads
 abbrev pub input_of : Given → Task → Option Text
 input_of given task = bytes_at given (path_of task)
 
--- The file that a task reads couldn't be opened: nothing was written, and the reason is written to the error stream, unless that failed.
-pub record IsUnopened (given : Given) (task : Task) (old new : Option (List ℕ)) (error : Stream) : Type 0 where
+-- 2: If the first bytes of the log show that it is another kind of file, the line that says so is written to the error stream, unless that failed; else nothing.
+-- `start` are the first bytes. Of a log that isn't known, they may be any.
+pub record IsHinted (log : Option Text) (error : Stream) : Type 0 where
+  pub start : Text
+  pub shows : IfSome log (λ bytes. hint_line bytes ≡ hint_line start)
+  pub told : IsTold error (hint_line start)
+
+-- In what follows, `is_closed` says that nobody reads the output any more.
+
+-- The first bytes of the log couldn't be read: nothing was written, and it is said why, and which log it is.
+pub record IsUnbegun (place : Text) (is_closed : Bool) (old new : Option (List ℕ)) (error : Stream) : Type 0 where
+  pub trouble : Trouble
+  pub is_of_reading : trouble ≢ troubles.Write
+  pub unwritten : Keeps old new
+  pub told : Tells is_closed place trouble error
+
+-- The task failed on this log, and it is said what failed. What its reader has left isn't specified.
+pub record FailsOn (task : Task) (place : Text) (log : Option Text) (is_closed : Bool) (old new : Option (List ℕ)) (error : Stream) : Type 0 where
+  pub left : Option (List ℕ)
+  pub trouble : Trouble
+  pub stops : StopsTask (failure_in trouble) task log left old new
+  pub told : Tells is_closed place trouble error
+
+-- 4: the task failed on this log, or what it asks for can't be done, and the line that says so couldn't be written to the error stream
+abbrev pub FailsTaskOn : Task → (place : Text) → (log : Option Text) → (is_closed : Bool) → (old new : Option (List ℕ)) → Stream → Type 0
+FailsTaskOn task place log is_closed old new error = FailsOn task place log is_closed old new error ⊎ FailsMisnamed task old new error
+
+-- 4: the same, or the first bytes of the log couldn't be read
+abbrev pub FailsLog : Task → (place : Text) → (log : Option Text) → (is_closed : Bool) → (old new : Option (List ℕ)) → Stream → Type 0
+FailsLog task place log is_closed old new error = IsUnbegun place is_closed old new error ⊎ FailsTaskOn task place log is_closed old new error
+
+-- The file that a task reads couldn't be opened: nothing was written, and it is said why, and which file it is.
+pub record IsUnopened (given : Given) (task : Task) (is_closed : Bool) (old new : Option (List ℕ)) (error : Stream) : Type 0 where
   pub path : Text
   pub named : path_of task ≡ Some path
-  pub failure : Failure
-  pub refused : given.unopened path failure
+  pub trouble : Trouble
+  pub refused : given.unopened path trouble
   pub unwritten : Keeps old new
-  pub printed : IsTold error (failure_line failure)
+  pub told : Tells is_closed path trouble error
 
--- 4: the task failed; what its reader has left isn't specified
-abbrev pub FailsPerforming : Given → Task → (old new : Option (List ℕ)) → Stream → Type 0
-FailsPerforming given task old new error = (left : Option (List ℕ)) × FailsTask task (input_of given task) left old new error
-
--- 4: the task's file couldn't be opened, or the task failed
-abbrev pub FailsRead : Given → Task → (old new : Option (List ℕ)) → Stream → Type 0
-FailsRead given task old new error = IsUnopened given task old new error
-    ⊎ (FailsPerforming given task old new error ⊎ FailsMisnamed task old new error)
+-- 4: the task's file couldn't be opened, or the task reads a log and failed at that, or it reads none and failed
+abbrev pub FailsRead : Given → Task → (is_closed : Bool) → (old new : Option (List ℕ)) → Stream → Type 0
+FailsRead given task is_closed old new error = IsUnopened given task is_closed old new error
+    ⊎ (((reads_log task ≡ true) × FailsLog task (place_of (path_of task)) (input_of given task) is_closed old new error)
+    ⊎ FailsTaskOn task (place_of (path_of task)) (input_of given task) is_closed old new error)
 
 -- ---- a log that is shown with the faults at its events
 
@@ -56,24 +75,39 @@ abbrev pub PassesReview : Given → Review → Option (List ℕ) → Option (Lis
 PassesReview given review old new = IsOkAnd (plan_of review) (λ plan. IfSome (given.file plan.path) (λ log. IsReviewed plan log log old new))
 
 -- 2: the log is refused, and the line that says so was written
-abbrev pub RefusesReview : Given → Review → Option (List ℕ) → Option (List ℕ) → Type 0
-RefusesReview given review old new = IsOkAnd (plan_of review) (λ plan. IfSome (given.file plan.path) (λ log. RefusesPlan plan log log old new))
+abbrev pub RefusesReview : Given → Review → (old new : Option (List ℕ)) → Stream → Type 0
+RefusesReview given review old new error = IsOkAnd (plan_of review) (λ plan. IfSome (given.file plan.path) (λ log. RefusesPlan plan log log old new)
+    × IsHinted (given.file plan.path) error)
 
 -- 3: there is nothing to show, and the line that says so was written
 abbrev pub MisusesReview : Review → Option (List ℕ) → Option (List ℕ) → Type 0
 MisusesReview review error_old error_new = IsErrAnd (plan_of review) (λ line. Appends error_old error_new line)
 
--- the file couldn't be opened, and nothing was written; or reading or writing failed; what the two readers have left isn't specified
-abbrev pub StopsFile : Given → Plan → Failure → (old new : Option (List ℕ)) → Type 0
-StopsFile given plan failure old new = (given.unopened plan.path failure × Keeps old new)
-    ⊎ ((judged_left : Option (List ℕ)) × (shown_left : Option (List ℕ))
-    × IfSome (given.file plan.path) (λ log. StopsPlan plan failure log log judged_left shown_left old new))
+-- Reading or writing failed, or memory ran out, while one log was judged or while the other one was shown, and it is said what failed. What the two readers
+-- have left isn't specified.
+pub record StopsReaders (plan : Plan) (judged shown : Option Text) (is_closed : Bool) (old new : Option (List ℕ)) (error : Stream) : Type 0 where
+  pub judged_left : Option (List ℕ)
+  pub shown_left : Option (List ℕ)
+  pub trouble : Trouble
+  pub stops : IfBoth judged shown (λ first second. StopsPlan plan (failure_in trouble) first second judged_left shown_left old new)
+  pub told : Tells is_closed plan.path trouble error
 
--- 4: what failed is written to the error stream, unless that failed too
-pub record FailsFile (given : Given) (plan : Plan) (old new : Option (List ℕ)) (error : Stream) : Type 0 where
-  pub failure : Failure
-  pub stops : StopsFile given plan failure old new
-  pub printed : IsTold error (failure_line failure)
+-- 4: the first bytes of the log couldn't be read, or judging or showing it failed
+abbrev pub FailsReaders : Plan → (judged shown : Option Text) → (is_closed : Bool) → (old new : Option (List ℕ)) → Stream → Type 0
+FailsReaders plan judged shown is_closed old new error =
+    IsUnbegun plan.path is_closed old new error ⊎ StopsReaders plan judged shown is_closed old new error
+
+-- The file couldn't be opened: nothing was written, and it is said why, and which file it is.
+pub record IsUnopenedPlan (given : Given) (plan : Plan) (is_closed : Bool) (old new : Option (List ℕ)) (error : Stream) : Type 0 where
+  pub trouble : Trouble
+  pub refused : given.unopened plan.path trouble
+  pub unwritten : Keeps old new
+  pub told : Tells is_closed plan.path trouble error
+
+-- 4: the file couldn't be opened, or not be read, judged or shown
+abbrev pub FailsFile : Given → Plan → (is_closed : Bool) → (old new : Option (List ℕ)) → Stream → Type 0
+FailsFile given plan is_closed old new error = IsUnopenedPlan given plan is_closed old new error
+    ⊎ FailsReaders plan (given.file plan.path) (given.file plan.path) is_closed old new error
 
 -- 4: there is nothing to show, and the line that says so couldn't be written to the error stream, or memory ran out for it
 pub record FailsUnplanned (line : Text) (old new : Option (List ℕ)) (error : Stream) : Type 0 where
@@ -81,8 +115,8 @@ pub record FailsUnplanned (line : Text) (old new : Option (List ℕ)) (error : S
   pub printed : IsCutOff error line ⊎ IsTold error (failure_line Memory)
 
 -- 4: showing failed, or there is nothing to show
-abbrev pub FailsReview : Given → Review → (old new : Option (List ℕ)) → Stream → Type 0
-FailsReview given review old new error = IsOkAnd (plan_of review) (λ plan. FailsFile given plan old new error)
+abbrev pub FailsReview : Given → Review → (is_closed : Bool) → (old new : Option (List ℕ)) → Stream → Type 0
+FailsReview given review is_closed old new error = IsOkAnd (plan_of review) (λ plan. FailsFile given plan is_closed old new error)
     ⊎ IsErrAnd (plan_of review) (λ line. FailsUnplanned line old new error)
 
 -- ---- what a status means for some work
@@ -98,9 +132,9 @@ FindsFaultsIn given (Once task) old new = HasFailed task (input_of given task) �
 FindsFaultsIn given (Twice review) old new = ⊥
 
 -- 2: its log is refused, and all of its output was written
-abbrev pub RefusesWork : Given → Work → Option (List ℕ) → Option (List ℕ) → Type 0
-RefusesWork given (Once task) old new = IsRefusedOn task (input_of given task) old new
-RefusesWork given (Twice review) old new = RefusesReview given review old new
+abbrev pub RefusesWork : Given → Work → (old new : Option (List ℕ)) → Stream → Type 0
+RefusesWork given (Once task) old new error = IsRefusedOn task (input_of given task) old new × IsHinted (input_of given task) error
+RefusesWork given (Twice review) old new error = RefusesReview given review old new error
 
 -- 3: the digits of a packet are invalid, a word isn't an end, a statement or a number, or there is no file to read twice, and the line that says so was written
 -- to the error stream
@@ -109,9 +143,17 @@ MisusesWork (Once task) error_old error_new = IsMisnamed task × Appends error_o
 MisusesWork (Twice review) error_old error_new = MisusesReview review error_old error_new
 
 -- 4: it failed, or its file couldn't be opened
-abbrev pub FailsWork : Given → Work → (old new : Option (List ℕ)) → Stream → Type 0
-FailsWork given (Once task) old new error = FailsRead given task old new error
-FailsWork given (Twice review) old new error = FailsReview given review old new error
+abbrev pub FailsWork : Given → Work → (is_closed : Bool) → (old new : Option (List ℕ)) → Stream → Type 0
+FailsWork given (Once task) is_closed old new error = FailsRead given task is_closed old new error
+FailsWork given (Twice review) is_closed old new error = FailsReview given review is_closed old new error
+
+-- ---- what a status means if the words ask for no work
+
+-- 4: help, the version or a misuse couldn't be written, or memory ran out
+abbrev pub FailsStop : EarlyExit → (is_closed : Bool) → (old new : Option (List ℕ)) → Stream → Type 0
+FailsStop (exits.Help text) is_closed old new error = AppendsPart old new (string_bytes text) × Tells is_closed [] troubles.Write error
+FailsStop (exits.Usage text) is_closed old new error = Keeps old new × IsCutOff error (string_bytes text)
+FailsStop exits.Memory is_closed old new error = Keeps old new × IsTold error (failure_line Memory)
 
 -- ---- of these words
 
@@ -133,8 +175,8 @@ abbrev pub FindsFaults : List Text → Given → Option (List ℕ) → Option (L
 FindsFaults words given old new = (work : Work) × AsksFor words work × FindsFaultsIn given work old new
 
 -- 2: they ask for work on a log that is refused, and all of its output was written
-abbrev pub Refuses : List Text → Given → Option (List ℕ) → Option (List ℕ) → Type 0
-Refuses words given old new = (work : Work) × AsksFor words work × RefusesWork given work old new
+abbrev pub Refuses : List Text → Given → (old new : Option (List ℕ)) → Stream → Type 0
+Refuses words given old new error = (work : Work) × AsksFor words work × RefusesWork given work old new error
 
 -- 3: they aren't a command line, or ask for what can't be done, and the text that says so was written to the error stream
 abbrev pub IsMisuse : List Text → Option (List ℕ) → Option (List ℕ) → Type 0
@@ -142,13 +184,13 @@ IsMisuse words error_old error_new = ((stop : EarlyExit) × StopsAt words stop �
     ⊎ ((work : Work) × AsksFor words work × MisusesWork work error_old error_new)
 
 -- 4: the text for words that ask for no work couldn't be written; or they ask for work that failed, or whose file couldn't be opened
-abbrev pub FailsWords : List Text → Given → (old new : Option (List ℕ)) → Stream → Type 0
-FailsWords words given old new error = ((stop : EarlyExit) × StopsAt words stop × FailsStop stop old new error)
-    ⊎ ((work : Work) × AsksFor words work × FailsWork given work old new error)
+abbrev pub FailsWords : List Text → Given → (is_closed : Bool) → (old new : Option (List ℕ)) → Stream → Type 0
+FailsWords words given is_closed old new error = ((stop : EarlyExit) × StopsAt words stop × FailsStop stop is_closed old new error)
+    ⊎ ((work : Work) × AsksFor words work × FailsWork given work is_closed old new error)
 
--- 4: The words couldn't be read: nothing was written, and the reason is written to the error stream, unless that failed.
-pub record WordsUnread (given : Given) (old new : Option (List ℕ)) (error : Stream) : Type 0 where
-  pub failure : Failure
-  pub why : given.unread failure
+-- 4: The words couldn't be read: nothing was written, and it is said why.
+pub record WordsUnread (given : Given) (is_closed : Bool) (old new : Option (List ℕ)) (error : Stream) : Type 0 where
+  pub trouble : Trouble
+  pub why : given.unread trouble
   pub unwritten : Keeps old new
-  pub printed : IsTold error (failure_line failure)
+  pub told : Tells is_closed words_place trouble error

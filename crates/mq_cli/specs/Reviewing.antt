@@ -1,5 +1,5 @@
 -- Showing a log with the faults at its events, which reads it twice: what the words ask for, and what each status means.
-use Rattle.std.specs.Prelude.{◌⊎◌, ◌^◌, ◌&&◌, Bool, nat_lt, List, ℕ, Option, None, Some, Result, Ok, Err, [], ◌∷◌, ◌++◌, codes, if◌then◌else◌, length, option_map, string_bytes, IfSome}
+use Rattle.std.specs.Prelude.{◌⊎◌, ◌^◌, ◌&&◌, Bool, nat_lt, List, ℕ, Option, None, Some, Result, Ok, Err, if◌then◌else◌, length, option_map, string_bytes, IfSome}
 use Rattle.std.specs.Char.{digit_value}
 use Rattle.std.specs.Io.KnownBytes.{Appends, Keeps}
 use Rattle.std.specs.List.{list_all}
@@ -15,13 +15,12 @@ use Rattle.mq_judge.specs.Stopping.{IsRefusedAt}
 use Rattle.mq_rules.specs.Notes.{tested_by}
 use Rattle.mq_trace.specs.Events.{Placed, events}
 use Rattle.mq_cli.specs.declared.command_line.Review.{Review}
-use Rattle.mq_cli.specs.declared.reviewing.Misuse.{Misuse}
-use Rattle.mq_cli.specs.declared.reviewing.Misuse.TheVariants.{NoFaults, NoFile, NoNumber}
 use Rattle.mq_cli.specs.declared.reviewing.Plan.{Plan as SourcePlan}
 use Rattle.mq_cli.specs.declared.failure.Failure.{Failure}
 use Rattle.mq_cli.specs.declared.failure.Failure.TheVariants as failures
 use Rattle.mq_cli.specs.CommandLine.{path_named}
-use Rattle.mq_cli.specs.Messages.{AppendsPart, IsRefusedBy, RefusesCheck, RefusesShow, StopsShow}
+use Rattle.mq_cli.specs.Messages.{IsRefusedBy, RefusesCheck, RefusesShow, StopsShow}
+use Rattle.mq_cli.specs.Streams.{AppendsPart, no_faults_line, no_file_line, no_number_line}
 
 -- ---- what the words ask for
 
@@ -43,36 +42,24 @@ pub record Plan : Type 0 where
 abbrev pub plan_view : SourcePlan → Plan
 plan_view plan = record { path = plan.path.now; around = plan.around; long = plan.long }
 
--- the messages for `--around` without `--faults`, for no file that can be read twice, and for a word that isn't a number
-abbrev pub no_faults_line : Text
-no_faults_line = codes "mqjudge: --around needs --faults" ++ 10 ∷ []
-
-abbrev pub no_file_line : Text
-no_file_line = codes "mqjudge: --faults reads the log twice, so it needs a FILE, not standard input" ++ 10 ∷ []
-
-abbrev pub no_number_line : Text → Text
-no_number_line word = codes "mqjudge: no number " ++ word ++ 10 ∷ []
-
--- the message for a misuse
-abbrev pub misuse_line : Misuse → Text
-misuse_line NoFaults = no_faults_line
-misuse_line NoFile = no_file_line
-misuse_line (NoNumber word) = no_number_line word.now
-
--- what to show of the log at this path, if the word after `--around` is a number; else the message
-abbrev pub plan_counted : (path : Text) → (long : Bool) → (word : Text) → Option ℕ → Result Plan Text
-plan_counted path long word None = Err (no_number_line word)
-plan_counted path long word (Some count) = Ok (record { path = path; around = Some count; long = long })
-
 -- what to show of the log in a file, if a file is named that can be read twice; else the message
-abbrev pub plan_on : (path around : Option Text) → (long : Bool) → Result Plan Text
+abbrev pub plan_on : (path : Option Text) → (around : Option ℕ) → (long : Bool) → Result Plan Text
 plan_on None around long = Err no_file_line
-plan_on (Some path) None long = Ok (record { path = path; around = None; long = long })
-plan_on (Some path) (Some word) long = plan_counted path long word (count_of word)
+plan_on (Some path) around long = Ok (record { path = path; around = around; long = long })
+
+-- the same, with the word after `--around` and the number that it is; else the message
+abbrev pub plan_near : (path : Option Text) → (word : Text) → Option ℕ → (long : Bool) → Result Plan Text
+plan_near path word None long = Err (no_number_line word)
+plan_near path word (Some count) long = plan_on path (Some count) long
+
+-- the same, with the word after `--around` if there is one
+abbrev pub plan_around : (path around : Option Text) → (long : Bool) → Result Plan Text
+plan_around path None long = plan_on path None long
+plan_around path (Some word) long = plan_near path word (count_of word) long
 
 -- what to show, or the message if there is nothing to show
 abbrev pub plan_of : Review → Result Plan Text
-plan_of review = if review.faults then plan_on (path_named (option_map string_bytes review.file)) (option_map string_bytes review.around) review.long
+plan_of review = if review.faults then plan_around (path_named (option_map string_bytes review.file)) (option_map string_bytes review.around) review.long
     else Err no_faults_line
 
 -- ---- what each status means for the log that was judged and the one that was shown: one log, unless its file changed between the two readings

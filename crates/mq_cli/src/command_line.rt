@@ -4,9 +4,10 @@ ghost use Rattle.clap.specs.Words.{HasKind, Kinds, app_of, new_rule, rule_of, su
 ghost use Rattle.clap.specs.declared.builder.command.Command.TheViews.{out-Command};
 ghost use Rattle.mq_cli.specs.CommandLine.{ReadsAsAsked, StopsFor, around_option, check_command, check_request, explain_command};
 ghost use Rattle.mq_cli.specs.CommandLine.{explain_request, word_faults, flag, is_true, mqjudge, packet_command, packet_request};
-ghost use Rattle.mq_cli.specs.CommandLine.{path_named, path_of, request_by, request_of, rules_command};
+ghost use Rattle.mq_cli.specs.CommandLine.{path_named, path_of, reads_log, request_by, request_of, rules_command};
 ghost use Rattle.mq_cli.specs.CommandLine.{rules_request, show_command, show_request};
 
+use crate::digits::spaced;
 use clap::error::ErrorKind;
 use clap::{Arg, ArgAction, ArgMatches, Command, Error};
 use std::alloc::{AllocError, Global};
@@ -30,7 +31,7 @@ const SHOW_HELP: &str = "Statuses: 0 if the log was shown, 2 for a rejected log,
 
 const PACKET_HELP: &str = "Statuses: 0 for one packet, 1 for other bytes, 3 for misuse,\n\
     4 if writing failed or memory ran out.\n\
-    Example: mqjudge packet 40020001\n\
+    Example: mqjudge packet 40 02 00 01\n\
     The log's format: docs/LOG_FORMAT.md";
 
 const RULES_HELP: &str = "Statuses: 0 if they were listed, 3 for misuse,\n\
@@ -38,7 +39,7 @@ const RULES_HELP: &str = "Statuses: 0 if they were listed, 3 for misuse,\n\
     Example: mqjudge rules --role client\n\
     The log's format: docs/LOG_FORMAT.md";
 
-const EXPLAIN_HELP: &str = "Statuses: 0 if it was explained, 3 for misuse or an unknown code,\n\
+const EXPLAIN_HELP: &str = "Statuses: 0 if it was explained, 3 for misuse or an unknown word,\n\
     4 if writing failed or memory ran out.\n\
     Example: mqjudge explain S01\n\
     The log's format: docs/LOG_FORMAT.md";
@@ -87,7 +88,7 @@ pub enum Task {
     },
     /// Say which packet the bytes are that `hex` spells.
     Packet {
-        /// Two hexadecimal digits for each byte.
+        /// Two hexadecimal digits for each byte. Spaces may be between bytes.
         hex: String,
     },
     /// List the statements: those that bind the end that `role` names, or all if there is none.
@@ -95,14 +96,24 @@ pub enum Task {
         /// `client` or `server`.
         role: Option<String>,
     },
-    /// Explain a statement.
+    /// Explain a statement, or all statements with a citation.
     Explain {
-        /// Its code, in capitals or not.
+        /// The code or the citation, in capitals or not.
         code: String,
     },
 }
 
 impl Task {
+    /// Whether the task reads a log.
+    pub fn reads_log(&self) -> bool
+        ensures { result ≡ reads_log self.now }
+    {
+        match self {
+            Task::Check { .. } | Task::Show { .. } => true,
+            Task::Packet { .. } | Task::Rules { .. } | Task::Explain { .. } => false,
+        }
+    }
+
     /// The path of the log that the task reads: `None` if it reads standard input, which `-` means
     /// too, and for tasks that read no log.
     pub fn path(&self) -> Option<&str>
@@ -140,7 +151,7 @@ pub enum EarlyExit {
 
 /// Reads the words of a command line, `mqjudge check [--json] [--summary] [FILE]`,
 /// `mqjudge show [--long] [--faults] [--around N] [FILE]`,
-/// `mqjudge packet HEX`, `mqjudge rules [--role ROLE]` or `mqjudge explain CODE`, of which the
+/// `mqjudge packet HEX..`, `mqjudge rules [--role ROLE]` or `mqjudge explain CODE`, of which the
 /// first is the program's name. A request for help or the version is returned as a `EarlyExit`, and so
 /// are words that aren't such a command line.
 pub fn parse<S: AsStr>(alloc: Global, words: &[S]) -> Result<Work, EarlyExit>
@@ -167,7 +178,7 @@ pub fn parse<S: AsStr>(alloc: Global, words: &[S]) -> Result<Work, EarlyExit>
                     show.get_str("N"),
                 ),
                 None => match matches.subcommand_matches("packet") {
-                    Some(packet) => packet_task(alloc, packet.get_str("HEX")),
+                    Some(packet) => packet_task(alloc, packet.get_strs("HEX")),
                     None => match matches.subcommand_matches("rules") {
                         Some(rules) => rules_task(alloc, rules.get_str("role")),
                         None => match matches.subcommand_matches("explain") {
@@ -295,8 +306,9 @@ fn packet_command<'a>(alloc: Global) -> Result<Command<'a>, AllocError>
     ensures local { IfOk result (λ command. (out-Command command).has_globals ≡ false) }
 {
     let hex = Arg::new(alloc, "HEX")
-        .help("The packet's bytes, two hexadecimal digits each")
-        .required(true);
+        .help("The packet's bytes, two hexadecimal digits each, with or without spaces")
+        .required(true)
+        .num_args(1..);
     Command::new(alloc, "packet")
         .about("Says which packet some bytes are")
         .after_help(PACKET_HELP)
@@ -322,11 +334,11 @@ fn explain_command<'a>(alloc: Global) -> Result<Command<'a>, AllocError>
     ensures app { IfOk result (λ command. app_of command ≡ explain_command) }
     ensures local { IfOk result (λ command. (out-Command command).has_globals ≡ false) }
 {
-    let code = Arg::new(alloc, "CODE")
-        .required(true)
-        .help("The statement's code, such as S01");
+    let code = Arg::new(alloc, "CODE").required(true).help(
+        "The statement's code, such as S01, or its citation, such as MQTT-4.4.0-1",
+    );
     Command::new(alloc, "explain")
-        .about("Explains a statement")
+        .about("Explains a statement, or those with a citation")
         .after_help(EXPLAIN_HELP)
         .arg(code)
 }
@@ -388,14 +400,14 @@ fn show_task(
     }))
 }
 
-// The task of `packet` on this operand; a missing operand counts as an empty one.
-fn packet_task(alloc: Global, hex: Option<&str>) -> Result<Work, EarlyExit>
+// The task of `packet` on these operands; if there are none, on no digits.
+fn packet_task(alloc: Global, words: Option<&[&str]>) -> Result<Work, EarlyExit>
     ensures work { IfOk result (λ work.
-        request_by work ≡ packet_request (option_map (λ text. text.now) hex.entry)) }
+        request_by work ≡ packet_request (option_map (λ words. map (λ word. word.now) words.now) words.entry)) }
     ensures readings { IfOk result ReadsAsAsked }
     ensures stop { IfErr result (λ stop. stop ≡ EarlyExit.Memory) }
 {
-    match String::from_str(alloc, hex.unwrap_or("")) {
+    match spaced(alloc, words.unwrap_or(&[])) {
         Ok(hex) => Ok(Work::Once(Task::Packet { hex })),
         Err(_) => Err(EarlyExit::Memory),
     }

@@ -8,7 +8,7 @@ use std::io::Write;
 pub trait ErrorStream {
     ghost use Rattle.std.specs.Prelude.{◌≡◌, Bool, IfErr, List, ℕ, OnOk, Option};
     ghost use Rattle.std.specs.Io.KnownBytes.{Appends};
-    ghost use Rattle.mq_cli.specs.Messages.{IsCutOff, IsTold, stream};
+    ghost use Rattle.mq_cli.specs.Streams.{IsCutOff, IsTold, stream};
 
     // The bytes that it holds, if they are known.
     ghost contents: { Self → Option (List ℕ) };

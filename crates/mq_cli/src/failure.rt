@@ -1,8 +1,9 @@
-//! What keeps the program from its task, and the statuses that it exits with.
+//! What keeps a task from being done, and the statuses that the program exits with.
 ghost use Rattle.std.specs.Prelude.{◌≡◌};
-ghost use Rattle.mq_cli.specs.Messages.{IsTold, failure_line, stream};
+ghost use Rattle.mq_cli.specs.Streams.{IsTold, failure_line, stream};
 
 use crate::error_stream::ErrorStream;
+use crate::misuse::Misuse;
 
 /// The status if a log was judged and has no fault, if a log was shown, and if bytes are one packet.
 pub const PASSED: u8 = 0;
@@ -20,10 +21,19 @@ pub const MISUSED: u8 = 3;
 /// The status if reading or writing failed, or memory ran out.
 pub const FAILED: u8 = 4;
 
-/// What kept the program from its task.
+/// What keeps a task from being done.
+#[derive(Clone, Copy)]
+pub enum Obstacle<'a> {
+    /// Something failed.
+    Failed(Failure),
+    /// What the words ask for can't be done.
+    Misused(Misuse<'a>),
+}
+
+/// What failed.
 #[derive(Clone, Copy, Debug, PartialEq, Eq)]
 pub enum Failure {
-    /// The words or the log couldn't be read, or the file couldn't be opened.
+    /// The log couldn't be read.
     Read,
     /// The output couldn't be written.
     Write,

@@ -1,7 +1,9 @@
 //! What the tests share: the bytes of logs, a reader and a writer that fail, and what the words of a task do.
 use crate::command_line::{EarlyExit, Task, Work, parse};
-use crate::failure::FAILED;
-use crate::tasks::{perform, stop};
+use crate::error_stream::ErrorStream;
+use crate::failure::{FAILED, Obstacle};
+use crate::output::Outlet;
+use crate::tasks::{attempt, stop};
 use std::alloc::{AllocError, Global};
 use std::io;
 use std::io::{Cursor, ErrorKind, Read, Write};
@@ -36,24 +38,34 @@ pub fn add_record(log: &mut Vec<u8>, kind: u8, body: &[u8]) -> Result<(), AllocE
     log.extend_from_slice(body)
 }
 
-/// A reader that gives one byte a call, and fails after `fails_after` bytes, if that is some.
+/// A reader that gives one byte a call, and fails after `fails_after` bytes, if that is some, with an error of this kind.
 #[derive(Drop)]
 pub struct Trickle<'a> {
     bytes: &'a [u8],
     fails_after: Option<usize>,
+    kind: ErrorKind,
 }
 
 impl Trickle<'_> {
     /// A reader that gives these bytes, and fails before the byte of this index, if that is some.
     pub fn of(bytes: &[u8], fails_after: Option<usize>) -> Trickle<'_> {
-        Trickle { bytes, fails_after }
+        Trickle::failing(bytes, fails_after, ErrorKind::Other)
+    }
+
+    /// The same, with the kind of its error.
+    pub fn failing(bytes: &[u8], fails_after: Option<usize>, kind: ErrorKind) -> Trickle<'_> {
+        Trickle {
+            bytes,
+            fails_after,
+            kind,
+        }
     }
 }
 
 impl Read for Trickle<'_> {
     fn read(&mut self, buf: &mut [u8]) -> io::Result<usize> {
         if self.fails_after == Some(0) {
-            return Err(ErrorKind::Other.into());
+            return Err(self.kind.into());
         }
         self.fails_after = self.fails_after.map(|left| left.saturating_sub(1));
         if self.bytes.is_empty() || buf.is_empty() {
@@ -65,7 +77,8 @@ impl Read for Trickle<'_> {
     }
 }
 
-/// A writer that takes `room` bytes and then fails, as does its flush if `stays` says so.
+/// A writer that takes `room` bytes and then fails, as does its flush if `stays` says so. Its writes fail as on a full disk, its
+/// flush as if nobody read it any more.
 #[derive(Drop)]
 pub struct Narrow {
     pub room: usize,
@@ -115,6 +128,21 @@ pub fn task_of(alloc: Global, words: &[&str]) -> Result<Task, EarlyExit> {
     }
 }
 
+// Does the task, says on `error` what keeps it from being done, and returns the status.
+fn perform<R: Read, W: Write, E: ErrorStream>(
+    alloc: Global,
+    task: &Task,
+    input: &mut R,
+    output: &mut W,
+    error: &mut E,
+) -> u8 {
+    match attempt(alloc, task, input, output) {
+        Ok(status) => status,
+        Err(Obstacle::Failed(failure)) => failure.report(error),
+        Err(Obstacle::Misused(misuse)) => misuse.report(alloc, error),
+    }
+}
+
 /// What these words do with this input.
 pub fn printed_by<R: Read>(
     alloc: Global,
@@ -155,7 +183,7 @@ pub fn status_by<W: Write, E: Write>(
 ) -> u8 {
     match task_of(alloc, words) {
         Ok(task) => perform(alloc, &task, &mut &log[..], output, error),
-        Err(why) => stop(&why, output, error),
+        Err(why) => stop(&why, &mut Outlet::new(output), error),
     }
 }
 

@@ -1,8 +1,9 @@
 //! What the program takes from the system.
-ghost use Rattle.std.specs.Prelude.{◌≡◌, ◌≢◌};
+ghost use Rattle.std.specs.Prelude.{◌≡◌};
 ghost use Rattle.std.specs.IoError.{error_kind};
+ghost use Rattle.mq_cli.specs.Troubles.{trouble_for, words_trouble_for};
 
-use crate::failure::Failure;
+use crate::trouble::{Reason, Trouble};
 use std::env;
 use std::fs::File;
 use std::io::{self, ErrorKind, Input, Read};
@@ -12,7 +13,7 @@ use std::rt::{Env, Files};
 pub trait Host {
     ghost use Rattle.std.specs.Prelude.{IfErr, IfOk, IfSome, ◌≡◌, map, string_bytes};
     ghost use Rattle.std.specs.Io.KnownBytes.{Keeps};
-    ghost use Rattle.mq_cli.specs.Program.{Given};
+    ghost use Rattle.mq_cli.specs.Given.{Given};
 
     /// A file that is open.
     type File: Read + Drop;
@@ -26,8 +27,8 @@ pub trait Host {
     ///
     /// # Errors
     ///
-    /// `Read` if a word isn't UTF-8, and `Memory`.
-    fn arguments(&self) -> Result<Vec<String>, Failure>
+    /// `Unread` if a word isn't UTF-8, and `Memory`.
+    fn arguments(&self) -> Result<Vec<String>, Trouble>
         ensures words { IfOk result (λ given. IfSome (gives self.now).words
             (λ words. map string_bytes given.items ≡ words)) }
         ensures failed { IfErr result (gives self.now).unread };
@@ -36,8 +37,8 @@ pub trait Host {
     ///
     /// # Errors
     ///
-    /// `Read` if the file can't be opened, and `Memory`.
-    fn open(&self, path: &str) -> Result<Self::File, Failure>
+    /// `Unread` if the file can't be opened, and `Memory`.
+    fn open(&self, path: &str) -> Result<Self::File, Trouble>
         ensures bytes { IfOk result (λ opened. Keeps ((gives self.now).file path.now) (Self.File.remaining opened)) }
         ensures failed { IfErr result ((gives self.now).unopened path.now) };
 
@@ -55,7 +56,7 @@ pub struct System<'a, R> {
 
 impl<R: AllocGlobal + Env + Files + Input> Host for System<'_, R> {
     ghost use Rattle.std.specs.Prelude.{None, ◌≢◌};
-    ghost use Rattle.mq_cli.specs.declared.failure.Failure.TheVariants.{Write};
+    ghost use Rattle.mq_cli.specs.declared.trouble.Trouble.TheVariants.{Write};
 
     type File = R::File;
 
@@ -66,19 +67,24 @@ impl<R: AllocGlobal + Env + Files + Input> Host for System<'_, R> {
       words = None;
       file = λ _. None;
       standard = None;
-      unread = λ failure. failure ≢ Write;
-      unopened = λ _ failure. failure ≢ Write;
+      unread = λ trouble. trouble ≢ Write;
+      unopened = λ _ trouble. trouble ≢ Write;
     } };
 
-    fn arguments(&self) -> Result<Vec<String>, Failure> {
-        let arguments = env::args(self.rt).map_err(failed_reading)?;
-        arguments
-            .collect(self.rt.alloc())
-            .map_err(|_| Failure::Memory)
+    fn arguments(&self) -> Result<Vec<String>, Trouble> {
+        match env::args(self.rt) {
+            Ok(arguments) => arguments
+                .collect(self.rt.alloc())
+                .map_err(|_| Trouble::Memory),
+            Err(error) => Err(failed_words(&error)),
+        }
     }
 
-    fn open(&self, path: &str) -> Result<R::File, Failure> {
-        File::open(self.rt, path).map_err(failed_reading)
+    fn open(&self, path: &str) -> Result<R::File, Trouble> {
+        match File::open(self.rt, path) {
+            Ok(file) => Ok(file),
+            Err(error) => Err(failed_opening(&error)),
+        }
     }
 
     fn input(&self) -> R::Reader {
@@ -86,13 +92,23 @@ impl<R: AllocGlobal + Env + Files + Input> Host for System<'_, R> {
     }
 }
 
-// Why something couldn't be read.
-fn failed_reading(error: io::Error) -> Failure
-    ensures memory { error_kind error ≡ ErrorKind.OutOfMemory → result ≡ Failure.Memory }
-    ensures read { error_kind error ≢ ErrorKind.OutOfMemory → result ≡ Failure.Read }
+// Why a file couldn't be opened.
+fn failed_opening(error: &io::Error) -> Trouble
+    ensures { result ≡ trouble_for (error_kind error.now) }
 {
     match error.kind() {
-        ErrorKind::OutOfMemory => Failure::Memory,
-        _ => Failure::Read,
+        ErrorKind::OutOfMemory => Trouble::Memory,
+        kind => Trouble::Unread(Reason::of(kind)),
+    }
+}
+
+// Why the words couldn't be read. Invalid data is a word that isn't UTF-8.
+fn failed_words(error: &io::Error) -> Trouble
+    ensures { result ≡ words_trouble_for (error_kind error.now) }
+{
+    match error.kind() {
+        ErrorKind::OutOfMemory => Trouble::Memory,
+        ErrorKind::InvalidData => Trouble::Unread(Reason::NotUtf8),
+        _ => Trouble::Unread(Reason::Other),
     }
 }

@@ -1,9 +1,8 @@
 //! The list of the statements.
-ghost use Rattle.std.specs.Prelude.{◌≡◌, ◌++◌, IfOk, OnOk, Some, codes, map, string_bytes};
+ghost use Rattle.std.specs.Prelude.{◌≡◌, ◌++◌, IfOk, OnOk, Some, string_bytes};
 ghost use Rattle.std.specs.List.{flat_map};
 ghost use Rattle.mq_rules.specs.declared.rule.Rule.{Rule};
-ghost use Rattle.mq_rules.specs.Rules.{citation_of};
-ghost use Rattle.mq_cli.specs.Listing.{both_citations, bound_ends, citation_for, lists_statement};
+ghost use Rattle.mq_cli.specs.Listing.{all_codes, both_citations, bound_ends, citation_for, lists_statement, spaced_code};
 ghost use Rattle.mq_cli.specs.Listing.{listed_line, role_named, statement_line, statement_lines};
 
 use mq_rules::{Role, Rule};
@@ -15,6 +14,32 @@ pub fn listing(alloc: Global, role: Option<Role>) -> Result<String, AllocError>
     ensures { IfOk result (λ text. string_bytes text ≡ statement_lines role) }
 {
     lines_of(alloc, Rule::all(), role)
+}
+
+/// Appends the codes of all statements to the text, in the order of reports, each after a space.
+#[tactic(auto, unfolding(crate::specs::Listing::all_codes))]
+pub fn add_all_codes(text: &mut String) -> Result<(), AllocError>
+    ensures { OnOk result (string_bytes text.new ≡ string_bytes text.old ++ all_codes) }
+{
+    add_codes(text, Rule::all())
+}
+
+// Appends the codes of these statements to the text, each after a space.
+fn add_codes(text: &mut String, rules: &[Rule]) -> Result<(), AllocError>
+    ensures { OnOk result (string_bytes text.new ≡ string_bytes text.old ++ flat_map spaced_code rules.now) }
+{
+    for rule in rules {
+        add_code(text, *rule)?;
+    }
+    Ok(())
+}
+
+// Appends the code of a statement to the text, after a space.
+fn add_code(text: &mut String, rule: Rule) -> Result<(), AllocError>
+    ensures { OnOk result (string_bytes text.new ≡ string_bytes text.old ++ spaced_code rule) }
+{
+    text.push_str(" ")?;
+    text.push_str(rule.code())
 }
 
 // The lines of these statements.

@@ -1,7 +1,12 @@
 //! `mqjudge` judges the log of one end of an MQTT 5.0 session.
 #![tactic(auto)]
 
+mod beginning;
+mod citations;
 mod command_line;
+#[cfg(test)]
+mod desk;
+mod digits;
 mod error_stream;
 mod explanations;
 mod failure;
@@ -11,6 +16,9 @@ mod host;
 #[cfg(test)]
 mod large_tests;
 mod listing;
+mod misuse;
+mod noting;
+mod output;
 #[cfg(test)]
 mod packet_tests;
 #[cfg(test)]
@@ -26,10 +34,14 @@ mod show_tests;
 mod tasks;
 #[cfg(test)]
 mod tests;
+mod trouble;
+#[cfg(test)]
+mod trouble_tests;
 mod writing;
 
 use failure::Failure;
 use host::System;
+use output::Outlet;
 use program::run;
 use std::io::BufWriter;
 use std::process::ExitCode;
@@ -39,7 +51,7 @@ fn main(rt: HostRuntime) -> ExitCode {
     let system = System { rt: &rt };
     let mut error = rt.stderr();
     let status = match BufWriter::new(alloc, rt.stdout()) {
-        Ok(mut output) => run(alloc, &system, &mut output, &mut error),
+        Ok(output) => run(alloc, &system, &mut Outlet::new(output), &mut error),
         Err(_) => Failure::Memory.report(&mut error),
     };
     ExitCode::from(status)

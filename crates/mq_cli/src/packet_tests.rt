@@ -274,11 +274,31 @@ fn says_which_packet_bytes_are(rt: HostRuntime) -> Result<(), Fail> {
 
 #[test]
 fn refuses_digits_that_are_none(rt: HostRuntime) -> Result<(), Fail> {
-    for hex in ["4", "400", "4g", "40 02", "0x40", "é"] {
+    for hex in [
+        "4", "400", "4g", "4 00", "4 0", "40 020", "40\t02", "0x40", "é",
+    ] {
         let printed = printed_of_packet(rt.alloc(), hex)?;
         assert_eq!(rt; printed.status, MISUSED);
         assert_eq!(rt; printed.error.as_slice(), &b"mqjudge: not hex\n"[..]);
         assert!(rt; printed.output.is_empty());
+    }
+    Ok(())
+}
+
+// The words of a PUBACK, whose digits are spaced in all ways.
+const SPACED: [&[&str]; 5] = [
+    &["mqjudge", "packet", "40 02 00 01"],
+    &["mqjudge", "packet", "40", "02", "00", "01"],
+    &["mqjudge", "packet", "4002", "0001"],
+    &["mqjudge", "packet", "  4002 00  01 "],
+    &["mqjudge", "packet", "40 02", "", "00 01"],
+];
+
+#[test]
+fn takes_spaces_between_bytes(rt: HostRuntime) -> Result<(), Fail> {
+    for words in SPACED {
+        let printed = printed_by(rt.alloc(), words, &mut io::empty())?;
+        assert!(rt; printed.says(PASSED, "PUBACK size 4 id 1\n"), "{words:?}");
     }
     Ok(())
 }
@@ -315,12 +335,8 @@ fn reads_the_words_of_a_packet(rt: HostRuntime) -> Result<(), Fail> {
         return Err("no packet".into());
     };
     assert!(rt; hex.as_str() == "c000");
-    let misuses: [(&[&str], &str); 3] = [
+    let misuses: [(&[&str], &str); 2] = [
         (&["mqjudge", "packet"], "<HEX>"),
-        (
-            &["mqjudge", "packet", "c0", "00"],
-            "unexpected argument '00' found",
-        ),
         (
             &["mqjudge", "packet", "--json", "c000"],
             "unexpected argument '--json' found",

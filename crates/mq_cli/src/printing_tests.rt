@@ -1,6 +1,6 @@
 use crate::command_line::EarlyExit;
 use crate::explanations::explanation;
-use crate::failure::PASSED;
+use crate::failure::{MISUSED, PASSED};
 use crate::harness::printed_by;
 use mq_rules::{Role, Rule};
 use std::alloc::Global;
@@ -87,6 +87,71 @@ fn lists_the_statements(rt: HostRuntime) -> Result<(), Fail> {
         (&["mqjudge", "rules", "--role", "server"][..], 64),
     ] {
         assert!(rt; lists(rt.alloc(), words, lines, first)?, "{words:?}");
+    }
+    Ok(())
+}
+
+// The codes of the statements that a word explains, in this order, with an empty line between two texts.
+fn is_explained_by(alloc: Global, word: &str, codes: &[&str]) -> Result<bool, EarlyExit> {
+    let printed = printed_by(alloc, &["mqjudge", "explain", word], &mut io::empty())?;
+    let mut rest = printed.output.as_slice();
+    for (at, code) in codes.iter().enumerate() {
+        let Some(rule) = Rule::of_code(code) else {
+            return Ok(false);
+        };
+        let text = explanation(rule).as_bytes();
+        if at > 0 {
+            rest = match rest {
+                [b'\n', after @ ..] => after,
+                _ => return Ok(false),
+            };
+        }
+        if !rest.starts_with(text) {
+            return Ok(false);
+        }
+        rest = &rest[text.len()..];
+    }
+    Ok(printed.status == PASSED && rest.is_empty())
+}
+
+#[test]
+fn explains_all_statements_with_a_citation(rt: HostRuntime) -> Result<(), Fail> {
+    let rows: [(&str, &[&str]); 9] = [
+        ("MQTT-4.4.0-1", &["S03", "S06"]),
+        ("mqtt-4.4.0-1", &["S03", "S06"]),
+        ("MQTT-2.2.1-5", &["E1A", "E2A", "E3A", "E4A"]),
+        ("sec-2.2.1", &["W09"]),
+        ("MQTT-2.2.1-4", &["S01"]),
+        ("MQTT-2.2.1-3;MQTT-2.2.1-4", &["S01"]),
+        ("MQTT-4.3.2-2,MQTT-4.3.3-2", &["S02"]),
+        ("MQTT-4.3.3-2", &["S02"]),
+        ("MQTT-3.2.2-7", &["C12", "C23"]),
+    ];
+    for (word, codes) in rows {
+        assert!(rt; is_explained_by(rt.alloc(), word, codes)?, "{word}");
+    }
+    Ok(())
+}
+
+// With each word: the beginning of a citation, or separators alone.
+#[test]
+fn explains_no_other_word(rt: HostRuntime) -> Result<(), Fail> {
+    for word in [
+        "MQTT-4.4.0",
+        "MQTT-4.4.0-1,",
+        "",
+        ",",
+        ";",
+        "sec-",
+        "S0",
+        "MQTT-4.4.0-1,S06",
+    ] {
+        let printed = printed_by(rt.alloc(), &["mqjudge", "explain", word], &mut io::empty())?;
+        assert_eq!(rt; printed.status, MISUSED);
+        assert!(rt;
+            printed.output.is_empty() && !printed.error.is_empty(),
+            "{word}"
+        );
     }
     Ok(())
 }

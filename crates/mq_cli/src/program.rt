@@ -1,52 +1,70 @@
 //! The program: from the words of its command line to its status.
-ghost use Rattle.std.specs.Prelude.{◌≡◌, ◌≤◌, ◌⊎◌, IfSome, map};
-ghost use Rattle.std.specs.Io.KnownBytes.{Appends, Keeps};
-ghost use Rattle.mq_cli.specs.Program.{FailsWords, FailsRead, FailsWork, FindsFaults, FindsFaultsIn, IsMisuse, WordsUnread};
-ghost use Rattle.mq_cli.specs.Program.{MisusesWork, Passes, PassesWork, Refuses, RefusesWork, input_of};
-ghost use Rattle.mq_cli.specs.Messages.{HasFailed, HasPassed, IsMisnamed, IsRefusedOn, IsReportedOn, misnamed_line, stream};
+ghost use Rattle.std.specs.Prelude.{◌≡◌, ◌≤◌, ◌⊎◌, IfSome, None, map};
+ghost use Rattle.std.specs.Io.KnownBytes.{Appends, Keeps, prepend_known};
+ghost use Rattle.mq_cli.specs.Program.{FailsLog, FailsWords, FailsRead, FailsTaskOn, FailsWork, FindsFaults, FindsFaultsIn, IsMisuse, WordsUnread};
+ghost use Rattle.mq_cli.specs.Program.{IsHinted, MisusesWork, Passes, PassesWork, Refuses, RefusesWork, input_of};
+ghost use Rattle.mq_cli.specs.Messages.{HasFailed, HasPassed, IsMisnamed, IsRefusedOn, IsReportedOn, misnamed_line};
+ghost use Rattle.mq_cli.specs.Streams.{IsTold, stream};
+ghost use Rattle.mq_cli.specs.Troubles.{hint_line};
 
+use crate::beginning::{give_hint, read_start};
 use crate::command_line::{Task, Work, parse};
 use crate::error_stream::ErrorStream;
+use crate::failure::{Obstacle, REFUSED};
 use crate::host::Host;
+use crate::noting::Noting;
+use crate::output::Output;
 use crate::reviewing::review;
-use crate::tasks::{perform, stop};
+use crate::tasks::{attempt, stop};
+use crate::trouble::Trouble;
 use std::alloc::Global;
 use std::convert::AsStr;
-use std::io::Write;
+use std::io::Read;
+
+// What a message calls standard input, and the words.
+const STANDARD_INPUT: &str = "standard input";
+
+const COMMAND_LINE: &str = "the command line";
 
 /// Does what the words of the command line ask for, and returns the status to exit with: that of
-/// `perform` for a task, of `review` for a log that is read twice, and of `stop` for help, the
-/// version and a misuse; and 4 if the words couldn't be read.
-pub fn run<H: Host, W: Write, E: ErrorStream>(
+/// `attempt` for a task, of `review` for a log that is read twice, and of `stop` for help, the
+/// version and a misuse; 3 too if a word names nothing, and 4 if something failed.
+///
+/// What failed is reported on `error`, unless nobody reads `output` any more. If that was reading, a
+/// second line says what couldn't be read, and why. For a refused log whose first bytes show that it
+/// is another kind of file, a line on `error` says what to do with it.
+pub fn run<H: Host, W: Output, E: ErrorStream>(
     alloc: Global,
     host: &H,
     output: &mut W,
     error: &mut E,
 ) -> u8
     ensures statuses { result ≤ 4 }
-    ensures quiet { result ≤ 2 → Keeps (E.contents error.old) (E.contents error.new) }
+    ensures quiet { result ≤ 1 → Keeps (E.contents error.old) (E.contents error.new) }
     ensures unprinted { result ≡ 3 → Keeps (W.contents output.old) (W.contents output.new) }
     ensures passed { result ≡ 0 → IfSome (H.gives host.now).words (λ words.
         Passes words (H.gives host.now) (W.contents output.old) (W.contents output.new)) }
     ensures faulty { result ≡ 1 → IfSome (H.gives host.now).words (λ words.
         FindsFaults words (H.gives host.now) (W.contents output.old) (W.contents output.new)) }
-    ensures refused { result ≡ 2 → IfSome (H.gives host.now).words (λ words.
-        Refuses words (H.gives host.now) (W.contents output.old) (W.contents output.new)) }
+    ensures refused { result ≡ 2 → IfSome (H.gives host.now).words (λ words. Refuses words (H.gives host.now)
+        (W.contents output.old) (W.contents output.new) (stream E.contents E.has_failed error.old error.new)) }
+    // Whatever the log is, no more than a hint is written there.
+    ensures hinted { result ≡ 2 → IsHinted None (stream E.contents E.has_failed error.old error.new) }
     ensures misused { result ≡ 3 → IfSome (H.gives host.now).words (λ words.
         IsMisuse words (E.contents error.old) (E.contents error.new)) }
-    ensures failed { result ≡ 4 → WordsUnread (H.gives host.now)
+    ensures failed { result ≡ 4 → WordsUnread (H.gives host.now) (W.is_closed output.new)
         (W.contents output.old) (W.contents output.new) (stream E.contents E.has_failed error.old error.new)
-        ⊎ IfSome (H.gives host.now).words (λ words. FailsWords words (H.gives host.now)
+        ⊎ IfSome (H.gives host.now).words (λ words. FailsWords words (H.gives host.now) (W.is_closed output.new)
         (W.contents output.old) (W.contents output.new) (stream E.contents E.has_failed error.old error.new)) }
 {
     match host.arguments() {
         Ok(words) => respond(alloc, host, words.as_slice(), output, error),
-        Err(why) => why.report(error),
+        Err(trouble) => trouble.report(COMMAND_LINE, output, error),
     }
 }
 
 // Does what these words ask for, and returns the status to exit with.
-fn respond<S: AsStr, H: Host, W: Write, E: ErrorStream>(
+fn respond<S: AsStr, H: Host, W: Output, E: ErrorStream>(
     alloc: Global,
     host: &H,
     words: &[S],
@@ -54,17 +72,17 @@ fn respond<S: AsStr, H: Host, W: Write, E: ErrorStream>(
     error: &mut E,
 ) -> u8
     ensures statuses { result ≤ 4 }
-    ensures quiet { result ≤ 2 → Keeps (E.contents error.old) (E.contents error.new) }
+    ensures quiet { result ≤ 1 → Keeps (E.contents error.old) (E.contents error.new) }
     ensures unprinted { result ≡ 3 → Keeps (W.contents output.old) (W.contents output.new) }
     ensures passed { result ≡ 0 → Passes (map S.text words.now) (H.gives host.now)
         (W.contents output.old) (W.contents output.new) }
     ensures faulty { result ≡ 1 → FindsFaults (map S.text words.now) (H.gives host.now)
         (W.contents output.old) (W.contents output.new) }
     ensures refused { result ≡ 2 → Refuses (map S.text words.now) (H.gives host.now)
-        (W.contents output.old) (W.contents output.new) }
+        (W.contents output.old) (W.contents output.new) (stream E.contents E.has_failed error.old error.new) }
     ensures misused { result ≡ 3 → IsMisuse (map S.text words.now)
         (E.contents error.old) (E.contents error.new) }
-    ensures failed { result ≡ 4 → FailsWords (map S.text words.now) (H.gives host.now)
+    ensures failed { result ≡ 4 → FailsWords (map S.text words.now) (H.gives host.now) (W.is_closed output.new)
         (W.contents output.old) (W.contents output.new) (stream E.contents E.has_failed error.old error.new) }
 {
     match parse(alloc, words) {
@@ -74,7 +92,7 @@ fn respond<S: AsStr, H: Host, W: Write, E: ErrorStream>(
 }
 
 // Does the work, and returns the status to exit with.
-fn work_on<H: Host, W: Write, E: ErrorStream>(
+fn work_on<H: Host, W: Output, E: ErrorStream>(
     alloc: Global,
     host: &H,
     work: &Work,
@@ -82,23 +100,24 @@ fn work_on<H: Host, W: Write, E: ErrorStream>(
     error: &mut E,
 ) -> u8
     ensures statuses { result ≤ 4 }
-    ensures quiet { result ≤ 2 → Keeps (E.contents error.old) (E.contents error.new) }
+    ensures quiet { result ≤ 1 → Keeps (E.contents error.old) (E.contents error.new) }
     ensures unprinted { result ≡ 3 → Keeps (W.contents output.old) (W.contents output.new) }
     ensures passed { result ≡ 0 → PassesWork (H.gives host.now) work.now (W.contents output.old) (W.contents output.new) }
     ensures faulty { result ≡ 1 → FindsFaultsIn (H.gives host.now) work.now (W.contents output.old) (W.contents output.new) }
-    ensures refused { result ≡ 2 → RefusesWork (H.gives host.now) work.now (W.contents output.old) (W.contents output.new) }
+    ensures refused { result ≡ 2 → RefusesWork (H.gives host.now) work.now
+        (W.contents output.old) (W.contents output.new) (stream E.contents E.has_failed error.old error.new) }
     ensures misused { result ≡ 3 → MisusesWork work.now (E.contents error.old) (E.contents error.new) }
-    ensures failed { result ≡ 4 → FailsWork (H.gives host.now) work.now
+    ensures failed { result ≡ 4 → FailsWork (H.gives host.now) work.now (W.is_closed output.new)
         (W.contents output.old) (W.contents output.new) (stream E.contents E.has_failed error.old error.new) }
 {
     match work {
-        Work::Once(task) => read_and_perform(alloc, host, task, output, error),
+        Work::Once(task) => read_and_do(alloc, host, task, output, error),
         Work::Twice(asked) => review(alloc, host, asked, output, error),
     }
 }
 
 // Does the task on the log that it names, and returns the status to exit with.
-fn read_and_perform<H: Host, W: Write, E: ErrorStream>(
+fn read_and_do<H: Host, W: Output, E: ErrorStream>(
     alloc: Global,
     host: &H,
     task: &Task,
@@ -106,7 +125,7 @@ fn read_and_perform<H: Host, W: Write, E: ErrorStream>(
     error: &mut E,
 ) -> u8
     ensures statuses { result ≤ 4 }
-    ensures quiet { result ≤ 2 → Keeps (E.contents error.old) (E.contents error.new) }
+    ensures quiet { result ≤ 1 → Keeps (E.contents error.old) (E.contents error.new) }
     ensures unprinted { result ≡ 3 → Keeps (W.contents output.old) (W.contents output.new) }
     ensures passed { result ≡ 0 → HasPassed task.now (input_of (H.gives host.now) task.now) }
     ensures faulty { result ≡ 1 → HasFailed task.now (input_of (H.gives host.now) task.now) }
@@ -114,16 +133,100 @@ fn read_and_perform<H: Host, W: Write, E: ErrorStream>(
         (W.contents output.old) (W.contents output.new) }
     ensures refused { result ≡ 2 → IsRefusedOn task.now (input_of (H.gives host.now) task.now)
         (W.contents output.old) (W.contents output.new) }
+    ensures hinted { result ≡ 2 → IsHinted (input_of (H.gives host.now) task.now)
+        (stream E.contents E.has_failed error.old error.new) }
     ensures misused { result ≡ 3 → IsMisnamed task.now
         × Appends (E.contents error.old) (E.contents error.new) (misnamed_line task.now) }
-    ensures failed { result ≡ 4 → FailsRead (H.gives host.now) task.now
+    ensures failed { result ≡ 4 → FailsRead (H.gives host.now) task.now (W.is_closed output.new)
         (W.contents output.old) (W.contents output.new) (stream E.contents E.has_failed error.old error.new) }
 {
     match task.path() {
         Some(path) => match host.open(path) {
-            Ok(mut file) => perform(alloc, task, &mut file, output, error),
-            Err(failure) => failure.report(error),
+            Ok(file) => do_on(alloc, task, path, file, output, error),
+            Err(trouble) => trouble.report(path, output, error),
         },
-        None => perform(alloc, task, &mut host.input(), output, error),
+        None => {
+            if task.reads_log() {
+                do_on(alloc, task, STANDARD_INPUT, host.input(), output, error)
+            } else {
+                do_from(
+                    alloc,
+                    task,
+                    STANDARD_INPUT,
+                    b"",
+                    host.input(),
+                    output,
+                    error,
+                )
+            }
+        }
+    }
+}
+
+// Does the task on the log that a reader gives, and returns the status to exit with. Messages call the reader by this name.
+fn do_on<R: Read + Drop, W: Output, E: ErrorStream>(
+    alloc: Global,
+    task: &Task,
+    place: &str,
+    input: R,
+    output: &mut W,
+    error: &mut E,
+) -> u8
+    ensures statuses { result ≤ 4 }
+    ensures quiet { result ≤ 1 → Keeps (E.contents error.old) (E.contents error.new) }
+    ensures unprinted { result ≡ 3 → Keeps (W.contents output.old) (W.contents output.new) }
+    ensures passed { result ≡ 0 → HasPassed task.now (R.remaining input) }
+    ensures faulty { result ≡ 1 → HasFailed task.now (R.remaining input) }
+    ensures reported { result ≤ 1 → IsReportedOn task.now (R.remaining input) (W.contents output.old) (W.contents output.new) }
+    ensures refused { result ≡ 2 → IsRefusedOn task.now (R.remaining input) (W.contents output.old) (W.contents output.new) }
+    ensures hinted { result ≡ 2 → IsHinted (R.remaining input) (stream E.contents E.has_failed error.old error.new) }
+    ensures misused { result ≡ 3 → IsMisnamed task.now
+        × Appends (E.contents error.old) (E.contents error.new) (misnamed_line task.now) }
+    ensures failed { result ≡ 4 → FailsLog task.now place.now (R.remaining input) (W.is_closed output.new)
+        (W.contents output.old) (W.contents output.new) (stream E.contents E.has_failed error.old error.new) }
+{
+    let mut input = input;
+    match read_start(alloc, &mut input) {
+        Ok(start) => do_from(alloc, task, place, start.as_slice(), input, output, error),
+        Err(trouble) => trouble.report(place, output, error),
+    }
+}
+
+// The same, with the first bytes of the log, and what the reader gives after them.
+fn do_from<R: Read + Drop, W: Output, E: ErrorStream>(
+    alloc: Global,
+    task: &Task,
+    place: &str,
+    start: &[u8],
+    input: R,
+    output: &mut W,
+    error: &mut E,
+) -> u8
+    ensures statuses { result ≤ 4 }
+    ensures quiet { result ≤ 1 → Keeps (E.contents error.old) (E.contents error.new) }
+    ensures unprinted { result ≡ 3 → Keeps (W.contents output.old) (W.contents output.new) }
+    ensures passed { result ≡ 0 → HasPassed task.now (prepend_known start.now (R.remaining input)) }
+    ensures faulty { result ≡ 1 → HasFailed task.now (prepend_known start.now (R.remaining input)) }
+    ensures reported { result ≤ 1 → IsReportedOn task.now (prepend_known start.now (R.remaining input))
+        (W.contents output.old) (W.contents output.new) }
+    ensures refused { result ≡ 2 → IsRefusedOn task.now (prepend_known start.now (R.remaining input))
+        (W.contents output.old) (W.contents output.new) }
+    ensures hinted { result ≡ 2 → IsTold (stream E.contents E.has_failed error.old error.new) (hint_line start.now) }
+    ensures misused { result ≡ 3 → IsMisnamed task.now
+        × Appends (E.contents error.old) (E.contents error.new) (misnamed_line task.now) }
+    ensures failed { result ≡ 4 → FailsTaskOn task.now place.now (prepend_known start.now (R.remaining input)) (W.is_closed output.new)
+        (W.contents output.old) (W.contents output.new) (stream E.contents E.has_failed error.old error.new) }
+{
+    let mut log = Noting::new(start.chain(input));
+    match attempt(alloc, task, &mut log, output) {
+        Ok(REFUSED) => {
+            give_hint(start, error);
+            REFUSED
+        }
+        Ok(status) => status,
+        Err(Obstacle::Failed(failure)) => {
+            Trouble::of(failure, log.reason()).report(place, output, error)
+        }
+        Err(Obstacle::Misused(misuse)) => misuse.report(alloc, error),
     }
 }

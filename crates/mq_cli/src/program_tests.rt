@@ -1,22 +1,9 @@
-use crate::failure::Failure;
+use crate::desk::{Desk, FAULTY, GOOD};
 use crate::harness::NESTED;
-use crate::host::Host;
+use crate::output::Outlet;
 use crate::program::run;
+use crate::trouble::Trouble;
 use std::alloc::Global;
-
-// A session of four events.
-const GOOD: &[u8] = b"MQTR\x01\x00\x01\x00\
-    \x01\x00\x00\x00\x00\
-    \x02\x00\x00\x00\x0f\x10\x0d\x00\x04MQTT\x05\x02\x00\x3c\x00\x00\x00\
-    \x03\x00\x00\x00\x05\x20\x03\x00\x00\x00\
-    \x02\x00\x00\x00\x09\x32\x07\x00\x01a\x00\x01\x00x";
-
-// The same with a Packet Identifier of 0.
-const FAULTY: &[u8] = b"MQTR\x01\x00\x01\x00\
-    \x01\x00\x00\x00\x00\
-    \x02\x00\x00\x00\x0f\x10\x0d\x00\x04MQTT\x05\x02\x00\x3c\x00\x00\x00\
-    \x03\x00\x00\x00\x05\x20\x03\x00\x00\x00\
-    \x02\x00\x00\x00\x09\x32\x07\x00\x01a\x00\x00\x00x";
 
 const PASS: &str = "pass 4 events\n";
 
@@ -35,60 +22,16 @@ const MISUSE: &str = "error: unexpected argument 'b' found\n\n\
     Usage: mqjudge check [OPTIONS] [FILE]\n\n\
     For more information, try '--help'.\n";
 
-const READ_FAILED: &str = "mqjudge: read failed\n";
+const B_MISSING: &str = "mqjudge: read failed\nmqjudge: b.log: there is no such file\n";
+
+const DASH_MISSING: &str = "mqjudge: read failed\nmqjudge: ./-: there is no such file\n";
+
+const OTHER_MISSING: &str = "mqjudge: read failed\nmqjudge: ./a.log: there is no such file\n";
+
+const WORDS_MISSING: &str =
+    "mqjudge: read failed\nmqjudge: the command line: there is no such file\n";
 
 const NO_MEMORY: &str = "mqjudge: out of memory\n";
-
-// A host with these words, one file, at `a.log`, and a standard input. If it can't open a file, or has no words, it fails with
-// this failure.
-#[derive(Drop)]
-struct Desk {
-    alloc: Global,
-    words: &'static [&'static str],
-    file: &'static [u8],
-    input: &'static [u8],
-    failure: Failure,
-}
-
-impl Host for Desk {
-    ghost use Rattle.std.specs.Prelude.{None, ⊤};
-
-    type File = &'static [u8];
-
-    type Stdin = &'static [u8];
-
-    ghost gives = { λ _. record {
-      words = None;
-      file = λ _. None;
-      standard = None;
-      unread = λ _. ⊤;
-      unopened = λ _ _. ⊤;
-    } };
-
-    fn arguments(&self) -> Result<Vec<String>, Failure> {
-        let mut arguments = Vec::new(self.alloc);
-        for word in self.words {
-            let word = String::from_str(self.alloc, word).map_err(|_| Failure::Memory)?;
-            arguments.push(word).map_err(|_| Failure::Memory)?;
-        }
-        if arguments.is_empty() {
-            return Err(self.failure);
-        }
-        Ok(arguments)
-    }
-
-    fn open(&self, path: &str) -> Result<&'static [u8], Failure> {
-        if path == "a.log" {
-            Ok(self.file)
-        } else {
-            Err(self.failure)
-        }
-    }
-
-    fn input(&self) -> &'static [u8] {
-        self.input
-    }
-}
 
 // What the host has, and what the program does.
 struct Row {
@@ -100,7 +43,7 @@ struct Row {
     error: &'static str,
 }
 
-static ROWS: [Row; 27] = [
+static ROWS: [Row; 25] = [
     Row {
         words: &["mqjudge", "check", "a.log"],
         file: GOOD,
@@ -131,7 +74,7 @@ static ROWS: [Row; 27] = [
         input: GOOD,
         status: 4,
         output: "",
-        error: READ_FAILED,
+        error: B_MISSING,
     },
     Row {
         words: &["mqjudge", "check"],
@@ -155,7 +98,7 @@ static ROWS: [Row; 27] = [
         input: GOOD,
         status: 4,
         output: "",
-        error: READ_FAILED,
+        error: DASH_MISSING,
     },
     Row {
         words: &["mqjudge", "check", "a.log", "b"],
@@ -187,7 +130,7 @@ static ROWS: [Row; 27] = [
         input: GOOD,
         status: 4,
         output: "",
-        error: READ_FAILED,
+        error: B_MISSING,
     },
     Row {
         words: &["mqjudge", "show"],
@@ -243,7 +186,7 @@ static ROWS: [Row; 27] = [
         input: GOOD,
         status: 4,
         output: "",
-        error: READ_FAILED,
+        error: WORDS_MISSING,
     },
     Row {
         words: &["mqjudge", "check", "--json"],
@@ -287,28 +230,12 @@ static ROWS: [Row; 27] = [
         error: "",
     },
     Row {
-        words: &["mqjudge", "explain", "X99"],
-        file: GOOD,
-        input: GOOD,
-        status: 3,
-        output: "",
-        error: "mqjudge: no statement X99\n",
-    },
-    Row {
-        words: &["mqjudge", "explain", "w9"],
-        file: GOOD,
-        input: GOOD,
-        status: 3,
-        output: "",
-        error: "mqjudge: no statement w9\n",
-    },
-    Row {
         words: &["mqjudge", "rules", "--role", "broker"],
         file: GOOD,
         input: GOOD,
         status: 3,
         output: "",
-        error: "mqjudge: no role broker\n",
+        error: "mqjudge: no role broker\nmqjudge: there are client and server\n",
     },
     Row {
         words: &["mqjudge", "packet", "4"],
@@ -333,7 +260,7 @@ const NEAR_LINES: &str = "..\n\
 const NO_FILE: &str =
     "mqjudge: --faults reads the log twice, so it needs a FILE, not standard input\n";
 
-static REVIEWS: [Row; 14] = [
+static REVIEWS: [Row; 16] = [
     Row {
         words: &["mqjudge", "show", "--faults", "a.log"],
         file: FAULTY,
@@ -348,7 +275,7 @@ static REVIEWS: [Row; 14] = [
         input: FAULTY,
         status: 4,
         output: "",
-        error: READ_FAILED,
+        error: OTHER_MISSING,
     },
     Row {
         words: &["mqjudge", "show", "--around", "0", "a.log", "--faults"],
@@ -458,6 +385,23 @@ static REVIEWS: [Row; 14] = [
         output: "",
         error: "mqjudge: no number \n",
     },
+    // The file is taken for the number.
+    Row {
+        words: &["mqjudge", "show", "--faults", "--around", "bad.log"],
+        file: GOOD,
+        input: GOOD,
+        status: 3,
+        output: "",
+        error: "mqjudge: no number bad.log\n",
+    },
+    Row {
+        words: &["mqjudge", "show", "--faults", "-", "--around", "x"],
+        file: GOOD,
+        input: GOOD,
+        status: 3,
+        output: "",
+        error: "mqjudge: no number x\n",
+    },
 ];
 
 // The host fails at these for want of memory.
@@ -487,39 +431,40 @@ static UNREADABLE: [Row; 3] = [
         error: NO_MEMORY,
     },
 ];
-// Whether the program does this with the row's words, file and standard input; `failure` is why the host fails, if it does.
-fn does(alloc: Global, failure: Failure, row: &Row) -> bool {
-    let desk = Desk {
-        alloc,
-        words: row.words,
-        file: row.file,
-        input: row.input,
-        failure,
-    };
-    let mut output = Vec::new(alloc);
-    let mut error = Vec::new(alloc);
-    run(alloc, &desk, &mut output, &mut error) == row.status
-        && output.as_slice() == row.output.as_bytes()
+
+// A host that gives what the row has.
+fn desk_of(alloc: Global, row: &Row) -> Desk {
+    Desk::of(alloc, row.words, row.file, row.input)
+}
+
+// Whether the program does this with the row's words, on this host.
+fn does(desk: &Desk, row: &Row) -> bool {
+    let mut output = Outlet::new(Vec::new(desk.alloc));
+    let mut error = Vec::new(desk.alloc);
+    run(desk.alloc, desk, &mut output, &mut error) == row.status
+        && output.get_ref().as_slice() == row.output.as_bytes()
         && error.as_slice() == row.error.as_bytes()
 }
 
 #[test]
 fn does_what_the_words_ask_for(rt: HostRuntime) {
     for row in &ROWS {
-        assert!(rt; does(rt.alloc(), Failure::Read, row), "{:?}", row.words);
+        assert!(rt; does(&desk_of(rt.alloc(), row), row), "{:?}", row.words);
     }
 }
 
 #[test]
 fn shows_the_faults_that_the_words_ask_for(rt: HostRuntime) {
     for row in &REVIEWS {
-        assert!(rt; does(rt.alloc(), Failure::Read, row), "{:?}", row.words);
+        assert!(rt; does(&desk_of(rt.alloc(), row), row), "{:?}", row.words);
     }
 }
 
 #[test]
 fn names_what_the_host_failed_at(rt: HostRuntime) {
     for row in &UNREADABLE {
-        assert!(rt; does(rt.alloc(), Failure::Memory, row), "{:?}", row.words);
+        let mut desk = desk_of(rt.alloc(), row);
+        desk.trouble = Trouble::Memory;
+        assert!(rt; does(&desk, row), "{:?}", row.words);
     }
 }

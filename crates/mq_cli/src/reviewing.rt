@@ -1,15 +1,22 @@
 //! Showing a log with the faults at its events, which reads it twice.
-ghost use Rattle.std.specs.Prelude.{◌≡◌, ◌≤◌, ◌⊎◌, Some, Ok, Err, IfErr, IfOk, IfSome, option_map, string_bytes};
-ghost use Rattle.std.specs.Io.KnownBytes.{Appends, Keeps};
-ghost use Rattle.mq_cli.specs.Program.{FailsReview, MisusesReview, PassesReview, RefusesReview, StopsFile};
-ghost use Rattle.mq_cli.specs.Reviewing.{IfBoth, IsReviewed, RefusesPlan, StopsPlan, count_of, misuse_line, plan_of, plan_on, plan_view};
-ghost use Rattle.mq_cli.specs.Messages.{IsCutOff, IsTold, failure_line, stream};
+ghost use Rattle.std.specs.Prelude.{◌≡◌, ◌⊎◌, Some, Ok, Err, IfErr, IfOk, IfSome, option_map, string_bytes};
+ghost use Rattle.std.specs.Io.KnownBytes.{Keeps, prepend_known};
+ghost use Rattle.mq_cli.specs.CommandLine.{path_named};
+ghost use Rattle.mq_cli.specs.Program.{FailsFile, FailsReaders, FailsReview, IsHinted, MisusesReview, PassesReview, RefusesReview, StopsReaders};
+ghost use Rattle.mq_cli.specs.Reviewing.{IfBoth, IsReviewed, RefusesPlan, StopsPlan, count_of, plan_near, plan_of, plan_on, plan_view};
+ghost use Rattle.mq_cli.specs.Streams.{IsTold, misuse_line, stream};
+ghost use Rattle.mq_cli.specs.Troubles.{hint_line};
 
+use crate::beginning::{give_hint, read_start};
 use crate::command_line::{Review, path_named};
 use crate::error_stream::ErrorStream;
 use crate::failure::{FAILED, Failure, MISUSED, PASSED, REFUSED};
 use crate::host::Host;
-use crate::tasks::{View, misuse, refuse, refuse_word, show_log};
+use crate::misuse::Misuse;
+use crate::noting::Noting;
+use crate::output::Output;
+use crate::tasks::{View, refuse, show_log};
+use crate::trouble::Trouble;
 use mq_judge::{Form, judge_reader};
 use std::alloc::Global;
 use std::io::{Read, Write};
@@ -25,17 +32,6 @@ pub struct Plan<'a> {
     pub long: bool,
 }
 
-/// Why there is nothing to show.
-#[derive(Clone, Copy)]
-enum Misuse<'a> {
-    /// A number of positions is given, but faults aren't asked for.
-    NoFaults,
-    /// No file is named that can be read twice.
-    NoFile,
-    /// The word isn't a number of positions.
-    NoNumber(&'a str),
-}
-
 /// Shows a log with the faults at its events, and returns the status to exit with.
 ///
 /// The file is read twice, to find the faults and to show the events. The line of each event is
@@ -43,8 +39,9 @@ enum Misuse<'a> {
 /// the refusal is written, since nothing is known of its faults: 2. Words that name no file, or no
 /// number after `--around`, or don't ask for faults are a misuse, which is reported on `error`: 3.
 /// If reading or writing failed or memory ran out, what failed is reported on `error`: 4; what was
-/// written until then is part of what would have been.
-pub fn review<H: Host, W: Write, E: ErrorStream>(
+/// written until then is part of what would have been. For a refused log whose first bytes show that
+/// it is another kind of file, a line on `error` says what to do with it.
+pub fn review<H: Host, W: Output, E: ErrorStream>(
     alloc: Global,
     host: &H,
     asked: &Review,
@@ -52,20 +49,18 @@ pub fn review<H: Host, W: Write, E: ErrorStream>(
     error: &mut E,
 ) -> u8
     ensures passed { result ≡ PASSED → PassesReview (H.gives host.now) asked.now (W.contents output.old) (W.contents output.new) }
-    ensures refused { result ≡ REFUSED → RefusesReview (H.gives host.now) asked.now (W.contents output.old) (W.contents output.new) }
+    ensures refused { result ≡ REFUSED → RefusesReview (H.gives host.now) asked.now
+        (W.contents output.old) (W.contents output.new) (stream E.contents E.has_failed error.old error.new) }
     ensures misused { result ≡ MISUSED → MisusesReview asked.now (E.contents error.old) (E.contents error.new) }
-    ensures failed { result ≡ FAILED → FailsReview (H.gives host.now) asked.now
+    ensures failed { result ≡ FAILED → FailsReview (H.gives host.now) asked.now (W.is_closed output.new)
         (W.contents output.old) (W.contents output.new) (stream E.contents E.has_failed error.old error.new) }
     ensures statuses { (result ≡ PASSED) ⊎ ((result ≡ REFUSED) ⊎ ((result ≡ MISUSED) ⊎ (result ≡ FAILED))) }
-    ensures quiet { result ≤ REFUSED → Keeps (E.contents error.old) (E.contents error.new) }
+    ensures quiet { result ≡ PASSED → Keeps (E.contents error.old) (E.contents error.new) }
     ensures unprinted { result ≡ MISUSED → Keeps (W.contents output.old) (W.contents output.new) }
 {
     match plan_of(asked) {
-        Ok(plan) => match show_file(alloc, host, plan, output) {
-            Ok(status) => status,
-            Err(failure) => failure.report(error),
-        },
-        Err(why) => report_misuse(alloc, why, error),
+        Ok(plan) => show_file(alloc, host, plan, output, error),
+        Err(misuse) => misuse.report(alloc, error),
     }
 }
 
@@ -77,35 +72,39 @@ fn plan_of(asked: &Review) -> Result<Plan<'_>, Misuse<'_>>
     if !asked.faults {
         return Err(Misuse::NoFaults);
     }
-    match path_named(&asked.file) {
-        Some(path) => plan_on(path, &asked.around, asked.long),
-        None => Err(Misuse::NoFile),
+    match &asked.around {
+        None => plan_on(&asked.file, None, asked.long),
+        Some(word) => plan_near(&asked.file, word.as_str(), asked.long),
     }
 }
 
-// What to show of the log at this path, or why there is nothing to show.
-fn plan_on<'a>(
-    path: &'a str,
-    around: &'a Option<String>,
+// What to show of the log in this file near the faults, or why there is nothing to show.
+fn plan_near<'a>(
+    file: &'a Option<String>,
+    word: &'a str,
     long: bool,
 ) -> Result<Plan<'a>, Misuse<'a>>
-    ensures ok { IfOk result (λ plan. plan_on (Some path.now) (option_map string_bytes around.now) long ≡ Ok (plan_view plan)) }
-    ensures err { IfErr result (λ why. plan_on (Some path.now) (option_map string_bytes around.now) long ≡ Err (misuse_line why)) }
+    ensures ok { IfOk result (λ plan. plan_near (path_named (option_map string_bytes file.now)) word.now (count_of word.now) long ≡ Ok (plan_view plan)) }
+    ensures err { IfErr result (λ why. plan_near (path_named (option_map string_bytes file.now)) word.now (count_of word.now) long ≡ Err (misuse_line why)) }
 {
-    let Some(word) = around else {
-        return Ok(Plan {
-            path,
-            around: None,
-            long,
-        });
-    };
-    match count_of(word.as_str()) {
-        Some(count) => Ok(Plan {
-            path,
-            around: Some(count),
-            long,
-        }),
-        None => Err(Misuse::NoNumber(word.as_str())),
+    match count_of(word) {
+        Some(count) => plan_on(file, Some(count), long),
+        None => Err(Misuse::NoNumber(word)),
+    }
+}
+
+// What to show of the log in this file, or why there is nothing to show.
+fn plan_on<'a>(
+    file: &'a Option<String>,
+    around: Option<u32>,
+    long: bool,
+) -> Result<Plan<'a>, Misuse<'a>>
+    ensures ok { IfOk result (λ plan. plan_on (path_named (option_map string_bytes file.now)) around long ≡ Ok (plan_view plan)) }
+    ensures err { IfErr result (λ why. plan_on (path_named (option_map string_bytes file.now)) around long ≡ Err (misuse_line why)) }
+{
+    match path_named(file) {
+        Some(path) => Ok(Plan { path, around, long }),
+        None => Err(Misuse::NoFile),
     }
 }
 
@@ -116,43 +115,93 @@ fn count_of(word: &str) -> Option<u32>
     word.parse::<u32>().ok()
 }
 
-// Writes to `error` why there is nothing to show, and returns the status.
-fn report_misuse<E: ErrorStream>(alloc: Global, why: Misuse<'_>, error: &mut E) -> u8
-    ensures printed { result ≡ MISUSED → Appends (E.contents error.old) (E.contents error.new) (misuse_line why.entry) }
-    ensures failed { result ≡ FAILED → IsCutOff (stream E.contents E.has_failed error.old error.new) (misuse_line why.entry)
-        ⊎ IsTold (stream E.contents E.has_failed error.old error.new) (failure_line Failure.Memory) }
-    ensures statuses { (result ≡ MISUSED) ⊎ (result ≡ FAILED) }
-{
-    match why {
-        Misuse::NoFaults => misuse("mqjudge: --around needs --faults\n", error),
-        Misuse::NoFile => misuse(
-            "mqjudge: --faults reads the log twice, so it needs a FILE, not standard input\n",
-            error,
-        ),
-        Misuse::NoNumber(word) => refuse_word(alloc, "mqjudge: no number ", word, error),
-    }
-}
-
-// Opens the file twice, and shows it.
-fn show_file<H: Host, W: Write>(
+// Opens the file twice and shows it, and returns the status.
+fn show_file<H: Host, W: Output, E: ErrorStream>(
     alloc: Global,
     host: &H,
     plan: Plan<'_>,
     output: &mut W,
-) -> Result<u8, Failure>
-    ensures passed { IfOk result (λ status. status ≡ PASSED → IfSome ((H.gives host.now).file plan.entry.path.now)
-        (λ log. IsReviewed (plan_view plan.entry) log log (W.contents output.old) (W.contents output.new))) }
-    ensures refused { IfOk result (λ status. status ≡ REFUSED → IfSome ((H.gives host.now).file plan.entry.path.now)
-        (λ log. RefusesPlan (plan_view plan.entry) log log (W.contents output.old) (W.contents output.new))) }
-    ensures stops { IfErr result (λ failure. StopsFile (H.gives host.now) (plan_view plan.entry) failure (W.contents output.old) (W.contents output.new)) }
-    ensures statuses { IfOk result (λ status. (status ≡ PASSED) ⊎ (status ≡ REFUSED)) }
+    error: &mut E,
+) -> u8
+    ensures passed { result ≡ PASSED → IfSome ((H.gives host.now).file plan.entry.path.now)
+        (λ log. IsReviewed (plan_view plan.entry) log log (W.contents output.old) (W.contents output.new)) }
+    ensures refused { result ≡ REFUSED → IfSome ((H.gives host.now).file plan.entry.path.now)
+        (λ log. RefusesPlan (plan_view plan.entry) log log (W.contents output.old) (W.contents output.new)) }
+    ensures hinted { result ≡ REFUSED → IsHinted ((H.gives host.now).file plan.entry.path.now)
+        (stream E.contents E.has_failed error.old error.new) }
+    ensures failed { result ≡ FAILED → FailsFile (H.gives host.now) (plan_view plan.entry) (W.is_closed output.new)
+        (W.contents output.old) (W.contents output.new) (stream E.contents E.has_failed error.old error.new) }
+    ensures statuses { (result ≡ PASSED) ⊎ ((result ≡ REFUSED) ⊎ (result ≡ FAILED)) }
+    ensures quiet { result ≡ PASSED → Keeps (E.contents error.old) (E.contents error.new) }
 {
     match host.open(plan.path) {
-        Ok(mut judged) => match host.open(plan.path) {
-            Ok(mut shown) => show_twice(alloc, plan, &mut judged, &mut shown, output),
-            Err(failure) => Err(failure),
+        Ok(judged) => match host.open(plan.path) {
+            Ok(shown) => show_readers(alloc, plan, judged, shown, output, error),
+            Err(trouble) => trouble.report(plan.path, output, error),
         },
-        Err(failure) => Err(failure),
+        Err(trouble) => trouble.report(plan.path, output, error),
+    }
+}
+
+// Judges the log from one reader and shows the log from the other, and returns the status.
+fn show_readers<R: Read + Drop, W: Output, E: ErrorStream>(
+    alloc: Global,
+    plan: Plan<'_>,
+    judged: R,
+    shown: R,
+    output: &mut W,
+    error: &mut E,
+) -> u8
+    ensures passed { result ≡ PASSED → IfBoth (R.remaining judged) (R.remaining shown)
+        (λ first second. IsReviewed (plan_view plan.entry) first second (W.contents output.old) (W.contents output.new)) }
+    ensures refused { result ≡ REFUSED → IfBoth (R.remaining judged) (R.remaining shown)
+        (λ first second. RefusesPlan (plan_view plan.entry) first second (W.contents output.old) (W.contents output.new)) }
+    ensures hinted { result ≡ REFUSED → IsHinted (R.remaining judged) (stream E.contents E.has_failed error.old error.new) }
+    ensures failed { result ≡ FAILED → FailsReaders (plan_view plan.entry) (R.remaining judged) (R.remaining shown) (W.is_closed output.new)
+        (W.contents output.old) (W.contents output.new) (stream E.contents E.has_failed error.old error.new) }
+    ensures statuses { (result ≡ PASSED) ⊎ ((result ≡ REFUSED) ⊎ (result ≡ FAILED)) }
+    ensures quiet { result ≡ PASSED → Keeps (E.contents error.old) (E.contents error.new) }
+{
+    let mut judged = judged;
+    match read_start(alloc, &mut judged) {
+        Ok(start) => show_on(alloc, plan, start.as_slice(), judged, shown, output, error),
+        Err(trouble) => trouble.report(plan.path, output, error),
+    }
+}
+
+// The same, with the first bytes of the log that is judged, and what the reader gives after them.
+fn show_on<R: Read + Drop, W: Output, E: ErrorStream>(
+    alloc: Global,
+    plan: Plan<'_>,
+    start: &[u8],
+    judged: R,
+    shown: R,
+    output: &mut W,
+    error: &mut E,
+) -> u8
+    ensures passed { result ≡ PASSED → IfBoth (prepend_known start.now (R.remaining judged)) (R.remaining shown)
+        (λ first second. IsReviewed (plan_view plan.entry) first second (W.contents output.old) (W.contents output.new)) }
+    ensures refused { result ≡ REFUSED → IfBoth (prepend_known start.now (R.remaining judged)) (R.remaining shown)
+        (λ first second. RefusesPlan (plan_view plan.entry) first second (W.contents output.old) (W.contents output.new)) }
+    ensures hinted { result ≡ REFUSED → IsTold (stream E.contents E.has_failed error.old error.new) (hint_line start.now) }
+    ensures failed { result ≡ FAILED → StopsReaders (plan_view plan.entry) (prepend_known start.now (R.remaining judged)) (R.remaining shown) (W.is_closed output.new)
+        (W.contents output.old) (W.contents output.new) (stream E.contents E.has_failed error.old error.new) }
+    ensures statuses { (result ≡ PASSED) ⊎ ((result ≡ REFUSED) ⊎ (result ≡ FAILED)) }
+    ensures quiet { result ≡ PASSED → Keeps (E.contents error.old) (E.contents error.new) }
+{
+    let mut judged = Noting::new(start.chain(judged));
+    let mut shown = Noting::new(shown);
+    match show_twice(alloc, plan, &mut judged, &mut shown, output) {
+        Ok(REFUSED) => {
+            give_hint(start, error);
+            REFUSED
+        }
+        Ok(status) => status,
+        Err(failure) => {
+            Trouble::of(failure, judged.reason().or(shown.reason())).report(
+                plan.path, output, error,
+            )
+        }
     }
 }
 
@@ -162,19 +211,19 @@ fn show_file<H: Host, W: Write>(
 /// # Errors
 ///
 /// What failed.
-pub fn show_twice<R: Read, W: Write>(
+pub fn show_twice<R: Read, S: Read, W: Write>(
     alloc: Global,
     plan: Plan<'_>,
     judged: &mut R,
-    shown: &mut R,
+    shown: &mut S,
     output: &mut W,
 ) -> Result<u8, Failure>
-    ensures passed { IfOk result (λ status. status ≡ PASSED → IfBoth (R.remaining judged.old) (R.remaining shown.old)
+    ensures passed { IfOk result (λ status. status ≡ PASSED → IfBoth (R.remaining judged.old) (S.remaining shown.old)
         (λ first second. IsReviewed (plan_view plan.entry) first second (W.contents output.old) (W.contents output.new))) }
-    ensures refused { IfOk result (λ status. status ≡ REFUSED → IfBoth (R.remaining judged.old) (R.remaining shown.old)
+    ensures refused { IfOk result (λ status. status ≡ REFUSED → IfBoth (R.remaining judged.old) (S.remaining shown.old)
         (λ first second. RefusesPlan (plan_view plan.entry) first second (W.contents output.old) (W.contents output.new))) }
-    ensures stops { IfErr result (λ failure. IfBoth (R.remaining judged.old) (R.remaining shown.old)
-        (λ first second. StopsPlan (plan_view plan.entry) failure first second (R.remaining judged.new) (R.remaining shown.new)
+    ensures stops { IfErr result (λ failure. IfBoth (R.remaining judged.old) (S.remaining shown.old)
+        (λ first second. StopsPlan (plan_view plan.entry) failure first second (R.remaining judged.new) (S.remaining shown.new)
         (W.contents output.old) (W.contents output.new))) }
     ensures statuses { IfOk result (λ status. (status ≡ PASSED) ⊎ (status ≡ REFUSED)) }
 {

@@ -1,25 +1,29 @@
 //! Doing what a command line asks for.
-ghost use Rattle.std.specs.Prelude.{◌≡◌, ◌≤◌, ◌⊎◌, ◌++◌, [], None, Some, codes, string_bytes, IfOk, IfErr, IfSome, IsErr, OnOk};
+ghost use Rattle.std.specs.Prelude.{◌≡◌, ◌≤◌, ◌⊎◌, ℕ, List, [], None, Some, IfErr, IfOk, IfSome, OnOk};
 ghost use Rattle.std.specs.Io.KnownBytes.{Appends, Keeps};
-ghost use Rattle.hex.specs.Hex.{decode_of};
-ghost use Rattle.mq_cli.specs.Explaining.{explained_for};
+ghost use Rattle.mq_cli.specs.Citing.{explained_for, if_some};
 ghost use Rattle.mq_cli.specs.Listing.{listed_for, statement_lines};
-ghost use Rattle.mq_cli.specs.Messages.{AppendsLineOf, AppendsPart, BeginsRefusal, FailsMisnamed, FailsPacket, FailsPrinting, LacksJsonMemory};
-ghost use Rattle.mq_cli.specs.Messages.{FailsStop, FailsTask, HasFailed, HasPassed, IsCutOff, IsMisnamed, IsTold, stream};
-ghost use Rattle.mq_cli.specs.Messages.{IsOfLog, IsRefusedOn, IsReportedOn, IsShownOn, IsPrintedOn, RefusesCheck};
-ghost use Rattle.mq_cli.specs.Messages.{RefusesShow, SpellsNoPacket, SpellsPacket, StopsCheck, StopsShow};
-ghost use Rattle.mq_cli.specs.Messages.{Prints, text_in_view, failure_line, failure_of, form_of, misnamed_line, no_role_line, no_statement_line, not_hex_line};
+ghost use Rattle.mq_cli.specs.Messages.{AppendsLineOf, BeginsRefusal, HasFailed, HasPassed, IsOfLog, IsPrintedOn, IsRefusedOn, IsReportedOn};
+ghost use Rattle.mq_cli.specs.Messages.{IsShownOn, LacksJsonMemory, Prints, RefusesCheck, RefusesShow, SpellsNoPacket, SpellsPacket};
+ghost use Rattle.mq_cli.specs.Messages.{StopsAttempt, StopsCheck, StopsDigits, StopsShow, StopsText, failure_of, form_of, text_in_view};
+ghost use Rattle.mq_cli.specs.Program.{FailsStop};
+ghost use Rattle.mq_cli.specs.Streams.{AppendsPart, no_role_line, no_statement_line, stream};
 ghost use Rattle.mq_judge.specs.OnePacket.{IsOnePacket, packet_report};
 ghost use Rattle.mq_judge.specs.Report.{refused_report, report};
 ghost use Rattle.mq_judge.specs.Runner.{IsFaultless, IsJudged};
 ghost use Rattle.mq_judge.specs.Display.{Shows};
 ghost use Rattle.mq_trace.specs.Events.{events};
 
+use crate::citations::explanations_cited;
 use crate::command_line::{EarlyExit, Task};
+use crate::digits::packed;
 use crate::error_stream::ErrorStream;
 use crate::explanations::explanation;
-use crate::failure::{FAILED, FAULTY, Failure, MISUSED, PASSED, REFUSED};
+use crate::failure::{FAILED, FAULTY, Failure, MISUSED, Obstacle, PASSED, REFUSED};
 use crate::listing::{listing, role_named};
+use crate::misuse::Misuse;
+use crate::output::Output;
+use crate::trouble::Trouble;
 use crate::writing::{flush, write_out};
 use hex::{FromHexError, decode};
 use mq_judge::{
@@ -27,7 +31,7 @@ use mq_judge::{
     write_refused,
 };
 use mq_rules::{Role, Rule};
-use std::alloc::{AllocError, Global};
+use std::alloc::Global;
 use std::io::{Read, Write};
 
 /// What is shown of the events of a log.
@@ -57,35 +61,29 @@ pub enum View<'a> {
 /// to `output`: 0 for no fault, 1 for faults, 2 for a refused log. Showing a log writes a line for
 /// each event to `output`: 0, or 2 for a refused log, with the line on the refusal after those of
 /// the preceding events. A packet's line is written to `output`: 0 if the bytes are one packet, else
-/// 1; if `hex` isn't hexadecimal the status is 3, with a message on `error`. The lines of the
-/// statements, or the explanation of one, are written to `output`: 0, or 3 if the word isn't an end,
-/// or not a statement's code, with a message on `error`. If reading or writing failed or memory ran
-/// out the status is 4, with a message on `error`; what was written until then is part of what would
-/// have been.
-pub fn perform<R: Read, W: Write, E: ErrorStream>(
+/// 1. The lines of the statements, or the explanations of those that a word names, are written to
+/// `output`: 0.
+///
+/// # Errors
+///
+/// `Failed` if reading or writing failed or memory ran out: what was written until then is part of
+/// what would have been. `Misused` if `hex` isn't hexadecimal, if the word isn't an end, or if it is
+/// neither a statement's code nor a citation: nothing was written.
+pub fn attempt<'a, R: Read, W: Write>(
     alloc: Global,
-    task: &Task,
+    task: &'a Task,
     input: &mut R,
     output: &mut W,
-    error: &mut E,
-) -> u8
-    ensures passed { result ≡ 0 → HasPassed task.now (R.remaining input.old) }
-    ensures faulty { result ≡ 1 → HasFailed task.now (R.remaining input.old) }
-    ensures reported { result ≤ 1 → IsReportedOn task.now (R.remaining input.old)
-        (W.contents output.old) (W.contents output.new) }
-    ensures refused { result ≡ 2 → IsRefusedOn task.now (R.remaining input.old)
-        (W.contents output.old) (W.contents output.new) }
-    ensures misused { result ≡ 3 → IsMisnamed task.now
-        × Appends (E.contents error.old) (E.contents error.new) (misnamed_line task.now) }
-    ensures failed { result ≡ 4 → FailsTask task.now (R.remaining input.old) (R.remaining input.new)
-        (W.contents output.old) (W.contents output.new) (stream E.contents E.has_failed error.old error.new)
-        ⊎ FailsMisnamed task.now
-        (W.contents output.old) (W.contents output.new) (stream E.contents E.has_failed error.old error.new) }
-    ensures statuses { result ≤ 4 }
-
-    // Only what failed goes to `error`, and nothing goes to `output` if there is nothing to do.
-    ensures quiet { result ≤ 2 → Keeps (E.contents error.old) (E.contents error.new) }
-    ensures unprinted { result ≡ 3 → Keeps (W.contents output.old) (W.contents output.new) }
+) -> Result<u8, Obstacle<'a>>
+    ensures passed { IfOk result (λ status. status ≡ PASSED → HasPassed task.now (R.remaining input.old)) }
+    ensures faulty { IfOk result (λ status. status ≡ FAULTY → HasFailed task.now (R.remaining input.old)) }
+    ensures reported { IfOk result (λ status. status ≤ FAULTY → IsReportedOn task.now (R.remaining input.old)
+        (W.contents output.old) (W.contents output.new)) }
+    ensures refused { IfOk result (λ status. status ≡ REFUSED → IsRefusedOn task.now (R.remaining input.old)
+        (W.contents output.old) (W.contents output.new)) }
+    ensures stops { IfErr result (StopsAttempt task.now (R.remaining input.old) (R.remaining input.new)
+        (W.contents output.old) (W.contents output.new)) }
+    ensures statuses { IfOk result (λ status. status ≤ REFUSED) }
 {
     match task {
         Task::Check { json, summary, .. } => match check(
@@ -94,8 +92,8 @@ pub fn perform<R: Read, W: Write, E: ErrorStream>(
             input,
             output,
         ) {
-            Ok(status) => status,
-            Err(failure) => failure.report(error),
+            Ok(status) => Ok(status),
+            Err(failure) => Err(Obstacle::Failed(failure)),
         },
         Task::Show { long, .. } => match show_log(
             alloc,
@@ -103,13 +101,13 @@ pub fn perform<R: Read, W: Write, E: ErrorStream>(
             input,
             output,
         ) {
-            Ok(status) => status,
-            Err(failure) => failure.report(error),
+            Ok(status) => Ok(status),
+            Err(failure) => Err(Obstacle::Failed(failure)),
         },
-        Task::Packet { hex } => packet(alloc, hex.as_str(), output, error),
-        Task::Rules { role: None } => print_all(alloc, output, error),
-        Task::Rules { role: Some(word) } => print_rules(alloc, word.as_str(), output, error),
-        Task::Explain { code } => explain(alloc, code.as_str(), output, error),
+        Task::Packet { hex } => packet(alloc, hex.as_str(), output),
+        Task::Rules { role: None } => print_all(alloc, output),
+        Task::Rules { role: Some(word) } => print_rules(alloc, word.as_str(), output),
+        Task::Explain { code } => explain(alloc, code.as_str(), output),
     }
 }
 
@@ -233,26 +231,23 @@ pub fn refuse<W: Write>(
 }
 
 // Writes which packet the bytes are that these digits spell.
-fn packet<W: Write, E: ErrorStream>(alloc: Global, hex: &str, output: &mut W, error: &mut E) -> u8
-    ensures passed { result ≡ PASSED → SpellsPacket hex.now }
-    ensures faulty { result ≡ FAULTY → SpellsNoPacket hex.now }
-    ensures reported { result ≤ FAULTY
-        → AppendsLineOf hex.now (W.contents output.old) (W.contents output.new) }
-    ensures misused { result ≡ MISUSED → IsErr (decode_of hex.now)
-        × Appends (E.contents error.old) (E.contents error.new) not_hex_line }
-    ensures failed { result ≡ FAILED → FailsPacket hex.now
-        (W.contents output.old) (W.contents output.new) (stream E.contents E.has_failed error.old error.new) }
-    ensures statuses { (result ≤ FAULTY) ⊎ ((result ≡ MISUSED) ⊎ (result ≡ FAILED)) }
-    ensures quiet { result ≤ FAULTY → Keeps (E.contents error.old) (E.contents error.new) }
-    ensures unprinted { result ≡ MISUSED → Keeps (W.contents output.old) (W.contents output.new) }
+fn packet<'a, W: Write>(alloc: Global, hex: &str, output: &mut W) -> Result<u8, Obstacle<'a>>
+    ensures passed { IfOk result (λ status. status ≡ PASSED → SpellsPacket hex.now) }
+    ensures faulty { IfOk result (λ status. status ≡ FAULTY → SpellsNoPacket hex.now) }
+    ensures reported { OnOk result (AppendsLineOf hex.now (W.contents output.old) (W.contents output.new)) }
+    ensures stops { IfErr result (StopsDigits hex.now (W.contents output.old) (W.contents output.new)) }
+    ensures statuses { IfOk result (λ status. status ≤ FAULTY) }
 {
-    match decode(alloc, hex) {
-        Ok(bytes) => match print_packet(bytes.as_slice(), output) {
-            Ok(status) => status,
-            Err(failure) => failure.report(error),
+    match packed(alloc, hex) {
+        Ok(digits) => match decode(alloc, digits.as_slice()) {
+            Ok(bytes) => match print_packet(bytes.as_slice(), output) {
+                Ok(status) => Ok(status),
+                Err(failure) => Err(Obstacle::Failed(failure)),
+            },
+            Err(FromHexError::OutOfMemory) => Err(Obstacle::Failed(Failure::Memory)),
+            Err(_) => Err(Obstacle::Misused(Misuse::NotHex)),
         },
-        Err(FromHexError::OutOfMemory) => Failure::Memory.report(error),
-        Err(_) => misuse("mqjudge: not hex\n", error),
+        Err(_) => Err(Obstacle::Failed(Failure::Memory)),
     }
 }
 
@@ -274,130 +269,90 @@ fn print_packet<W: Write>(bytes: &[u8], output: &mut W) -> Result<u8, Failure>
     }
 }
 
-/// Writes to `error` what is wrong with the words, and returns the status.
-pub fn misuse<E: ErrorStream>(text: &str, error: &mut E) -> u8
-    ensures printed { result ≡ MISUSED → Appends (E.contents error.old) (E.contents error.new) text.now }
-    ensures failed { result ≡ FAILED → IsCutOff (stream E.contents E.has_failed error.old error.new) text.now }
-    ensures statuses { (result ≡ MISUSED) ⊎ (result ≡ FAILED) }
-{
-    match error.write_message(text) {
-        Ok(()) => MISUSED,
-        Err(_) => FAILED,
-    }
-}
-
 // Lists all statements.
-fn print_all<W: Write, E: ErrorStream>(alloc: Global, output: &mut W, error: &mut E) -> u8
-    ensures printed { result ≡ PASSED
-        → Appends (W.contents output.old) (W.contents output.new) (statement_lines None) }
-    ensures failed { result ≡ FAILED → FailsPrinting (Some (statement_lines None)) []
-        (W.contents output.old) (W.contents output.new) (stream E.contents E.has_failed error.old error.new) }
-    ensures statuses { (result ≡ PASSED) ⊎ (result ≡ FAILED) }
-    ensures quiet { result ≡ PASSED → Keeps (E.contents error.old) (E.contents error.new) }
+fn print_all<'a, W: Write>(alloc: Global, output: &mut W) -> Result<u8, Obstacle<'a>>
+    ensures printed { OnOk result
+        (Appends (W.contents output.old) (W.contents output.new) (statement_lines None)) }
+    ensures stops { IfErr result (StopsText (Some (statement_lines None)) [] (W.contents output.old) (W.contents output.new)) }
+    ensures statuses { IfOk result (λ status. status ≡ PASSED) }
 {
-    list(alloc, None, output, error)
+    list(alloc, None, output)
 }
 
 // Lists the statements that bind the end that the word names.
-fn print_rules<W: Write, E: ErrorStream>(
+fn print_rules<'a, W: Write>(
     alloc: Global,
-    word: &str,
+    word: &'a str,
     output: &mut W,
-    error: &mut E,
-) -> u8
-    ensures printed { result ≡ PASSED
-        → Prints (listed_for (Some word.now)) (W.contents output.old) (W.contents output.new) }
-    ensures misused { result ≡ MISUSED → (listed_for (Some word.now) ≡ None)
-        × Appends (E.contents error.old) (E.contents error.new) (no_role_line word.now) }
-    ensures failed { result ≡ FAILED → FailsPrinting (listed_for (Some word.now)) (no_role_line word.now)
-        (W.contents output.old) (W.contents output.new) (stream E.contents E.has_failed error.old error.new) }
-    ensures statuses { (result ≡ PASSED) ⊎ ((result ≡ MISUSED) ⊎ (result ≡ FAILED)) }
-    ensures quiet { result ≡ PASSED → Keeps (E.contents error.old) (E.contents error.new) }
-    ensures unprinted { result ≡ MISUSED → Keeps (W.contents output.old) (W.contents output.new) }
+) -> Result<u8, Obstacle<'a>>
+    ensures printed { OnOk result (Prints (listed_for (Some word.now)) (W.contents output.old) (W.contents output.new)) }
+    ensures stops { IfErr result (StopsText (listed_for (Some word.now)) (no_role_line word.now)
+        (W.contents output.old) (W.contents output.new)) }
+    ensures statuses { IfOk result (λ status. status ≡ PASSED) }
 {
     match role_named(word) {
-        Some(role) => list(alloc, Some(role), output, error),
-        None => refuse_word(alloc, "mqjudge: no role ", word, error),
+        Some(role) => list(alloc, Some(role), output),
+        None => Err(Obstacle::Misused(Misuse::NoRole(word))),
     }
 }
 
 // Lists the statements, for one end or for both.
-fn list<W: Write, E: ErrorStream>(
-    alloc: Global,
-    role: Option<Role>,
-    output: &mut W,
-    error: &mut E,
-) -> u8
-    ensures printed { result ≡ PASSED
-        → Appends (W.contents output.old) (W.contents output.new) (statement_lines role) }
-    ensures failed { result ≡ FAILED → FailsPrinting (Some (statement_lines role)) []
-        (W.contents output.old) (W.contents output.new) (stream E.contents E.has_failed error.old error.new) }
-    ensures statuses { (result ≡ PASSED) ⊎ (result ≡ FAILED) }
-    ensures quiet { result ≡ PASSED → Keeps (E.contents error.old) (E.contents error.new) }
+fn list<'a, W: Write>(alloc: Global, role: Option<Role>, output: &mut W) -> Result<u8, Obstacle<'a>>
+    ensures printed { OnOk result
+        (Appends (W.contents output.old) (W.contents output.new) (statement_lines role)) }
+    ensures stops { IfErr result (StopsText (Some (statement_lines role)) [] (W.contents output.old) (W.contents output.new)) }
+    ensures statuses { IfOk result (λ status. status ≡ PASSED) }
 {
     match listing(alloc, role) {
-        Ok(text) => print(text.as_str(), output, error),
-        Err(_) => Failure::Memory.report(error),
+        Ok(text) => print(text.as_str(), output),
+        Err(_) => Err(Obstacle::Failed(Failure::Memory)),
     }
 }
 
-// Writes the explanation of the statement with this code.
-fn explain<W: Write, E: ErrorStream>(alloc: Global, code: &str, output: &mut W, error: &mut E) -> u8
-    ensures printed { result ≡ PASSED
-        → Prints (explained_for code.now) (W.contents output.old) (W.contents output.new) }
-    ensures misused { result ≡ MISUSED → (explained_for code.now ≡ None)
-        × Appends (E.contents error.old) (E.contents error.new) (no_statement_line code.now) }
-    ensures failed { result ≡ FAILED → FailsPrinting (explained_for code.now) (no_statement_line code.now)
-        (W.contents output.old) (W.contents output.new) (stream E.contents E.has_failed error.old error.new) }
-    ensures statuses { (result ≡ PASSED) ⊎ ((result ≡ MISUSED) ⊎ (result ≡ FAILED)) }
-    ensures quiet { result ≡ PASSED → Keeps (E.contents error.old) (E.contents error.new) }
-    ensures unprinted { result ≡ MISUSED → Keeps (W.contents output.old) (W.contents output.new) }
+// Writes the explanation of the statement with this code, or of all that have this citation.
+fn explain<'a, W: Write>(alloc: Global, word: &'a str, output: &mut W) -> Result<u8, Obstacle<'a>>
+    ensures printed { OnOk result (Prints (explained_for word.now) (W.contents output.old) (W.contents output.new)) }
+    ensures stops { IfErr result (StopsText (explained_for word.now) (no_statement_line word.now)
+        (W.contents output.old) (W.contents output.new)) }
+    ensures statuses { IfOk result (λ status. status ≡ PASSED) }
 {
-    match Rule::of_code(code) {
-        Some(rule) => print(explanation(rule), output, error),
-        None => refuse_word(alloc, "mqjudge: no statement ", code, error),
+    match Rule::of_code(word) {
+        Some(rule) => print(explanation(rule), output),
+        None => match explanations_cited(alloc, word) {
+            Ok(text) => print_if_some(text.as_str(), word, output),
+            Err(_) => Err(Obstacle::Failed(Failure::Memory)),
+        },
+    }
+}
+
+// Writes a text, unless it is empty, since the word names no statement.
+fn print_if_some<'a, W: Write>(
+    text: &str,
+    word: &'a str,
+    output: &mut W,
+) -> Result<u8, Obstacle<'a>>
+    ensures printed { OnOk result (Prints (if_some text.now) (W.contents output.old) (W.contents output.new)) }
+    ensures stops { IfErr result (StopsText (if_some text.now) (no_statement_line word.now)
+        (W.contents output.old) (W.contents output.new)) }
+    ensures statuses { IfOk result (λ status. status ≡ PASSED) }
+{
+    if text.is_empty() {
+        Err(Obstacle::Misused(Misuse::NoStatement(word)))
+    } else {
+        print(text, output)
     }
 }
 
 // Writes a text to the end, and returns the status.
-fn print<W: Write, E: ErrorStream>(text: &str, output: &mut W, error: &mut E) -> u8
-    ensures printed { result ≡ PASSED → Appends (W.contents output.old) (W.contents output.new) text.now }
-    ensures part { result ≡ FAILED → AppendsPart (W.contents output.old) (W.contents output.new) text.now }
-    ensures failed { result ≡ FAILED
-        → IsTold (stream E.contents E.has_failed error.old error.new) (failure_line Failure.Write) }
-    ensures statuses { (result ≡ PASSED) ⊎ (result ≡ FAILED) }
-    ensures quiet { result ≡ PASSED → Keeps (E.contents error.old) (E.contents error.new) }
+fn print<'a, W: Write>(text: &str, output: &mut W) -> Result<u8, Obstacle<'a>>
+    ensures printed { OnOk result (Appends (W.contents output.old) (W.contents output.new) text.now) }
+    ensures stops { (line : List ℕ) → IfErr result (StopsText (Some text.now) line (W.contents output.old) (W.contents output.new)) }
+    ensures statuses { IfOk result (λ status. status ≡ PASSED) }
 {
     match write_out(text, output) {
-        Ok(()) => PASSED,
-        Err(failure) => failure.report(error),
+        Ok(()) => Ok(PASSED),
+        Err(failure) => Err(Obstacle::Failed(failure)),
     }
-}
-
-/// Writes that a word names nothing, in a line that begins with `start`, and returns the status.
-pub fn refuse_word<E: ErrorStream>(alloc: Global, start: &str, word: &str, error: &mut E) -> u8
-    ensures printed { result ≡ MISUSED
-        → Appends (E.contents error.old) (E.contents error.new) (start.now ++ word.now ++ codes "\n") }
-    ensures failed { result ≡ FAILED
-        → IsCutOff (stream E.contents E.has_failed error.old error.new) (start.now ++ word.now ++ codes "\n")
-        ⊎ IsTold (stream E.contents E.has_failed error.old error.new) (failure_line Failure.Memory) }
-    ensures statuses { (result ≡ MISUSED) ⊎ (result ≡ FAILED) }
-{
-    match line_on(alloc, start, word) {
-        Ok(line) => misuse(line.as_str(), error),
-        Err(_) => Failure::Memory.report(error),
-    }
-}
-
-// A line that begins with `start` and ends with the word.
-fn line_on(alloc: Global, start: &str, word: &str) -> Result<String, AllocError>
-    ensures { IfOk result (λ line. string_bytes line ≡ start.now ++ word.now ++ codes "\n") }
-{
-    let mut line = String::new(alloc);
-    line.push_str(start)?;
-    line.push_str(word)?;
-    line.push_str("\n")?;
-    Ok(line)
 }
 
 // Flushes what was written, and returns the status.
@@ -412,10 +367,10 @@ fn see_out<W: Write>(status: u8, output: &mut W) -> Result<u8, Failure>
 
 /// Writes why there is no task, and returns the status to exit with: 0 for help or the version, 3
 /// for a misuse, and 4 if memory ran out or the text couldn't be written.
-pub fn stop<W: Write, E: ErrorStream>(stop: &EarlyExit, output: &mut W, error: &mut E) -> u8
+pub fn stop<W: Output, E: ErrorStream>(stop: &EarlyExit, output: &mut W, error: &mut E) -> u8
     ensures shown { result ≡ 0 → IsShownOn stop.now (W.contents output.old) (W.contents output.new) }
     ensures printed { result ≡ 3 → IsPrintedOn stop.now (E.contents error.old) (E.contents error.new) }
-    ensures failed { result ≡ 4 → FailsStop stop.now
+    ensures failed { result ≡ 4 → FailsStop stop.now (W.is_closed output.new)
         (W.contents output.old) (W.contents output.new) (stream E.contents E.has_failed error.old error.new) }
     ensures statuses { (result ≡ 0) ⊎ ((result ≡ 3) ⊎ (result ≡ 4)) }
 
@@ -426,7 +381,7 @@ pub fn stop<W: Write, E: ErrorStream>(stop: &EarlyExit, output: &mut W, error: &
     match stop {
         EarlyExit::Help(text) => match write_out(text.as_str(), output) {
             Ok(()) => PASSED,
-            Err(failure) => failure.report(error),
+            Err(_) => Trouble::Write.report("", output, error),
         },
         EarlyExit::Usage(text) => match error.write_message(text.as_str()) {
             Ok(()) => MISUSED,

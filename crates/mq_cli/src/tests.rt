@@ -4,6 +4,7 @@ use crate::harness::{
     Narrow, Trickle, WHOLE_LOG, is_failed_write, is_misuse, is_written, printed_by, status_by,
     task_of,
 };
+use crate::output::Outlet;
 use crate::tasks::stop;
 use mq_judge::{Judge, Options, Refusal};
 use std::alloc::{AllocError, Global};
@@ -282,7 +283,7 @@ fn shows_help_and_the_version(rt: HostRuntime) -> Result<(), Fail> {
         ),
         (
             &["mqjudge", "packet", "--help"],
-            "Usage: mqjudge packet <HEX>",
+            "Usage: mqjudge packet <HEX>...",
         ),
         (
             &["mqjudge", "rules", "--help"],
@@ -290,7 +291,7 @@ fn shows_help_and_the_version(rt: HostRuntime) -> Result<(), Fail> {
         ),
         (
             &["mqjudge", "explain", "--help"],
-            "3 for misuse or an unknown code",
+            "3 for misuse or an unknown word",
         ),
         (&["mqjudge", "show", "--help"], "docs/LOG_FORMAT.md"),
         (&["mqjudge", "--version"], VERSION),
@@ -378,10 +379,10 @@ fn refuses_other_words(rt: HostRuntime) {
 
 // Whether a stop ends with this status, this output and this message.
 fn is_stopped(alloc: Global, why: &EarlyExit, status: u8, shown: &str, printed: &str) -> bool {
-    let mut output = Vec::new(alloc);
+    let mut output = Outlet::new(Vec::new(alloc));
     let mut error = Vec::new(alloc);
     stop(why, &mut output, &mut error) == status
-        && output.as_slice() == shown.as_bytes()
+        && output.get_ref().as_slice() == shown.as_bytes()
         && error.as_slice() == printed.as_bytes()
 }
 
@@ -394,11 +395,11 @@ fn reports_why_there_is_no_task(rt: HostRuntime) -> Result<(), Fail> {
     assert!(rt; is_stopped(rt.alloc(), &help, PASSED, text, ""));
     assert!(rt; is_stopped(rt.alloc(), &usage, MISUSED, "", text));
     assert!(rt; is_stopped(rt.alloc(), &EarlyExit::Memory, FAILED, "", memory));
-    for (room, stays) in [(5, false), (100, true)] {
+    for (room, stays, said) in [(5, false, "mqjudge: write failed\n"), (100, true, "")] {
         let mut error = Vec::new(rt.alloc());
-        let mut output = Narrow { room, stays };
+        let mut output = Outlet::new(Narrow { room, stays });
         assert_eq!(rt; stop(&help, &mut output, &mut error), FAILED);
-        assert_eq!(rt; error.as_slice(), &b"mqjudge: write failed\n"[..]);
+        assert!(rt; error.as_slice() == said.as_bytes());
     }
     Ok(())
 }

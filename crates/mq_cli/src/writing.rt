@@ -2,7 +2,7 @@
 ghost use Rattle.std.specs.Prelude.{◌≡◌, IfErr, OnOk};
 ghost use Rattle.std.specs.Io.KnownBytes.{Appends, Keeps};
 ghost use Rattle.mq_trace.specs.Writing.{AppendsBeginning};
-ghost use Rattle.mq_cli.specs.Messages.{AppendsPart};
+ghost use Rattle.mq_cli.specs.Streams.{AppendsPart};
 
 use crate::failure::Failure;
 use std::io::Write;

@@ -97,7 +97,11 @@ pub const S06: &str = "S06 both MQTT-4.4.0-1\n\
     session is resumed.\n\n\
     In a server: The deliveries in flight belong to the connection and not to the\n\
     session. Keep them with the session, and send PUBLISHes and PUBRELs again after\n\
-    a CONNACK with Session Present 1.\n\n\
+    a CONNACK with Session Present 1. Or the server crashed, or was killed, and\n\
+    resumes the session from the state that it had saved before: it doesn't know\n\
+    what it sent since then, and takes the same identifiers again, so S01 is\n\
+    reported too. Save a PUBLISH before it is sent, or answer with Session Present 0\n\
+    after a crash.\n\n\
     See: MQTT 5.0, section 4.4.\n";
 
 /// The text of `explain S07`.

@@ -1,17 +1,23 @@
-use Rattle.std.proofs.Common.{rules, ap, ap₂, codes, true, ◌≡◌, ◌∙◌, ◌||◌}
+use Rattle.std.proofs.Common.{rules, Option, ap, ap₂, codes, true, ◌≡◌, ◌∙◌, ◌||◌}
 use Rattle.std.proofs.lemmas.Result.{IfOk-weaker}
 use Rattle.clap.specs.Words.{Rule, app_of, new_app, new_rule, rule_of, with_rule}
 use Rattle.clap.specs.Simple.{app_of_fields}
 use Rattle.clap.specs.declared.builder.command.Command.{Command}
 use Rattle.clap.specs.declared.builder.command.Command.TheOpen.{Command-F}
+use Rattle.clap.specs.declared.builder.range.ValueRange.{ValueRange}
+use Rattle.mq_cli.proofs.CommandLineLemmas.{range_is_several}
 use Rattle.mq_cli.proofs.command_line.packet_command.Goals as goal
 
 abbrev required : Rule → Rule
 required r = record r { required = true }
 
+abbrev ranged : Rule → Option ValueRange → Rule
+ranged r range = record r { range = range }
+
 pub returns-clause-app : goal.returns-clause-app
 returns-clause-app c =
-    let hex_is : rule_of c.required-hex.result ≡ required (new_rule (codes "HEX")) = search rules in
+    let once_is : rule_of c.required.result ≡ required (new_rule (codes "HEX")) = search rules in
+    let hex_is = ap rule_of c.num_args-hex.ensures.0 ∙ ap₂ ranged once_is (range_is_several c.num_args-hex.result.num_vals c.num_args-hex.ensures.1) in
     let about_is : app_of c.after_help.result ≡ new_app (codes "packet") = ap app_of_fields c.after_help.ensures ∙ ap app_of_fields c.about.ensures ∙ c.new-2.ensures.app in
     IfOk-weaker c.arg.result _ _ (λ r h. h.shape (search rules) ∙ ap₂ with_rule about_is hex_is) c.arg.ensures
 

@@ -1,4 +1,4 @@
-use Rattle.std.proofs.Common.{ap, map, refl, sym, true≢false, Some, Option, ◌∙◌, inl, inr}
+use Rattle.std.proofs.Common.{ap, map, refl, sym, true≢false, Some, List, Option, ◌∙◌, inl, inr}
 use Rattle.std.proofs.lemmas.Result.{IfOk-weaker}
 use Rattle.clap.specs.Words.{Text}
 use Rattle.mq_cli.specs.CommandLine.{explain_request, is_true, packet_request, rules_request}
@@ -39,9 +39,9 @@ pub returns-in-Some-subcommand_matches-2-clause-work : goal.returns-in-Some-subc
 returns-in-Some-subcommand_matches-2-clause-work g c =
     let words = map g.S.AsStr.text c.args.words.now in
     let met = c.in-Some-subcommand_matches-2 in
-    let given = c.get_str-in-Some-subcommand_matches-2-2.ensures in
+    let given = c.get_strs.ensures in
     let asked = request_is_packet words c.in-Ok.matches met.packet.now c.in-Ok.ensures.met (met.ensures.found.0 refl) met.ensures.rows in
-    IfOk-weaker c.packet_task.result _ _ (λ work h. asked ∙ ap (λ (f : Option Text). Some (packet_request f)) (sym given) ∙ ap Some (sym h)) c.packet_task.ensures.work
+    IfOk-weaker c.packet_task.result _ _ (λ work h. asked ∙ ap (λ (f : Option (List Text)). Some (packet_request f)) (sym given) ∙ ap Some (sym h)) c.packet_task.ensures.work
 
 pub returns-in-Some-subcommand_matches-3-clause-work : goal.returns-in-Some-subcommand_matches-3-clause-work
 returns-in-Some-subcommand_matches-3-clause-work g c =

@@ -1,8 +1,9 @@
-use Rattle.std.proofs.Common.{List, inr}
+use Rattle.std.proofs.Common.{List, inr, map}
+use Rattle.std.specs.Prelude.{string_bytes}
 use Rattle.clap.specs.Words.{Text}
 use Rattle.mq_cli.specs.Program.{FailsWords, FindsFaults, IsMisuse, Passes, Refuses}
-use Rattle.mq_cli.specs.Messages.{stream}
-use Rattle.mq_cli.proofs.ProgramLemmas.{known_words}
+use Rattle.mq_cli.specs.Streams.{stream}
+use Rattle.mq_cli.proofs.ProgramLemmas.{known_words, refusal_hint}
 use Rattle.mq_cli.proofs.program.run.Goals as goal
 
 pub returns-in-Ok-clause-passed : goal.returns-in-Ok-clause-passed
@@ -17,8 +18,14 @@ returns-in-Ok-clause-faulty g c = λ e.
 
 pub returns-in-Ok-clause-refused : goal.returns-in-Ok-clause-refused
 returns-in-Ok-clause-refused g c = λ e.
-    let P : List Text → Type 0 = λ words. Refuses words (g.H.Host.gives c.args.host.now) (g.W.Write.contents c.args.output.now) (g.W.Write.contents c.respond.new.output) in
+    let P : List Text → Type 0 = λ words. Refuses words (g.H.Host.gives c.args.host.now) (g.W.Write.contents c.args.output.now) (g.W.Write.contents c.respond.new.output)
+    (stream g.E.ErrorStream.contents g.E.ErrorStream.has_failed c.args.error.now c.respond.new.error) in
     known_words _ _ _ _ P c.in-Ok.ensures.words c.as_slice.ensures.value (c.respond.ensures.refused e)
+
+pub returns-in-Ok-clause-hinted : goal.returns-in-Ok-clause-hinted
+returns-in-Ok-clause-hinted g c = λ e.
+    refusal_hint (map string_bytes c.as_slice.result.now) (g.H.Host.gives c.args.host.now) (g.W.Write.contents c.args.output.now) (g.W.Write.contents c.respond.new.output) _
+    (c.respond.ensures.refused e)
 
 pub returns-in-Ok-clause-misused : goal.returns-in-Ok-clause-misused
 returns-in-Ok-clause-misused g c = λ e.
@@ -27,6 +34,6 @@ returns-in-Ok-clause-misused g c = λ e.
 
 pub returns-in-Ok-clause-failed : goal.returns-in-Ok-clause-failed
 returns-in-Ok-clause-failed g c = λ e.
-    let P : List Text → Type 0 = λ words. FailsWords words (g.H.Host.gives c.args.host.now) (g.W.Write.contents c.args.output.now) (g.W.Write.contents c.respond.new.output)
+    let P : List Text → Type 0 = λ words. FailsWords words (g.H.Host.gives c.args.host.now) (g.W.Output.is_closed c.respond.new.output) (g.W.Write.contents c.args.output.now) (g.W.Write.contents c.respond.new.output)
     (stream g.E.ErrorStream.contents g.E.ErrorStream.has_failed c.args.error.now c.respond.new.error) in
     inr (known_words _ _ _ _ P c.in-Ok.ensures.words c.as_slice.ensures.value (c.respond.ensures.failed e))

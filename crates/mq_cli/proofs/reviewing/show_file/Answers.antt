@@ -1,11 +1,25 @@
-use Rattle.mq_cli.proofs.ReviewingLemmas.{file_is_refused, file_stops}
-use Rattle.mq_cli.specs.Reviewing.{plan_view}
+use Rattle.std.proofs.Common.{inr}
+use Rattle.mq_cli.specs.Reviewing.{RefusesPlan, plan_view}
+use Rattle.mq_cli.specs.Streams.{stream}
+use Rattle.mq_cli.proofs.BeginningLaws.{hinted_of_kept}
+use Rattle.mq_cli.proofs.ReviewingLemmas.{file_stops, for_file}
 use Rattle.mq_cli.proofs.reviewing.show_file.Goals as goal
 
 pub returns-in-Ok-open-clause-refused : goal.returns-in-Ok-open-clause-refused
-returns-in-Ok-open-clause-refused g c =
-    file_is_refused _ _ _ _ _ (plan_view c.args.plan) c.show_twice.result c.in-Ok.ensures.bytes c.in-Ok-open.ensures.bytes c.show_twice.ensures.refused
+returns-in-Ok-open-clause-refused g c = λ e.
+    for_file ((g.H.Host.gives c.args.host.now).file c.args.plan.path.now) (g.H.File.Read.remaining c.in-Ok.judged) (g.H.File.Read.remaining c.in-Ok-open.shown)
+    (λ first second. RefusesPlan (plan_view c.args.plan) first second (g.W.Write.contents c.args.output.now) (g.W.Write.contents c.show_readers.new.output))
+    c.in-Ok.ensures.bytes c.in-Ok-open.ensures.bytes (c.show_readers.ensures.refused e)
 
-pub returns-in-Ok-open-clause-stops : goal.returns-in-Ok-open-clause-stops
-returns-in-Ok-open-clause-stops g c =
-    file_stops (g.H.Host.gives c.args.host.now) (plan_view c.args.plan) _ _ _ _ _ _ c.show_twice.result c.in-Ok.ensures.bytes c.in-Ok-open.ensures.bytes c.show_twice.ensures.stops
+pub returns-in-Ok-open-clause-hinted : goal.returns-in-Ok-open-clause-hinted
+returns-in-Ok-open-clause-hinted g c = λ e.
+    hinted_of_kept ((g.H.Host.gives c.args.host.now).file c.args.plan.path.now) (g.H.File.Read.remaining c.in-Ok.judged) _
+    c.in-Ok.ensures.bytes (c.show_readers.ensures.hinted e)
+
+pub returns-in-Ok-open-clause-failed : goal.returns-in-Ok-open-clause-failed
+returns-in-Ok-open-clause-failed g c = λ e.
+    inr (file_stops (plan_view c.args.plan) ((g.H.Host.gives c.args.host.now).file c.args.plan.path.now)
+    (g.H.File.Read.remaining c.in-Ok.judged) (g.H.File.Read.remaining c.in-Ok-open.shown)
+    (g.W.Write.contents c.args.output.now) (g.W.Write.contents c.show_readers.new.output) (g.W.Output.is_closed c.show_readers.new.output)
+    (stream g.E.ErrorStream.contents g.E.ErrorStream.has_failed c.args.error.now c.show_readers.new.error)
+    c.in-Ok.ensures.bytes c.in-Ok-open.ensures.bytes (c.show_readers.ensures.failed e))

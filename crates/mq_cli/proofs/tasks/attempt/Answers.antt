@@ -1,0 +1,38 @@
+use Rattle.std.proofs.Common.{rules, sym, subst, ◌≡◌, List, ℕ, IfErr, Some}
+use Rattle.std.specs.Prelude.{string_bytes}
+use Rattle.mq_cli.specs.declared.command_line.Task.{Task}
+use Rattle.mq_cli.specs.declared.command_line.Task.TheVariants.{Show, Rules, Explain}
+use Rattle.mq_cli.specs.Citing.{explained_for}
+use Rattle.mq_cli.specs.Listing.{listed_for}
+use Rattle.mq_cli.specs.Messages.{IsRefusedOn, StopsAttempt, StopsText}
+use Rattle.mq_cli.specs.Streams.{no_role_line, no_statement_line}
+use Rattle.mq_cli.proofs.MessageLaws.{explanation_stops, rules_stop}
+use Rattle.mq_cli.proofs.tasks.attempt.Goals as goal
+
+pub returns-in-Ok-show_log-clause-refused : goal.returns-in-Ok-show_log-clause-refused
+returns-in-Ok-show_log-clause-refused g c =
+    let asked : c.args.task.now ≡ Show c.in-Show.file c.in-Show.long = search rules in
+    let P : Task → Type 0 = λ task. IsRefusedOn task (g.R.Read.remaining c.args.input.now) (g.W.Write.contents c.args.output.now) (g.W.Write.contents c.show_log.new.output) in
+    λ e. subst P (sym asked) (c.in-Ok-show_log.ensures.refused e)
+
+pub returns-in-Rules-Some-clause-stops : goal.returns-in-Rules-Some-clause-stops
+returns-in-Rules-Some-clause-stops g c =
+    let asked : c.args.task.now ≡ Rules (Some c.in-Rules-Some.word) = search rules in
+    let word : c.as_str-in-Rules-Some.result.now ≡ string_bytes c.in-Rules-Some.word = search rules in
+    let input = g.R.Read.remaining c.args.input.now in
+    let old = g.W.Write.contents c.args.output.now in
+    let new = g.W.Write.contents c.print_rules.new.output in
+    let P : Task → Type 0 = λ task. IfErr c.print_rules.result (StopsAttempt task input input old new) in
+    let Q : List ℕ → Type 0 = λ w. IfErr c.print_rules.result (StopsText (listed_for (Some w)) (no_role_line w) old new) in
+    subst P (sym asked) (rules_stop c.in-Rules-Some.word input input old new c.print_rules.result (subst Q word c.print_rules.ensures.stops))
+
+pub returns-in-Explain-clause-stops : goal.returns-in-Explain-clause-stops
+returns-in-Explain-clause-stops g c =
+    let asked : c.args.task.now ≡ Explain c.in-Explain.code = search rules in
+    let code : c.as_str-in-Explain.result.now ≡ string_bytes c.in-Explain.code = search rules in
+    let input = g.R.Read.remaining c.args.input.now in
+    let old = g.W.Write.contents c.args.output.now in
+    let new = g.W.Write.contents c.explain.new.output in
+    let P : Task → Type 0 = λ task. IfErr c.explain.result (StopsAttempt task input input old new) in
+    let Q : List ℕ → Type 0 = λ w. IfErr c.explain.result (StopsText (explained_for w) (no_statement_line w) old new) in
+    subst P (sym asked) (explanation_stops c.in-Explain.code input input old new c.explain.result (subst Q code c.explain.ensures.stops))

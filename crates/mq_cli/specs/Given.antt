@@ -1,0 +1,18 @@
+-- What the program is given by its host.
+use Rattle.std.specs.Prelude.{List, Option, Some, None}
+use Rattle.clap.specs.Words.{Text}
+use Rattle.mq_cli.specs.declared.trouble.Trouble.{Trouble}
+
+-- What the program is given: the words of its command line, the bytes of the file at a path and those of standard input, each if
+-- known; and why the words couldn't be read, or the file at a path couldn't be opened.
+pub record Given : Type 1 where
+  pub words : Option (List Text)
+  pub file : Text → Option Text
+  pub standard : Option Text
+  pub unread : Trouble → Type 0
+  pub unopened : Text → Trouble → Type 0
+
+-- the bytes at this path, or of standard input if there is no path
+abbrev pub bytes_at : Given → Option Text → Option Text
+bytes_at given None = given.standard
+bytes_at given (Some path) = given.file path

@@ -1,0 +1,95 @@
+//! A host for tests.
+use crate::harness::Trickle;
+use crate::host::Host;
+use crate::trouble::{Reason, Trouble};
+use std::alloc::Global;
+use std::io::ErrorKind;
+
+/// A session of four events.
+pub const GOOD: &[u8] = b"MQTR\x01\x00\x01\x00\
+    \x01\x00\x00\x00\x00\
+    \x02\x00\x00\x00\x0f\x10\x0d\x00\x04MQTT\x05\x02\x00\x3c\x00\x00\x00\
+    \x03\x00\x00\x00\x05\x20\x03\x00\x00\x00\
+    \x02\x00\x00\x00\x09\x32\x07\x00\x01a\x00\x01\x00x";
+
+/// The same with a Packet Identifier of 0.
+pub const FAULTY: &[u8] = b"MQTR\x01\x00\x01\x00\
+    \x01\x00\x00\x00\x00\
+    \x02\x00\x00\x00\x0f\x10\x0d\x00\x04MQTT\x05\x02\x00\x3c\x00\x00\x00\
+    \x03\x00\x00\x00\x05\x20\x03\x00\x00\x00\
+    \x02\x00\x00\x00\x09\x32\x07\x00\x01a\x00\x00\x00x";
+
+/// A host with these words, one file, at `a.log`, and a standard input. Its readers give one byte a call.
+#[derive(Drop)]
+pub struct Desk {
+    pub alloc: Global,
+    pub words: &'static [&'static str],
+    pub file: &'static [u8],
+    pub input: &'static [u8],
+    /// Why another file can't be opened, or the words not be read if there are none.
+    pub trouble: Trouble,
+    /// After how many bytes a reader fails, if it does.
+    pub fails_after: Option<usize>,
+    /// The kind of its error.
+    pub kind: ErrorKind,
+}
+
+impl Desk {
+    /// A host with these words, this file and this standard input, and without a file at any other path.
+    pub fn of(
+        alloc: Global,
+        words: &'static [&'static str],
+        file: &'static [u8],
+        input: &'static [u8],
+    ) -> Self {
+        Desk {
+            alloc,
+            words,
+            file,
+            input,
+            trouble: Trouble::Unread(Reason::Missing),
+            fails_after: None,
+            kind: ErrorKind::Other,
+        }
+    }
+}
+
+impl Host for Desk {
+    ghost use Rattle.std.specs.Prelude.{None, ⊤};
+
+    type File = Trickle<'static>;
+
+    type Stdin = Trickle<'static>;
+
+    ghost gives = { λ _. record {
+      words = None;
+      file = λ _. None;
+      standard = None;
+      unread = λ _. ⊤;
+      unopened = λ _ _. ⊤;
+    } };
+
+    fn arguments(&self) -> Result<Vec<String>, Trouble> {
+        let mut arguments = Vec::new(self.alloc);
+        for word in self.words {
+            let word = String::from_str(self.alloc, word).map_err(|_| Trouble::Memory)?;
+            arguments.push(word).map_err(|_| Trouble::Memory)?;
+        }
+        if arguments.is_empty() {
+            return Err(self.trouble);
+        }
+        Ok(arguments)
+    }
+
+    fn open(&self, path: &str) -> Result<Trickle<'static>, Trouble> {
+        if path == "a.log" {
+            Ok(Trickle::failing(self.file, self.fails_after, self.kind))
+        } else {
+            Err(self.trouble)
+        }
+    }
+
+    fn input(&self) -> Trickle<'static> {
+        Trickle::failing(self.input, self.fails_after, self.kind)
+    }
+}
