@@ -1,5 +1,5 @@
 -- How much is held.
-use Rattle.std.proofs.Common.{◌≡◌, ℕ, ◌+◌, arith, cond, List, [], ◌∷◌, ◌++◌, length, Option, refl, ap, sym, ◌∙◌}
+use Rattle.std.proofs.Common.{◌≡◌, ℕ, ◌+◌, arith, cond, List, [], ◌∷◌, ◌++◌, Option, refl, ap, sym, ◌∙◌}
 use Rattle.std.specs.Prelude.{is_some, reverse}
 use Rattle.std.specs.List.{sum_by}
 use Rattle.std.proofs.lemmas.List.{reverse-append}
@@ -9,7 +9,7 @@ use Rattle.mq_rules.specs.declared.role.Tested.{Tested}
 use Rattle.mq_rules.specs.declared.fate.Fate.{Fate}
 use Rattle.mq_rules.specs.declared.note.Note.{Note}
 use Rattle.mq_rules.specs.declared.note.Seen.{Seen}
-use Rattle.mq_rules.specs.Moments.{Moment, newest, note}
+use Rattle.mq_rules.specs.Moments.{newest, note}
 use Rattle.mq_rules.specs.Connections.{latest_fate, connection}
 use Rattle.mq_rules.proofs.Exports.{connection-newest as connection-next}
 use Rattle.mq_books.specs.Standings.{total}

@@ -41,6 +41,8 @@ fn ends(note: &Note) -> bool
     }
 }
 
+/// Whether no REST binds any more on the latest connection after an event, given whether that was so before it: a DISCONNECT,
+/// bytes that break a rule or a lost direction end it, and the next OPEN begins anew.
 pub fn ended_after(ended: bool, note: &Note) -> bool
     ensures { result ≡ (keeping.ends_by note.now || (not (is_open note.now) && ended)) }
 {

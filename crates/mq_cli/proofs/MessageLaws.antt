@@ -81,11 +81,6 @@ explanation_stops code input left old new (Err (obstacles.Misused misuse)) h = h
 
 -- ---- what is asked for in vain
 
--- it is the task's message
-pub misuse_printed : (task : Task) (misuse : Misuse) (old new : Option (List ℕ)) → IsMisnamed task → misuse_line misuse ≡ misnamed_line task
-    → Appends old new (misuse_line misuse) → IsMisnamed task × Appends old new (misnamed_line task)
-misuse_printed task misuse old new misnamed same printed = (misnamed, subst (λ (line : List ℕ). Appends old new line) same printed)
-
 -- memory may run out for it
 memory_stops : (task : Task) (input left old new : Option (List ℕ)) → IsMisnamed task → Keeps old new → StopsTask failures.Memory task input left old new
 memory_stops (Check file json summary) input left old new misnamed kept = absurd misnamed

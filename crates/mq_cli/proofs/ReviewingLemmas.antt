@@ -193,13 +193,3 @@ rejoin_both None judged shown R k h = tt
 rejoin_both (Some log) None shown R k h = absurd k
 rejoin_both (Some log) (Some first) None R k h = tt
 rejoin_both (Some log) (Some first) (Some second) R k h = subst (λ x. R x second) k h
-
-pub rejoin_stops : (plan : Plan) (old judged shown out_old out_new : Option (List ℕ)) (is_closed : Bool) (error : Stream) → Keeps old judged
-    → StopsReaders plan judged shown is_closed out_old out_new error → StopsReaders plan old shown is_closed out_old out_new error
-rejoin_stops plan old judged shown out_old out_new is_closed error k stops = record {
-  judged_left = stops.judged_left;
-  shown_left = stops.shown_left;
-  trouble = stops.trouble;
-  stops = rejoin_both old judged shown (λ first second. StopsPlan plan (failure_in stops.trouble) first second stops.judged_left stops.shown_left out_old out_new) k stops.stops;
-  told = stops.told;
-}

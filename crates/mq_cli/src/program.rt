@@ -48,7 +48,7 @@ pub fn run<H: Host, W: Output, E: ErrorStream>(
         FindsFaults words (H.gives host.now) (W.contents output.old) (W.contents output.new)) }
     ensures refused { result ≡ 2 → IfSome (H.gives host.now).words (λ words. Refuses words (H.gives host.now)
         (W.contents output.old) (W.contents output.new) (stream E.contents E.has_failed error.old error.new)) }
-    // Whatever the log is, no more than a hint is written there.
+    // Also of a log that isn't known: no more than a hint is written to `error`.
     ensures hinted { result ≡ 2 → IsHinted None (stream E.contents E.has_failed error.old error.new) }
     ensures misused { result ≡ 3 → IfSome (H.gives host.now).words (λ words.
         IsMisuse words (E.contents error.old) (E.contents error.new)) }

@@ -23,37 +23,18 @@ use super::event::{Item, item_event};
 use super::kind::Direction;
 use super::refusal::Refusal;
 use super::sink::Sink;
-use bytes::BytesMut;
+use super::unfinished::Unfinished;
 use mq_packet::{
     DecodeFault, FixedHeader, Packet, PacketRule, decode, decode_brief_acknowledgement,
     decode_brief_publish, decode_ping, decode_publish, fixed_header, has_no_properties,
 };
-use std::alloc::{AllocError, Global};
-use std::marker::Model;
+use std::alloc::Global;
 
 /// What is kept of one direction: the bytes of its unfinished packet.
 #[derive(Drop)]
 pub struct Deframer {
     pub unfinished: Unfinished,
     pub lost: bool,
-}
-
-/// The bytes of an unfinished packet. If there are any, there is room for one byte more. So no packet needs memory for its last
-/// byte alone, and the refusal that applies at that byte is always found.
-#[derive(Drop)]
-pub struct Unfinished {
-    bytes: BytesMut,
-}
-
-impl Model for Unfinished {
-    ghost use Rattle.std.specs.Prelude.{◌<◌, length};
-    ghost use Rattle.bytes.specs.Filled.{Filled};
-
-    ghost Value = { Filled };
-
-    ghost view = { λ u. u.bytes };
-
-    ghost invariant = { λ u. 0 < length u.bytes.items → 0 < u.bytes.spare };
 }
 
 /// What stays the same while the body of a record is read.
@@ -373,98 +354,6 @@ impl Deframer {
     }
 }
 
-impl Unfinished {
-    /// No bytes.
-    fn new(alloc: Global) -> Self
-        ensures { result.items ≡ [] }
-    {
-        Unfinished {
-            bytes: BytesMut::new(alloc),
-        }
-    }
-
-    /// How many bytes there are.
-    pub fn len(&self) -> usize
-        ensures value { result ≡ length self.now.items }
-        ensures bound { result < 2 ^ 63 }
-    {
-        self.bytes.len()
-    }
-
-    /// Whether there are none.
-    #[inline(always)]
-    fn is_empty(&self) -> bool
-        ensures { result ≡ (length self.now.items == 0) }
-    {
-        self.bytes.is_empty()
-    }
-
-    #[inline(always)]
-    fn as_slice(&self) -> &[u8]
-        ensures { result.now ≡ self.now.items }
-    {
-        self.bytes.as_slice()
-    }
-
-    /// Drops all bytes.
-    fn clear(&mut self)
-        ensures { self.new.items ≡ [] }
-    {
-        self.bytes.clear();
-    }
-
-    /// Appends bytes of the packet, of which more is to come.
-    ///
-    /// # Errors
-    ///
-    /// If there is no memory for them and one byte more. Nothing is appended then.
-    fn extend(&mut self, bytes: &[u8]) -> Result<(), AllocError>
-        ensures ok { OnOk result (self.new.items ≡ self.old.items ++ bytes.now) }
-        ensures same { OnErr result (self.new.items ≡ self.old.items) }
-        ensures wanted { OnErr result (self.old.spare ≤ length bytes.now) }
-    {
-        self.bytes.reserve(bytes.len() + 1)?;
-        self.bytes.extend_reserved(bytes);
-        Ok(())
-    }
-
-    /// Appends the packet's last bytes, the first of which has this offset in the log, emits the packet, and drops its bytes.
-    ///
-    /// # Errors
-    ///
-    /// The refusal that applies at the last of them; the sink's own refusal; `Memory`, at the first of them, if there are several.
-    #[inline(never)]
-    fn complete<S: Sink>(
-        &mut self,
-        context: BodyContext,
-        connections: &mut Connections,
-        at: u64,
-        bytes: &[u8],
-        sink: &mut S,
-    ) -> Result<(), Refusal>
-        requires begun { 1 ≤ length self.old.items }
-        requires some { 1 ≤ length bytes.now }
-        requires room { at + length bytes.now < 2 ^ 64 }
-        requires whole { frame_size (self.old.items ++ bytes.now) ≡ Some (length (self.old.items ++ bytes.now)) }
-        requires within { length (self.old.items ++ bytes.now) ≤ context.limit }
-        ensures comes { OnOk result (FlowComes S.agrees context.limit (body_context context) (flow_of at (record { unfinished = self.old.items; lost = false }) connections.old)
-            (flow_of (at + length bytes.now) (record { unfinished = []; lost = false }) connections.new) bytes.now sink.old sink.new) }
-        ensures empty { OnOk result (self.new.items ≡ []) }
-        ensures stops { IfErr result (λ refusal. FlowStops (Declines S.agrees S.refuses) context.limit (body_context context) (flow_of at (record { unfinished = self.old.items; lost = false }) connections.old) bytes.now sink.old sink.new refusal) }
-    {
-        let last = at + (bytes.len() - 1) as u64;
-        match self.bytes.extend_from_slice(bytes) {
-            Ok(()) => {
-                let frame = self.bytes.as_slice();
-                let emitted = emit_frame(context, connections, last, header_of(frame), frame, sink);
-                self.bytes.clear();
-                emitted
-            }
-            Err(_) => Err(Refusal::Memory(at)),
-        }
-    }
-}
-
 /// The lengths of the fixed header and of the packet, if the bytes begin with a whole one within the limit.
 #[inline(always)]
 pub fn whole_packet(limit: u32, bytes: &[u8]) -> Option<(usize, usize)>
@@ -479,7 +368,7 @@ pub fn whole_packet(limit: u32, bytes: &[u8]) -> Option<(usize, usize)>
 }
 
 /// How many bytes the fixed header of a whole packet has.
-fn header_of(frame: &[u8]) -> usize
+pub fn header_of(frame: &[u8]) -> usize
     requires { frame_size frame.now ≡ Some (length frame.now) }
     ensures is { fixed_header_of frame.now ≡ headers.Whole result (length frame.now) }
     ensures fits { length frame.now ≤ result + 268435455 }
@@ -521,7 +410,7 @@ pub fn consume_whole<S: Sink>(
 ///
 /// The first byte chooses the function before any byte of the body is read. So reading a PUBLISH takes no stack for others.
 #[inline(always)]
-fn emit_frame<S: Sink>(
+pub fn emit_frame<S: Sink>(
     context: BodyContext,
     connections: &mut Connections,
     at: u64,

@@ -17,6 +17,7 @@ mod stage;
 #[cfg(test)]
 mod tests;
 mod tracer;
+mod unfinished;
 mod writer;
 
 pub use event::{Event, Item};

@@ -1,6 +1,6 @@
 use Rattle.std.proofs.Common.{◌≡◌, ◌||◌, ℕ, Bool, List, length}
 use Rattle.std.specs.List.{list_any}
-use Rattle.mq_books.specs.Standings.{Waits, allows, stands_any}
+use Rattle.mq_books.specs.Standings.{allows, stands_any}
 use Rattle.mq_books.proofs.subs.settle_all.Given as goal
 
 -- with those that wait, all come to be settled
