@@ -19,3 +19,6 @@ pub mod PlacesLaws
 pub mod OwingLaws
 pub mod DeliveryLaws
 pub mod QuietLaws
+pub mod JudgedLaws
+pub mod WaitingLaws
+pub mod GrowthLaws

@@ -22,20 +22,20 @@ use Rattle.mq_packet.specs.declared.packet.Qos.{Qos}
 use Rattle.mq_packet.specs.declared.packet.Qos.TheVariants as quality
 use Rattle.mq_rules.specs.Notes.{is_open, is_rest, released_id, sent_fields, received_fields, publish_in, is_acknowledged, is_at_least_once, is_exactly_once, received_once_acknowledged, received_exactly_once, received_as, accepting_pubrec_in, opener_of, is_pingreq, is_received_pingreq, is_sent_pingresp, delivery_in, opener_in, resend_in, puback_in, pubrec_in, pubrel_in, pubcomp_in, subscribe_in, suback_in, unsubscribe_in, unsuback_in, success_pubcomp_in, grant_in, unsuback_count_in}
 use Rattle.mq_rules.specs.Moments.{Moment, newest, note, moment, moments, some, those, count, is_next}
-use Rattle.mq_rules.specs.Connections.{IsInOrder, latest_fate, accepts, resumed, connection, begun, number, is_binding}
+use Rattle.mq_rules.specs.Connections.{latest_fate, accepts, resumed, connection, begun, number, is_binding}
 use Rattle.mq_rules.specs.Rules.{binds, found_line, lines, line_of}
 use Rattle.mq_rules.specs.Statements.{Statement, on_bytes, on_past, in_session, at_release, at_rest, statement}
-use Rattle.mq_rules.specs.Steps.{shows, turns}
+use Rattle.mq_rules.specs.Under.{is_by_session, shows_with, turns_with}
 use Rattle.mq_rules.specs.Identifiers.{taken_by, breaks_S01, breaks_S02, breaks_S03, breaks_S04, breaks_S05, breaks_S07, shows_S06}
 use Rattle.mq_rules.specs.Exchanges.{breaks_A, breaks_O, breaks_E7R, shows_R}
 use Rattle.mq_rules.specs.Releases.{breaks_L1, breaks_L2, breaks_L3}
 use Rattle.mq_rules.specs.Subscriptions.{breaks_B01, breaks_B02, breaks_B03, breaks_B04}
-use Rattle.mq_rules.specs.FaultKeys.{FaultMap, fault_at}
-use Rattle.mq_rules.specs.Faults.{reported}
-use Rattle.mq_rules.specs.Growing.{GrowsBy}
-use Rattle.mq_rules.proofs.Exports.{and_false, or_false, both_true, option_or-none, in_order-turns, in_order-releases}
+use Rattle.mq_rules.specs.FaultKeys.{FaultMap}
+use Rattle.mq_rules.specs.Growing.{Gains}
+use Rattle.mq_rules.proofs.Exports.{and_false, or_false, both_true, gains_nothing}
 use Rattle.mq_plain.specs.Chosen.{is_plain_se, is_plain_lb, is_plain_rule}
 use Rattle.mq_plain.specs.Events.{is_client, is_spoken_of, is_quiet, is_asking, asks, some_asks, is_unacknowledged, is_idle, AreSilent}
+use Rattle.mq_plain.specs.Waiting.{AreOnSessions}
 
 -- ---- what a quiet event is not
 
@@ -281,10 +281,9 @@ never role releases _ e past chosen idle = absurd (cc)
 
 -- ---- with a quiet event
 
-nowhere : (b : Bool) (test : Fate → Bool) (o : Option Fate) → (b ≡ true → (f : Fate) → test f ≡ false) → (b && is_some_and test o) ≡ false
-nowhere false test o h = refl
-nowhere true test None h = refl
-nowhere true test (Some f) h = h refl f
+nowhere : (b n : Bool) (test : Bool) → (b ≡ true → test ≡ false) → (b && (n && test)) ≡ false
+nowhere false n test h = refl
+nowhere true n test h = ap (λ t. n && t) (h refl) ∙ and_false n
 
 -- what a REST shows of a log of which no event asks
 unshown : (test : Moment → Bool) (past : List Seen) (k : ℕ) → ((m : Moment) → asks (note m) ≡ false → test m ≡ false) → some_asks past ≡ false → is_some_and test (moment past k) ≡ false
@@ -306,21 +305,19 @@ nothing-shown : (role : Role) (e : Seen) (past : List Seen) (k : ℕ) (test : Mo
 nothing-shown role e past k test fails (inl unbound) = and-first _ _ unbound
 nothing-shown role e past k test fails (inr unasked) = ap (λ b. is_binding role (newest e past) && b) (unshown test past k fails unasked) ∙ and_false (is_binding role (newest e past))
 
-never-turns : (tested : Tested) (rule : Rule) (s : Statement) (e : Seen) (past : List Seen) (k : ℕ) → statement tested.role rule ≡ s → ShowsNothing tested.role e past → IsInOrder tested.role (e ∷ past)
-    → IsNever (binds rule tested) s (newest e past) → turns tested e past k rule ≡ false
-unfolding turns
-never-turns tested rule (on_bytes bytes) e past k says quiet order h = absurd h
-never-turns tested rule (on_past breaks) e past k says quiet order h = absurd h
-never-turns tested rule (in_session breaks) e past k says quiet order h =
-    in_order-turns tested rule breaks e past says order k
-    ∙ ap (λ b. is_next past k && b) (nowhere (binds rule tested) (λ f. accepts f && breaks f (newest e past)) (latest_fate tested.role past) (λ bound f. ap (λ b. accepts f && b) (h bound f) ∙ and_false (accepts f)))
-    ∙ and_false (is_next past k)
-never-turns tested rule (at_release breaks) e past k says quiet order h =
-    in_order-releases tested rule breaks e past says order k
-    ∙ ap (λ b. is_next past k && b) (nowhere (binds rule tested) (λ f. breaks f (newest e past)) (latest_fate tested.role past) h)
-    ∙ and_false (is_next past k)
-never-turns tested rule (at_rest shows_it) e past k says quiet order h =
-    ap (λ s. binds rule tested && shows tested.role s e past k) says
+never-turns : (tested : Tested) (rule : Rule) (s : Statement) (f : Fate) (e : Seen) (past : List Seen) (k : ℕ) → statement tested.role rule ≡ s → ShowsNothing tested.role e past
+    → IsNever (binds rule tested) s (newest e past) → turns_with tested f e past k rule ≡ false
+unfolding turns_with
+never-turns tested rule (on_bytes bytes) f e past k says quiet h = absurd h
+never-turns tested rule (on_past breaks) f e past k says quiet h = absurd h
+never-turns tested rule (in_session breaks) f e past k says quiet h =
+    ap (λ s. binds rule tested && shows_with tested.role f s e past k) says
+    ∙ nowhere (binds rule tested) (is_next past k) (accepts f && breaks f (newest e past)) (λ bound. ap (λ b. accepts f && b) (h bound f) ∙ and_false (accepts f))
+never-turns tested rule (at_release breaks) f e past k says quiet h =
+    ap (λ s. binds rule tested && shows_with tested.role f s e past k) says
+    ∙ nowhere (binds rule tested) (is_next past k) (breaks f (newest e past)) (λ bound. h bound f)
+never-turns tested rule (at_rest shows_it) f e past k says quiet h =
+    ap (λ s. binds rule tested && shows_with tested.role f s e past k) says
     ∙ ap (λ b. binds rule tested && b) (nothing-shown tested.role e past k (shows_it (newest e past)) h quiet)
     ∙ and_false (binds rule tested)
 
@@ -332,10 +329,9 @@ quiet-idle role e past quiet = record {
   unpinged = and-first _ _ (unbinding role e past (quiet-rest role e.note quiet));
 }
 
-silent : (tested : Tested) (e : Seen) (past : List Seen) (k : ℕ) (rule : Rule) → is_plain_rule rule ≡ true → is_quiet tested.role e.note ≡ true → IsInOrder tested.role (e ∷ past)
-    → turns tested e past k rule ≡ false
-silent tested e past k rule chosen quiet order =
-    never-turns tested rule (statement tested.role rule) e past k refl (inl (unbinding tested.role e past (quiet-rest tested.role e.note quiet))) order
+silent : (tested : Tested) (f : Fate) (e : Seen) (past : List Seen) (k : ℕ) (rule : Rule) → is_plain_rule rule ≡ true → is_quiet tested.role e.note ≡ true → turns_with tested f e past k rule ≡ false
+silent tested f e past k rule chosen quiet =
+    never-turns tested rule (statement tested.role rule) f e past k refl (inl (unbinding tested.role e past (quiet-rest tested.role e.note quiet)))
     (never tested.role tested.releases rule e past chosen (quiet-idle tested.role e past quiet))
 
 -- ---- with a REST before which nothing asks
@@ -369,10 +365,9 @@ resting-release : (n : Note) → is_rest n ≡ true → released_id n ≡ None
 resting-release notes.Rest h = refl
 resting-release _ h = absurd (cc)
 
-resting : (tested : Tested) (e : Seen) (past : List Seen) (k : ℕ) (rule : Rule) → is_plain_rule rule ≡ true → is_rest e.note ≡ true → some_asks past ≡ false → IsInOrder tested.role (e ∷ past)
-    → turns tested e past k rule ≡ false
-resting tested e past k rule chosen rest unasked order =
-    never-turns tested rule (statement tested.role rule) e past k refl (inr unasked) order
+resting : (tested : Tested) (f : Fate) (e : Seen) (past : List Seen) (k : ℕ) (rule : Rule) → is_plain_rule rule ≡ true → is_rest e.note ≡ true → some_asks past ≡ false → turns_with tested f e past k rule ≡ false
+resting tested f e past k rule chosen rest unasked =
+    never-turns tested rule (statement tested.role rule) f e past k refl (inr unasked)
     (never tested.role tested.releases rule e past chosen
     (record { unspoken = resting-sent tested.role e.note rest; unreleased = resting-release e.note rest; unpinged = unpinged tested.role e past unasked }))
 
@@ -385,40 +380,52 @@ other-of true b h = refl
 other-of false b h = h
 
 pub silent_plain : AreSilent is_plain_rule
-silent_plain = record { quiet = λ tested e past k rule chosen. silent tested e past k rule chosen; resting = λ tested e past k rule chosen. resting tested e past k rule chosen }
+silent_plain = record { quiet = λ tested f e past k rule chosen. silent tested f e past k rule chosen; resting = λ tested f e past k rule chosen. resting tested f e past k rule chosen }
 
 pub silent_se : AreSilent is_plain_se
 silent_se = record {
-  quiet = λ tested e past k rule chosen. silent tested e past k rule (one-of (is_plain_se rule) (is_plain_lb rule) chosen);
-  resting = λ tested e past k rule chosen. resting tested e past k rule (one-of (is_plain_se rule) (is_plain_lb rule) chosen);
+  quiet = λ tested f e past k rule chosen. silent tested f e past k rule (one-of (is_plain_se rule) (is_plain_lb rule) chosen);
+  resting = λ tested f e past k rule chosen. resting tested f e past k rule (one-of (is_plain_se rule) (is_plain_lb rule) chosen);
 }
 
 pub silent_lb : AreSilent is_plain_lb
 silent_lb = record {
-  quiet = λ tested e past k rule chosen. silent tested e past k rule (other-of (is_plain_se rule) (is_plain_lb rule) chosen);
-  resting = λ tested e past k rule chosen. resting tested e past k rule (other-of (is_plain_se rule) (is_plain_lb rule) chosen);
+  quiet = λ tested f e past k rule chosen. silent tested f e past k rule (other-of (is_plain_se rule) (is_plain_lb rule) chosen);
+  resting = λ tested f e past k rule chosen. resting tested f e past k rule (other-of (is_plain_se rule) (is_plain_lb rule) chosen);
 }
 
--- Where no statement turns out false, the faults stay as they are.
-grows-none : (chosen : Rule → Bool) (tested : Tested) (e : Seen) (past : List Seen) (faults : FaultMap) → ((k : ℕ) (r : Rule) → chosen r ≡ true → turns tested e past k r ≡ false)
-    → GrowsBy chosen tested e past faults faults
-grows-none chosen tested e past faults never = record {
-  each = λ k r. sym (ap (option_or (fault_at faults k r)) (go k r (chosen r) refl) ∙ option_or-none (fault_at faults k r));
-}
+-- they are all on sessions
+sessions-of : (role : Role) (rule : Rule) → is_plain_rule rule ≡ is_by_session (statement role rule)
+sessions-of role S01 = refl
+sessions-of role _ = refl
+
+pub sessions_plain : AreOnSessions is_plain_rule
+sessions_plain = record { each = λ tested rule chosen. sym (sessions-of tested.role rule) ∙ chosen }
+
+pub sessions_se : AreOnSessions is_plain_se
+sessions_se = record { each = λ tested rule chosen. sym (sessions-of tested.role rule) ∙ one-of (is_plain_se rule) (is_plain_lb rule) chosen }
+
+pub sessions_lb : AreOnSessions is_plain_lb
+sessions_lb = record { each = λ tested rule chosen. sym (sessions-of tested.role rule) ∙ other-of (is_plain_se rule) (is_plain_lb rule) chosen }
+
+-- Where no statement turns out false under the fate, nothing is added.
+gains-none : (chosen : Rule → Bool) (tested : Tested) (f : Fate) (e : Seen) (past : List Seen) (at : ℕ) (faults : FaultMap) → ((k : ℕ) (r : Rule) → chosen r ≡ true → turns_with tested f e past k r ≡ false)
+    → Gains (λ k r. chosen r && turns_with tested f e past k r) tested (e ∷ past) at faults faults
+gains-none chosen tested f e past at faults never = gains_nothing (λ k r. chosen r && turns_with tested f e past k r) tested (e ∷ past) at faults (λ k r. go k r (chosen r) refl)
   where
-    go : (k : ℕ) (r : Rule) (c : Bool) → chosen r ≡ c → cond (c && turns tested e past k r) (Some (reported tested.role (moment (e ∷ past) k) r (length past + 1))) None ≡ None
-    go k r true is = ap (λ b. cond b (Some (reported tested.role (moment (e ∷ past) k) r (length past + 1))) None) (never k r is)
+    go : (k : ℕ) (r : Rule) (c : Bool) → chosen r ≡ c → (c && turns_with tested f e past k r) ≡ false
+    go k r true is = never k r is
     go k r false is = refl
 
-pub quiet-grows : (chosen : Rule → Bool) (tested : Tested) (e : Seen) (past : List Seen) (faults : FaultMap) → AreSilent chosen → IsInOrder tested.role (e ∷ past) → is_quiet tested.role e.note ≡ true
-    → GrowsBy chosen tested e past faults faults
-quiet-grows chosen tested e past faults silent order quiet = grows-none chosen tested e past faults (λ k r is. silent.quiet tested e past k r is quiet order)
+pub quiet-gains : (chosen : Rule → Bool) (tested : Tested) (f : Fate) (e : Seen) (past : List Seen) (at : ℕ) (faults : FaultMap) → AreSilent chosen → is_quiet tested.role e.note ≡ true
+    → Gains (λ k r. chosen r && turns_with tested f e past k r) tested (e ∷ past) at faults faults
+quiet-gains chosen tested f e past at faults silent quiet = gains-none chosen tested f e past at faults (λ k r is. silent.quiet tested f e past k r is quiet)
 
-pub resting-grows : (chosen : Rule → Bool) (tested : Tested) (e : Seen) (past : List Seen) (faults : FaultMap) (asked : Bool) → AreSilent chosen → IsInOrder tested.role (e ∷ past)
-    → (is_rest e.note && not asked) ≡ true → asked ≡ some_asks past → GrowsBy chosen tested e past faults faults
-resting-grows chosen tested e past faults asked silent order finds so =
+pub resting-gains : (chosen : Rule → Bool) (tested : Tested) (f : Fate) (e : Seen) (past : List Seen) (at : ℕ) (faults : FaultMap) (asked : Bool) → AreSilent chosen → (is_rest e.note && not asked) ≡ true
+    → (asked ≡ false → some_asks past ≡ false) → Gains (λ k r. chosen r && turns_with tested f e past k r) tested (e ∷ past) at faults faults
+resting-gains chosen tested f e past at faults asked silent finds so =
     let both = both_true (is_rest e.note) (not asked) finds in
-    grows-none chosen tested e past faults (λ k r is. silent.resting tested e past k r is both.0 (sym so ∙ not-true asked both.1) order)
+    gains-none chosen tested f e past at faults (λ k r is. silent.resting tested f e past k r is both.0 (so (not-true asked both.1)))
 
 -- ---- an idle event
 

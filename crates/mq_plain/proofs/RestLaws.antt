@@ -10,6 +10,7 @@ use Rattle.mq_trace.specs.declared.place.Place3.{Place3}
 use Rattle.mq_rules.specs.contracts.rule.Rule.{the_type}
 use Rattle.mq_rules.specs.declared.role.Tested.{Tested}
 use Rattle.mq_rules.specs.declared.rule.Rule.{Rule}
+use Rattle.mq_rules.specs.declared.fate.Fate.{Fate}
 use Rattle.mq_rules.specs.declared.note.Seen.{Seen}
 use Rattle.mq_rules.specs.declared.fault.Fault.{Fault}
 use Rattle.mq_rules.specs.Words.{is_some_and}
@@ -17,10 +18,10 @@ use Rattle.mq_rules.specs.Moments.{Moment, newest, moment}
 use Rattle.mq_rules.specs.Connections.{is_binding}
 use Rattle.mq_rules.specs.Rules.{binds, same_rule}
 use Rattle.mq_rules.specs.Statements.{statement, at_rest}
-use Rattle.mq_rules.specs.Steps.{shows, turns}
+use Rattle.mq_rules.specs.Under.{shows_with, turns_with}
 use Rattle.mq_rules.specs.FaultKeys.{FaultMap, fault_at, with_fault}
 use Rattle.mq_rules.specs.Faults.{record_of, offset_of, reported}
-use Rattle.mq_rules.specs.Growing.{news, GrowsBy, GrowsByWithin}
+use Rattle.mq_rules.specs.Growing.{added, Gains, GainsWithin}
 use Rattle.mq_rules.proofs.Exports.{and_false, option_or-none, same_test, fault_at-with_fault, moment-stays}
 use Rattle.mq_plain.specs.Shown.{IsShown}
 use Rattle.mq_plain.specs.Blames.{place_at, decided_by, Blames, BlamesWithin}
@@ -95,18 +96,22 @@ blames-part rule decided places i old new h = record { each = λ k r. go (fault_
 
 -- ---- what a REST shows
 
+-- the pairs of one statement that turn out to fail with an event, under a fate
+abbrev pub turns_of : Rule → Tested → Fate → Seen → List Seen → ℕ → Rule → Bool
+turns_of rule tested f e past k r = same_rule r rule && turns_with tested f e past k r
+
 -- the fault of a position that the newest event shows, if it is a REST that binds
-shown_fault : Bool → (Moment → Bool) → List Seen → ℕ → Option Fault
-shown_fault judged test past k = cond (judged && is_some_and test (moment past k)) (Some (record { decided = length past + 1; record_no = record_of (moment past k); offset = None })) None
+shown_fault : Bool → (Moment → Bool) → List Seen → ℕ → ℕ → Option Fault
+shown_fault judged test past at k = cond (judged && is_some_and test (moment past k)) (Some (record { decided = at; record_no = record_of (moment past k); offset = None })) None
 
 and-last : (a b c : Bool) → (a && (b && c)) ≡ ((a && b) && c)
 and-last true b c = refl
 and-last false b c = refl
 
-news-rest : (tested : Tested) (rule : Rule) (shows_it : Moment → Moment → Bool) (e : Seen) (past : List Seen) (k : ℕ) (r : Rule) → statement tested.role rule ≡ at_rest shows_it
-    → news (λ q. same_rule q rule) tested e past k r ≡ cond (same_rule r rule) (shown_fault (binds rule tested && is_binding tested.role (newest e past)) (shows_it (newest e past)) past k) None
-unfolding turns shown_fault
-news-rest tested rule shows_it e past k r says = go (same_rule r rule) refl
+added-rest : (tested : Tested) (rule : Rule) (shows_it : Moment → Moment → Bool) (f : Fate) (e : Seen) (past : List Seen) (at k : ℕ) (r : Rule) → statement tested.role rule ≡ at_rest shows_it
+    → added (turns_of rule tested f e past) tested (e ∷ past) at k r ≡ cond (same_rule r rule) (shown_fault (binds rule tested && is_binding tested.role (newest e past)) (shows_it (newest e past)) past at k) None
+unfolding turns_with shown_fault
+added-rest tested rule shows_it f e past at k r says = go (same_rule r rule) refl
   where
     test : Moment → Bool
     test = shows_it (newest e past)
@@ -115,30 +120,30 @@ news-rest tested rule shows_it e past k r says = go (same_rule r rule) refl
     judged = binds rule tested && is_binding tested.role (newest e past)
 
     fault_shown : (o : Option Moment) → moment past k ≡ o → (b : Bool)
-        → cond (b && is_some_and test o) (Some (record { decided = length past + 1; record_no = record_of (moment (e ∷ past) k); offset = None })) None
-        ≡ cond {A = Option Fault} (b && is_some_and test o) (Some (record { decided = length past + 1; record_no = record_of o; offset = None })) None
-    fault_shown None at true = refl
-    fault_shown None at false = refl
-    fault_shown (Some m) at b = ap (λ x. cond {A = Option Fault} (b && test m) (Some (record { decided = length past + 1; record_no = record_of x; offset = None })) None) (moment-stays e past k m at)
+        → cond (b && is_some_and test o) (Some (record { decided = at; record_no = record_of (moment (e ∷ past) k); offset = None })) None
+        ≡ cond {A = Option Fault} (b && is_some_and test o) (Some (record { decided = at; record_no = record_of o; offset = None })) None
+    fault_shown None found true = refl
+    fault_shown None found false = refl
+    fault_shown (Some m) found b = ap (λ x. cond {A = Option Fault} (b && test m) (Some (record { decided = at; record_no = record_of x; offset = None })) None) (moment-stays e past k m found)
 
     go : (s : Bool) → same_rule r rule ≡ s
-        → cond (s && turns tested e past k r) (Some (reported tested.role (moment (e ∷ past) k) r (length past + 1))) None ≡ cond s (shown_fault judged test past k) None
+        → cond (s && turns_with tested f e past k r) (Some (reported tested.role (moment (e ∷ past) k) r at)) None ≡ cond s (shown_fault judged test past at k) None
     go false is = refl
     go true is =
         let one : r ≡ rule = same_true the_type tt r rule is in
-        ap (λ q. cond {A = Option Fault} (turns tested e past k q) (Some (reported tested.role (moment (e ∷ past) k) q (length past + 1))) None) one
-        ∙ ap (λ s. cond {A = Option Fault} (binds rule tested && shows tested.role s e past k) (Some (record { decided = length past + 1; record_no = record_of (moment (e ∷ past) k); offset = offset_of s (moment (e ∷ past) k) })) None) says
-        ∙ ap (λ t. cond {A = Option Fault} t (Some (record { decided = length past + 1; record_no = record_of (moment (e ∷ past) k); offset = None })) None)
+        ap (λ q. cond {A = Option Fault} (turns_with tested f e past k q) (Some (reported tested.role (moment (e ∷ past) k) q at)) None) one
+        ∙ ap (λ s. cond {A = Option Fault} (binds rule tested && shows_with tested.role f s e past k) (Some (record { decided = at; record_no = record_of (moment (e ∷ past) k); offset = offset_of s (moment (e ∷ past) k) })) None) says
+        ∙ ap (λ t. cond {A = Option Fault} t (Some (record { decided = at; record_no = record_of (moment (e ∷ past) k); offset = None })) None)
         (and-last (binds rule tested) (is_binding tested.role (newest e past)) (is_some_and test (moment past k)))
         ∙ fault_shown (moment past k) refl judged
 
 -- where it isn't judged, or the event is no REST that binds, nothing is added
-pub rest-none : (tested : Tested) (rule : Rule) (shows_it : Moment → Moment → Bool) (e : Seen) (past : List Seen) (faults : FaultMap) → statement tested.role rule ≡ at_rest shows_it
-    → (binds rule tested && is_binding tested.role (newest e past)) ≡ false → GrowsBy (λ r. same_rule r rule) tested e past faults faults
+pub rest-none : (tested : Tested) (rule : Rule) (shows_it : Moment → Moment → Bool) (f : Fate) (e : Seen) (past : List Seen) (at : ℕ) (faults : FaultMap) → statement tested.role rule ≡ at_rest shows_it
+    → (binds rule tested && is_binding tested.role (newest e past)) ≡ false → Gains (turns_of rule tested f e past) tested (e ∷ past) at faults faults
 unfolding shown_fault
-rest-none tested rule shows_it e past faults says none = record {
-  each = λ k r. sym (ap (option_or (fault_at faults k r)) (news-rest tested rule shows_it e past k r says
-      ∙ ap (λ b. cond (same_rule r rule) (shown_fault b (shows_it (newest e past)) past k) None) none ∙ nothing (same_rule r rule)) ∙ option_or-none (fault_at faults k r));
+rest-none tested rule shows_it f e past at faults says none = record {
+  each = λ k r. sym (ap (option_or (fault_at faults k r)) (added-rest tested rule shows_it f e past at k r says
+      ∙ ap (λ b. cond (same_rule r rule) (shown_fault b (shows_it (newest e past)) past at k) None) none ∙ nothing (same_rule r rule)) ∙ option_or-none (fault_at faults k r));
 }
 
 same_turned : (a b : ℕ) → (a == b) ≡ (b == a)
@@ -163,10 +168,10 @@ found-place P k (x ∷ places) p h all = go (k == x.position) refl h (λ there. 
     go false at h rest = rest h
 
 -- the faults that the places give are those that the REST shows
-shown-places : (test : Moment → Bool) (past : List Seen) (places : List Place3) (k : ℕ) → IsShown test past places
-    → option_map (decided_by (length past + 1)) (place_at k places) ≡ shown_fault true test past k
+shown-places : (test : Moment → Bool) (past : List Seen) (places : List Place3) (decided k : ℕ) → IsShown test past places
+    → option_map (decided_by decided) (place_at k places) ≡ shown_fault true test past decided k
 unfolding shown_fault
-shown-places test past places k shown = go (place_at k places) refl (moment past k) refl (sym (any-place k places) ∙ shown.each k)
+shown-places test past places decided k shown = go (place_at k places) refl (moment past k) refl (sym (any-place k places) ∙ shown.each k)
   where
     own : (p : Place3) → place_at k places ≡ Some p → option_map (λ m. m.event.place) (moment past k) ≡ Some p
     own p at =
@@ -174,41 +179,40 @@ shown-places test past places k shown = go (place_at k places) refl (moment past
         subst (λ n. option_map (λ m. m.event.place) (moment past n) ≡ Some p) both.0 both.1
 
     go : (o : Option Place3) → place_at k places ≡ o → (m : Option Moment) → moment past k ≡ m → is_some o ≡ is_some_and test m
-        → option_map (decided_by (length past + 1)) o ≡ cond (is_some_and test m) (Some (record { decided = length past + 1; record_no = record_of m; offset = None })) None
-    go None at m is same = ap (λ b. cond {A = Option Fault} b (Some (record { decided = length past + 1; record_no = record_of m; offset = None })) None) same
+        → option_map (decided_by decided) o ≡ cond (is_some_and test m) (Some (record { decided = decided; record_no = record_of m; offset = None })) None
+    go None at m is same = ap (λ b. cond {A = Option Fault} b (Some (record { decided = decided; record_no = record_of m; offset = None })) None) same
     go (Some p) at None is same = absurd (cc)
     go (Some p) at (Some m) is same =
         let there : Some m.event.place ≡ Some p = ap (option_map (λ n. n.event.place)) (sym is) ∙ own p at in
         let place : m.event.place ≡ p = cc in
-        ap (λ q. Some (decided_by (length past + 1) q)) (sym place)
-        ∙ ap (λ b. cond {A = Option Fault} b (Some (record { decided = length past + 1; record_no = m.event.place.record_no; offset = None })) None) same
+        ap (λ q. Some (decided_by decided q)) (sym place)
+        ∙ ap (λ b. cond {A = Option Fault} b (Some (record { decided = decided; record_no = m.event.place.record_no; offset = None })) None) same
 
-news-shown : (tested : Tested) (rule : Rule) (shows_it : Moment → Moment → Bool) (e : Seen) (past : List Seen) (places : List Place3) (decided k : ℕ) (r : Rule) → statement tested.role rule ≡ at_rest shows_it
-    → (binds rule tested && is_binding tested.role (newest e past)) ≡ true → decided ≡ length past + 1 → IsShown (shows_it (newest e past)) past places
-    → cond (same_rule r rule) (option_map (decided_by decided) (place_at k places)) None ≡ news (λ q. same_rule q rule) tested e past k r
-news-shown tested rule shows_it e past places decided k r says judged at shown =
-    ap (λ n. cond (same_rule r rule) (option_map (decided_by n) (place_at k places)) None) at
-    ∙ ap (λ o. cond (same_rule r rule) o None) (shown-places (shows_it (newest e past)) past places k shown)
-    ∙ ap (λ b. cond (same_rule r rule) (shown_fault b (shows_it (newest e past)) past k) None) (sym judged)
-    ∙ sym (news-rest tested rule shows_it e past k r says)
+added-shown : (tested : Tested) (rule : Rule) (shows_it : Moment → Moment → Bool) (f : Fate) (e : Seen) (past : List Seen) (places : List Place3) (decided k : ℕ) (r : Rule) → statement tested.role rule ≡ at_rest shows_it
+    → (binds rule tested && is_binding tested.role (newest e past)) ≡ true → IsShown (shows_it (newest e past)) past places
+    → cond (same_rule r rule) (option_map (decided_by decided) (place_at k places)) None ≡ added (turns_of rule tested f e past) tested (e ∷ past) decided k r
+added-shown tested rule shows_it f e past places decided k r says judged shown =
+    ap (λ o. cond (same_rule r rule) o None) (shown-places (shows_it (newest e past)) past places decided k shown)
+    ∙ ap (λ b. cond (same_rule r rule) (shown_fault b (shows_it (newest e past)) past decided k) None) (sym judged)
+    ∙ sym (added-rest tested rule shows_it f e past decided k r says)
 
 -- so the faults grow by what the REST shows
-pub rest-shown : (tested : Tested) (rule : Rule) (shows_it : Moment → Moment → Bool) (e : Seen) (past : List Seen) (places : List Place3) (decided : ℕ) (old new : FaultMap) → statement tested.role rule ≡ at_rest shows_it
-    → (binds rule tested && is_binding tested.role (newest e past)) ≡ true → decided ≡ length past + 1 → IsShown (shows_it (newest e past)) past places
-    → Blames rule decided places old new → GrowsBy (λ r. same_rule r rule) tested e past old new
-rest-shown tested rule shows_it e past places decided old new says judged at shown blames = record {
-  each = λ k r. blames.each k r ∙ ap (option_or (fault_at old k r)) (news-shown tested rule shows_it e past places decided k r says judged at shown);
+pub rest-shown : (tested : Tested) (rule : Rule) (shows_it : Moment → Moment → Bool) (f : Fate) (e : Seen) (past : List Seen) (places : List Place3) (decided : ℕ) (old new : FaultMap) → statement tested.role rule ≡ at_rest shows_it
+    → (binds rule tested && is_binding tested.role (newest e past)) ≡ true → IsShown (shows_it (newest e past)) past places
+    → Blames rule decided places old new → Gains (turns_of rule tested f e past) tested (e ∷ past) decided old new
+rest-shown tested rule shows_it f e past places decided old new says judged shown blames = record {
+  each = λ k r. blames.each k r ∙ ap (option_or (fault_at old k r)) (added-shown tested rule shows_it f e past places decided k r says judged shown);
 }
 
-pub rest-within : (tested : Tested) (rule : Rule) (shows_it : Moment → Moment → Bool) (e : Seen) (past : List Seen) (places : List Place3) (decided : ℕ) (old new : FaultMap) → statement tested.role rule ≡ at_rest shows_it
-    → (binds rule tested && is_binding tested.role (newest e past)) ≡ true → decided ≡ length past + 1 → IsShown (shows_it (newest e past)) past places
-    → BlamesWithin rule decided places old new → GrowsByWithin (λ r. same_rule r rule) tested e past old new
-rest-within tested rule shows_it e past places decided old new says judged at shown blames = record { each = λ k r. go k r (blames.each k r) }
+pub rest-within : (tested : Tested) (rule : Rule) (shows_it : Moment → Moment → Bool) (f : Fate) (e : Seen) (past : List Seen) (places : List Place3) (decided : ℕ) (old new : FaultMap) → statement tested.role rule ≡ at_rest shows_it
+    → (binds rule tested && is_binding tested.role (newest e past)) ≡ true → IsShown (shows_it (newest e past)) past places
+    → BlamesWithin rule decided places old new → GainsWithin (turns_of rule tested f e past) tested (e ∷ past) decided old new
+rest-within tested rule shows_it f e past places decided old new says judged shown blames = record { each = λ k r. go k r (blames.each k r) }
   where
     go : (k : ℕ) (r : Rule) → (fault_at new k r ≡ fault_at old k r) ⊎ (fault_at new k r ≡ option_or (fault_at old k r) (cond (same_rule r rule) (option_map (decided_by decided) (place_at k places)) None))
-        → (fault_at new k r ≡ fault_at old k r) ⊎ (fault_at new k r ≡ option_or (fault_at old k r) (news (λ q. same_rule q rule) tested e past k r))
+        → (fault_at new k r ≡ fault_at old k r) ⊎ (fault_at new k r ≡ option_or (fault_at old k r) (added (turns_of rule tested f e past) tested (e ∷ past) decided k r))
     go k r (inl same) = inl same
-    go k r (inr more) = inr (more ∙ ap (option_or (fault_at old k r)) (news-shown tested rule shows_it e past places decided k r says judged at shown))
+    go k r (inr more) = inr (more ∙ ap (option_or (fault_at old k r)) (added-shown tested rule shows_it f e past places decided k r says judged shown))
 
 -- ---- whether it is judged
 

@@ -10,9 +10,9 @@ use Rattle.mq_trace.specs.declared.place.Place3.{Place3}
 use Rattle.mq_rules.specs.declared.note.Seen.{Seen}
 use Rattle.mq_rules.specs.Words.{is_some_and}
 use Rattle.mq_rules.specs.Moments.{Moment, newest, moment, IsPlaced}
-use Rattle.mq_rules.proofs.Exports.{or_false, same_test, moment-newest, moment-among, among-within, moment-beginning, moment-stays}
+use Rattle.mq_rules.proofs.Exports.{or_false, same_test, newest-first, moment-newest, moment-among, among-within, moment-beginning, moment-stays}
 use Rattle.mq_plain.specs.Shown.{IsShown}
-use Rattle.mq_plain.proofs.LoopLaws.{newest-at, placed-beginning}
+use Rattle.mq_plain.proofs.LoopLaws.{placed-beginning}
 
 All-alike : {X : Type 0} (P Q : X → Type 0) → ((x : X) → P x → Q x) → (xs : List X) → All P xs → All Q xs
 All-alike P Q f [] h = All-nil Q
@@ -78,7 +78,7 @@ pub shown-step : (test : Moment → Bool) (seen : List Seen) (i : ℕ) (e : Seen
     → IsShown test (reverse (take i seen)) places → IsShown test (reverse (take (i + 1) seen)) new
 shown-step test seen i e passes places new placed lt is passed grown shown =
     let past = reverse (take i seen) in
-    let front : reverse (take (i + 1) seen) ≡ e ∷ past = newest-at seen i e lt is in
+    let front : reverse (take (i + 1) seen) ≡ e ∷ past = newest-first seen i e lt is in
     let spot : IsPlaced (e ∷ past) = subst IsPlaced front (placed-beginning seen (i + 1) placed) in
     subst (λ log. IsShown test log new) (sym front) (go passes passed grown spot.0)
   where

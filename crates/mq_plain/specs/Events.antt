@@ -3,6 +3,7 @@ use Rattle.std.specs.Prelude.{◌≡◌, ℕ, Bool, true, false, ◌&&◌, ◌||
 use Rattle.mq_rules.specs.declared.role.Role.{Role}
 use Rattle.mq_rules.specs.declared.role.Role.TheVariants.{Client, Server}
 use Rattle.mq_rules.specs.declared.role.Tested.{Tested}
+use Rattle.mq_rules.specs.declared.fate.Fate.{Fate}
 use Rattle.mq_rules.specs.declared.rule.Rule.{Rule}
 use Rattle.mq_rules.specs.declared.note.Note.{Note}
 use Rattle.mq_rules.specs.declared.note.Seen.{Seen}
@@ -10,16 +11,13 @@ use Rattle.mq_rules.specs.declared.packet_note.PacketFields.{PacketFields}
 use Rattle.mq_rules.specs.Words.{is_some_and}
 use Rattle.mq_rules.specs.Notes.{is_rest, is_release, sent_fields, received_fields, publish_in, is_acknowledged, is_session_packet, is_pingreq}
 use Rattle.mq_rules.specs.Moments.{newest, note, moments, some, IsPlaced}
-use Rattle.mq_rules.specs.Connections.{IsInOrder, latest_fate, is_binding}
-use Rattle.mq_rules.specs.Steps.{turns}
+use Rattle.mq_rules.specs.Connections.{is_binding}
+use Rattle.mq_rules.specs.Under.{turns_with}
 use Rattle.mq_plain.specs.declared.turn.Turn.{Turn}
 
--- The event comes after these in a log whose events are placed and in order. The turn has the fate of the latest connection before it, and says whether the event
--- is a REST that binds.
+-- The event comes after these in a log whose events are placed, and the turn says whether it is a REST that binds.
 pub record ComesNext (turn : Turn) (e : Seen) (past : List Seen) : Type 0 where
   pub is_placed : IsPlaced (e ∷ past)
-  pub is_in_order : IsInOrder turn.tested.role (e ∷ past)
-  pub is_decided : turn.fate ≡ latest_fate turn.tested.role past
   pub is_resting : turn.rests ≡ is_binding turn.tested.role (newest e past)
 
 abbrev pub is_client : Role → Bool
@@ -56,7 +54,7 @@ is_unacknowledged fields = is_some_and (λ p. not (is_acknowledged p.qos)) (publ
 abbrev pub is_idle : Role → Note → Bool
 is_idle role n = is_some_and (λ fields. is_client role && is_unacknowledged fields) (sent_fields n) || is_some_and is_unacknowledged (received_fields n)
 
--- None of these statements turns out false with a quiet event, nor with a REST before which no event asks, in a log that is in order.
+-- None of these statements turns out false with a quiet event, nor with a REST before which no event asks, whatever the fate of its connection.
 pub record AreSilent (chosen : Rule → Bool) : Type 0 where
-  pub quiet : (tested : Tested) (e : Seen) (past : List Seen) (k : ℕ) (rule : Rule) → chosen rule ≡ true → is_quiet tested.role e.note ≡ true → IsInOrder tested.role (e ∷ past) → turns tested e past k rule ≡ false
-  pub resting : (tested : Tested) (e : Seen) (past : List Seen) (k : ℕ) (rule : Rule) → chosen rule ≡ true → is_rest e.note ≡ true → some_asks past ≡ false → IsInOrder tested.role (e ∷ past) → turns tested e past k rule ≡ false
+  pub quiet : (tested : Tested) (f : Fate) (e : Seen) (past : List Seen) (k : ℕ) (rule : Rule) → chosen rule ≡ true → is_quiet tested.role e.note ≡ true → turns_with tested f e past k rule ≡ false
+  pub resting : (tested : Tested) (f : Fate) (e : Seen) (past : List Seen) (k : ℕ) (rule : Rule) → chosen rule ≡ true → is_rest e.note ≡ true → some_asks past ≡ false → turns_with tested f e past k rule ≡ false

@@ -12,3 +12,4 @@ pub mod Finding
 pub mod Owing
 pub mod Deliveries
 pub mod Events
+pub mod Waiting

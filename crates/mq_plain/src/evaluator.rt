@@ -13,10 +13,11 @@ use std::marker::PhantomData;
 
 /// Judges an event by some statements.
 pub trait Evaluator: Drop {
-    ghost use Rattle.std.specs.Prelude.{Bool, reverse, OnOk, OnErr};
+    ghost use Rattle.std.specs.Prelude.{Bool, ◌∷◌, ◌&&◌, reverse, OnOk, OnErr};
     ghost use Rattle.mq_rules.specs.declared.role.Tested.{Tested};
     ghost use Rattle.mq_rules.specs.declared.rule.Rule.{Rule};
-    ghost use Rattle.mq_rules.specs.Growing.{GrowsBy, GrowsByWithin};
+    ghost use Rattle.mq_rules.specs.Under.{turns_with};
+    ghost use Rattle.mq_rules.specs.Growing.{Gains, GainsWithin};
     ghost use Rattle.mq_plain.specs.Events.{ComesNext};
 
     // The statements that are judged.
@@ -28,7 +29,7 @@ pub trait Evaluator: Drop {
     fn of(tested: Tested) -> Self
         ensures { is_for result tested };
 
-    /// Judges an event that has these events before it. A pair that already has a fault keeps it.
+    /// Judges an event that has these events before it, under the fate of its connection. A pair that already has a fault keeps it.
     ///
     /// # Errors
     ///
@@ -41,8 +42,8 @@ pub trait Evaluator: Drop {
         before: &[Seen],
         faults: &mut Faults,
     ) -> Result<(), Memory>
-        ensures ok { is_for self.now turn.tested → ComesNext turn event.now (reverse before.now) → OnOk result (GrowsBy chosen turn.tested event.now (reverse before.now) faults.old faults.new) }
-        ensures memory { is_for self.now turn.tested → ComesNext turn event.now (reverse before.now) → OnErr result (GrowsByWithin chosen turn.tested event.now (reverse before.now) faults.old faults.new) };
+        ensures ok { is_for self.now turn.tested → ComesNext turn event.now (reverse before.now) → OnOk result (Gains (λ k r. chosen r && turns_with turn.tested turn.fate event.now (reverse before.now) k r) turn.tested (event.now ∷ reverse before.now) turn.decided faults.old faults.new) }
+        ensures memory { is_for self.now turn.tested → ComesNext turn event.now (reverse before.now) → OnErr result (GainsWithin (λ k r. chosen r && turns_with turn.tested turn.fate event.now (reverse before.now) k r) turn.tested (event.now ∷ reverse before.now) turn.decided faults.old faults.new) };
 }
 
 /// An evaluator of one statement on the past of a session.
@@ -172,6 +173,7 @@ impl<A: Evaluator, B: Evaluator> Evaluator for Then<A, B> {
     }
 
     #[inline(always)]
+    #[tactic(auto, using(mq_rules::proofs::GainLaws::gains_either, mq_rules::proofs::GainLaws::within_either_first, mq_rules::proofs::GainLaws::within_either_second))]
     fn judge_at(
         &self,
         alloc: Global,

@@ -1,12 +1,13 @@
 //! Judging an event by one statement on the past of a session.
-ghost use Rattle.std.specs.Prelude.{◌≡◌, ◌&&◌, reverse, IfOk, OnOk, OnErr};
-ghost use Rattle.mq_rules.specs.Words.{is_some_and};
+ghost use Rattle.std.specs.Prelude.{◌≡◌, ◌∷◌, ◌&&◌, reverse, IfOk, OnOk, OnErr};
 ghost use Rattle.mq_rules.specs.Moments.{newest};
 ghost use Rattle.mq_rules.specs.Connections.{accepts as is_accepting};
 ghost use Rattle.mq_rules.specs.Rules.{same_rule, binds as is_bound};
-ghost use Rattle.mq_rules.specs.Growing.{GrowsBy};
+ghost use Rattle.mq_rules.specs.Under.{turns_with};
+ghost use Rattle.mq_rules.specs.Growing.{Gains};
 ghost use Rattle.mq_plain.specs.Events.{ComesNext};
 
+use crate::adding::add_fault;
 use crate::session::accepts;
 use crate::turn::Turn;
 use mq_rules::{Fate, Faults, Memory, Role, Rule, Seen};
@@ -63,14 +64,14 @@ pub fn judge_session<T: SessionStatement>(
     before: &[Seen],
     faults: &mut Faults,
 ) -> Result<(), Memory>
-    ensures ok { binds ≡ is_bound T.judged turn.tested → ComesNext turn event.now (reverse before.now) → OnOk result (GrowsBy (λ r. same_rule r T.judged) turn.tested event.now (reverse before.now) faults.old faults.new) }
+    ensures ok { binds ≡ is_bound T.judged turn.tested → ComesNext turn event.now (reverse before.now) → OnOk result (Gains (λ k r. same_rule r T.judged && turns_with turn.tested turn.fate event.now (reverse before.now) k r) turn.tested (event.now ∷ reverse before.now) turn.decided faults.old faults.new) }
     ensures unchanged { OnErr result (faults.new ≡ faults.old) }
 {
     let broken = is_fault_at::<T>(alloc, binds, turn.tested.role, turn.fate, event, before)?;
     if !broken {
         return Ok(());
     }
-    faults.judge(T::rule(), event.place, true)?;
+    add_fault(T::rule(), turn.decided, event.place, faults)?;
     Ok(())
 }
 
@@ -81,14 +82,14 @@ fn is_fault_at<T: SessionStatement>(
     alloc: Global,
     binds: bool,
     role: Role,
-    fate: Option<Fate>,
+    fate: Fate,
     event: &Seen,
     before: &[Seen],
 ) -> Result<bool, Memory>
-    ensures { IfOk result (λ fault. fault ≡ (binds && is_some_and (λ f. is_accepting f && T.breaks role f (newest event.now (reverse before.now))) fate)) }
+    ensures { IfOk result (λ fault. fault ≡ (binds && (is_accepting fate && T.breaks role fate (newest event.now (reverse before.now))))) }
 {
-    match fate {
-        Some(fate) if binds && accepts(fate) => T::is_broken(alloc, role, fate, event, before),
-        _ => Ok(false),
+    if binds && accepts(fate) {
+        return T::is_broken(alloc, role, fate, event, before);
     }
+    Ok(false)
 }

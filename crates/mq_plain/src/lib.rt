@@ -1,6 +1,7 @@
 //! Plain evaluators of the statements on sessions: they look back over the whole list of events, as the definitions do.
 #![tactic(auto)]
 
+mod adding;
 mod answers;
 mod binding;
 mod connection;

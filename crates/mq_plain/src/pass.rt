@@ -1,15 +1,17 @@
 //! One pass over the events of a list, in which an evaluator judges each.
 //!
-//! Few events are spoken of: a quiet one costs a test, and each event is met once, whatever the number of statements. A REST looks
-//! back only if something before it asked for an answer.
-ghost use Rattle.std.specs.Prelude.{◌≡◌, ◌∷◌, ◌&&◌, ◌||◌, not, cond, None, is_some, reverse, OnOk, OnErr};
+//! An event is judged as soon as the fate of its connection is decided: at once, or, if it comes before the CONNACK, with the event that
+//! decides the connection. Few events are spoken of: a quiet one costs a test, and each event is judged once, whatever the number of
+//! statements. A REST looks back only if something before it asked for an answer.
+ghost use Rattle.std.specs.Prelude.{◌≡◌, ◌∷◌, ◌&&◌, ◌||◌, false, not, cond, None, is_some, length, reverse, OnOk, OnErr};
 ghost use Rattle.std.specs.Option.{option_or};
 ghost use Rattle.mq_rules.specs.Notes.{is_open, is_rest, decides};
 ghost use Rattle.mq_rules.specs.Moments.{IsPlaced};
-ghost use Rattle.mq_rules.specs.Connections.{IsInOrder, latest_fate};
+ghost use Rattle.mq_rules.specs.Under.{turns_with};
 ghost use Rattle.mq_rules.specs.Faults.{Grows, GrowsWithin};
-ghost use Rattle.mq_rules.specs.Growing.{GrowsBy, GrowsByWithin};
+ghost use Rattle.mq_rules.specs.Growing.{Gains, GainsWithin, GrowsBy, GrowsByWithin};
 ghost use Rattle.mq_plain.specs.Events.{AreSilent, asks as asks_for, is_asking as asking, is_idle as idle, is_quiet as quiet, is_spoken_of as spoken_of, is_unacknowledged as unacknowledged, some_asks};
+ghost use Rattle.mq_plain.specs.Waiting.{AreOnSessions, IsKept, turns_after};
 
 use crate::binding::is_binding_rest;
 use crate::evaluator::Evaluator;
@@ -30,12 +32,14 @@ pub fn judge_each<E: Evaluator>(
     faults: &mut Faults,
 ) -> Result<(), Memory>
     requires silent { AreSilent E.chosen }
-    ensures ok { IsPlaced (reverse seen.now) → IsInOrder tested.role (reverse seen.now) → OnOk result (Grows E.chosen tested (reverse seen.now) faults.old faults.new) }
-    ensures memory { IsPlaced (reverse seen.now) → IsInOrder tested.role (reverse seen.now) → OnErr result (GrowsWithin E.chosen tested (reverse seen.now) faults.old faults.new) }
+    requires on_sessions { AreOnSessions E.chosen }
+    ensures ok { IsPlaced (reverse seen.now) → OnOk result (Grows E.chosen tested (reverse seen.now) faults.old faults.new) }
+    ensures memory { IsPlaced (reverse seen.now) → OnErr result (GrowsWithin E.chosen tested (reverse seen.now) faults.old faults.new) }
 {
     let evaluator = E::of(tested);
     let mut kept = Kept {
         fate: Some(Fate::Void),
+        opened: 0,
         asked: false,
     };
     for (i, event) in seen.iter().enumerate() {
@@ -43,8 +47,8 @@ pub fn judge_each<E: Evaluator>(
             continue;
         }
         let before = &seen[..i];
-        judge_next(&evaluator, alloc, tested, kept, event, before, faults)?;
-        kept = kept_after(kept, tested.role, &event.note);
+        judge_event(&evaluator, alloc, tested, kept, event, before, faults)?;
+        kept = kept_after(kept, tested.role, &event.note, before);
     }
     Ok(())
 }
@@ -54,7 +58,22 @@ pub fn judge_each<E: Evaluator>(
 struct Kept {
     /// The fate of the latest connection, if it is decided (MQTT 5.0, section 3.2.2).
     fate: Option<Fate>,
+    /// How many events come before its OPEN.
+    opened: usize,
     /// Whether some event asks for an answer, or may have to be sent again.
+    asked: bool,
+}
+
+/// What the events of a connection are judged by, once its fate is decided.
+#[derive(Clone, Copy)]
+struct Decision {
+    /// The end that is judged.
+    tested: Tested,
+    /// The fate.
+    fate: Fate,
+    /// The position of the event that decides what is judged.
+    position: u32,
+    /// Whether some event so far asks for an answer, or may have to be sent again.
     asked: bool,
 }
 
@@ -91,10 +110,10 @@ fn is_unacknowledged(fields: &PacketFields) -> bool
     }
 }
 
-/// Judges an event that has these events before it, of which this is kept. Nothing is looked up for a quiet one, nor for a REST
-/// before which nothing asks.
+/// Judges an event that has these events before it, of which this is kept. If it leaves its connection undecided, it waits; and if it
+/// decides it, the events that waited are judged too.
 #[inline(always)]
-fn judge_next<E: Evaluator>(
+fn judge_event<E: Evaluator>(
     evaluator: &E,
     alloc: Global,
     tested: Tested,
@@ -104,37 +123,98 @@ fn judge_next<E: Evaluator>(
     faults: &mut Faults,
 ) -> Result<(), Memory>
     requires silent { AreSilent E.chosen }
-    ensures ok { E.is_for evaluator.now tested → IsPlaced (event.now ∷ reverse before.now) → IsInOrder tested.role (event.now ∷ reverse before.now) → kept.fate ≡ latest_fate tested.role (reverse before.now) → kept.asked ≡ some_asks (reverse before.now) → OnOk result (GrowsBy E.chosen tested event.now (reverse before.now) faults.old faults.new) }
-    ensures memory { E.is_for evaluator.now tested → IsPlaced (event.now ∷ reverse before.now) → IsInOrder tested.role (event.now ∷ reverse before.now) → kept.fate ≡ latest_fate tested.role (reverse before.now) → kept.asked ≡ some_asks (reverse before.now) → OnErr result (GrowsByWithin E.chosen tested event.now (reverse before.now) faults.old faults.new) }
+    requires on_sessions { AreOnSessions E.chosen }
+    ensures ok { E.is_for evaluator.now tested → IsPlaced (event.now ∷ reverse before.now) → IsKept kept tested.role (reverse before.now) → OnOk result (GrowsBy E.chosen tested event.now (reverse before.now) faults.old faults.new) }
+    ensures memory { E.is_for evaluator.now tested → IsPlaced (event.now ∷ reverse before.now) → IsKept kept tested.role (reverse before.now) → OnErr result (GrowsByWithin E.chosen tested event.now (reverse before.now) faults.old faults.new) }
 {
-    if is_quiet(tested.role, &event.note) {
+    let Some(fate) = fate_after(kept.fate, tested.role, &event.note) else {
         return Ok(());
-    }
-    if finds_nothing(kept.asked, &event.note) {
-        return Ok(());
-    }
-    judge_spoken(evaluator, alloc, tested, kept.fate, event, before, faults)
+    };
+    let decision = Decision {
+        tested,
+        fate,
+        position: event.place.position,
+        asked: kept.asked,
+    };
+    let first = settled_by(kept, before);
+    judge_waiting(evaluator, alloc, decision, first, before, faults)?;
+    judge_next(evaluator, alloc, decision, event, before, faults)?;
+    Ok(())
 }
 
-/// Judges an event that has these events before it, of whose latest connection this is the fate. It stays apart, so that what few
-/// events need takes no room where the others are passed over.
-#[inline(never)]
-fn judge_spoken<E: Evaluator>(
+/// How many of these events, of which this is kept, don't wait.
+#[inline(always)]
+fn settled_by(kept: Kept, before: &[Seen]) -> usize
+    ensures { result ≡ cond (is_some kept.fate) (length before.now) kept.opened }
+{
+    if kept.fate.is_some() {
+        return before.len();
+    }
+    kept.opened
+}
+
+/// Judges these events but the first ones, which were judged before.
+fn judge_waiting<E: Evaluator>(
     evaluator: &E,
     alloc: Global,
-    tested: Tested,
-    fate: Option<Fate>,
+    decision: Decision,
+    first: usize,
+    seen: &[Seen],
+    faults: &mut Faults,
+) -> Result<(), Memory>
+    requires silent { AreSilent E.chosen }
+    ensures ok { E.is_for evaluator.now decision.tested → IsPlaced (reverse seen.now) → (decision.asked ≡ false → some_asks (reverse seen.now) ≡ false) → OnOk result (Gains (λ k r. E.chosen r && turns_after decision.tested decision.fate first (reverse seen.now) k r) decision.tested (reverse seen.now) decision.position faults.old faults.new) }
+    ensures memory { E.is_for evaluator.now decision.tested → IsPlaced (reverse seen.now) → (decision.asked ≡ false → some_asks (reverse seen.now) ≡ false) → OnErr result (GainsWithin (λ k r. E.chosen r && turns_after decision.tested decision.fate first (reverse seen.now) k r) decision.tested (reverse seen.now) decision.position faults.old faults.new) }
+{
+    for i in first..seen.len() {
+        judge_next(evaluator, alloc, decision, &seen[i], &seen[..i], faults)?;
+    }
+    Ok(())
+}
+
+/// Judges an event of a decided connection that has these events before it. Nothing is looked up for a quiet one, nor for a REST before
+/// which nothing asks.
+#[inline(always)]
+fn judge_next<E: Evaluator>(
+    evaluator: &E,
+    alloc: Global,
+    decision: Decision,
     event: &Seen,
     before: &[Seen],
     faults: &mut Faults,
 ) -> Result<(), Memory>
-    ensures ok { E.is_for evaluator.now tested → IsPlaced (event.now ∷ reverse before.now) → IsInOrder tested.role (event.now ∷ reverse before.now) → fate ≡ latest_fate tested.role (reverse before.now) → OnOk result (GrowsBy E.chosen tested event.now (reverse before.now) faults.old faults.new) }
-    ensures memory { E.is_for evaluator.now tested → IsPlaced (event.now ∷ reverse before.now) → IsInOrder tested.role (event.now ∷ reverse before.now) → fate ≡ latest_fate tested.role (reverse before.now) → OnErr result (GrowsByWithin E.chosen tested event.now (reverse before.now) faults.old faults.new) }
+    requires silent { AreSilent E.chosen }
+    ensures ok { E.is_for evaluator.now decision.tested → IsPlaced (event.now ∷ reverse before.now) → (decision.asked ≡ false → some_asks (reverse before.now) ≡ false) → OnOk result (Gains (λ k r. E.chosen r && turns_with decision.tested decision.fate event.now (reverse before.now) k r) decision.tested (event.now ∷ reverse before.now) decision.position faults.old faults.new) }
+    ensures memory { E.is_for evaluator.now decision.tested → IsPlaced (event.now ∷ reverse before.now) → OnErr result (GainsWithin (λ k r. E.chosen r && turns_with decision.tested decision.fate event.now (reverse before.now) k r) decision.tested (event.now ∷ reverse before.now) decision.position faults.old faults.new) }
+{
+    if is_quiet(decision.tested.role, &event.note) {
+        return Ok(());
+    }
+    if finds_nothing(decision.asked, &event.note) {
+        return Ok(());
+    }
+    judge_spoken(evaluator, alloc, decision, event, before, faults)
+}
+
+/// Judges an event of a decided connection that has these events before it. It stays apart, so that what few events need takes no room
+/// where the others are passed over.
+#[inline(never)]
+fn judge_spoken<E: Evaluator>(
+    evaluator: &E,
+    alloc: Global,
+    decision: Decision,
+    event: &Seen,
+    before: &[Seen],
+    faults: &mut Faults,
+) -> Result<(), Memory>
+    ensures ok { E.is_for evaluator.now decision.tested → IsPlaced (event.now ∷ reverse before.now) → OnOk result (Gains (λ k r. E.chosen r && turns_with decision.tested decision.fate event.now (reverse before.now) k r) decision.tested (event.now ∷ reverse before.now) decision.position faults.old faults.new) }
+    ensures memory { E.is_for evaluator.now decision.tested → IsPlaced (event.now ∷ reverse before.now) → OnErr result (GainsWithin (λ k r. E.chosen r && turns_with decision.tested decision.fate event.now (reverse before.now) k r) decision.tested (event.now ∷ reverse before.now) decision.position faults.old faults.new) }
 {
     let turn = Turn {
-        tested,
-        fate,
-        rests: is_binding_rest(tested.role, event, before),
+        tested: decision.tested,
+        fate: decision.fate,
+        decided: decision.position,
+        rests: is_binding_rest(decision.tested.role, event, before),
     };
     evaluator.judge_at(alloc, turn, event, before, faults)
 }
@@ -173,16 +253,29 @@ fn finds_nothing(asked: bool, note: &Note) -> bool
     note.is_rest() && !asked
 }
 
-/// What is kept after an event, given what is kept before it.
+/// What is kept after an event that has these events before it, of which this is kept.
 #[inline(always)]
-fn kept_after(kept: Kept, role: Role, note: &Note) -> Kept
+fn kept_after(kept: Kept, role: Role, note: &Note, before: &[Seen]) -> Kept
     ensures fate { result.fate ≡ cond (is_open note.now) None (option_or kept.fate (decides role note.now)) }
+    ensures opened { result.opened ≡ cond (is_open note.now) (length before.now) kept.opened }
     ensures asked { result.asked ≡ (kept.asked || asks_for note.now) }
 {
     Kept {
         fate: fate_after(kept.fate, role, note),
+        opened: opened_after(kept.opened, note, before),
         asked: kept.asked || asks(note),
     }
+}
+
+/// How many events come before the OPEN of the latest connection after an event, given how many did before it.
+#[inline(always)]
+fn opened_after(opened: usize, note: &Note, before: &[Seen]) -> usize
+    ensures { result ≡ cond (is_open note.now) (length before.now) opened }
+{
+    if note.is_open() {
+        return before.len();
+    }
+    opened
 }
 
 /// Whether the event asks for an answer, or may have to be sent again, so that a later REST can find that it wasn't.

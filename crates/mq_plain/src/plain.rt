@@ -1,9 +1,9 @@
 //! The plain evaluators of the statements on sessions.
 //!
-//! A log is judged in one pass by all of them: events are many, and so each is read from memory once.
+//! A log is judged in one pass by all of them: events are many, and so each is read from memory once. Events before the CONNACK are
+//! judged when it comes, since only then it is known which session they are of.
 ghost use Rattle.std.specs.Prelude.{reverse, OnOk, OnErr};
 ghost use Rattle.mq_rules.specs.Moments.{IsPlaced};
-ghost use Rattle.mq_rules.specs.Connections.{IsInOrder};
 ghost use Rattle.mq_rules.specs.Faults.{Grows, GrowsWithin};
 ghost use Rattle.mq_plain.specs.Chosen.{is_plain_rule, is_plain_lb, is_plain_se};
 
@@ -89,8 +89,8 @@ pub fn plain_se(
     seen: &[Seen],
     faults: &mut Faults,
 ) -> Result<(), Memory>
-    ensures ok { IsPlaced (reverse seen.now) → IsInOrder tested.role (reverse seen.now) → OnOk result (Grows is_plain_se tested (reverse seen.now) faults.old faults.new) }
-    ensures memory { IsPlaced (reverse seen.now) → IsInOrder tested.role (reverse seen.now) → OnErr result (GrowsWithin is_plain_se tested (reverse seen.now) faults.old faults.new) }
+    ensures ok { IsPlaced (reverse seen.now) → OnOk result (Grows is_plain_se tested (reverse seen.now) faults.old faults.new) }
+    ensures memory { IsPlaced (reverse seen.now) → OnErr result (GrowsWithin is_plain_se tested (reverse seen.now) faults.old faults.new) }
 {
     judge_each::<Messages<Exchanges>>(alloc, tested, seen, faults)
 }
@@ -107,8 +107,8 @@ pub fn plain_lb(
     seen: &[Seen],
     faults: &mut Faults,
 ) -> Result<(), Memory>
-    ensures ok { IsPlaced (reverse seen.now) → IsInOrder tested.role (reverse seen.now) → OnOk result (Grows is_plain_lb tested (reverse seen.now) faults.old faults.new) }
-    ensures memory { IsPlaced (reverse seen.now) → IsInOrder tested.role (reverse seen.now) → OnErr result (GrowsWithin is_plain_lb tested (reverse seen.now) faults.old faults.new) }
+    ensures ok { IsPlaced (reverse seen.now) → OnOk result (Grows is_plain_lb tested (reverse seen.now) faults.old faults.new) }
+    ensures memory { IsPlaced (reverse seen.now) → OnErr result (GrowsWithin is_plain_lb tested (reverse seen.now) faults.old faults.new) }
 {
     judge_each::<Releases<Subscriptions>>(alloc, tested, seen, faults)
 }
@@ -125,8 +125,8 @@ pub fn plain_sessions(
     seen: &[Seen],
     faults: &mut Faults,
 ) -> Result<(), Memory>
-    ensures ok { IsPlaced (reverse seen.now) → IsInOrder tested.role (reverse seen.now) → OnOk result (Grows is_plain_rule tested (reverse seen.now) faults.old faults.new) }
-    ensures memory { IsPlaced (reverse seen.now) → IsInOrder tested.role (reverse seen.now) → OnErr result (GrowsWithin is_plain_rule tested (reverse seen.now) faults.old faults.new) }
+    ensures ok { IsPlaced (reverse seen.now) → OnOk result (Grows is_plain_rule tested (reverse seen.now) faults.old faults.new) }
+    ensures memory { IsPlaced (reverse seen.now) → OnErr result (GrowsWithin is_plain_rule tested (reverse seen.now) faults.old faults.new) }
 {
     judge_each::<Then<Messages<Exchanges>, Releases<Subscriptions>>>(alloc, tested, seen, faults)
 }

@@ -1,11 +1,12 @@
 //! Judging an event by one statement on releases.
-ghost use Rattle.std.specs.Prelude.{◌≡◌, ◌&&◌, reverse, OnOk, OnErr};
-ghost use Rattle.mq_rules.specs.Words.{is_some_and};
+ghost use Rattle.std.specs.Prelude.{◌≡◌, ◌∷◌, ◌&&◌, reverse, OnOk, OnErr};
 ghost use Rattle.mq_rules.specs.Moments.{newest};
 ghost use Rattle.mq_rules.specs.Rules.{same_rule, binds as is_bound};
-ghost use Rattle.mq_rules.specs.Growing.{GrowsBy};
+ghost use Rattle.mq_rules.specs.Under.{turns_with};
+ghost use Rattle.mq_rules.specs.Growing.{Gains};
 ghost use Rattle.mq_plain.specs.Events.{ComesNext};
 
+use crate::adding::add_fault;
 use crate::turn::Turn;
 use mq_rules::{Fate, Faults, Memory, Role, Rule, Seen};
 
@@ -49,14 +50,14 @@ pub fn judge_release<T: ReleaseStatement>(
     before: &[Seen],
     faults: &mut Faults,
 ) -> Result<(), Memory>
-    ensures ok { binds ≡ is_bound T.judged turn.tested → ComesNext turn event.now (reverse before.now) → OnOk result (GrowsBy (λ r. same_rule r T.judged) turn.tested event.now (reverse before.now) faults.old faults.new) }
+    ensures ok { binds ≡ is_bound T.judged turn.tested → ComesNext turn event.now (reverse before.now) → OnOk result (Gains (λ k r. same_rule r T.judged && turns_with turn.tested turn.fate event.now (reverse before.now) k r) turn.tested (event.now ∷ reverse before.now) turn.decided faults.old faults.new) }
     ensures unchanged { OnErr result (faults.new ≡ faults.old) }
 {
     let broken = is_fault_at::<T>(binds, turn.tested.role, turn.fate, event, before);
     if !broken {
         return Ok(());
     }
-    faults.judge(T::rule(), event.place, true)?;
+    add_fault(T::rule(), turn.decided, event.place, faults)?;
     Ok(())
 }
 
@@ -66,14 +67,11 @@ pub fn judge_release<T: ReleaseStatement>(
 fn is_fault_at<T: ReleaseStatement>(
     binds: bool,
     role: Role,
-    fate: Option<Fate>,
+    fate: Fate,
     event: &Seen,
     before: &[Seen],
 ) -> bool
-    ensures { result ≡ (binds && is_some_and (λ f. T.breaks role f (newest event.now (reverse before.now))) fate) }
+    ensures { result ≡ (binds && T.breaks role fate (newest event.now (reverse before.now))) }
 {
-    match fate {
-        Some(fate) if binds => T::is_broken(role, fate, event, before),
-        _ => false,
-    }
+    binds && T::is_broken(role, fate, event, before)
 }

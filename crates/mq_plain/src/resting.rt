@@ -1,12 +1,14 @@
 //! Judging an event by one statement that a later REST shows.
-ghost use Rattle.std.specs.Prelude.{◌≡◌, reverse, OnOk, OnErr};
+ghost use Rattle.std.specs.Prelude.{◌≡◌, ◌∷◌, ◌&&◌, reverse, OnOk, OnErr};
 ghost use Rattle.mq_rules.specs.Rules.{same_rule, binds as is_bound};
-ghost use Rattle.mq_rules.specs.Growing.{GrowsBy, GrowsByWithin};
+ghost use Rattle.mq_rules.specs.Under.{turns_with};
+ghost use Rattle.mq_rules.specs.Growing.{Gains, GainsWithin};
 ghost use Rattle.mq_plain.specs.Blames.{Blames, BlamesWithin};
 ghost use Rattle.mq_plain.specs.Events.{ComesNext};
 
+use crate::adding::add_fault;
 use crate::turn::Turn;
-use mq_rules::{Fault, FaultKey, Faults, Memory, Role, Rule, Seen};
+use mq_rules::{Faults, Memory, Role, Rule, Seen};
 use mq_trace::Place3;
 use std::alloc::Global;
 
@@ -55,8 +57,8 @@ pub fn judge_rest<T: RestStatement>(
     before: &[Seen],
     faults: &mut Faults,
 ) -> Result<(), Memory>
-    ensures ok { binds ≡ is_bound T.judged turn.tested → ComesNext turn event.now (reverse before.now) → OnOk result (GrowsBy (λ r. same_rule r T.judged) turn.tested event.now (reverse before.now) faults.old faults.new) }
-    ensures memory { binds ≡ is_bound T.judged turn.tested → ComesNext turn event.now (reverse before.now) → OnErr result (GrowsByWithin (λ r. same_rule r T.judged) turn.tested event.now (reverse before.now) faults.old faults.new) }
+    ensures ok { binds ≡ is_bound T.judged turn.tested → ComesNext turn event.now (reverse before.now) → OnOk result (Gains (λ k r. same_rule r T.judged && turns_with turn.tested turn.fate event.now (reverse before.now) k r) turn.tested (event.now ∷ reverse before.now) turn.decided faults.old faults.new) }
+    ensures memory { binds ≡ is_bound T.judged turn.tested → ComesNext turn event.now (reverse before.now) → OnErr result (GainsWithin (λ k r. same_rule r T.judged && turns_with turn.tested turn.fate event.now (reverse before.now) k r) turn.tested (event.now ∷ reverse before.now) turn.decided faults.old faults.new) }
 {
     if !binds {
         return Ok(());
@@ -65,7 +67,7 @@ pub fn judge_rest<T: RestStatement>(
         return Ok(());
     }
     let places = T::shown(alloc, turn.tested.role, event, before)?;
-    blame(T::rule(), event.place.position, &places, faults)?;
+    blame(T::rule(), turn.decided, &places, faults)?;
     Ok(())
 }
 
@@ -79,16 +81,7 @@ fn blame(rule: Rule, decided: u32, places: &[Place3], faults: &mut Faults) -> Re
     ensures memory { OnErr result (BlamesWithin rule decided places.now faults.old faults.new) }
 {
     for place in places {
-        let key = FaultKey {
-            position: place.position,
-            rule,
-        };
-        let fault = Fault {
-            decided,
-            record_no: place.record_no,
-            offset: None,
-        };
-        faults.add(key, fault)?;
+        add_fault(rule, decided, *place, faults)?;
     }
     Ok(())
 }

@@ -7,8 +7,10 @@ use mq_rules::{Fate, Tested};
 pub struct Turn {
     /// The end that is judged.
     pub tested: Tested,
-    /// The fate of the latest connection before the event, if it is decided there (MQTT 5.0, section 3.2.2).
-    pub fate: Option<Fate>,
+    /// The fate of the event's connection; `Void` before the first one (MQTT 5.0, section 3.2.2).
+    pub fate: Fate,
+    /// The position at which that fate is known, and the event is judged.
+    pub decided: u32,
     /// Whether the event is a REST that binds.
     pub rests: bool,
 }
