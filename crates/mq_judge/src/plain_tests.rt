@@ -1,7 +1,7 @@
 //! The judge finds the same faults as the plain evaluators, which look back over all events.
 use crate::judge::{Judge, Options};
 use mq_plain::plain_sessions;
-use mq_rules::{Faults, Memory, Note, Role, Seen, Tested, plain_connections};
+use mq_rules::{Faults, Memory, Note, Seen, Tested, plain_connections};
 use mq_trace::{Event, Place3, Refusal, Sink, Tracer};
 use std::alloc::Global;
 use std::test::Fail;
@@ -47,23 +47,7 @@ fn are_same(these: &Faults, those: &Faults) -> bool {
             .all(|(key, fault)| those.get(*key) == Some(*fault))
 }
 
-// Whether each packet that needs a session, and each RELEASE, comes after the CONNACK of its connection. The plain evaluators judge only such logs.
-fn is_in_order(role: Role, seen: &[Seen]) -> bool {
-    let mut is_decided = true;
-    for event in seen {
-        if event.note.needs_session() && !is_decided {
-            return false;
-        }
-        if event.note.is_open() {
-            is_decided = false;
-        } else if event.note.decides(role).is_some() {
-            is_decided = true;
-        }
-    }
-    true
-}
-
-/// Whether both find the same faults in a log, unless it is refused, or is one that the plain evaluators don't judge.
+/// Whether both find the same faults in a log, unless it is refused.
 ///
 /// # Errors
 ///
@@ -82,10 +66,6 @@ pub fn are_faults_alike(alloc: Global, log: &[u8]) -> Result<bool, Fail> {
     let Some(header) = tracer.header() else {
         return Ok(true);
     };
-    let tested = Tested::of(header);
-    if !is_in_order(tested.role, notes.seen.as_slice()) {
-        return Ok(true);
-    }
-    let plain = plain_faults(alloc, tested, notes.seen.as_slice())?;
+    let plain = plain_faults(alloc, Tested::of(header), notes.seen.as_slice())?;
     Ok(are_same(judge.known(), &plain))
 }
