@@ -2,52 +2,22 @@
 """Compares what `mqjudge check` reports with what reference.py does: on random sessions, about half of which have packets before
 the CONNACK, and on logs with the most events that may come before a CONNACK, and one more.
 
-A session on which they differ is made as short as it can be by leaving out records, and printed with both reports. Where there is
-no program reference.py alone judges the logs. The last line says how many of the faults were decided by a later event than their
-own.
+A session on which they differ is made as short as it can be, and printed with both reports. Where there is no program reference.py
+alone judges the logs. The last line says how many of the faults were decided by a later event than their own.
 
 usage: bench/check_random.py [--mqjudge PATH] [--logs 2000] [--seed 1]
 """
 import argparse
 import sys
-from collections.abc import Callable, Iterator
 from pathlib import Path
 
 sys.dont_write_bytecode = True  # the repository stays as it is
 import random_logs
 import reference
 from judges import BUILT, Judge, judge_by
+from shortening import shortest, words
 
-HEADER_SIZE, HEAD_SIZE = 8, 5
 SHORT = 5_000  # bytes of a log that is made shorter
-KINDS = ("", "OPEN", "SENT", "RECV", "CLOSE", "REST", "RELEASE")
-
-
-def records(log: bytes) -> Iterator[bytes]:
-    """The records of a log, each whole."""
-    at = HEADER_SIZE
-    while at < len(log):
-        end = at + HEAD_SIZE + int.from_bytes(log[at + 1 : at + HEAD_SIZE], "big")
-        yield log[at:end]
-        at = end
-
-
-def shortest(log: bytes, differs: Callable[[bytes], bool]) -> bytes:
-    """A log that differs still, and doesn't if any one record is left out."""
-    header, parts = log[:HEADER_SIZE], list(records(log))
-    at = len(parts)
-    while at > 0:
-        at -= 1
-        fewer = parts[:at] + parts[at + 1 :]
-        if differs(header + b"".join(fewer)):
-            parts, at = fewer, len(fewer)
-    return header + b"".join(parts)
-
-
-def words(log: bytes) -> str:
-    """The log as words: its records, with their bodies in hexadecimal digits."""
-    end = "server" if log[5] else "client"
-    return " ".join([end, *(f"{KINDS[part[0]]} {part[HEAD_SIZE:].hex()}".rstrip() for part in records(log))])
 
 
 class Comparison:

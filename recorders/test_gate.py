@@ -1,5 +1,5 @@
 #!/usr/bin/env python3
-"""Tests of .ci/run, with programs of a few lines in place of `rt` and of recorders/test.
+"""Tests of .ci/run, with programs of a few lines in place of `rt`, of recorders/test and of what tries the built program.
 
 usage: recorders/test_gate.py
 """
@@ -17,14 +17,19 @@ sys.dont_write_bytecode = True  # the repository stays as it is
 sys.path.insert(0, str(Path(__file__).resolve().parent))
 from testing import PATIENCE, TOP
 
+BUILT = "crates/mq_cli/out/mq_cli"
+RUN = "recorders run"
+FUZZED = "bench/fuzz.py --seed 1 --count 20000"
+NOT_FUZZED = "bench/fuzz.py isn't run"
+
 
 class Gate(unittest.TestCase):
     def setUp(self) -> None:
         folder = tempfile.TemporaryDirectory()
         self.addCleanup(folder.cleanup)
         self.top = Path(folder.name)
-        for name in (".ci", "recorders", "bin"):
-            (self.top / name).mkdir()
+        for name in (".ci", "recorders", "bin", "bench", "crates/mq_cli/out"):
+            (self.top / name).mkdir(parents=True)
         shutil.copy(TOP / ".ci/run", self.top / ".ci/run")
 
     def script(self, name: str, text: str) -> None:
@@ -32,8 +37,14 @@ class Gate(unittest.TestCase):
         path.write_text(f"#!/bin/sh\n{text}\n")
         path.chmod(0o755)
 
-    def gate(self, said: str, status: int, missing: str = "", recorders: int = 0) -> tuple[int, list[str]]:
-        """The status and the lines of the gate, where `rt ci` and the recorders' tests say this and end so."""
+    def gate(
+        self, said: str, status: int, missing: str = "", recorders: int = 0, fuzz: int | None = 0
+    ) -> tuple[int, list[str]]:
+        """The status and the lines of the gate, where `rt ci`, the recorders' tests and the fuzzer say this and end so. Without a
+        status of the fuzzer no program is built."""
+        self.script("bench/fuzz.py", f'echo "bench/fuzz.py $*"\nexit {fuzz}')
+        if fuzz is not None:
+            self.script(BUILT, "exit 1")
         self.script("bin/rt", f'test "$*" = ci && pwd && echo "{said}"\nexit {status}')
         test = f'test "$1" = --missing && echo "{missing}" && exit 0\necho "recorders run"\nexit {recorders}'
         self.script("recorders/test", test)
@@ -47,26 +58,41 @@ class Gate(unittest.TestCase):
         self.assertEqual(lines[1], str(self.top.resolve()))
         return answer.returncode, lines[2:] + answer.stderr.splitlines()
 
-    def test_both_pass(self) -> None:
+    def test_all_pass(self) -> None:
         said = "14 passed, 0 failed"
-        self.assertEqual(self.gate(said, 0), (0, [said, "recorders run", said]))
+        self.assertEqual(self.gate(said, 0), (0, [said, RUN, FUZZED, said]))
 
     def test_the_recorders_fail(self) -> None:
         said = "14 passed, 0 failed"
         for status in (1, 2, 130):
-            wanted = (1, [said, "recorders run", "14 passed, 1 failed"])
+            wanted = (1, [said, RUN, FUZZED, "14 passed, 1 failed"])
             self.assertEqual(self.gate(said, 0, recorders=status), wanted)
 
     def test_the_gate_fails(self) -> None:
         said = "12 passed, 2 failed"
-        self.assertEqual(self.gate(said, 1), (1, [said, "recorders run", said]))
-        self.assertEqual(self.gate(said, 2), (2, [said, "recorders run", said]))
-        self.assertEqual(self.gate(said, 1, recorders=1), (1, [said, "recorders run", "12 passed, 3 failed"]))
+        self.assertEqual(self.gate(said, 1), (1, [said, RUN, FUZZED, said]))
+        self.assertEqual(self.gate(said, 2), (2, [said, RUN, FUZZED, said]))
+        self.assertEqual(self.gate(said, 1, recorders=1), (1, [said, RUN, FUZZED, "12 passed, 3 failed"]))
+
+    def test_the_fuzzer_finds_something(self) -> None:
+        said = "14 passed, 0 failed"
+        self.assertEqual(self.gate(said, 0, fuzz=1), (1, [said, RUN, FUZZED, "14 passed, 1 failed"]))
+        self.assertEqual(self.gate(said, 0, recorders=1, fuzz=1), (1, [said, RUN, FUZZED, "14 passed, 2 failed"]))
+
+    def test_no_program_is_built(self) -> None:
+        said = "12 passed, 2 failed"
+        self.assertEqual(self.gate(said, 1, fuzz=None), (1, [said, RUN, f"{NOT_FUZZED}: there is no {BUILT}", said]))
+
+    def test_an_old_python(self) -> None:
+        said, missing = "14 passed, 0 failed", "Python 3.11 or later, tshark"
+        lines = [f"recorders/test isn't run: not installed: {missing}", f"{NOT_FUZZED}: not installed: Python 3.11 or later"]
+        self.assertEqual(self.gate(said, 0, missing=missing), (0, [said, *lines, said]))
 
     def test_programs_that_are_not_there(self) -> None:
         line = "recorders/test isn't run: not installed: tshark, mosquitto"
         for said, status in (("14 passed, 0 failed", 0), ("12 passed, 2 failed", 1)):
-            self.assertEqual(self.gate(said, status, missing="tshark, mosquitto"), (status, [said, line, said]))
+            wanted = (status, [said, line, FUZZED, said])
+            self.assertEqual(self.gate(said, status, missing="tshark, mosquitto"), wanted)
 
     def test_a_gate_without_a_verdict(self) -> None:
         for status, wanted in ((0, 1), (1, 1), (2, 2), (137, 137)):
@@ -76,7 +102,7 @@ class Gate(unittest.TestCase):
     def test_steps_say_how_long_it_has_run(self) -> None:
         said = "fn f: proved\nrt: mq_wire proved\n1 passed, 0 failed"
         verdict = "1 passed, 0 failed"
-        lines = ["fn f: proved", "rt: mq_wire proved (0 min)", verdict, "recorders run", verdict]
+        lines = ["fn f: proved", "rt: mq_wire proved (0 min)", verdict, RUN, FUZZED, verdict]
         self.assertEqual(self.gate(said, 0), (0, lines))
 
     def test_a_test_that_cannot_say_what_is_missing(self) -> None:

@@ -1,0 +1,526 @@
+#!/usr/bin/env python3
+"""Makes sessions in which the tested end does right, and writes one to standard output. The same seed and number always give the
+same bytes.
+
+A log has one to four connections of a client or of a server. They are accepted, with a new session or the one before, or refused, or
+closed without a CONNACK. There are messages of all QoS in both directions, PUBLISHes and PUBRELs that are sent again, subscriptions,
+Topic Aliases, what the peer announces, packets before the CONNACK, RELEASEs and RESTs; and packets are split over records anywhere.
+A judge must pass each log: `bench/fuzz.py` looks at that, and at what it says of these logs when they are changed.
+
+usage: bench/honest_logs.py SEED NUMBER > FILE
+"""
+import argparse
+import copy
+import random
+import sys
+from dataclasses import dataclass, field
+
+sys.dont_write_bytecode = True  # the repository stays as it is
+from make_log import CLOSE, OPEN, PINGREQ, PINGRESP, RECV, REST, SENT, record, varint
+from random_logs import EXPLANATIONS, Type
+from session_logs import CLIENT, RELEASE, SERVER, number, packet, text
+
+IDENTIFIERS = range(1, 6)
+TOPICS = ("a", "b", "a/b", "a/b/c", "$x/y")
+# Filters, each with names that it matches.
+FILTERS = {"a": ("a",), "a/#": ("a", "a/b", "a/b/c"), "+": ("a", "b"), "#": ("a", "a/b", "x/y/z"), "a/+": ("a/b", "a/"), "$x/#": ("$x/y",)}
+LONGEST = 64  # no PUBLISH or SUBSCRIBE with a payload of one byte is larger: the smallest Maximum Packet Size
+PAYLOADS = (0, 1, 1, 1, 1, 1, 1, 300)
+EXPIRY_0, EXPIRY_60 = b"\x11\0\0\0\0", b"\x11\0\0\0\x3c"  # Session Expiry Interval, in seconds
+ANSWERS = {1: Type.PUBACK, 2: Type.PUBREC}
+Answer = tuple[Type, int]
+
+
+@dataclass
+class Message:
+    """A PUBLISH of QoS above 0 that is in flight. `is_received`: a PUBREC came for it."""
+
+    identifier: int
+    qos: int
+    topic: str
+    is_received: bool = False
+
+
+@dataclass
+class State:
+    """What both ends keep of a session."""
+
+    own: list[Message] = field(default_factory=list)  # the tested end's messages, in the order in which it sent them
+    of_peer: list[Message] = field(default_factory=list)
+    to_complete: dict[int, bool] = field(default_factory=dict)  # received messages of QoS 2, and whether they were released
+    filters: dict[str, int] = field(default_factory=dict)  # that the client subscribed to, each with the QoS
+
+
+@dataclass
+class Limits:
+    """What the peer announces, which the tested end has to keep to."""
+
+    in_flight: int = 65_535
+    aliases: int = 0
+    qos: int = 2
+    size: int = 0  # 0: any
+
+    def properties(self) -> bytes:
+        found = b"\x21" + number(self.in_flight) if self.in_flight < 65_535 else b""
+        found += b"\x22" + number(self.aliases) if self.aliases else b""
+        found += bytes([0x24, self.qos]) if self.qos < 2 else b""
+        return found + (b"\x27\0\0" + number(self.size) if self.size else b"")
+
+
+@dataclass
+class Line:
+    """A connection that is open."""
+
+    limits: Limits = field(default_factory=Limits)
+    is_early: bool = True  # before the CONNACK
+    is_accepted: bool = True
+    may_explain: bool = True  # in Reason Strings and User Properties
+    used: int = 0  # of the send quota
+    pings: int = 0
+    again: list[Message] = field(default_factory=list)  # what the tested end has to send again
+    owed: list[Answer] = field(default_factory=list)  # by the tested end
+    to_come: list[Answer] = field(default_factory=list)  # from the peer
+    asked: set[int] = field(default_factory=set)  # SUBSCRIBEs and UNSUBSCRIBEs without an answer
+    requests: dict[int, list[tuple[str, int]]] = field(default_factory=dict)  # the filters in each of them
+    topics: dict[int, str] = field(default_factory=dict)  # of the tested end's Topic Aliases
+
+
+class Honest:
+    """One log, as it is being made: its events, in the tested end's order."""
+
+    def __init__(self, draw: random.Random):
+        self.draw = draw
+        self.role = draw.randrange(2)
+        self.has_releases = self.chance(0.8)
+        self.is_named = self.chance(0.8)
+        self.is_kept = False  # there is a session that may be resumed
+        self.state, self.line = State(), Line()
+        self.events: list[tuple[int, bytes]] = []
+        count = draw.choice((1, 1, 2, 2, 3, 4))
+        for n in range(count):
+            self._connection(is_last=n == count - 1)
+
+    def log(self) -> bytes:
+        return b"MQTR\x01" + bytes([self.role, self.has_releases, 0]) + written(self.draw, self.events)
+
+    def chance(self, likely: float) -> bool:
+        return self.draw.random() < likely
+
+    # -- what is said, and by whom
+
+    def _mark(self, kind: int, body: bytes = b"") -> None:
+        self.events.append((kind, body))
+
+    def _own(self, said: bytes) -> None:
+        self.events.append((SENT, said))
+
+    def _peer(self, said: bytes) -> None:
+        self.events.append((RECV, said))
+
+    def _say(self, end: int, said: bytes) -> None:
+        self.events.append((SENT if end == self.role else RECV, said))
+
+    # -- connections
+
+    def _connection(self, is_last: bool) -> None:
+        wants_session, keeps = self.chance(0.8), self.chance(0.8)
+        resumes = self.is_kept and wants_session and self.chance(0.85)
+        before = copy.deepcopy(self.state)
+        if not resumes:
+            self.state = State()
+        fate = self.draw.choices(("accepted", "refused", "closed"), (0.88, 0.06, 0.06))[0]
+        self.line = Line(is_accepted=fate == "accepted", again=list(self.state.own))
+        for one in self.state.of_peer:
+            kind = Type.PUBREL if one.is_received and self.chance(0.8) else Type.PUBLISH
+            self.line.to_come.append((kind, one.identifier))
+        limits = self._limits()
+        self._mark(OPEN)
+        wants_information = self._connect(not wants_session, keeps, limits)
+        self._before_connack()
+        if fate == "accepted":
+            self._accept(resumes, keeps, limits, wants_information)
+            for _ in range(self.draw.randint(0, 20)):
+                self._step()
+            if self.chance(0.5):
+                self._come_to_rest()
+        else:
+            self.state = before
+            if fate == "refused":
+                self._say(SERVER, packet(0x20, bytes([0, self.draw.choice((0x80, 0x87, 0x97)), 0])))
+        if not is_last or self.chance(0.7):
+            self._close(keeps and fate == "accepted")
+
+    def _limits(self) -> Limits:
+        limits = Limits()
+        if self.chance(0.25):
+            limits.in_flight = self.draw.randint(1, 3)
+        if self.chance(0.4):
+            limits.aliases = self.draw.randint(1, 3)
+        if self.role == CLIENT and self.chance(0.1):
+            limits.qos = self.draw.randrange(2)
+        if self.chance(0.1):
+            limits.size = self.draw.randint(LONGEST, 300)
+        return limits
+
+    def _connect(self, is_clean: bool, keeps: bool, limits: Limits) -> bool:
+        """The CONNECT. It returns whether the client wants Response Information."""
+        wants_information, is_terse = self.chance(0.2), self.chance(0.2)
+        properties = EXPIRY_60 if keeps else EXPIRY_0 if self.chance(0.3) else b""
+        if self.role == SERVER:
+            properties += limits.properties()
+            self.line.limits, self.line.may_explain = limits, not is_terse
+        properties += (b"\x17\0" if is_terse else b"") + (b"\x19\1" if wants_information else b"")
+        flags, rest = 2 * is_clean, b""
+        if self.chance(0.1):
+            flags, rest = flags | 0x0C, b"\0" + text("will") + text("gone")
+        if self.chance(0.1):
+            flags, rest = flags | 0xC0, rest + text("user") + text("word")
+        name = text("me" if self.is_named else "")
+        self._say(CLIENT, packet(0x10, text("MQTT") + bytes([5, flags]) + number(60) + listed(properties) + name + rest))
+        self.is_kept = False
+        return wants_information
+
+    def _before_connack(self) -> None:
+        steps = (self._publish, self._request, self._ping, self._send_again, self._auth)
+        if self.role == SERVER:
+            steps = (self._peer_publish, self._request, self._ping, self._release, self._auth)
+        for _ in range(self.draw.randint(1, 6) if self.chance(0.35) else 0):
+            self.draw.choice(steps)()
+
+    def _accept(self, resumes: bool, keeps: bool, limits: Limits, wants_information: bool) -> None:
+        """The CONNACK of a connection that is accepted."""
+        properties = b"" if self.is_named else b"\x12" + text("me")
+        self.is_named, self.is_kept = True, keeps
+        if self.chance(0.1):
+            self.is_kept = self.chance(0.5)
+            properties += EXPIRY_60 if self.is_kept else EXPIRY_0
+        if self.role == CLIENT:
+            properties += limits.properties()
+            self.line.limits = limits
+            self.line.again = [one for one in self.line.again if one.is_received or one.qos <= limits.qos]
+        properties += b"\x1a" + text("i") if wants_information and self.chance(0.5) else b""
+        self._say(SERVER, packet(0x20, bytes([resumes, 0]) + listed(properties)))
+        self.line.is_early = False
+
+    def _close(self, may_change: bool) -> None:
+        """The connection ends. A client whose CONNECT kept the session may change that in its DISCONNECT."""
+        if self.line.is_accepted and self.chance(0.35):
+            end = self.draw.randrange(2)
+            change = self.draw.choice((EXPIRY_0, EXPIRY_60)) if end == CLIENT and may_change and self.chance(0.3) else b""
+            self.is_kept = change == EXPIRY_60 if change else self.is_kept
+            self._say(end, packet(0xE0, b"\0" + listed(change) if change else b""))
+        elif self.line.is_accepted and self.chance(0.15):
+            self._peer(b"\x30\x05\x00")  # a packet that the connection's end cuts off
+        self._mark(CLOSE)
+        while self.line.is_accepted and self.chance(0.3):
+            self._release()
+
+    # -- what happens on a connection
+
+    def _step(self) -> None:
+        steps = {self._publish: 6, self._answer: 8, self._peer_answer: 9, self._peer_publish: 5, self._send_again: 4, self._request: 3}
+        steps |= {self._ping: 1, self._release: 2, self._rest: 2, self._auth: 0.3}
+        self.draw.choices(list(steps), list(steps.values()))[0]()
+
+    def _come_to_rest(self) -> None:
+        """The tested end does all that it owes."""
+        for _ in range(60):
+            if self._is_at_rest():
+                break
+            self._answer()
+            self._send_again()
+            if self.line.again and not self._has_quota():
+                self._peer_answer()
+        self._rest()
+
+    def _is_at_rest(self) -> bool:
+        waits_for_quota = not self._has_quota() and not any(one.is_received for one in self.line.again)
+        return not self.line.owed and (not self.line.again or waits_for_quota)
+
+    def _rest(self) -> None:
+        if self._is_at_rest() and not self.line.is_early:
+            self._mark(REST)
+
+    def _auth(self) -> None:
+        self._own(packet(0xF0, b""))
+
+    def _ping(self) -> None:
+        self._say(CLIENT, PINGREQ)
+        self.line.pings += 1
+        self._expect(SERVER, Type.PINGRESP, self.line.pings)
+
+    def _expect(self, end: int, kind: Type, identifier: int) -> None:
+        """The end has to answer, once for all that it is asked under this identifier."""
+        answers = self.line.owed if end == self.role else self.line.to_come
+        if (kind, identifier) not in answers:
+            answers.append((kind, identifier))
+
+    # -- the tested end's messages
+
+    def _has_quota(self) -> bool:
+        """A client isn't bound before its CONNACK."""
+        return (self.line.is_early and self.role == CLIENT) or self.line.used < self.line.limits.in_flight
+
+    def _free_identifier(self) -> int | None:
+        taken = {one.identifier for one in self.state.own} | (self.line.asked if self.role == CLIENT else set())
+        return self.draw.choice([one for one in IDENTIFIERS if one not in taken] or [None])
+
+    def _topic(self) -> tuple[str, int]:
+        """A topic, and the greatest QoS for it."""
+        if self.role == CLIENT:
+            return self.draw.choice(TOPICS), self.line.limits.qos
+        filters = list(self.state.filters) or [""]
+        one = self.draw.choice(filters)
+        return self.draw.choice(FILTERS.get(one, ("",))), self.state.filters.get(one, 0)
+
+    def _publish(self) -> None:
+        (topic, most), identifier = self._topic(), self._free_identifier()
+        qos = min(self.draw.choice((0, 1, 1, 2, 2)), most)
+        if topic == "" or (qos > 0 and (identifier is None or not self._has_quota())):
+            return
+        if qos > 0:
+            message = Message(identifier, qos, topic)
+            self.state.own.append(message)
+            self._sent(message)
+        self._own(self._publish_packet(qos, identifier or 0, *self._aliased(topic)))
+
+    def _aliased(self, topic: str) -> tuple[str, bytes]:
+        """What stands for the topic, and the property of its Topic Alias."""
+        line = self.line
+        if not line.limits.aliases or self.chance(0.5):
+            return topic, b""
+        alias = self.draw.randint(1, line.limits.aliases)
+        is_known = line.topics.get(alias) == topic
+        line.topics[alias] = topic
+        return "" if is_known else topic, b"\x23" + number(alias)
+
+    def _publish_packet(self, qos: int, identifier: int, topic: str, alias: bytes = b"", dup: bool = False) -> bytes:
+        properties = alias + (b"\1\1" if self.chance(0.1) else b"") + (b"\2\0\0\0\x3c" if self.chance(0.1) else b"")
+        if self.role == SERVER and self.chance(0.1):
+            properties += b"\x0b\1"
+        length = 1 if self.line.limits.size else self.draw.choice(PAYLOADS)
+        body = text(topic) + (number(identifier) if qos else b"") + listed(properties) + b"x" * length
+        return packet(0x30 | dup << 3 | qos << 1, body)
+
+    def _sent(self, message: Message) -> None:
+        if not (self.line.is_early and self.role == CLIENT):
+            self.line.used += 1
+        self._expect(1 - self.role, ANSWERS[message.qos], message.identifier)
+
+    def _send_again(self) -> None:
+        line = self.line
+        if not line.again:
+            return
+        message = line.again[0 if self.role == CLIENT else self.draw.randrange(len(line.again))]
+        if message.is_received:
+            self._acknowledge(self._own, Type.PUBREL, message.identifier)
+            self._expect(1 - self.role, Type.PUBCOMP, message.identifier)
+        elif self._has_quota():
+            self._own(self._publish_packet(message.qos, message.identifier, message.topic, dup=True))
+            self._sent(message)
+        else:
+            return
+        line.again.remove(message)
+
+    def _peer_answer(self) -> None:
+        """What the peer sends of what it has to."""
+        if not self.line.to_come or self.line.is_early:
+            return
+        kind, identifier = self.line.to_come.pop(self.draw.randrange(len(self.line.to_come)))
+        match kind:
+            case Type.PUBLISH:
+                self._peer_message(next(one for one in self.state.of_peer if one.identifier == identifier), dup=True)
+            case Type.PUBREL:
+                self._acknowledge(self._peer, kind, identifier)
+                self._expect(self.role, Type.PUBCOMP, identifier)
+            case Type.PUBACK | Type.PUBREC | Type.PUBCOMP:
+                self._acknowledged(kind, identifier)
+            case Type.SUBACK | Type.UNSUBACK:
+                self._reply(self._peer, kind, identifier)
+            case _:
+                self._peer(PINGRESP)
+
+    def _acknowledged(self, kind: Type, identifier: int) -> None:
+        message = next(one for one in self.state.own if one.identifier == identifier)
+        refuses = kind == Type.PUBREC and self.chance(0.1)
+        self._acknowledge(self._peer, kind, identifier, 0x87 if refuses else 0)
+        if kind == Type.PUBREC and not refuses:
+            message.is_received = True
+            self._expect(self.role, Type.PUBREL, identifier)
+        else:
+            self.state.own.remove(message)
+            self.line.used = max(0, self.line.used - 1)
+
+    # -- the peer's messages
+
+    def _peer_publish(self) -> None:
+        taken = {one.identifier for one in self.state.of_peer} | (self.line.asked if self.role == SERVER else set())
+        identifier = self.draw.choice([one for one in IDENTIFIERS if one not in taken] or [0])
+        qos = self.draw.choice((0, 1, 1, 2, 2)) if identifier else 0
+        message = Message(identifier, qos, self.draw.choice(TOPICS))
+        if qos > 0:
+            self.state.of_peer.append(message)
+        self._peer_message(message)
+
+    def _peer_message(self, message: Message, dup: bool = False) -> None:
+        self._peer(self._publish_packet(message.qos, message.identifier, message.topic, dup=dup))
+        if message.qos > 0:
+            self._expect(self.role, ANSWERS[message.qos], message.identifier)
+        if message.qos == 2:
+            self.state.to_complete.setdefault(message.identifier, False)
+
+    def _release(self) -> None:
+        waiting = [one for one, is_released in self.state.to_complete.items() if not is_released]
+        if waiting and self.has_releases and self.line.is_accepted:
+            self._release_one(self.draw.choice(waiting))
+
+    def _release_one(self, identifier: int) -> None:
+        self._mark(RELEASE, number(identifier))
+        self.state.to_complete[identifier] = True
+
+    def _answer(self) -> None:
+        """What the tested end sends of what it owes: a client the first, since it answers in order."""
+        if not self.line.owed:
+            return
+        at = 0 if self.role == CLIENT else self.draw.randrange(len(self.line.owed))
+        kind, identifier = self.line.owed.pop(at)
+        match kind:
+            case Type.PUBACK | Type.PUBREC:
+                self._answer_message(kind, identifier)
+            case Type.PUBREL:
+                self._acknowledge(self._own, kind, identifier)
+                self._expect(1 - self.role, Type.PUBCOMP, identifier)
+            case Type.PUBCOMP:
+                self._complete(identifier)
+            case Type.SUBACK | Type.UNSUBACK:
+                self._reply(self._own, kind, identifier)
+            case _:
+                self._own(PINGRESP)
+
+    def _answer_message(self, kind: Type, identifier: int) -> None:
+        message = next((one for one in self.state.of_peer if one.identifier == identifier), None)
+        refuses = kind == Type.PUBREC and not self.state.to_complete.get(identifier) and self.chance(0.1)
+        code = self.draw.choice((0, 0, 0, 0x10)) if kind == Type.PUBACK else 0x87 if refuses else 0
+        self._acknowledge(self._own, kind, identifier, code)
+        if kind == Type.PUBREC and not refuses:
+            if message:
+                message.is_received = True
+                self._expect(1 - self.role, Type.PUBREL, identifier)
+            return
+        if kind == Type.PUBREC:
+            self.state.to_complete.pop(identifier, None)
+        self._forget(identifier)
+
+    def _complete(self, identifier: int) -> None:
+        is_known = identifier in self.state.to_complete
+        if is_known and self.has_releases and not self.state.to_complete[identifier]:
+            self._release_one(identifier)
+        self._acknowledge(self._own, Type.PUBCOMP, identifier, 0 if is_known else 0x92)
+        self.state.to_complete.pop(identifier, None)
+        self._forget(identifier)
+
+    def _forget(self, identifier: int) -> None:
+        """The peer's message under this identifier is over."""
+        self.state.of_peer = [one for one in self.state.of_peer if one.identifier != identifier]
+        self.line.to_come = [one for one in self.line.to_come if one not in ((Type.PUBLISH, identifier), (Type.PUBREL, identifier))]
+
+    def _acknowledge(self, say, kind: Type, identifier: int, code: int = 0) -> None:
+        properties = self.draw.choice(self.draw.choice(EXPLANATIONS)) if self.line.may_explain and self.chance(0.1) else b""
+        is_short = code == 0 and not properties and self.chance(0.8)
+        rest = b"" if is_short else bytes([code]) + listed(properties)
+        say(packet(kind << 4 | (2 if kind == Type.PUBREL else 0), number(identifier) + rest))
+
+    # -- requests
+
+    def _request(self) -> None:
+        """The client subscribes or unsubscribes."""
+        taken = {one.identifier for one in (self.state.own if self.role == CLIENT else self.state.of_peer)} | self.line.asked
+        free = [one for one in IDENTIFIERS if one not in taken]
+        if not free:
+            return
+        identifier, subscribes = self.draw.choice(free), self.chance(0.75)
+        filters = [(one, self.draw.randrange(3)) for one in self.draw.sample(list(FILTERS), self.draw.randint(1, 2))]
+        self.line.asked.add(identifier)
+        self.line.requests[identifier] = filters
+        body = b"".join(text(one) + (bytes([qos]) if subscribes else b"") for one, qos in filters)
+        self._say(CLIENT, packet(0x82 if subscribes else 0xA2, number(identifier) + b"\0" + body))
+        for one, qos in filters:
+            if subscribes:
+                self.state.filters[one] = qos
+            else:
+                self.state.filters.pop(one, None)
+        self._expect(SERVER, Type.SUBACK if subscribes else Type.UNSUBACK, identifier)
+
+    def _reply(self, say, kind: Type, identifier: int) -> None:
+        """A SUBACK or UNSUBACK. It may grant less than was asked for."""
+        self.line.asked.discard(identifier)
+        codes = []
+        for one, qos in self.line.requests[identifier]:
+            code = self.draw.choice((qos, qos, qos, self.draw.randint(0, qos), 0x87)) if kind == Type.SUBACK else 0
+            codes.append(code)
+            if code >= 0x80 or (kind == Type.SUBACK and one in self.state.filters):
+                self.state.filters.pop(one, None)
+            if kind == Type.SUBACK and code < 0x80:
+                self.state.filters[one] = code
+        say(packet(kind << 4, number(identifier) + b"\0" + bytes(codes)))
+
+
+def listed(properties: bytes) -> bytes:
+    return varint(len(properties)) + properties
+
+
+# ---- records
+
+
+def written(draw: random.Random, events: list[tuple[int, bytes]]) -> bytes:
+    """The records of these events. A record may have several packets, a packet several records, and its beginning may come before
+    what the other end says; its last byte stays in its place."""
+    parts: list[tuple[int, bytes]] = []
+    ahead = {SENT: 0, RECV: 0}
+    for n, (kind, body) in enumerate(events):
+        if kind in ahead:
+            body, ahead[kind] = body[ahead[kind] :], 0
+            if draw.random() < 0.1:
+                beginning = next_packet(events, n)
+                ahead[kind] = draw.randrange(len(beginning)) if beginning else 0
+                body += beginning[: ahead[kind]]
+            if parts and parts[-1][0] == kind and draw.random() < 0.3:
+                body = parts.pop()[1] + body
+        parts.append((kind, body))
+    return b"".join(split(draw, kind, body) for kind, body in parts)
+
+
+def next_packet(events: list[tuple[int, bytes]], n: int) -> bytes:
+    """The next packet of the same direction on this connection, if there is one."""
+    for kind, body in events[n + 1 :]:
+        if kind == CLOSE:
+            break
+        if kind == events[n][0]:
+            return body
+    return b""
+
+
+def split(draw: random.Random, kind: int, body: bytes) -> bytes:
+    """The body in one record, or now and then in several."""
+    out = b""
+    while kind in (SENT, RECV) and len(body) > 1 and draw.random() < 0.1:
+        size = draw.randrange(len(body))
+        out, body = out + record(kind, body[:size]), body[size:]
+    return out + record(kind, body)
+
+
+def session(seed: int, which: int) -> bytes:
+    """The log of this number among those of the seed."""
+    return Honest(random.Random(f"honest {seed} {which}")).log()
+
+
+def main() -> None:
+    arguments = argparse.ArgumentParser(description="Writes the log of a session in which the tested end does right.")
+    arguments.add_argument("seed", type=int, metavar="SEED")
+    arguments.add_argument("number", type=int, metavar="NUMBER", help="which of the logs of this seed")
+    given = arguments.parse_args()
+    sys.stdout.buffer.write(session(given.seed, given.number))
+
+
+if __name__ == "__main__":
+    main()

@@ -1,0 +1,264 @@
+"""Makes logs of all kinds for `bench/fuzz.py`, by a seed: sessions in which the tested end does right, and others; the same, changed;
+worked logs, changed; and garbage, in records and in place of a header. The same seed and number always give the same bytes.
+"""
+import random
+from collections.abc import Callable
+from dataclasses import dataclass
+
+import check_rows
+from honest_logs import Honest
+from make_log import CLOSE, CONNACK, CONNECT, OPEN, RECV, REST, SENT, record
+from random_logs import EXAMPLES, TELLING, Session, change, streams
+from session_logs import CLIENT, RELEASE, number, packet
+from shortening import HEADER_SIZE, packets, records
+
+HONEST = "honest"
+MAGICS = (b"\xd4\xc3\xb2\xa1", b"\x4d\x3c\xb2\xa1", b"\x0a\x0d\x0d\x0a", b"\xa1\xb2\xc3\xd4", b"\x1f\x8b\x08")  # of captures, and gzip
+LENGTHS = (b"\0\0\0\0", b"\0\0\0\1", b"\0\0\0\2", b"\0\x0f\xff\xff", b"\0\x10\0\0", b"\0\x10\0\1", b"\xff\xff\xff\xff")
+# Remaining Lengths: the greatest that may be, of a packet of the bound's size and one byte more, over four bytes, longer than necessary.
+REMAINING = (b"\xff\xff\xff\x7f", b"\xfb\xff\xff\x07", b"\xfc\xff\xff\x07", b"\xff\xff\xff\xff", b"\x80\0", b"\x85\x80\0")
+MARKS = (
+    record(REST), record(REST), record(RELEASE, number(1)), record(RELEASE, number(2)), record(OPEN), record(CLOSE), record(SENT),
+    record(RECV),
+)
+WORKED = [row.log for row in check_rows.rows() if len(row.log) < 1_000]
+# Packets of all types, and those of the worked logs, which break and keep each statement.
+PACKETS = sorted({*EXAMPLES, *(one for log in WORKED for one in packets(log))})
+Parts = list[bytes]
+
+
+@dataclass(frozen=True)
+class Made:
+    """A log, how it was made, and bytes to be taken as a packet."""
+
+    kind: str
+    log: bytes
+    packet: bytes
+
+
+# ---- changes. Each takes the header and the records, and changes them.
+
+
+def one_of(draw: random.Random, parts: Parts) -> int:
+    """The place of a record: mostly of one whose loss leaves the log one that can be judged."""
+    at = draw.randrange(len(parts))
+    return draw.randrange(len(parts)) if parts[at][0] in (OPEN, CLOSE) and draw.random() < 0.9 else at
+
+
+def drop(draw: random.Random, parts: Parts) -> None:
+    del parts[one_of(draw, parts)]
+
+
+def double(draw: random.Random, parts: Parts) -> None:
+    """It comes once more, soon after."""
+    at = one_of(draw, parts)
+    parts.insert(at + draw.randint(1, 4), parts[at])
+
+
+def move(draw: random.Random, parts: Parts) -> None:
+    at = one_of(draw, parts)
+    part = parts.pop(at)
+    parts.insert(max(0, at + draw.randint(-4, 4)), part)
+
+
+def swap(draw: random.Random, parts: Parts) -> None:
+    """Two neighbours."""
+    at = one_of(draw, parts)
+    parts[at : at + 2] = reversed(parts[at : at + 2])
+
+
+def swap_alike(draw: random.Random, parts: Parts) -> None:
+    """Two records that begin with packets of one type, and go the same way."""
+    at = one_of(draw, parts)
+    alike = [n for n, part in enumerate(parts) if n != at and part[0] == parts[at][0] and part[5:6] == parts[at][5:6]]
+    if alike:
+        other = draw.choice(alike)
+        parts[at], parts[other] = parts[other], parts[at]
+
+
+def put_mark(draw: random.Random, parts: Parts) -> None:
+    parts.insert(draw.randrange(len(parts) + 1), draw.choice(MARKS))
+
+
+def put_packet(draw: random.Random, parts: Parts) -> None:
+    said = bytearray(draw.choice(PACKETS))
+    if draw.random() < 0.3:
+        change(draw, said)
+    parts.insert(draw.randrange(len(parts) + 1), record(draw.choice((SENT, RECV)), bytes(said)))
+
+
+def turn(draw: random.Random, parts: Parts) -> None:
+    """What was sent is received, or the other way round."""
+    at = draw.randrange(len(parts))
+    parts[at] = bytes([{SENT: RECV, RECV: SENT}.get(parts[at][0], parts[at][0])]) + parts[at][1:]
+
+
+def cut_record(draw: random.Random, parts: Parts) -> None:
+    """A SENT or RECV becomes two, with what comes next between them, or not."""
+    at = draw.randrange(len(parts))
+    kind, body = parts[at][0], parts[at][5:]
+    if kind not in (SENT, RECV) or len(body) < 2:
+        return
+    size = draw.randrange(len(body))
+    between = parts[at + 1 : at + 1 + draw.randrange(3)]
+    parts[at : at + 1 + len(between)] = [record(kind, body[:size]), *between, record(kind, body[size:])]
+
+
+def change_body(draw: random.Random, parts: Parts) -> None:
+    """A byte of a record's body, whose length is right still."""
+    at = draw.randrange(len(parts))
+    body = bytearray(parts[at][5:])
+    change(draw, body)
+    parts[at] = record(parts[at][0], bytes(body))
+
+
+def change_packet(draw: random.Random, parts: Parts) -> None:
+    """A byte of a packet after its fixed header; its Remaining Length is right still, if it is one byte."""
+    at = draw.randrange(len(parts))
+    body = bytearray(parts[at][5:])
+    if len(body) > 2 and body[1] == len(body) - 2:
+        rest = body[2:]
+        change(draw, rest)
+        body = body[:1] + bytes([min(127, len(rest))]) + rest
+        parts[at] = record(parts[at][0], bytes(body))
+
+
+def change_flags(draw: random.Random, parts: Parts) -> None:
+    """One of the flags of a packet, or a bit of its type."""
+    at = draw.randrange(len(parts))
+    if parts[at][0] in (SENT, RECV) and len(parts[at]) > 5:
+        flags = parts[at][5] ^ (1 << draw.choice((0, 1, 1, 2, 2, 3, 3, draw.randrange(4, 8))))
+        parts[at] = parts[at][:5] + bytes([flags]) + parts[at][6:]
+
+
+def change_identifier(draw: random.Random, parts: Parts) -> None:
+    """A byte that is 1 to 5, as all Packet Identifiers here are, becomes another one of them."""
+    at = draw.randrange(len(parts))
+    places = [n for n in range(5, len(parts[at])) if 1 <= parts[at][n] <= 5]
+    if places:
+        one = draw.choice(places)
+        parts[at] = parts[at][:one] + bytes([draw.randint(0, 5)]) + parts[at][one + 1 :]
+
+
+def put_remaining_length(draw: random.Random, parts: Parts) -> None:
+    at = draw.randrange(len(parts))
+    if parts[at][0] in (SENT, RECV) and len(parts[at]) > 6:
+        parts[at] = record(parts[at][0], parts[at][5:6] + draw.choice(REMAINING) + parts[at][7:])
+
+
+def put_length(draw: random.Random, parts: Parts) -> None:
+    """A length that isn't the record's."""
+    at = draw.randrange(len(parts))
+    parts[at] = parts[at][:1] + draw.choice(LENGTHS) + parts[at][5:]
+
+
+def cut(draw: random.Random, parts: Parts) -> None:
+    """The log ends somewhere."""
+    at = draw.randrange(len(parts))
+    parts[at:] = [parts[at][: draw.randrange(len(parts[at]) + 1)]]
+
+
+GENTLE: tuple[Callable[[random.Random, Parts], None], ...] = (
+    drop, drop, drop, double, double, move, swap, swap, swap_alike, swap_alike, put_mark, put_packet, put_packet, turn, cut_record,
+    change_packet, change_packet, change_identifier, change_identifier, change_flags,
+)
+ROUGH = (change_body, put_remaining_length, put_length, cut)
+
+
+def changed(draw: random.Random, log: bytes) -> bytes:
+    """The log after one to four changes, most of which leave it one that isn't refused."""
+    header, parts = log[:HEADER_SIZE], list(records(log))
+    for _ in range(draw.randint(1, 4)):
+        if parts:
+            draw.choice(GENTLE if draw.random() < 0.96 else ROUGH)(draw, parts)
+            parts = [part for part in parts if part]
+    if draw.random() < 0.04 and len(header) == HEADER_SIZE:
+        header = header[:5] + bytes([1 - header[5], *header[6:]])
+    out = bytearray(header + b"".join(parts))
+    if draw.random() < 0.04:
+        change(draw, out)
+    return bytes(out)
+
+
+# ---- garbage
+
+
+def garbage(draw: random.Random, most: int) -> bytes:
+    """Random bytes, or those that MQTT often has."""
+    size = draw.randrange(most)
+    return draw.randbytes(size) if draw.random() < 0.5 else bytes(draw.choices(TELLING, k=size))
+
+
+def garbage_in_records(draw: random.Random) -> bytes:
+    log = b"MQTR\x01" + bytes([draw.randrange(2), 1, 0]) + record(OPEN)
+    if draw.random() < 0.8:
+        first = SENT if log[5] == CLIENT else RECV
+        log += record(first, CONNECT) + record(SENT + RECV - first, CONNACK)
+    for _ in range(draw.randint(1, 10)):
+        log += record(draw.choice((SENT, RECV)), garbage(draw, 40)) if draw.random() < 0.9 else draw.choice(MARKS)
+    return log
+
+
+def garbage_header(draw: random.Random) -> bytes:
+    """A log whose header is changed, is that of another file, or isn't whole; or no log at all."""
+    log = Session(draw).log()
+    match draw.randrange(4):
+        case 0:
+            return garbage(draw, 40)
+        case 1:
+            return draw.choice(MAGICS) + garbage(draw, 40)
+        case 2:
+            return log[: draw.randrange(HEADER_SIZE + 1)]
+    at = draw.randrange(HEADER_SIZE)
+    return log[:at] + bytes([draw.randrange(4) if draw.random() < 0.5 else draw.randrange(256)]) + log[at + 1 :]
+
+
+def long_packet(draw: random.Random) -> bytes:
+    """A PUBLISH that is longer than what is read at once, in records that are cut anywhere, in a session that is changed a little."""
+    log = Honest(draw).log()
+    header, parts = log[:HEADER_SIZE], list(records(log))
+    length = draw.randint(8_000, 20_000)
+    stream = packet(0x30, b"\0\1a" + b"\0" * (draw.random() < 0.9) + draw.randbytes(length))
+    way, pieces = draw.choice((SENT, RECV)), []
+    while stream:
+        count = draw.choice((1, 3, 4_096, 8_187, 8_192, 9_000))
+        pieces, stream = [*pieces, record(way, stream[:count])], stream[count:]
+    at = draw.randrange(len(parts) + 1)
+    return header + b"".join(parts[:at] + pieces + parts[at:])
+
+
+# ---- all kinds
+
+
+Maker = Callable[[random.Random], bytes]
+# How each kind is made, and how often.
+KINDS: dict[str, tuple[Maker, int]] = {
+    HONEST: (lambda draw: Honest(draw).log(), 20),
+    "honest, changed": (lambda draw: changed(draw, Honest(draw).log()), 30),
+    "random session": (lambda draw: Session(draw).log(), 16),
+    "random session, changed": (lambda draw: changed(draw, Session(draw).log()), 8),
+    "worked log, changed": (lambda draw: changed(draw, draw.choice(WORKED)), 14),
+    "packets of all types": (lambda draw: next(streams(draw, 1)), 4),
+    "garbage in records": (garbage_in_records, 4),
+    "garbage header": (garbage_header, 3),
+    "long packet": (long_packet, 0.2),
+}
+
+
+def some_packet(draw: random.Random, log: bytes) -> bytes:
+    """One of the log's packets, or an example, changed or not."""
+    found = packets(log) if draw.random() < 0.6 else []
+    some = bytearray(draw.choice(found or PACKETS))
+    for _ in range(draw.choice((0, 1, 1, 1, 2))):
+        change(draw, some)
+    if 2 <= len(some) < 130 and draw.random() < 0.7:  # else most of them would only be too short or too long
+        some[1] = len(some) - 2
+    return bytes(some[:400])
+
+
+def made(seed: int, which: int) -> Made:
+    """The log of this number among those of the seed."""
+    draw = random.Random(f"fuzz {seed} {which}")
+    kind = draw.choices(list(KINDS), [often for _, often in KINDS.values()])[0]
+    log = KINDS[kind][0](draw)
+    return Made(kind, log, some_packet(draw, log))

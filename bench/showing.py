@@ -1,0 +1,66 @@
+"""What `mqjudge show` and `mqjudge packet` are to print, by reference.py's reading of a log and of a packet."""
+import reference
+from reference import Bad, Event, Lost, OtherVersion, Packet, Recording, Refusal
+
+WAYS = {reference.SENT: "SENT", reference.RECV: "RECV"}
+MARKS = {reference.OPEN: "OPEN", reference.CLOSE: "CLOSE", reference.REST: "REST", reference.RELEASE: "RELEASE"}
+Answer = tuple[int, str]  # status and output
+
+
+class Beginning(Recording):
+    """The events of a log up to where it is refused."""
+
+    refusal: Refusal | None = None
+
+    def read(self) -> None:
+        try:
+            super().read()
+        except Refusal as refusal:
+            self.refusal = refusal
+
+
+def item_text(item: Packet | Bad | Lost | None) -> str:
+    match item:
+        case Packet():
+            publish = f" qos {item.qos} dup {item.dup:d}" if item.type == reference.PUBLISH else ""
+            identifier = f" id {item.identifier}" if item.identifier is not None else ""
+            return f"{reference.NAMES[item.type]} size {item.size}{publish}{identifier}"
+        case Bad():
+            return f"BAD {item.rule} offset {item.at}"
+    return "LOST"
+
+
+def event_text(event: Event) -> str:
+    if event.kind in WAYS:
+        return f"{WAYS[event.kind]} {item_text(event.item)}"
+    return f"RELEASE {event.released}" if event.kind == reference.RELEASE else MARKS[event.kind]
+
+
+def show(log: bytes) -> Answer:
+    """What `show` answers."""
+    read = Beginning(log)
+    lines = [f"{at} record {event.record} {event_text(event)}\n" for at, event in enumerate(read.events, 1)]
+    if read.refusal is not None:
+        return 2, "".join([*lines, f"{read.refusal.text()}\n"])
+    return 0, "".join(lines)
+
+
+def packet(data: bytes) -> Answer:
+    """What `packet` answers."""
+    match reference.frame(data[:5]):
+        case None:
+            return 1, "need more bytes\n"
+        case Lost():
+            return 1, "LOST\n"
+        case (_, size) if len(data) < size:
+            return 1, "need more bytes\n"
+        case (_, size) if len(data) > size:
+            return 1, f"left over {len(data) - size} bytes\n"
+        case (header, _):
+            begin = header
+    try:
+        return 0, f"{item_text(reference.decode(data, begin))}\n"
+    except Bad as bad:
+        return 1, f"{item_text(bad)}\n"
+    except OtherVersion as other:
+        return 1, f"other version {other.version}\n"
