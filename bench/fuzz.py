@@ -1,15 +1,17 @@
 #!/usr/bin/env python3
-"""Looks for logs on which the built program isn't right: makes logs by a seed and compares what the program answers with what others do.
+"""Looks for logs on which the built program isn't right: makes logs by a seed, and compares what the program answers with what
+others do.
 
-The logs are those of `hostile_logs.py`: sessions in which the tested end does right, others, the same changed, and garbage. `check`,
+The logs are those of hostile_logs.py: sessions in which the tested end does right, others, the same changed, and garbage. `check`,
 as text and as JSON, is compared with reference.py; `show` and `packet` with reference.py's reading and, where there is rustc, with
 the plain program of this folder. A log in which the tested end does right must pass. A divergence is printed with its seed, its
-number and a log that is made as short as it can be, which is also written to a file. The last line says how many there were.
+number, and a log that is made as short as it can be, which is also written to a file. The last line says how many there were.
 
-With --seconds it stops at that time, and says how many logs it has tried; with --only it tries the log of one number.
---self-test gives it programs that are wrong in one thing each, and looks whether it finds them.
+With --seconds it ends after that time, and says how many logs it has tried; with --only it tries the log of one number.
+--self-test gives it programs that are wrong in one thing each, and looks whether it finds that.
 
-usage: bench/fuzz.py [--seed 1] [--count 20000] [--seconds N] [--only NUMBER] [--program PATH] [--jobs N] [--out FOLDER] [--self-test]
+usage: bench/fuzz.py [--seed 1] [--count 20000] [--seconds N] [--only NUMBER] [--program PATH] [--jobs N] [--out FOLDER]
+       bench/fuzz.py --self-test [--program PATH]
 """
 import argparse
 import io
@@ -42,6 +44,7 @@ from shortening import shortest, shortest_packet, words
 
 PATIENCE = 60  # seconds that a program has for one log
 MOST_FOUND = 3  # divergences after which a worker ends
+FOUND = Path(tempfile.gettempdir()) / "mqjudge-fuzz"
 LOG_TASKS = ("check", "check --json", "show")
 PACKET = "packet"
 # The bytes that captures begin with (pcap in microseconds and nanoseconds, of both byte orders, and pcapng), and those of gzip.
@@ -101,7 +104,8 @@ class Programs:
         self.path.write_bytes(log)
         data = {task: packet if task == PACKET else log for task in tasks}
         running = {task: self.start(self.command(task, data[task])) for task in tasks}
-        plain = {task: self.start(self.plain_command(task, data[task])) for task in tasks if self.plain and not task.startswith("check")}
+        shown = [task for task in tasks if self.plain and task in (PACKET, "show")]
+        plain = {task: self.start(self.plain_command(task, data[task])) for task in shown}
         wanted = {task: by_reference(task, data[task]) for task in tasks}
         for task in tasks:
             got = answer_of(running[task])
@@ -175,7 +179,8 @@ def work(plan: Plan) -> Tally:
             tally.files.append(tell(plan, programs, number, made, found))
         elif made.kind == hostile_logs.HONEST and verdict != "pass":
             tally.found += 1
-            print(f"seed {plan.seed}, log {number}: the tested end does right, but it doesn't pass: {words(made.log):.2000}", flush=True)
+            said = f"the tested end does right, and it doesn't pass: {words(made.log):.2000}"
+            print(f"seed {plan.seed}, log {number}: {said}", flush=True)
     return tally
 
 
@@ -183,7 +188,7 @@ def tell(plan: Plan, programs: Programs, number: int, made: Made, found: list[Di
     """Prints what differs, makes it short, and writes it to a file."""
     first, task = found[0], found[0].task
     least = shortened(programs, first, made)
-    again = next((one for one in programs.divergences((task,), least, least) if one.by == first.by), first)
+    again = next((one for one in list(programs.divergences((task,), least, least)) if one.by == first.by), first)
     path = plan.out / f"{plan.seed}-{number}.{'packet' if task == PACKET else 'log'}"
     path.write_bytes(least)
     lines = [f"seed {plan.seed}, log {number} ({made.kind}): {'; '.join(f'{one.task}, by {one.by}' for one in found)}"]
@@ -226,7 +231,8 @@ def run(given: argparse.Namespace) -> Tally:
     with tempfile.TemporaryDirectory(prefix="mqjudge-fuzz-") as name:
         folder = Path(name)
         plain = plain_program(folder)
-        plans = [Plan(given.seed, numbers[n], jobs, numbers.stop, until, given.program, plain, folder, given.out) for n in range(jobs)]
+        common = {"step": jobs, "end": numbers.stop, "until": until, "plain": plain, "folder": folder}
+        plans = [Plan(seed=given.seed, first=numbers[n], program=given.program, out=given.out, **common) for n in range(jobs)]
         with ProcessPoolExecutor(jobs) as pool:
             for tally in pool.map(work, plans):
                 total.add(tally)
@@ -236,11 +242,11 @@ def run(given: argparse.Namespace) -> Tally:
 # ---- the self-test: what is wrong in a program, as sed sees its answer, and how long the log that shows it may be, in bytes
 
 FLAWS = {
-    "a fault that isn't reported": ("/ S01 /d", 80),
-    "a decided position in JSON": (r's/"decided":\([0-9]*\),/"decided":1\1,/', 20),
-    "DUP as it is shown": ("s/dup 1/dup 0/", 26),
-    "an offset of a packet": ("s/^BAD W13 offset 2/BAD W13 offset 3/", 6),
-    "a refusal's byte": (r"s/^refused 5 Kind at \(.*\)/refused 5 Kind at 1\1/", 14),
+    "a fault that isn't reported": ("/ S01 /d", 120),
+    "a decided position in JSON": (r's/"decided":\([0-9]*\),/"decided":1\1,/', 40),
+    "DUP as it is shown": ("s/dup 1/dup 0/", 40),
+    "an offset of a packet": ("s/^BAD W13 offset 2/BAD W13 offset 3/", 12),
+    "a refusal's byte": (r"s/^refused 5 Kind at \(.*\)/refused 5 Kind at 1\1/", 40),
 }
 
 
@@ -277,8 +283,8 @@ def main() -> int:
     arguments.add_argument("--seconds", type=float, help="after which it ends")
     arguments.add_argument("--only", type=int, metavar="NUMBER", help="the log of this number alone")
     arguments.add_argument("--program", type=Path, default=BUILT)
-    arguments.add_argument("--jobs", type=int, default=len(os.sched_getaffinity(0)), help="how many at once (default: one a processor)")
-    arguments.add_argument("--out", type=Path, default=Path(tempfile.gettempdir()) / "mqjudge-fuzz", help="the folder of what is found")
+    arguments.add_argument("--jobs", type=int, default=len(os.sched_getaffinity(0)), help="workers (default: one a processor)")
+    arguments.add_argument("--out", type=Path, default=FOUND, help=f"the folder of what is found (default {FOUND})")
     arguments.add_argument("--self-test", action="store_true", help="look whether flaws are found")
     given = arguments.parse_args()
     given.program = given.program.absolute()

@@ -2,10 +2,10 @@
 """Makes sessions in which the tested end does right, and writes one to standard output. The same seed and number always give the
 same bytes.
 
-A log has one to four connections of a client or of a server. They are accepted, with a new session or the one before, or refused, or
-closed without a CONNACK. There are messages of all QoS in both directions, PUBLISHes and PUBRELs that are sent again, subscriptions,
-Topic Aliases, what the peer announces, packets before the CONNACK, RELEASEs and RESTs; and packets are split over records anywhere.
-A judge must pass each log: `bench/fuzz.py` looks at that, and at what it says of these logs when they are changed.
+A log has one to four connections of a client or of a server. They are accepted, with a new session or the one before, or refused,
+or closed without a CONNACK. There are messages of all QoS in both directions, PUBLISHes and PUBRELs that are sent again,
+subscriptions, Topic Aliases, what the peer announces, packets before the CONNACK, RELEASEs and RESTs; and packets are split over
+records anywhere. A judge must pass each log: `bench/fuzz.py` looks at that, and at what it says of these logs when changed.
 
 usage: bench/honest_logs.py SEED NUMBER > FILE
 """
@@ -23,7 +23,8 @@ from session_logs import CLIENT, RELEASE, SERVER, number, packet, text
 IDENTIFIERS = range(1, 6)
 TOPICS = ("a", "b", "a/b", "a/b/c", "$x/y")
 # Filters, each with names that it matches.
-FILTERS = {"a": ("a",), "a/#": ("a", "a/b", "a/b/c"), "+": ("a", "b"), "#": ("a", "a/b", "x/y/z"), "a/+": ("a/b", "a/"), "$x/#": ("$x/y",)}
+FILTERS = {"a": ("a",), "a/#": ("a", "a/b", "a/b/c"), "+": ("a", "b"), "#": ("a", "a/b", "x/y/z"), "a/+": ("a/b", "a/")}
+FILTERS |= {"$x/#": ("$x/y",)}
 LONGEST = 64  # no PUBLISH or SUBSCRIBE with a payload of one byte is larger: the smallest Maximum Packet Size
 PAYLOADS = (0, 1, 1, 1, 1, 1, 1, 300)
 EXPIRY_0, EXPIRY_60 = b"\x11\0\0\0\0", b"\x11\0\0\0\x3c"  # Session Expiry Interval, in seconds
@@ -218,8 +219,8 @@ class Honest:
     # -- what happens on a connection
 
     def _step(self) -> None:
-        steps = {self._publish: 6, self._answer: 8, self._peer_answer: 9, self._peer_publish: 5, self._send_again: 4, self._request: 3}
-        steps |= {self._ping: 1, self._release: 2, self._rest: 2, self._auth: 0.3}
+        steps = {self._publish: 6, self._answer: 8, self._peer_answer: 9, self._peer_publish: 5, self._send_again: 4}
+        steps |= {self._request: 3, self._ping: 1, self._release: 2, self._rest: 2, self._auth: 0.3}
         self.draw.choices(list(steps), list(steps.values()))[0]()
 
     def _come_to_rest(self) -> None:

@@ -1,4 +1,4 @@
-"""Makes logs of all kinds for `bench/fuzz.py`, by a seed: sessions in which the tested end does right, and others; the same, changed;
+"""Makes logs of all kinds for `bench/fuzz.py`, by a seed: sessions in which the tested end does right, and others; the same, and
 worked logs, changed; and garbage, in records and in place of a header. The same seed and number always give the same bytes.
 """
 import random
@@ -13,9 +13,10 @@ from session_logs import CLIENT, RELEASE, number, packet
 from shortening import HEADER_SIZE, packets, records
 
 HONEST = "honest"
-MAGICS = (b"\xd4\xc3\xb2\xa1", b"\x4d\x3c\xb2\xa1", b"\x0a\x0d\x0d\x0a", b"\xa1\xb2\xc3\xd4", b"\x1f\x8b\x08")  # of captures, and gzip
+# What captures begin with, and what gzip compresses.
+MAGICS = (b"\xd4\xc3\xb2\xa1", b"\x4d\x3c\xb2\xa1", b"\x0a\x0d\x0d\x0a", b"\xa1\xb2\xc3\xd4", b"\x1f\x8b\x08")
 LENGTHS = (b"\0\0\0\0", b"\0\0\0\1", b"\0\0\0\2", b"\0\x0f\xff\xff", b"\0\x10\0\0", b"\0\x10\0\1", b"\xff\xff\xff\xff")
-# Remaining Lengths: the greatest that may be, of a packet of the bound's size and one byte more, over four bytes, longer than necessary.
+# Remaining Lengths: the greatest, those of a packet as large as the bound and of one byte more, over four bytes, needlessly long.
 REMAINING = (b"\xff\xff\xff\x7f", b"\xfb\xff\xff\x07", b"\xfc\xff\xff\x07", b"\xff\xff\xff\xff", b"\x80\0", b"\x85\x80\0")
 MARKS = (
     record(REST), record(REST), record(RELEASE, number(1)), record(RELEASE, number(2)), record(OPEN), record(CLOSE), record(SENT),
@@ -214,7 +215,7 @@ def garbage_header(draw: random.Random) -> bytes:
 
 
 def long_packet(draw: random.Random) -> bytes:
-    """A PUBLISH that is longer than what is read at once, in records that are cut anywhere, in a session that is changed a little."""
+    """A PUBLISH that is longer than what is read at once, in records that are cut anywhere, put into a session."""
     log = Honest(draw).log()
     header, parts = log[:HEADER_SIZE], list(records(log))
     length = draw.randint(8_000, 20_000)

@@ -1,4 +1,4 @@
-"""Takes a log apart, and makes one that shows something as short as it can be: first by its records, then by its packets, then by its
+"""Takes a log apart, and makes one that shows something as short as it can be: by its records, then by its packets, then by its
 bytes.
 """
 from collections.abc import Callable, Iterator, Sequence
@@ -76,7 +76,7 @@ class Tries:
 
 
 def fewest(parts: Sequence[Part], shows: Callable[[list[Part]], bool]) -> list[Part]:
-    """Parts without any one of which it isn't shown any more: large chunks are left out first, then smaller ones (delta debugging)."""
+    """Parts without any one of which it isn't shown any more. Large chunks are left out first: delta debugging."""
     kept, size = list(parts), max(1, len(parts) // 2)
     while kept:
         at, before = len(kept), len(kept)
@@ -92,7 +92,7 @@ def fewest(parts: Sequence[Part], shows: Callable[[list[Part]], bool]) -> list[P
 
 
 def by_packets(parts: list[bytes]) -> list[bytes]:
-    """The same streams with a packet in each record: it is where its last byte was, and the beginning of the next one goes with it."""
+    """The same streams with a packet in each record, which is where the packet's last byte was."""
     out: list[bytes] = []
     left = {SENT: b"", RECV: b""}
     for part in parts:
@@ -116,8 +116,8 @@ def is_complete(packet: bytes) -> bool:
 
 
 def smaller_bodies(part: bytes) -> Iterator[bytes]:
-    """The record without one byte of its body, with the packet's Remaining Length right if that is one byte; or with a byte that is 0
-    or 1."""
+    """The record without one byte of its body, with the packet's Remaining Length right if that is one byte; or with a byte that is
+    0 or 1."""
     body = part[HEAD_SIZE:]
     for at in reversed(range(len(body))):
         fewer = body[:at] + body[at + 1 :]

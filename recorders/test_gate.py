@@ -19,8 +19,10 @@ from testing import PATIENCE, TOP
 
 BUILT = "crates/mq_cli/out/mq_cli"
 RUN = "recorders run"
-FUZZED = "bench/fuzz.py --seed 1 --count 20000"
-NOT_FUZZED = "bench/fuzz.py isn't run"
+SUITE = f"bench/suite.py --check --program {BUILT}"
+FUZZED = ["bench/fuzz.py --self-test", "bench/fuzz.py --seed 1 --count 20000"]
+TRIED = [SUITE, *FUZZED]
+NOT_TRIED = "bench/suite.py and bench/fuzz.py aren't run"
 
 
 class Gate(unittest.TestCase):
@@ -38,12 +40,12 @@ class Gate(unittest.TestCase):
         path.chmod(0o755)
 
     def gate(
-        self, said: str, status: int, missing: str = "", recorders: int = 0, fuzz: int | None = 0
+        self, said: str, status: int, missing: str = "", recorders: int = 0, suite: int = 0, fuzz: int = 0, is_built: bool = True
     ) -> tuple[int, list[str]]:
-        """The status and the lines of the gate, where `rt ci`, the recorders' tests and the fuzzer say this and end so. Without a
-        status of the fuzzer no program is built."""
-        self.script("bench/fuzz.py", f'echo "bench/fuzz.py $*"\nexit {fuzz}')
-        if fuzz is not None:
+        """The status and the lines of the gate, where `rt ci`, the recorders' tests and the others say this and end so."""
+        for name, ends in (("suite", suite), ("fuzz", fuzz)):
+            self.script(f"bench/{name}.py", f'echo "bench/{name}.py $*"\nexit {ends}')
+        if is_built:
             self.script(BUILT, "exit 1")
         self.script("bin/rt", f'test "$*" = ci && pwd && echo "{said}"\nexit {status}')
         test = f'test "$1" = --missing && echo "{missing}" && exit 0\necho "recorders run"\nexit {recorders}'
@@ -60,38 +62,39 @@ class Gate(unittest.TestCase):
 
     def test_all_pass(self) -> None:
         said = "14 passed, 0 failed"
-        self.assertEqual(self.gate(said, 0), (0, [said, RUN, FUZZED, said]))
+        self.assertEqual(self.gate(said, 0), (0, [said, RUN, *TRIED, said]))
 
     def test_the_recorders_fail(self) -> None:
         said = "14 passed, 0 failed"
         for status in (1, 2, 130):
-            wanted = (1, [said, RUN, FUZZED, "14 passed, 1 failed"])
+            wanted = (1, [said, RUN, *TRIED, "14 passed, 1 failed"])
             self.assertEqual(self.gate(said, 0, recorders=status), wanted)
 
     def test_the_gate_fails(self) -> None:
         said = "12 passed, 2 failed"
-        self.assertEqual(self.gate(said, 1), (1, [said, RUN, FUZZED, said]))
-        self.assertEqual(self.gate(said, 2), (2, [said, RUN, FUZZED, said]))
-        self.assertEqual(self.gate(said, 1, recorders=1), (1, [said, RUN, FUZZED, "12 passed, 3 failed"]))
+        self.assertEqual(self.gate(said, 1), (1, [said, RUN, *TRIED, said]))
+        self.assertEqual(self.gate(said, 2), (2, [said, RUN, *TRIED, said]))
+        self.assertEqual(self.gate(said, 1, recorders=1), (1, [said, RUN, *TRIED, "12 passed, 3 failed"]))
 
-    def test_the_fuzzer_finds_something(self) -> None:
+    def test_the_program_is_wrong(self) -> None:
         said = "14 passed, 0 failed"
-        self.assertEqual(self.gate(said, 0, fuzz=1), (1, [said, RUN, FUZZED, "14 passed, 1 failed"]))
-        self.assertEqual(self.gate(said, 0, recorders=1, fuzz=1), (1, [said, RUN, FUZZED, "14 passed, 2 failed"]))
+        self.assertEqual(self.gate(said, 0, suite=1), (1, [said, RUN, *TRIED, "14 passed, 1 failed"]))
+        self.assertEqual(self.gate(said, 0, fuzz=1), (1, [said, RUN, *TRIED, "14 passed, 2 failed"]))
+        self.assertEqual(self.gate(said, 0, recorders=1, suite=1, fuzz=1), (1, [said, RUN, *TRIED, "14 passed, 4 failed"]))
 
     def test_no_program_is_built(self) -> None:
         said = "12 passed, 2 failed"
-        self.assertEqual(self.gate(said, 1, fuzz=None), (1, [said, RUN, f"{NOT_FUZZED}: there is no {BUILT}", said]))
+        self.assertEqual(self.gate(said, 1, is_built=False), (1, [said, RUN, f"{NOT_TRIED}: there is no {BUILT}", said]))
 
     def test_an_old_python(self) -> None:
         said, missing = "14 passed, 0 failed", "Python 3.11 or later, tshark"
-        lines = [f"recorders/test isn't run: not installed: {missing}", f"{NOT_FUZZED}: not installed: Python 3.11 or later"]
+        lines = [f"recorders/test isn't run: not installed: {missing}", f"{NOT_TRIED}: not installed: Python 3.11 or later"]
         self.assertEqual(self.gate(said, 0, missing=missing), (0, [said, *lines, said]))
 
     def test_programs_that_are_not_there(self) -> None:
         line = "recorders/test isn't run: not installed: tshark, mosquitto"
         for said, status in (("14 passed, 0 failed", 0), ("12 passed, 2 failed", 1)):
-            wanted = (status, [said, line, FUZZED, said])
+            wanted = (status, [said, line, *TRIED, said])
             self.assertEqual(self.gate(said, status, missing="tshark, mosquitto"), wanted)
 
     def test_a_gate_without_a_verdict(self) -> None:
@@ -102,7 +105,7 @@ class Gate(unittest.TestCase):
     def test_steps_say_how_long_it_has_run(self) -> None:
         said = "fn f: proved\nrt: mq_wire proved\n1 passed, 0 failed"
         verdict = "1 passed, 0 failed"
-        lines = ["fn f: proved", "rt: mq_wire proved (0 min)", verdict, RUN, FUZZED, verdict]
+        lines = ["fn f: proved", "rt: mq_wire proved (0 min)", verdict, RUN, *TRIED, verdict]
         self.assertEqual(self.gate(said, 0), (0, lines))
 
     def test_a_test_that_cannot_say_what_is_missing(self) -> None:

@@ -1,0 +1,242 @@
+#!/usr/bin/env python3
+"""Makes and checks the conformance suite, `examples/suite/`: for each of the 74 statements, for one end that it binds, a log that
+breaks it and one that keeps it, each with its exact report as text and as JSON.
+
+The logs and their reports are the rows of suite_rows.txt, in the form of the worked logs of mq_judge's tests: what the row shows,
+the log in words, and the report, with a semicolon between its lines. The reports were written from the statements' words before any
+program judged the logs. The two logs of a statement differ in one record, which is changed, added or missing.
+
+With --check (or without options) it compares the files with the rows, byte by byte, and the reports with reference.py's. With
+--program that program has to give the same reports for the files, as text and as JSON, with the right status. --write makes the
+files.
+
+usage: bench/suite.py [--check] [--program PATH]
+       bench/suite.py --write
+"""
+import argparse
+import subprocess
+import sys
+from collections.abc import Iterator
+from dataclasses import dataclass
+from pathlib import Path
+
+sys.dont_write_bytecode = True  # the repository stays as it is
+import check_rows
+import reference
+from check_forms import as_json
+from judges import STATUSES
+from shortening import HEAD_SIZE, HEADER_SIZE, KINDS, records
+
+HERE = Path(__file__).resolve().parent
+ROWS = HERE / "suite_rows.txt"
+FOLDER = HERE.parent / "examples/suite"
+BROKEN, KEPT = "broken", "kept"
+
+ABOUT = """\
+# The conformance suite
+
+148 logs for those who make a checker of MQTT 5.0 sessions, or a recorder: for each of the 74
+statements that `mqjudge` checks, a log in which the tested end breaks it and one in which it keeps
+it. The two differ in one record. Each log has its exact report beside it:
+
+| File | What it is |
+|---|---|
+| `CODE-broken.log`, `CODE-kept.log` | the logs, for example `S01-broken.log` |
+| `CODE-broken.report`, `CODE-kept.report` | the report as text: what `mqjudge check FILE` prints |
+| `CODE-broken.json`, `CODE-kept.json` | the same as one line of JSON: what `mqjudge check --json FILE` prints |
+
+Each broken log has one fault, that of its statement, and each kept log passes. All packets are
+valid, except for the one that breaks a statement on a packet's bytes (W01 to W21). The reports were
+written from the statements' words, not by a program. [docs/STATEMENTS.md](../../docs/STATEMENTS.md)
+has all statements, with their citations.
+
+## A log
+
+It has what one end of a session, the tested end, sent and received, in that end's order. First a
+header of 8 bytes: `4D 51 54 52` (`MQTR`), the version `01`, `00` if the tested end is a client and
+`01` if it is a server, `01` since releases are recorded, `00`. Then records: a kind (one byte), the
+length of the body (four bytes, the most significant first), and the body.
+
+| Kind | Name | Body |
+|---|---|---|
+| `01` | OPEN | none: a network connection begins |
+| `02` | SENT | bytes that the tested end sent; here always one packet |
+| `03` | RECV | bytes that it received |
+| `04` | CLOSE | none: the connection ended |
+| `05` | REST | none: the tested end has come to rest, and what it hasn't sent by now it never sends |
+| `06` | RELEASE | a Packet Identifier: the tested end passed on the QoS 2 message that it received under it |
+
+[docs/LOG_FORMAT.md](../../docs/LOG_FORMAT.md) has all of it.
+
+## A report
+
+A line for each fault, and a last line: `pass <n> events`, or `fail <m> faults <n> events`. A fault is
+`fault <position> <code> <citation> decided <position> record <number> offset <n>`: the event that
+breaks the statement (here each record is one event), the statement, where MQTT 5.0 says it, the
+event that shows the fault, the record of the first, and for W01 to W21 the offset in the packet,
+else `-`. In JSON the same has these names, and `-` is `null`.
+
+## The logs
+
+Records count from 1. One that is added is only in the broken log; one that is missing is only in
+the kept log, under this number. "It" is the tested end, or what was named before.
+
+| Code | Tested end | Record that differs | In the broken log; in the kept log |
+|---|---|---|---|
+"""
+
+
+@dataclass(frozen=True)
+class Row:
+    code: str
+    which: str  # BROKEN or KEPT
+    role: str
+    what: str
+    log: bytes
+    report: str
+
+    def files(self) -> dict[str, bytes]:
+        """What is in its files, by their names."""
+        name = f"{self.code}-{self.which}"
+        return {f"{name}.log": self.log, f"{name}.report": self.report.encode(), f"{name}.json": as_json(self.report).encode()}
+
+
+def rows() -> Iterator[Row]:
+    names = check_rows.packets()
+    for line in ROWS.read_text().splitlines():
+        head, words, report = (part.strip() for part in line.split("|"))
+        first, _, what = head.partition(": ")
+        code, which, role = first.replace(",", "").split()
+        yield Row(code, which, role, what, check_rows.log_of(words, names), check_rows.report_of(report))
+
+
+def pairs() -> list[tuple[Row, Row]]:
+    found = list(rows())
+    return list(zip(found[::2], found[1::2], strict=True))
+
+
+# ---- the record that differs
+
+
+def difference(broken: bytes, kept: bytes) -> tuple[int, str] | None:
+    """The number of the one record that differs, and how. None if more does, or nothing."""
+    ours, theirs = list(records(broken)), list(records(kept))
+    if broken[:HEADER_SIZE] != kept[:HEADER_SIZE]:
+        return None
+    if len(ours) == len(theirs):
+        changed = [n for n, (one, other) in enumerate(zip(ours, theirs), 1) if one != other]
+        return (changed[0], "changed") if len(changed) == 1 else None
+    longer, shorter, how = (ours, theirs, "added") if len(ours) > len(theirs) else (theirs, ours, "missing")
+    places = [n for n in range(len(longer), 0, -1) if longer[: n - 1] + longer[n:] == shorter]
+    return (places[0], how) if places else None
+
+
+def record_text(record: bytes) -> str:
+    return f"`{KINDS[record[0]]} {record[HEAD_SIZE:].hex(' ').upper()}".rstrip() + "`"
+
+
+def difference_text(broken: bytes, kept: bytes) -> str:
+    number, how = difference(broken, kept) or (0, "")
+    ours, theirs = list(records(broken)), list(records(kept))
+    match how:
+        case "changed":
+            return f"{number}: {record_text(ours[number - 1])}, kept {record_text(theirs[number - 1])}"
+        case "added":
+            return f"{number} is added: {record_text(ours[number - 1])}"
+    return f"{number} is missing: {record_text(theirs[number - 1])}"
+
+
+# ---- the files
+
+
+def index() -> str:
+    lines = []
+    for broken, kept in pairs():
+        what = f"{broken.what[0].upper()}{broken.what[1:]}; kept: {kept.what}"
+        lines.append(f"| {broken.code} | {broken.role} | {difference_text(broken.log, kept.log)} | {what} |\n")
+    return ABOUT + "".join(lines)
+
+
+def files() -> dict[str, bytes]:
+    """What the folder has, by the names of the files."""
+    found = {"README.md": index().encode()}
+    for row in rows():
+        found |= row.files()
+    return found
+
+
+def write() -> None:
+    FOLDER.mkdir(exist_ok=True)
+    for path in FOLDER.iterdir():
+        path.unlink()
+    for name, data in files().items():
+        (FOLDER / name).write_bytes(data)
+
+
+# ---- the checks: each gives what is wrong
+
+
+def wrong_pairs() -> Iterator[str]:
+    """All statements in order, each for an end that it binds. Its fault is the only one in the broken log; the kept log passes."""
+    wanted = [(code, which) for code in reference.CITATIONS for which in (BROKEN, KEPT)]
+    if [(row.code, row.which) for row in rows()] != wanted:
+        yield "the rows aren't those of all statements, in their order, broken and kept"
+    for broken, kept in pairs():
+        if broken.role != kept.role or broken.role not in reference.CITATIONS[broken.code]:
+            yield f"{broken.code}: {broken.role} and {kept.role} aren't one end that it binds"
+        if difference(broken.log, kept.log) is None:
+            yield f"{broken.code}: the logs don't differ in one record"
+        if f" {broken.code} " not in broken.report or "\nfail 1 faults" not in broken.report or not kept.report.startswith("pass"):
+            yield f"{broken.code}: its fault isn't the only one in the broken log, or the kept one doesn't pass"
+
+
+def wrong_reports() -> Iterator[str]:
+    for row in rows():
+        said = reference.report(row.log)
+        if said != row.report:
+            yield f"{row.code} {row.which}: wanted {row.report!r}, reference.py says {said!r}"
+        may_break = row.code[0] == "W" and row.which == BROKEN
+        for event in reference.Recording(row.log).events:
+            if isinstance(event.item, (reference.Bad, reference.Lost)) and not may_break:
+                yield f"{row.code} {row.which}: record {event.record} has no valid packet"
+
+
+def wrong_files() -> Iterator[str]:
+    wanted = files()
+    there = {path.name: path.read_bytes() for path in FOLDER.iterdir()} if FOLDER.is_dir() else {}
+    yield from (f"examples/suite/{name} is missing" for name in wanted.keys() - there.keys())
+    yield from (f"examples/suite/{name} isn't in the suite" for name in there.keys() - wanted.keys())
+    both = wanted.keys() & there.keys()
+    yield from (f"examples/suite/{name} isn't what the rows say" for name in both if wanted[name] != there[name])
+
+
+def wrong_answers(program: Path) -> Iterator[str]:
+    """The program has to say what is in the files."""
+    for row in rows():
+        path = FOLDER / f"{row.code}-{row.which}.log"
+        for words, kind in (([], "report"), (["--json"], "json")):
+            ran = subprocess.run([program, "check", *words, path], stdin=subprocess.DEVNULL, capture_output=True, check=False)
+            wanted = (STATUSES[row.report.splitlines()[-1].split()[0]], path.with_suffix(f".{kind}").read_bytes(), b"")
+            if (ran.returncode, ran.stdout, ran.stderr) != wanted:
+                yield f"{path.name}, {kind}: wanted {wanted}, {program} says {(ran.returncode, ran.stdout, ran.stderr)}"
+
+
+def main() -> int:
+    arguments = argparse.ArgumentParser(description="Makes and checks the conformance suite.")
+    arguments.add_argument("--check", action="store_true", help="check the files, which is done anyway")
+    arguments.add_argument("--write", action="store_true", help="make the files first")
+    arguments.add_argument("--program", type=Path, help="a program that has to give these reports too")
+    given = arguments.parse_args()
+    if given.write:
+        write()
+    wrong = [*wrong_pairs(), *wrong_reports(), *wrong_files()]
+    if given.program and not wrong:
+        wrong += wrong_answers(given.program.absolute())
+    for line in wrong:
+        print(f"{line:.1000}")
+    print(f"suite: {len(list(rows()))} logs, {len(wrong)} wrong")
+    return 1 if wrong else 0
+
+
+if __name__ == "__main__":
+    sys.exit(main())
