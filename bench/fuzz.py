@@ -96,7 +96,7 @@ class Programs:
         return [self.plain, PACKET, data.hex()] if task == PACKET else [self.plain, str(self.path)]
 
     def start(self, command: list[str]) -> subprocess.Popen[bytes]:
-        # (It is started the quick way: without closing files, of which none is open here.)
+        # (Python starts a process faster if it needn't close files, and none that is open here is inherited.)
         return subprocess.Popen(command, stdin=subprocess.DEVNULL, stdout=subprocess.PIPE, stderr=subprocess.PIPE, close_fds=False)
 
     def divergences(self, tasks: tuple[str, ...], log: bytes, packet: bytes = b"") -> Iterator[Divergence]:
@@ -104,8 +104,8 @@ class Programs:
         self.path.write_bytes(log)
         data = {task: packet if task == PACKET else log for task in tasks}
         running = {task: self.start(self.command(task, data[task])) for task in tasks}
-        shown = [task for task in tasks if self.plain and task in (PACKET, "show")]
-        plain = {task: self.start(self.plain_command(task, data[task])) for task in shown}
+        doubled = [task for task in tasks if self.plain and task in (PACKET, "show")]
+        plain = {task: self.start(self.plain_command(task, data[task])) for task in doubled}
         wanted = {task: by_reference(task, data[task]) for task in tasks}
         for task in tasks:
             got = answer_of(running[task])
@@ -134,16 +134,12 @@ def answer_of(process: subprocess.Popen[bytes]) -> Answer:
 @dataclass
 class Tally:
     logs: int = 0
-    found: int = 0
-    files: list[Path] = field(default_factory=list)
-    kinds: Counter[str] = field(default_factory=Counter)
+    files: list[Path] = field(default_factory=list)  # of the divergences
     verdicts: Counter[str] = field(default_factory=Counter)
 
     def add(self, other: "Tally") -> None:
         self.logs += other.logs
-        self.found += other.found
         self.files += other.files
-        self.kinds += other.kinds
         self.verdicts += other.verdicts
 
 
@@ -166,22 +162,27 @@ class Plan:
 def work(plan: Plan) -> Tally:
     tally, programs = Tally(), Programs(plan.program, plan.plain, plan.folder)
     for number in range(plan.first, plan.end, plan.step):
-        if time.monotonic() > plan.until or tally.found >= plan.most:
+        if time.monotonic() > plan.until or len(tally.files) >= plan.most:
             break
         made = hostile_logs.made(plan.seed, number)
         tally.logs += 1
-        tally.kinds[made.kind] += 1
         found = list(programs.divergences((*LOG_TASKS, PACKET), made.log, made.packet))
         verdict = report_of(made.log).splitlines()[-1].split()[0]
         tally.verdicts[verdict] += 1
         if found:
-            tally.found += 1
             tally.files.append(tell(plan, programs, number, made, found))
         elif made.kind == hostile_logs.HONEST and verdict != "pass":
-            tally.found += 1
-            said = f"the tested end does right, and it doesn't pass: {words(made.log):.2000}"
-            print(f"seed {plan.seed}, log {number}: {said}", flush=True)
+            tally.files.append(tell_unpassed(plan, number, made.log))
     return tally
+
+
+def tell_unpassed(plan: Plan, number: int, log: bytes) -> Path:
+    """Prints a log that should pass, and writes it to a file."""
+    path = plan.out / f"{plan.seed}-{number}.log"
+    path.write_bytes(log)
+    lines = [f"seed {plan.seed}, log {number}: the tested end does right, and the log doesn't pass", f"  {words(log):.2000}", f"  in {path}"]
+    print("\n".join([*lines, *(f"  {line}" for line in report_of(log).splitlines())]), flush=True)
+    return path
 
 
 def tell(plan: Plan, programs: Programs, number: int, made: Made, found: list[Divergence]) -> Path:
@@ -194,7 +195,7 @@ def tell(plan: Plan, programs: Programs, number: int, made: Made, found: list[Di
     lines = [f"seed {plan.seed}, log {number} ({made.kind}): {'; '.join(f'{one.task}, by {one.by}' for one in found)}"]
     lines.append(f"  shortened: {least.hex() if task == PACKET else words(least):.2000}")
     lines.append(f"  in {path}")
-    lines += [f"  {task}, {who}: {text}" for who, text in ((first.by, shown(again.wanted)), ("the program", shown(again.got)))]
+    lines += [f"  {task}, {who}: {answer_text(said)}" for who, said in ((first.by, again.wanted), ("the program", again.got))]
     print("\n".join(lines), flush=True)
     return path
 
@@ -207,9 +208,9 @@ def shortened(programs: Programs, first: Divergence, made: Made) -> bytes:
     return shortest_packet(made.packet, differs) if first.task == PACKET else shortest(made.log, differs)
 
 
-def shown(answer: Answer) -> str:
-    status, output, errors = answer
-    return f"status {status}: {'; '.join(output.splitlines()):.1500}{' | ' if errors else ''}{'; '.join(errors.splitlines()):.1500}"
+def answer_text(answer: Answer) -> str:
+    status, *texts = answer
+    return " | ".join([f"status {status}", *(f"{'; '.join(text.splitlines()):.1500}" for text in texts if text)])
 
 
 # ---- the run
@@ -295,8 +296,8 @@ def main() -> int:
     begun = time.monotonic()
     tally = run(given)
     verdicts = ", ".join(f"{count} {word}" for word, count in sorted(tally.verdicts.items()))
-    print(f"seed {given.seed}: {tally.logs} logs in {time.monotonic() - begun:.0f} s ({verdicts}), {tally.found} divergences")
-    return 1 if tally.found else 0
+    print(f"seed {given.seed}: {tally.logs} logs in {time.monotonic() - begun:.0f} s ({verdicts}), {len(tally.files)} divergences")
+    return 1 if tally.files else 0
 
 
 if __name__ == "__main__":
