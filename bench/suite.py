@@ -78,8 +78,9 @@ else `-`. In JSON the same has these names, and `-` is `null`.
 
 ## The logs
 
-Records count from 1. One that is added is only in the broken log; one that is missing is only in
-the kept log, under this number. "It" is the tested end, or what was named before.
+Records count from 1. One that is changed is shown as it is in both logs; one that is added is only
+in the broken log; one that is missing is only in the kept log, under this number. "It" is the tested
+end, or what was named before.
 
 | Code | Tested end | Record that differs | In the broken log; in the kept log |
 |---|---|---|---|
