@@ -27,7 +27,7 @@ from collections import Counter
 from collections.abc import Iterator
 from concurrent.futures import ProcessPoolExecutor
 from contextlib import redirect_stdout
-from dataclasses import dataclass, field
+from dataclasses import dataclass, field, replace
 from functools import lru_cache
 from pathlib import Path
 
@@ -43,7 +43,8 @@ from run import build_baseline
 from shortening import shortest, shortest_packet, words
 
 PATIENCE = 60  # seconds that a program has for one log
-MOST_FOUND = 3  # divergences after which a worker ends
+MOST_FOUND = 3  # divergences after which a worker ends, and all of them soon after
+PORTION = 10_000  # logs after which it says how many there were
 FOUND = Path(tempfile.gettempdir()) / "mqjudge-fuzz"
 LOG_TASKS = ("check", "check --json", "show")
 PACKET = "packet"
@@ -145,12 +146,10 @@ class Tally:
 
 @dataclass(frozen=True)
 class Plan:
-    """What a worker does: the logs of a seed from one number on, in steps."""
+    """What a worker does."""
 
     seed: int
-    first: int
-    step: int
-    end: int
+    numbers: range  # of the logs
     until: float  # the time at which it ends
     program: Path
     plain: Path | None
@@ -161,7 +160,7 @@ class Plan:
 
 def work(plan: Plan) -> Tally:
     tally, programs = Tally(), Programs(plan.program, plan.plain, plan.folder)
-    for number in range(plan.first, plan.end, plan.step):
+    for number in plan.numbers:
         if time.monotonic() > plan.until or len(tally.files) >= plan.most:
             break
         made = hostile_logs.made(plan.seed, number)
@@ -227,16 +226,18 @@ def run(given: argparse.Namespace) -> Tally:
     """Tries all logs, by as many workers as there are jobs."""
     numbers = range(given.count) if given.only is None else range(given.only, given.only + 1)
     until = time.monotonic() + given.seconds if given.seconds is not None else float("inf")
-    jobs, total = max(1, min(given.jobs, len(numbers))), Tally()
+    total = Tally()
     given.out.mkdir(parents=True, exist_ok=True)
-    with tempfile.TemporaryDirectory(prefix="mqjudge-fuzz-") as name:
-        folder = Path(name)
-        plain = plain_program(folder)
-        common = {"step": jobs, "end": numbers.stop, "until": until, "plain": plain, "folder": folder}
-        plans = [Plan(seed=given.seed, first=numbers[n], program=given.program, out=given.out, **common) for n in range(jobs)]
-        with ProcessPoolExecutor(jobs) as pool:
-            for tally in pool.map(work, plans):
+    with tempfile.TemporaryDirectory(prefix="mqjudge-fuzz-") as name, ProcessPoolExecutor(given.jobs) as pool:
+        plan = Plan(given.seed, numbers, until, given.program, plain_program(Path(name)), Path(name), given.out)
+        for begin in range(0, len(numbers), PORTION):
+            portion = numbers[begin : begin + PORTION]
+            for tally in pool.map(work, (replace(plan, numbers=portion[n :: given.jobs]) for n in range(given.jobs))):
                 total.add(tally)
+            if time.monotonic() > until or len(total.files) >= MOST_FOUND:
+                break
+            if portion.stop < numbers.stop:
+                print(f"{total.logs} logs, {len(total.files)} divergences so far", file=sys.stderr, flush=True)
     return total
 
 
@@ -267,7 +268,7 @@ def self_test(program: Path, seed: int) -> int:
         folder = Path(name)
         for what, (flaw, most) in FLAWS.items():
             wrong = wrong_program(program, folder / "wrong", flaw)
-            tally = work(Plan(seed, 0, 1, 2_000, float("inf"), wrong, None, folder, folder, most=1))
+            tally = work(Plan(seed, range(2_000), float("inf"), wrong, None, folder, folder, most=1))
             size = tally.files[0].stat().st_size if tally.files else 0
             is_found = 0 < size <= most and str(tally.files[0]) in said.getvalue()
             not_found += not is_found
@@ -284,7 +285,8 @@ def main() -> int:
     arguments.add_argument("--seconds", type=float, help="after which it ends")
     arguments.add_argument("--only", type=int, metavar="NUMBER", help="the log of this number alone")
     arguments.add_argument("--program", type=Path, default=BUILT)
-    arguments.add_argument("--jobs", type=int, default=len(os.sched_getaffinity(0)), help="workers (default: one a processor)")
+    jobs = len(os.sched_getaffinity(0))
+    arguments.add_argument("--jobs", type=int, default=jobs, help="how many logs at once (default: one a processor)")
     arguments.add_argument("--out", type=Path, default=FOUND, help=f"the folder of what is found (default {FOUND})")
     arguments.add_argument("--self-test", action="store_true", help="look whether flaws are found")
     given = arguments.parse_args()
