@@ -6,9 +6,10 @@ from collections.abc import Callable
 from dataclasses import dataclass
 
 import check_rows
+import showing
 from honest_logs import Honest
 from make_log import CLOSE, CONNACK, CONNECT, OPEN, RECV, REST, SENT, record
-from random_logs import EXAMPLES, TELLING, Session, change, streams
+from random_logs import EXAMPLES, TELLING, Session, change, crowded, streams
 from session_logs import CLIENT, RELEASE, number, packet
 from shortening import HEADER_SIZE, packets, records
 
@@ -25,6 +26,9 @@ MARKS = (
 WORKED = [row.log for row in check_rows.rows() if len(row.log) < 1_000]
 # Packets of all types, and those of the worked logs, which break and keep each statement.
 PACKETS = sorted({*EXAMPLES, *(one for log in WORKED for one in packets(log))})
+BROKEN = [one for one in PACKETS if showing.packet(one)[1].startswith("BAD")]
+DISCONNECTS = [one for one in PACKETS if one[0] == 0xE0]
+CROWDED = [log for _, log, _ in crowded()]
 Parts = list[bytes]
 
 
@@ -82,10 +86,16 @@ def put_mark(draw: random.Random, parts: Parts) -> None:
 
 
 def put_packet(draw: random.Random, parts: Parts) -> None:
-    said = bytearray(draw.choice(PACKETS))
+    said = bytearray(draw.choice(PACKETS if draw.random() < 0.5 else BROKEN))
     if draw.random() < 0.3:
         change(draw, said)
     parts.insert(draw.randrange(len(parts) + 1), record(draw.choice((SENT, RECV)), bytes(said)))
+
+
+def put_disconnect(draw: random.Random, parts: Parts) -> None:
+    """Before a CLOSE, if there is one: perhaps after another DISCONNECT."""
+    ends = [n for n, part in enumerate(parts) if part[0] == CLOSE]
+    parts.insert(draw.choice(ends or [len(parts)]), record(draw.choice((SENT, RECV)), draw.choice(DISCONNECTS)))
 
 
 def turn(draw: random.Random, parts: Parts) -> None:
@@ -160,8 +170,8 @@ def cut(draw: random.Random, parts: Parts) -> None:
 
 
 GENTLE: tuple[Callable[[random.Random, Parts], None], ...] = (
-    drop, drop, drop, double, double, move, swap, swap, swap_alike, swap_alike, put_mark, put_packet, put_packet, turn, cut_record,
-    change_packet, change_packet, change_identifier, change_identifier, change_flags,
+    drop, drop, drop, double, double, move, swap, swap, swap_alike, swap_alike, put_mark, put_packet, put_packet, put_packet,
+    put_disconnect, turn, cut_record, change_packet, change_packet, change_identifier, change_identifier, change_flags,
 )
 ROUGH = (change_body, put_remaining_length, put_length, cut)
 
@@ -243,6 +253,7 @@ KINDS: dict[str, tuple[Maker, int]] = {
     "garbage in records": (garbage_in_records, 4),
     "garbage header": (garbage_header, 3),
     "long packet": (long_packet, 0.2),
+    "many events before a CONNACK": (lambda draw: draw.choice(CROWDED), 0.1),
 }
 
 
