@@ -179,8 +179,9 @@ def tell_unpassed(plan: Plan, number: int, log: bytes) -> Path:
     """Prints a log that should pass, and writes it to a file."""
     path = plan.out / f"{plan.seed}-{number}.log"
     path.write_bytes(log)
-    lines = [f"seed {plan.seed}, log {number}: the tested end does right, and the log doesn't pass", f"  {words(log):.2000}", f"  in {path}"]
-    print("\n".join([*lines, *(f"  {line}" for line in report_of(log).splitlines())]), flush=True)
+    lines = [f"{words(log):.2000}", f"in {path}", *report_of(log).splitlines()]
+    said = f"seed {plan.seed}, log {number}: the tested end does right, and the log doesn't pass"
+    print("\n  ".join([said, *lines]), flush=True)
     return path
 
 
