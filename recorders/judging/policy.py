@@ -39,8 +39,10 @@ class Policy:
             known = self.expected.get((show(verdict.path), code), 0)
             if code in self.ignore:
                 verdict.ignored.append(f"{code} {counted(count, 'fault')} (--ignore)")
+                verdict.overlooked[code] = "--ignore"
             elif count <= known:
                 verdict.ignored.append(f"{code} {counted(count, 'fault')} (--expect)")
+                verdict.overlooked[code] = "--expect"
             else:
                 if known:
                     verdict.notes.append(f"{code}: {count} faults, {known} of them expected")

@@ -12,7 +12,8 @@ from pathlib import Path
 from typing import IO, BinaryIO
 
 from judging.places import what_else
-from judging.verdict import FAILED, FAULTS, REFUSED, Verdict
+from judging.story import Teller, choose, end_of
+from judging.verdict import FAILED, FAULTS, REFUSED, TOO_SHORT, Verdict
 
 STATUSES = (0, 1, 2, 4)
 CUT = "refused 10 Cut "
@@ -21,15 +22,21 @@ HINT = "mqjudge: it is "  # what the program says beside that of some files: `wh
 HEADER, RECORD_HEADER = 8, 5  # sizes in bytes (docs/LOG_FORMAT.md)
 CHUNK = 1 << 20
 AROUND = 2  # events before and after a fault that are shown
+IDENTIFIER = re.compile(
+    r"\d+ record \d+(?: moment \d+)? (?:(?:SENT|RECV) \S+ size \d+(?: qos \d dup \d)? id|RELEASE) (\d+)"
+)
 FAULT_LINE = re.compile(r"\s+fault (\S+) \S+ (.*?)(?: \(decided at event \d+\))?(?: \(offset \d+\))?")
 
 
 class Judge:
     """Has logs judged by a program, and what it says weighed by a policy."""
 
-    def __init__(self, program: str, most: int, weigh: Callable[[Verdict], None]) -> None:
-        """Of each log at most so many lines are kept."""
+    def __init__(
+        self, program: str, most: int, weigh: Callable[[Verdict], None], keeps: bool = False, tells: bool = False
+    ) -> None:
+        """Of each log at most so many lines are kept; and each fault, and a story of what happened, if it is wanted."""
         self._program, self._most, self._weigh = program, most, weigh
+        self._keeps, self._tells = keeps, tells
         self._running: set[subprocess.Popen[bytes]] = set()
         self._lock = threading.Lock()  # for what runs
         self.is_stopped = False
@@ -71,52 +78,91 @@ class Judge:
         self._weigh(verdict)
         if verdict.status == REFUSED and verdict.last.startswith(NO_LOG) and (note := what_else(log)):
             verdict.notes.append(note)
-        if verdict.status == FAULTS and verdict.positions:
-            self._explain(verdict, log)
+        identifiers: dict[int, int] = {}
+        if (verdict.status == FAULTS and verdict.positions) or (self._tells and verdict.found):
+            identifiers = self._explain(verdict, log)
+        if self._keeps:
+            verdict.end = end_of_log(log)
+        if self._tells and (verdict.found or verdict.status in (REFUSED, TOO_SHORT)):
+            self._tell(verdict, log, identifiers)
 
     def _ask(self, path: Path, log: Path) -> Verdict:
         """What the program says of a log, under the name that it has. It has failed where it ends oddly."""
-        verdict = Verdict(path)
+        verdict = Verdict(path, keeps=self._keeps)
+
+        def take(line: str) -> None:
+            if not line.startswith(HINT):
+                verdict.take(line, self._most)
+
         try:
-            child = self._start("check", os.path.abspath(log), errors=subprocess.STDOUT)
-            with child:
-                assert child.stdout is not None
-                for raw in child.stdout:
-                    line = raw.decode("utf-8", "replace").rstrip("\r\n")
-                    if not line.startswith(HINT):
-                        verdict.take(line, self._most)
-            self._ended(child)
-            verdict.status = child.returncode
+            verdict.status = self._read(take, "check", os.path.abspath(log), errors=subprocess.STDOUT)
         except OSError as error:
             verdict.take(str(error), self._most)
         if verdict.status not in STATUSES or (verdict.status == FAULTS) != verdict.last.startswith("fail "):
             verdict.take(f"the program ended with status {verdict.status}", len(verdict.first) + 1)
             verdict.status = FAILED
+            verdict.found.clear()
         return verdict
 
-    def _explain(self, verdict: Verdict, log: Path) -> None:
-        """Asks what happened around the first fault of each code. A program that can't say it explains nothing."""
+    def _explain(self, verdict: Verdict, log: Path) -> dict[int, int]:
+        """Asks what happened around the first fault of each code. A program that can't say it explains nothing.
+
+        It gives the Packet Identifiers of the events at fault, by their positions.
+        """
         wanted = {code: verdict.positions[code] for code in sorted(verdict.positions)}
         excerpts: dict[str, list[str]] = {code: [] for code in wanted}
+        at_fault = {fault.position for fault in verdict.found} if self._tells else set()
+        identifiers: dict[int, int] = {}
         at = 0
+
+        def take(line: str) -> None:
+            nonlocal at
+            number = line.partition(" ")[0]
+            at = int(number) if number.isdecimal() else at
+            learn_sentence(verdict, line)
+            if at in at_fault and (identifier := IDENTIFIER.match(line)):
+                identifiers[at] = int(identifier[1])
+            for code, position in wanted.items():
+                if at and abs(at - position) <= AROUND and line != "..":
+                    excerpts[code].append(line)
+
         try:
-            words = ("show", "--faults", "--around", str(AROUND), os.path.abspath(log))
-            child = self._start(*words, errors=subprocess.DEVNULL)
-            with child:
-                assert child.stdout is not None
-                for raw in child.stdout:
-                    line = raw.decode("utf-8", "replace").rstrip("\r\n")
-                    number = line.partition(" ")[0]
-                    at = int(number) if number.isdecimal() else at
-                    learn_sentence(verdict, line)
-                    for code, position in wanted.items():
-                        if at and abs(at - position) <= AROUND and line != "..":
-                            excerpts[code].append(line)
-            self._ended(child)
+            status = self._read(take, "show", "--faults", "--around", str(AROUND), os.path.abspath(log))
+        except OSError:
+            return {}
+        if status == 0:
+            verdict.excerpts = excerpts
+        return identifiers
+
+    def _tell(self, verdict: Verdict, log: Path, identifiers: dict[int, int]) -> None:
+        """Asks what happened, for the faults that are told of."""
+        told = choose(verdict.found, verdict.overlooked)
+        places = {fault.position for fault in told}
+        teller = Teller(verdict.end, told, {place: identifiers[place] for place in places & identifiers.keys()})
+        try:
+            self._read(teller.take, "show", "--long", os.path.abspath(log))
         except OSError:
             return
-        if child.returncode == 0:
-            verdict.excerpts = excerpts
+        verdict.story = teller.story()
+
+    def ask(self, *words: str) -> str:
+        """What the program prints for some words; nothing where it can't be run."""
+        lines: list[str] = []
+        try:
+            self._read(lines.append, *words)
+        except OSError:
+            return ""
+        return "".join(f"{line}\n" for line in lines)
+
+    def _read(self, take: Callable[[str], None], *words: str, errors: int = subprocess.DEVNULL) -> int:
+        """Runs the program, and has each line that it prints taken in. It gives the status."""
+        child = self._start(*words, errors=errors)
+        with child:
+            assert child.stdout is not None
+            for raw in child.stdout:
+                take(raw.decode("utf-8", "replace").rstrip("\r\n"))
+        self._ended(child)
+        return child.returncode
 
     def _start(self, *words: str, errors: int) -> subprocess.Popen[bytes]:
         with self._lock:
@@ -130,6 +176,15 @@ class Judge:
     def _ended(self, child: subprocess.Popen[bytes]) -> None:
         with self._lock:
             self._running.discard(child)
+
+
+def end_of_log(log: Path) -> str:
+    """Which end a log is about, by its header; empty where it has none."""
+    try:
+        with log.open("rb") as file:
+            return end_of(file.read(HEADER))
+    except OSError:
+        return ""
 
 
 def learn_sentence(verdict: Verdict, line: str) -> None:

@@ -7,6 +7,8 @@ from collections import Counter
 from dataclasses import dataclass, field
 from pathlib import Path
 
+from judging.story import Fault, Story
+
 HERE = Path(__file__).resolve().parent
 sys.path.insert(0, str(HERE.parent))
 from arguments import counted  # noqa: E402
@@ -15,12 +17,18 @@ PASSED, FAULTS, REFUSED, FAILED = 0, 1, 2, 4
 TOO_SHORT = 5  # no status of the program: a pass of too few events to say anything
 WORDS = {PASSED: "pass", FAULTS: "fail", REFUSED: "refused", FAILED: "failed", TOO_SHORT: "too short"}
 SHORT = 3  # events that a connection takes to open: OPEN, CONNECT, CONNACK
+FAULT = re.compile(r"fault (\d+) (\S+) (\S+) decided (\d+) record (\d+) offset (\d+|-)")
 ENDING = re.compile(r"(?:pass|fail \d+ faults) (\d+) events")
 
 
 def show(text: object) -> str:
     """A text that can be printed, whatever a file's name holds."""
     return str(text).encode("utf-8", "replace").decode()
+
+
+def fault_of(found: re.Match[str]) -> Fault:
+    position, code, citation, decided, record, offset = found.groups()
+    return Fault(int(position), code, citation, int(decided), int(record), None if offset == "-" else int(offset))
 
 
 @dataclass
@@ -40,6 +48,11 @@ class Verdict:
     notes: list[str] = field(default_factory=list)  # what else there is to say of it
     sentences: dict[str, str] = field(default_factory=dict)  # what each code says
     excerpts: dict[str, list[str]] = field(default_factory=dict)  # what happened around each code's first fault
+    keeps: bool = False  # whether each fault is kept, for a report that names all
+    found: list[Fault] = field(default_factory=list)  # all faults, where they are kept
+    overlooked: dict[str, str] = field(default_factory=dict)  # the codes that are ignored, and by which option
+    end: str = ""  # which end is tested, where that is to be shown
+    story: Story | None = None  # what happened, where it is to be shown
 
     def take(self, line: str, most: int) -> None:
         """Takes in the program's next line. No more than `most` of them are kept, and the last one."""
@@ -48,6 +61,8 @@ class Verdict:
             self.faults[" ".join(words[2:4])] += 1
             if words[1].isdigit():
                 self.positions.setdefault(words[2], int(words[1]))
+            if self.keeps and (fault := FAULT.fullmatch(line)):
+                self.found.append(fault_of(fault))
         if len(self.first) < most:
             self.first.append(line)
         self.last, self.count = line, self.count + 1
