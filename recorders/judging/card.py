@@ -1,0 +1,207 @@
+"""What is said of a fault beside its chart: the rule, the packet, and what to change."""
+from __future__ import annotations
+
+from html import escape
+
+from judging.chart import FULL, LEAN, PEERS, SHORT, WORDS, Drawing, fate_of, label
+from judging.events import Bytes, Event, Text
+from judging.explain import Explanation
+from judging.markup import counted, escaped, isolated, number
+from judging.story import Fault, Scene
+
+FIELDS = 40  # of a packet that are shown
+MATES, LEAN_MATES = 30, 6  # events under the same Packet Identifier that are listed
+BYTES_OF_A_LINE = 8
+SIZES = {"size", "payload", "password", "correlation-data", "authentication-data", "will-payload",
+         "will-correlation-data"}  # fields of which only the size in bytes is printed
+LIMITS = {  # what the peer announces: its field, its name, what holds without it, and the field of a packet to compare
+    "S07": ("receive-maximum", "Receive Maximum", "65,535 holds", ""),
+    "C14": ("maximum-packet-size", "Maximum Packet Size", "there is no limit", "size"),
+    "C15": ("topic-alias-maximum", "Topic Alias Maximum", "0 holds", "topic-alias"),
+    "C17": ("maximum-qos", "Maximum QoS", "2 holds", "qos"),
+}
+
+
+class Cards:
+    """The cards of a drawing's faults."""
+
+    def __init__(self, drawing: Drawing, explanations: dict[str, Explanation]) -> None:
+        self._drawing, self._story, self._explanations = drawing, drawing.story, explanations
+        self._detail = drawing.detail
+        self._drawn = {scene.event.position for scene in drawing.scenes}
+        self._advised: set[str] = set()  # codes whose advice is already beside a fault of this log
+
+    def card(self, fault: Fault) -> str:
+        """A fault with all that there is to say of it."""
+        scene = self._story.scenes.get(fault.position)
+        way = self._drawing.overlooked.get(fault.code)
+        name = self._drawing.name(fault)
+        explanation = self._explanations.get(fault.code)
+        facts = self._facts(fault, scene)
+        announcer = self._announcer(fault, scene)
+        shown = f" data-a={self._drawing.place(announcer.position)}" if announcer else ""
+        decided = f" data-d={self._drawing.place(fault.decided)}" if fault.decided != fault.position else ""
+        kind = " class=ignored" if way else ""
+        return (
+            f"<article id={name}{kind}{shown}{decided}>"
+            f"<h4>{self._link(fault.position)} <a href=#r-{fault.code}>{fault.code}</a>"
+            f" <i>{escaped(fault.citation)}</i>{ignored_by(way)}</h4>"
+            f"<p>{escaped(explanation.sentence if explanation else '')}"
+            f'<dl>{"".join(f"<dt>{term}<dd>{text}" for term, text in facts if text)}</dl>'
+            f"{self._advice(fault.code, explanation)}</article>"
+        )
+
+    def _link(self, position: int, words: str = "") -> str:
+        text = words or f"Event {position}"
+        return f"<a href=#{self._drawing.place(position)}>{text}</a>" if position in self._drawn else text
+
+    def _facts(self, fault: Fault, scene: Scene | None) -> list[tuple[str, str]]:
+        if scene is None:
+            return [("Where", f"record {fault.record}")]
+        event = scene.event
+        offset = f", offset {fault.offset}" if fault.offset is not None else ""
+        facts = [("What", self._what(scene) + offset)]
+        if self._detail == FULL:
+            facts.append(("Fields", fields(event)))
+        elif self._detail == LEAN and event.fields:
+            facts = [("What", f"{facts[0][1]}; {short_fields(event)}")]
+        return [
+            *facts,
+            ("Time", time_in_words(event)),
+            ("Decided", self._decided(fault)),
+            ("Limit", self._limit(fault, scene)),
+            ("Bytes", bytes_shown(event.bytes, fault.offset) if event.bytes else ""),
+            (f"Identifier {event.identifier}", self._mates(scene) if self._detail > SHORT else ""),
+        ]
+
+    def _what(self, scene: Scene) -> str:
+        event, connection = scene.event, scene.connection
+        where = f"connection {connection.number}" if connection else "between connections"
+        if connection and self._detail == FULL:
+            where += f" ({escape(fate_of(connection))})"
+        what = event.name if self._detail == LEAN and event.fields else label(event)
+        return f"{WORDS.get(event.kind, '')} {escape(what)}, record {event.record}, {where}".strip()
+
+    def _decided(self, fault: Fault) -> str:
+        """Which later event shows a fault."""
+        if fault.decided == fault.position:
+            return ""
+        scene = self._story.scenes.get(fault.decided)
+        what = f": {escape(label(scene.event))}" if scene else ""
+        time = f", {time_in_words(scene.event)}" if scene and scene.event.moment is not None else ""
+        link = self._link(fault.decided, f"event {fault.decided}")
+        return f"{link}{what}{time}. Only this later event shows the fault"
+
+    def _limit(self, fault: Fault, scene: Scene) -> str:
+        """The limit that the peer announced, and the event that announced it."""
+        announcer = self._announcer(fault, scene)
+        if announcer is None:
+            return ""
+        field, name, default, own = LIMITS[fault.code]
+        link = self._link(announcer.position, f"event {announcer.position}")
+        value = announcer.field(field)
+        text = f"{name} isn't in {link} ({announcer.name}), so {default}"
+        if value:
+            text = f"<b>{name} {number(int(value))}</b>, announced by {link} ({announcer.name})"
+        elif announcer.is_cut:
+            text = f"{name} may be in {link} ({announcer.name}), which is too long to be shown"
+        mine = scene.event.field(own) if own else None
+        return f"{text}; this packet: <b>{number(int(mine))}</b>" if mine and mine.isdecimal() else text
+
+    def _announcer(self, fault: Fault, scene: Scene | None) -> Event | None:
+        """The event in which the peer announced the limit that a fault is about, or could have announced it."""
+        connection = scene.connection if scene and fault.code in LIMITS else None
+        return connection.announcer(self._story.end) if connection else None
+
+    def _mates(self, scene: Scene) -> str:
+        """The events under the same Packet Identifier in the session: first those of the end that chose it."""
+        mates = self._story.mates.get(scene.key or "", [])
+        place = scene.event.position
+        left = self._story.left.get(scene.key or "", 0)
+        most = MATES if self._detail == FULL else LEAN_MATES
+        nearest = sorted(mates, key=lambda mate: abs(mate.event.position - place))[:most]
+        shown = sorted(nearest, key=lambda mate: mate.event.position)
+        own = [mate for mate in shown if mate.event.is_own == scene.event.is_own]
+        other = [mate for mate in shown if mate.event.is_own != scene.event.is_own]
+        parts = [self._listed(own, place)]
+        if other:
+            end = self._story.end
+            chooser = PEERS.get(end, "peer") if scene.event.is_own else end
+            parts.append(f"chosen by the {chooser}: {self._listed(other, place)}")
+        if rest := len(mates) - len(shown) + left:
+            parts.append(counted(rest, "event") + " more" + (f", {number(left)} of them not drawn" if left else ""))
+        return "; ".join(part for part in parts if part)
+
+    def _listed(self, mates: list[Scene], place: int) -> str:
+        words = []
+        for mate in mates:
+            event = mate.event
+            text = f"{event.position} {event.name or event.kind}{' DUP' if event.field('dup') == '1' else ''}"
+            words.append(f"<b>{text}</b>" if event.position == place else self._link(event.position, text))
+        return ", ".join(words)
+
+    def _advice(self, code: str, explanation: Explanation | None) -> str:
+        """What usually breaks a rule, and what to change: in full at the first fault of a code, else by a link."""
+        if explanation is None or not explanation.parts:
+            return ""
+        if self._detail < FULL or code in self._advised:
+            words = "What usually breaks it, and what to change" if self._detail == FULL else ""  # else by the style
+            return f"<a class=more href=#r-{code}>{words}</a>"
+        self._advised.add(code)
+        return f"<div class=advice>{advice(explanation, self._story.end)}</div>"
+
+
+def advice(explanation: Explanation, end: str) -> str:
+    """Why there is a rule, and what to change in an end."""
+    words = explanation.advice(end)
+    heading = f"What usually breaks it in a {end}, and what to change"
+    found = [(heading, words)] if words else [(name, text) for name, text in explanation.advices]
+    found += [(name, explanation.parts[name]) for name in ("Why", "See") if name in explanation.parts]
+    return "".join(f"<p><b>{name}:</b> {escaped(text)}</p>" for name, text in found)
+
+
+def ignored_by(way: str | None) -> str:
+    return f' <span class="way">ignored by {way}</span>' if way else ""
+
+
+def time_in_words(event: Event) -> str:
+    if event.moment is None:
+        return ""
+    return f"{event.time:%Y-%m-%d %H:%M:%S.%f} UTC" if event.time else f"moment {event.moment}"
+
+
+def short_fields(event: Event) -> str:
+    """The fields of a packet in few bytes."""
+    return "; ".join(f"{name} {' = '.join(map(value_shown, values))}" for name, values in event.fields[:FIELDS])
+
+
+def fields(event: Event) -> str:
+    """The fields of a packet. Of some only the size is printed."""
+    words = []
+    for name, values in event.fields[:FIELDS]:
+        unit = " bytes" if name in SIZES else ""
+        text = " = ".join(map(value_shown, values))
+        words.append(f"<span class=field><i>{name}</i> {text}{unit}</span>")
+    if event.is_cut or len(event.fields) > FIELDS:
+        words.append('<span class="note">and more</span>')
+    return " ".join(words)
+
+
+def value_shown(value: str) -> str:
+    return f'"{isolated(value, value.size)}"' if isinstance(value, Text) else escaped(value)
+
+
+def bytes_shown(found: Bytes, offset: int | None) -> str:
+    """Bytes in lines, each with its first offset, the one at the fault marked, and which letters they would be."""
+    lines = [f"{'offset':>6}  ..\n"] if found.first else []
+    for start in range(0, len(found.digits), BYTES_OF_A_LINE):
+        line = found.digits[start : start + BYTES_OF_A_LINE]
+        words = [f"<mark>{word}</mark>" if start + index == found.marked else word for index, word in enumerate(line)]
+        letters = "".join(chr(int(word, 16)) if 32 <= int(word, 16) < 127 else "·" for word in line)
+        space = "   " * (BYTES_OF_A_LINE - len(line))
+        lines.append(f"{found.first + start:>6}  {' '.join(words)}{space}  {escaped(letters)}\n")
+    if found.is_cut:
+        lines.append("        ..\n")
+    at = f"offset {offset}" if offset is not None else "the offset"
+    what = f"The byte at {at} is marked." if found.marked is not None else f"The packet ends before {at}."
+    return f"<pre>{''.join(lines)}</pre><span class=\"note\">{what}</span>"

@@ -1,0 +1,399 @@
+"""One page of HTML that needs nothing else: the verdicts on all logs, and a chart of each that isn't a pass."""
+from __future__ import annotations
+
+import base64
+import hashlib
+import os
+from collections import Counter
+from dataclasses import dataclass, field, replace
+from pathlib import Path
+
+from judging.card import Cards, advice
+from judging.chart import FULL, LEAN, SHORT, Drawing, draw
+from judging.explain import Explanation
+from judging.markup import attribute, counted, escaped, isolated, number
+from judging.refusals import refusal_of
+from judging.story import Fault, Story, choose
+from judging.verdict import FAILED, FAULTS, PASSED, REFUSED, TOO_SHORT, WORDS, Verdict
+
+HERE = Path(__file__).resolve().parent
+LARGEST = 10_000_000  # bytes of a page
+MANY_LOGS, MANY_FAULTS = 1_000, 10_000  # above that only the worst logs get charts
+WORST = 200
+SAMPLES = 20  # logs by which the size of a page is reckoned
+CODES = 8  # of a log that are listed beside it
+ROWS = 10_000  # logs that are listed
+LINES = 20  # of what the program said where it failed
+ORDER = (FAILED, REFUSED, FAULTS, TOO_SHORT, PASSED)
+MEANINGS = {
+    FAILED: "The program failed on this log, so there is no verdict.",
+    TOO_SHORT: "The log has too few events to say anything: look whether the recorder saw the session.",
+}
+
+
+@dataclass(frozen=True)
+class Level:
+    """How much is shown of a log, so that a page has its size."""
+
+    detail: int  # below FULL, what to change stands only in the list of rules, and links lead there
+    context: int  # events around a fault that are drawn
+    events: int  # that are drawn at most
+    cards: int  # faults that are shown at most with all that there is to say of them
+    listed: int  # other faults of a code that are listed by their positions
+
+
+LEVELS = (
+    Level(FULL, 2, 1000, 250, 2000),
+    Level(LEAN, 2, 1000, 250, 2000),
+    Level(LEAN, 0, 400, 100, 1000),
+    Level(SHORT, 0, 200, 50, 100),
+    Level(SHORT, 0, 100, 10, 100),
+    Level(SHORT, 0, 30, 4, 10),
+)
+
+
+@dataclass
+class Entry:
+    """A log in the page."""
+
+    number: int  # counted from 1
+    verdict: Verdict
+    name: str
+    ignored: Counter[str] = field(default_factory=Counter)  # faults of each code that don't count
+
+    @property
+    def codes(self) -> Counter[str]:
+        """Faults of each code that count."""
+        counts: Counter[str] = Counter()
+        for key, count in self.verdict.faults.items():
+            counts[key.split()[0]] += count
+        return counts
+
+    @property
+    def has_section(self) -> bool:
+        return self.verdict.status != PASSED or bool(self.verdict.ignored)
+
+    @property
+    def badness(self) -> tuple[int, int, int]:
+        return self.verdict.faults.total(), -ORDER.index(self.verdict.status), self.ignored.total()
+
+
+class Gallery:
+    """The verdicts for a page. Of very many logs only the worst ones keep their stories."""
+
+    def __init__(self) -> None:
+        self._told: list[Verdict] = []
+        self._most = MANY_LOGS
+
+    def take(self, verdict: Verdict) -> None:
+        if verdict.story is None:
+            return
+        self._told.append(verdict)
+        if len(self._told) > self._most:
+            self._most = 2 * WORST
+            self._told.sort(key=lambda told: entry_of(0, told, "").badness, reverse=True)
+            for milder in self._told[WORST:]:
+                milder.story = None
+            del self._told[WORST:]
+
+
+@dataclass
+class Page:
+    """What a page says beside the verdicts."""
+
+    version: str  # what the program says of itself
+    summary: str
+    remarks: list[str]
+    explanations: dict[str, Explanation]  # of each code that came
+
+    def write(self, verdicts: list[Verdict]) -> str:
+        """The whole page, in as much detail as its size allows."""
+        entries = entries_of(verdicts)
+        pictured = [entry for entry in entries if entry.has_section]
+        faults = sum(entry.codes.total() + entry.ignored.total() for entry in pictured)
+        is_many = len(pictured) > MANY_LOGS or faults > MANY_FAULTS
+        worst = sorted(pictured, key=lambda entry: entry.badness, reverse=True)[:WORST] if is_many else pictured
+        charts = {entry.number for entry in worst}
+        head, foot = self._head(entries, pictured, charts), self._rules(entries) + END
+        room = LARGEST - len((head + foot).encode())
+        for level in LEVELS:
+            sections = self._fill([entry for entry in entries if entry.number in charts], level, room)
+            if sections is not None:
+                return head + sections + foot
+        return self._head(entries, pictured, set()) + foot
+
+    def _fill(self, entries: list[Entry], level: Level, room: int) -> str | None:
+        """What is said of some logs at a level; None where it is too large, as is tried with some of them first."""
+        step = max(1, len(entries) // SAMPLES)
+        sample = entries[::step] if step > 1 else []
+        size = sum(len(self._section(entry, level).encode()) for entry in sample)
+        if size * len(entries) > room * len(sample):
+            return None
+        parts, size = [], 0
+        for entry in entries:
+            parts.append(self._section(entry, level))
+            size += len(parts[-1].encode())
+            if size > room:
+                return None
+        return "".join(parts)
+
+    def _head(self, entries: list[Entry], pictured: list[Entry], charts: set[int]) -> str:
+        style, script = (HERE / "page.css").read_text(), (HERE / "page.js").read_text()
+        policy = (f"default-src 'none'; img-src data:; style-src '{digest(style)}'; script-src '{digest(script)}';"
+                  " base-uri 'none'; form-action 'none'")
+        folder = common_folder([entry.verdict.path for entry in entries])
+        notes = list(self.remarks)
+        if left := len(pictured) - len(charts):
+            notes.append(f"Charts are drawn of the worst {counted(len(charts), 'log')}; the other"
+                         f" {counted(left, 'log')} that aren't a pass are rows only.")
+        if len(entries) > ROWS:
+            notes.append(f"Of {number(len(entries))} logs {number(ROWS)} are listed, the worst ones first.")
+        worst = next((status for status in ORDER if any(entry.verdict.status == status for entry in entries)), FAILED)
+        place = f", in <code>{escaped(folder)}</code>" if folder else ""
+        kind = " class=many" if len(charts) > SAMPLES else ""
+        return (
+            f'<!DOCTYPE html>\n<html lang="en"><head><meta charset="utf-8">'
+            f'<meta http-equiv="Content-Security-Policy" content="{policy}">'
+            f'<meta name="viewport" content="width=device-width, initial-scale=1">'
+            f'<meta name="color-scheme" content="light dark"><link rel="icon" href="data:,">'
+            f"<title>mqjudge: {headline(entries)}</title><style>{style}</style></head><body>{MARKERS}"
+            f'<a class="skip" href="#logs">To the logs</a>'
+            f'<header><h1 class="{class_of(worst)}">{headline(entries)}</h1><p class="last">{escaped(self.summary)}</p>'
+            f"{''.join(f'<p class=remark>{escaped(note)}</p>' for note in notes)}"
+            f'<p class="version">Judged by {escaped(self.version or "mqjudge")}{place}.</p>{LEGEND}</header>'
+            f"<main{kind}>{self._codes(entries)}{self._rows(entries[:ROWS], charts)}<script>{script}</script>"
+        )
+
+    def _codes(self, entries: list[Entry]) -> str:
+        """A table of the codes: faults and logs of each, and what doesn't count."""
+        faults = sum((entry.codes for entry in entries), Counter())
+        logs = Counter(code for entry in entries for code in entry.codes)
+        ignored = sum((entry.ignored for entry in entries), Counter())
+        if not faults and not ignored:
+            return ""
+        names = ("Rule", "Faults", "Logs", *(["Ignored"] if ignored else []), "What it says")
+        head = "".join(f"<th scope=col>{name}" for name in names)
+        rows = []
+        for code in sorted(faults | ignored):
+            kind = "" if faults[code] else ' class="ignored"'
+            cell = f'<td class="num">{number(ignored[code]) if ignored[code] else "–"}' if ignored else ""
+            rows.append(f'<tr{kind}><th scope=row><a class="code" href="#r-{code}">{code}</a>'
+                        f'<td class="num">{number(faults[code])}<td class="num">{number(logs[code])}{cell}'
+                        f"<td>{escaped(self.explanations[code].sentence)}")
+        table = f'<table class="codes"><thead><tr>{head}<tbody>{"".join(rows)}</table>'
+        return f'<h2 id="codes">Faults by rule</h2>{table}'
+
+    def _rows(self, entries: list[Entry], charts: set[int]) -> str:
+        """A line for each log, the worst ones first, and what chooses among them."""
+        words = {class_of(entry.verdict.status): WORDS[entry.verdict.status] for entry in entries}
+        verdicts = "".join(f'<option value="{kind}">{word}</option>' for kind, word in words.items())
+        codes = "".join(f"<option>{code}</option>" for code in self.explanations)
+        lines = "".join(row(entry, entry.number in charts) for entry in entries)
+        return (
+            '<h2 id="logs">Logs</h2><form id="filter" hidden aria-label="Choose logs">'
+            f'<label>Verdict <select id="verdict"><option value="">all</option>{verdicts}</select></label>'
+            f'<label>Rule <select id="code"><option value="">all</option>{codes}</select></label>'
+            '<label>Name <input id="name" type="search" autocomplete="off"></label>'
+            f'<output id="count" aria-live="polite">{counted(len(entries), "log")}</output></form>'
+            f'<ol class="logs">{lines}</ol>'
+        )
+
+    def _section(self, entry: Entry, level: Level) -> str:
+        """All that is said of a log."""
+        verdict, story = entry.verdict, entry.verdict.story
+        codes = " ".join(sorted({*entry.codes, *entry.ignored}))
+        notes = "".join(f'<p class="remark">{escaped(note)}</p>' for note in notes_of(verdict))
+        kind = class_of(verdict.status)
+        head = (f'<section class=log id=l{entry.number} data-c="{codes}" data-v={kind}'
+                f' data-n="{attribute(entry.name)}" data-end="{end_of(verdict)}">'
+                f'<h3><span class="badge {kind}">{WORDS[verdict.status]}</span> {isolated(entry.name)}</h3>'
+                f"<p class=about>{about(entry)}</p>{notes}")
+        if verdict.last.startswith("refused "):
+            head += refused(verdict)
+        elif verdict.status in MEANINGS:
+            lines = "\n".join(verdict.first[-LINES:]) if verdict.status == FAILED else ""
+            head += f"<p>{MEANINGS[verdict.status]}</p>" + (f"<pre>{escaped_lines(lines)}</pre>" if lines else "")
+        if story is None or not story.scenes:
+            return f"{head}</section>"
+        return f"{head}{self._shown(entry, story, level)}</section>"
+
+    def _shown(self, entry: Entry, story: Story, level: Level) -> str:
+        """The chart of a log, and its faults beside it."""
+        verdict = entry.verdict
+        told = choose(verdict.found, verdict.overlooked, level.cards)
+        drawing = Drawing(entry.number, replace(story, told=told), verdict.overlooked, level.context, level.events,
+                          level.detail)
+        cards = Cards(drawing, self.explanations)
+        said = "".join(cards.card(fault) for fault in told)
+        if told:
+            said = f"<div class=faults>{said}{others(verdict.found, told, level.listed)}</div>"
+        return (f'<div class=both><div class=picture tabindex=0 role=region aria-label="Chart of log {entry.number}">'
+                f"{draw(drawing)}</div>{said}</div>")
+
+    def _rules(self, entries: list[Entry]) -> str:
+        """All rules that were broken, with what explains them."""
+        if not self.explanations:
+            return ""
+        ends = {entry.verdict.story.end for entry in entries if entry.verdict.story} & {"client", "server"}
+        parts = []
+        for code, explanation in self.explanations.items():
+            texts = [advice(explanation, end) for end in sorted(ends)] or [advice(explanation, "")]
+            words = "".join(f'<div data-end="{end}">{text}</div>' for end, text in zip(sorted(ends) or [""], texts))
+            judged = explanation.parts.get("Judged", "")
+            parts.append(f'<section class="a-rule" id="r-{code}"><h3><span class="code">{code}</span>'
+                         f' {escaped(explanation.sentence)}</h3><p class="cite">{escaped(explanation.citation)}</p>'
+                         f"{words}{f'<p><b>Judged:</b> {escaped(judged)}</p>' if judged else ''}</section>")
+        return f'<h2 id="rules">The rules that were broken</h2>{"".join(parts)}'
+
+
+MARKERS = (
+    '<svg class="defs" width="0" height="0" aria-hidden="true"><defs>'
+    + "".join(
+        f'<marker id="{name}" viewBox="0 0 10 10" refX="10" refY="5" markerWidth="9" markerHeight="9"'
+        ' markerUnits="userSpaceOnUse" orient="auto"><path d="M0 1L10 5L0 9z"/></marker>'
+        for name in ("a", "af", "ai", "al")
+    )
+    + "</defs></svg>"
+)
+LEGEND = (
+    "<details><summary>How to read the charts</summary><ul>"
+    "<li>Time runs downwards. On the left is the end that was tested, on the right its peer. Each arrow is a packet;"
+    " the number beside it is the position of the event in the log, counted from 1."
+    "<li>A band is a network connection. On it the server began a new session, or resumed the one from before; it is"
+    " void if the server refused it or it was closed without a CONNACK, and undecided if the log ends before that."
+    "<li>REST says that the tested end had sent all that it was going to send: what is missing then never came. RELEASE"
+    " says that it passed a QoS 2 message on."
+    "<li>A red arrow breaks a rule: the code under it leads to what the rule says and what to change. A thin red line"
+    " leads to a later event that shows the fault. What is ignored is grey."
+    "<li>Choose a fault, and all events under its Packet Identifier in the session are lit: those of the same exchange"
+    " with whole lines, those in which the other end chose the number with dashed ones.</ul></details>"
+)
+END = "</main></body></html>\n"
+
+
+def digest(text: str) -> str:
+    """How a policy names what may run."""
+    return f"sha256-{base64.b64encode(hashlib.sha256(text.encode()).digest()).decode()}"
+
+
+def entries_of(verdicts: list[Verdict]) -> list[Entry]:
+    """The logs in the order of the page: the worst verdicts first."""
+    folder = common_folder([verdict.path for verdict in verdicts])
+    ranked = sorted(verdicts, key=lambda verdict: (ORDER.index(verdict.status), not verdict.ignored))
+    return [entry_of(place, verdict, folder) for place, verdict in enumerate(ranked, 1)]
+
+
+def entry_of(place: int, verdict: Verdict, folder: str) -> Entry:
+    ignored: Counter[str] = Counter()
+    for text in verdict.ignored:
+        words = text.split()
+        if words[0] != "refused":
+            ignored[words[0]] += int(words[1])
+    name = os.path.relpath(verdict.path, folder) if folder else str(verdict.path)
+    return Entry(place, verdict, name, ignored)
+
+
+def common_folder(paths: list[Path]) -> str:
+    """The folder that all logs are in; empty where that is none or the current one."""
+    try:
+        folder = os.path.commonpath([path.parent for path in paths])
+    except ValueError:
+        return ""
+    return folder if folder not in ("", ".") else ""
+
+
+def end_of(verdict: Verdict) -> str:
+    """Which end is tested; empty where that isn't known."""
+    return verdict.story.end if verdict.story else verdict.end
+
+
+def class_of(status: int) -> str:
+    return WORDS[status].replace(" ", "-")
+
+
+def headline(entries: list[Entry]) -> str:
+    """The verdict over all logs."""
+    bad = sum(entry.verdict.status != PASSED for entry in entries)
+    if not entries:
+        return "no logs were judged"
+    if not bad:
+        return f"{counted(len(entries), 'log')}, all passed" if len(entries) > 1 else "the log passed"
+    is_plain = all(entry.verdict.status in (PASSED, FAULTS) for entry in entries)
+    if len(entries) == 1:
+        return "the log has faults" if is_plain else f"the log is {WORDS[entries[0].verdict.status]}"
+    verb = ("has" if bad == 1 else "have") if is_plain else ("isn't" if bad == 1 else "aren't")
+    return f"{number(bad)} of {counted(len(entries), 'log')} {verb} {'faults' if is_plain else 'a pass'}"
+
+
+def what_came(entry: Entry) -> str:
+    """A verdict in a few words."""
+    verdict = entry.verdict
+    if verdict.status == FAULTS:
+        return counted(verdict.faults.total(), "fault")
+    return "refused" if verdict.status == REFUSED else WORDS[verdict.status]
+
+
+def row(entry: Entry, has_section: bool) -> str:
+    """A log in the list."""
+    verdict = entry.verdict
+    kind = class_of(verdict.status)
+    counts = sorted(entry.codes.items())
+    codes = " ".join(f"{code}&nbsp;×{number(count)}" for code, count in counts[:CODES])
+    codes += f" and {len(counts) - CODES} more" if len(counts) > CODES else ""
+    if verdict.last.startswith("refused "):
+        codes = escaped(verdict.refusal) + (' <span class="way">ignored</span>' if verdict.ignored else "")
+    ignored = f' <span class="way">{number(entry.ignored.total())} ignored</span>' if entry.ignored else ""
+    end = end_of(verdict)
+    name = "" if has_section else f' id="l{entry.number}"'
+    events = counted(verdict.events, "event") if verdict.events is not None else ""
+    return (f'<li{name} data-v="{kind}" data-c="{" ".join(sorted({*entry.codes, *entry.ignored}))}">'
+            f'<a href="#l{entry.number}">{isolated(entry.name)}</a><span>{end}</span><span>{events}</span>'
+            f'<span class="badge {kind}">{what_came(entry)}</span><span>{codes}{ignored}</span></li>')
+
+
+def about(entry: Entry) -> str:
+    """What a log is."""
+    verdict = entry.verdict
+    end = end_of(verdict)
+    words = [f"The tested end is a {end}" if end else "", counted(verdict.events, "event") if verdict.events else "",
+             what_came(entry) if verdict.status == FAULTS else "",
+             counted(entry.ignored.total(), "fault") + " ignored" if entry.ignored else ""]
+    return ", ".join(word for word in words if word)
+
+
+def notes_of(verdict: Verdict) -> list[str]:
+    notes = [*(f"ignored: {text}" for text in verdict.ignored), *verdict.notes]
+    if verdict.whole is not None:
+        notes.append(f"The log ends inside a record: judged are its first {number(verdict.whole)} bytes.")
+    return notes
+
+
+def refused(verdict: Verdict) -> str:
+    """The line of a refused log, what it means, and what to do."""
+    meaning = refusal_of(verdict.last)
+    text = f"<p>{meaning.meaning} <b>What to do:</b> {meaning.advice}</p>" if meaning else ""
+    return f'<p class="line"><code>{escaped(verdict.last)}</code></p>{text}<p class="note">{REFUSED_NOTE}</p>'
+
+
+REFUSED_NOTE = "A log that can't be judged has no verdict: neither a pass nor faults. The last number is an offset."
+
+
+def escaped_lines(text: str) -> str:
+    return "\n".join(escaped(line) for line in text.splitlines())
+
+
+def others(found: list[Fault], told: list[Fault], most: int) -> str:
+    """The faults that are only listed, by their codes."""
+    left = set(found) - set(told)
+    if not left:
+        return ""
+    places: dict[str, list[int]] = {}
+    for fault in found:
+        if fault in left:
+            places.setdefault(fault.code, []).append(fault.position)
+    parts = []
+    for code, positions in sorted(places.items()):
+        more = f" and {number(len(positions) - most)} more" if len(positions) > most else ""
+        parts.append(f'<p><a class="code" href="#r-{code}">{code}</a> at events'
+                     f" {', '.join(map(str, positions[:most]))}{more}</p>")
+    return f'<div class="others"><h4>{counted(len(left), "other fault")}</h4>{"".join(parts)}</div>'
