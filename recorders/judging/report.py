@@ -15,9 +15,14 @@ ERRORS = (REFUSED, FAILED)
 
 
 def print_verdict(verdict: Verdict) -> None:
-    print(f"{WORDS[verdict.status]} {show(verdict.path)}")
+    print(f"{WORDS[verdict.status]} {one_line(verdict.path)}")
     for line in verdict.lines:
         print(f"  {show(line)}")
+
+
+def one_line(text: object) -> str:
+    """A file's name that can't begin a line of its own, which a host may take for a command (`--github`)."""
+    return show(text).replace("\n", "\\n").replace("\r", "\\r")
 
 
 def print_table(verdicts: list[Verdict]) -> None:

@@ -1,0 +1,46 @@
+"""The verdicts as commands of GitHub's workflows, which shows them beside a change."""
+from __future__ import annotations
+
+from collections import Counter
+
+from judging.explain import Explanation
+from judging.refusals import refusal_of
+from judging.verdict import FAULTS, PASSED, REFUSED, TOO_SHORT, Verdict, counted, show
+
+DATA = {"%": "%25", "\r": "%0D", "\n": "%0A"}
+PROPERTY = DATA | {":": "%3A", ",": "%2C"}
+
+
+def annotations(verdicts: list[Verdict], explanations: dict[str, Explanation]) -> list[str]:
+    """A line for each log and code, since GitHub shows only the first ten of a kind: errors, and then warnings."""
+    lines = [line for verdict in verdicts for line in of_log(verdict, explanations)]
+    return sorted(lines, key=lambda line: not line.startswith("::error"))
+
+
+def of_log(verdict: Verdict, explanations: dict[str, Explanation]) -> list[str]:
+    lines = []
+    counts = Counter(fault.code for fault in verdict.found)
+    for code in sorted(counts):
+        first = next(fault for fault in verdict.found if fault.code == code)
+        way = verdict.overlooked.get(code)
+        text = f"{counted(counts[code], 'fault')}, the first at event {first.position}: {explanations[code].sentence}"
+        advice = explanations[code].advice(verdict.end)
+        text += f"\n{advice}" if advice else ""
+        lines.append(command("warning" if way else "error", verdict, f"{code} {first.citation}",
+                             f"ignored by {way}: {text}" if way else text))
+    if verdict.status in (PASSED, FAULTS):
+        return lines
+    meaning = refusal_of(verdict.last) if verdict.status == REFUSED else None
+    text = f"{verdict.headline}\n{meaning.meaning} {meaning.advice}" if meaning else verdict.headline
+    kind = "warning" if verdict.status == TOO_SHORT else "error"
+    titles = {REFUSED: "the log is refused", TOO_SHORT: "the log is too short"}
+    return [*lines, command(kind, verdict, titles.get(verdict.status, "there is no verdict"), text)]
+
+
+def command(kind: str, verdict: Verdict, title: str, text: str) -> str:
+    return f"::{kind} file={within(verdict.path, PROPERTY)},title={within(title, PROPERTY)}::{within(text, DATA)}"
+
+
+def within(text: object, signs: dict[str, str]) -> str:
+    """A text without the signs that would end it."""
+    return "".join(signs.get(sign, sign) for sign in show(text))

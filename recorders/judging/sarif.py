@@ -1,0 +1,95 @@
+"""The verdicts as SARIF 2.1.0: a result for each fault, and a rule with its help for each code."""
+from __future__ import annotations
+
+import os
+from pathlib import Path
+from typing import Any
+from urllib.parse import quote
+
+from judging.explain import Explanation
+from judging.story import Fault
+from judging.verdict import FAILED, PASSED, REFUSED, TOO_SHORT, Verdict, show
+
+SCHEMA = "https://json.schemastore.org/sarif-2.1.0.json"
+LEVELS = {REFUSED: "error", FAILED: "error", TOO_SHORT: "warning"}
+Json = dict[str, Any]
+
+
+def sarif(verdicts: list[Verdict], explanations: dict[str, Explanation], version: str) -> Json:
+    """One run. What is ignored is a result that is suppressed; what isn't judged is a notification of the tool."""
+    codes = sorted(explanations)
+    numbers = {code: number for number, code in enumerate(codes)}
+    driver: Json = {"name": "mqjudge", "rules": [rule(explanations[code]) for code in codes]}
+    if version:
+        driver["version"] = version
+    notices = [notice(verdict) for verdict in verdicts if verdict.status in LEVELS]
+    invocation: Json = {"executionSuccessful": not any(verdict.status == FAILED for verdict in verdicts)}
+    if notices:
+        invocation["toolExecutionNotifications"] = notices
+    results = [result(verdict, fault, explanations, numbers) for verdict in verdicts for fault in verdict.found]
+    run: Json = {"tool": {"driver": driver}, "invocations": [invocation], "columnKind": "unicodeCodePoints"}
+    return {"$schema": SCHEMA, "version": "2.1.0", "runs": [run | {"results": results}]}
+
+
+def rule(explanation: Explanation) -> Json:
+    """A rule with what usually breaks it, and what to change."""
+    sentence = explanation.sentence or explanation.code
+    text = explanation.text or explanation.code
+    markdown = "\n\n".join([f"**{plain(sentence)}**",
+                            *(f"**{name}:** {plain(words)}" for name, words in explanation.parts.items())])
+    return {
+        "id": explanation.code,
+        "shortDescription": {"text": sentence},
+        "fullDescription": {"text": f"{sentence} {explanation.parts.get('Why', '')}".strip()},
+        "help": {"text": text, "markdown": markdown},
+        "defaultConfiguration": {"level": "error"},
+        "properties": {"tags": ["MQTT 5.0", *([explanation.citation] if explanation.citation else [])]},
+    }
+
+
+def plain(text: str) -> str:
+    """A text in Markdown in which no sign has a meaning."""
+    return "".join(f"\\{sign}" if sign in r"\`*_[]<>#|" else sign for sign in text)
+
+
+def result(verdict: Verdict, fault: Fault, explanations: dict[str, Explanation], numbers: dict[str, int]) -> Json:
+    """A fault. Code hosts want a line: a log has none, so it is 1, and the message says the event."""
+    sentence = explanations[fault.code].sentence
+    place = f"event {fault.position}, record {fault.record}"
+    place += f", offset {fault.offset}" if fault.offset is not None else ""
+    place += f", decided at event {fault.decided}" if fault.decided != fault.position else ""
+    found: Json = {
+        "ruleId": fault.code,
+        "ruleIndex": numbers[fault.code],
+        "level": "error",
+        "message": {"text": f"{fault.code} {fault.citation} at {place}: {sentence}"},
+        "locations": [
+            {
+                "physicalLocation": {"artifactLocation": artifact(verdict.path), "region": {"startLine": 1}},
+                "logicalLocations": [{"fullyQualifiedName": f"event {fault.position}", "kind": "event"}],
+            }
+        ],
+        "partialFingerprints": {"event/v1": f"{fault.code}:{fault.position}"},
+        "properties": {"position": fault.position, "decided": fault.decided, "record": fault.record,
+                       "offset": fault.offset},
+    }
+    if way := verdict.overlooked.get(fault.code):
+        found["suppressions"] = [{"kind": "external", "justification": f"ignored by {way}"}]
+    return found
+
+
+def artifact(path: Path) -> Json:
+    """Where a log is: under the folder that the call was made in, or anywhere."""
+    inside = os.path.relpath(path)
+    if not inside.startswith(os.pardir):
+        return {"uri": quote(os.fsencode(inside.replace(os.sep, "/"))), "uriBaseId": "%SRCROOT%"}
+    return {"uri": "file://" + quote(os.fsencode(os.path.abspath(path)))}
+
+
+def notice(verdict: Verdict) -> Json:
+    """A log that isn't judged, or that is too short to say anything."""
+    return {
+        "level": LEVELS[verdict.status],
+        "message": {"text": f"{show(verdict.path)}: {verdict.headline}"},
+        "locations": [{"physicalLocation": {"artifactLocation": artifact(verdict.path)}}],
+    }
