@@ -34,7 +34,7 @@ unfolding seen_in events events_back
 seen-nothing = refl
 
 -- nor has a header
-unseen : (log : List ℕ) → length log ≤ 8 → seen_in log ≡ []
+pub unseen : (log : List ℕ) → length log ≤ 8 → seen_in log ≡ []
 unfolding seen_in
 unseen log h = ap (map seen) (events-header log h)
 
@@ -46,7 +46,7 @@ header-stays log (byte ∷ more) long =
     ∙ header-unchanged log byte long
 
 -- the end that a whole header names
-tested-stays : (log more : List ℕ) → 8 ≤ length log → tested_by (log ++ more) ≡ tested_by log
+pub tested-stays : (log more : List ℕ) → 8 ≤ length log → tested_by (log ++ more) ≡ tested_by log
 tested-stays log more long = ap tested_as (header-stays log more long)
 
 -- ---- what is known

@@ -1,6 +1,7 @@
 pub mod DigitLaws
 pub mod FeedingLaws
 pub mod JudgeLaws
+pub mod StayLaws
 pub mod OnePacketLaws
 pub mod ReportLaws
 pub mod RunnerLaws

@@ -4,6 +4,7 @@
 mod display;
 mod feeding;
 mod judge;
+mod laws;
 mod lines;
 mod packet_line;
 mod report;
@@ -13,6 +14,7 @@ mod watching;
 
 pub use display::{show, show_faults, show_long};
 pub use judge::{Judge, Options, Verdict};
+pub use laws::known_faults_stay;
 pub use mq_rules::{Fault, FaultKey, Faults, Memory, Role, Rule, Tested};
 pub use mq_trace::Refusal;
 pub use packet_line::write_packet;
