@@ -4,6 +4,7 @@ pub mod QuotaLaws
 pub mod HoldLaws
 pub mod EarlyLaws
 pub mod StepLaws
+pub mod SkippedLaws
 pub mod PingLaws
 pub mod JudgingLaws
 pub mod BlameLaws

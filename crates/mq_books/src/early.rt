@@ -1,5 +1,5 @@
 //! Events of a connection are held until its fate is decided: a client may send packets before its CONNACK (MQTT 5.0, section 3.1.4).
-ghost use Rattle.std.specs.Prelude.{◌≡◌, ◌≤◌, ◌∷◌, ◌++◌, ◌&&◌, ◌||◌, ◌+◌, [], ℕ, List, Option, Some, None, reverse, length, cond, OnOk, OnErr, IfOk};
+ghost use Rattle.std.specs.Prelude.{◌≡◌, ◌≤◌, ◌∷◌, ◌++◌, ◌&&◌, ◌||◌, ◌+◌, [], ℕ, List, Option, Some, None, is_some, not, reverse, length, cond, OnOk, OnErr, IfOk};
 ghost use Rattle.std.specs.Option.{option_or};
 ghost use Rattle.std.specs.List.{sum_by};
 ghost use Rattle.mq_rules.specs.declared.role.Tested.{Tested as TheTested};
@@ -9,10 +9,10 @@ ghost use Rattle.mq_rules.specs.Notes.{is_open, decides, received_subscription, 
 ghost use Rattle.mq_rules.specs.Connections.{latest_fate};
 ghost use Rattle.mq_rules.specs.Under.{seen, Follows, turns_with};
 ghost use Rattle.mq_rules.specs.Growing.{Gains, GainsWithin};
-ghost use Rattle.mq_books.specs.Holding.{CanHand, CanPass, fate_after, turns_held, turns_session, settled, number_in, event_size as size_of, waiting, Holds};
+ghost use Rattle.mq_books.specs.Holding.{is_nothing, CanHand, CanPass, fate_after, turns_held, turns_session, settled, number_in, event_size as size_of, waiting, Holds};
 
 use crate::fated::Fated;
-use mq_rules::{Fate, Faults, Memory, Note, PacketFields, Role, Seen, Tested, Watch};
+use mq_rules::{Fate, Faults, Memory, Note, PacketFields, Role, Seen, Skipping, Tested, Watch};
 use mq_trace::Place3;
 use std::alloc::Global;
 
@@ -134,6 +134,16 @@ impl<W: Fated> Early<W> {
     }
 }
 
+impl<W> Early<W> {
+    /// Whether an event is of a connection that is decided. No other events are held then.
+    #[inline]
+    fn is_settled(&self, note: &Note) -> bool
+        ensures { result ≡ (is_some self.now.fate && (is_nothing self.now.held.items && not (is_open note.now))) }
+    {
+        self.fate.is_some() && self.held.is_empty() && !note.is_open()
+    }
+}
+
 impl<W: Fated> Watch for Early<W> {
     ghost agrees = { λ s tested taken past. Holds (W.agrees s.watcher tested) s.role s.fate s.held.items tested past };
 
@@ -158,5 +168,12 @@ impl<W: Fated> Watch for Early<W> {
     // The list of the struct, with the filters and Reason Codes of its events, and the watcher.
     fn weight(&self) -> usize {
         held_size(self.held.as_slice()).saturating_add(self.watcher.weight())
+    }
+}
+
+impl<W: Fated + Skipping> Skipping for Early<W> {
+    #[inline(always)]
+    fn may_skip(&self, note: &Note) -> bool {
+        self.is_settled(note) && self.watcher.may_skip(note)
     }
 }

@@ -2,6 +2,7 @@
 use Rattle.std.proofs.Common.{◌≡◌, ℕ, ◌+◌, ◌<◌, List, [], ◌∷◌, length, map, Option, Some, None, refl, sym, ap, ◌∙◌, subst, arith}
 use Rattle.std.specs.Option.{option_or}
 use Rattle.std.specs.FinMap.{entries, get-empty}
+use Rattle.mq_trace.specs.declared.place.Place3.{Place3}
 use Rattle.mq_trace.specs.Events.{Placed, events}
 use Rattle.mq_trace.specs.Reception.{AreEvents}
 use Rattle.mq_rules.specs.declared.role.Tested.{Tested}
@@ -18,7 +19,7 @@ use Rattle.mq_rules.specs.Growing.{added, Gains, GainsWithin}
 use Rattle.mq_rules.specs.Under.{IsInTurn, seen as seen_at}
 use Rattle.mq_rules.proofs.Exports.{fault_in-dropped, fault_in-start, fault_in-step, on_connections, orderly, turned_for}
 use Rattle.mq_judge.specs.declared.watching.Watching.{Watching}
-use Rattle.mq_judge.specs.Watching.{IsFound, IsWatching, MayCome}
+use Rattle.mq_judge.specs.Watching.{IsFound, IsWatching, MayCome, TakesIn, LeavesOut}
 
 -- no events have no faults
 pub none-found : (tested : Tested) (faults : FaultMap) → faults ≡ Rattle.std.specs.FinMap.empty → (k : ℕ) (rule : Rule) → fault_at faults k rule ≡ fault_in tested [] k rule
@@ -56,7 +57,7 @@ found-before tested e past old new dropped may within is found =
 -- the watchers have taken in the next event that the sink received
 pub watched-next : (tested : Tested) (p : Placed) (earlier : List Placed) (old new : Watching) (n : Note) → n ≡ note_of p.event → AreEvents (p ∷ earlier)
     → (old.tested ≡ tested) × IsWatching old (map seen earlier) → new.tested ≡ old.tested
-    → ((past : List Seen) → MayCome old.tested (seen_at p.place n) past → IsWatching old past → IsWatching new (seen_at p.place n ∷ past))
+    → TakesIn old new p.place n
     → (new.tested ≡ tested) × IsWatching new (map seen (p ∷ earlier))
 watched-next tested p earlier old new n is are was same step =
     let e : seen_at p.place n ≡ seen p = ap (seen_at p.place) is in
@@ -66,7 +67,7 @@ watched-next tested p earlier old new n is are was same step =
 -- there was no memory for it, and the faults are those of the events before it
 pub found-still : (tested : Tested) (p : Placed) (earlier : List Placed) (old new : Watching) (n : Note) → n ≡ note_of p.event → AreEvents (p ∷ earlier)
     → (old.tested ≡ tested) × IsWatching old (map seen earlier) → new.tested ≡ old.tested
-    → ((past : List Seen) → MayCome old.tested (seen_at p.place n) past → IsWatching old past → IsFound new past)
+    → LeavesOut old new p.place n
     → (new.tested ≡ tested) × IsFound new (map seen earlier)
 found-still tested p earlier old new n is are was same step =
     let e : seen_at p.place n ≡ seen p = ap (seen_at p.place) is in

@@ -1,12 +1,14 @@
 -- What a judge keeps of the events so far.
-use Rattle.std.specs.Prelude.{◌≡◌, ℕ, List, length}
+use Rattle.std.specs.Prelude.{◌≡◌, ℕ, List, ◌∷◌, length}
+use Rattle.mq_trace.specs.declared.place.Place3.{Place3}
 use Rattle.mq_rules.specs.declared.role.Tested.{Tested}
 use Rattle.mq_rules.specs.declared.rule.Rule.{Rule}
+use Rattle.mq_rules.specs.declared.note.Note.{Note}
 use Rattle.mq_rules.specs.declared.note.Seen.{Seen}
 use Rattle.mq_rules.specs.Connections.{latest_fate, IsOnConnection}
 use Rattle.mq_rules.specs.FaultKeys.{fault_at}
 use Rattle.mq_rules.specs.Faults.{fault_in}
-use Rattle.mq_rules.specs.Under.{Follows}
+use Rattle.mq_rules.specs.Under.{Follows, seen}
 use Rattle.mq_books.specs.contracts.watchers.WatchersWatch.TheImpl as watchers
 use Rattle.mq_judge.specs.declared.watching.Watching.{Watching}
 
@@ -24,3 +26,11 @@ pub record IsWatching (w : Watching) (past : List Seen) : Type 0 where
 pub record MayCome (tested : Tested) (e : Seen) (past : List Seen) : Type 0 where
   pub follows : Follows tested e past
   pub on_connection : IsOnConnection e past
+
+-- The watchers have taken in the event too, if it may follow those that they had taken in.
+abbrev pub TakesIn : Watching → Watching → Place3 → Note → Type 0
+TakesIn old new place n = (past : List Seen) → MayCome old.tested (seen place n) past → IsWatching old past → IsWatching new (seen place n ∷ past)
+
+-- There was no memory for it, and the faults are those of the events before it.
+abbrev pub LeavesOut : Watching → Watching → Place3 → Note → Type 0
+LeavesOut old new place n = (past : List Seen) → MayCome old.tested (seen place n) past → IsWatching old past → IsFound new past

@@ -1,14 +1,18 @@
 //! Judging each event as it comes.
-ghost use Rattle.std.specs.Prelude.{◌≡◌, ◌∷◌, [], None, List, length, ◌≤◌, ◌*◌, IfSome, IsTrue, OnOk, OnErr};
+ghost use Rattle.std.specs.Prelude.{◌≡◌, [], None, List, length, ◌≤◌, ◌*◌, false, IfSome, IsTrue, OnOk, OnErr};
 ghost use Rattle.mq_books.specs.Burden.{burden};
 ghost use Rattle.mq_rules.specs.declared.note.Seen.{Seen as TheSeen};
-ghost use Rattle.mq_rules.specs.Notes.{tested_as};
-ghost use Rattle.mq_rules.specs.Under.{seen};
-ghost use Rattle.mq_judge.specs.Watching.{IsFound, IsWatching, MayCome};
+ghost use Rattle.mq_packet.specs.Reading.{view};
+ghost use Rattle.mq_trace.specs.Events.{packet as packet_item};
+ghost use Rattle.mq_trace.specs.Flows.{item_event};
+ghost use Rattle.mq_trace.specs.Reception.{event_of};
+ghost use Rattle.mq_rules.specs.declared.packet_note.PacketFields.TheVariants as fields_of;
+ghost use Rattle.mq_rules.specs.Notes.{tested_as, note_of, bare_note, bare_publish_note};
+ghost use Rattle.mq_judge.specs.Watching.{IsWatching, TakesIn, LeavesOut};
 
 use mq_books::Watchers;
-use mq_packet::{Packet, Publish};
-use mq_rules::{Faults, Memory, Note, Tested, Text, Watch};
+use mq_packet::{Packet, Publish, Qos};
+use mq_rules::{Faults, Memory, Note, PacketFields, Skipping, Tested, Watch, is_bare};
 use mq_trace::{Direction, Event, Header, Place3, Refusal, Sink};
 use std::alloc::Global;
 use std::marker::{Brand, PhantomData};
@@ -70,6 +74,21 @@ impl Watching {
         replace(&mut self.faults, Faults::new(self.alloc))
     }
 
+    /// Counts the next event, if the watchers need not take it in: it changes nothing that they keep, and shows no fault. If it returns
+    /// false, nothing has changed.
+    #[inline(always)]
+    fn pass_over(&mut self, place: Place3, note: &Note) -> bool
+        ensures tested { self.new.tested ≡ self.old.tested }
+        ensures passed { IsTrue result → TakesIn self.old self.new place note.now }
+        ensures unchanged { result ≡ false → self.new ≡ self.old }
+    {
+        if !self.watchers.may_skip(note) {
+            return false;
+        }
+        self.events = place.position;
+        true
+    }
+
     /// Takes in the next event, and finds the faults that it shows.
     ///
     /// # Errors
@@ -77,8 +96,8 @@ impl Watching {
     /// `Memory` if there is no memory for a fault, or for what is kept. The faults are then those of the events before it, and nothing more can be taken in.
     fn take_in(&mut self, place: Place3, note: &Note) -> Result<(), Memory>
         ensures tested { self.new.tested ≡ self.old.tested }
-        ensures ok { OnOk result ((past : List TheSeen) → MayCome self.old.tested (seen place note.now) past → IsWatching self.old past → IsWatching self.new (seen place note.now ∷ past)) }
-        ensures memory { OnErr result ((past : List TheSeen) → MayCome self.old.tested (seen place note.now) past → IsWatching self.old past → IsFound self.new past) }
+        ensures ok { OnOk result (TakesIn self.old self.new place note.now) }
+        ensures memory { OnErr result (LeavesOut self.old self.new place note.now) }
     {
         match self.watchers.step(place, note, &mut self.faults) {
             Ok(()) => {
@@ -90,6 +109,152 @@ impl Watching {
                 Err(Memory)
             }
         }
+    }
+
+    /// Counts a PINGREQ or PINGRESP that need not be taken in. If it returns false, nothing has changed.
+    #[inline(always)]
+    fn pass_ping(
+        &mut self,
+        place: Place3,
+        direction: Direction,
+        size: u32,
+        packet: &Packet<'_>,
+    ) -> bool
+        ensures tested { self.new.tested ≡ self.old.tested }
+        ensures passed { IsTrue result → TakesIn self.old self.new place (note_of (item_event direction (packet_item size (view packet.now)))) }
+        ensures unchanged { result ≡ false → self.new ≡ self.old }
+    {
+        match PacketFields::of_ping(packet) {
+            Some(ping) => self.pass_over(place, &Note::of_bare(direction, size, ping)),
+            None => false,
+        }
+    }
+
+    /// Counts a PUBLISH that has these fields, a short Topic Name, and no properties, if it need not be taken in. If it returns false,
+    /// nothing has changed.
+    #[inline(always)]
+    fn pass_bare_publish(
+        &mut self,
+        place: Place3,
+        direction: Direction,
+        size: u32,
+        identifier: Option<u16>,
+        qos: Qos,
+        duplicate: bool,
+        topic: &str,
+    ) -> bool
+        requires { length topic.now ≤ 30 }
+        ensures tested { self.new.tested ≡ self.old.tested }
+        ensures passed { IsTrue result → TakesIn self.old self.new place (bare_note direction size (fields_of.Publish (bare_publish_note direction identifier qos duplicate topic.now))) }
+        ensures unchanged { result ≡ false → self.new ≡ self.old }
+    {
+        let note = Note::of_bare_publish(direction, size, identifier, qos, duplicate, topic);
+        self.pass_over(place, &note)
+    }
+
+    // What makes a note that is taken in is a call of its own: a note that a function makes lies in memory on all ways through it.
+
+    /// Makes a note of an event, and takes it in.
+    #[inline(never)]
+    fn take_event(&mut self, place: Place3, event: &Event<'_>) -> Result<(), Memory>
+        ensures tested { self.new.tested ≡ self.old.tested }
+        ensures ok { OnOk result (TakesIn self.old self.new place (note_of (event_of event.now))) }
+        ensures memory { OnErr result (LeavesOut self.old self.new place (note_of (event_of event.now))) }
+    {
+        let Ok(note) = Note::of(self.alloc, event) else {
+            return Err(Memory);
+        };
+        self.take_in(place, &note)
+    }
+
+    /// The same of a packet.
+    #[inline(never)]
+    fn take_packet(
+        &mut self,
+        place: Place3,
+        direction: Direction,
+        size: u32,
+        packet: &Packet<'_>,
+    ) -> Result<(), Memory>
+        ensures tested { self.new.tested ≡ self.old.tested }
+        ensures ok { OnOk result (TakesIn self.old self.new place (note_of (item_event direction (packet_item size (view packet.now))))) }
+        ensures memory { OnErr result (LeavesOut self.old self.new place (note_of (item_event direction (packet_item size (view packet.now))))) }
+    {
+        let Ok(note) = Note::of_packet(self.alloc, direction, size, packet) else {
+            return Err(Memory);
+        };
+        self.take_in(place, &note)
+    }
+
+    /// The same of a PUBLISH that has these fields, a short Topic Name, and no properties.
+    #[inline(never)]
+    fn take_bare_publish(
+        &mut self,
+        place: Place3,
+        direction: Direction,
+        size: u32,
+        identifier: Option<u16>,
+        qos: Qos,
+        duplicate: bool,
+        topic: &str,
+    ) -> Result<(), Memory>
+        requires { length topic.now ≤ 30 }
+        ensures tested { self.new.tested ≡ self.old.tested }
+        ensures ok { OnOk result (TakesIn self.old self.new place (bare_note direction size (fields_of.Publish (bare_publish_note direction identifier qos duplicate topic.now)))) }
+        ensures memory { OnErr result (LeavesOut self.old self.new place (bare_note direction size (fields_of.Publish (bare_publish_note direction identifier qos duplicate topic.now)))) }
+    {
+        let note = Note::of_bare_publish(direction, size, identifier, qos, duplicate, topic);
+        self.take_in(place, &note)
+    }
+
+    /// Takes in the next event, a packet.
+    ///
+    /// # Errors
+    ///
+    /// As in `take_in`.
+    #[inline(always)]
+    fn receive_packet(
+        &mut self,
+        place: Place3,
+        direction: Direction,
+        size: u32,
+        packet: &Packet<'_>,
+    ) -> Result<(), Memory>
+        ensures tested { self.new.tested ≡ self.old.tested }
+        ensures ok { OnOk result (TakesIn self.old self.new place (note_of (item_event direction (packet_item size (view packet.now))))) }
+        ensures memory { OnErr result (LeavesOut self.old self.new place (note_of (item_event direction (packet_item size (view packet.now))))) }
+    {
+        if self.pass_ping(place, direction, size, packet) {
+            return Ok(());
+        }
+        self.take_packet(place, direction, size, packet)
+    }
+
+    /// Takes in the next event, a PUBLISH that has these fields, a short Topic Name, and no properties.
+    ///
+    /// # Errors
+    ///
+    /// As in `take_in`.
+    #[inline(always)]
+    fn receive_bare_publish(
+        &mut self,
+        place: Place3,
+        direction: Direction,
+        size: u32,
+        identifier: Option<u16>,
+        qos: Qos,
+        duplicate: bool,
+        topic: &str,
+    ) -> Result<(), Memory>
+        requires { length topic.now ≤ 30 }
+        ensures tested { self.new.tested ≡ self.old.tested }
+        ensures ok { OnOk result (TakesIn self.old self.new place (bare_note direction size (fields_of.Publish (bare_publish_note direction identifier qos duplicate topic.now)))) }
+        ensures memory { OnErr result (LeavesOut self.old self.new place (bare_note direction size (fields_of.Publish (bare_publish_note direction identifier qos duplicate topic.now)))) }
+    {
+        if self.pass_bare_publish(place, direction, size, identifier, qos, duplicate, topic) {
+            return Ok(());
+        }
+        self.take_bare_publish(place, direction, size, identifier, qos, duplicate, topic)
     }
 }
 
@@ -127,14 +292,6 @@ impl<K> Judging<K> {
     }
 }
 
-/// Whether a PUBLISH has a short Topic Name and no properties.
-#[inline(always)]
-fn is_brief(publish: &Publish<'_>) -> bool
-    ensures { IsTrue result → length publish.now.topic.now ≤ 30 }
-{
-    Text::is_short(publish.topic) && publish.properties.as_bytes().is_empty()
-}
-
 impl<K: End> Sink for Judging<K> {
     ghost use Rattle.std.specs.Prelude.{◌≡◌, map};
     ghost use Rattle.mq_trace.specs.declared.refusal.Refusal.TheVariants as refusals;
@@ -148,10 +305,7 @@ impl<K: End> Sink for Judging<K> {
 
     #[inline(always)]
     fn event(&mut self, place: Place3, event: Event<'_>) -> Result<(), Refusal> {
-        let Ok(note) = Note::of(self.watching.alloc, &event) else {
-            return Err(Refusal::Memory(0));
-        };
-        match self.watching.take_in(place, &note) {
+        match self.watching.take_event(place, &event) {
             Ok(()) => Ok(()),
             Err(Memory) => Err(Refusal::Memory(0)),
         }
@@ -165,10 +319,10 @@ impl<K: End> Sink for Judging<K> {
         size: u32,
         packet: Packet<'_>,
     ) -> Result<(), Refusal> {
-        let Ok(note) = Note::of_packet(self.watching.alloc, direction, size, &packet) else {
-            return Err(Refusal::Memory(0));
-        };
-        match self.watching.take_in(place, &note) {
+        match self
+            .watching
+            .receive_packet(place, direction, size, &packet)
+        {
             Ok(()) => Ok(()),
             Err(Memory) => Err(Refusal::Memory(0)),
         }
@@ -182,11 +336,19 @@ impl<K: End> Sink for Judging<K> {
         size: u32,
         publish: Publish<'_>,
     ) -> Result<(), Refusal> {
-        if !is_brief(&publish) {
+        if !is_bare(&publish) {
             return self.packet(place, direction, size, Packet::Publish(publish));
         }
-        let note = Note::of_short_publish(direction, size, &publish);
-        match self.watching.take_in(place, &note) {
+        let received = self.watching.receive_bare_publish(
+            place,
+            direction,
+            size,
+            publish.identifier,
+            publish.qos,
+            publish.duplicate,
+            publish.topic,
+        );
+        match received {
             Ok(()) => Ok(()),
             Err(Memory) => Err(Refusal::Memory(0)),
         }

@@ -16,6 +16,8 @@ pub mod OrderLaws
 pub mod TurnLaws
 pub mod OpenLaws
 pub mod GainLaws
+pub mod SkipLaws
+pub mod BareLaws
 pub mod WatchLaws
 pub mod RowLaws
 pub mod ListingLaws

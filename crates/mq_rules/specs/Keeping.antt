@@ -1,6 +1,6 @@
 -- What is kept of the latest connection, so that C01 to C23 are judged in one pass: what it is after these events, how one more event updates it,
 -- and which statements it shows to be false at that event.
-use Rattle.std.specs.Prelude.{ℕ, ◌≡◌, ◌+◌, ◌-◌, ◌==◌, nat_lt, Bool, true, false, ◌&&◌, ◌||◌, not, cond, List, [], ◌∷◌, length, Option, Some, None, is_some, is_none, unwrap_or, option_map}
+use Rattle.std.specs.Prelude.{ℕ, ◌≡◌, ◌+◌, ◌-◌, ◌==◌, nat_lt, nat_le, Bool, true, false, ◌&&◌, ◌||◌, not, cond, List, [], ◌∷◌, length, Option, Some, None, is_some, is_none, unwrap_or, option_map}
 use Rattle.std.specs.Option.{option_and_then, option_or}
 use Rattle.std.specs.List.{list_any}
 use Rattle.std.specs.Borrow.{Bor}
@@ -21,14 +21,15 @@ use Rattle.mq_rules.specs.declared.note.ItemNote.TheVariants as items
 use Rattle.mq_rules.specs.declared.note.Seen.{Seen}
 use Rattle.mq_rules.specs.declared.packet_note.PacketNote.{PacketNote}
 use Rattle.mq_rules.specs.declared.packet_note.PacketFields.{PacketFields}
-use Rattle.mq_rules.specs.declared.packet_note.PacketFields.TheVariants.{Connect, Connack, Publish, Puback, Pubrec, Pubrel, Pubcomp, Disconnect}
+use Rattle.mq_rules.specs.declared.packet_note.PacketFields.TheVariants.{Connect, Connack, Publish, Puback, Pubrec, Pubrel, Pubcomp, Pingreq, Pingresp, Disconnect}
 use Rattle.mq_rules.specs.declared.packet_note.PublishNote.{PublishNote}
 use Rattle.mq_rules.specs.declared.packet_note.ConnackNote.{ConnackNote}
 use Rattle.mq_rules.specs.declared.packet_note.DisconnectNote.{DisconnectNote}
 use Rattle.mq_rules.specs.declared.conn.state.ConnectionState.{ConnectionState}
+use Rattle.mq_rules.specs.declared.conn.harmless.SendBounds.{SendBounds}
 use Rattle.mq_rules.specs.declared.conn.Conn.{Conn}
 use Rattle.mq_rules.specs.Words.{is_some_and, is_id, only}
-use Rattle.mq_rules.specs.Notes.{is_open, is_rest, is_typed, is_of_type, foreign_types, sent_item, sent_packet, sent_fields, received_fields, sends_type, receives_type, sent_publish, sent_connack, sent_disconnect, disconnect_in, connect_of, connack_of, client_disconnect, decides, may_explain, resumed_by, is_acknowledged, qos_number}
+use Rattle.mq_rules.specs.Notes.{is_open, is_rest, is_typed, is_of_type, foreign_types, sent_item, sent_packet, sent_fields, received_fields, sends_type, receives_type, sent_publish, sent_connack, sent_disconnect, disconnect_in, connect_of, connack_of, client_disconnect, decides, may_explain, resumed_by, qos_number}
 use Rattle.mq_rules.specs.Moments.{note, some, first_found}
 use Rattle.mq_rules.specs.Connections.{begun, is_connected, connection, first_connect, first_connack, accepted, is_alive_after}
 use Rattle.mq_rules.specs.Pasts.{sends_typed, is_sent_disconnect, is_sent_refusal, set_alias}
@@ -287,20 +288,32 @@ too_large (Some most) = most + 1
 abbrev pub size_bound : Role → ConnectionState → ℕ
 size_bound role s = cond (may_go_on role s) (too_large (size_limit role s)) 0
 
--- a PUBLISH of QoS 0 with neither a Topic Alias nor a Subscription Identifier, and what acknowledges a PUBLISH: what either end may send to any peer
-abbrev pub is_harmless_in : PacketFields → Bool
-is_harmless_in (Publish p) = is_none p.topic_alias && (not p.has_subscription_identifier && not (is_acknowledged p.qos))
-is_harmless_in (Puback identifier code) = true
-is_harmless_in (Pubrec identifier code) = true
-is_harmless_in (Pubrel identifier code) = true
-is_harmless_in (Pubcomp identifier code) = true
-is_harmless_in _ = false
+-- the greatest QoS that the end may send: only a server announces one (MQTT 5.0, section 3.2.2.3.4)
+abbrev pub qos_bound : Role → ConnectionState → ℕ
+qos_bound Client s = qos_limit s
+qos_bound Server s = 2
+
+-- what a packet is compared with
+abbrev pub send_bounds : Role → ConnectionState → SendBounds
+send_bounds role s = record { role = role; size = size_bound role s; qos = qos_bound role s }
+
+-- a PUBLISH up to this QoS with neither a Topic Alias nor a Subscription Identifier, what acknowledges a PUBLISH, a client's PINGREQ and a server's
+-- PINGRESP: what this end may send to any peer
+abbrev pub is_harmless_in : Role → ℕ → PacketFields → Bool
+is_harmless_in role most (Publish p) = is_none p.topic_alias && (not p.has_subscription_identifier && nat_le (qos_number p.qos) most)
+is_harmless_in role most (Puback identifier code) = true
+is_harmless_in role most (Pubrec identifier code) = true
+is_harmless_in role most (Pubrel identifier code) = true
+is_harmless_in role most (Pubcomp identifier code) = true
+is_harmless_in Client most Pingreq = true
+is_harmless_in Server most Pingresp = true
+is_harmless_in role most _ = false
 
 -- such a packet is sent, below this size and without a Reason String or a User Property, or an ordinary one is received
-abbrev pub is_harmless : ℕ → Note → Bool
-is_harmless bound (notes.Sent (items.Packet p)) = nat_lt p.size bound && (not (p.has_reason_string || p.has_user_property) && is_harmless_in p.fields)
-is_harmless bound (notes.Recv (items.Packet p)) = nat_lt 0 bound && is_ordinary_in p.fields
-is_harmless bound _ = false
+abbrev pub is_harmless : SendBounds → Note → Bool
+is_harmless b (notes.Sent (items.Packet p)) = nat_lt p.size b.size && (not (p.has_reason_string || p.has_user_property) && is_harmless_in b.role b.qos p.fields)
+is_harmless b (notes.Recv (items.Packet p)) = nat_lt 0 b.size && is_ordinary_in p.fields
+is_harmless b _ = false
 
 -- ---- what is kept agrees with the events so far
 

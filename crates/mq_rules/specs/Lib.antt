@@ -15,6 +15,7 @@ pub mod Statements
 pub mod Steps
 pub mod Under
 pub mod Growing
+pub mod Skipping
 pub mod FaultKeys
 pub mod Faults
 pub mod Folds

@@ -172,6 +172,23 @@ note_of (released identifier) = notes.Release identifier
 note_of (sent item) = notes.Sent (item_note directions.Sent item)
 note_of (received item) = notes.Recv (item_note directions.Recv item)
 
+-- of a PUBLISH without properties
+abbrev pub bare_publish_note : Direction → Option ℕ → Qos → Bool → List ℕ → PublishNote
+bare_publish_note direction identifier qos duplicate topic = record {
+  identifier = identifier;
+  qos = qos;
+  duplicate = duplicate;
+  topic = only_list (is_sent_direction direction) topic;
+  topic_alias = None;
+  has_message_expiry = false;
+  has_subscription_identifier = false;
+}
+
+-- of a packet without properties
+abbrev pub bare_note : Direction → ℕ → PacketFields → Note
+bare_note directions.Sent size fields = notes.Sent (items.Packet (record { size = size; has_reason_string = false; has_user_property = false; fields = fields }))
+bare_note directions.Recv size fields = notes.Recv (items.Packet (record { size = size; has_reason_string = false; has_user_property = false; fields = fields }))
+
 abbrev pub seen : Placed → Seen
 seen placed = record { place = placed.place; note = note_of placed.event }
 

@@ -26,8 +26,8 @@ use crate::note::{ItemNote, Note};
 use crate::packet_note::{ConnackNote, DisconnectNote, PacketNote, PublishNote};
 use crate::role::{Role, Tested};
 use crate::rule::Rule;
-use crate::watch::Watch;
-pub use harmless::is_harmless;
+use crate::watch::{Skipping, Watch};
+pub use harmless::{SendBounds, is_harmless};
 use mq_trace::Place3;
 pub use state::ConnectionState;
 use std::alloc::Global;
@@ -79,12 +79,12 @@ impl Conn {
         Ok(())
     }
 
-    /// The bound on sizes by which `is_harmless` tells events that need not be taken in.
+    /// The bounds by which `is_harmless` tells events that need not be taken in.
     #[inline]
-    pub(crate) fn size_bound(&self) -> u64
-        ensures { result ≡ keeping.size_bound self.now.role self.now.state }
+    pub(crate) fn send_bounds(&self) -> SendBounds
+        ensures { result ≡ keeping.send_bounds self.now.role self.now.state }
     {
-        self.state.size_bound(self.role)
+        self.state.send_bounds(self.role)
     }
 
     /// Takes an event.
@@ -146,6 +146,9 @@ impl Watch for Conn {
     ghost bound = { λ tested taken past. aliases_sent past };
 
     fn step(&mut self, at: Place3, note: &Note, faults: &mut Faults) -> Result<(), Memory> {
+        if self.may_skip(note) {
+            return Ok(());
+        }
         self.judge(at, note, faults)?;
         self.consume(note)?;
         self.end_aliases(note);
@@ -154,6 +157,13 @@ impl Watch for Conn {
 
     fn weight(&self) -> usize {
         self.aliases.len()
+    }
+}
+
+impl Skipping for Conn {
+    #[inline(always)]
+    fn may_skip(&self, note: &Note) -> bool {
+        is_harmless(self.send_bounds(), note)
     }
 }
 

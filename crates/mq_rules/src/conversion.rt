@@ -43,7 +43,7 @@ fn is_pair(pair: Option<(&str, &str)>) -> bool
 
 /// The list, if it has properties. In most packets it is empty, and then nothing needs to be looked for in it.
 #[inline(always)]
-fn nonempty<'p, 'a>(list: &'p Props<'a>) -> Option<&'p Props<'a>>
+pub(crate) fn nonempty<'p, 'a>(list: &'p Props<'a>) -> Option<&'p Props<'a>>
     ensures { unwrap_or (option_map (λ list. list.now.items) result) [] ≡ list.now.items }
 {
     if list.as_bytes().is_empty() {
@@ -167,18 +167,6 @@ fn kept_topic(alloc: Global, direction: Direction, topic: &str) -> Result<Text, 
     match direction {
         Direction::Sent => Text::of(alloc, topic),
         Direction::Recv => Ok(Text::empty()),
-    }
-}
-
-/// The Topic Name, where its PUBLISH was sent, and it is short.
-#[inline(always)]
-fn short_topic(direction: Direction, topic: &str) -> Text
-    requires { length topic.now ≤ 30 }
-    ensures { result ≡ only_list (is_sent_direction direction) topic.now }
-{
-    match direction {
-        Direction::Sent => Text::short(topic),
-        Direction::Recv => Text::empty(),
     }
 }
 
@@ -464,20 +452,6 @@ impl Note {
             Ok(topic) => Ok(Note::with_topic(direction, size, topic, publish)),
             Err(memory) => Err(memory),
         }
-    }
-
-    /// The same, where the Topic Name is short enough to lie in the note.
-    #[inline(always)]
-    pub fn of_short_publish(direction: Direction, size: u32, publish: &Publish<'_>) -> Note
-        requires { length publish.now.topic.now ≤ 30 }
-        ensures { result ≡ note_of (item_event direction (packet size (publish_entry (publish_view publish.now)))) }
-    {
-        Note::with_topic(
-            direction,
-            size,
-            short_topic(direction, publish.topic),
-            publish,
-        )
     }
 
     /// The same, where this is kept of the Topic Name. It is made in one piece, since each move of a note costs more than what is

@@ -5,6 +5,7 @@
 //! `Subscriptions`; `Statements` has a line for each statement, and `Faults` says what is reported.
 #![tactic(auto)]
 
+mod bare;
 mod conn;
 mod conversion;
 mod copying;
@@ -31,6 +32,7 @@ mod text;
 mod watch;
 mod worked;
 
+pub use bare::is_bare;
 pub use conn::Conn;
 pub use fate::Fate;
 pub use fault::Fault;
@@ -63,4 +65,4 @@ pub use shapes::Shapes;
 pub use statement_laws::{first_rest_decides, in_flight_by_a_counter};
 pub use table_laws::{each_statement_binds_its_ends, each_statement_has_its_row, rows_ascend};
 pub use text::{CodeList, FilterList, NotedFilter, Text};
-pub use watch::{Both, Watch};
+pub use watch::{Both, Skipping, Watch};

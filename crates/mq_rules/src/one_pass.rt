@@ -28,14 +28,14 @@ pub fn plain_connections(
     ensures memory { IsPlaced (reverse seen.now) → OnErr result (GrowsWithin (λ rule. is_on_bytes tested rule || is_on_past tested rule) tested (reverse seen.now) faults.old faults.new) }
 {
     let mut conn = Conn::new(alloc, tested);
-    let mut bound = conn.size_bound();
+    let mut bounds = conn.send_bounds();
     for event in seen {
-        if is_harmless(bound, &event.note) {
+        if is_harmless(bounds, &event.note) {
             continue;
         }
         judge_bytes(event, faults)?;
         conn.take_in(event.place, &event.note, faults)?;
-        bound = conn.size_bound();
+        bounds = conn.send_bounds();
     }
     Ok(())
 }

@@ -53,13 +53,13 @@ pub fn plain_c(
     ensures memory { IsPlaced (reverse seen.now) → OnErr result (GrowsWithin (is_on_past tested) tested (reverse seen.now) faults.old faults.new) }
 {
     let mut conn = Conn::new(alloc, tested);
-    let mut bound = conn.size_bound();
+    let mut bounds = conn.send_bounds();
     for event in seen {
-        if is_harmless(bound, &event.note) {
+        if is_harmless(bounds, &event.note) {
             continue;
         }
         conn.take_in(event.place, &event.note, faults)?;
-        bound = conn.size_bound();
+        bounds = conn.send_bounds();
     }
     Ok(())
 }

@@ -8,7 +8,7 @@ use crate::faults::{FaultKey, Faults, Memory};
 use crate::note::Note;
 use crate::role::Tested;
 use crate::rule::Rule;
-use crate::watch::Watch;
+use crate::watch::{Skipping, Watch};
 use mq_trace::Place3;
 
 /// Watches W01 to W21. Each is false exactly at an event whose bytes break it, so nothing is kept.
@@ -45,5 +45,12 @@ impl Watch for Shapes {
 
     fn weight(&self) -> usize {
         0
+    }
+}
+
+impl Skipping for Shapes {
+    #[inline(always)]
+    fn may_skip(&self, note: &Note) -> bool {
+        note.body_fault().is_none()
     }
 }

@@ -1,27 +1,51 @@
 //! Events that are seen at once to break no statement, and to leave what is kept as it is: most of them.
 //!
-//! What is kept then gives one number, and an event is compared with that.
-ghost use Rattle.std.specs.Prelude.{◌≡◌, ◌&&◌, ◌||◌, not, is_none};
+//! What is kept then gives some bounds, and an event is compared with those.
+ghost use Rattle.std.specs.Prelude.{◌≡◌, ◌&&◌, ◌||◌, not, is_none, nat_le};
 ghost use Rattle.mq_rules.specs.Words.{is_some_and};
-ghost use Rattle.mq_rules.specs.Notes.{resumed_by};
-ghost use Rattle.mq_rules.specs.Keeping.{may_go_on, size_bound, is_harmless, is_harmless_in as harmless_in};
+ghost use Rattle.mq_rules.specs.Notes.{resumed_by, qos_number as number_of};
+ghost use Rattle.mq_rules.specs.Keeping.{may_go_on, size_bound, qos_bound, send_bounds, is_harmless as harmless, is_harmless_in as harmless_in};
 ghost use Rattle.mq_rules.specs.declared.role.Role.TheVariants as roles;
-ghost use Rattle.mq_rules.specs.Notes.{is_acknowledged};
 
 use super::state::{ConnectionState, is_ordinary};
-use super::verdicts::has_explanation;
+use super::verdicts::{has_explanation, qos_number};
 use crate::note::{ItemNote, Note};
 use crate::packet_note::{PacketFields, PublishNote};
 use crate::role::Role;
-use mq_packet::Qos;
 
 /// One byte more than the largest packet has.
 const ANY_SIZE: u64 = 0x1_0000_0000;
 
+/// The greatest QoS that there is (MQTT 5.0, section 4.3).
+const ANY_QOS: u8 = 2;
+
+/// What a packet is compared with, to see that it breaks nothing.
+#[derive(Clone, Copy, Debug, PartialEq, Eq)]
+pub struct SendBounds {
+    /// The tested end.
+    pub role: Role,
+    /// A packet of fewer bytes can be sent; none if this is 0.
+    pub size: u64,
+    /// The greatest QoS of a PUBLISH that can be sent.
+    pub qos: u8,
+}
+
 impl ConnectionState {
+    /// What a packet is compared with on this connection.
+    #[inline]
+    pub fn send_bounds(&self, role: Role) -> SendBounds
+        ensures { result ≡ send_bounds role self.now }
+    {
+        SendBounds {
+            role,
+            size: self.size_bound(role),
+            qos: self.qos_bound(role),
+        }
+    }
+
     /// A packet of fewer bytes can be sent, where its type and fields break nothing. It is 0 where the end may not go on.
     #[inline]
-    pub fn size_bound(&self, role: Role) -> u64
+    fn size_bound(&self, role: Role) -> u64
         ensures { result ≡ size_bound role self.now }
     {
         if !self.may_go_on(role) {
@@ -30,6 +54,17 @@ impl ConnectionState {
         match self.size_limit(role) {
             Some(most) => u64::from(most) + 1,
             None => ANY_SIZE,
+        }
+    }
+
+    /// The greatest QoS that the end may send.
+    #[inline]
+    fn qos_bound(&self, role: Role) -> u8
+        ensures { result ≡ qos_bound role self.now }
+    {
+        match role {
+            Role::Client => self.qos_limit(),
+            Role::Server => ANY_QOS,
         }
     }
 
@@ -67,54 +102,46 @@ impl ConnectionState {
     }
 }
 
-/// Whether an event is seen at once to break nothing and to change nothing, where this is the bound on sizes.
+/// Whether an event is seen at once to break nothing and to change nothing, where these are the bounds.
 #[inline(always)]
-pub fn is_harmless(bound: u64, note: &Note) -> bool
-    ensures { result ≡ is_harmless bound note.now }
+pub fn is_harmless(bounds: SendBounds, note: &Note) -> bool
+    ensures { result ≡ harmless bounds note.now }
 {
     match note {
         Note::Sent(ItemNote::Packet(packet)) => {
-            u64::from(packet.size) < bound
+            u64::from(packet.size) < bounds.size
                 && !has_explanation(packet)
-                && is_harmless_in(&packet.fields)
+                && is_harmless_in(bounds.role, bounds.qos, &packet.fields)
         }
-        Note::Recv(ItemNote::Packet(packet)) => 0 < bound && is_ordinary(&packet.fields),
+        Note::Recv(ItemNote::Packet(packet)) => 0 < bounds.size && is_ordinary(&packet.fields),
         _ => false,
     }
 }
 
-/// Whether it is a PUBLISH of QoS 0 with neither a Topic Alias nor a Subscription Identifier, or acknowledges a PUBLISH.
+/// Whether it is a PUBLISH up to this QoS with neither a Topic Alias nor a Subscription Identifier, acknowledges a PUBLISH, or is a ping that this
+/// end may send.
 #[inline(always)]
-fn is_harmless_in(fields: &PacketFields) -> bool
-    ensures { result ≡ harmless_in fields.now }
+fn is_harmless_in(role: Role, most: u8, fields: &PacketFields) -> bool
+    ensures { result ≡ harmless_in role most fields.now }
 {
     match fields {
-        PacketFields::Publish(publish) => is_plain(publish),
+        PacketFields::Publish(publish) => is_plain(most, publish),
         PacketFields::Puback { .. }
         | PacketFields::Pubrec { .. }
         | PacketFields::Pubrel { .. }
         | PacketFields::Pubcomp { .. } => true,
+        PacketFields::Pingreq => matches!(role, Role::Client),
+        PacketFields::Pingresp => matches!(role, Role::Server),
         _ => false,
     }
 }
 
-/// Whether a PUBLISH has QoS 0, and neither a Topic Alias nor a Subscription Identifier.
+/// Whether a PUBLISH has at most this QoS, and neither a Topic Alias nor a Subscription Identifier.
 #[inline(always)]
-fn is_plain(publish: &PublishNote) -> bool
-    ensures { result ≡ (is_none publish.now.topic_alias && (not publish.now.has_subscription_identifier && not (is_acknowledged publish.now.qos))) }
+fn is_plain(most: u8, publish: &PublishNote) -> bool
+    ensures { result ≡ (is_none publish.now.topic_alias && (not publish.now.has_subscription_identifier && nat_le (number_of publish.now.qos) most)) }
 {
     publish.topic_alias.is_none()
         && !publish.has_subscription_identifier
-        && is_at_most_once(publish.qos)
-}
-
-/// Whether a PUBLISH of this QoS isn't acknowledged.
-#[inline(always)]
-fn is_at_most_once(qos: Qos) -> bool
-    ensures { result ≡ not (is_acknowledged qos) }
-{
-    match qos {
-        Qos::AtMostOnce => true,
-        Qos::AtLeastOnce | Qos::ExactlyOnce => false,
-    }
+        && qos_number(publish.qos) <= most
 }

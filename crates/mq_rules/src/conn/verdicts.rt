@@ -265,7 +265,7 @@ impl ConnectionState {
     }
 
     /// The server's Maximum QoS.
-    fn qos_limit(&self) -> u8
+    pub(super) fn qos_limit(&self) -> u8
         ensures { result ≡ keeping.qos_limit self.now }
     {
         let announced = self.connack.and_then(|connack| connack.maximum_qos);
@@ -274,7 +274,8 @@ impl ConnectionState {
 }
 
 /// The number of a Quality of Service.
-fn qos_number(qos: Qos) -> u8
+#[inline]
+pub(super) fn qos_number(qos: Qos) -> u8
     ensures { result ≡ number_of qos }
 {
     match qos {

@@ -18,7 +18,7 @@ either tested rule = is_on_bytes tested rule || is_on_past tested rule
 pub loop-event-init : goal.loop-event-init
 loop-event-init c = record {
   agrees = agrees-start c.new-conn.result c.args.tested c.new-conn.ensures;
-  bounded = c.size_bound-bound.ensures;
+  bounded = c.send_bounds-bounds.ensures;
   grown = λ placed. grows-start (either c.args.tested) c.args.tested c.args.faults.now;
 }
 
@@ -32,7 +32,7 @@ loop-event-preserved c =
     record {
       agrees = subst (Agrees c.take_in.new.self tested) (sym (newest-first seen i e c.loop-event-test.true c.event-item.is))
           (c.in_ok-take_in.ensures.agrees tested past c.loop-event.invariant.agrees);
-      bounded = c.size_bound-bound-in-loop-event.ensures;
+      bounded = c.send_bounds-bounds-in-loop-event.ensures;
       grown = λ placed.
           let here = next-place seen i e c.loop-event-test.true c.event-item.is placed in
           grows-next (either tested) tested seen i e c.args.faults.now c.loop-event.faults c.take_in.new.faults c.loop-event-test.true c.event-item.is
@@ -51,15 +51,15 @@ loop-event-preserved-then-is_harmless c =
     let harmless = sym c.is_harmless.ensures ∙ c.if-is_harmless.true in
     record {
       agrees = subst (Agrees c.loop-event.conn tested) (sym (newest-first seen i e c.loop-event-test.true c.event-item.is))
-          (harmless-agrees c.loop-event.conn tested e past c.loop-event.bound c.loop-event.invariant.bounded harmless c.loop-event.invariant.agrees);
+          (harmless-agrees c.loop-event.conn tested e past c.loop-event.bounds c.loop-event.invariant.bounded harmless c.loop-event.invariant.agrees);
       bounded = c.loop-event.invariant.bounded;
       grown = λ placed.
           let here = next-place seen i e c.loop-event-test.true c.event-item.is placed in
           grows-next (either tested) tested seen i e c.args.faults.now c.loop-event.faults c.loop-event.faults c.loop-event-test.true c.event-item.is
           (c.loop-event.invariant.grown placed)
           (grows-then (is_on_bytes tested) (is_on_past tested) tested e past c.loop-event.faults c.loop-event.faults c.loop-event.faults
-          (bytes-none tested e past c.loop-event.faults (harmless-unbroken c.loop-event.bound e.note harmless))
-          (harmless-grows c.loop-event.conn tested e past c.loop-event.faults c.loop-event.bound c.loop-event.invariant.bounded harmless c.loop-event.invariant.agrees here));
+          (bytes-none tested e past c.loop-event.faults (harmless-unbroken c.loop-event.bounds e.note harmless))
+          (harmless-grows c.loop-event.conn tested e past c.loop-event.faults c.loop-event.bounds c.loop-event.invariant.bounded harmless c.loop-event.invariant.agrees here));
     }
 
 pub returns-in_err-judge_bytes-clause-memory : goal.returns-in_err-judge_bytes-clause-memory

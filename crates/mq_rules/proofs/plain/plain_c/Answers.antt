@@ -13,7 +13,7 @@ use Rattle.mq_rules.proofs.plain.plain_c.Goals as goal
 pub loop-event-init : goal.loop-event-init
 loop-event-init c = record {
   agrees = agrees-start c.new-conn.result c.args.tested c.new-conn.ensures;
-  bounded = c.size_bound-bound.ensures;
+  bounded = c.send_bounds-bounds.ensures;
   grown = λ placed. grows-start (is_on_past c.args.tested) c.args.tested c.args.faults.now;
 }
 
@@ -26,7 +26,7 @@ loop-event-preserved c =
     record {
       agrees = subst (Agrees c.take_in.new.self c.args.tested) (sym (newest-first seen i e c.loop-event-test.true c.event-item.is))
           (c.in_ok-take_in.ensures.agrees c.args.tested past c.loop-event.invariant.agrees);
-      bounded = c.size_bound-bound-in-loop-event.ensures;
+      bounded = c.send_bounds-bounds-in-loop-event.ensures;
       grown = λ placed. grows-next (is_on_past c.args.tested) c.args.tested seen i e c.args.faults.now c.loop-event.faults c.take_in.new.faults c.loop-event-test.true c.event-item.is
           (c.loop-event.invariant.grown placed)
           (c.in_ok-take_in.ensures.grows c.args.tested past c.loop-event.invariant.agrees (next-place seen i e c.loop-event-test.true c.event-item.is placed));
@@ -41,11 +41,11 @@ loop-event-preserved-then-is_harmless c =
     let harmless = sym c.is_harmless.ensures ∙ c.if-is_harmless.true in
     record {
       agrees = subst (Agrees c.loop-event.conn c.args.tested) (sym (newest-first seen i e c.loop-event-test.true c.event-item.is))
-          (harmless-agrees c.loop-event.conn c.args.tested e past c.loop-event.bound c.loop-event.invariant.bounded harmless c.loop-event.invariant.agrees);
+          (harmless-agrees c.loop-event.conn c.args.tested e past c.loop-event.bounds c.loop-event.invariant.bounded harmless c.loop-event.invariant.agrees);
       bounded = c.loop-event.invariant.bounded;
       grown = λ placed. grows-next (is_on_past c.args.tested) c.args.tested seen i e c.args.faults.now c.loop-event.faults c.loop-event.faults c.loop-event-test.true c.event-item.is
           (c.loop-event.invariant.grown placed)
-          (harmless-grows c.loop-event.conn c.args.tested e past c.loop-event.faults c.loop-event.bound c.loop-event.invariant.bounded harmless c.loop-event.invariant.agrees (next-place seen i e c.loop-event-test.true c.event-item.is placed));
+          (harmless-grows c.loop-event.conn c.args.tested e past c.loop-event.faults c.loop-event.bounds c.loop-event.invariant.bounded harmless c.loop-event.invariant.agrees (next-place seen i e c.loop-event-test.true c.event-item.is placed));
     }
 
 pub returns-in_err-take_in-clause-memory : goal.returns-in_err-take_in-clause-memory

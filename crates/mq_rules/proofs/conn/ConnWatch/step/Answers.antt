@@ -36,3 +36,11 @@ returns-in_err-consume-clause-memory c =
     on_err c.from_residual-in_err-consume.result (ConnWithin c.args.self.now e c.args.faults.now c.judge.new.faults)
     (λ tested taken past follows on here. conn-within c.args.self.now tested taken e past c.args.faults.now c.judge.new.faults follows on here
     (within-all (is_found c.args.self.now.role c.args.self.now.state (contains nat_cmp c.args.self.now.aliases) c.args.note.now) e.place c.args.faults.now c.judge.new.faults c.in_ok-judge.ensures.ok))
+
+pub returns-then-may_skip-clause-agrees : goal.returns-then-may_skip-clause-agrees
+returns-then-may_skip-clause-agrees c = λ tested taken past follows on here.
+    (c.may_skip.ensures c.if-may_skip.true tested taken c.args.at past follows on here).stays
+
+pub returns-then-may_skip-clause-grows : goal.returns-then-may_skip-clause-grows
+returns-then-may_skip-clause-grows c = λ tested taken past follows on here.
+    (c.may_skip.ensures c.if-may_skip.true tested taken c.args.at past follows on here).shows c.args.faults.now

@@ -1,0 +1,51 @@
+-- An event of a decided connection that is skipped, where nothing is held.
+use Rattle.std.proofs.Common.{◌≡◌, ℕ, ◌+◌, Bool, true, false, cond, not, ◌&&◌, List, [], ◌∷◌, ◌++◌, length, Option, Some, None, refl, ap, sym, subst, ◌∙◌}
+use Rattle.std.specs.Prelude.{is_some}
+use Rattle.std.specs.Option.{option_or}
+use Rattle.mq_rules.specs.declared.role.Role.{Role}
+use Rattle.mq_rules.specs.declared.role.Tested.{Tested}
+use Rattle.mq_rules.specs.declared.fate.Fate.{Fate}
+use Rattle.mq_rules.specs.declared.rule.Rule.{Rule}
+use Rattle.mq_rules.specs.declared.note.Seen.{Seen}
+use Rattle.mq_rules.specs.Notes.{is_open, decides}
+use Rattle.mq_rules.specs.Connections.{latest_fate}
+use Rattle.mq_rules.specs.Under.{Follows, IsKnown, turns_known}
+use Rattle.mq_rules.specs.Skipping.{Skips}
+use Rattle.mq_rules.proofs.Exports.{gains_same, there}
+use Rattle.mq_books.specs.Holding.{is_nothing, turns_session, Holds}
+use Rattle.mq_books.proofs.EarlyLaws.{passes}
+use Rattle.mq_books.proofs.StepLaws.{Ready, ready, holds-none}
+
+pub not_false : (b : Bool) → not b ≡ true → b ≡ false
+not_false true h = absurd (cc)
+not_false false h = refl
+
+pub early-skips : (agrees : Option Fate → List Seen → Type 0) (judges : Rule → Bool) (adds : ℕ → Rule → Bool) (role : Role) (fate : Option Fate) (held : List Seen) (tested : Tested) (e : Seen) (past : List Seen)
+    → Holds agrees role fate held tested past → Follows tested e past → is_some fate ≡ true → is_nothing held ≡ true → is_open e.note ≡ false
+    → ((k : ℕ) (r : Rule) → adds k r ≡ (judges r && turns_known tested e past k r))
+    → ((f : Fate) → IsKnown tested (Some f) e past → agrees (Some f) past → Skips agrees adds tested e past)
+    → Skips (λ taken log. Holds agrees role fate held tested log) (λ k r. judges r && turns_session tested e past k r) tested e past
+early-skips agrees judges adds role fate (d ∷ ds) tested e past h follows decided none closed same skips = absurd (cc)
+early-skips agrees judges adds role fate [] tested e past h follows decided none closed same skips = record {
+  stays = holds-none agrees role fate [] tested f e past [] r h.same_role some refl agrees
+      (subst (λ log. agrees (Some f) (e ∷ log)) (sym r.whole) (subst (λ o. agrees o (e ∷ past)) r.after whole.stays));
+  shows = λ m. gains_same adds (λ k s. judges s && turns_session tested e past k s) tested (e ∷ past) (length past + 1) m m (λ k s. same k s ∙ session k s) (whole.shows m);
+}
+  where
+    f : Fate
+    f = (there fate decided).0
+
+    some : fate ≡ Some f
+    some = (there fate decided).1
+
+    r : Ready agrees tested f e past []
+    r = ready agrees role fate fate [] [] tested f e past h follows (some ∙ sym (λ i. cond (closed i) None (option_or (some i) (decides role e.note)))) some refl
+
+    whole : Skips agrees adds tested e past
+    whole = skips f (record { fate = f; latest = r.after; same = refl })
+        (subst (λ o. agrees o past) (sym h.same_fate ∙ some) (subst (λ log. agrees (latest_fate tested.role log) log) r.whole r.before))
+
+    session : (k : ℕ) (s : Rule) → (judges s && turns_known tested e past k s) ≡ (judges s && turns_session tested e past k s)
+    session k s =
+        subst (λ log. (judges s && turns_known tested e log k s) ≡ (judges s && turns_session tested e log k s)) r.whole
+        ((passes tested f e [] r.base r.can).adds_same judges k s ∙ ap (λ b. judges s && b) ((passes tested f e [] r.base r.can).same k s))

@@ -1,0 +1,44 @@
+-- Notes of packets without properties.
+use Rattle.std.proofs.Common.{◌≡◌, ℕ, List, [], is_some, refl, ap, sym}
+use Rattle.mq_props.specs.Values.{Property}
+use Rattle.mq_props.specs.First.{first_two_bytes, first_four_bytes, first_varint, first_text, first_pair}
+use Rattle.mq_packet.specs.Entries.{PublishFields, publish, pingreq, pingresp}
+use Rattle.mq_trace.specs.declared.kind.Direction.{Direction}
+use Rattle.mq_trace.specs.declared.kind.Direction.TheVariants.{Sent, Recv}
+use Rattle.mq_trace.specs.Events.{packet}
+use Rattle.mq_trace.specs.Flows.{item_event}
+use Rattle.mq_rules.specs.declared.note.Note.TheVariants as notes
+use Rattle.mq_rules.specs.declared.note.ItemNote.TheVariants as items
+use Rattle.mq_rules.specs.declared.packet_note.PacketNote.{PacketNote}
+use Rattle.mq_rules.specs.declared.packet_note.PacketFields.TheVariants.{Publish, Pingreq, Pingresp}
+use Rattle.mq_rules.specs.Notes.{only_list, is_sent_direction, bare_publish_note, bare_note, note_of}
+
+-- what is noted of a PUBLISH, if these are its properties
+abbrev noted : Direction → ℕ → PublishFields → List Property → PacketNote
+noted direction size p properties = record {
+  size = size;
+  has_reason_string = is_some (first_text 31 properties);
+  has_user_property = is_some (first_pair 38 properties);
+  fields = Publish (record {
+    identifier = p.identifier;
+    qos = p.qos;
+    duplicate = p.duplicate;
+    topic = only_list (is_sent_direction direction) p.topic;
+    topic_alias = first_two_bytes 35 properties;
+    has_message_expiry = is_some (first_four_bytes 2 properties);
+    has_subscription_identifier = is_some (first_varint 11 properties);
+  });
+}
+
+pub bare_publish : (direction : Direction) (size : ℕ) (p : PublishFields) → p.properties.items ≡ []
+    → bare_note direction size (Publish (bare_publish_note direction p.identifier p.qos p.duplicate p.topic)) ≡ note_of (item_event direction (packet size (publish p)))
+bare_publish Sent size p none = sym (ap (λ properties. notes.Sent (items.Packet (noted Sent size p properties))) none)
+bare_publish Recv size p none = sym (ap (λ properties. notes.Recv (items.Packet (noted Recv size p properties))) none)
+
+pub bare_pingreq : (direction : Direction) (size : ℕ) → bare_note direction size Pingreq ≡ note_of (item_event direction (packet size pingreq))
+bare_pingreq Sent size = refl
+bare_pingreq Recv size = refl
+
+pub bare_pingresp : (direction : Direction) (size : ℕ) → bare_note direction size Pingresp ≡ note_of (item_event direction (packet size pingresp))
+bare_pingresp Sent size = refl
+bare_pingresp Recv size = refl
