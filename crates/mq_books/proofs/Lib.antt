@@ -33,6 +33,8 @@ pub mod UsingConcernLaws
 pub mod SelectingLaws
 pub mod SizeLaws
 pub mod QueueSizeLaws
+pub mod LiteralLaws
+pub mod AwaitedLaws
 pub mod StandLaws
 pub mod StandingSizeLaws
 pub mod AskingSizeLaws

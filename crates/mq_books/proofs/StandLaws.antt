@@ -1,5 +1,6 @@
 -- The filters that stand, as a map from each to the greatest QoS of what may be sent for it.
-use Rattle.std.proofs.Common.{◌≡◌, ℕ, ◌≤◌, nat_le, arith, Bool, true, false, cond, if◌then◌else◌, ◌&&◌, ◌||◌, List, [], ◌∷◌, length, Some, refl, ap, sym, ◌∙◌}
+use Rattle.std.proofs.Common.{◌≡◌, ℕ, ◌+◌, ◌≤◌, nat_le, arith, Bool, true, false, cond, if◌then◌else◌, ◌&&◌, ◌||◌, not, List, [], ◌∷◌, ◌++◌, length, None, Some, refl, ap, sym, ◌∙◌}
+use Rattle.std.specs.Prelude.{is_some}
 use Rattle.std.specs.declared.string.String.{String}
 use Rattle.std.specs.String.{string_bytes, string_eq}
 use Rattle.std.specs.Str.{bytes_eq}
@@ -9,11 +10,16 @@ use Rattle.std.specs.Map.{keys_of, lookup}
 use Rattle.std.proofs.lemmas.Bool.Decides.{nat_tests}
 use Rattle.std.proofs.lemmas.Slice.Eq.{bytes_eq-Decides}
 use Rattle.std.proofs.lemmas.Cmp.{nat_list_eq_equiv}
+use Rattle.std.proofs.lemmas.List.Folds.{list_any-append}
+use Rattle.std.proofs.lemmas.List.{length-append}
 use Rattle.std.proofs.lemmas.Map.Made.{length-le_from_is_member}
 use Rattle.std.proofs.lemmas.Map.Steps.{list_any_congr}
 use Rattle.indexmap.specs.IndexMap.{insert_entry}
+use Rattle.mq_topic.specs.Levels.{is_name}
+use Rattle.mq_topic.specs.Matching.{matches, is_empty}
 use Rattle.mq_rules.specs.Words.{is_some_and}
-use Rattle.mq_books.specs.Standings.{allows, standings}
+use Rattle.mq_books.specs.Standings.{allows, standings, AllFilters, IsSplit}
+use Rattle.mq_books.proofs.LiteralLaws.{literal-matches}
 
 below : (a b : ℕ) → nat_le a b ≡ false → b ≤ a
 below a b h = grind (arith, nat_tests)
@@ -103,6 +109,81 @@ module _ {Y : Type 0} where
           held first new there (λ p. ap (λ g. allows among qos (record { filter = g; ceiling = e.1 })) (sym same) ∙ allows-more among qos f c e.1 (within c e.1 h) p)
       go false n h rest = ap (λ b. first || b) (rest h) ∙ moved first there (new || false)
 
+  pub put-all : (test : List ℕ → Bool) (es : List (String Y × ℕ)) (k : String Y) (c : ℕ) → test (string_bytes k) ≡ true → AllFilters test es → AllFilters test (insert_entry string_eq es k c)
+  put-all test [] k c h all = (h, tt)
+  put-all test (e ∷ es) k c h all = go (string_eq k e.0) (put-all test es k c h all.1)
+    where
+      go : (b : Bool) → AllFilters test (insert_entry string_eq es k c) → AllFilters test (if b then (e.0, c) ∷ es else e ∷ insert_entry string_eq es k c)
+      go true rest = all
+      go false rest = (all.0, rest)
+
+  -- ---- a topic is looked up among filters without a wildcard
+
+  none-there : (topic : List ℕ) (test : ℕ → Bool) (k : String Y) (es : List (String Y × ℕ)) → topic ≡ string_bytes k → AllFilters is_name es → AllByRecursion (λ y. string_eq k y ≡ false) (keys_of es)
+      → list_any (λ s. matches s.filter topic && test s.ceiling) (standings es) ≡ false
+  none-there topic test k [] same named apart = refl
+  none-there topic test k (e ∷ es) same named apart =
+      ap (λ b. (b && test e.1) || list_any (λ s. matches s.filter topic && test s.ceiling) (standings es))
+      (literal-matches (string_bytes e.0) topic named.0 ∙ ap (λ b. b && not (is_empty topic)) (ap (λ t. bytes_eq t (string_bytes e.0)) same ∙ apart.0))
+      ∙ none-there topic test k es same named.1 apart.1
+
+  pub literal-any : (topic : List ℕ) (test : ℕ → Bool) (es : List (String Y × ℕ)) → AllFilters is_name es → IsDistinct string_eq (keys_of es)
+      → list_any (λ s. matches s.filter topic && test s.ceiling) (standings es) ≡ is_some_and test (cond (is_empty topic) None (lookup (λ k. bytes_eq topic (string_bytes k)) es))
+  unfolding IsDistinct
+  literal-any topic test [] named apart = sym (go (is_empty topic))
+    where
+      go : (b : Bool) → is_some_and test (cond b None None) ≡ false
+      go true = refl
+      go false = refl
+  literal-any topic test (e ∷ es) named apart =
+      ap (λ b. (b && test e.1) || list_any (λ s. matches s.filter topic && test s.ceiling) (standings es)) (literal-matches (string_bytes e.0) topic named.0)
+      ∙ go (bytes_eq topic (string_bytes e.0)) refl (literal-any topic test es named.1 apart.1)
+    where
+      rest : Bool
+      rest = list_any (λ s. matches s.filter topic && test s.ceiling) (standings es)
+
+      one : (empty : Bool) → (((true && not empty) && test e.1) || false) ≡ is_some_and test (cond empty None (Some e.1))
+      one true = refl
+      one false = or_none (test e.1)
+        where
+          or_none : (b : Bool) → (b || false) ≡ b
+          or_none true = refl
+          or_none false = refl
+
+      go : (b : Bool) → bytes_eq topic (string_bytes e.0) ≡ b → rest ≡ is_some_and test (cond (is_empty topic) None (lookup (λ k. bytes_eq topic (string_bytes k)) es))
+          → (((b && not (is_empty topic)) && test e.1) || rest) ≡ is_some_and test (cond (is_empty topic) None (cond b (Some e.1) (lookup (λ k. bytes_eq topic (string_bytes k)) es)))
+      go true n is =
+          ap (λ r. ((true && not (is_empty topic)) && test e.1) || r) (none-there topic test e.0 es ((bytes_eq-Decides topic (string_bytes e.0)).0 n) named.1 apart.0)
+          ∙ one (is_empty topic)
+      go false n is = is
+
+  -- each filter has a ceiling
+  pub literal-named : (topic : List ℕ) (es : List (String Y × ℕ)) → AllFilters is_name es → IsDistinct string_eq (keys_of es)
+      → list_any (λ s. matches s.filter topic) (standings es) ≡ is_some (cond (is_empty topic) None (lookup (λ k. bytes_eq topic (string_bytes k)) es))
+  literal-named topic es named apart = (λ i. list_any (λ s. sym (whole (matches s.filter topic)) i) (standings es)) ∙ literal-any topic (λ _. true) es named apart
+    where
+      whole : (b : Bool) → (b && true) ≡ b
+      whole true = refl
+      whole false = refl
+
+  -- ---- all filters
+
+  pub split-named : (topic : List ℕ) (literal wild : List (String Y × ℕ)) → IsSplit literal wild
+      → list_any (λ s. matches s.filter topic) (standings literal ++ standings wild)
+      ≡ (is_some (cond (is_empty topic) None (lookup (λ k. bytes_eq topic (string_bytes k)) literal)) || list_any (λ k. matches (string_bytes k) topic) (keys_of wild))
+  split-named topic literal wild split =
+      list_any-append (λ s. matches s.filter topic) (standings literal) (standings wild)
+      ∙ ap (λ b. b || list_any (λ s. matches s.filter topic) (standings wild)) (literal-named topic literal split.0 split.2)
+      ∙ ap (λ b. is_some (cond (is_empty topic) None (lookup (λ k. bytes_eq topic (string_bytes k)) literal)) || b) (sym (keys-any (λ f. matches f topic) wild))
+
+  pub split-any : (topic : List ℕ) (test : ℕ → Bool) (literal wild : List (String Y × ℕ)) → IsSplit literal wild
+      → list_any (λ s. matches s.filter topic && test s.ceiling) (standings literal ++ standings wild)
+      ≡ (is_some_and test (cond (is_empty topic) None (lookup (λ k. bytes_eq topic (string_bytes k)) literal)) || list_any (λ e. matches (string_bytes e.0) topic && test e.1) wild)
+  split-any topic test literal wild split =
+      list_any-append (λ s. matches s.filter topic && test s.ceiling) (standings literal) (standings wild)
+      ∙ ap (λ b. b || list_any (λ s. matches s.filter topic && test s.ceiling) (standings wild)) (literal-any topic test literal split.0 split.2)
+      ∙ ap (λ b. is_some_and test (cond (is_empty topic) None (lookup (λ k. bytes_eq topic (string_bytes k)) literal)) || b) (sym (entries-any (λ f ceiling. matches f topic && test ceiling) wild))
+
   -- ---- how many filters there are
 
   abbrev names : List (String Y × ℕ) → List (List ℕ)
@@ -126,6 +207,27 @@ module _ {Y : Type 0} where
   names-distinct [] h = tt
   names-distinct (e ∷ es) h = (names-apart e.0 es h.0, names-distinct es h.1)
 
+  -- a filter without a wildcard is none of those with one
+  others-apart : (f : List ℕ) → is_name f ≡ true → (es : List (String Y × ℕ)) → AllFilters (λ g. not (is_name g)) es → AllByRecursion (λ y. bytes_eq f y ≡ false) (names es)
+  others-apart f h [] wild = tt
+  others-apart f h (e ∷ es) wild = (go (bytes_eq f (string_bytes e.0)) refl, others-apart f h es wild.1)
+    where
+      go : (b : Bool) → bytes_eq f (string_bytes e.0) ≡ b → b ≡ false
+      go false n = refl
+      go true n =
+          let bad : not (is_name f) ≡ true = ap (λ g. not (is_name g)) ((bytes_eq-Decides f (string_bytes e.0)).0 n) ∙ wild.0 in
+          absurd (let none : not (is_name f) ≡ false = ap not h in cc)
+
+both-apart : (f : List ℕ) (xs ys : List (List ℕ)) → AllByRecursion (λ y. bytes_eq f y ≡ false) xs → AllByRecursion (λ y. bytes_eq f y ≡ false) ys → AllByRecursion (λ y. bytes_eq f y ≡ false) (xs ++ ys)
+both-apart f [] ys a b = b
+both-apart f (x ∷ xs) ys a b = (a.0, both-apart f xs ys a.1 b)
+
+both-distinct : {Y : Type 0} (literal wild : List (String Y × ℕ)) → IsSplit literal wild → IsDistinct string_eq (keys_of wild) → IsDistinct bytes_eq (names literal ++ names wild)
+unfolding IsDistinct
+both-distinct [] wild split apart = names-distinct wild apart
+both-distinct (e ∷ es) wild split apart =
+    (both-apart (string_bytes e.0) (names es) (names wild) (names-apart e.0 es split.2.0) (others-apart (string_bytes e.0) split.0.0 wild split.1), both-distinct es wild (split.0.1, split.1, split.2.1) apart)
+
 -- each filter of a list is among the different ones
 unique-has : (fs : List (List ℕ)) (f : List ℕ) → list_any (bytes_eq f) fs ≡ true → list_any (bytes_eq f) (unique_keys bytes_eq fs) ≡ true
 unique-has [] f h = h
@@ -138,8 +240,19 @@ unique-has (g ∷ fs) f h = go (bytes_eq f g) refl (list_any (bytes_eq g) fs) re
     go false n true m h rest = rest h
     go false n false m h rest = ap (λ a. a || list_any (bytes_eq f) (unique_keys bytes_eq fs)) n ∙ rest h
 
-pub different : {Y : Type 0} (es : List (String Y × ℕ)) (fs : List (List ℕ)) → IsDistinct string_eq (keys_of es) → ((f : List ℕ) → list_any (λ s. bytes_eq f s.filter) (standings es) ≡ true → list_any (bytes_eq f) fs ≡ true) → length es ≤ distinct_count bytes_eq fs
-different es fs apart within =
-    let le : length (names es) ≤ length (unique_keys bytes_eq fs) = length-le_from_is_member nat_list_eq_equiv (names es) (unique_keys bytes_eq fs) (names-distinct es apart) (λ f here. unique-has fs f (within f (sym (names-any f es) ∙ here))) in
-    let long = names-length es in
-    omega (arith, le, long)
+pub different : {Y : Type 0} (literal wild : List (String Y × ℕ)) (fs : List (List ℕ)) → IsSplit literal wild → IsDistinct string_eq (keys_of wild)
+    → ((f : List ℕ) → list_any (λ s. bytes_eq f s.filter) (standings literal ++ standings wild) ≡ true → list_any (bytes_eq f) fs ≡ true) → length literal + length wild ≤ distinct_count bytes_eq fs
+different literal wild fs split apart within =
+    let le : length (names literal ++ names wild) ≤ length (unique_keys bytes_eq fs) =
+    length-le_from_is_member nat_list_eq_equiv (names literal ++ names wild) (unique_keys bytes_eq fs) (both-distinct literal wild split apart) (λ f here. unique-has fs f (within f (sym (all f) ∙ here))) in
+    let joined = length-append (names literal) (names wild) in
+    let first = names-length literal in
+    let second = names-length wild in
+    omega (arith, le, joined, first, second)
+  where
+    all : (f : List ℕ) → list_any (bytes_eq f) (names literal ++ names wild) ≡ list_any (λ s. bytes_eq f s.filter) (standings literal ++ standings wild)
+    all f =
+        list_any-append (bytes_eq f) (names literal) (names wild)
+        ∙ ap (λ b. b || list_any (bytes_eq f) (names wild)) (names-any f literal)
+        ∙ ap (λ b. list_any (λ s. bytes_eq f s.filter) (standings literal) || b) (names-any f wild)
+        ∙ sym (list_any-append (λ s. bytes_eq f s.filter) (standings literal) (standings wild))

@@ -1,9 +1,11 @@
 -- What the book of deliveries keeps: filters that stand, SUBSCRIBEs that wait for their SUBACK, topics by their Topic Alias.
-use Rattle.std.specs.Prelude.{ℕ, ◌≡◌, ◌+◌, ◌==◌, nat_le, Bool, false, ◌&&◌, ◌||◌, not, cond, List, [], ◌∷◌, ◌++◌, length, Option, Some, None, is_none, unwrap_or, option_map}
+use Rattle.std.specs.Prelude.{ℕ, ◌≡◌, ◌+◌, ◌==◌, nat_le, Bool, true, false, ◌&&◌, ◌||◌, not, cond, List, [], ◌∷◌, ◌++◌, length, Option, Some, None, is_none, unwrap_or, option_map}
 use Rattle.std.specs.Option.{option_or, option_and_then}
-use Rattle.std.specs.List.{list_any, sum_by}
-use Rattle.std.specs.String.{string_bytes}
+use Rattle.std.specs.List.{list_any, sum_by, IsDistinct}
+use Rattle.std.specs.Map.{keys_of}
+use Rattle.std.specs.String.{string_bytes, string_eq}
 use Rattle.std.specs.declared.string.String.{String}
+use Rattle.mq_topic.specs.Levels.{is_name}
 use Rattle.mq_topic.specs.Matching.{matches}
 use Rattle.mq_rules.specs.declared.role.Role.{Role}
 use Rattle.mq_rules.specs.declared.role.Tested.{Tested}
@@ -27,6 +29,15 @@ allows among qos s = among s.filter && nat_le qos s.ceiling
 abbrev pub standings : {Y : Type 0} → List (String Y × ℕ) → List Standing
 standings [] = []
 standings (e ∷ es) = record { filter = string_bytes e.0; ceiling = e.1 } ∷ standings es
+
+-- all filters of a map pass the test
+abbrev pub AllFilters : {Y : Type 0} → (List ℕ → Bool) → List (String Y × ℕ) → Type 0
+AllFilters test [] = Unit {0}
+AllFilters test (e ∷ es) = (test (string_bytes e.0) ≡ true) × AllFilters test es
+
+-- the first map has filters without a wildcard, each once, and the second has others
+abbrev pub IsSplit : {Y : Type 0} → List (String Y × ℕ) → List (String Y × ℕ) → Type 0
+IsSplit literal wild = AllFilters is_name literal × AllFilters (λ f. not (is_name f)) wild × IsDistinct string_eq (keys_of literal)
 
 -- one of them allows this
 abbrev pub stands_any : {Y : Type 0} → (List ℕ → Bool) → ℕ → List (String Y × ℕ) → Bool
@@ -65,6 +76,19 @@ settled_from past j = settled_by (begun past == number j) (codes_in past j) (rec
 
 abbrev pub waiting_from : List Seen → Moment → Option Waits
 waiting_from past j = waiting_by (begun past == number j) (codes_in past j) (received_subscription (note j))
+
+-- SUBSCRIBEs with these filters under an identifier; those of a map from identifiers to them; those that were taken out of it
+abbrev pub under : ℕ → List (List Standing) → List Waits
+under i [] = []
+under i (filters ∷ others) = record { identifier = i; filters = filters } ∷ under i others
+
+abbrev pub waits_of : List (ℕ × List (List Standing)) → List Waits
+waits_of [] = []
+waits_of (e ∷ es) = under e.0 e.1 ++ waits_of es
+
+abbrev pub taken : ℕ → Option (List (List Standing)) → List Waits
+taken i None = []
+taken i (Some requests) = under i requests
 
 -- how much it counts: itself, and its filters
 abbrev pub waits_weight : Waits → ℕ

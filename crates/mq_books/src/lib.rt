@@ -6,6 +6,7 @@
 #![tactic(auto)]
 
 mod asked;
+mod awaited;
 mod counts;
 mod debts;
 mod early;

@@ -1,234 +1,88 @@
 //! What a server may deliver: topics that were subscribed to, at no more than the QoS that was granted (MQTT 5.0, sections 3.3.1.2,
 //! 3.8.4 and 4.7).
 ghost use Rattle.std.specs.Prelude.{refl};
-ghost use Rattle.std.specs.Prelude.{◌≡◌, ◌≤◌, ◌+◌, ◌*◌, ◌&&◌, ◌||◌, ◌==◌, ◌%◌, ◌++◌, ◌∷◌, nat_le, ℕ, Bool, true, List, cond, not, OnOk, IfOk, nat_eq, [], Some, length, option_map};
+ghost use Rattle.std.specs.Prelude.{◌≡◌, ◌+◌, ◌*◌, ◌&&◌, ◌||◌, ◌==◌, nat_le, ℕ, Bool, List, cond, not, OnOk, nat_eq, [], Some, length, option_map};
 ghost use Rattle.std.specs.List.{list_any, sum_by};
-ghost use Rattle.std.specs.Option.{option_and_then, option_or};
+ghost use Rattle.std.specs.Option.{option_or};
 ghost use Rattle.indexmap.specs.IndexMap.{get};
 ghost use Rattle.mq_topic.specs.Matching.{matches as is_match};
 ghost use Rattle.mq_rules.specs.declared.fate.Fate.TheVariants.{Void};
 ghost use Rattle.mq_rules.specs.declared.rule.Rule.TheVariants.{B01, B02};
 ghost use Rattle.mq_rules.specs.Words.{is_some_and, is_id, only};
-ghost use Rattle.mq_rules.specs.Notes.{received_subscription, sent_publish, qos_number as number_of, subscription_in, is_open, sent_grant, grant_in};
+ghost use Rattle.mq_rules.specs.Notes.{received_subscription, qos_number as number_of, subscription_in, sent_grant};
 ghost use Rattle.mq_rules.specs.Connections.{accepts, begins};
-ghost use Rattle.mq_rules.specs.Subscriptions.{Standing, granted, is_shared as begins_shared, topic_set as set_topic};
+ghost use Rattle.mq_rules.specs.Subscriptions.{granted, is_shared as begins_shared};
 ghost use Rattle.mq_rules.specs.Rules.{same_rule, binds as is_bound};
 ghost use Rattle.mq_rules.specs.Under.{IsKnown, turns_known};
 ghost use Rattle.mq_books.specs.Burden.{standing_count, asked_filters, aliased_ids};
-ghost use Rattle.mq_books.specs.Standings.{allows, standings, stands_any, Waits, asked, weighed, sum_next, waits_weight, first_code, other_codes, with_code, with_codes, goes_on as keeps_session, is_answered, grants_some, settled_next, waiting_next, sharing_next, topic_next, IsStanding, any_kept, topic_kept, delivers_so, judged_topic as topic_judged, is_unasked as unasked, is_above as above};
+ghost use Rattle.mq_books.specs.Standings.{allows, Waits, asked, weighed, sum_next, with_codes, goes_on as keeps_session, is_answered, grants_some, settled_next, waiting_next, sharing_next, topic_next, IsStanding, any_kept, topic_kept, delivers_so, judged_topic as topic_judged, is_unasked as unasked, is_above as above};
 ghost use Rattle.mq_books.specs.Concerns.{concerns_deliveries};
 
+use crate::awaited::{Awaited, Request};
 use crate::fated::Fated;
 use crate::known::judge_by;
 use crate::selective::Selective;
 use crate::sizes::map_size;
-use crate::stands::{any_standing_allowing, any_standing_for, filters_size, stand};
+use crate::stands::StandingFilters;
 use indexmap::IndexMap;
 use mq_packet::Qos;
 use mq_rules::{
     Fate, Faults, Memory, Note, NotedFilter, PacketFields, PublishNote, Rule, Tested, Text, Watch,
 };
-use mq_topic::matches;
 use mq_trace::Place3;
 use std::alloc::Global;
-use std::marker::Model;
-
-/// The lowest Reason Code that refuses (MQTT 5.0, section 2.4).
-const REFUSING: u8 = 0x80;
-
-/// A Topic Filter of a SUBSCRIBE that waits, with the QoS that it asks for.
-#[derive(Drop)]
-struct Kept {
-    filter: Text,
-    ceiling: u8,
-}
-
-impl Model for Kept {
-    ghost use Rattle.mq_rules.specs.Subscriptions.{Standing};
-
-    ghost Value = { Standing };
-
-    ghost view = { λ k. record { filter = k.filter; ceiling = k.ceiling } };
-}
-
-/// A SUBSCRIBE that waits for its SUBACK. Each filter has the QoS that it asks for.
-#[derive(Drop)]
-struct Waiting {
-    identifier: u16,
-    filters: Vec<Kept>,
-}
-
-impl Model for Waiting {
-    ghost use Rattle.mq_books.specs.Standings.{Waits};
-
-    ghost Value = { Waits };
-
-    ghost view = { λ w. record { identifier = w.identifier; filters = w.filters.items } };
-}
-
-// ---- filters
-
-/// Adds a filter.
-fn add(alloc: Global, kept: &mut Vec<Kept>, filter: &str, ceiling: u8) -> Result<(), Memory>
-    ensures { OnOk result (kept.new.items ≡ kept.old.items ++ (record { filter = filter.now; ceiling = ceiling } ∷ [])) }
-{
-    let filter = Text::of(alloc, filter)?;
-    kept.push(Kept { filter, ceiling })?;
-    Ok(())
-}
-
-/// Adds a filter with its Reason Code, unless that refuses it. Without a code it keeps its ceiling.
-fn add_granted(
-    alloc: Global,
-    settled: &mut IndexMap<String, u8>,
-    kept: &Kept,
-    code: Option<u8>,
-) -> Result<(), Memory>
-    ensures { OnOk result ((among : List ℕ → Bool) (qos : ℕ) → stands_any among qos settled.new.entries ≡ (stands_any among qos settled.old.entries || list_any (allows among qos) (with_code kept.now code))) }
-{
-    match code {
-        None => {
-            stand(alloc, settled, kept.filter.as_str(), kept.ceiling)?;
-            Ok(())
-        }
-        Some(code) => {
-            if code >= REFUSING {
-                return Ok(());
-            }
-            stand(alloc, settled, kept.filter.as_str(), code)?;
-            Ok(())
-        }
-    }
-}
-
-/// The first of the Reason Codes that are left, if there is one, and the others.
-fn next_code(codes: &[u8]) -> (Option<u8>, &[u8])
-    ensures first { result.0 ≡ first_code codes.now }
-    ensures others { result.1.now ≡ other_codes codes.now }
-{
-    match codes.split_first() {
-        Some((code, others)) => (Some(*code), others),
-        None => (None, codes),
-    }
-}
-
-/// Adds filters with their Reason Codes (MQTT 5.0, section 3.9.3).
-fn settle(
-    alloc: Global,
-    settled: &mut IndexMap<String, u8>,
-    filters: &[Kept],
-    codes: &[u8],
-) -> Result<(), Memory>
-    ensures { OnOk result ((among : List ℕ → Bool) (qos : ℕ) → stands_any among qos settled.new.entries ≡ (stands_any among qos settled.old.entries || list_any (allows among qos) (with_codes filters.now codes.now))) }
-{
-    let mut filters = filters;
-    let mut codes = codes;
-    while let Some((filter, next_filters)) = filters.split_first() {
-        let (code, next_codes) = next_code(codes);
-        add_granted(alloc, settled, filter, code)?;
-        filters = next_filters;
-        codes = next_codes;
-    }
-    Ok(())
-}
-
-/// The filters of a SUBSCRIBE, with the QoS that each asks for.
-fn asked_filters(alloc: Global, filters: &[NotedFilter]) -> Result<Vec<Kept>, Memory>
-    ensures { IfOk result (λ kept. kept.items ≡ granted filters.now []) }
-{
-    let mut kept = Vec::new(alloc);
-    let mut filters = filters;
-    while let Some((filter, next_filters)) = filters.split_first() {
-        add(alloc, &mut kept, filter.filter.as_str(), filter.options % 4)?;
-        filters = next_filters;
-    }
-    Ok(kept)
-}
 
 // ---- SUBSCRIBEs
 
 /// Settles the SUBSCRIBEs that wait under this identifier.
 fn answer(
     alloc: Global,
-    settled: &mut IndexMap<String, u8>,
-    waiting: &mut Vec<Waiting>,
+    settled: &mut StandingFilters,
+    waiting: &mut Awaited,
     identifier: u16,
     codes: &[u8],
 ) -> Result<(), Memory>
-    ensures settled { OnOk result ((among : List ℕ → Bool) (qos : ℕ) → stands_any among qos settled.new.entries ≡ (stands_any among qos settled.old.entries || list_any (λ w. (identifier == w.identifier) && list_any (allows among qos) (with_codes w.filters codes.now)) waiting.old.items)) }
-    ensures left { OnOk result ((t : Waits → Bool) → list_any t waiting.new.items ≡ list_any (λ w. not (identifier == w.identifier) && t w) waiting.old.items) }
-    ensures sums { OnOk result ((weigh : Waits → ℕ) → sum_by weigh waiting.new.items ≡ sum_by (λ w. cond (identifier == w.identifier) 0 (weigh w)) waiting.old.items) }
+    ensures settled { OnOk result ((among : List ℕ → Bool) (qos : ℕ) → list_any (allows among qos) settled.new ≡ (list_any (allows among qos) settled.old || list_any (λ w. (identifier == w.identifier) && list_any (allows among qos) (with_codes w.filters codes.now)) waiting.old)) }
+    ensures left { OnOk result ((t : Waits → Bool) → list_any t waiting.new ≡ list_any (λ w. not (identifier == w.identifier) && t w) waiting.old) }
+    ensures sums { OnOk result ((weigh : Waits → ℕ) → sum_by weigh waiting.new ≡ sum_by (λ w. cond (identifier == w.identifier) 0 (weigh w)) waiting.old) }
 {
-    let mut left = Vec::new(alloc);
-    while let Some(subscribe) = waiting.pop() {
-        if subscribe.identifier == identifier {
-            settle(alloc, settled, subscribe.filters.as_slice(), codes)?;
-        } else {
-            left.push(subscribe)?;
-        }
+    match waiting.answer(identifier) {
+        Some(requests) => requests.settle(alloc, settled, codes),
+        None => Ok(()),
     }
-    *waiting = left;
-    Ok(())
-}
-
-/// Settles a SUBSCRIBE for which no SUBACK comes any more.
-#[tactic(auto, using(crate::proofs::KeepLaws::codes_none))]
-fn settle_as_asked(
-    alloc: Global,
-    settled: &mut IndexMap<String, u8>,
-    subscribe: &Waiting,
-) -> Result<(), Memory>
-    ensures { OnOk result ((among : List ℕ → Bool) (qos : ℕ) → stands_any among qos settled.new.entries ≡ (stands_any among qos settled.old.entries || list_any (allows among qos) subscribe.now.filters)) }
-{
-    settle(alloc, settled, subscribe.filters.as_slice(), &[])?;
-    Ok(())
-}
-
-/// Settles all SUBSCRIBEs that wait, since no SUBACK comes for them any more.
-fn settle_all(
-    alloc: Global,
-    settled: &mut IndexMap<String, u8>,
-    waiting: &mut Vec<Waiting>,
-) -> Result<(), Memory>
-    ensures settled { OnOk result ((among : List ℕ → Bool) (qos : ℕ) → stands_any among qos settled.new.entries ≡ (stands_any among qos settled.old.entries || list_any (λ w. list_any (allows among qos) w.filters) waiting.old.items)) }
-    ensures none { OnOk result (waiting.new.items ≡ []) }
-{
-    while let Some(subscribe) = waiting.pop() {
-        settle_as_asked(alloc, settled, &subscribe)?;
-    }
-    Ok(())
 }
 
 /// Takes in an OPEN of a connection that has this fate.
 fn open(
     alloc: Global,
-    settled: &mut IndexMap<String, u8>,
-    waiting: &mut Vec<Waiting>,
+    settled: &mut StandingFilters,
+    waiting: &mut Awaited,
     fate: Fate,
 ) -> Result<(), Memory>
-    ensures settled { OnOk result ((among : List ℕ → Bool) (qos : ℕ) → stands_any among qos settled.new.entries ≡ (not (begins (Some fate)) && (stands_any among qos settled.old.entries || list_any (λ w. list_any (allows among qos) w.filters) waiting.old.items))) }
-    ensures none { OnOk result (waiting.new.items ≡ []) }
+    ensures settled { OnOk result ((among : List ℕ → Bool) (qos : ℕ) → list_any (allows among qos) settled.new ≡ (not (begins (Some fate)) && (list_any (allows among qos) settled.old || list_any (λ w. list_any (allows among qos) w.filters) waiting.old))) }
+    ensures none { OnOk result (waiting.new ≡ []) }
 {
     if matches!(fate, Fate::New) {
         // A large map that is cleared costs its size each time.
-        *settled = IndexMap::new(alloc);
-        waiting.clear();
+        *settled = StandingFilters::new(alloc);
+        *waiting = Awaited::new(alloc);
         return Ok(());
     }
-    settle_all(alloc, settled, waiting)?;
+    waiting.settle_all(alloc, settled)?;
+    *waiting = Awaited::new(alloc);
     Ok(())
 }
 
 /// Takes in a SUBACK, if the event sends one.
 fn take_grant(
     alloc: Global,
-    settled: &mut IndexMap<String, u8>,
-    waiting: &mut Vec<Waiting>,
+    settled: &mut StandingFilters,
+    waiting: &mut Awaited,
     note: &Note,
 ) -> Result<(), Memory>
-    ensures settled { OnOk result ((among : List ℕ → Bool) (qos : ℕ) → stands_any among qos settled.new.entries ≡ (stands_any among qos settled.old.entries || grants_some (allows among qos) (sent_grant note.now) (λ p. list_any p waiting.old.items))) }
-    ensures left { OnOk result ((t : Waits → Bool) → list_any t waiting.new.items ≡ list_any (λ w. not (is_answered (sent_grant note.now) w) && t w) waiting.old.items) }
-    ensures sums { OnOk result ((weigh : Waits → ℕ) → sum_by weigh waiting.new.items ≡ sum_by (λ w. cond (is_answered (sent_grant note.now) w) 0 (weigh w)) waiting.old.items) }
+    ensures settled { OnOk result ((among : List ℕ → Bool) (qos : ℕ) → list_any (allows among qos) settled.new ≡ (list_any (allows among qos) settled.old || grants_some (allows among qos) (sent_grant note.now) (λ p. list_any p waiting.old))) }
+    ensures left { OnOk result ((t : Waits → Bool) → list_any t waiting.new ≡ list_any (λ w. not (is_answered (sent_grant note.now) w) && t w) waiting.old) }
+    ensures sums { OnOk result ((weigh : Waits → ℕ) → sum_by weigh waiting.new ≡ sum_by (λ w. cond (is_answered (sent_grant note.now) w) 0 (weigh w)) waiting.old) }
 {
     match note.sent_fields() {
         Some(PacketFields::Suback { identifier, codes }) => {
@@ -242,12 +96,12 @@ fn take_grant(
 /// Takes in a SUBSCRIBE, if the event is one that is received on a connection that is accepted.
 fn take_request(
     alloc: Global,
-    waiting: &mut Vec<Waiting>,
+    waiting: &mut Awaited,
     accepted: bool,
     note: &Note,
 ) -> Result<(), Memory>
-    ensures any { OnOk result ((t : Waits → Bool) → list_any t waiting.new.items ≡ ((accepted && is_some_and t (option_map asked (received_subscription note.now))) || list_any t waiting.old.items)) }
-    ensures sums { OnOk result ((weigh : Waits → ℕ) → sum_by weigh waiting.new.items ≡ cond accepted (weighed weigh (option_map asked (received_subscription note.now))) 0 + sum_by weigh waiting.old.items) }
+    ensures any { OnOk result ((t : Waits → Bool) → list_any t waiting.new ≡ ((accepted && is_some_and t (option_map asked (received_subscription note.now))) || list_any t waiting.old)) }
+    ensures sums { OnOk result ((weigh : Waits → ℕ) → sum_by weigh waiting.new ≡ cond accepted (weighed weigh (option_map asked (received_subscription note.now))) 0 + sum_by weigh waiting.old) }
 {
     if !accepted {
         return Ok(());
@@ -259,11 +113,8 @@ fn take_request(
                 filters,
             },
         ) => {
-            let filters = asked_filters(alloc, filters.as_slice())?;
-            waiting.push(Waiting {
-                identifier: *identifier,
-                filters,
-            })?;
+            let request = Request::of(alloc, filters.as_slice())?;
+            waiting.wait(alloc, *identifier, request)?;
             Ok(())
         }
         _ => Ok(()),
@@ -273,14 +124,14 @@ fn take_request(
 /// Takes in what an event of a connection that has this fate says of filters.
 fn take_filters(
     alloc: Global,
-    settled: &mut IndexMap<String, u8>,
-    waiting: &mut Vec<Waiting>,
+    settled: &mut StandingFilters,
+    waiting: &mut Awaited,
     fate: Fate,
     note: &Note,
 ) -> Result<(), Memory>
-    ensures settled { OnOk result ((among : List ℕ → Bool) (qos : ℕ) → stands_any among qos settled.new.entries ≡ settled_next fate note.now (allows among qos) (stands_any among qos settled.old.entries) (λ p. list_any p waiting.old.items)) }
-    ensures waiting { OnOk result ((t : Waits → Bool) → list_any t waiting.new.items ≡ waiting_next fate note.now t (λ p. list_any p waiting.old.items)) }
-    ensures sums { OnOk result ((weigh : Waits → ℕ) → sum_by weigh waiting.new.items ≡ sum_next fate note.now weigh (λ g. sum_by g waiting.old.items)) }
+    ensures settled { OnOk result ((among : List ℕ → Bool) (qos : ℕ) → list_any (allows among qos) settled.new ≡ settled_next fate note.now (allows among qos) (list_any (allows among qos) settled.old) (λ p. list_any p waiting.old)) }
+    ensures waiting { OnOk result ((t : Waits → Bool) → list_any t waiting.new ≡ waiting_next fate note.now t (λ p. list_any p waiting.old)) }
+    ensures sums { OnOk result ((weigh : Waits → ℕ) → sum_by weigh waiting.new ≡ sum_next fate note.now weigh (λ g. sum_by g waiting.old)) }
 {
     if note.is_open() {
         open(alloc, settled, waiting, fate)?;
@@ -365,7 +216,8 @@ fn take_topic(alloc: Global, topics: &mut IndexMap<u16, Text>, note: &Note) -> R
     ensures { OnOk result ((alias : ℕ) → get nat_eq topics.new alias ≡ topic_next note.now alias (get nat_eq topics.old alias)) }
 {
     if note.is_open() {
-        topics.clear();
+        // A large map that is cleared costs its size each time.
+        *topics = IndexMap::new(alloc);
     }
     if let Some(publish) = note.sent_publish() {
         set_alias(alloc, topics, publish)?;
@@ -417,97 +269,23 @@ fn qos_number(qos: Qos) -> u8
     }
 }
 
-fn is_for(kept: &Kept, topic: &str) -> bool
-    ensures { result ≡ is_match kept.now.filter topic.now }
-{
-    matches(kept.filter.as_str(), topic)
-}
-
-fn allows(kept: &Kept, topic: &str, qos: Qos) -> bool
-    ensures { result ≡ (is_match kept.now.filter topic.now && nat_le (number_of qos) kept.now.ceiling) }
-{
-    matches(kept.filter.as_str(), topic) && qos_number(qos) <= kept.ceiling
-}
-
-fn any_for(kept: &[Kept], topic: &str) -> bool
-    ensures { result ≡ list_any (λ s. is_match s.filter topic.now) kept.now }
-{
-    kept.iter().any(|filter| is_for(filter, topic))
-}
-
-fn any_allowing(kept: &[Kept], topic: &str, qos: Qos) -> bool
-    ensures { result ≡ list_any (λ s. is_match s.filter topic.now && nat_le (number_of qos) s.ceiling) kept.now }
-{
-    kept.iter().any(|filter| allows(filter, topic, qos))
-}
-
-fn waits_for(subscribe: &Waiting, topic: &str) -> bool
-    ensures { result ≡ list_any (λ s. is_match s.filter topic.now) subscribe.now.filters }
-{
-    any_for(subscribe.filters.as_slice(), topic)
-}
-
-fn waits_allowing(subscribe: &Waiting, topic: &str, qos: Qos) -> bool
-    ensures { result ≡ list_any (λ s. is_match s.filter topic.now && nat_le (number_of qos) s.ceiling) subscribe.now.filters }
-{
-    any_allowing(subscribe.filters.as_slice(), topic, qos)
-}
-
-fn any_waiting_for(waiting: &[Waiting], topic: &str) -> bool
-    ensures { result ≡ list_any (λ w. list_any (λ s. is_match s.filter topic.now) w.filters) waiting.now }
-{
-    waiting.iter().any(|subscribe| waits_for(subscribe, topic))
-}
-
-fn any_waiting_allowing(waiting: &[Waiting], topic: &str, qos: Qos) -> bool
-    ensures { result ≡ list_any (λ w. list_any (λ s. is_match s.filter topic.now && nat_le (number_of qos) s.ceiling) w.filters) waiting.now }
-{
-    waiting
-        .iter()
-        .any(|subscribe| waits_allowing(subscribe, topic, qos))
-}
-
-/// How much a SUBSCRIBE counts: itself, and its filters.
-fn request_size(subscribe: &Waiting) -> usize
-    ensures { result ≤ waits_weight subscribe.now }
-{
-    subscribe.filters.len().saturating_add(1)
-}
-
-/// How many SUBSCRIBEs wait, and how many filters they have together.
-fn waiting_size(waiting: &[Waiting]) -> usize
-    ensures { result ≤ sum_by waits_weight waiting.now }
-{
-    let mut size = 0_usize;
-    for subscribe in waiting {
-        size = size.saturating_add(request_size(subscribe));
-    }
-    size
-}
-
 /// Whether some filter matches a topic.
-fn is_asked(settled: &IndexMap<String, u8>, waiting: &[Waiting], topic: &str) -> bool
-    ensures { result ≡ any_kept (λ s. is_match s.filter topic.now) (standings settled.now.entries) waiting.now }
+fn is_asked(settled: &StandingFilters, waiting: &Awaited, topic: &str) -> bool
+    ensures { result ≡ any_kept (λ s. is_match s.filter topic.now) settled.now waiting.now }
 {
-    any_standing_for(settled, topic) || any_waiting_for(waiting, topic)
+    settled.any_for(topic) || waiting.any_for(topic)
 }
 
 /// Whether some filter matches a topic, and allows this QoS.
-fn is_allowed(settled: &IndexMap<String, u8>, waiting: &[Waiting], topic: &str, qos: Qos) -> bool
-    ensures { result ≡ any_kept (λ s. is_match s.filter topic.now && nat_le (number_of qos) s.ceiling) (standings settled.now.entries) waiting.now }
+fn is_allowed(settled: &StandingFilters, waiting: &Awaited, topic: &str, qos: Qos) -> bool
+    ensures { result ≡ any_kept (λ s. is_match s.filter topic.now && nat_le (number_of qos) s.ceiling) settled.now waiting.now }
 {
-    any_standing_allowing(settled, topic, qos_number(qos))
-        || any_waiting_allowing(waiting, topic, qos)
+    settled.any_allowing(topic, qos_number(qos)) || waiting.any_allowing(topic, qos_number(qos))
 }
 
 /// Whether some filter matches the topic of a PUBLISH, and none that does allows its QoS.
-fn is_over(
-    settled: &IndexMap<String, u8>,
-    waiting: &[Waiting],
-    publish: &PublishNote,
-    topic: &str,
-) -> bool
-    ensures { result ≡ above (standings settled.now.entries) waiting.now publish.now topic.now }
+fn is_over(settled: &StandingFilters, waiting: &Awaited, publish: &PublishNote, topic: &str) -> bool
+    ensures { result ≡ above settled.now waiting.now publish.now topic.now }
 {
     is_asked(settled, waiting, topic) && !is_allowed(settled, waiting, topic, publish.qos)
 }
@@ -519,8 +297,8 @@ pub struct Deliveries {
     bound: bool,
     fate: Fate,
     // The filters that stand whatever comes.
-    settled: IndexMap<String, u8>,
-    waiting: Vec<Waiting>,
+    settled: StandingFilters,
+    waiting: Awaited,
     sharing: bool,
     topics: IndexMap<u16, Text>,
 }
@@ -534,8 +312,8 @@ impl Deliveries {
             alloc,
             bound: Rule::B01.is_judged(tested),
             fate: Fate::Void,
-            settled: IndexMap::new(alloc),
-            waiting: Vec::new(alloc),
+            settled: StandingFilters::new(alloc),
+            waiting: Awaited::new(alloc),
             sharing: false,
             topics: IndexMap::new(alloc),
         }
@@ -551,27 +329,27 @@ impl Deliveries {
 
     /// Whether no filter matches the topic of a PUBLISH.
     fn is_unasked(&self, publish: &PublishNote) -> bool
-        ensures { result ≡ is_some_and (unasked (standings self.now.settled.entries) self.now.waiting.items publish.now) (topic_judged self.now.sharing (get nat_eq self.now.topics) publish.now) }
+        ensures { result ≡ is_some_and (unasked self.now.settled self.now.waiting publish.now) (topic_judged self.now.sharing (get nat_eq self.now.topics) publish.now) }
     {
         match judged_topic(publish, self.sharing, &self.topics) {
-            Some(topic) => !is_asked(&self.settled, self.waiting.as_slice(), topic),
+            Some(topic) => !is_asked(&self.settled, &self.waiting, topic),
             None => false,
         }
     }
 
     /// Whether some filter matches the topic of a PUBLISH, and none that does allows its QoS.
     fn is_above(&self, publish: &PublishNote) -> bool
-        ensures { result ≡ is_some_and (above (standings self.now.settled.entries) self.now.waiting.items publish.now) (topic_judged self.now.sharing (get nat_eq self.now.topics) publish.now) }
+        ensures { result ≡ is_some_and (above self.now.settled self.now.waiting publish.now) (topic_judged self.now.sharing (get nat_eq self.now.topics) publish.now) }
     {
         match judged_topic(publish, self.sharing, &self.topics) {
-            Some(topic) => is_over(&self.settled, self.waiting.as_slice(), publish, topic),
+            Some(topic) => is_over(&self.settled, &self.waiting, publish, topic),
             None => false,
         }
     }
 
     /// Whether an event delivers a message to which nobody subscribed.
     fn breaks_asked(&self, fate: Fate, note: &Note) -> bool
-        ensures { result ≡ (self.now.bound && (accepts fate && delivers_so note.now self.now.sharing (get nat_eq self.now.topics) (unasked (standings self.now.settled.entries) self.now.waiting.items))) }
+        ensures { result ≡ (self.now.bound && (accepts fate && delivers_so note.now self.now.sharing (get nat_eq self.now.topics) (unasked self.now.settled self.now.waiting))) }
     {
         self.bound
             && (fate.accepts()
@@ -583,7 +361,7 @@ impl Deliveries {
 
     /// Whether an event delivers a message at a higher QoS than was granted.
     fn breaks_granted(&self, fate: Fate, note: &Note) -> bool
-        ensures { result ≡ (self.now.bound && (accepts fate && delivers_so note.now self.now.sharing (get nat_eq self.now.topics) (above (standings self.now.settled.entries) self.now.waiting.items))) }
+        ensures { result ≡ (self.now.bound && (accepts fate && delivers_so note.now self.now.sharing (get nat_eq self.now.topics) (above self.now.settled self.now.waiting))) }
     {
         self.bound
             && (fate.accepts()
@@ -595,7 +373,7 @@ impl Deliveries {
 }
 
 impl Watch for Deliveries {
-    ghost agrees = { λ s tested taken past. (s.bound ≡ is_bound B01 tested) × IsStanding s.fate (standings s.settled.entries) s.waiting.items s.sharing (get nat_eq s.topics) tested taken past };
+    ghost agrees = { λ s tested taken past. (s.bound ≡ is_bound B01 tested) × IsStanding s.fate s.settled s.waiting s.sharing (get nat_eq s.topics) tested taken past };
 
     ghost takes = { IsKnown };
 
@@ -611,8 +389,9 @@ impl Watch for Deliveries {
 
     // Both maps and the list of the struct, with the filters of each SUBSCRIBE that waits.
     fn weight(&self) -> usize {
-        filters_size(&self.settled)
-            .saturating_add(waiting_size(self.waiting.as_slice()))
+        self.settled
+            .len()
+            .saturating_add(self.waiting.size())
             .saturating_add(map_size(&self.topics))
     }
 }

@@ -6,7 +6,6 @@ use Rattle.mq_rules.specs.FaultKeys.{FaultMap}
 use Rattle.mq_rules.proofs.Exports.{gains_either, on_err, within_all, within_either_first, within_either_second, within_nothing}
 use Rattle.mq_rules.specs.Under.{seen, turns_with}
 use Rattle.mq_rules.specs.Growing.{Gains}
-use Rattle.mq_books.specs.Standings.{standings}
 use Rattle.mq_books.proofs.StandingLaws.{standing-next}
 use Rattle.mq_books.proofs.DeliveryLaws.{B01-gains, B02-gains}
 use Rattle.mq_books.proofs.subs.DeliveriesFated.fated.Goals as goal
@@ -16,7 +15,7 @@ returns-clause-agrees c = λ tested past under q.
     let s = c.args.self.now in
     let e = seen c.args.at c.args.note.now in (
       q.0,
-      standing-next tested s.fate c.args.fate (standings s.settled.entries) (standings c.take_filters.new.settled.entries) s.waiting.items c.take_filters.new.waiting.items s.sharing c.shares-self.result (get nat_eq s.topics) (get nat_eq c.take_topic.new.topics) e past q.1
+      standing-next tested s.fate c.args.fate s.settled c.take_filters.new.settled s.waiting c.take_filters.new.waiting s.sharing c.shares-self.result (get nat_eq s.topics) (get nat_eq c.take_topic.new.topics) e past q.1
           c.in_ok-take_filters.ensures.settled c.in_ok-take_filters.ensures.waiting c.in_ok-take_filters.ensures.sums c.shares-self.ensures c.in_ok-take_topic.ensures,
     )
 
@@ -26,9 +25,9 @@ returns-clause-grows c = λ tested past under q.
     let e = seen c.args.at c.args.note.now in
     gains_either (λ r. same_rule r B01) (λ r. same_rule r B02) (λ k r. turns_with tested c.args.fate e past k r) tested (e ∷ past) c.args.decided c.args.faults.now c.judge_by.new.faults c.judge_by-2.new.faults
     (subst (λ (m : FaultMap). Gains (λ k r. same_rule r B01 && turns_with tested c.args.fate e past k r) tested (e ∷ past) c.args.decided c.args.faults.now m) (sym c.in_ok-judge_by.ensures.ok)
-    (B01-gains tested s.fate c.args.fate (standings s.settled.entries) s.waiting.items s.sharing (get nat_eq s.topics) c.args.decided e past c.args.faults.now s.bound c.breaks_asked-unasked.result under q.1 q.0 c.breaks_asked-unasked.ensures))
+    (B01-gains tested s.fate c.args.fate s.settled s.waiting s.sharing (get nat_eq s.topics) c.args.decided e past c.args.faults.now s.bound c.breaks_asked-unasked.result under q.1 q.0 c.breaks_asked-unasked.ensures))
     (subst (λ (m : FaultMap). Gains (λ k r. same_rule r B02 && turns_with tested c.args.fate e past k r) tested (e ∷ past) c.args.decided c.judge_by.new.faults m) (sym c.in_ok-judge_by-2.ensures.ok)
-    (B02-gains tested s.fate c.args.fate (standings s.settled.entries) s.waiting.items s.sharing (get nat_eq s.topics) c.args.decided e past c.judge_by.new.faults s.bound c.breaks_granted-above.result under q.1 q.0 c.breaks_granted-above.ensures))
+    (B02-gains tested s.fate c.args.fate s.settled s.waiting s.sharing (get nat_eq s.topics) c.args.decided e past c.judge_by.new.faults s.bound c.breaks_granted-above.result under q.1 q.0 c.breaks_granted-above.ensures))
 
 pub returns-in_err-judge_by-2-clause-memory : goal.returns-in_err-judge_by-2-clause-memory
 returns-in_err-judge_by-2-clause-memory c =
@@ -37,5 +36,5 @@ returns-in_err-judge_by-2-clause-memory c =
     let e = seen c.args.at c.args.note.now in
     within_either_second (λ r. same_rule r B01) (λ r. same_rule r B02) (λ k r. turns_with tested c.args.fate e past k r) tested (e ∷ past) c.args.decided c.args.faults.now c.judge_by.new.faults c.judge_by-2.new.faults
     (subst (λ (m : FaultMap). Gains (λ k r. same_rule r B01 && turns_with tested c.args.fate e past k r) tested (e ∷ past) c.args.decided c.args.faults.now m) (sym c.in_ok-judge_by.ensures.ok)
-    (B01-gains tested s.fate c.args.fate (standings s.settled.entries) s.waiting.items s.sharing (get nat_eq s.topics) c.args.decided e past c.args.faults.now s.bound c.breaks_asked-unasked.result under q.1 q.0 c.breaks_asked-unasked.ensures))
+    (B01-gains tested s.fate c.args.fate s.settled s.waiting s.sharing (get nat_eq s.topics) c.args.decided e past c.args.faults.now s.bound c.breaks_asked-unasked.result under q.1 q.0 c.breaks_asked-unasked.ensures))
     (within_nothing (λ k r. same_rule r B02 && turns_with tested c.args.fate e past k r) tested (e ∷ past) c.args.decided c.judge_by.new.faults c.judge_by-2.new.faults c.in_err-judge_by-2.ensures.unchanged))

@@ -1,10 +1,9 @@
 use Rattle.std.proofs.Common.{nat_eq, arith, ap, sym, ◌∙◌}
-use Rattle.std.specs.List.{sum_by}
 use Rattle.std.specs.Prelude.{is_some}
 use Rattle.indexmap.specs.IndexMap.{get}
 use Rattle.mq_rules.specs.Connections.{connection, session}
 use Rattle.mq_rules.specs.Subscriptions.{last_set}
-use Rattle.mq_books.specs.Standings.{standings, waits_weight}
+use Rattle.mq_books.specs.Standings.{waits_weight}
 use Rattle.mq_books.specs.Burden.{standing_filters, standing_count, aliased_ids}
 use Rattle.mq_books.proofs.StandingSizeLaws.{settled-stand}
 use Rattle.mq_books.proofs.AskingSizeLaws.{asking-within}
@@ -14,8 +13,8 @@ pub returns : goal.returns
 unfolding standing_count aliased_ids
 returns c = λ tested taken past q.
     let s = c.args.self.now in
-    let settled = c.filters_size.ensures (standing_filters past (session tested.role taken past)) (settled-stand tested s.fate (standings s.settled.entries) s.waiting.items s.sharing (get nat_eq s.topics) taken past q.1) in
-    let sum = ap (sum_by waits_weight) c.as_slice.ensures.value ∙ q.1.waiting_sums waits_weight in
+    let settled = c.len.ensures (standing_filters past (session tested.role taken past)) (settled-stand tested s.fate s.settled s.waiting s.sharing (get nat_eq s.topics) taken past q.1) in
+    let sum = q.1.waiting_sums waits_weight in
     let asking = asking-within tested.role taken past in
     let topics = c.map_size.ensures.bounded (λ alias. is_some (last_set alias (connection past))) (λ alias here. ap is_some (sym (q.1.topics_are alias)) ∙ here) in
-    omega (arith, c.saturating_add.ensures, c.saturating_add-2.ensures, settled, c.waiting_size.ensures, sum, asking, topics)
+    omega (arith, c.saturating_add.ensures, c.saturating_add-2.ensures, settled, c.size.ensures, sum, asking, topics)

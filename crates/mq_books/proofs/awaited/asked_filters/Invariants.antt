@@ -1,6 +1,6 @@
 use Rattle.std.proofs.Common.{◌≡◌, ◌++◌, [], length}
 use Rattle.mq_rules.specs.Subscriptions.{granted}
-use Rattle.mq_books.proofs.subs.asked_filters.Given as goal
+use Rattle.mq_books.proofs.awaited.asked_filters.Given as goal
 
 -- with the filters that are left, all come to be kept
 abbrev pub invariant-loop-filter : goal.invariant-loop-filter
