@@ -332,19 +332,39 @@ def resumed(events: int, role: int) -> Records:
         yield record(REST)
 
 
-def resumed_in_flight(events: int) -> Records:
+def resumed_in_flight(events: int, is_exactly_once: bool) -> Records:
     """A client has many messages in flight, and resumes the session over and over. Each time it sends one small message more.
 
-    It rightly doesn't send those in flight again: they are larger than the Maximum Packet Size of each later connection.
+    It rightly doesn't send those in flight again: they are larger than the Maximum Packet Size of each later connection. The small
+    message is of QoS 1, or of QoS 2 and completed on the next connection, where its PUBREL is sent again.
     """
     end, size = End(CLIENT), max(1, min(IDENTIFIERS - 1, events // 3))
     yield from end.connection(resumed=False)
     yield from (end.client(publish(1, identifier, payload=b"x" * 20)) for identifier in in_order(size))
-    while True:
+    for n in count():
         yield record(CLOSE)
         yield from end.connection(resumed=True, properties=MAXIMUM_PACKET_SIZE)
-        yield end.client(publish(1, IDENTIFIERS))
-        yield end.server(puback(IDENTIFIERS))
+        if is_exactly_once and n:
+            yield end.client(pubrel(IDENTIFIERS))
+            yield end.server(pubcomp(IDENTIFIERS))
+        yield end.client(publish(2 if is_exactly_once else 1, IDENTIFIERS))
+        if is_exactly_once:
+            yield end.server(pubrec(IDENTIFIERS))
+            yield end.client(pubrel(IDENTIFIERS))
+        else:
+            yield end.server(puback(IDENTIFIERS))
+        yield record(REST)
+
+
+def sent_again(events: int) -> Records:
+    """A client has many messages in flight when its connection breaks. It sends all of them again on the next one, and rests over and over."""
+    end, size = End(CLIENT), max(1, min(IDENTIFIERS, events // 3))
+    yield from end.connection(resumed=False)
+    yield from (end.client(publish(1, identifier)) for identifier in in_order(size))
+    yield record(CLOSE)
+    yield from end.connection(resumed=True)
+    yield from (end.client(publish(1, identifier, dup=True)) for identifier in in_order(size))
+    while True:
         yield record(REST)
 
 
@@ -461,7 +481,9 @@ KINDS: dict[str, Kind] = {
     **{f"filters-{number}-new": Kind(SERVER, partial(deliveries, filters=number, is_topic_new=True)) for number in NUMBERS_OF_FILTERS},
     "client-resumed": Kind(CLIENT, partial(resumed, role=CLIENT)),
     "server-resumed": Kind(SERVER, partial(resumed, role=SERVER)),
-    "resumed-in-flight": Kind(CLIENT, resumed_in_flight),
+    "resumed-in-flight": Kind(CLIENT, partial(resumed_in_flight, is_exactly_once=False)),
+    "resumed-in-flight-qos2": Kind(CLIENT, partial(resumed_in_flight, is_exactly_once=True)),
+    "sent-again": Kind(CLIENT, sent_again),
     "resumed-filters": Kind(SERVER, resumed_with_filters),
     "resubscribed": Kind(SERVER, resubscribed),
     "new-sessions": Kind(CLIENT, new_sessions),

@@ -17,7 +17,7 @@ use Rattle.mq_books.proofs.OpenedLaws.{opener-delivers, entry-there, entry-is, I
 
 -- ---- the latest connection
 
-opened-within : (past : List Seen) → opened_at past ≤ length past
+pub opened-within : (past : List Seen) → opened_at past ≤ length past
 opened-within [] = omega arith
 opened-within (e ∷ past) = go (is_open e.note) (opened-within past)
   where

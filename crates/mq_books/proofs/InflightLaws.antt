@@ -20,7 +20,7 @@ use Rattle.mq_rules.specs.Growing.{Gains}
 use Rattle.mq_books.specs.Pingings.{ends_by}
 use Rattle.mq_books.specs.Quotas.{announced, peer_room, may_count, flown}
 use Rattle.mq_books.specs.Opened.{entry_next}
-use Rattle.mq_books.specs.Resending.{bounds_next, excuses, settles, blamed_due}
+use Rattle.mq_books.specs.Resending.{bounds_next, excuses, settles, told, IsResent}
 use Rattle.mq_books.specs.Using.{waits_next, void_next, resent_next, breaks, judged_all, is_at_once, is_inflight, IsUsing}
 use Rattle.mq_books.proofs.QuotaLaws.{peer-next, flown-next, flying-most}
 use Rattle.mq_books.proofs.VoidLaws.{void_sent-next}
@@ -30,9 +30,9 @@ use Rattle.mq_books.proofs.ResendsLaws.{bounds-next, resends-gains}
 
 pub inflight-gains : (tested : Tested) (s : Inflight) (f : Fate) (at : ℕ) (e : Seen) (past : List Seen) (m : FaultMap) (b : Broken) (rests excused : Bool) → IsUnder tested f at e past → IsUsing s tested (fate_before tested f e past) past
     → b ≡ breaks s f e.note → rests ≡ settles f (at == e.place.position) s.ended e.note → excused ≡ excuses s.peer s.in_flight s.bounds
-    → Gains (λ k r. is_inflight r && turns_with tested f e past k r) tested (e ∷ past) at m (cond rests (blamed_due s.opened excused at (values_of s.entries.entries) (judged_all b e.place at m)) (judged_all b e.place at m))
+    → Gains (λ k r. is_inflight r && turns_with tested f e past k r) tested (e ∷ past) at m (told rests s.again excused s.opened at (values_of s.entries.entries) (get nat_eq s.entries) s.confirmed.keys (judged_all b e.place at m))
 inflight-gains tested s f at e past m b rests excused under u b_is rest_is excused_is =
-    gains_either is_at_once (λ r. same_rule r S06) (λ k r. turns_with tested f e past k r) tested (e ∷ past) at m (judged_all b e.place at m) (cond rests (blamed_due s.opened excused at (values_of s.entries.entries) (judged_all b e.place at m)) (judged_all b e.place at m))
+    gains_either is_at_once (λ r. same_rule r S06) (λ k r. turns_with tested f e past k r) tested (e ∷ past) at m (judged_all b e.place at m) (told rests s.again excused s.opened at (values_of s.entries.entries) (get nat_eq s.entries) s.confirmed.keys (judged_all b e.place at m))
     (using-gains tested s f at e past m b under u b_is)
     (resends-gains tested s f at e past (judged_all b e.place at m) rests excused under u rest_is excused_is)
 
@@ -45,8 +45,8 @@ pub inflight-next : (tested : Tested) (s t : Inflight) (f : Fate) (at : ℕ) (e 
     → ((i : ℕ) → contains nat_eq t.unsubscribing i ≡ waits_next (sent_as unsubscribe_in e.note) (received_as unsuback_in e.note) (is_open e.note) i (contains nat_eq s.unsubscribing i))
     → t.resent ≡ resent_next e.note (get nat_eq s.entries) s.resent → t.ended ≡ (ends_by e.note || (not (is_open e.note) && s.ended)) → t.opened ≡ cond (is_open e.note) e.place.position s.opened
     → t.peer ≡ option_or (cond (is_open e.note) None s.peer) (announced s.role e.note) → (s.in_flight < e.place.position → t.in_flight ≡ flown (may_count s.role s.peer) e.note s.in_flight)
-    → t.bounds ≡ bounds_next s.role e.note s.bounds → IsUsing t tested (Some f) (e ∷ past)
-inflight-next tested s t f at e past under u role fate ordered distinct entries delivering void subscribing unsubscribing resent ended opened peer flying bounds = record {
+    → t.bounds ≡ bounds_next s.role e.note s.bounds → IsResent t.opened (get nat_eq t.entries) (contains nat_eq t.confirmed) t.again → IsUsing t tested (Some f) (e ∷ past)
+inflight-next tested s t f at e past under u role fate ordered distinct entries delivering void subscribing unsubscribing resent ended opened peer flying bounds again = record {
   same_role = role ∙ u.same_role;
   same_fate = ap Some (sym fate);
   is_ordered = ordered ∙ u.is_ordered;
@@ -64,6 +64,7 @@ inflight-next tested s t f at e past under u role fate ordered distinct entries 
   flying = flying below ∙ ap (λ r. flown (may_count r s.peer) e.note s.in_flight) u.same_role ∙ ap (λ o. flown (may_count tested.role o) e.note s.in_flight) u.same_peer
       ∙ ap (flown (may_count tested.role (peer_room tested.role past)) e.note) u.flying ∙ sym (flown-next tested.role e past);
   bounds_are = bounds ∙ ap (λ r. bounds_next r e.note s.bounds) u.same_role ∙ ap (bounds_next tested.role e.note) u.bounds_are ∙ sym (bounds-next tested.role e past);
+  resent_are = again;
 }
   where
     below : s.in_flight < e.place.position

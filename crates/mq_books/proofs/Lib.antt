@@ -22,6 +22,7 @@ pub mod OpenedLaws
 pub mod BrokenLaws
 pub mod DueLaws
 pub mod PlacesLaws
+pub mod AgainLaws
 pub mod ResendsLaws
 pub mod InflightLaws
 pub mod CountLaws

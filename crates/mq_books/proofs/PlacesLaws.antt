@@ -1,7 +1,7 @@
 -- The places of what is due, among what is kept of identifiers.
-use Rattle.std.proofs.Common.{◌≡◌, ℕ, ◌==◌, nat_eq, Bool, true, false, cond, List, [], ◌∷◌, Some, None, refl, ap, sym, ◌∙◌, subst}
+use Rattle.std.proofs.Common.{◌≡◌, ℕ, ◌==◌, nat_eq, Bool, true, false, cond, ◌||◌, List, [], ◌∷◌, Option, Some, None, refl, ap, sym, ◌∙◌, subst}
 use Rattle.std.specs.Prelude.{is_some}
-use Rattle.std.specs.List.{IsDistinct, AllByRecursion}
+use Rattle.std.specs.List.{IsDistinct, AllByRecursion, list_any}
 use Rattle.std.specs.Map.{keys_of, values_of, lookup}
 use Rattle.std.proofs.lemmas.Bool.{eqb-true, eq-eqb}
 use Rattle.mq_trace.specs.declared.place.Place3.{Place3}
@@ -10,7 +10,7 @@ use Rattle.mq_rules.specs.FaultKeys.{FaultMap, with_fault}
 use Rattle.mq_rules.proofs.Exports.{not_true}
 use Rattle.mq_books.specs.declared.inflight.entry.Entry.{Entry}
 use Rattle.mq_books.specs.Owings.{blamed, Keeps}
-use Rattle.mq_books.specs.Resending.{is_due, due_places, due_next, blamed_due}
+use Rattle.mq_books.specs.Resending.{is_due, due_places, due_next, told_under, blamed_due, blamed_under}
 use Rattle.mq_books.proofs.BlameLaws.{place_at, keeps_with_fault, keeps_blamed}
 
 -- ---- faults that are added stay
@@ -44,25 +44,25 @@ absent i [] h o q = absurd (cc)
 absent i (e ∷ es) h o q = absent i es h.1 o (sym (ap (λ b. cond b (Some e.1) (lookup (nat_eq i) es)) h.0) ∙ q)
 
 -- a place that is due is that of what is kept of an identifier
-pub record IsDueAt (k opened : ℕ) (excused : Bool) (es : List (ℕ × Entry)) (p : Place3) : Type 0 where
+pub record IsDueAt (k opened : ℕ) (excused : Bool) (entry : ℕ → Option Entry) (p : Place3) : Type 0 where
   pub identifier : ℕ
-  pub entry : Entry
-  pub is_kept : lookup (nat_eq identifier) es ≡ Some entry
-  pub due : is_due opened excused entry ≡ true
-  pub same_place : p ≡ entry.place
+  pub kept : Entry
+  pub is_kept : entry identifier ≡ Some kept
+  pub due : is_due opened excused kept ≡ true
+  pub same_place : p ≡ kept.place
   pub here : k ≡ p.position
 
-pub value-due : (k opened : ℕ) (excused : Bool) (es : List (ℕ × Entry)) (p : Place3) → IsDistinct nat_eq (keys_of es) → place_at k (due_places opened excused (values_of es)) ≡ Some p → IsDueAt k opened excused es p
+pub value-due : (k opened : ℕ) (excused : Bool) (es : List (ℕ × Entry)) (p : Place3) → IsDistinct nat_eq (keys_of es) → place_at k (due_places opened excused (values_of es)) ≡ Some p → IsDueAt k opened excused (λ i. lookup (nat_eq i) es) p
 unfolding IsDistinct
 value-due k opened excused [] p d h = absurd (cc)
 value-due k opened excused (e ∷ es) p d h = go (is_due opened excused e.1) refl h (value-due k opened excused es p d.1)
   where
-    later : IsDueAt k opened excused es p → IsDueAt k opened excused (e ∷ es) p
+    later : IsDueAt k opened excused (λ i. lookup (nat_eq i) es) p → IsDueAt k opened excused (λ i. lookup (nat_eq i) (e ∷ es)) p
     later r = record {
       identifier = r.identifier;
-      entry = r.entry;
+      kept = r.kept;
       is_kept = ap (λ b. cond b (Some e.1) (lookup (nat_eq r.identifier) es))
-          (not_true (nat_eq r.identifier e.0) (λ u. let at : r.identifier ≡ e.0 = eqb-true r.identifier e.0 u in absent e.0 es d.0 r.entry (subst (λ (n : ℕ). lookup (nat_eq n) es ≡ Some r.entry) at r.is_kept)))
+          (not_true (nat_eq r.identifier e.0) (λ u. let at : r.identifier ≡ e.0 = eqb-true r.identifier e.0 u in absent e.0 es d.0 r.kept (subst (λ (n : ℕ). lookup (nat_eq n) es ≡ Some r.kept) at r.is_kept)))
           ∙ r.is_kept;
       due = r.due;
       same_place = r.same_place;
@@ -70,12 +70,12 @@ value-due k opened excused (e ∷ es) p d h = go (is_due opened excused e.1) ref
     }
 
     found : is_due opened excused e.1 ≡ true → (b : Bool) → (k == e.1.place.position) ≡ b → cond b (Some e.1.place) (place_at k (due_places opened excused (values_of es))) ≡ Some p
-        → (place_at k (due_places opened excused (values_of es)) ≡ Some p → IsDueAt k opened excused es p) → IsDueAt k opened excused (e ∷ es) p
+        → (place_at k (due_places opened excused (values_of es)) ≡ Some p → IsDueAt k opened excused (λ i. lookup (nat_eq i) es) p) → IsDueAt k opened excused (λ i. lookup (nat_eq i) (e ∷ es)) p
     found due true t q rest =
         let same : p ≡ e.1.place = cc in
         record {
           identifier = e.0;
-          entry = e.1;
+          kept = e.1;
           is_kept = ap (λ b. cond b (Some e.1) (lookup (nat_eq e.0) es)) (eq-eqb e.0 e.0 refl);
           due = due;
           same_place = same;
@@ -84,7 +84,7 @@ value-due k opened excused (e ∷ es) p d h = go (is_due opened excused e.1) ref
     found due false t q rest = later (rest q)
 
     go : (b : Bool) → is_due opened excused e.1 ≡ b → place_at k (cond b (e.1.place ∷ due_places opened excused (values_of es)) (due_places opened excused (values_of es))) ≡ Some p
-        → (place_at k (due_places opened excused (values_of es)) ≡ Some p → IsDueAt k opened excused es p) → IsDueAt k opened excused (e ∷ es) p
+        → (place_at k (due_places opened excused (values_of es)) ≡ Some p → IsDueAt k opened excused (λ i. lookup (nat_eq i) es) p) → IsDueAt k opened excused (λ i. lookup (nat_eq i) (e ∷ es)) p
     go true due q rest = found due (k == e.1.place.position) refl q rest
     go false due q rest = later (rest q)
 
@@ -109,3 +109,91 @@ key-due k i opened excused (e ∷ es) o h due at = go (nat_eq i e.0) h (λ q. ke
         ap (λ b. is_some (place_at k (cond b (e.1.place ∷ rest_of) rest_of))) (ap (is_due opened excused) same ∙ due)
         ∙ ap (λ b. is_some (cond b (Some e.1.place) (place_at k rest_of))) (eq-eqb k e.1.place.position (at ∙ sym (ap (λ (x : Entry). x.place.position) same)))
     go false q rest = more (is_due opened excused e.1) true (rest q)
+
+-- ---- those of some identifiers
+
+abbrev onto : ℕ → Option Entry → List Place3 → List Place3
+onto opened None places = places
+onto opened (Some o) places = cond (is_due opened true o) (o.place ∷ places) places
+
+abbrev pub places_under : (ℕ → Option Entry) → ℕ → List ℕ → List Place3
+places_under entry opened [] = []
+places_under entry opened (i ∷ is) = onto opened (entry i) (places_under entry opened is)
+
+pub blamed_under-is : (entry : ℕ → Option Entry) (opened at : ℕ) (is : List ℕ) (m : FaultMap) → blamed_under entry opened at is m ≡ blamed S06 at (places_under entry opened is) m
+blamed_under-is entry opened at [] m = refl
+blamed_under-is entry opened at (i ∷ is) m = go (entry i) (λ n. blamed_under-is entry opened at is n)
+  where
+    go : (q : Option Entry) → ((n : FaultMap) → blamed_under entry opened at is n ≡ blamed S06 at (places_under entry opened is) n)
+        → blamed_under entry opened at is (told_under q opened at m) ≡ blamed S06 at (onto opened q (places_under entry opened is)) m
+    go None rest = rest m
+    go (Some o) rest = by (is_due opened true o)
+      where
+        with_o : FaultMap
+        with_o = with_fault (record { position = o.place.position; rule = S06 }) (record { decided = at; record_no = o.place.record_no; offset = None }) m
+
+        by : (b : Bool) → blamed_under entry opened at is (cond b with_o m) ≡ blamed S06 at (cond b (o.place ∷ places_under entry opened is) (places_under entry opened is)) m
+        by true = rest with_o
+        by false = rest m
+
+pub keeps_under : (entry : ℕ → Option Entry) (opened at : ℕ) (is : List ℕ) (m : FaultMap) → Keeps m (blamed_under entry opened at is m)
+keeps_under entry opened at is m = subst (λ (n : FaultMap). Keeps m n) (sym (blamed_under-is entry opened at is m)) (keeps_blamed S06 at (places_under entry opened is) m)
+
+pub keeps_under_next : (old mid : FaultMap) (opened at : ℕ) (q : Option Entry) → Keeps old mid → Keeps old (told_under q opened at mid)
+keeps_under_next old mid opened at None h = h
+keeps_under_next old mid opened at (Some o) h = keeps_next old mid opened true at o h
+
+pub under-due : (k opened : ℕ) (entry : ℕ → Option Entry) (is : List ℕ) (p : Place3) → place_at k (places_under entry opened is) ≡ Some p → IsDueAt k opened true entry p
+under-due k opened entry [] p h = absurd (cc)
+under-due k opened entry (i ∷ is) p h = go (entry i) refl h (under-due k opened entry is p)
+  where
+    rest_of : List Place3
+    rest_of = places_under entry opened is
+
+    go : (q : Option Entry) → entry i ≡ q → place_at k (onto opened q rest_of) ≡ Some p → (place_at k rest_of ≡ Some p → IsDueAt k opened true entry p) → IsDueAt k opened true entry p
+    go None n h rest = rest h
+    go (Some o) n h rest = by (is_due opened true o) refl h
+      where
+        one : is_due opened true o ≡ true → (b : Bool) → (k == o.place.position) ≡ b → cond b (Some o.place) (place_at k rest_of) ≡ Some p → IsDueAt k opened true entry p
+        one due true t h =
+            let same : p ≡ o.place = cc in
+            record {
+              identifier = i;
+              kept = o;
+              is_kept = n;
+              due = due;
+              same_place = same;
+              here = eqb-true k o.place.position t ∙ ap (λ (x : Place3). x.position) (sym same);
+            }
+        one due false t h = rest h
+
+        by : (b : Bool) → is_due opened true o ≡ b → place_at k (cond b (o.place ∷ rest_of) rest_of) ≡ Some p → IsDueAt k opened true entry p
+        by true due h = one due (k == o.place.position) refl h
+        by false due h = rest h
+
+pub listed-due : (k i opened : ℕ) (entry : ℕ → Option Entry) (is : List ℕ) (o : Entry) → entry i ≡ Some o → is_due opened true o ≡ true → k ≡ o.place.position → list_any (nat_eq i) is ≡ true → is_some (place_at k (places_under entry opened is)) ≡ true
+listed-due k i opened entry [] o h due at here = absurd (cc)
+listed-due k i opened entry (j ∷ is) o h due at here = go (nat_eq i j) refl here (λ q. listed-due k i opened entry is o h due at q)
+  where
+    rest_of : List Place3
+    rest_of = places_under entry opened is
+
+    more : (q : Option Entry) → is_some (place_at k rest_of) ≡ true → is_some (place_at k (onto opened q rest_of)) ≡ true
+    more None h = h
+    more (Some x) h = by (is_due opened true x)
+      where
+        one : (b : Bool) → is_some (cond b (Some x.place) (place_at k rest_of)) ≡ true
+        one true = refl
+        one false = h
+
+        by : (b : Bool) → is_some (place_at k (cond b (x.place ∷ rest_of) rest_of)) ≡ true
+        by true = one (k == x.place.position)
+        by false = h
+
+    go : (b : Bool) → nat_eq i j ≡ b → (b || list_any (nat_eq i) is) ≡ true → (list_any (nat_eq i) is ≡ true → is_some (place_at k rest_of) ≡ true) → is_some (place_at k (onto opened (entry j) rest_of)) ≡ true
+    go true n here rest =
+        let same : i ≡ j = eqb-true i j n in
+        ap (λ q. is_some (place_at k (onto opened q rest_of))) (ap entry (sym same) ∙ h)
+        ∙ ap (λ b. is_some (place_at k (cond b (o.place ∷ rest_of) rest_of))) due
+        ∙ ap (λ b. is_some (cond b (Some o.place) (place_at k rest_of))) (eq-eqb k o.place.position at)
+    go false n here rest = more (entry j) (rest here)

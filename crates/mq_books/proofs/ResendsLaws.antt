@@ -1,9 +1,10 @@
 -- S06.
-use Rattle.std.proofs.Common.{◌≡◌, ℕ, ◌==◌, nat_eq, nat_le, Bool, true, false, cond, ◌&&◌, ◌||◌, not, List, ◌∷◌, Option, Some, None, refl, ap, sym, ◌∙◌, subst}
+use Rattle.std.proofs.Common.{◌≡◌, ℕ, ◌==◌, nat_eq, nat_le, nat_lt, Bool, true, false, cond, ◌&&◌, ◌||◌, not, List, [], ◌∷◌, Option, Some, None, refl, ap, sym, ◌∙◌, subst}
 use Rattle.std.specs.Prelude.{is_some, unwrap_or}
 use Rattle.std.specs.Option.{option_or, option_and_then}
-use Rattle.std.specs.List.{IsDistinct}
-use Rattle.std.specs.Map.{keys_of, values_of, lookup}
+use Rattle.std.specs.Map.{values_of}
+use Rattle.indexmap.specs.IndexMap.{get}
+use Rattle.indexmap.specs.IndexSet.{contains}
 use Rattle.mq_trace.specs.declared.place.Place3.{Place3}
 use Rattle.mq_rules.specs.declared.role.Role.{Role}
 use Rattle.mq_rules.specs.declared.role.Role.TheVariants.{Client, Server}
@@ -31,14 +32,15 @@ use Rattle.mq_rules.specs.Growing.{Gains}
 use Rattle.mq_books.specs.Quotas.{peer_room}
 use Rattle.mq_books.specs.Owings.{binds_by, blamed}
 use Rattle.mq_books.specs.Opened.{entry_in}
-use Rattle.mq_books.specs.Resending.{opened_at, connect_bounds, connack_bounds, peer_bounds, bounds_next, excuses, due_places, blamed_due, settles}
+use Rattle.mq_books.specs.Resending.{opened_at, connect_bounds, connack_bounds, peer_bounds, bounds_next, excuses, is_due, due_places, blamed_due, blamed_under, told, settles}
 use Rattle.mq_books.specs.Using.{IsUsing}
 use Rattle.mq_books.proofs.PingLaws.{binding-under}
 use Rattle.mq_books.proofs.BlameLaws.{place_at, blame_of, gains_blamed, gains_none}
 use Rattle.mq_books.proofs.QuotaLaws.{room-kept}
 use Rattle.mq_books.proofs.OpenedLaws.{entry-is}
 use Rattle.mq_books.proofs.DueLaws.{owes, due-owes, owes-due}
-use Rattle.mq_books.proofs.PlacesLaws.{IsDueAt, value-due, key-due, blamed_due-is}
+use Rattle.mq_books.proofs.PlacesLaws.{IsDueAt, value-due, key-due, places_under, under-due, listed-due, blamed_due-is, blamed_under-is}
+use Rattle.mq_books.proofs.AgainLaws.{due-listed}
 
 binds-S06 : (role : Role) (releases : Bool) → binds S06 (record { role = role; releases = releases }) ≡ true
 unfolding line_of found_line lines
@@ -108,11 +110,13 @@ resumed-accepts Resumed h = refl
 resumed-accepts New h = absurd (cc)
 resumed-accepts Void h = absurd (cc)
 
-due-blamed : (tested : Tested) (f : Fate) (at : ℕ) (x : Bool) (e : Seen) (past : List Seen) (es : List (ℕ × Entry)) → IsPlaced past → IsDistinct nat_eq (keys_of es) → resumes f ≡ true
-    → ((i : ℕ) → lookup (nat_eq i) es ≡ entry_in i (session tested.role (Some f) past)) → ((k : ℕ) → turns_with tested f e past k S06 ≡ is_some_and (owes tested.role (Some f) x past) (moment past k))
-    → (k : ℕ) → blame_of at (place_at k (due_places (opened_at past) x (values_of es))) ≡ cond (turns_with tested f e past k S06) (Some (reported tested.role (moment (e ∷ past) k) S06 at)) None
-due-blamed tested f at x e past es placed distinct resumed are turns k =
-    go (place_at k (due_places (opened_at past) x (values_of es))) refl ∙ ap (λ b. cond b (Some (reported tested.role (moment (e ∷ past) k) S06 at)) None) (sym (turns k))
+due-blamed : (tested : Tested) (f : Fate) (at opened : ℕ) (x : Bool) (e : Seen) (past : List Seen) (entry : ℕ → Option Entry) (places : List Place3) → IsPlaced past → resumes f ≡ true → opened ≡ opened_at past
+    → ((i : ℕ) → entry i ≡ entry_in i (session tested.role (Some f) past)) → ((k : ℕ) → turns_with tested f e past k S06 ≡ is_some_and (owes tested.role (Some f) x past) (moment past k))
+    → ((k : ℕ) (p : Place3) → place_at k places ≡ Some p → IsDueAt k opened x entry p)
+    → ((k i : ℕ) (o : Entry) → entry i ≡ Some o → is_due opened x o ≡ true → k ≡ o.place.position → is_some (place_at k places) ≡ true)
+    → (k : ℕ) → blame_of at (place_at k places) ≡ cond (turns_with tested f e past k S06) (Some (reported tested.role (moment (e ∷ past) k) S06 at)) None
+due-blamed tested f at opened x e past entry places placed resumed opened_is are turns sound complete k =
+    go (place_at k places) refl ∙ ap (λ b. cond b (Some (reported tested.role (moment (e ∷ past) k) S06 at)) None) (sym (turns k))
   where
     a : accepts f ≡ true
     a = resumed-accepts f resumed
@@ -120,36 +124,44 @@ due-blamed tested f at x e past es placed distinct resumed are turns k =
     shown : Bool
     shown = is_some_and (owes tested.role (Some f) x past) (moment past k)
 
-    of_entry : (p : Place3) → IsDueAt k (opened_at past) x es p → Some (record { decided = at; record_no = p.record_no; offset = None }) ≡ cond shown (Some (reported tested.role (moment (e ∷ past) k) S06 at)) None
+    of_entry : (p : Place3) → IsDueAt k opened x entry p → Some (record { decided = at; record_no = p.record_no; offset = None }) ≡ cond shown (Some (reported tested.role (moment (e ∷ past) k) S06 at)) None
     of_entry p v =
-        let kept : entry_in v.identifier (session tested.role (Some f) past) ≡ Some v.entry = sym (are v.identifier) ∙ v.is_kept in
-        let r = entry-is v.identifier (session tested.role (Some f) past) v.entry (session-descend tested.role (Some f) past) kept in
+        let kept : entry_in v.identifier (session tested.role (Some f) past) ≡ Some v.kept = sym (are v.identifier) ∙ v.is_kept in
+        let r = entry-is v.identifier (session tested.role (Some f) past) v.kept (session-descend tested.role (Some f) past) kept in
         let among : Among r.opener (moments past) = (session-members tested.role (Some f) past r.opener r.there).0 in
         let same : p ≡ r.opener.event.place = v.same_place ∙ r.same_place in
         let here : k ≡ position r.opener = v.here ∙ ap (λ (y : Place3). y.position) same ∙ moment-placed past (position r.opener) r.opener placed (among-moment r.opener past among) in
         let before : moment past k ≡ Some r.opener = ap (moment past) here ∙ among-moment r.opener past among in
-        let yes : shown ≡ true = ap (is_some_and (owes tested.role (Some f) x past)) before ∙ due-owes tested.role f resumed a x past placed v.identifier v.entry r v.due in
+        let due : is_due (opened_at past) x v.kept ≡ true = ap (λ n. is_due n x v.kept) (sym opened_is) ∙ v.due in
+        let yes : shown ≡ true = ap (is_some_and (owes tested.role (Some f) x past)) before ∙ due-owes tested.role f resumed a x past placed v.identifier v.kept r due in
         ap (λ (y : Place3). Some (record { decided = at; record_no = y.record_no; offset = None })) same
         ∙ ap (λ o. Some (reported tested.role o S06 at)) (sym (moment-stays e past k r.opener before))
         ∙ ap (λ b. cond b (Some (reported tested.role (moment (e ∷ past) k) S06 at)) None) (sym yes)
 
-    never : place_at k (due_places (opened_at past) x (values_of es)) ≡ None → (q : Option Moment) → moment past k ≡ q → is_some_and (owes tested.role (Some f) x past) q ≡ true → ⊥
+    never : place_at k places ≡ None → (q : Option Moment) → moment past k ≡ q → is_some_and (owes tested.role (Some f) x past) q ≡ true → ⊥
     never h None is t = absurd (cc)
     never h (Some m) is t =
         let w = owes-due tested.role f a x past placed m (moment-among past k m is) t in
         let at_k : k ≡ w.entry.place.position = sym (ap (λ (y : Place3). y.position) w.same_place ∙ moment-placed past k m placed is) in
-        let has = key-due k w.identifier (opened_at past) x es w.entry (are w.identifier ∙ w.is_kept) w.due at_k in
+        let due : is_due opened x w.entry ≡ true = ap (λ n. is_due n x w.entry) opened_is ∙ w.due in
+        let has = complete k w.identifier w.entry (are w.identifier ∙ w.is_kept) due at_k in
         absurd (let none : is_some {T = Place3} None ≡ true = sym (ap is_some h) ∙ has in cc)
 
-    go : (o : Option Place3) → place_at k (due_places (opened_at past) x (values_of es)) ≡ o → blame_of at o ≡ cond shown (Some (reported tested.role (moment (e ∷ past) k) S06 at)) None
+    go : (o : Option Place3) → place_at k places ≡ o → blame_of at o ≡ cond shown (Some (reported tested.role (moment (e ∷ past) k) S06 at)) None
     go None h = ap (λ b. cond b (Some (reported tested.role (moment (e ∷ past) k) S06 at)) None) (sym (not_true shown (never h (moment past k) refl)))
-    go (Some p) h = of_entry p (value-due k (opened_at past) x es p distinct h)
+    go (Some p) h = of_entry p (sound k p h)
 
 pub resends-gains : (tested : Tested) (s : Inflight) (f : Fate) (at : ℕ) (e : Seen) (past : List Seen) (m : FaultMap) (rests excused : Bool) → IsUnder tested f at e past → IsUsing s tested (fate_before tested f e past) past
     → rests ≡ settles f (at == e.place.position) s.ended e.note → excused ≡ excuses s.peer s.in_flight s.bounds
-    → Gains (λ k r. same_rule r S06 && turns_with tested f e past k r) tested (e ∷ past) at m (cond rests (blamed_due s.opened excused at (values_of s.entries.entries) m) m)
+    → Gains (λ k r. same_rule r S06 && turns_with tested f e past k r) tested (e ∷ past) at m (told rests s.again excused s.opened at (values_of s.entries.entries) (get nat_eq s.entries) s.confirmed.keys m)
 resends-gains tested s f at e past m rests excused under u rest_is excused_is = go rests refl
   where
+    entry : ℕ → Option Entry
+    entry = get nat_eq s.entries
+
+    all : FaultMap → Type 0
+    all n = Gains (λ k r. same_rule r S06 && turns_with tested f e past k r) tested (e ∷ past) at m n
+
     binding : is_binding tested.role (newest e past) ≡ binds_by f (at == e.place.position) s.ended e.note
     binding = binding-under tested f at e past under ∙ ap (λ t. binds_by f (at == e.place.position) t e.note) (sym u.is_ended)
 
@@ -172,15 +184,47 @@ resends-gains tested s f at e past m rests excused under u rest_is excused_is = 
     closed : is_rest e.note ≡ true → IsUsing s tested (Some f) past
     closed rest = subst (λ b. IsUsing s tested (cond b (latest_fate tested.role past) (Some f)) past) (rest-opens-nothing e.note rest) u
 
-    go : (t : Bool) → rests ≡ t → Gains (λ k r. same_rule r S06 && turns_with tested f e past k r) tested (e ∷ past) at m (cond t (blamed_due s.opened excused at (values_of s.entries.entries) m) m)
+    -- by what is looked at, which has all that is due
+    from : resumes f ≡ true → is_binding tested.role (newest e past) ≡ true → IsUsing s tested (Some f) past → (x : Bool) → excused ≡ x → (places : List Place3)
+        → ((k : ℕ) (p : Place3) → place_at k places ≡ Some p → IsDueAt k s.opened x entry p)
+        → ((k i : ℕ) (o : Entry) → entry i ≡ Some o → is_due s.opened x o ≡ true → k ≡ o.place.position → is_some (place_at k places) ≡ true) → all (blamed S06 at places m)
+    from resumed b n x x_is places sound complete =
+        gains_blamed tested S06 f e past at places m
+        (due-blamed tested f at s.opened x e past entry places under.follows.placed.1 resumed n.opened_is n.entries_are (λ k. shown b k ∙ ap (λ y. is_some_and (owes tested.role (Some f) y past) (moment past k)) x_is) sound complete)
+
+    nothing : (x : Bool) → ((i : ℕ) (o : Entry) → entry i ≡ Some o → is_due s.opened x o ≡ true → ⊥) → (k i : ℕ) (o : Entry) → entry i ≡ Some o → is_due s.opened x o ≡ true → k ≡ o.place.position → is_some (place_at k []) ≡ true
+    nothing x never k i o h due at = absurd (never i o h due)
+
+    absent : (x : Bool) (k : ℕ) (p : Place3) → place_at k [] ≡ Some p → IsDueAt k s.opened x entry p
+    absent x k p h = absurd (cc)
+
+    by : resumes f ≡ true → is_binding tested.role (newest e past) ≡ true → IsUsing s tested (Some f) past → (x : Bool) → excused ≡ x → (a : Bool) → s.again.all ≡ a → (c : Bool) → s.again.confirmed ≡ c
+        → all (cond x (cond c m (blamed_under entry s.opened at s.confirmed.keys m)) (cond a m (blamed_due s.opened false at (values_of s.entries.entries) m)))
+    by resumed b n true x_is a a_is true c_is =
+        from resumed b n true x_is [] (absent true) (nothing true (λ i o h due.
+        let none : is_some_and (is_due s.opened true) (entry i) ≡ false = n.resent_are.confirmed_are c_is i in
+        let bad : true ≡ false = sym (ap (is_some_and (is_due s.opened true)) h ∙ due) ∙ none in
+        absurd (cc)))
+    by resumed b n true x_is a a_is false c_is =
+        subst all (sym (blamed_under-is entry s.opened at s.confirmed.keys m))
+        (from resumed b n true x_is (places_under entry s.opened s.confirmed.keys) (λ k p h. under-due k s.opened entry s.confirmed.keys p h)
+        (λ k i o h due at_k. listed-due k i s.opened entry s.confirmed.keys o h due at_k (due-listed s.opened entry (contains nat_eq s.confirmed) s.again n.resent_are i o h due)))
+    by resumed b n false x_is true a_is c c_is =
+        from resumed b n false x_is [] (absent false) (nothing false (λ i o h due.
+        let none : is_some_and (λ (y : Entry). nat_lt y.sent s.opened) (entry i) ≡ false = n.resent_are.all_are a_is i in
+        let bad : true ≡ false = sym (ap (is_some_and (λ (y : Entry). nat_lt y.sent s.opened)) h ∙ (both_true (nat_lt o.sent s.opened) (o.confirmed || true) due).0) ∙ none in
+        absurd (cc)))
+    by resumed b n false x_is false a_is c c_is =
+        subst all (sym (blamed_due-is s.opened false at (values_of s.entries.entries) m))
+        (from resumed b n false x_is (due_places s.opened false (values_of s.entries.entries)) (λ k p h. value-due k s.opened false s.entries.entries p n.distinct h)
+        (λ k i o h due at_k. key-due k i s.opened false s.entries.entries o h due at_k))
+
+    go : (t : Bool) → rests ≡ t → all (told t s.again excused s.opened at (values_of s.entries.entries) entry s.confirmed.keys m)
     go false h = gains_none tested S06 f e past at m (none (is_binding tested.role (newest e past)) refl (resumes f) refl (sym is ∙ h))
     go true h =
         let parts = both_true (resumes f) (is_binding tested.role (newest e past)) (sym is ∙ h) in
         let n = closed (both_true (is_rest e.note) ((at == e.place.position) && (accepts f && not s.ended)) (sym binding ∙ parts.1)).0 in
-        subst (λ (m2 : FaultMap). Gains (λ k r. same_rule r S06 && turns_with tested f e past k r) tested (e ∷ past) at m m2)
-        (ap (λ p. blamed S06 at (due_places p excused (values_of s.entries.entries)) m) (sym n.opened_is) ∙ sym (blamed_due-is s.opened excused at (values_of s.entries.entries) m))
-        (gains_blamed tested S06 f e past at (due_places (opened_at past) excused (values_of s.entries.entries)) m
-        (due-blamed tested f at excused e past s.entries.entries under.follows.placed.1 n.distinct parts.0 n.entries_are (shown parts.1)))
+        by parts.0 parts.1 n excused refl s.again.all refl s.again.confirmed refl
 
 -- ---- the state, with one event more
 

@@ -172,7 +172,8 @@ inflight-passes tested s f at e past h under before =
           (sym (ap (λ b. cond b e.place.position s.opened) q.closed))
           (sym (ap (λ o. option_or (cond (is_open n) None s.peer) o) room ∙ ap (λ b. option_or (cond b None s.peer) None) q.closed ∙ option_or-none s.peer))
           (λ below. sym (flown-stays (may_count s.role s.peer) n s.in_flight q.closed q.delivery q.closer))
-          (sym (ap (λ o. option_or (cond (is_open n) None s.bounds) o) bounds ∙ ap (λ b. option_or (cond b None s.bounds) None) q.closed ∙ option_or-none s.bounds)),
+          (sym (ap (λ o. option_or (cond (is_open n) None s.bounds) o) bounds ∙ ap (λ b. option_or (cond b None s.bounds) None) q.closed ∙ option_or-none s.bounds))
+          u.resent_are,
       λ m. inflight-gains tested s f at e past m (record { takes_busy = false; unopened = false; twice = false; past_pubrel = false; out_of_order = false }) false (excuses s.peer s.in_flight s.bounds) under before
           (unbroken tested s f n q)
           (sym (ap (λ b. resumes f && (b && ((at == e.place.position) && (accepts f && not s.ended)))) q.awake ∙ and_false (resumes f)))

@@ -1,5 +1,5 @@
 -- What a resumed session owes (MQTT 5.0, section 4.4).
-use Rattle.std.specs.Prelude.{ℕ, ◌+◌, nat_lt, nat_le, Bool, ◌&&◌, ◌||◌, not, cond, List, [], ◌∷◌, length, Option, None, is_some, option_map, unwrap_or}
+use Rattle.std.specs.Prelude.{ℕ, ◌≡◌, ◌+◌, nat_lt, nat_le, Bool, true, false, ◌&&◌, ◌||◌, not, cond, List, [], ◌∷◌, length, Option, Some, None, is_some, option_map, unwrap_or}
 use Rattle.std.specs.Option.{option_or}
 use Rattle.mq_trace.specs.declared.place.Place3.{Place3}
 use Rattle.mq_rules.specs.declared.role.Role.{Role}
@@ -10,11 +10,12 @@ use Rattle.mq_rules.specs.declared.note.Note.{Note}
 use Rattle.mq_rules.specs.declared.note.Seen.{Seen}
 use Rattle.mq_rules.specs.declared.packet_note.ConnectNote.{ConnectNote}
 use Rattle.mq_rules.specs.declared.packet_note.ConnackNote.{ConnackNote}
-use Rattle.mq_rules.specs.Words.{is_some_and}
-use Rattle.mq_rules.specs.Notes.{is_open, connect_of, connack_of}
-use Rattle.mq_rules.specs.Connections.{connection, first_connect, first_connack, resumes}
+use Rattle.mq_rules.specs.Words.{is_some_and, is_id}
+use Rattle.mq_rules.specs.Notes.{is_open, connect_of, connack_of, closer_of, received_as, accepting_pubrec_in}
+use Rattle.mq_rules.specs.Connections.{connection, first_connect, first_connack, accepts, begins, resumes}
 use Rattle.mq_rules.specs.FaultKeys.{FaultMap, with_fault}
 use Rattle.mq_books.specs.declared.inflight.entry.Entry.{Entry}
+use Rattle.mq_books.specs.declared.inflight.resends.Resent.{Resent}
 use Rattle.mq_books.specs.Owings.{binds_by}
 
 -- the position of the OPEN of the latest connection, or 0
@@ -61,6 +62,35 @@ due_next opened excused at o faults = cond (is_due opened excused o) (with_fault
 abbrev pub blamed_due : ℕ → Bool → ℕ → List Entry → FaultMap → FaultMap
 blamed_due opened excused at [] faults = faults
 blamed_due opened excused at (o ∷ os) faults = blamed_due opened excused at os (due_next opened excused at o faults)
+
+-- the same of what is kept of an identifier, excused or not; of several identifiers
+abbrev pub told_under : Option Entry → ℕ → ℕ → FaultMap → FaultMap
+told_under None opened at faults = faults
+told_under (Some o) opened at faults = due_next opened true at o faults
+
+abbrev pub blamed_under : (ℕ → Option Entry) → ℕ → ℕ → List ℕ → FaultMap → FaultMap
+blamed_under entry opened at [] faults = faults
+blamed_under entry opened at (i ∷ is) faults = blamed_under entry opened at is (told_under (entry i) opened at faults)
+
+-- the faults after a REST, if it binds: of what is known to have been sent again nothing is looked at, and where what isn't confirmed is excused, only what is
+abbrev pub told : Bool → Resent → Bool → ℕ → ℕ → List Entry → (ℕ → Option Entry) → List ℕ → FaultMap → FaultMap
+told rests r excused opened at entries entry confirmed faults =
+    cond rests (cond excused (cond r.confirmed faults (blamed_under entry opened at confirmed faults)) (cond r.all faults (blamed_due opened false at entries faults))) faults
+
+-- a PUBREC below 0x80 is received for an identifier that is open and wasn't sent again since this OPEN
+abbrev pub confirms_untouched : Note → ℕ → (ℕ → Option Entry) → Bool
+confirms_untouched n opened entry = is_some_and (λ i. is_some_and (λ o. nat_lt o.sent opened) (entry i)) (received_as accepting_pubrec_in n)
+
+-- whether an identifier is open and such a PUBREC was received for it, after an event of a connection with this fate
+abbrev pub confirmed_next : Fate → Note → (ℕ → Option Entry) → ℕ → Bool → Bool
+confirmed_next f n entry i old = cond (is_open n) (cond (begins (Some f)) false old) (cond (accepts f) (not (is_id i (closer_of n)) && (old || (is_id i (received_as accepting_pubrec_in n) && is_some (entry i)))) old)
+
+-- The listed identifiers are open, and all that are confirmed are listed. What is known to have been sent again since this OPEN was.
+pub record IsResent (opened : ℕ) (entry : ℕ → Option Entry) (confirmed : ℕ → Bool) (r : Resent) : Type 0 where
+  pub listed : (i : ℕ) → is_some_and (λ o. o.confirmed) (entry i) ≡ true → confirmed i ≡ true
+  pub opened_are : (i : ℕ) → confirmed i ≡ true → is_some (entry i) ≡ true
+  pub all_are : r.all ≡ true → (i : ℕ) → is_some_and (λ o. nat_lt o.sent opened) (entry i) ≡ false
+  pub confirmed_are : r.confirmed ≡ true → (i : ℕ) → is_some_and (is_due opened true) (entry i) ≡ false
 
 -- this is a REST that binds, on a resumed connection
 abbrev pub settles : Fate → Bool → Bool → Note → Bool

@@ -23,7 +23,7 @@ use Rattle.mq_books.specs.declared.inflight.broken.Broken.{Broken}
 use Rattle.mq_books.specs.declared.inflight.entry.Entry.{Entry}
 use Rattle.mq_books.specs.Quotas.{judged_by, peer_room}
 use Rattle.mq_books.specs.Opened.{entry_in}
-use Rattle.mq_books.specs.Resending.{opened_at, peer_bounds}
+use Rattle.mq_books.specs.Resending.{opened_at, peer_bounds, IsResent}
 
 -- on the latest connection, something was begun under i by the first, and not ended by the second since
 abbrev pub waits : (Note → Option ℕ) → (Note → Option ℕ) → ℕ → List Seen → Bool
@@ -115,3 +115,4 @@ pub record IsUsing (s : Inflight) (tested : Tested) (taken : Option Fate) (past 
   pub same_peer : s.peer ≡ peer_room tested.role past
   pub flying : s.in_flight ≡ in_flight (those (counts tested.role) (connection past))
   pub bounds_are : s.bounds ≡ peer_bounds tested.role past
+  pub resent_are : IsResent s.opened (get nat_eq s.entries) (contains nat_eq s.confirmed) s.again

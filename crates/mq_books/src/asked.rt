@@ -68,7 +68,7 @@ fn take_answered(
 }
 
 /// The position of the latest OPEN after an event.
-fn opened_after(opened: u32, position: u32, note: &Note) -> u32
+pub fn opened_after(opened: u32, position: u32, note: &Note) -> u32
     ensures { result ≡ cond (is_open note.now) position opened }
 {
     if note.is_open() { position } else { opened }

@@ -69,6 +69,7 @@ pub trait Replies {
 /// Keeps the count of the first packet of an identifier that isn't answered.
 fn keep_count(
     counts: &mut IndexMap<u16, usize>,
+    alloc: Global,
     opens: bool,
     request: Option<Counted>,
     reply: Option<Counted>,
@@ -76,7 +77,8 @@ fn keep_count(
     ensures { OnOk result ((i : ℕ) → get nat_eq counts.new i ≡ counted_next opens request reply i (get nat_eq counts.old i)) }
 {
     if opens {
-        counts.clear();
+        // A large map that is cleared costs its size each time.
+        *counts = IndexMap::new(alloc);
     }
     if let Some(answered) = reply {
         counts.swap_remove(&answered.identifier);
@@ -112,6 +114,7 @@ fn is_broken(bound: bool, fate: Fate, counts: &IndexMap<u16, usize>, reply: Opti
 /// Watches that there are as many Reason Codes as filters.
 #[derive(Drop)]
 pub struct Counts<R: Replies> {
+    alloc: Global,
     bound: bool,
     fate: Fate,
     counts: IndexMap<u16, usize>,
@@ -124,6 +127,7 @@ impl<R: Replies> Counts<R> {
         ensures { ⟦<Counts<R> as Watch>⟧.agrees result tested (Some Void) [] }
     {
         Counts {
+            alloc,
             bound: R::judged().is_judged(tested),
             fate: Fate::Void,
             counts: IndexMap::new(alloc),
@@ -166,7 +170,14 @@ impl<R: Replies> Fated for Counts<R> {
     ) -> Result<(), Memory> {
         let reply = R::reply(note);
         let broken = is_broken(self.bound, fate, &self.counts, reply);
-        keep_count(&mut self.counts, note.is_open(), R::request(note), reply)?;
+        let alloc = self.alloc;
+        keep_count(
+            &mut self.counts,
+            alloc,
+            note.is_open(),
+            R::request(note),
+            reply,
+        )?;
         self.fate = fate;
         judge_by(R::judged(), broken, at, decided, faults)?;
         Ok(())

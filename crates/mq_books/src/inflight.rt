@@ -1,6 +1,6 @@
 //! The Packet Identifiers in use, and what is sent again (MQTT 5.0, sections 2.2.1, 4.3 and 4.4).
 ghost use Rattle.std.specs.Prelude.{refl};
-ghost use Rattle.std.specs.Prelude.{◌≡◌, ◌<◌, ◌+◌, ℕ, ◌&&◌, ◌||◌, not, cond, OnOk, nat_eq, [], Some, None};
+ghost use Rattle.std.specs.Prelude.{◌≡◌, ◌<◌, ◌≤◌, ◌+◌, ◌*◌, ℕ, ◌&&◌, ◌||◌, not, cond, OnOk, nat_eq, [], Some, None};
 ghost use Rattle.std.specs.Option.{option_or};
 ghost use Rattle.indexmap.specs.IndexMap.{get, IsUnique};
 ghost use Rattle.indexmap.specs.IndexSet.{contains};
@@ -11,7 +11,7 @@ ghost use Rattle.mq_books.specs.Burden.{open_ids, delivering_ids, void_ids, subs
 ghost use Rattle.mq_books.specs.Pingings.{ends_by};
 ghost use Rattle.mq_books.specs.Quotas.{announced, may_count as counts_now, flown as flown_by};
 ghost use Rattle.mq_books.specs.Opened.{entry_next};
-ghost use Rattle.mq_books.specs.Resending.{bounds_next};
+ghost use Rattle.mq_books.specs.Resending.{bounds_next, IsResent};
 ghost use Rattle.mq_books.specs.Using.{IsUsing, breaks, is_inflight, waits_next, void_next, resent_next};
 ghost use Rattle.mq_books.specs.Concerns.{concerns_flight};
 ghost use Rattle.mq_books.specs.Selecting as selecting;
@@ -20,6 +20,7 @@ mod broken;
 mod entry;
 mod resends;
 
+use crate::asked::opened_after;
 use crate::fated::Fated;
 use crate::messages::is_acknowledged;
 use crate::pings::ended_after;
@@ -33,18 +34,23 @@ use entry::{Entry, take_entries};
 use indexmap::{IndexMap, IndexSet};
 use mq_rules::{Fate, Faults, ItemNote, Memory, Note, PacketFields, Role, Rule, Tested, Watch};
 use mq_trace::Place3;
-use resends::{bounds_after, is_excused, rests_now, settle};
+use resends::{Resent, bounds_after, is_excused, resent_still, rests_now, settle, take_confirmed};
 use std::alloc::Global;
 
 /// Watches S01 to S06.
 #[derive(Drop)]
 pub struct Inflight {
+    alloc: Global,
     role: Role,
     fate: Fate,
     /// Whether PUBLISH packets have to be sent again in their order.
     ordered: bool,
     /// The identifiers that are open in the session.
     entries: IndexMap<u16, Entry>,
+    /// Those of them for which a PUBREC below 0x80 came.
+    confirmed: IndexSet<u16>,
+    /// What is known to have been sent again on the connection.
+    again: Resent,
     /// Those of PUBLISH packets that were sent on the connection, and not acknowledged there since.
     delivering: IndexSet<u16>,
     /// Those of PUBLISH packets that were sent on void connections.
@@ -70,6 +76,7 @@ pub struct Inflight {
 /// Puts in what is begun, after what is ended is out. An OPEN ends all.
 fn await_answer(
     waiting: &mut IndexSet<u16>,
+    alloc: Global,
     opens: bool,
     begun: Option<u16>,
     ended: Option<u16>,
@@ -77,7 +84,8 @@ fn await_answer(
     ensures { OnOk result ((i : ℕ) → contains nat_eq waiting.new i ≡ waits_next begun ended opens i (contains nat_eq waiting.old i)) }
 {
     if opens {
-        waiting.clear();
+        // A large set that is cleared costs its size each time.
+        *waiting = IndexSet::new(alloc);
     }
     if let Some(i) = ended {
         waiting.swap_remove(&i);
@@ -102,19 +110,30 @@ fn take_void(void: &mut IndexSet<u16>, fate: Fate, note: &Note) -> Result<(), Me
 }
 
 /// Takes in a PUBLISH and what acknowledges it.
-fn take_delivering(delivering: &mut IndexSet<u16>, note: &Note) -> Result<(), Memory>
+fn take_delivering(delivering: &mut IndexSet<u16>, alloc: Global, note: &Note) -> Result<(), Memory>
     ensures { OnOk result ((i : ℕ) → contains nat_eq delivering.new i ≡ waits_next (delivery_of note.now) (closer_of note.now) (opens note.now) i (contains nat_eq delivering.old i)) }
 {
-    await_answer(delivering, note.is_open(), note.delivery(), note.closer())?;
+    await_answer(
+        delivering,
+        alloc,
+        note.is_open(),
+        note.delivery(),
+        note.closer(),
+    )?;
     Ok(())
 }
 
 /// Takes in a SUBSCRIBE and a SUBACK.
-fn take_subscribing(subscribing: &mut IndexSet<u16>, note: &Note) -> Result<(), Memory>
+fn take_subscribing(
+    subscribing: &mut IndexSet<u16>,
+    alloc: Global,
+    note: &Note,
+) -> Result<(), Memory>
     ensures { OnOk result ((i : ℕ) → contains nat_eq subscribing.new i ≡ waits_next (sent_as subscribe_in note.now) (received_as suback_in note.now) (opens note.now) i (contains nat_eq subscribing.old i)) }
 {
     await_answer(
         subscribing,
+        alloc,
         note.is_open(),
         note.sent_subscribe(),
         note.received_suback(),
@@ -123,11 +142,16 @@ fn take_subscribing(subscribing: &mut IndexSet<u16>, note: &Note) -> Result<(), 
 }
 
 /// Takes in an UNSUBSCRIBE and an UNSUBACK.
-fn take_unsubscribing(unsubscribing: &mut IndexSet<u16>, note: &Note) -> Result<(), Memory>
+fn take_unsubscribing(
+    unsubscribing: &mut IndexSet<u16>,
+    alloc: Global,
+    note: &Note,
+) -> Result<(), Memory>
     ensures { OnOk result ((i : ℕ) → contains nat_eq unsubscribing.new i ≡ waits_next (sent_as unsubscribe_in note.now) (received_as unsuback_in note.now) (opens note.now) i (contains nat_eq unsubscribing.old i)) }
 {
     await_answer(
         unsubscribing,
+        alloc,
         note.is_open(),
         note.sent_unsubscribe(),
         note.received_unsuback(),
@@ -141,10 +165,16 @@ impl Inflight {
         ensures { ⟦<Inflight as Watch>⟧.agrees result tested (Some Void) [] }
     {
         Inflight {
+            alloc,
             role: tested.role,
             fate: Fate::Void,
             ordered: Rule::S05.is_judged(tested),
             entries: IndexMap::new(alloc),
+            confirmed: IndexSet::new(alloc),
+            again: Resent {
+                all: false,
+                confirmed: false,
+            },
             delivering: IndexSet::new(alloc),
             void: IndexSet::new(alloc),
             subscribing: IndexSet::new(alloc),
@@ -195,15 +225,14 @@ impl Inflight {
         ensures peer { OnOk result (self.new.peer ≡ option_or (cond (opens note.now) None self.old.peer) (announced self.old.role note.now)) }
         ensures flying { self.old.in_flight < at.position → OnOk result (self.new.in_flight ≡ flown_by (counts_now self.old.role self.old.peer) note.now self.old.in_flight) }
         ensures bounds { OnOk result (self.new.bounds ≡ bounds_next self.old.role note.now self.old.bounds) }
+        ensures again { self.old.opened ≤ at.position → IsResent self.old.opened (get nat_eq self.old.entries) (contains nat_eq self.old.confirmed) self.old.again → OnOk result (IsResent self.new.opened (get nat_eq self.new.entries) (contains nat_eq self.new.confirmed) self.new.again) }
     {
+        let alloc = self.alloc;
+        self.again = resent_still(self.again, &self.entries, self.opened, note);
         self.resent = resent_after(self.resent, note, &self.entries);
         self.fate = fate;
         self.ended = ended_after(self.ended, note);
-        self.opened = if note.is_open() {
-            at.position
-        } else {
-            self.opened
-        };
+        self.opened = opened_after(self.opened, at.position, note);
         self.in_flight = flown(
             may_count(self.role, self.peer),
             note,
@@ -212,11 +241,12 @@ impl Inflight {
         );
         self.peer = peer_after(self.role, self.peer, note);
         self.bounds = bounds_after(self.role, self.bounds, note);
-        take_entries(&mut self.entries, at, fate, note)?;
-        take_delivering(&mut self.delivering, note)?;
+        take_confirmed(&mut self.confirmed, alloc, &self.entries, fate, note)?;
+        take_entries(&mut self.entries, alloc, at, fate, note)?;
+        take_delivering(&mut self.delivering, alloc, note)?;
         take_void(&mut self.void, fate, note)?;
-        take_subscribing(&mut self.subscribing, note)?;
-        take_unsubscribing(&mut self.unsubscribing, note)?;
+        take_subscribing(&mut self.subscribing, alloc, note)?;
+        take_unsubscribing(&mut self.unsubscribing, alloc, note)?;
         Ok(())
     }
 }
@@ -228,7 +258,7 @@ impl Watch for Inflight {
 
     ghost adds = { λ tested e past k r. is_inflight r && turns_known tested e past k r };
 
-    ghost bound = { λ tested taken past. open_ids tested.role taken past + delivering_ids past + void_ids tested.role taken past + subscribing_ids past + unsubscribing_ids past };
+    ghost bound = { λ tested taken past. 2 * open_ids tested.role taken past + delivering_ids past + void_ids tested.role taken past + subscribing_ids past + unsubscribing_ids past };
 
     fn step(&mut self, at: Place3, note: &Note, faults: &mut Faults) -> Result<(), Memory> {
         let fate = self.fate;
@@ -236,9 +266,10 @@ impl Watch for Inflight {
         Ok(())
     }
 
-    // The map and all four sets of the struct.
+    // The map and all five sets of the struct.
     fn weight(&self) -> usize {
         map_size(&self.entries)
+            .saturating_add(set_size(&self.confirmed))
             .saturating_add(set_size(&self.delivering))
             .saturating_add(set_size(&self.void))
             .saturating_add(set_size(&self.subscribing))
@@ -261,7 +292,16 @@ impl Fated for Inflight {
         judge_all(&broken, at, decided, faults)?;
         let rests = rests_now(fate, decided == at.position, self.ended, note);
         let excused = is_excused(self.peer, self.in_flight, self.bounds);
-        settle(rests, &self.entries, self.opened, excused, decided, faults)?;
+        self.again = settle(
+            rests,
+            self.again,
+            &self.entries,
+            &self.confirmed,
+            self.opened,
+            excused,
+            decided,
+            faults,
+        )?;
         self.take_in(at, fate, note)?;
         Ok(())
     }

@@ -29,6 +29,7 @@ use std::alloc::Global;
 /// A RELEASE between connections, or on a void one, belongs to the session of the latest accepted connection.
 #[derive(Drop)]
 pub struct Releases {
+    alloc: Global,
     role: Role,
     releases: bool,
     fate: Fate,
@@ -65,6 +66,7 @@ fn starts_over(fate: Fate, note: &Note) -> bool
 /// Takes out what is lost by an event of the session, and puts in what is gained.
 fn revise(
     set: &mut IndexSet<u16>,
+    alloc: Global,
     over: bool,
     inside: bool,
     gained: Option<u16>,
@@ -73,7 +75,8 @@ fn revise(
     ensures { OnOk result ((i : ℕ) → contains nat_eq set.new i ≡ keeping.kept_next over inside gained lost i (contains nat_eq set.old i)) }
 {
     if over {
-        set.clear();
+        // A large set that is cleared costs its size each time.
+        *set = IndexSet::new(alloc);
     }
     if !inside {
         return Ok(());
@@ -110,6 +113,7 @@ fn lasting(note: &Note, brought: &IndexSet<u16>) -> Option<u16>
 /// Takes in an event for the messages that need a RELEASE.
 fn revise_due(
     due: &mut IndexSet<u16>,
+    alloc: Global,
     over: bool,
     inside: bool,
     note: &Note,
@@ -117,8 +121,15 @@ fn revise_due(
 ) -> Result<(), Memory>
     ensures { OnOk result ((i : ℕ) → contains nat_eq due.new i ≡ keeping.due_next over inside note.now (contains nat_eq brought.now) i (contains nat_eq due.old i)) }
 {
-    revise(due, over, inside, None, note.sent_unmatched_pubrec())?;
-    revise(due, false, inside, lasting(note, brought), note.ender())?;
+    revise(due, alloc, over, inside, None, note.sent_unmatched_pubrec())?;
+    revise(
+        due,
+        alloc,
+        false,
+        inside,
+        lasting(note, brought),
+        note.ender(),
+    )?;
     Ok(())
 }
 
@@ -168,6 +179,7 @@ impl Releases {
         ensures { ⟦<Releases as Watch>⟧.agrees result tested (Some Void) [] }
     {
         Releases {
+            alloc,
             role: tested.role,
             releases: tested.releases,
             fate: Fate::Void,
@@ -218,9 +230,11 @@ impl Fated for Releases {
         let unreleased = is_unreleased(self.releases, fate, note, &self.released, &self.due);
         let inside = is_inside(fate, note, self.has_accepted);
         let over = starts_over(fate, note);
-        revise_due(&mut self.due, over, inside, note, &self.brought)?;
+        let alloc = self.alloc;
+        revise_due(&mut self.due, alloc, over, inside, note, &self.brought)?;
         revise(
             &mut self.brought,
+            alloc,
             over,
             inside,
             note.received_exactly_once(),
@@ -228,6 +242,7 @@ impl Fated for Releases {
         )?;
         revise(
             &mut self.released,
+            alloc,
             over,
             inside,
             note.released_identifier(),

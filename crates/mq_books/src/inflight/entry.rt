@@ -9,6 +9,7 @@ use indexmap::IndexMap;
 use mq_packet::Qos;
 use mq_rules::{Fate, Memory, Note};
 use mq_trace::Place3;
+use std::alloc::Global;
 
 /// What is kept of an identifier that is open.
 #[derive(Clone, Copy)]
@@ -121,6 +122,7 @@ fn take_in(entries: &mut IndexMap<u16, Entry>, at: Place3, note: &Note) -> Resul
 /// Takes in an event of a connection that has this fate.
 pub fn take_entries(
     entries: &mut IndexMap<u16, Entry>,
+    alloc: Global,
     at: Place3,
     fate: Fate,
     note: &Note,
@@ -130,7 +132,8 @@ pub fn take_entries(
 {
     if note.is_open() {
         if matches!(fate, Fate::New) {
-            entries.clear();
+            // A large map that is cleared costs its size each time.
+            *entries = IndexMap::new(alloc);
         }
         return Ok(());
     }

@@ -1,14 +1,19 @@
 //! What a resumed session owes (MQTT 5.0, section 4.4).
-ghost use Rattle.std.specs.Prelude.{◌≡◌, OnOk, OnErr, cond};
-ghost use Rattle.indexmap.specs.IndexMap.{values};
+ghost use Rattle.std.specs.Prelude.{◌≡◌, ◌&&◌, ◌||◌, ℕ, Bool, true, false, OnOk, OnErr, IfOk, cond, not, nat_eq, nat_lt, is_some};
+ghost use Rattle.std.specs.List.{list_any};
+ghost use Rattle.indexmap.specs.IndexMap.{get, values};
+ghost use Rattle.indexmap.specs.IndexSet.{contains};
+ghost use Rattle.mq_rules.specs.Words.{is_some_and, is_id};
+ghost use Rattle.mq_rules.specs.Notes.{is_open as opens};
 ghost use Rattle.mq_books.specs.Owings.{Keeps};
 ghost use Rattle.mq_books.specs.Resending as resending;
-ghost use Rattle.mq_books.specs.Resending.{due_next, blamed_due, excuses, settles, bounds_next};
+ghost use Rattle.mq_books.specs.Resending.{due_next, told_under, blamed_due, blamed_under, told, excuses, settles, bounds_next, confirmed_next, confirms_untouched, IsResent};
 
 use super::entry::Entry;
 use crate::quota::RECEIVE_MAXIMUM;
-use indexmap::IndexMap;
+use indexmap::{IndexMap, IndexSet};
 use mq_rules::{Fate, Fault, FaultKey, Faults, Memory, Note, Role, Rule};
+use std::alloc::Global;
 
 /// Whether the peer announces a Maximum Packet Size or a Maximum QoS by this event.
 fn announces_bounds(role: Role, note: &Note) -> Option<bool>
@@ -77,6 +82,120 @@ fn blame_one(
     Ok(())
 }
 
+/// What is known to have been sent again on the connection. A REST then needn't look for it.
+#[derive(Clone, Copy)]
+pub struct Resent {
+    /// All identifiers that are open were.
+    pub all: bool,
+    /// All that are open and for which a PUBREC below 0x80 came were.
+    pub confirmed: bool,
+}
+
+/// What is known after an event, before it is taken in. An OPEN ends all, and a PUBREC may confirm what wasn't sent again.
+pub fn resent_still(
+    resent: Resent,
+    entries: &IndexMap<u16, Entry>,
+    opened: u32,
+    note: &Note,
+) -> Resent
+    ensures { result ≡ record { all = not (opens note.now) && resent.all; confirmed = not (opens note.now) && (resent.confirmed && not (confirms_untouched note.now opened (get nat_eq entries.now))) } }
+{
+    Resent {
+        all: !note.is_open() && resent.all,
+        confirmed: !note.is_open() && (resent.confirmed && !confirms(entries, opened, note)),
+    }
+}
+
+/// Whether a PUBREC below 0x80 is received for an identifier that wasn't sent again on the connection.
+fn confirms(entries: &IndexMap<u16, Entry>, opened: u32, note: &Note) -> bool
+    ensures { result ≡ confirms_untouched note.now opened (get nat_eq entries.now) }
+{
+    match note.received_accepting_pubrec() {
+        Some(i) => match entries.get(&i) {
+            Some(entry) => entry.sent < opened,
+            None => false,
+        },
+        None => false,
+    }
+}
+
+/// Keeps the identifiers that are open and for which a PUBREC below 0x80 came. The event isn't taken in yet.
+pub fn take_confirmed(
+    confirmed: &mut IndexSet<u16>,
+    alloc: Global,
+    entries: &IndexMap<u16, Entry>,
+    fate: Fate,
+    note: &Note,
+) -> Result<(), Memory>
+    ensures { OnOk result ((i : ℕ) → contains nat_eq confirmed.new i ≡ confirmed_next fate note.now (get nat_eq entries.now) i (contains nat_eq confirmed.old i)) }
+{
+    if note.is_open() {
+        if matches!(fate, Fate::New) {
+            // A large set that is cleared costs its size each time.
+            *confirmed = IndexSet::new(alloc);
+        }
+        return Ok(());
+    }
+    if !fate.accepts() {
+        return Ok(());
+    }
+    keep_confirmed(
+        confirmed,
+        entries,
+        note.received_accepting_pubrec(),
+        note.closer(),
+    )
+}
+
+fn keep_confirmed(
+    confirmed: &mut IndexSet<u16>,
+    entries: &IndexMap<u16, Entry>,
+    begun: Option<u16>,
+    ended: Option<u16>,
+) -> Result<(), Memory>
+    ensures { OnOk result ((i : ℕ) → contains nat_eq confirmed.new i ≡ (not (is_id i ended) && (contains nat_eq confirmed.old i || (is_id i begun && is_some (get nat_eq entries.now i))))) }
+{
+    if let Some(i) = begun {
+        if entries.contains_key(&i) {
+            confirmed.insert(i)?;
+        }
+    }
+    if let Some(i) = ended {
+        confirmed.swap_remove(&i);
+    }
+    Ok(())
+}
+
+/// Whether some identifier that is open wasn't sent again on the connection.
+fn any_untouched(entries: &IndexMap<u16, Entry>, opened: u32) -> bool
+    ensures { result ≡ list_any (λ o. nat_lt o.sent opened) (values entries.now) }
+{
+    entries.values().any(|entry| is_untouched(entry, opened))
+}
+
+fn is_untouched(entry: &Entry, opened: u32) -> bool
+    ensures { result ≡ nat_lt entry.now.sent opened }
+{
+    entry.sent < opened
+}
+
+/// Whether an identifier is open and due, excused or not.
+fn is_due_under(entries: &IndexMap<u16, Entry>, opened: u32, i: u16) -> bool
+    ensures { result ≡ is_some_and (resending.is_due opened true) (get nat_eq entries.now i) }
+{
+    match entries.get(&i) {
+        Some(entry) => is_due(opened, true, entry),
+        None => false,
+    }
+}
+
+/// Whether some of these identifiers is.
+fn any_due_under(confirmed: &IndexSet<u16>, entries: &IndexMap<u16, Entry>, opened: u32) -> bool
+    ensures { result ≡ list_any (λ i. is_some_and (resending.is_due opened true) (get nat_eq entries.now i)) confirmed.now.keys }
+{
+    confirmed.iter().any(|i| is_due_under(entries, opened, *i))
+}
+
 /// Adds the faults of what is due.
 #[tactic(auto, using(crate::proofs::PlacesLaws::keeps_next, crate::proofs::PlacesLaws::keeps_due))]
 fn blame_due(
@@ -96,25 +215,116 @@ fn blame_due(
     Ok(())
 }
 
+/// Adds the fault of an identifier, if it is due, excused or not.
+fn blame_under(
+    entries: &IndexMap<u16, Entry>,
+    opened: u32,
+    i: u16,
+    decided: u32,
+    faults: &mut Faults,
+) -> Result<(), Memory>
+    ensures ok { OnOk result (faults.new ≡ told_under (get nat_eq entries.now i) opened decided faults.old) }
+    ensures unchanged { OnErr result (faults.new ≡ faults.old) }
+{
+    match entries.get(&i) {
+        Some(entry) => blame_one(entry, opened, true, decided, faults),
+        None => Ok(()),
+    }
+}
+
+/// Adds the faults of those of these identifiers that are due, excused or not.
+#[tactic(auto, using(crate::proofs::PlacesLaws::keeps_under_next, crate::proofs::PlacesLaws::keeps_under))]
+fn blame_confirmed(
+    confirmed: &IndexSet<u16>,
+    entries: &IndexMap<u16, Entry>,
+    opened: u32,
+    decided: u32,
+    faults: &mut Faults,
+) -> Result<(), Memory>
+    ensures ok { OnOk result (faults.new ≡ blamed_under (get nat_eq entries.now) opened decided confirmed.now.keys faults.old) }
+    ensures memory { OnErr result (Keeps faults.old faults.new) }
+    ensures partial { OnErr result (Keeps faults.new (blamed_under (get nat_eq entries.now) opened decided confirmed.now.keys faults.old)) }
+{
+    for i in confirmed.iter() {
+        blame_under(entries, opened, *i, decided, faults)?;
+    }
+    Ok(())
+}
+
+/// Adds the faults of what is due at a REST that binds. What is known to have been sent again isn't looked for: so an identifier that isn't due is
+/// looked at once, after it was sent again.
+#[tactic(auto, using(crate::proofs::BlameLaws::keeps_same))]
+fn settle_all(
+    resent: Resent,
+    entries: &IndexMap<u16, Entry>,
+    opened: u32,
+    decided: u32,
+    faults: &mut Faults,
+) -> Result<Resent, Memory>
+    ensures ok { OnOk result (faults.new ≡ cond resent.all faults.old (blamed_due opened false decided (values entries.now) faults.old)) }
+    ensures resent { (confirmed : ℕ → Bool) → IsResent opened (get nat_eq entries.now) confirmed resent → IfOk result (IsResent opened (get nat_eq entries.now) confirmed) }
+    ensures memory { OnErr result (Keeps faults.old faults.new) }
+    ensures partial { OnErr result (Keeps faults.new (cond resent.all faults.old (blamed_due opened false decided (values entries.now) faults.old))) }
+{
+    if resent.all {
+        return Ok(resent);
+    }
+    blame_due(entries, opened, false, decided, faults)?;
+    Ok(Resent {
+        all: !any_untouched(entries, opened),
+        confirmed: resent.confirmed,
+    })
+}
+
+/// The same where what wasn't confirmed is excused.
+#[tactic(auto, using(crate::proofs::BlameLaws::keeps_same))]
+fn settle_confirmed(
+    resent: Resent,
+    entries: &IndexMap<u16, Entry>,
+    confirmed: &IndexSet<u16>,
+    opened: u32,
+    decided: u32,
+    faults: &mut Faults,
+) -> Result<Resent, Memory>
+    ensures ok { OnOk result (faults.new ≡ cond resent.confirmed faults.old (blamed_under (get nat_eq entries.now) opened decided confirmed.now.keys faults.old)) }
+    ensures resent { IsResent opened (get nat_eq entries.now) (contains nat_eq confirmed.now) resent → IfOk result (IsResent opened (get nat_eq entries.now) (contains nat_eq confirmed.now)) }
+    ensures memory { OnErr result (Keeps faults.old faults.new) }
+    ensures partial { OnErr result (Keeps faults.new (cond resent.confirmed faults.old (blamed_under (get nat_eq entries.now) opened decided confirmed.now.keys faults.old))) }
+{
+    if resent.confirmed {
+        return Ok(resent);
+    }
+    blame_confirmed(confirmed, entries, opened, decided, faults)?;
+    Ok(Resent {
+        all: resent.all,
+        confirmed: !any_due_under(confirmed, entries, opened),
+    })
+}
+
 /// Adds the faults of what is due, if it is to be settled.
 #[tactic(auto, using(crate::proofs::BlameLaws::keeps_same))]
 pub fn settle(
     rests: bool,
+    resent: Resent,
     entries: &IndexMap<u16, Entry>,
+    confirmed: &IndexSet<u16>,
     opened: u32,
     excused: bool,
     decided: u32,
     faults: &mut Faults,
-) -> Result<(), Memory>
-    ensures ok { OnOk result (faults.new ≡ cond rests (blamed_due opened excused decided (values entries.now) faults.old) faults.old) }
+) -> Result<Resent, Memory>
+    ensures ok { OnOk result (faults.new ≡ told rests resent excused opened decided (values entries.now) (get nat_eq entries.now) confirmed.now.keys faults.old) }
+    ensures resent { IsResent opened (get nat_eq entries.now) (contains nat_eq confirmed.now) resent → IfOk result (IsResent opened (get nat_eq entries.now) (contains nat_eq confirmed.now)) }
     ensures memory { OnErr result (Keeps faults.old faults.new) }
-    ensures partial { OnErr result (Keeps faults.new (cond rests (blamed_due opened excused decided (values entries.now) faults.old) faults.old)) }
+    ensures partial { OnErr result (Keeps faults.new (told rests resent excused opened decided (values entries.now) (get nat_eq entries.now) confirmed.now.keys faults.old)) }
 {
     if !rests {
-        return Ok(());
+        return Ok(resent);
     }
-    blame_due(entries, opened, excused, decided, faults)?;
-    Ok(())
+    if excused {
+        return settle_confirmed(resent, entries, confirmed, opened, decided, faults);
+    }
+    settle_all(resent, entries, opened, decided, faults)
 }
 
 /// Whether this is a REST that binds, on a resumed connection.

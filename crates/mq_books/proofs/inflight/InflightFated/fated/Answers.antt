@@ -1,13 +1,15 @@
-use Rattle.std.proofs.Common.{◌&&◌, ◌∷◌, cond, subst, sym, ap, ◌∙◌}
+use Rattle.std.proofs.Common.{◌≤◌, ◌&&◌, ◌∷◌, nat_eq, arith, subst, sym, ap, ◌∙◌}
 use Rattle.std.specs.Map.{values_of}
+use Rattle.indexmap.specs.IndexMap.{get}
 use Rattle.mq_rules.specs.declared.rule.Rule.TheVariants.{S06}
 use Rattle.mq_rules.specs.Rules.{same_rule}
 use Rattle.mq_rules.specs.FaultKeys.{FaultMap}
 use Rattle.mq_rules.proofs.Exports.{on_err, within_all, within_either_first, within_either_second}
 use Rattle.mq_rules.specs.Under.{seen, turns_with}
 use Rattle.mq_rules.specs.Growing.{Gains}
-use Rattle.mq_books.specs.Resending.{blamed_due}
+use Rattle.mq_books.specs.Resending.{told}
 use Rattle.mq_books.specs.Using.{judged_all, is_at_once, is_inflight}
+use Rattle.mq_books.proofs.DueLaws.{opened-within}
 use Rattle.mq_books.proofs.BlameLaws.{within_kept}
 use Rattle.mq_books.proofs.UsingLaws.{using-gains}
 use Rattle.mq_books.proofs.ResendsLaws.{resends-gains}
@@ -16,15 +18,22 @@ use Rattle.mq_books.proofs.inflight.InflightFated.fated.Goals as goal
 
 pub returns-clause-agrees : goal.returns-clause-agrees
 returns-clause-agrees c = λ tested past under u.
+    let s = c.args.self.now in
     let t = c.in_ok-take_in.ensures in
+    let below : s.opened ≤ c.args.at.position =
+    let a = u.opened_is in
+    let b = opened-within past in
+    let d = under.follows.placed.0 in
+    omega (arith, a, b, d) in
     inflight-next tested c.args.self.now c.take_in.new.self c.args.fate c.args.decided (seen c.args.at c.args.note.now) past under u t.role t.fate t.ordered (t.distinct u.distinct) t.entries t.delivering t.void t.subscribing t.unsubscribing t.resent t.ended t.opened t.peer t.flying t.bounds
+    (t.again below (c.in_ok-self.ensures.resent u.resent_are))
 
 pub returns-clause-grows : goal.returns-clause-grows
 returns-clause-grows c = λ tested past under u.
     let s = c.args.self.now in
     let e = seen c.args.at c.args.note.now in
     subst (λ (n : FaultMap). Gains (λ k r. is_inflight r && turns_with tested c.args.fate e past k r) tested (e ∷ past) c.args.decided c.args.faults.now n)
-    (sym (c.in_ok-settle.ensures.ok ∙ ap (λ n. cond c.rests_now-rests.result (blamed_due s.opened c.is_excused-excused.result c.args.decided (values_of s.entries.entries) n) n) c.in_ok-judge_all.ensures.ok))
+    (sym (c.in_ok-self.ensures.ok ∙ ap (λ n. told c.rests_now-rests.result s.again c.is_excused-excused.result s.opened c.args.decided (values_of s.entries.entries) (get nat_eq s.entries) s.confirmed.keys n) c.in_ok-judge_all.ensures.ok))
     (inflight-gains tested s c.args.fate c.args.decided e past c.args.faults.now c.broken_by-broken.result c.rests_now-rests.result c.is_excused-excused.result under u c.broken_by-broken.ensures c.rests_now-rests.ensures c.is_excused-excused.ensures)
 
 pub returns-in_err-judge_all-clause-memory : goal.returns-in_err-judge_all-clause-memory
@@ -38,9 +47,9 @@ returns-in_err-judge_all-clause-memory c =
     (using-gains tested c.args.self.now c.args.fate c.args.decided e past m b under u c.broken_by-broken.ensures)
     c.in_err-judge_all.ensures.memory c.in_err-judge_all.ensures.partial))
 
-pub returns-in_err-settle-clause-memory : goal.returns-in_err-settle-clause-memory
-returns-in_err-settle-clause-memory c =
-    on_err c.from_residual-in_err-settle.result _ (λ tested past under u.
+pub returns-in_err-self-clause-memory : goal.returns-in_err-self-clause-memory
+returns-in_err-self-clause-memory c =
+    on_err c.from_residual-in_err-self.result _ (λ tested past under u.
     let s = c.args.self.now in
     let e = seen c.args.at c.args.note.now in
     let m = c.args.faults.now in
@@ -48,9 +57,9 @@ returns-in_err-settle-clause-memory c =
     within_either_second is_at_once (λ r. same_rule r S06) (λ k r. turns_with tested c.args.fate e past k r) tested (e ∷ past) c.args.decided m mid c.settle.new.faults
     (subst (λ (n : FaultMap). Gains (λ k r. is_at_once r && turns_with tested c.args.fate e past k r) tested (e ∷ past) c.args.decided m n) (sym c.in_ok-judge_all.ensures.ok)
     (using-gains tested s c.args.fate c.args.decided e past m c.broken_by-broken.result under u c.broken_by-broken.ensures))
-    (within_kept (λ k r. same_rule r S06 && turns_with tested c.args.fate e past k r) tested (e ∷ past) c.args.decided mid c.settle.new.faults (cond c.rests_now-rests.result (blamed_due s.opened c.is_excused-excused.result c.args.decided (values_of s.entries.entries) mid) mid)
+    (within_kept (λ k r. same_rule r S06 && turns_with tested c.args.fate e past k r) tested (e ∷ past) c.args.decided mid c.settle.new.faults (told c.rests_now-rests.result s.again c.is_excused-excused.result s.opened c.args.decided (values_of s.entries.entries) (get nat_eq s.entries) s.confirmed.keys mid)
     (resends-gains tested s c.args.fate c.args.decided e past mid c.rests_now-rests.result c.is_excused-excused.result under u c.rests_now-rests.ensures c.is_excused-excused.ensures)
-    c.in_err-settle.ensures.memory c.in_err-settle.ensures.partial))
+    c.in_err-self.ensures.memory c.in_err-self.ensures.partial))
 
 pub returns-in_err-take_in-clause-memory : goal.returns-in_err-take_in-clause-memory
 returns-in_err-take_in-clause-memory c =
@@ -59,5 +68,5 @@ returns-in_err-take_in-clause-memory c =
     let e = seen c.args.at c.args.note.now in
     within_all (λ k r. is_inflight r && turns_with tested c.args.fate e past k r) tested (e ∷ past) c.args.decided c.args.faults.now c.settle.new.faults
     (subst (λ (n : FaultMap). Gains (λ k r. is_inflight r && turns_with tested c.args.fate e past k r) tested (e ∷ past) c.args.decided c.args.faults.now n)
-    (sym (c.in_ok-settle.ensures.ok ∙ ap (λ n. cond c.rests_now-rests.result (blamed_due s.opened c.is_excused-excused.result c.args.decided (values_of s.entries.entries) n) n) c.in_ok-judge_all.ensures.ok))
+    (sym (c.in_ok-self.ensures.ok ∙ ap (λ n. told c.rests_now-rests.result s.again c.is_excused-excused.result s.opened c.args.decided (values_of s.entries.entries) (get nat_eq s.entries) s.confirmed.keys n) c.in_ok-judge_all.ensures.ok))
     (inflight-gains tested s c.args.fate c.args.decided e past c.args.faults.now c.broken_by-broken.result c.rests_now-rests.result c.is_excused-excused.result under u c.broken_by-broken.ensures c.rests_now-rests.ensures c.is_excused-excused.ensures)))

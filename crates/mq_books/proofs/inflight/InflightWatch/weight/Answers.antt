@@ -14,8 +14,9 @@ unfolding open_ids delivering_ids void_ids subscribing_ids unsubscribing_ids
 returns c = λ tested taken past u.
     let ms = session tested.role taken past in
     let opened = c.map_size.ensures.bounded (λ i. since (opens_id i) (closes_id i) ms) (λ i here. sym (entry-there i ms) ∙ ap is_some (sym (u.entries_are i)) ∙ here) in
-    let delivering = c.set_size.ensures.bounded (λ i. since (delivers i) (closes_id i) (connection past)) (λ i here. sym (u.delivering_are i) ∙ here) in
-    let void = c.set_size-2.ensures.bounded (λ i. some (λ m. delivers i m && voided (fate_under tested.role taken past (number m))) (moments past)) (λ i here. sym (u.void_are i) ∙ here) in
-    let subscribing = c.set_size-3.ensures.bounded (λ i. since (λ m. is_id i (sent_as subscribe_in (note m))) (λ m. is_id i (received_as suback_in (note m))) (connection past)) (λ i here. sym (u.subscribing_are i) ∙ here) in
-    let unsubscribing = c.set_size-4.ensures.bounded (λ i. since (λ m. is_id i (sent_as unsubscribe_in (note m))) (λ m. is_id i (received_as unsuback_in (note m))) (connection past)) (λ i here. sym (u.unsubscribing_are i) ∙ here) in
-    omega (arith, c.saturating_add.ensures, c.saturating_add-2.ensures, c.saturating_add-3.ensures, c.saturating_add-4.ensures, opened, delivering, void, subscribing, unsubscribing)
+    let confirmed = c.set_size.ensures.bounded (λ i. since (opens_id i) (closes_id i) ms) (λ i here. sym (entry-there i ms) ∙ ap is_some (sym (u.entries_are i)) ∙ u.resent_are.opened_are i here) in
+    let delivering = c.set_size-2.ensures.bounded (λ i. since (delivers i) (closes_id i) (connection past)) (λ i here. sym (u.delivering_are i) ∙ here) in
+    let void = c.set_size-3.ensures.bounded (λ i. some (λ m. delivers i m && voided (fate_under tested.role taken past (number m))) (moments past)) (λ i here. sym (u.void_are i) ∙ here) in
+    let subscribing = c.set_size-4.ensures.bounded (λ i. since (λ m. is_id i (sent_as subscribe_in (note m))) (λ m. is_id i (received_as suback_in (note m))) (connection past)) (λ i here. sym (u.subscribing_are i) ∙ here) in
+    let unsubscribing = c.set_size-5.ensures.bounded (λ i. since (λ m. is_id i (sent_as unsubscribe_in (note m))) (λ m. is_id i (received_as unsuback_in (note m))) (connection past)) (λ i here. sym (u.unsubscribing_are i) ∙ here) in
+    omega (arith, c.saturating_add.ensures, c.saturating_add-2.ensures, c.saturating_add-3.ensures, c.saturating_add-4.ensures, c.saturating_add-5.ensures, opened, confirmed, delivering, void, subscribing, unsubscribing)
