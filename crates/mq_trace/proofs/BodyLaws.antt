@@ -10,7 +10,7 @@ use Rattle.mq_trace.specs.declared.refusal.Refusal.{Refusal}
 use Rattle.mq_trace.specs.declared.connections.Connections.{Connections}
 use Rattle.mq_trace.specs.declared.deframer.Deframer.{Deframer}
 use Rattle.mq_trace.specs.declared.reading.Reading.{Reading}
-use Rattle.mq_trace.specs.Framing.{kind_of, direction_of, body_length}
+use Rattle.mq_trace.specs.Framing.{kind_of, direction_of, body_length, head_length, longest_body, longest_record}
 use Rattle.mq_trace.specs.Events.{Event, Placed}
 use Rattle.mq_trace.specs.Context.{so_far_in, so_far_for}
 use Rattle.mq_trace.specs.Runs.{after_bytes, refused_in, events_by}
@@ -72,24 +72,24 @@ flowed_context r directions.Recv part bytes d connections at left same before =
     ap (λ b. record (context_of (carried_on r directions.Recv at d connections left) (cond (left == 0) [] (part ++ bytes))) { connected = b; before_open = r.connections.before_open }) (sym same)
     ∙ ap (λ n. record (context_of (carried_on r directions.Recv at d connections left) (cond (left == 0) [] (part ++ bytes))) { before_open = n }) (sym before)
 
-redirected_sound : (r : Reading) (direction : Direction) (d : Deframer) (connections : Connections) (at left : ℕ) → at ≤ 8 + 1048581 * r.records + (1048581 - left) → left ≤ 1048576 → 8 ≤ at → r.records < 4294967295
+redirected_sound : (r : Reading) (direction : Direction) (d : Deframer) (connections : Connections) (at left : ℕ) → at ≤ 8 + longest_record * r.records + (longest_record - left) → left ≤ longest_body → 8 ≤ at → r.records < 4294967295
     → IsUnfinished r.limit (state_in r.sent) → IsUnfinished r.limit (state_in r.recv) → IsUnfinished r.limit (state_in d) → IsSound (carried_on r direction at d connections left)
 redirected_sound r directions.Sent d connections at left counted short past_header room sent recv own = left_sound (record r { sent = d; at = at; connections = connections }) directions.Sent left counted short past_header room own recv
 redirected_sound r directions.Recv d connections at left counted short past_header room sent recv own = left_sound (record r { recv = d; at = at; connections = connections }) directions.Recv left counted short past_header room sent own
 
 -- within a body of which so many bytes are still to come
 module _ (r : Reading) (direction : Direction) (left : ℕ) (sound : IsSound r) (staged : r.stage ≡ stages.Body direction left) where
-  body_within : (1 ≤ left) × (left ≤ 1048576)
+  body_within : (1 ≤ left) × (left ≤ longest_body)
   body_within = subst IsWithin staged sound.within
 
   pub body_after : 8 ≤ r.at
-  body_after = let some : begun_in r.stage ≡ 1048581 - left = ap begun_in staged in let few = body_within.1 in sound.past_header (omega arith)
+  body_after = let some : begun_in r.stage ≡ longest_record - left = ap begun_in staged in let few = body_within.1 in sound.past_header (omega arith)
 
   pub body_room : r.records < 4294967295
-  body_room = let some : begun_in r.stage ≡ 1048581 - left = ap begun_in staged in let few = body_within.1 in sound.begun (omega arith)
+  body_room = let some : begun_in r.stage ≡ longest_record - left = ap begun_in staged in let few = body_within.1 in sound.begun (omega arith)
 
-  pub body_counted : r.at ≤ 8 + 1048581 * r.records + (1048581 - left)
-  body_counted = let some : begun_in r.stage ≡ 1048581 - left = ap begun_in staged in omega (arith, sound.counted)
+  pub body_counted : r.at ≤ 8 + longest_record * r.records + (longest_record - left)
+  body_counted = let some : begun_in r.stage ≡ longest_record - left = ap begun_in staged in omega (arith, sound.counted)
 
   body_is : (part : List ℕ) → IsAt r.stage part → IsAt (stages.Body direction left) part
   body_is part at = subst (λ s. IsAt s part) staged at
@@ -97,8 +97,8 @@ module _ (r : Reading) (direction : Direction) (left : ℕ) (sound : IsSound r) 
   body_goes : (part : List ℕ) → IsAt r.stage part → direction_of (kind_of part) ≡ Some direction
   body_goes part at = let h = body_is part at in ap direction_of h.1 ∙ h.2
 
-  body_fits : (part bytes : List ℕ) → IsAt r.stage part → length bytes ≤ left → length part + length bytes ≤ 5 + body_length part
-  body_fits part bytes at short = let h = body_is part at in let there : 5 ≤ length part = h.3 in let size : length part + left ≡ 5 + body_length part = h.4 in omega arith
+  body_fits : (part bytes : List ℕ) → IsAt r.stage part → length bytes ≤ left → length part + length bytes ≤ head_length + body_length part
+  body_fits part bytes at short = let h = body_is part at in let there : head_length ≤ length part = h.3 in let size : length part + left ≡ head_length + body_length part = h.4 in omega arith
 
   pub body_refused : (part bytes : List ℕ) → IsAt r.stage part → length bytes ≤ left → refused_in r.limit (context_of r part) bytes ≡ flow_refused r.limit (context_for r direction) (flow_for r direction) bytes
   body_refused part bytes at short =
@@ -117,20 +117,20 @@ module _ (r : Reading) (direction : Direction) (left : ℕ) (sound : IsSound r) 
       by_cases true is = let same = eqb-true m m' is in eq-eqb n n' (omega arith)
       by_cases false is = let other = eqb-false m m' is in ne_eqb n n' (λ same. other (omega arith))
 
-  left_whole : (part bytes : List ℕ) → IsAt r.stage part → length bytes ≤ left → (length part + length bytes == 5 + body_length part) ≡ (left - length bytes == 0)
+  left_whole : (part bytes : List ℕ) → IsAt r.stage part → length bytes ≤ left → (length part + length bytes == head_length + body_length part) ≡ (left - length bytes == 0)
   left_whole part bytes at short =
       let h = body_is part at in
-      let size : length part + left ≡ 5 + body_length part = h.4 in
-      same_end (length part + length bytes) (5 + body_length part) (left - length bytes) 0 (omega arith)
+      let size : length part + left ≡ head_length + body_length part = h.4 in
+      same_end (length part + length bytes) (head_length + body_length part) (left - length bytes) 0 (omega arith)
 
   pub body_kept : (part bytes : List ℕ) → IsAt r.stage part → length bytes ≤ left
       → after_bytes (context_of r part) bytes ≡ flowed (context_of r part) direction (left - length bytes == 0) (flow_after_bytes (context_for r direction) (flow_for r direction) bytes) bytes
   body_kept part bytes at short =
       let h = body_is part at in
-      let size : length part + left ≡ 5 + body_length part = h.4 in
+      let size : length part + left ≡ head_length + body_length part = h.4 in
       let some : 1 ≤ left = body_within.0 in
       lifted-after_bytes (context_of r part) direction bytes body_after (body_goes part at) h.3 (omega arith) (body_fits part bytes at short)
-      ∙ ap (λ f. flowed (context_of r part) direction (length part + length bytes == 5 + body_length part) (flow_after_bytes (context_for r direction) f bytes) bytes) (flow_same r direction part)
+      ∙ ap (λ f. flowed (context_of r part) direction (length part + length bytes == head_length + body_length part) (flow_after_bytes (context_for r direction) f bytes) bytes) (flow_same r direction part)
       ∙ ap (λ t. flowed (context_of r part) direction t (flow_after_bytes (context_for r direction) (flow_for r direction) bytes) bytes) (left_whole part bytes at short)
 
   -- The packet of a byte after them is the direction's.
@@ -138,7 +138,7 @@ module _ (r : Reading) (direction : Direction) (left : ℕ) (sound : IsSound r) 
       → so_far_for (after_bytes (context_of r part) bytes) byte ≡ so_far_in (flow_after_bytes (context_for r direction) (flow_for r direction) bytes).state byte
   body_so_far part bytes byte at short =
       let h = body_is part at in
-      let there : 5 ≤ length part = h.3 in
+      let there : head_length ≤ length part = h.3 in
       let some : 0 < left - length bytes = omega arith in
       let goes_on : (left - length bytes == 0) ≡ false = ne_eqb (left - length bytes) 0 (λ same. (omega arith)) in
       let f : Flow = flow_after_bytes (context_for r direction) (flow_for r direction) bytes in
@@ -155,8 +155,8 @@ module _ (r : Reading) (direction : Direction) (left : ℕ) (sound : IsSound r) 
   left_at part bytes at short true is = refl
   left_at part bytes at short false is =
       let h = body_is part at in
-      let there : 5 ≤ length part = h.3 in
-      let size : length part + left ≡ 5 + body_length part = h.4 in
+      let there : head_length ≤ length part = h.3 in
+      let size : length part + left ≡ head_length + body_length part = h.4 in
       let l = length-append part bytes in
       let body = body_length-append part bytes there in
       (h.0, kind_of-append part bytes (omega arith) ∙ h.1, h.2, omega arith, omega arith)
@@ -211,7 +211,7 @@ module _ (r : Reading) (direction : Direction) (left : ℕ) (sound : IsSound r) 
   body_sound count d connections few unfinished =
       let after_bytes = body_after in
       let counted = body_counted in
-      let short : left ≤ 1048576 = body_within.1 in
+      let short : left ≤ longest_body = body_within.1 in
       redirected_sound r direction d connections (r.at + count) (left - count) (omega arith) (omega arith) (omega arith) body_room sound.sent sound.recv unfinished
 
   -- The step that passes bytes of one body on.

@@ -9,7 +9,7 @@ use Rattle.mq_trace.specs.declared.kind.Direction.TheVariants as directions
 use Rattle.mq_trace.specs.declared.refusal.Refusal.{Refusal}
 use Rattle.mq_trace.specs.declared.header.Header.{Header}
 use Rattle.mq_trace.specs.Pieces.{Pieces}
-use Rattle.mq_trace.specs.Framing.{header_by, kind_of, direction_of, begun_records, carried, records, record_size}
+use Rattle.mq_trace.specs.Framing.{header_by, kind_of, direction_of, begun_records, carried, records, record_size, head_length}
 use Rattle.mq_trace.specs.Events.{Event, Placed, newest_record, part_at, packet_at, packet_by, event_in, event_at, with_event, events_back, events}
 use Rattle.mq_trace.specs.Connections.{begins_connection, has_open_connection, is_connack_seen, events_on_connection, events_before_open}
 use Rattle.mq_trace.specs.Refusals.{Situation, situation, header_refusal, record_refusal, refusal_at, refused_back, refused}
@@ -49,15 +49,15 @@ part_context log = refl
 pub packet-kept : (log : List ℕ) (byte : ℕ) → 8 ≤ length log → packet_at log byte ≡ so_far_for (context log) byte
 unfolding packet_at so_far_for
 packet-kept log byte h =
-    ap (λ part. cond (nat_lt 5 (length part)) (packet_by (direction_of (kind_of part)) (begun_records log) byte) []) (part-kept log byte h ∙ ap (λ part. part ++ byte ∷ []) (sym (part_context log)))
-    ∙ ap (λ so_far. cond (nat_lt 5 (length ((context log).part ++ byte ∷ []))) so_far []) (so_far_kept_by (direction_of (kind_of ((context log).part ++ byte ∷ []))) log byte)
+    ap (λ part. cond (nat_lt head_length (length part)) (packet_by (direction_of (kind_of part)) (begun_records log) byte) []) (part-kept log byte h ∙ ap (λ part. part ++ byte ∷ []) (sym (part_context log)))
+    ∙ ap (λ so_far. cond (nat_lt head_length (length ((context log).part ++ byte ∷ []))) so_far []) (so_far_kept_by (direction_of (kind_of ((context log).part ++ byte ∷ []))) log byte)
 
 -- a byte of the header belongs to no packet
 pub header-so_far : (log : List ℕ) (byte : ℕ) → length log < 8 → so_far_for (context log) byte ≡ []
 unfolding so_far_for
 header-so_far log byte h =
     let none : (context log).part ≡ [] = part_context log ∙ ap (λ (p : Pieces). p.rest) (records-header log (omega arith)) in
-    ap (λ part. cond (nat_lt 5 (length (part ++ byte ∷ []))) (so_far_by (direction_of (kind_of (part ++ byte ∷ []))) (context log) byte) []) none
+    ap (λ part. cond (nat_lt head_length (length (part ++ byte ∷ []))) (so_far_by (direction_of (kind_of (part ++ byte ∷ []))) (context log) byte) []) none
 
 pub at_context : (log : List ℕ) → (context log).at ≡ length log
 unfolding context

@@ -11,7 +11,7 @@ use Rattle.mq_trace.specs.declared.refusal.Refusal.{Refusal}
 use Rattle.mq_trace.specs.declared.refusal.Refusal.TheVariants as refusals
 use Rattle.mq_trace.specs.declared.connections.Connections.{Connections}
 use Rattle.mq_trace.specs.declared.reading.Reading.{Reading}
-use Rattle.mq_trace.specs.Framing.{kind_of, direction_of, body_length}
+use Rattle.mq_trace.specs.Framing.{kind_of, direction_of, body_length, head_length, longest_body, longest_record}
 use Rattle.mq_trace.specs.Events.{Event, released, event_of_head}
 use Rattle.mq_trace.specs.Connections.{is_too_early}
 use Rattle.mq_trace.specs.Refusals.{first_that_applies, allows_length}
@@ -35,7 +35,7 @@ emits_advances r b event emits met = one_step r (marked r event) b (next_placed 
     let emitted = emits part at in
     ([], refl, emitted.0 ∙ met, emitted.2, ap (λ o. put o []) emitted.1)))
 
-pub marked_sound : (r : Reading) (event : Event) → IsSound r → 0 < begun_in r.stage → begun_in r.stage ≤ 6 → IsSound (marked r event)
+pub marked_sound : (r : Reading) (event : Event) → IsSound r → 0 < begun_in r.stage → begun_in r.stage ≤ head_length + 1 → IsSound (marked r event)
 marked_sound r event sound some few =
     let past_header : 8 ≤ r.at = sound.past_header some in
     record {
@@ -149,7 +149,7 @@ module _ (r : Reading) (kind : RecordKind) (number b : ℕ) (sound : IsSound r) 
       ended_after part at
       ∙ ap (with_completed (record (context_of r part) { at = r.at + 1; part = cond (emitted == 0) [] (part ++ b ∷ []); records = cond (emitted == 0) (r.records + 1) r.records })) is
 
-  longer : (part : List ℕ) → IsAt r.stage part → length (part ++ b ∷ []) ≡ 5
+  longer : (part : List ℕ) → IsAt r.stage part → length (part ++ b ∷ []) ≡ head_length
   longer part at = let l = length-append part (b ∷ []) in let four = ended_four part at in omega arith
 
   kind_longer : (part : List ℕ) → IsAt r.stage part → kind_of (part ++ b ∷ []) ≡ Some kind
@@ -202,7 +202,7 @@ module _ (r : Reading) (kind : RecordKind) (number b : ℕ) (sound : IsSound r) 
       }
 
 -- Where so many bytes of a body are still to come.
-pub left_sound : (r : Reading) (direction : Direction) (left : ℕ) → r.at ≤ 8 + 1048581 * r.records + (1048581 - left) → left ≤ 1048576 → 8 ≤ r.at → r.records < 4294967295
+pub left_sound : (r : Reading) (direction : Direction) (left : ℕ) → r.at ≤ 8 + longest_record * r.records + (longest_record - left) → left ≤ longest_body → 8 ≤ r.at → r.records < 4294967295
     → IsUnfinished r.limit (state_in r.sent) → IsUnfinished r.limit (state_in r.recv) → IsSound (leaving r direction left)
 left_sound r direction left counted short past_header room sent recv = by_end (left == 0) refl
   where
@@ -232,10 +232,10 @@ left_sound r direction left counted short past_header room sent recv = by_end (l
 pub high_advances : (r : Reading) (b : ℕ) → IsSound r → r.stage ≡ stages.Release None → Advances r (record r { at = r.at + 1; stage = stages.Release (Some b) }) (b ∷ []) []
 high_advances r b sound staged = one_step r (record r { at = r.at + 1; stage = stages.Release (Some b) }) b [] refl (λ part at. (
     let c = context_of r part in
-    let some : begun_in r.stage ≡ 5 = ap begun_in staged in
+    let some : begun_in r.stage ≡ head_length = ap begun_in staged in
     let past_header : 8 ≤ r.at = sound.past_header (omega arith) in
     let h = subst (λ s. IsAt s part) staged at in
-    let five : length part ≡ 5 = h.1 in
+    let five : length part ≡ head_length = h.1 in
     let l = length-append part (b ∷ []) in (
       part ++ b ∷ [],
       (kind_of-append part (b ∷ []) (omega arith) ∙ h.0, omega arith, body_length-append part (b ∷ []) (omega arith) ∙ h.2, last part five),
@@ -244,7 +244,7 @@ high_advances r b sound staged = one_step r (record r { at = r.at + 1; stage = s
       ap (λ o. put o []) (placed_none c b (release_high_event c b past_header h.0 h.1)),
     )))
   where
-    last : (part : List ℕ) → length part ≡ 5 → slice_index (part ++ b ∷ []) 5 ≡ b
+    last : (part : List ℕ) → length part ≡ head_length → slice_index (part ++ b ∷ []) head_length ≡ b
     last [] e = absurd (omega arith)
     last (p ∷ []) e = absurd (omega arith)
     last (p ∷ q ∷ []) e = absurd (omega arith)
@@ -255,7 +255,7 @@ high_advances r b sound staged = one_step r (record r { at = r.at + 1; stage = s
 
 pub high_sound : (r : Reading) (b : ℕ) → IsSound r → r.stage ≡ stages.Release None → IsSound (record r { at = r.at + 1; stage = stages.Release (Some b) })
 high_sound r b sound staged =
-    let some : begun_in r.stage ≡ 5 = ap begun_in staged in
+    let some : begun_in r.stage ≡ head_length = ap begun_in staged in
     let past_header : 8 ≤ r.at = sound.past_header (omega arith) in
     let room : r.records < 4294967295 = sound.begun (omega arith) in
     record {
@@ -270,7 +270,7 @@ high_sound r b sound staged =
     }
 
 -- The second, which ends the record.
-split_six : (part : List ℕ) → length part ≡ 6 → (head : List ℕ) × (first : ℕ) × (part ≡ head ++ first ∷ []) × (length head ≡ 5) × (slice_index part 5 ≡ first)
+split_six : (part : List ℕ) → length part ≡ head_length + 1 → (head : List ℕ) × (first : ℕ) × (part ≡ head ++ first ∷ []) × (length head ≡ head_length) × (slice_index part head_length ≡ first)
 split_six [] e = absurd (omega arith)
 split_six (p ∷ []) e = absurd (omega arith)
 split_six (p ∷ q ∷ []) e = absurd (omega arith)
@@ -283,7 +283,7 @@ split_six (p ∷ q ∷ s ∷ t ∷ u ∷ v ∷ w ∷ part) e = absurd (omega ari
 pub release_emits : (r : Reading) (high b : ℕ) → IsSound r → r.stage ≡ stages.Release (Some high) → CompletesEvent r b (released (from_be_bytes w16 (high ∷ b ∷ [])))
 release_emits r high b sound staged part at =
     let c = context_of r part in
-    let some : begun_in r.stage ≡ 6 = ap begun_in staged in
+    let some : begun_in r.stage ≡ head_length + 1 = ap begun_in staged in
     let past_header : 8 ≤ r.at = sound.past_header (omega arith) in
     let h = subst (λ s. IsAt s part) staged at in
     let six = split_six part h.1 in

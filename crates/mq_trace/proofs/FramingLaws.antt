@@ -6,11 +6,11 @@ use Rattle.std.proofs.lemmas.Bool.{ltb-true, ltb-false, le-ltb, leb-true, le-leb
 use Rattle.mq_trace.specs.declared.kind.Direction.{Direction}
 use Rattle.mq_trace.specs.declared.kind.Direction.TheVariants as directions
 use Rattle.mq_trace.specs.Pieces.{Pieces, pieces}
-use Rattle.mq_trace.specs.Framing.{kind_of, body_length, record_size, records, begun_records, begun_with, direction_of, opens, if_direction, carried}
+use Rattle.mq_trace.specs.Framing.{kind_of, body_length, record_size, records, begun_records, begun_with, direction_of, opens, if_direction, carried, head_length}
 use Rattle.mq_trace.proofs.PiecesLaws.{Settles, grown, rest_none, pieces-grow, nothing_cut}
 
 -- a record's length depends on no byte after its head
-pub body_length-append : (a c : List ℕ) → 5 ≤ length a → body_length (a ++ c) ≡ body_length a
+pub body_length-append : (a c : List ℕ) → head_length ≤ length a → body_length (a ++ c) ≡ body_length a
 unfolding body_length
 body_length-append a c h =
     let one : 1 ≤ length a = omega arith in
@@ -22,46 +22,46 @@ body_length-append a c h =
 abbrev size_if : Bool → Bool → ℕ → Option ℕ
 size_if headless whole n = if headless then None else (if whole then Some n else None)
 
-pub record_size-from : (a : List ℕ) → 5 + body_length a ≤ length a → record_size a ≡ Some (5 + body_length a)
+pub record_size-from : (a : List ℕ) → head_length + body_length a ≤ length a → record_size a ≡ Some (head_length + body_length a)
 unfolding record_size
 record_size-from a h =
-    let five : 5 ≤ length a = omega arith in
-    ap (λ b. size_if b (nat_le (5 + body_length a) (length a)) (5 + body_length a)) (le-ltb (length a) 5 five)
-    ∙ ap (λ b. size_if false b (5 + body_length a)) (le-leb (5 + body_length a) (length a) h)
+    let five : head_length ≤ length a = omega arith in
+    ap (λ b. size_if b (nat_le (head_length + body_length a) (length a)) (head_length + body_length a)) (le-ltb (length a) head_length five)
+    ∙ ap (λ b. size_if false b (head_length + body_length a)) (le-leb (head_length + body_length a) (length a) h)
 
 -- what a whole record says of itself
 pub record IsRecord (a : List ℕ) (n : ℕ) : Type 0 where
-  pub size : n ≡ 5 + body_length a
-  pub within : 5 + body_length a ≤ length a
+  pub size : n ≡ head_length + body_length a
+  pub within : head_length + body_length a ≤ length a
 
 pub record_size-is : (a : List ℕ) (n : ℕ) → record_size a ≡ Some n → IsRecord a n
 unfolding record_size
-record_size-is a n h = go (nat_lt (length a) 5) (nat_le (5 + body_length a) (length a)) refl h
+record_size-is a n h = go (nat_lt (length a) head_length) (nat_le (head_length + body_length a) (length a)) refl h
   where
-    go : (b w : Bool) → nat_le (5 + body_length a) (length a) ≡ w → size_if b w (5 + body_length a) ≡ Some n → IsRecord a n
+    go : (b w : Bool) → nat_le (head_length + body_length a) (length a) ≡ w → size_if b w (head_length + body_length a) ≡ Some n → IsRecord a n
     go true w is e = absurd (cc)
     go false false is e = absurd (cc)
-    go false true is e = let same : n ≡ 5 + body_length a = cc in record { size = same; within = leb-true (5 + body_length a) (length a) is }
+    go false true is e = let same : n ≡ head_length + body_length a = cc in record { size = same; within = leb-true (head_length + body_length a) (length a) is }
 
 record_stood : (a c : List ℕ) (n : ℕ) → record_size (a ++ c) ≡ Some n → n ≤ length a → record_size a ≡ Some n
 record_stood a c n h fits =
     let r = record_size-is (a ++ c) n h in
     let s = r.size in
-    let five : 5 ≤ length a = omega arith in
+    let five : head_length ≤ length a = omega arith in
     let same = body_length-append a c five in
-    let within : 5 + body_length a ≤ length a = omega arith in
-    record_size-from a within ∙ ap Some (ap (λ k. 5 + k) (sym same) ∙ sym s)
+    let within : head_length + body_length a ≤ length a = omega arith in
+    record_size-from a within ∙ ap Some (ap (λ k. head_length + k) (sym same) ∙ sym s)
 
 record_stays : (a c : List ℕ) (n : ℕ) → record_size a ≡ Some n → record_size (a ++ c) ≡ Some n
 record_stays a c n h =
     let r = record_size-is a n h in
     let s = r.size in
     let w = r.within in
-    let five : 5 ≤ length a = omega arith in
+    let five : head_length ≤ length a = omega arith in
     let same = body_length-append a c five in
     let l = length-append a c in
-    let within : 5 + body_length (a ++ c) ≤ length (a ++ c) = omega arith in
-    record_size-from (a ++ c) within ∙ ap Some (ap (λ k. 5 + k) same ∙ sym s)
+    let within : head_length + body_length (a ++ c) ≤ length (a ++ c) = omega arith in
+    record_size-from (a ++ c) within ∙ ap Some (ap (λ k. head_length + k) same ∙ sym s)
 
 record_bound : (a : List ℕ) (n : ℕ) → record_size a ≡ Some n → (0 < n) × (n ≤ length a)
 record_bound a n h = let r = record_size-is a n h in let s = r.size in let w = r.within in (omega arith, omega arith)
@@ -146,7 +146,7 @@ if_direction-append directions.Recv (Some directions.Recv) a c = refl
 
 -- the body byte of a record, if it goes this way
 abbrev pub body_byte : Direction → List ℕ → ℕ → List ℕ
-body_byte direction part byte = cond (nat_lt 5 (length part)) (if_direction direction (direction_of (kind_of part)) (byte ∷ [])) []
+body_byte direction part byte = cond (nat_lt head_length (length part)) (if_direction direction (direction_of (kind_of part)) (byte ∷ [])) []
 
 -- what one direction carried, with one byte more
 abbrev pub carried_then : Direction → List ℕ → List ℕ → ℕ → List ℕ
@@ -164,26 +164,26 @@ carried_grown direction (r ∷ rest) byte whole =
     let kind = kind_of-append (r ∷ rest) (byte ∷ []) some in
     let c = carried direction whole in
     let direction_before = direction_of (kind_of (r ∷ rest)) in
-    go (nat_lt 5 (length part)) refl (opens (kind_of part)) refl
+    go (nat_lt head_length (length part)) refl (opens (kind_of part)) refl
   where
     -- the body so far, with the byte if it is a body byte
-    body : (b : Bool) → nat_lt 5 (length ((r ∷ rest) ++ byte ∷ [])) ≡ b → drop 5 ((r ∷ rest) ++ byte ∷ []) ≡ drop 5 (r ∷ rest) ++ cond b (byte ∷ []) []
+    body : (b : Bool) → nat_lt head_length (length ((r ∷ rest) ++ byte ∷ [])) ≡ b → drop head_length ((r ∷ rest) ++ byte ∷ []) ≡ drop head_length (r ∷ rest) ++ cond b (byte ∷ []) []
     body true is =
         let l = length-append (r ∷ rest) (byte ∷ []) in
-        let long = ltb-true 5 (length ((r ∷ rest) ++ byte ∷ [])) is in
-        drop-append-le 5 (r ∷ rest) (byte ∷ []) (omega arith)
+        let long = ltb-true head_length (length ((r ∷ rest) ++ byte ∷ [])) is in
+        drop-append-le head_length (r ∷ rest) (byte ∷ []) (omega arith)
     body false is =
         let l = length-append (r ∷ rest) (byte ∷ []) in
-        let short = ltb-false 5 (length ((r ∷ rest) ++ byte ∷ [])) is in
-        drop_all 5 ((r ∷ rest) ++ byte ∷ []) short ∙ sym (ap (λ bytes. bytes ++ []) (drop_all 5 (r ∷ rest) (omega arith)))
+        let short = ltb-false head_length (length ((r ∷ rest) ++ byte ∷ [])) is in
+        drop_all head_length ((r ∷ rest) ++ byte ∷ []) short ∙ sym (ap (λ bytes. bytes ++ []) (drop_all head_length (r ∷ rest) (omega arith)))
 
     sent_on : (carries : Option Direction) (b : Bool) → if_direction direction carries (cond b (byte ∷ []) []) ≡ cond b (if_direction direction carries (byte ∷ [])) []
     sent_on carries true = refl
     sent_on carries false = if_direction-nothing direction carries
 
-    go : (b : Bool) → nat_lt 5 (length ((r ∷ rest) ++ byte ∷ [])) ≡ b → (o : Bool) → opens (kind_of ((r ∷ rest) ++ byte ∷ [])) ≡ o
-        → cond o [] (carried direction whole ++ if_direction direction (direction_of (kind_of ((r ∷ rest) ++ byte ∷ []))) (drop 5 ((r ∷ rest) ++ byte ∷ [])))
-        ≡ cond o [] (cond (opens (kind_of (r ∷ rest))) [] (carried direction whole ++ if_direction direction (direction_of (kind_of (r ∷ rest))) (drop 5 (r ∷ rest)))
+    go : (b : Bool) → nat_lt head_length (length ((r ∷ rest) ++ byte ∷ [])) ≡ b → (o : Bool) → opens (kind_of ((r ∷ rest) ++ byte ∷ [])) ≡ o
+        → cond o [] (carried direction whole ++ if_direction direction (direction_of (kind_of ((r ∷ rest) ++ byte ∷ []))) (drop head_length ((r ∷ rest) ++ byte ∷ [])))
+        ≡ cond o [] (cond (opens (kind_of (r ∷ rest))) [] (carried direction whole ++ if_direction direction (direction_of (kind_of (r ∷ rest))) (drop head_length (r ∷ rest)))
         ++ cond b (if_direction direction (direction_of (kind_of ((r ∷ rest) ++ byte ∷ []))) (byte ∷ [])) [])
     go b is true opened = refl
     go b is false opened =
@@ -191,10 +191,10 @@ carried_grown direction (r ∷ rest) byte whole =
         let k = kind_of ((r ∷ rest) ++ byte ∷ []) in
         let closed : opens (kind_of (r ∷ rest)) ≡ false = ap opens (sym same) ∙ opened in
         ap (λ bytes. carried direction whole ++ if_direction direction (direction_of k) bytes) (body b is)
-        ∙ ap (λ bytes. carried direction whole ++ bytes) (if_direction-append direction (direction_of k) (drop 5 (r ∷ rest)) (cond b (byte ∷ []) []) ∙ ap (λ bytes. if_direction direction (direction_of k) (drop 5 (r ∷ rest)) ++ bytes) (sent_on (direction_of k) b))
-        ∙ sym (append_assoc (carried direction whole) (if_direction direction (direction_of k) (drop 5 (r ∷ rest))) (cond b (if_direction direction (direction_of k) (byte ∷ [])) []))
-        ∙ ap (λ kind. (carried direction whole ++ if_direction direction (direction_of kind) (drop 5 (r ∷ rest))) ++ cond b (if_direction direction (direction_of k) (byte ∷ [])) []) same
-        ∙ ap (λ o. cond o [] (carried direction whole ++ if_direction direction (direction_of (kind_of (r ∷ rest))) (drop 5 (r ∷ rest))) ++ cond b (if_direction direction (direction_of k) (byte ∷ [])) []) (sym closed)
+        ∙ ap (λ bytes. carried direction whole ++ bytes) (if_direction-append direction (direction_of k) (drop head_length (r ∷ rest)) (cond b (byte ∷ []) []) ∙ ap (λ bytes. if_direction direction (direction_of k) (drop head_length (r ∷ rest)) ++ bytes) (sent_on (direction_of k) b))
+        ∙ sym (append_assoc (carried direction whole) (if_direction direction (direction_of k) (drop head_length (r ∷ rest))) (cond b (if_direction direction (direction_of k) (byte ∷ [])) []))
+        ∙ ap (λ kind. (carried direction whole ++ if_direction direction (direction_of kind) (drop head_length (r ∷ rest))) ++ cond b (if_direction direction (direction_of k) (byte ∷ [])) []) same
+        ∙ ap (λ o. cond o [] (carried direction whole ++ if_direction direction (direction_of (kind_of (r ∷ rest))) (drop head_length (r ∷ rest))) ++ cond b (if_direction direction (direction_of k) (byte ∷ [])) []) (sym closed)
 
 -- what a direction carried, with one byte of the log more
 pub carried-grow : (direction : Direction) (log : List ℕ) (byte : ℕ) → 8 ≤ length log
@@ -207,7 +207,7 @@ carried-grow direction log byte h =
 pub carried-own : (direction : Direction) (later before : List (List ℕ)) (first : List ℕ) → opens (kind_of first) ≡ true → carried direction (later ++ first ∷ before) ≡ carried direction (later ++ first ∷ [])
 unfolding carried
 carried-own direction [] before first h =
-    ap (λ o. cond o [] (carried direction before ++ if_direction direction (direction_of (kind_of first)) (drop 5 first))) h
-    ∙ sym (ap (λ o. cond o [] (carried direction [] ++ if_direction direction (direction_of (kind_of first)) (drop 5 first))) h)
+    ap (λ o. cond o [] (carried direction before ++ if_direction direction (direction_of (kind_of first)) (drop head_length first))) h
+    ∙ sym (ap (λ o. cond o [] (carried direction [] ++ if_direction direction (direction_of (kind_of first)) (drop head_length first))) h)
 carried-own direction (part ∷ later) before first h =
-    ap (λ bytes. cond (opens (kind_of part)) [] (bytes ++ if_direction direction (direction_of (kind_of part)) (drop 5 part))) (carried-own direction later before first h)
+    ap (λ bytes. cond (opens (kind_of part)) [] (bytes ++ if_direction direction (direction_of (kind_of part)) (drop head_length part))) (carried-own direction later before first h)

@@ -9,7 +9,7 @@ use Rattle.mq_trace.specs.declared.kind.Direction.TheVariants as directions
 use Rattle.mq_trace.specs.declared.refusal.Refusal.{Refusal}
 use Rattle.mq_trace.specs.declared.refusal.Refusal.TheVariants as refusals
 use Rattle.mq_trace.specs.declared.reading.Reading.{Reading}
-use Rattle.mq_trace.specs.Framing.{kind_named, direction_of}
+use Rattle.mq_trace.specs.Framing.{kind_named, direction_of, head_length, longest_body}
 use Rattle.mq_trace.specs.Events.{Placed, event_of_head}
 use Rattle.mq_trace.specs.Refusals.{first_that_applies, allows_length}
 use Rattle.mq_trace.specs.Keeping.{IsSound, Advances, Comes, StepStops}
@@ -26,9 +26,9 @@ silent : (direction : Direction) → event_of_head (kind_for direction) ≡ None
 silent directions.Sent = refl
 silent directions.Recv = refl
 
-allowed : (direction : Direction) (number : ℕ) → number ≤ 1048576 → allows_length (Some (kind_for direction)) number ≡ true
-allowed directions.Sent number few = le-leb number 1048576 few
-allowed directions.Recv number few = le-leb number 1048576 few
+allowed : (direction : Direction) (number : ℕ) → number ≤ longest_body → allows_length (Some (kind_for direction)) number ≡ true
+allowed directions.Sent number few = le-leb number longest_body few
+allowed directions.Recv number few = le-leb number longest_body few
 
 standing : (a b : Bool) (x y : Refusal) → a ≡ false → b ≡ false → first_that_applies ((a, x) ∷ (b, y) ∷ []) ≡ None
 standing a b x y p q = λ i. first_that_applies ((p i, x) ∷ (q i, y) ∷ [])
@@ -47,7 +47,7 @@ four x y z b = omega arith
 -- The head's bytes are taken in one after another: the first one, the next three, and the last.
 heads : (r : Reading) (direction : Direction) (k x y z b number : ℕ) (bytes : List ℕ) → IsSound r → IsBodyHead r bytes direction number → x < 256 → y < 256 → z < 256
     → slice_index bytes 0 ≡ k → number ≡ from_be_bytes w32 (x ∷ y ∷ z ∷ b ∷ [])
-    → Advances r (leaving (record r { at = r.at + 5 }) direction number) (k ∷ x ∷ y ∷ z ∷ b ∷ []) []
+    → Advances r (leaving (record r { at = r.at + head_length }) direction number) (k ∷ x ∷ y ∷ z ∷ b ∷ []) []
 heads r direction k x y z b number bytes sound head x_byte y_byte z_byte first is =
     let kind = kind_for direction in
     let three = from_be_bytes w32 (0 ∷ x ∷ y ∷ z ∷ []) in
@@ -58,25 +58,25 @@ heads r direction k x y z b number bytes sound head x_byte y_byte z_byte first i
     let sound1 : IsSound r1 = first_sound r r1 kind sound head.past_header head.between head.room begins in
     let sound2 : IsSound r2 = three_sound r1 kind x y z sound1 refl x_byte y_byte z_byte in
     let emitted : three * 256 + b ≡ number = four x y z b ∙ sym is in
-    let short : three * 256 + b ≤ 1048576 = omega (arith, emitted, head.allowed) in
+    let short : three * 256 + b ≤ longest_body = omega (arith, emitted, head.allowed) in
     let step1 : Advances r r1 (k ∷ []) [] = first_advances r r1 k kind head.past_header head.between (subst (λ n. kind_named n ≡ Some kind) first head.named) (unmet r direction head.connected head.room) begins in
     let step2 : Advances r1 r2 (x ∷ y ∷ z ∷ []) [] = three_advance r1 kind x y z sound1 refl x_byte y_byte in
     let step3 : Advances r2 r3 (b ∷ []) [] = body_advances r2 kind three b sound2 refl direction (goes direction) (silent direction) (allowed direction (three * 256 + b) short) in
     let steps : Advances r r3 (k ∷ x ∷ y ∷ z ∷ b ∷ []) [] = advanced r r1 r3 (k ∷ []) (x ∷ y ∷ z ∷ b ∷ []) [] [] step1 (advanced r1 r2 r3 (x ∷ y ∷ z ∷ []) (b ∷ []) [] [] step2 step3) in
-    let placed : ((r.at + 1) + 3) + 1 ≡ r.at + 5 = omega arith in
+    let placed : ((r.at + 1) + 3) + 1 ≡ r.at + head_length = omega arith in
     subst (λ n. Advances r (leaving (record r { at = n }) direction number) (k ∷ x ∷ y ∷ z ∷ b ∷ []) []) placed
     (subst (λ m. Advances r (leaving (record r { at = ((r.at + 1) + 3) + 1 }) direction m) (k ∷ x ∷ y ∷ z ∷ b ∷ []) []) emitted steps)
 
 pub head_advances : (r : Reading) (direction : Direction) (number : ℕ) (bytes : List ℕ) → IsSound r → IsBodyHead r bytes direction number → ((i : ℕ) → slice_index bytes i < 256)
-    → Advances r (leaving (record r { at = r.at + 5 }) direction number) (take 5 bytes) []
+    → Advances r (leaving (record r { at = r.at + head_length }) direction number) (take head_length bytes) []
 head_advances r direction number bytes sound head byte =
-    subst (λ (l : List ℕ). Advances r (leaving (record r { at = r.at + 5 }) direction number) l []) (five_of bytes head.whole)
+    subst (λ (l : List ℕ). Advances r (leaving (record r { at = r.at + head_length }) direction number) l []) (five_of bytes head.whole)
     (heads r direction (slice_index bytes 0) (slice_index bytes 1) (slice_index bytes 2) (slice_index bytes 3) (slice_index bytes 4) number bytes sound head (byte 1) (byte 2) (byte 3) refl head.spelled)
 
 pub head_taken : (r r1 : Reading) (direction : Direction) (number : ℕ) (bytes : List ℕ) → IsSound r → IsBodyHead r bytes direction number → ((i : ℕ) → slice_index bytes i < 256)
-    → r1 ≡ leaving (record r { at = r.at + 5 }) direction number → Advances r r1 (take 5 bytes) []
+    → r1 ≡ leaving (record r { at = r.at + head_length }) direction number → Advances r r1 (take head_length bytes) []
 head_taken r r1 direction number bytes sound head byte is =
-    subst (λ (x : Reading). Advances r x (take 5 bytes) []) (sym is) (head_advances r direction number bytes sound head byte)
+    subst (λ (x : Reading). Advances r x (take head_length bytes) []) (sym is) (head_advances r direction number bytes sound head byte)
 
 -- ---- a head that was taken in at once, and what comes after it
 

@@ -11,7 +11,7 @@ use Rattle.mq_trace.specs.declared.kind.RecordKind.TheVariants as kinds
 use Rattle.mq_trace.specs.declared.kind.Direction.{Direction}
 use Rattle.mq_trace.specs.declared.kind.Direction.TheVariants as directions
 use Rattle.mq_trace.specs.Pieces.{Pieces, pieces}
-use Rattle.mq_trace.specs.Framing.{kind_of, direction_of, opens, if_direction, record_size, records, begun_records, begun_with, carried, stream}
+use Rattle.mq_trace.specs.Framing.{kind_of, direction_of, opens, if_direction, record_size, records, begun_records, begun_with, carried, stream, head_length}
 use Rattle.mq_trace.specs.Events.{Item, Event, Placed, lost, opened, closed, rested, sent, received, released, item_at, packet_with, event_by, event_in, events}
 use Rattle.mq_trace.specs.Connections.{begins_connection}
 use Rattle.mq_trace.specs.Context.{Context, context, so_far_by, so_far_for, event_for, placed_with, placed_for, put}
@@ -86,8 +86,8 @@ unbegun number direction [] less = refl
 unbegun number direction (part ∷ before) less =
     let more = opened_more part before in
     let other : (opened_records (part ∷ before) == number) ≡ false = ne_eqb (opened_records (part ∷ before)) number (λ same. (omega arith)) in
-    ap (λ l. l ++ cond (opened_records (part ∷ before) == number) (if_direction direction (direction_of (kind_of part)) (drop 5 part)) []) (unbegun number direction before (omega arith))
-    ∙ ap (λ t. cond t (if_direction direction (direction_of (kind_of part)) (drop 5 part)) []) other
+    ap (λ l. l ++ cond (opened_records (part ∷ before) == number) (if_direction direction (direction_of (kind_of part)) (drop head_length part)) []) (unbegun number direction before (omega arith))
+    ∙ ap (λ t. cond t (if_direction direction (direction_of (kind_of part)) (drop head_length part)) []) other
 
 opening_carries_none : (kind : Option RecordKind) (direction : Direction) (bytes : List ℕ) → opens kind ≡ true → if_direction direction (direction_of kind) bytes ≡ []
 opening_carries_none (Some kinds.Open) directions.Sent bytes is = refl
@@ -100,47 +100,47 @@ opening_carries_none (Some kinds.Rest) direction bytes is = absurd (cc)
 opening_carries_none (Some kinds.Release) direction bytes is = absurd (cc)
 
 newest_by : (direction : Direction) (part : List ℕ) (before : List (List ℕ)) (o : Bool) → opens (kind_of part) ≡ o → joined (opened_records before) direction before ≡ carried direction before
-    → joined (cond o (opened_records before + 1) (opened_records before)) direction before ++ if_direction direction (direction_of (kind_of part)) (drop 5 part)
-    ≡ cond o [] (carried direction before ++ if_direction direction (direction_of (kind_of part)) (drop 5 part))
+    → joined (cond o (opened_records before + 1) (opened_records before)) direction before ++ if_direction direction (direction_of (kind_of part)) (drop head_length part)
+    ≡ cond o [] (carried direction before ++ if_direction direction (direction_of (kind_of part)) (drop head_length part))
 newest_by direction part before true is same =
-    ap (λ l. l ++ if_direction direction (direction_of (kind_of part)) (drop 5 part)) (unbegun (opened_records before + 1) direction before (omega arith))
-    ∙ opening_carries_none (kind_of part) direction (drop 5 part) is
-newest_by direction part before false is same = ap (λ l. l ++ if_direction direction (direction_of (kind_of part)) (drop 5 part)) same
+    ap (λ l. l ++ if_direction direction (direction_of (kind_of part)) (drop head_length part)) (unbegun (opened_records before + 1) direction before (omega arith))
+    ∙ opening_carries_none (kind_of part) direction (drop head_length part) is
+newest_by direction part before false is same = ap (λ l. l ++ if_direction direction (direction_of (kind_of part)) (drop head_length part)) same
 
 newest : (direction : Direction) (parts : List (List ℕ)) → joined (opened_records parts) direction parts ≡ carried direction parts
 unfolding carried
 newest direction [] = refl
 newest direction (part ∷ before) =
     let n : ℕ = opened_records (part ∷ before) in
-    let body : List ℕ = if_direction direction (direction_of (kind_of part)) (drop 5 part) in
+    let body : List ℕ = if_direction direction (direction_of (kind_of part)) (drop head_length part) in
     ap (λ t. joined n direction before ++ cond t body []) (eq-eqb n n refl)
     ∙ newest_by direction part before (opens (kind_of part)) refl (newest direction before)
 
 -- What a direction of a connection carried, with one byte of the log more.
-body_more : (r : ℕ) (rest : List ℕ) (byte : ℕ) (b : Bool) → nat_lt 5 (length ((r ∷ rest) ++ byte ∷ [])) ≡ b → drop 5 ((r ∷ rest) ++ byte ∷ []) ≡ drop 5 (r ∷ rest) ++ cond b (byte ∷ []) []
+body_more : (r : ℕ) (rest : List ℕ) (byte : ℕ) (b : Bool) → nat_lt head_length (length ((r ∷ rest) ++ byte ∷ [])) ≡ b → drop head_length ((r ∷ rest) ++ byte ∷ []) ≡ drop head_length (r ∷ rest) ++ cond b (byte ∷ []) []
 body_more r rest byte true is =
     let l = length-append (r ∷ rest) (byte ∷ []) in
-    let long = ltb-true 5 (length ((r ∷ rest) ++ byte ∷ [])) is in
-    drop-append-le 5 (r ∷ rest) (byte ∷ []) (omega arith)
+    let long = ltb-true head_length (length ((r ∷ rest) ++ byte ∷ [])) is in
+    drop-append-le head_length (r ∷ rest) (byte ∷ []) (omega arith)
 body_more r rest byte false is =
     let l = length-append (r ∷ rest) (byte ∷ []) in
-    let short = ltb-false 5 (length ((r ∷ rest) ++ byte ∷ [])) is in
-    drop_all 5 ((r ∷ rest) ++ byte ∷ []) short ∙ sym (ap (λ bytes. bytes ++ []) (drop_all 5 (r ∷ rest) (omega arith)))
+    let short = ltb-false head_length (length ((r ∷ rest) ++ byte ∷ [])) is in
+    drop_all head_length ((r ∷ rest) ++ byte ∷ []) short ∙ sym (ap (λ bytes. bytes ++ []) (drop_all head_length (r ∷ rest) (omega arith)))
 
 sent_on : (direction : Direction) (carries : Option Direction) (byte : ℕ) (b : Bool) → if_direction direction carries (cond b (byte ∷ []) []) ≡ cond b (if_direction direction carries (byte ∷ [])) []
 sent_on direction carries byte true = refl
 sent_on direction carries byte false = if_direction-nothing direction carries
 
 body_grown : (direction : Direction) (r : ℕ) (rest : List ℕ) (byte : ℕ)
-    → if_direction direction (direction_of (kind_of ((r ∷ rest) ++ byte ∷ []))) (drop 5 ((r ∷ rest) ++ byte ∷ [])) ≡ if_direction direction (direction_of (kind_of (r ∷ rest))) (drop 5 (r ∷ rest)) ++ body_byte direction ((r ∷ rest) ++ byte ∷ []) byte
+    → if_direction direction (direction_of (kind_of ((r ∷ rest) ++ byte ∷ []))) (drop head_length ((r ∷ rest) ++ byte ∷ [])) ≡ if_direction direction (direction_of (kind_of (r ∷ rest))) (drop head_length (r ∷ rest)) ++ body_byte direction ((r ∷ rest) ++ byte ∷ []) byte
 body_grown direction r rest byte =
     let part : List ℕ = (r ∷ rest) ++ byte ∷ [] in
     let carries : Option Direction = direction_of (kind_of part) in
-    let b : Bool = nat_lt 5 (length part) in
+    let b : Bool = nat_lt head_length (length part) in
     ap (if_direction direction carries) (body_more r rest byte b refl)
-    ∙ if_direction-append direction carries (drop 5 (r ∷ rest)) (cond b (byte ∷ []) [])
-    ∙ ap (λ l. if_direction direction carries (drop 5 (r ∷ rest)) ++ l) (sent_on direction carries byte b)
-    ∙ ap (λ k. if_direction direction (direction_of k) (drop 5 (r ∷ rest)) ++ cond b (if_direction direction carries (byte ∷ [])) []) (kind_of-append (r ∷ rest) (byte ∷ []) (omega arith))
+    ∙ if_direction-append direction carries (drop head_length (r ∷ rest)) (cond b (byte ∷ []) [])
+    ∙ ap (λ l. if_direction direction carries (drop head_length (r ∷ rest)) ++ l) (sent_on direction carries byte b)
+    ∙ ap (λ k. if_direction direction (direction_of k) (drop head_length (r ∷ rest)) ++ cond b (if_direction direction carries (byte ∷ [])) []) (kind_of-append (r ∷ rest) (byte ∷ []) (omega arith))
 
 split_by : (t : Bool) (j a b : List ℕ) → j ++ cond t (a ++ b) [] ≡ (j ++ cond t a []) ++ cond t b []
 split_by true j a b = sym (append_assoc j a b)
@@ -156,7 +156,7 @@ joined_grown number direction (r ∷ rest) byte whole =
     let part : List ℕ = (r ∷ rest) ++ byte ∷ [] in
     let n : opened_records (part ∷ whole) ≡ opened_records (old ∷ whole)
     = ap (λ k. cond (opens k) (opened_records whole + 1) (opened_records whole)) (kind_of-append (r ∷ rest) (byte ∷ []) (omega arith)) in
-    let before : List ℕ = if_direction direction (direction_of (kind_of old)) (drop 5 old) in
+    let before : List ℕ = if_direction direction (direction_of (kind_of old)) (drop head_length old) in
     ap (λ bytes. joined number direction whole ++ cond (opened_records (part ∷ whole) == number) bytes []) (body_grown direction r rest byte)
     ∙ split_by (opened_records (part ∷ whole) == number) (joined number direction whole) before (body_byte direction part byte)
     ∙ ap (λ m. (joined number direction whole ++ cond (m == number) before []) ++ cond (opened_records (part ∷ whole) == number) (body_byte direction part byte) []) n
@@ -174,30 +174,30 @@ joined_more number direction log byte h =
 -- As many events as records begin a connection, but for an OPEN whose head isn't whole.
 abbrev opening : List (List ℕ) → ℕ
 opening [] = 0
-opening (part ∷ before) = cond (opens (kind_of part) && nat_lt (length part) 5) 1 0
+opening (part ∷ before) = cond (opens (kind_of part) && nat_lt (length part) head_length) 1 0
 
 abbrev begins_some : Option Event → Bool
 begins_some None = false
 begins_some (Some event) = begins_connection event
 
-begins_by : (kind : Option RecordKind) (part so_far : List ℕ) → begins_some (event_by kind part so_far) ≡ (opens kind && (length part == 5))
+begins_by : (kind : Option RecordKind) (part so_far : List ℕ) → begins_some (event_by kind part so_far) ≡ (opens kind && (length part == head_length))
 begins_by None part so_far = refl
-begins_by (Some kinds.Open) part so_far = by (length part == 5)
+begins_by (Some kinds.Open) part so_far = by (length part == head_length)
   where
     by : (t : Bool) → begins_some (if t then Some opened else None) ≡ t
     by true = refl
     by false = refl
-begins_by (Some kinds.Close) part so_far = by (length part == 5)
+begins_by (Some kinds.Close) part so_far = by (length part == head_length)
   where
     by : (t : Bool) → begins_some (if t then Some closed else None) ≡ false
     by true = refl
     by false = refl
-begins_by (Some kinds.Rest) part so_far = by (length part == 5)
+begins_by (Some kinds.Rest) part so_far = by (length part == head_length)
   where
     by : (t : Bool) → begins_some (if t then Some rested else None) ≡ false
     by true = refl
     by false = refl
-begins_by (Some kinds.Release) part so_far = by (length part == 7) (from_be_bytes w16 (drop 5 part))
+begins_by (Some kinds.Release) part so_far = by (length part == head_length + 2) (from_be_bytes w16 (drop head_length part))
   where
     by : (t : Bool) (n : ℕ) → begins_some (if t then Some (released n) else None) ≡ false
     by true n = refl
@@ -233,7 +233,7 @@ events_more log byte = events-kept log byte
 
 opened_more_events : (log : List ℕ) (byte : ℕ) → 8 ≤ length log
     → opened_events (events (log ++ byte ∷ []))
-    ≡ cond (opens (kind_of ((records log).rest ++ byte ∷ [])) && (length ((records log).rest ++ byte ∷ []) == 5)) (opened_events (events log) + 1) (opened_events (events log))
+    ≡ cond (opens (kind_of ((records log).rest ++ byte ∷ [])) && (length ((records log).rest ++ byte ∷ []) == head_length)) (opened_events (events log) + 1) (opened_events (events log))
 opened_more_events log byte h =
     let part : List ℕ = (records log).rest ++ byte ∷ [] in
     let m : ℕ = opened_events (events log) in
@@ -242,21 +242,21 @@ opened_more_events log byte h =
     ∙ ap (λ o. cond (begins_some o) (m + 1) m) (event_is log byte h)
     ∙ ap (λ t. cond t (m + 1) m) (begins_by (kind_of part) part (so_far_for (context log) byte))
 
-opened_step : (o : Bool) (n m w : ℕ) → m + cond (o && nat_lt n 5) 1 0 ≡ cond o (w + 1) w → cond (o && (n + 1 == 5)) (m + 1) m + cond (o && nat_lt (n + 1) 5) 1 0 ≡ cond o (w + 1) w
+opened_step : (o : Bool) (n m w : ℕ) → m + cond (o && nat_lt n head_length) 1 0 ≡ cond o (w + 1) w → cond (o && (n + 1 == head_length)) (m + 1) m + cond (o && nat_lt (n + 1) head_length) 1 0 ≡ cond o (w + 1) w
 opened_step false n m w e = e
-opened_step true n m w e = by (n + 1 == 5) refl
+opened_step true n m w e = by (n + 1 == head_length) refl
   where
-    later : (t : Bool) → nat_lt n 5 ≡ t → (n + 1 ≡ 5 → ⊥) → nat_lt (n + 1) 5 ≡ t
-    later true is other = let less : n < 5 = ltb-true n 5 is in lt-ltb (n + 1) 5 (omega (arith, other))
-    later false is other = let more : 5 ≤ n = ltb-false n 5 is in le-ltb (n + 1) 5 (omega arith)
+    later : (t : Bool) → nat_lt n head_length ≡ t → (n + 1 ≡ head_length → ⊥) → nat_lt (n + 1) head_length ≡ t
+    later true is other = let less : n < head_length = ltb-true n head_length is in lt-ltb (n + 1) head_length (omega (arith, other))
+    later false is other = let more : head_length ≤ n = ltb-false n head_length is in le-ltb (n + 1) head_length (omega arith)
 
-    by : (t : Bool) → (n + 1 == 5) ≡ t → cond t (m + 1) m + cond (nat_lt (n + 1) 5) 1 0 ≡ w + 1
+    by : (t : Bool) → (n + 1 == head_length) ≡ t → cond t (m + 1) m + cond (nat_lt (n + 1) head_length) 1 0 ≡ w + 1
     by true is =
-        let five : n + 1 ≡ 5 = eqb-true (n + 1) 5 is in
-        let early : nat_lt n 5 ≡ true = lt-ltb n 5 (omega arith) in
+        let five : n + 1 ≡ head_length = eqb-true (n + 1) head_length is in
+        let early : nat_lt n head_length ≡ true = lt-ltb n head_length (omega arith) in
         let was : m + 1 ≡ w + 1 = ap (λ t. m + cond t 1 0) (sym early) ∙ e in
-        ap (λ t. (m + 1) + cond t 1 0) (le-ltb (n + 1) 5 (omega arith)) ∙ (let last : (m + 1) + 0 ≡ w + 1 = omega (arith, was) in last)
-    by false is = ap (λ t. m + cond t 1 0) (later (nat_lt n 5) refl (eqb-false (n + 1) 5 is)) ∙ e
+        ap (λ t. (m + 1) + cond t 1 0) (le-ltb (n + 1) head_length (omega arith)) ∙ (let last : (m + 1) + 0 ≡ w + 1 = omega (arith, was) in last)
+    by false is = ap (λ t. m + cond t 1 0) (later (nat_lt n head_length) refl (eqb-false (n + 1) head_length is)) ∙ e
 
 first_opened : (o : Bool) (m w : ℕ) → m ≡ w → cond (o && false) (m + 1) m + cond (o && true) 1 0 ≡ cond o (w + 1) w
 first_opened true m w e = ap (λ n. n + 1) e
@@ -264,7 +264,7 @@ first_opened false m w e = let same : m + 0 ≡ w = omega (arith, e) in same
 
 opened_grown : (rest : List ℕ) (byte m : ℕ) (whole : List (List ℕ)) → m + opening (begun_with rest whole) ≡ opened_records (begun_with rest whole)
     → (rest ≡ [] → opening (begun_with rest whole) ≡ 0)
-    → cond (opens (kind_of (rest ++ byte ∷ [])) && (length (rest ++ byte ∷ []) == 5)) (m + 1) m + opening ((rest ++ byte ∷ []) ∷ whole) ≡ opened_records ((rest ++ byte ∷ []) ∷ whole)
+    → cond (opens (kind_of (rest ++ byte ∷ [])) && (length (rest ++ byte ∷ []) == head_length)) (m + 1) m + opening ((rest ++ byte ∷ []) ∷ whole) ≡ opened_records ((rest ++ byte ∷ []) ∷ whole)
 opened_grown [] byte m whole e settled =
     let none : opening whole ≡ 0 = settled refl in
     let was : m ≡ opened_records whole = omega (arith, e, none) in
@@ -275,15 +275,15 @@ opened_grown (r ∷ rest) byte m whole e settled =
     let w : ℕ = opened_records whole in
     let kind : kind_of part ≡ kind_of old = kind_of-append (r ∷ rest) (byte ∷ []) (omega arith) in
     let long : length part ≡ length old + 1 = length-append (r ∷ rest) (byte ∷ []) in
-    subst (λ n. cond (opens (kind_of part) && (n == 5)) (m + 1) m + cond (opens (kind_of part) && nat_lt n 5) 1 0 ≡ cond (opens (kind_of part)) (w + 1) w) (sym long)
-    (subst (λ k. cond (opens k && (length old + 1 == 5)) (m + 1) m + cond (opens k && nat_lt (length old + 1) 5) 1 0 ≡ cond (opens k) (w + 1) w) (sym kind)
+    subst (λ n. cond (opens (kind_of part) && (n == head_length)) (m + 1) m + cond (opens (kind_of part) && nat_lt n head_length) 1 0 ≡ cond (opens (kind_of part)) (w + 1) w) (sym long)
+    (subst (λ k. cond (opens k && (length old + 1 == head_length)) (m + 1) m + cond (opens k && nat_lt (length old + 1) head_length) 1 0 ≡ cond (opens k) (w + 1) w) (sym kind)
     (opened_step (opens (kind_of old)) (length old) m w e))
 
 settled_by : (part : List ℕ) (whole : List (List ℕ)) (o : Option ℕ) → record_size part ≡ o → 0 < length part → cond (is_some o) [] part ≡ [] → opening (part ∷ whole) ≡ 0
 settled_by part whole None e some none = let l : length part ≡ 0 = ap length none in absurd (omega arith)
 settled_by part whole (Some n) e some none =
     let within = (record_size-is part n e).within in
-    let long : nat_lt (length part) 5 ≡ false = le-ltb (length part) 5 (omega (arith, within)) in
+    let long : nat_lt (length part) head_length ≡ false = le-ltb (length part) head_length (omega (arith, within)) in
     ap (λ t. cond (opens (kind_of part) && t) 1 0) long ∙ nothing (opens (kind_of part))
   where
     nothing : (o : Bool) → cond {A = ℕ} (o && false) 1 0 ≡ 0
@@ -350,14 +350,14 @@ marks_nothing directions.Recv event items false none = refl
 event_items_by : (kind : Option RecordKind) (direction : Direction) (part so_far : List ℕ) → event_items direction (event_by kind part so_far) ≡ items_if direction (direction_of kind) (if_some (item_at so_far))
 event_items_by None directions.Sent part so_far = refl
 event_items_by None directions.Recv part so_far = refl
-event_items_by (Some kinds.Open) directions.Sent part so_far = marks_nothing directions.Sent opened (if_some (item_at so_far)) (length part == 5) refl
-event_items_by (Some kinds.Open) directions.Recv part so_far = marks_nothing directions.Recv opened (if_some (item_at so_far)) (length part == 5) refl
-event_items_by (Some kinds.Close) directions.Sent part so_far = marks_nothing directions.Sent closed (if_some (item_at so_far)) (length part == 5) refl
-event_items_by (Some kinds.Close) directions.Recv part so_far = marks_nothing directions.Recv closed (if_some (item_at so_far)) (length part == 5) refl
-event_items_by (Some kinds.Rest) directions.Sent part so_far = marks_nothing directions.Sent rested (if_some (item_at so_far)) (length part == 5) refl
-event_items_by (Some kinds.Rest) directions.Recv part so_far = marks_nothing directions.Recv rested (if_some (item_at so_far)) (length part == 5) refl
-event_items_by (Some kinds.Release) directions.Sent part so_far = marks_nothing directions.Sent (released (from_be_bytes w16 (drop 5 part))) (if_some (item_at so_far)) (length part == 7) refl
-event_items_by (Some kinds.Release) directions.Recv part so_far = marks_nothing directions.Recv (released (from_be_bytes w16 (drop 5 part))) (if_some (item_at so_far)) (length part == 7) refl
+event_items_by (Some kinds.Open) directions.Sent part so_far = marks_nothing directions.Sent opened (if_some (item_at so_far)) (length part == head_length) refl
+event_items_by (Some kinds.Open) directions.Recv part so_far = marks_nothing directions.Recv opened (if_some (item_at so_far)) (length part == head_length) refl
+event_items_by (Some kinds.Close) directions.Sent part so_far = marks_nothing directions.Sent closed (if_some (item_at so_far)) (length part == head_length) refl
+event_items_by (Some kinds.Close) directions.Recv part so_far = marks_nothing directions.Recv closed (if_some (item_at so_far)) (length part == head_length) refl
+event_items_by (Some kinds.Rest) directions.Sent part so_far = marks_nothing directions.Sent rested (if_some (item_at so_far)) (length part == head_length) refl
+event_items_by (Some kinds.Rest) directions.Recv part so_far = marks_nothing directions.Recv rested (if_some (item_at so_far)) (length part == head_length) refl
+event_items_by (Some kinds.Release) directions.Sent part so_far = marks_nothing directions.Sent (released (from_be_bytes w16 (drop head_length part))) (if_some (item_at so_far)) (length part == head_length + 2) refl
+event_items_by (Some kinds.Release) directions.Recv part so_far = marks_nothing directions.Recv (released (from_be_bytes w16 (drop head_length part))) (if_some (item_at so_far)) (length part == head_length + 2) refl
 event_items_by (Some kinds.Sent) direction part so_far = by direction (item_at so_far)
   where
     by : (direction : Direction) (item : Option Item) → event_items direction (option_map sent item) ≡ items_if direction (Some directions.Sent) (if_some item)
@@ -413,15 +413,15 @@ module _ (number : ℕ) (direction : Direction) (log : List ℕ) (byte : ℕ) (p
   abbrev item_so : Option Item
   item_so = item_at (so_far_for (context log) byte)
 
-  so_far_is : so_far_for (context log) byte ≡ cond (nat_lt 5 (length part)) (so_far_by (direction_of (kind_of part)) (context log) byte) []
+  so_far_is : so_far_for (context log) byte ≡ cond (nat_lt head_length (length part)) (so_far_by (direction_of (kind_of part)) (context log) byte) []
   unfolding so_far_for
-  so_far_is = ap (λ p. cond (nat_lt 5 (length (p ++ byte ∷ []))) (so_far_by (direction_of (kind_of (p ++ byte ∷ []))) (context log) byte) []) (part_context log)
+  so_far_is = ap (λ p. cond (nat_lt head_length (length (p ++ byte ∷ []))) (so_far_by (direction_of (kind_of (p ++ byte ∷ []))) (context log) byte) []) (part_context log)
 
   same_number : opens (kind_of part) ≡ false → m ≡ n
   same_number is =
       let both : m + opening (begun_records (log ++ byte ∷ [])) ≡ n = (opened_always (log ++ byte ∷ [])).same in
       let none : opening (begun_records (log ++ byte ∷ [])) ≡ 0
-      = ap opening (begun-grow log byte past_header) ∙ ap (λ t. cond (t && nat_lt (length part) 5) 1 0) is in
+      = ap opening (begun-grow log byte past_header) ∙ ap (λ t. cond (t && nat_lt (length part) head_length) 1 0) is in
       omega (arith, both, none)
 
   newest_carried : opens (kind_of part) ≡ false → n ≡ number → carried_so ≡ carried direction (begun_records log)
@@ -430,7 +430,7 @@ module _ (number : ℕ) (direction : Direction) (log : List ℕ) (byte : ℕ) (p
       let kept : n ≡ opened_records (begun_records log) = ap opened_records (begun-grow log byte past_header) ∙ opened_kept (records log).rest byte (reverse (records log).whole) is in
       ap (λ k. joined k direction (begun_records log)) (sym same ∙ kept) ∙ newest direction (begun_records log)
 
-  item_goes : nat_lt 5 (length part) ≡ true → direction_of (kind_of part) ≡ Some direction → carried_so ≡ carried direction (begun_records log) → item_so ≡ item_at (packet_with carried_so byte)
+  item_goes : nat_lt head_length (length part) ≡ true → direction_of (kind_of part) ≡ Some direction → carried_so ≡ carried direction (begun_records log) → item_so ≡ item_at (packet_with carried_so byte)
   item_goes g w is =
       ap item_at (so_far_is
       ∙ ap (λ t. cond t (so_far_by (direction_of (kind_of part)) (context log) byte) []) g
@@ -439,7 +439,7 @@ module _ (number : ℕ) (direction : Direction) (log : List ℕ) (byte : ℕ) (p
       ∙ ap (λ bytes. packet_with bytes byte) (sym is))
 
   -- a byte of this direction, on some connection
-  own_byte : (t : Bool) → (n == number) ≡ t → nat_lt 5 (length part) ≡ true → direction_of (kind_of part) ≡ Some direction
+  own_byte : (t : Bool) → (n == number) ≡ t → nat_lt head_length (length part) ≡ true → direction_of (kind_of part) ≡ Some direction
       → stream_items (stream carried_so) ++ cond (m == number) (if_some item_so) [] ≡ stream_items (stream (carried_so ++ cond (n == number) (byte ∷ []) []))
   own_byte true is g w =
       let opens_nothing = opens_none (kind_of part) direction w in
@@ -461,7 +461,7 @@ module _ (number : ℕ) (direction : Direction) (log : List ℕ) (byte : ℕ) (p
   other_byte : stream_items (stream carried_so) ++ cond (m == number) [] [] ≡ stream_items (stream (carried_so ++ cond (n == number) [] []))
   other_byte = nothing_put (stream_items (stream carried_so)) (m == number) ∙ ap (λ bytes. stream_items (stream bytes)) (sym (nothing_put carried_so (n == number)))
 
-  byte_goes : (g : Bool) → nat_lt 5 (length part) ≡ g → (each : Direction) → each ≡ direction → (w : Option Direction) → direction_of (kind_of part) ≡ w
+  byte_goes : (g : Bool) → nat_lt head_length (length part) ≡ g → (each : Direction) → each ≡ direction → (w : Option Direction) → direction_of (kind_of part) ≡ w
       → stream_items (stream carried_so) ++ cond (m == number) (items_if each w (if_some item_so)) [] ≡ stream_items (stream (carried_so ++ cond (n == number) (cond g (if_direction each w (byte ∷ [])) []) []))
   byte_goes false g each same w is =
       let none : item_so ≡ None = ap item_at (so_far_is ∙ ap (λ t. cond t (so_far_by (direction_of (kind_of part)) (context log) byte) []) g) ∙ nothing_item in
@@ -487,7 +487,7 @@ module _ (number : ℕ) (direction : Direction) (log : List ℕ) (byte : ℕ) (p
   byte_more before =
       items_more number direction log byte past_header
       ∙ ap (λ items. items ++ cond (m == number) (items_if direction (direction_of (kind_of part)) (if_some item_so)) []) before
-      ∙ byte_goes (nat_lt 5 (length part)) refl direction refl (direction_of (kind_of part)) refl
+      ∙ byte_goes (nat_lt head_length (length part)) refl direction refl (direction_of (kind_of part)) refl
       ∙ ap (λ bytes. stream_items (stream bytes)) (sym (joined_more number direction log byte past_header))
 
 -- Nothing is on a connection in a header.

@@ -11,7 +11,7 @@ use Rattle.mq_trace.specs.declared.kind.Direction.{Direction}
 use Rattle.mq_trace.specs.declared.kind.Direction.TheVariants as directions
 use Rattle.mq_trace.specs.declared.refusal.Refusal.{Refusal}
 use Rattle.mq_trace.specs.declared.refusal.Refusal.TheVariants as refusals
-use Rattle.mq_trace.specs.Framing.{kind_of, body_length, record_size, direction_of, opens}
+use Rattle.mq_trace.specs.Framing.{kind_of, body_length, record_size, direction_of, opens, head_length}
 use Rattle.mq_trace.specs.Events.{Item, Event, item_at, event_by, event_in, read_frame}
 use Rattle.mq_trace.specs.Refusals.{first_that_applies, allows_length, is_open_kind, needs_connection, is_release_kind, is_too_large, is_other_version, record_refusal, header_refusal}
 use Rattle.mq_trace.specs.Context.{StreamState, Context, state_for, so_far_in, so_far_by, so_far_for, situated, state_after, state_by, state_then, with_completed, after_header, after_part, after, put, placed_with, placed_for, refusal_for, event_for}
@@ -40,12 +40,12 @@ event_by_item (Some kinds.Rest) direction part so_far e = absurd (cc)
 event_by_item (Some kinds.Release) direction part so_far e = absurd (cc)
 
 -- the head of a record stays, whatever follows
-kind_stays : (part more : List ℕ) → 5 ≤ length part → kind_of (part ++ more) ≡ kind_of part
+kind_stays : (part more : List ℕ) → head_length ≤ length part → kind_of (part ++ more) ≡ kind_of part
 unfolding kind_of
 kind_stays [] more h = absurd (omega arith)
 kind_stays (k ∷ part) more h = refl
 
-body_stays : (part more : List ℕ) → 5 ≤ length part → body_length (part ++ more) ≡ body_length part
+body_stays : (part more : List ℕ) → head_length ≤ length part → body_length (part ++ more) ≡ body_length part
 unfolding body_length
 body_stays [] b h = absurd (omega arith)
 body_stays (k ∷ []) b h = absurd (omega arith)
@@ -69,11 +69,11 @@ lines limit c part so_far first head early event = first_that_applies (
     ∷ [])
 
 -- A record is whole where all of its body is there.
-whole_by : (part : List ℕ) → 5 ≤ length part → is_some (record_size part) ≡ nat_le (5 + body_length part) (length part)
+whole_by : (part : List ℕ) → head_length ≤ length part → is_some (record_size part) ≡ nat_le (head_length + body_length part) (length part)
 unfolding record_size
-whole_by part there = ap (λ b. is_some (if b then None else (if nat_le (5 + body_length part) (length part) then Some (5 + body_length part) else None))) (le-ltb (length part) 5 there) ∙ some_if (nat_le (5 + body_length part) (length part))
+whole_by part there = ap (λ b. is_some (if b then None else (if nat_le (head_length + body_length part) (length part) then Some (head_length + body_length part) else None))) (le-ltb (length part) head_length there) ∙ some_if (nat_le (head_length + body_length part) (length part))
   where
-    some_if : (b : Bool) → is_some (if b then Some (5 + body_length part) else None) ≡ b
+    some_if : (b : Bool) → is_some (if b then Some (head_length + body_length part) else None) ≡ b
     some_if true = refl
     some_if false = refl
 
@@ -111,7 +111,7 @@ kept_flowed c directions.Sent byte whole (Some item) = refl
 kept_flowed c directions.Recv byte whole (Some item) = refl
 
 -- one byte of a body
-module _ (c : Context) (direction : Direction) (byte : ℕ) (past_header : 8 ≤ c.at) (goes : direction_of (kind_of c.part) ≡ Some direction) (there : 5 ≤ length c.part) where
+module _ (c : Context) (direction : Direction) (byte : ℕ) (past_header : 8 ≤ c.at) (goes : direction_of (kind_of c.part) ≡ Some direction) (there : head_length ≤ length c.part) where
   abbrev part : List ℕ
   part = c.part ++ byte ∷ []
 
@@ -127,14 +127,14 @@ module _ (c : Context) (direction : Direction) (byte : ℕ) (past_header : 8 ≤
   goes_on : direction_of (kind_of part) ≡ Some direction
   goes_on = ap direction_of (kind_stays c.part (byte ∷ []) there) ∙ goes
 
-  in_body : nat_lt 5 (length part) ≡ true
-  in_body = let l = longer in lt-ltb 5 (length part) (omega arith)
+  in_body : nat_lt head_length (length part) ≡ true
+  in_body = let l = longer in lt-ltb head_length (length part) (omega arith)
 
   not_first : (length part == 1) ≡ false
   not_first = let l = longer in ne_eqb (length part) 1 (λ same. (omega arith))
 
-  not_head : (length part == 5) ≡ false
-  not_head = let l = longer in ne_eqb (length part) 5 (λ same. (omega arith))
+  not_head : (length part == head_length) ≡ false
+  not_head = let l = longer in ne_eqb (length part) head_length (λ same. (omega arith))
 
   so_far_is : so_far_for c byte ≡ so_far_in (state_for c direction) byte
   unfolding so_far_for
@@ -152,7 +152,7 @@ module _ (c : Context) (direction : Direction) (byte : ℕ) (past_header : 8 ≤
   event_within = event_by_item (kind_of part) direction part (so_far_for c byte) goes_on ∙ ap (λ t. option_map (item_event direction) (item_at t)) so_far_is
 
   by_lines : (limit : ℕ) → record_refusal limit (situated c byte)
-      ≡ lines limit c part (so_far_for c byte) (length part == 1) (length part == 5) (flows_too_early context flow (event_in part (so_far_for c byte))) (event_in part (so_far_for c byte))
+      ≡ lines limit c part (so_far_for c byte) (length part == 1) (length part == head_length) (flows_too_early context flow (event_in part (so_far_for c byte))) (event_in part (so_far_for c byte))
   unfolding record_refusal situated
   by_lines limit = refl
 
@@ -166,7 +166,7 @@ module _ (c : Context) (direction : Direction) (byte : ℕ) (past_header : 8 ≤
   refusal_lifted limit =
       ap (λ b. if b then header_refusal c.at byte else record_refusal limit (situated c byte)) (le-ltb c.at 8 past_header)
       ∙ by_lines limit
-      ∙ ap (λ b. lines limit c part (so_far_for c byte) b (length part == 5) (flows_too_early context flow (event_in part (so_far_for c byte))) (event_in part (so_far_for c byte))) not_first
+      ∙ ap (λ b. lines limit c part (so_far_for c byte) b (length part == head_length) (flows_too_early context flow (event_in part (so_far_for c byte))) (event_in part (so_far_for c byte))) not_first
       ∙ ap (λ b. lines limit c part (so_far_for c byte) false b (flows_too_early context flow (event_in part (so_far_for c byte))) (event_in part (so_far_for c byte))) not_head
       ∙ ap (λ e. lines limit c part (so_far_for c byte) false false (flows_too_early context flow e) e) event_within
       ∙ ap (λ t. lines limit c part t false false (flows_too_early context flow (flow_event context flow byte)) (flow_event context flow byte)) so_far_is
@@ -184,18 +184,18 @@ module _ (c : Context) (direction : Direction) (byte : ℕ) (past_header : 8 ≤
   state_is : (each : Direction) → state_then each (state_for c each) part byte ≡ state_after_body each direction (state_after (state_for c direction) byte) (state_for c each)
   unfolding state_then
   state_is each =
-      ap (λ b. cond b (record { unfinished = []; lost = false }) (cond (nat_lt 5 (length part)) (state_by each (direction_of (kind_of part)) (state_for c each) byte) (state_for c each))) (opens_none (kind_of part) direction goes_on)
+      ap (λ b. cond b (record { unfinished = []; lost = false }) (cond (nat_lt head_length (length part)) (state_by each (direction_of (kind_of part)) (state_for c each) byte) (state_for c each))) (opens_none (kind_of part) direction goes_on)
       ∙ ap (λ b. cond b (state_by each (direction_of (kind_of part)) (state_for c each) byte) (state_for c each)) in_body
       ∙ ap (λ w. state_by each w (state_for c each) byte) goes_on
       ∙ state_same each direction c byte
 
-  whole_is : length c.part < 5 + body_length c.part → is_some (record_size part) ≡ (length c.part + 1 == 5 + body_length c.part)
+  whole_is : length c.part < head_length + body_length c.part → is_some (record_size part) ≡ (length c.part + 1 == head_length + body_length c.part)
   whole_is less =
       let l = longer in
       whole_by part (omega arith)
-      ∙ ap (λ n. nat_le (5 + n) (length part)) (body_stays c.part (byte ∷ []) there)
-      ∙ ap (nat_le (5 + body_length c.part)) l
-      ∙ just_whole (length c.part) (5 + body_length c.part) less
+      ∙ ap (λ n. nat_le (head_length + n) (length part)) (body_stays c.part (byte ∷ []) there)
+      ∙ ap (nat_le (head_length + body_length c.part)) l
+      ∙ just_whole (length c.part) (head_length + body_length c.part) less
 
   flow_after_is : flow_after context flow byte ≡ flow_with context (record flow { at = c.at + 1; state = state_after (state_for c direction) byte }) (option_map (item_event direction) (item_at (so_far_in (state_for c direction) byte)))
   unfolding flow_after flow_event
@@ -206,38 +206,38 @@ module _ (c : Context) (direction : Direction) (byte : ℕ) (past_header : 8 ≤
   flow_event_is = refl
 
   -- What is kept after the byte is what the flow keeps.
-  after_lifted : length c.part < 5 + body_length c.part → after c byte ≡ flowed c direction (length c.part + 1 == 5 + body_length c.part) (flow_after context flow byte) (byte ∷ [])
+  after_lifted : length c.part < head_length + body_length c.part → after c byte ≡ flowed c direction (length c.part + 1 == head_length + body_length c.part) (flow_after context flow byte) (byte ∷ [])
   unfolding after
   after_lifted less =
       ap (λ b. if b then after_header c byte else with_completed (after_part c part byte) (event_for c byte)) (le-ltb c.at 8 past_header)
       ∙ ap (λ h. kept c part (is_some (record_size part)) h (state_then directions.Recv c.recv part byte) (event_for c byte)) (state_is directions.Sent)
       ∙ ap (λ h. kept c part (is_some (record_size part)) (state_after_body directions.Sent direction (state_after (state_for c direction) byte) c.sent) h (event_for c byte)) (state_is directions.Recv)
       ∙ ap (λ b. kept c part b (state_after_body directions.Sent direction (state_after (state_for c direction) byte) c.sent) (state_after_body directions.Recv direction (state_after (state_for c direction) byte) c.recv) (event_for c byte)) (whole_is less)
-      ∙ ap (kept c part (length c.part + 1 == 5 + body_length c.part) (state_after_body directions.Sent direction (state_after (state_for c direction) byte) c.sent) (state_after_body directions.Recv direction (state_after (state_for c direction) byte) c.recv)) (event_is ∙ flow_event_is)
-      ∙ kept_flowed c direction byte (length c.part + 1 == 5 + body_length c.part) (item_at (so_far_in (state_for c direction) byte))
-      ∙ ap (λ g. flowed c direction (length c.part + 1 == 5 + body_length c.part) g (byte ∷ [])) (sym flow_after_is)
+      ∙ ap (kept c part (length c.part + 1 == head_length + body_length c.part) (state_after_body directions.Sent direction (state_after (state_for c direction) byte) c.sent) (state_after_body directions.Recv direction (state_after (state_for c direction) byte) c.recv)) (event_is ∙ flow_event_is)
+      ∙ kept_flowed c direction byte (length c.part + 1 == head_length + body_length c.part) (item_at (so_far_in (state_for c direction) byte))
+      ∙ ap (λ g. flowed c direction (length c.part + 1 == head_length + body_length c.part) g (byte ∷ [])) (sym flow_after_is)
 
 -- The byte is refused as in its flow ..
-pub lifted-refusal : (limit : ℕ) (c : Context) (direction : Direction) (byte : ℕ) → 8 ≤ c.at → direction_of (kind_of c.part) ≡ Some direction → 5 ≤ length c.part
+pub lifted-refusal : (limit : ℕ) (c : Context) (direction : Direction) (byte : ℕ) → 8 ≤ c.at → direction_of (kind_of c.part) ≡ Some direction → head_length ≤ length c.part
     → refusal_for limit c byte ≡ flow_refusal limit (context_in c direction) (flow_in c direction) byte
 lifted-refusal limit c direction byte past_header goes there = refusal_lifted c direction byte past_header goes there limit
 
 -- .. completes what it does there ..
-pub lifted-placed : (c : Context) (direction : Direction) (byte : ℕ) → 8 ≤ c.at → direction_of (kind_of c.part) ≡ Some direction → 5 ≤ length c.part
+pub lifted-placed : (c : Context) (direction : Direction) (byte : ℕ) → 8 ≤ c.at → direction_of (kind_of c.part) ≡ Some direction → head_length ≤ length c.part
     → placed_for c byte ≡ flow_placed (context_in c direction) (flow_in c direction) byte
 lifted-placed c direction byte past_header goes there = placed_lifted c direction byte past_header goes there
 
 -- .. and leaves what it leaves there.
-pub lifted-after : (c : Context) (direction : Direction) (byte : ℕ) → 8 ≤ c.at → direction_of (kind_of c.part) ≡ Some direction → 5 ≤ length c.part → length c.part < 5 + body_length c.part
-    → after c byte ≡ flowed c direction (length c.part + 1 == 5 + body_length c.part) (flow_after (context_in c direction) (flow_in c direction) byte) (byte ∷ [])
+pub lifted-after : (c : Context) (direction : Direction) (byte : ℕ) → 8 ≤ c.at → direction_of (kind_of c.part) ≡ Some direction → head_length ≤ length c.part → length c.part < head_length + body_length c.part
+    → after c byte ≡ flowed c direction (length c.part + 1 == head_length + body_length c.part) (flow_after (context_in c direction) (flow_in c direction) byte) (byte ∷ [])
 lifted-after c direction byte past_header goes there less = after_lifted c direction byte past_header goes there less
 
 -- The packet so far of a byte of a body is its direction's.
-pub lifted-so_far : (c : Context) (direction : Direction) (byte : ℕ) → direction_of (kind_of c.part) ≡ Some direction → 5 ≤ length c.part → so_far_for c byte ≡ so_far_in (state_for c direction) byte
+pub lifted-so_far : (c : Context) (direction : Direction) (byte : ℕ) → direction_of (kind_of c.part) ≡ Some direction → head_length ≤ length c.part → so_far_for c byte ≡ so_far_in (state_for c direction) byte
 unfolding so_far_for
 lifted-so_far c direction byte goes there =
     let longer : length (c.part ++ byte ∷ []) ≡ length c.part + 1 = length-append c.part (byte ∷ []) in
-    ap (λ b. cond b (so_far_by (direction_of (kind_of (c.part ++ byte ∷ []))) c byte) []) (lt-ltb 5 (length (c.part ++ byte ∷ [])) (omega arith))
+    ap (λ b. cond b (so_far_by (direction_of (kind_of (c.part ++ byte ∷ []))) c byte) []) (lt-ltb head_length (length (c.part ++ byte ∷ [])) (omega arith))
     ∙ ap (λ w. so_far_by w c byte) (ap direction_of (kind_stays c.part (byte ∷ []) there) ∙ goes)
 
 -- the direction that a flow keeps, in what is kept of the log
@@ -283,8 +283,8 @@ flowed_none c directions.Sent = ap (λ t. record c { part = t }) (append-nil c.p
 flowed_none c directions.Recv = ap (λ t. record c { part = t }) (append-nil c.part)
 
 -- a byte of a body after which more of the body stands
-module _ (c : Context) (direction : Direction) (byte next : ℕ) (bytes : List ℕ) (past_header : 8 ≤ c.at) (goes : direction_of (kind_of c.part) ≡ Some direction) (there : 5 ≤ length c.part)
-    (fits : length c.part + length (byte ∷ next ∷ bytes) ≤ 5 + body_length c.part) where
+module _ (c : Context) (direction : Direction) (byte next : ℕ) (bytes : List ℕ) (past_header : 8 ≤ c.at) (goes : direction_of (kind_of c.part) ≡ Some direction) (there : head_length ≤ length c.part)
+    (fits : length c.part + length (byte ∷ next ∷ bytes) ≤ head_length + body_length c.part) where
   abbrev then_flow : Flow
   then_flow = flow_after (context_in c direction) (flow_in c direction) byte
 
@@ -297,7 +297,7 @@ module _ (c : Context) (direction : Direction) (byte next : ℕ) (bytes : List �
   then_is : after c byte ≡ then_kept
   then_is =
       lifted-after c direction byte past_header goes there (omega arith)
-      ∙ ap (λ b. flowed c direction b then_flow (byte ∷ [])) (ne_eqb (length c.part + 1) (5 + body_length c.part) (λ same. (omega arith)))
+      ∙ ap (λ b. flowed c direction b then_flow (byte ∷ [])) (ne_eqb (length c.part + 1) (head_length + body_length c.part) (λ same. (omega arith)))
 
   then_at : 8 ≤ then_kept.at
   then_at = let same : then_flow.at ≡ c.at + 1 = after_at (context_in c direction) (flow_in c direction) byte in omega arith
@@ -305,30 +305,30 @@ module _ (c : Context) (direction : Direction) (byte next : ℕ) (bytes : List �
   then_goes : direction_of (kind_of then_kept.part) ≡ Some direction
   then_goes = ap direction_of (kind_stays c.part (byte ∷ []) there) ∙ goes
 
-  then_there : 5 ≤ length then_kept.part
+  then_there : head_length ≤ length then_kept.part
   then_there = let l = then_longer in omega arith
 
   then_body : body_length then_kept.part ≡ body_length c.part
   then_body = body_stays c.part (byte ∷ []) there
 
-  then_fits : length then_kept.part + length (next ∷ bytes) ≤ 5 + body_length then_kept.part
+  then_fits : length then_kept.part + length (next ∷ bytes) ≤ head_length + body_length then_kept.part
   then_fits = let l = then_longer in let b = then_body in omega arith
 
-  then_less : length then_kept.part < 5 + body_length then_kept.part
+  then_less : length then_kept.part < head_length + body_length then_kept.part
   then_less = let l = then_longer in let b = then_body in omega arith
 
   then_flows : flow_in then_kept direction ≡ then_flow
   then_flows = flow_again c direction then_flow (byte ∷ []) (after_connected (context_in c direction) (flow_in c direction) byte) (after_before (context_in c direction) (flow_in c direction) byte)
 
-  then_whole : (length then_kept.part + length (next ∷ bytes) == 5 + body_length then_kept.part) ≡ (length c.part + length (byte ∷ next ∷ bytes) == 5 + body_length c.part)
+  then_whole : (length then_kept.part + length (next ∷ bytes) == head_length + body_length then_kept.part) ≡ (length c.part + length (byte ∷ next ∷ bytes) == head_length + body_length c.part)
   then_whole =
       let l = then_longer in
       let counted : length (c.part ++ byte ∷ []) + length (next ∷ bytes) ≡ length c.part + length (byte ∷ next ∷ bytes) = omega arith in
-      ap (λ n. n == 5 + body_length then_kept.part) counted ∙ ap (λ n. length c.part + length (byte ∷ next ∷ bytes) == 5 + n) then_body
+      ap (λ n. n == head_length + body_length then_kept.part) counted ∙ ap (λ n. length c.part + length (byte ∷ next ∷ bytes) == head_length + n) then_body
 
 -- Bytes of one body are refused as in their flow ..
-pub lifted-refused : (limit : ℕ) (c : Context) (direction : Direction) (bytes : List ℕ) → 8 ≤ c.at → direction_of (kind_of c.part) ≡ Some direction → 5 ≤ length c.part
-    → length c.part + length bytes ≤ 5 + body_length c.part → refused_in limit c bytes ≡ flow_refused limit (context_in c direction) (flow_in c direction) bytes
+pub lifted-refused : (limit : ℕ) (c : Context) (direction : Direction) (bytes : List ℕ) → 8 ≤ c.at → direction_of (kind_of c.part) ≡ Some direction → head_length ≤ length c.part
+    → length c.part + length bytes ≤ head_length + body_length c.part → refused_in limit c bytes ≡ flow_refused limit (context_in c direction) (flow_in c direction) bytes
 lifted-refused limit c direction [] past_header goes there fits = refl
 lifted-refused limit c direction (byte ∷ []) past_header goes there fits = ap (λ o. option_or o None) (lifted-refusal limit c direction byte past_header goes there)
 lifted-refused limit c direction (byte ∷ next ∷ bytes) past_header goes there fits =
@@ -341,8 +341,8 @@ lifted-refused limit c direction (byte ∷ next ∷ bytes) past_header goes ther
     ∙ ap (λ g. flow_refused limit (context_in c direction) g (next ∷ bytes)) (then_flows c direction byte next bytes past_header goes there fits))
 
 -- .. complete what they do there ..
-pub lifted-events : (c : Context) (direction : Direction) (bytes : List ℕ) → 8 ≤ c.at → direction_of (kind_of c.part) ≡ Some direction → 5 ≤ length c.part
-    → length c.part + length bytes ≤ 5 + body_length c.part → events_by c bytes ≡ flow_events (context_in c direction) (flow_in c direction) bytes
+pub lifted-events : (c : Context) (direction : Direction) (bytes : List ℕ) → 8 ≤ c.at → direction_of (kind_of c.part) ≡ Some direction → head_length ≤ length c.part
+    → length c.part + length bytes ≤ head_length + body_length c.part → events_by c bytes ≡ flow_events (context_in c direction) (flow_in c direction) bytes
 lifted-events c direction [] past_header goes there fits = refl
 lifted-events c direction (byte ∷ []) past_header goes there fits = ap (λ placed. put placed []) (lifted-placed c direction byte past_header goes there)
 lifted-events c direction (byte ∷ next ∷ bytes) past_header goes there fits =
@@ -355,15 +355,15 @@ lifted-events c direction (byte ∷ next ∷ bytes) past_header goes there fits 
     ∙ ap (λ g. flow_events (context_in c direction) g (next ∷ bytes)) (then_flows c direction byte next bytes past_header goes there fits))
 
 -- .. and leave what they leave there.
-pub lifted-after_bytes : (c : Context) (direction : Direction) (bytes : List ℕ) → 8 ≤ c.at → direction_of (kind_of c.part) ≡ Some direction → 5 ≤ length c.part
-    → length c.part < 5 + body_length c.part → length c.part + length bytes ≤ 5 + body_length c.part
-    → after_bytes c bytes ≡ flowed c direction (length c.part + length bytes == 5 + body_length c.part) (flow_after_bytes (context_in c direction) (flow_in c direction) bytes) bytes
+pub lifted-after_bytes : (c : Context) (direction : Direction) (bytes : List ℕ) → 8 ≤ c.at → direction_of (kind_of c.part) ≡ Some direction → head_length ≤ length c.part
+    → length c.part < head_length + body_length c.part → length c.part + length bytes ≤ head_length + body_length c.part
+    → after_bytes c bytes ≡ flowed c direction (length c.part + length bytes == head_length + body_length c.part) (flow_after_bytes (context_in c direction) (flow_in c direction) bytes) bytes
 lifted-after_bytes c direction [] past_header goes there less fits =
-    sym (ap (λ b. flowed c direction b (flow_in c direction) []) (ne_eqb (length c.part + length {A = ℕ} []) (5 + body_length c.part) (λ same. (omega arith))) ∙ flowed_none c direction)
+    sym (ap (λ b. flowed c direction b (flow_in c direction) []) (ne_eqb (length c.part + length {A = ℕ} []) (head_length + body_length c.part) (λ same. (omega arith))) ∙ flowed_none c direction)
 lifted-after_bytes c direction (byte ∷ []) past_header goes there less fits =
     let one : length c.part + 1 ≡ length c.part + length (byte ∷ []) = omega arith in
     lifted-after c direction byte past_header goes there less
-    ∙ ap (λ n. flowed c direction (n == 5 + body_length c.part) (flow_after (context_in c direction) (flow_in c direction) byte) (byte ∷ [])) one
+    ∙ ap (λ n. flowed c direction (n == head_length + body_length c.part) (flow_after (context_in c direction) (flow_in c direction) byte) (byte ∷ [])) one
 lifted-after_bytes c direction (byte ∷ next ∷ bytes) past_header goes there less fits =
     let c' : Context = then_kept c direction byte next bytes past_header goes there fits in
     ap (λ k. after_bytes k (next ∷ bytes)) (then_is c direction byte next bytes past_header goes there fits)
@@ -372,6 +372,6 @@ lifted-after_bytes c direction (byte ∷ next ∷ bytes) past_header goes there 
     (then_there c direction byte next bytes past_header goes there fits) (then_less c direction byte next bytes past_header goes there fits)
     (then_fits c direction byte next bytes past_header goes there fits)
     ∙ ap (λ b. flowed c' direction b (flow_after_bytes (context_in c direction) (flow_in c' direction) (next ∷ bytes)) (next ∷ bytes)) (then_whole c direction byte next bytes past_header goes there fits)
-    ∙ ap (λ g. flowed c' direction (length c.part + length (byte ∷ next ∷ bytes) == 5 + body_length c.part) (flow_after_bytes (context_in c direction) g (next ∷ bytes)) (next ∷ bytes)) (then_flows c direction byte next bytes past_header goes there fits)
-    ∙ flowed_twice c direction (length c.part + length (byte ∷ next ∷ bytes) == 5 + body_length c.part) (flow_after (context_in c direction) (flow_in c direction) byte)
+    ∙ ap (λ g. flowed c' direction (length c.part + length (byte ∷ next ∷ bytes) == head_length + body_length c.part) (flow_after_bytes (context_in c direction) g (next ∷ bytes)) (next ∷ bytes)) (then_flows c direction byte next bytes past_header goes there fits)
+    ∙ flowed_twice c direction (length c.part + length (byte ∷ next ∷ bytes) == head_length + body_length c.part) (flow_after (context_in c direction) (flow_in c direction) byte)
     (flow_after_bytes (context_in c direction) (flow_after (context_in c direction) (flow_in c direction) byte) (next ∷ bytes)) (byte ∷ []) (next ∷ bytes)

@@ -9,7 +9,7 @@ use Rattle.mq_trace.specs.declared.kind.RecordKind.{RecordKind}
 use Rattle.mq_trace.specs.declared.kind.RecordKind.TheVariants as kinds
 use Rattle.mq_trace.specs.declared.kind.Direction.{Direction}
 use Rattle.mq_trace.specs.declared.kind.Direction.TheVariants as directions
-use Rattle.mq_trace.specs.Framing.{kind_named, kind_of, body_length, record_size, direction_of, opens, records}
+use Rattle.mq_trace.specs.Framing.{kind_named, kind_of, body_length, record_size, direction_of, opens, records, head_length}
 use Rattle.mq_trace.specs.Events.{Event, Placed, item_at, event_in, event_of_head, events}
 use Rattle.mq_trace.specs.Context.{Context, emptied, context, so_far_in, so_far_by, so_far_for, state_after, with_completed, after_header, after_part, after, put, placed_with, placed_for, event_for}
 use Rattle.mq_trace.specs.Runs.{after_bytes, events_by}
@@ -38,7 +38,7 @@ so_far_same (Some directions.Recv) c at count byte = refl
 so_far_counted : (c : Context) (at count byte : ℕ) → so_far_for (counted c at count) byte ≡ so_far_for c byte
 unfolding so_far_for
 so_far_counted c at count byte =
-    ap (λ t. cond (nat_lt 5 (length (c.part ++ byte ∷ []))) t []) (so_far_same (direction_of (kind_of (c.part ++ byte ∷ []))) c at count byte)
+    ap (λ t. cond (nat_lt head_length (length (c.part ++ byte ∷ []))) t []) (so_far_same (direction_of (kind_of (c.part ++ byte ∷ []))) c at count byte)
 
 -- The next byte's event doesn't depend on those numbers, ..
 event_known : (c : Context) (byte : ℕ) → 8 ≤ c.at → event_for c byte ≡ event_in (c.part ++ byte ∷ []) (so_far_for c byte)
@@ -303,7 +303,7 @@ record_after c direction x y z w (byte ∷ bytes) h none emitted =
     ∙ ap (headed c direction x y z w h none) (ne_eqb (body_length (head c direction x y z w h none)) 0 (λ e. omega arith)))
     ∙ lifted-after_bytes (headed c direction x y z w h none false) direction (byte ∷ bytes) (omega arith) (ap direction_of (direction_kind_of direction (x ∷ y ∷ z ∷ w ∷ [])) ∙ direction_goes direction) (omega arith) (omega arith) (omega arith)
     ∙ ap (λ t. flowed (headed c direction x y z w h none false) direction t (flow_after_bytes (context_in c direction) (flow_in (headed c direction x y z w h none false) direction) (byte ∷ bytes)) (byte ∷ bytes))
-    (eq-eqb (5 + length (byte ∷ bytes)) (5 + body_length (head c direction x y z w h none)) (omega arith))
+    (eq-eqb (head_length + length (byte ∷ bytes)) (head_length + body_length (head c direction x y z w h none)) (omega arith))
     ∙ ap (λ f. whole_after c direction (flow_after_bytes (context_in c direction) f (byte ∷ bytes))) (entered_same c direction x y z w h none)
 
 record_events : (c : Context) (direction : Direction) (x y z w : ℕ) (body : List ℕ) → 8 ≤ c.at → c.part ≡ [] → from_be_bytes w32 (x ∷ y ∷ z ∷ w ∷ []) ≡ length body

@@ -11,7 +11,7 @@ use Rattle.mq_trace.specs.declared.kind.RecordKind.TheVariants as kinds
 use Rattle.mq_trace.specs.declared.kind.Direction.TheVariants as directions
 use Rattle.mq_trace.specs.declared.refusal.Refusal.{Refusal}
 use Rattle.mq_trace.specs.declared.refusal.Refusal.TheVariants as refusals
-use Rattle.mq_trace.specs.Framing.{kind_named, kind_of, body_length, record_size, opens, direction_of}
+use Rattle.mq_trace.specs.Framing.{kind_named, kind_of, body_length, record_size, opens, direction_of, head_length}
 use Rattle.mq_trace.specs.Events.{Event, opened, closed, rested, released, sent, received, item_at, event_by, event_in, event_of_head}
 use Rattle.mq_trace.specs.Refusals.{Situation, header_refusal, record_refusal, first_that_applies, comes_too_early, allows_length, is_open_kind, is_release_kind, needs_connection}
 use Rattle.mq_trace.specs.Connections.{is_too_early}
@@ -68,7 +68,7 @@ lines_with c part first ends kind event long =
     ∷ []
 
 lines_emitted : (limit : ℕ) (c : Context) (part : List ℕ) (first ends : Bool) (kind : Option RecordKind) (event : Option Event) (long : Bool)
-    → (length part == 1) ≡ first → (length part == 5) ≡ ends → kind_of part ≡ kind → event_in part [] ≡ event
+    → (length part == 1) ≡ first → (length part == head_length) ≡ ends → kind_of part ≡ kind → event_in part [] ≡ event
     → ((first && nat_lt 4294967295 (c.records + 1)) || (is_some event && nat_le 4294967295 c.events)) ≡ long
     → record_refusal limit (situation_with c part) ≡ first_that_applies (lines_with c part first ends kind event long)
 unfolding record_refusal frame_size fixed_header_of
@@ -76,7 +76,7 @@ lines_emitted limit c part first ends kind event long f e k v l =
     let lines = lines_with c part in
     let no = nat_lt 4294967295 (c.records + 1) in
     let full = nat_le 4294967295 c.events in
-    ap (λ t. first_that_applies (lines t (length part == 5) (kind_of part) (event_in part []) ((t && no) || (is_some (event_in part []) && full)))) f
+    ap (λ t. first_that_applies (lines t (length part == head_length) (kind_of part) (event_in part []) ((t && no) || (is_some (event_in part []) && full)))) f
     ∙ ap (λ t. first_that_applies (lines first t (kind_of part) (event_in part []) ((first && no) || (is_some (event_in part []) && full)))) e
     ∙ ap (λ t. first_that_applies (lines first ends t (event_in part []) ((first && no) || (is_some (event_in part []) && full)))) k
     ∙ ap (λ t. first_that_applies (lines first ends kind t ((first && no) || (is_some t && full)))) v
@@ -149,31 +149,31 @@ head_packet : (c : Context) (b : ℕ) → length c.part ≤ 4 → so_far_for c b
 unfolding so_far_for
 head_packet c b h =
     let l = length-append c.part (b ∷ []) in
-    ap (λ t. cond t (so_far_by (direction_of (kind_of (c.part ++ b ∷ []))) c b) []) (le-ltb 5 (length (c.part ++ b ∷ [])) (omega arith))
+    ap (λ t. cond t (so_far_by (direction_of (kind_of (c.part ++ b ∷ []))) c b) []) (le-ltb head_length (length (c.part ++ b ∷ [])) (omega arith))
 
 -- .. and leaves the directions as they are, but for an OPEN.
-head_sent : (state : StreamState) (part : List ℕ) (b : ℕ) → length part ≤ 5 → state_then directions.Sent state part b ≡ cond (opens (kind_of part)) emptied state
+head_sent : (state : StreamState) (part : List ℕ) (b : ℕ) → length part ≤ head_length → state_then directions.Sent state part b ≡ cond (opens (kind_of part)) emptied state
 unfolding state_then
-head_sent state part b h = ap (λ t. cond (opens (kind_of part)) emptied (cond t (state_by directions.Sent (direction_of (kind_of part)) state b) state)) (le-ltb 5 (length part) h)
+head_sent state part b h = ap (λ t. cond (opens (kind_of part)) emptied (cond t (state_by directions.Sent (direction_of (kind_of part)) state b) state)) (le-ltb head_length (length part) h)
 
-head_recv : (state : StreamState) (part : List ℕ) (b : ℕ) → length part ≤ 5 → state_then directions.Recv state part b ≡ cond (opens (kind_of part)) emptied state
+head_recv : (state : StreamState) (part : List ℕ) (b : ℕ) → length part ≤ head_length → state_then directions.Recv state part b ≡ cond (opens (kind_of part)) emptied state
 unfolding state_then
-head_recv state part b h = ap (λ t. cond (opens (kind_of part)) emptied (cond t (state_by directions.Recv (direction_of (kind_of part)) state b) state)) (le-ltb 5 (length part) h)
+head_recv state part b h = ap (λ t. cond (opens (kind_of part)) emptied (cond t (state_by directions.Recv (direction_of (kind_of part)) state b) state)) (le-ltb head_length (length part) h)
 
 -- Where the head isn't whole, there is no event and no whole record.
-headless_event : (kind : Option RecordKind) (part : List ℕ) → (length part == 5) ≡ false → (length part == 7) ≡ false → event_by kind part [] ≡ None
+headless_event : (kind : Option RecordKind) (part : List ℕ) → (length part == head_length) ≡ false → (length part == head_length + 2) ≡ false → event_by kind part [] ≡ None
 headless_event None part five seven = refl
 headless_event (Some kinds.Open) part five seven = ap (λ t. if t then Some opened else None) five
 headless_event (Some kinds.Close) part five seven = ap (λ t. if t then Some closed else None) five
 headless_event (Some kinds.Rest) part five seven = ap (λ t. if t then Some rested else None) five
-headless_event (Some kinds.Release) part five seven = ap (λ t. if t then Some (released (from_be_bytes w16 (drop 5 part))) else None) seven
+headless_event (Some kinds.Release) part five seven = ap (λ t. if t then Some (released (from_be_bytes w16 (drop head_length part))) else None) seven
 headless_event (Some kinds.Sent) part five seven = ap (option_map sent) no_item
 headless_event (Some kinds.Recv) part five seven = ap (option_map received) no_item
 
 headless_record : (part : List ℕ) → length part ≤ 4 → is_some (record_size part) ≡ false
 unfolding record_size
 headless_record part h =
-    ap (λ t. is_some (if t then None else (if nat_le (5 + body_length part) (length part) then Some (5 + body_length part) else None))) (lt-ltb (length part) 5 (omega arith))
+    ap (λ t. is_some (if t then None else (if nat_le (head_length + body_length part) (length part) then Some (head_length + body_length part) else None))) (lt-ltb (length part) head_length (omega arith))
 
 or_nothing : (a b : Bool) → (a || (false && b)) ≡ a
 or_nothing true b = refl
@@ -251,7 +251,7 @@ middle_in : (c : Context) (b : ℕ) → 1 ≤ length c.part → length c.part �
 unfolding event_in
 middle_in c b some short =
     let l = one_longer c b in
-    headless_event (kind_of (c.part ++ b ∷ [])) (c.part ++ b ∷ []) (ne_eqb (length (c.part ++ b ∷ [])) 5 (λ e. omega arith)) (ne_eqb (length (c.part ++ b ∷ [])) 7 (λ e. omega arith))
+    headless_event (kind_of (c.part ++ b ∷ [])) (c.part ++ b ∷ []) (ne_eqb (length (c.part ++ b ∷ [])) head_length (λ e. omega arith)) (ne_eqb (length (c.part ++ b ∷ [])) (head_length + 2) (λ e. omega arith))
 
 -- Bytes 2 to 4 of a record.
 pub middle_refusal : (limit : ℕ) (c : Context) (b : ℕ) → 8 ≤ c.at → 1 ≤ length c.part → length c.part ≤ 3 → refusal_for limit c b ≡ None
@@ -259,7 +259,7 @@ middle_refusal limit c b h some short =
     let part = c.part ++ b ∷ [] in
     let l = one_longer c b in
     refusal_with limit c b part h refl (head_packet c b (omega arith))
-    ∙ lines_emitted limit c part false false (kind_of part) None false (ne_eqb (length part) 1 (λ e. omega arith)) (ne_eqb (length part) 5 (λ e. omega arith)) refl (middle_in c b some short) refl
+    ∙ lines_emitted limit c part false false (kind_of part) None false (ne_eqb (length part) 1 (λ e. omega arith)) (ne_eqb (length part) head_length (λ e. omega arith)) refl (middle_in c b some short) refl
 
 pub middle_event : (c : Context) (b : ℕ) → 8 ≤ c.at → 1 ≤ length c.part → length c.part ≤ 3 → event_for c b ≡ None
 middle_event c b h some short = event_with c b (c.part ++ b ∷ []) h refl (head_packet c b (omega arith)) ∙ middle_in c b some short
@@ -351,11 +351,11 @@ unfolding body_length
 fifth_length k x y z b = refl
 
 -- .. and the event.
-head_event : (kind : RecordKind) (part : List ℕ) → (length part == 5) ≡ true → (length part == 7) ≡ false → event_by (Some kind) part [] ≡ event_of_head kind
+head_event : (kind : RecordKind) (part : List ℕ) → (length part == head_length) ≡ true → (length part == head_length + 2) ≡ false → event_by (Some kind) part [] ≡ event_of_head kind
 head_event kinds.Open part five seven = ap (λ t. if t then Some opened else None) five
 head_event kinds.Close part five seven = ap (λ t. if t then Some closed else None) five
 head_event kinds.Rest part five seven = ap (λ t. if t then Some rested else None) five
-head_event kinds.Release part five seven = ap (λ t. if t then Some (released (from_be_bytes w16 (drop 5 part))) else None) seven
+head_event kinds.Release part five seven = ap (λ t. if t then Some (released (from_be_bytes w16 (drop head_length part))) else None) seven
 head_event kinds.Sent part five seven = ap (option_map sent) no_item
 head_event kinds.Recv part five seven = ap (option_map received) no_item
 
@@ -372,7 +372,7 @@ unfolding event_in
 fifth_in c b kind four is =
     let l = one_longer c b in
     ap (λ k. event_by k (c.part ++ b ∷ []) []) (kind_more c b kind (omega arith) is)
-    ∙ head_event kind (c.part ++ b ∷ []) (eq-eqb (length (c.part ++ b ∷ [])) 5 (omega arith)) (ne_eqb (length (c.part ++ b ∷ [])) 7 (λ e. omega arith))
+    ∙ head_event kind (c.part ++ b ∷ []) (eq-eqb (length (c.part ++ b ∷ [])) head_length (omega arith)) (ne_eqb (length (c.part ++ b ∷ [])) (head_length + 2) (λ e. omega arith))
 
 pub fifth_event : (c : Context) (b : ℕ) (kind : RecordKind) → 8 ≤ c.at → length c.part ≡ 4 → kind_of c.part ≡ Some kind → event_for c b ≡ event_of_head kind
 fifth_event c b kind h four is = event_with c b (c.part ++ b ∷ []) h refl (head_packet c b (omega arith)) ∙ fifth_in c b kind four is
@@ -387,7 +387,7 @@ fifth_refusal limit c b kind h four is =
     let l = one_longer c b in
     let long = is_some (event_of_head kind) && nat_le 4294967295 c.events in
     refusal_with limit c b part h refl (head_packet c b (omega arith))
-    ∙ lines_emitted limit c part false true (Some kind) (event_of_head kind) long (ne_eqb (length part) 1 (λ e. omega arith)) (eq-eqb (length part) 5 (omega arith))
+    ∙ lines_emitted limit c part false true (Some kind) (event_of_head kind) long (ne_eqb (length part) 1 (λ e. omega arith)) (eq-eqb (length part) head_length (omega arith))
     (kind_more c b kind (omega arith) is) (fifth_in c b kind four is) refl
 
 some_if : (t : Bool) (n : ℕ) → is_some (if t then Some n else None) ≡ t
@@ -395,15 +395,15 @@ some_if true n = refl
 some_if false n = refl
 
 -- Whether a record is whole whose head is there.
-headed_record : (part : List ℕ) → 5 ≤ length part → is_some (record_size part) ≡ nat_le (5 + body_length part) (length part)
+headed_record : (part : List ℕ) → head_length ≤ length part → is_some (record_size part) ≡ nat_le (head_length + body_length part) (length part)
 unfolding record_size
 headed_record part h =
-    ap (λ t. is_some (if t then None else (if nat_le (5 + body_length part) (length part) then Some (5 + body_length part) else None))) (le-ltb (length part) 5 h)
-    ∙ some_if (nat_le (5 + body_length part) (length part)) (5 + body_length part)
+    ap (λ t. is_some (if t then None else (if nat_le (head_length + body_length part) (length part) then Some (head_length + body_length part) else None))) (le-ltb (length part) head_length h)
+    ∙ some_if (nat_le (head_length + body_length part) (length part)) (head_length + body_length part)
 
-bodiless : (n m : ℕ) → m ≡ 5 → (t : Bool) → (n == 0) ≡ t → nat_le (5 + n) m ≡ t
-bodiless n m five true is = let none = eqb-true n 0 is in le-leb (5 + n) m (omega arith)
-bodiless n m five false is = let some = eqb-false n 0 is in lt-leb (5 + n) m (omega (arith, some))
+bodiless : (n m : ℕ) → m ≡ head_length → (t : Bool) → (n == 0) ≡ t → nat_le (head_length + n) m ≡ t
+bodiless n m five true is = let none = eqb-true n 0 is in le-leb (head_length + n) m (omega arith)
+bodiless n m five false is = let some = eqb-false n 0 is in lt-leb (head_length + n) m (omega (arith, some))
 
 pub fifth_after : (c : Context) (b : ℕ) → 8 ≤ c.at → length c.part ≡ 4 → (opens (kind_of c.part) ≡ true → (c.sent ≡ emptied) × (c.recv ≡ emptied))
     → after c b ≡ with_completed (record c {
@@ -426,74 +426,74 @@ either_direction false a = refl
 release_packet : (c : Context) (b : ℕ) → kind_of (c.part ++ b ∷ []) ≡ Some kinds.Release → so_far_for c b ≡ []
 unfolding so_far_for
 release_packet c b is =
-    ap (λ k. cond (nat_lt 5 (length (c.part ++ b ∷ []))) (so_far_by (direction_of k) c b) []) is ∙ either_direction (nat_lt 5 (length (c.part ++ b ∷ []))) []
+    ap (λ k. cond (nat_lt head_length (length (c.part ++ b ∷ []))) (so_far_by (direction_of k) c b) []) is ∙ either_direction (nat_lt head_length (length (c.part ++ b ∷ []))) []
 
 release_sent : (state : StreamState) (part : List ℕ) (b : ℕ) → kind_of part ≡ Some kinds.Release → state_then directions.Sent state part b ≡ state
 unfolding state_then
 release_sent state part b is =
-    ap (λ k. cond (opens k) emptied (cond (nat_lt 5 (length part)) (state_by directions.Sent (direction_of k) state b) state)) is ∙ either_direction (nat_lt 5 (length part)) state
+    ap (λ k. cond (opens k) emptied (cond (nat_lt head_length (length part)) (state_by directions.Sent (direction_of k) state b) state)) is ∙ either_direction (nat_lt head_length (length part)) state
 
 release_recv : (state : StreamState) (part : List ℕ) (b : ℕ) → kind_of part ≡ Some kinds.Release → state_then directions.Recv state part b ≡ state
 unfolding state_then
 release_recv state part b is =
-    ap (λ k. cond (opens k) emptied (cond (nat_lt 5 (length part)) (state_by directions.Recv (direction_of k) state b) state)) is ∙ either_direction (nat_lt 5 (length part)) state
+    ap (λ k. cond (opens k) emptied (cond (nat_lt head_length (length part)) (state_by directions.Recv (direction_of k) state b) state)) is ∙ either_direction (nat_lt head_length (length part)) state
 
-release_in : (part : List ℕ) (whole : Bool) → kind_of part ≡ Some kinds.Release → (length part == 7) ≡ whole
-    → event_in part [] ≡ (if whole then Some (released (from_be_bytes w16 (drop 5 part))) else None)
+release_in : (part : List ℕ) (whole : Bool) → kind_of part ≡ Some kinds.Release → (length part == head_length + 2) ≡ whole
+    → event_in part [] ≡ (if whole then Some (released (from_be_bytes w16 (drop head_length part))) else None)
 unfolding event_in
 release_in part whole is seven =
-    ap (λ k. event_by k part []) is ∙ ap (λ t. if t then Some (released (from_be_bytes w16 (drop 5 part))) else None) seven
+    ap (λ k. event_by k part []) is ∙ ap (λ t. if t then Some (released (from_be_bytes w16 (drop head_length part))) else None) seven
 
 -- The first byte of a RELEASE's body ..
-pub release_high_refusal : (limit : ℕ) (c : Context) (b : ℕ) → 8 ≤ c.at → kind_of c.part ≡ Some kinds.Release → length c.part ≡ 5 → refusal_for limit c b ≡ None
+pub release_high_refusal : (limit : ℕ) (c : Context) (b : ℕ) → 8 ≤ c.at → kind_of c.part ≡ Some kinds.Release → length c.part ≡ head_length → refusal_for limit c b ≡ None
 release_high_refusal limit c b h is five =
     let part = c.part ++ b ∷ [] in
     let l = one_longer c b in
     let kind = kind_more c b kinds.Release (omega arith) is in
     refusal_with limit c b part h refl (release_packet c b kind)
-    ∙ lines_emitted limit c part false false (Some kinds.Release) None false (ne_eqb (length part) 1 (λ e. omega arith)) (ne_eqb (length part) 5 (λ e. omega arith)) kind
-    (release_in part false kind (ne_eqb (length part) 7 (λ e. omega arith))) refl
+    ∙ lines_emitted limit c part false false (Some kinds.Release) None false (ne_eqb (length part) 1 (λ e. omega arith)) (ne_eqb (length part) head_length (λ e. omega arith)) kind
+    (release_in part false kind (ne_eqb (length part) (head_length + 2) (λ e. omega arith))) refl
 
-pub release_high_event : (c : Context) (b : ℕ) → 8 ≤ c.at → kind_of c.part ≡ Some kinds.Release → length c.part ≡ 5 → event_for c b ≡ None
+pub release_high_event : (c : Context) (b : ℕ) → 8 ≤ c.at → kind_of c.part ≡ Some kinds.Release → length c.part ≡ head_length → event_for c b ≡ None
 release_high_event c b h is five =
     let part = c.part ++ b ∷ [] in
     let l = one_longer c b in
     let kind = kind_more c b kinds.Release (omega arith) is in
-    event_with c b part h refl (release_packet c b kind) ∙ release_in part false kind (ne_eqb (length part) 7 (λ e. omega arith))
+    event_with c b part h refl (release_packet c b kind) ∙ release_in part false kind (ne_eqb (length part) (head_length + 2) (λ e. omega arith))
 
-pub release_high_after : (c : Context) (b : ℕ) → 8 ≤ c.at → kind_of c.part ≡ Some kinds.Release → body_length c.part ≡ 2 → length c.part ≡ 5
+pub release_high_after : (c : Context) (b : ℕ) → 8 ≤ c.at → kind_of c.part ≡ Some kinds.Release → body_length c.part ≡ 2 → length c.part ≡ head_length
     → after c b ≡ record c { at = c.at + 1; part = c.part ++ b ∷ [] }
 release_high_after c b h is two five =
     let part = c.part ++ b ∷ [] in
     let l = one_longer c b in
     let kind = kind_more c b kinds.Release (omega arith) is in
     let same : body_length part ≡ 2 = body_length-append c.part (b ∷ []) (omega arith) ∙ two in
-    after_with c b part false c.sent c.recv None h refl (headed_record part (omega arith) ∙ lt-leb (5 + body_length part) (length part) (omega arith))
+    after_with c b part false c.sent c.recv None h refl (headed_record part (omega arith) ∙ lt-leb (head_length + body_length part) (length part) (omega arith))
     (release_sent c.sent part b kind) (release_recv c.recv part b kind) (release_high_event c b h is five)
 
 -- .. and the second, with which its Packet Identifier is there.
-six_long : (c : Context) (head : List ℕ) (first : ℕ) → c.part ≡ head ++ first ∷ [] → length head ≡ 5 → length c.part ≡ 6
+six_long : (c : Context) (head : List ℕ) (first : ℕ) → c.part ≡ head ++ first ∷ [] → length head ≡ head_length → length c.part ≡ head_length + 1
 six_long c head first is five = let l = ap length is in let m = length-append head (first ∷ []) in omega arith
 
-identifier_bytes : (c : Context) (b : ℕ) (head : List ℕ) (first : ℕ) → c.part ≡ head ++ first ∷ [] → length head ≡ 5 → drop 5 (c.part ++ b ∷ []) ≡ first ∷ b ∷ []
+identifier_bytes : (c : Context) (b : ℕ) (head : List ℕ) (first : ℕ) → c.part ≡ head ++ first ∷ [] → length head ≡ head_length → drop head_length (c.part ++ b ∷ []) ≡ first ∷ b ∷ []
 identifier_bytes c b head first is five =
-    ap (λ part. drop 5 (part ++ b ∷ [])) is ∙ ap (drop 5) (append_assoc head (first ∷ []) (b ∷ [])) ∙ drop_at head (first ∷ b ∷ []) 5 five
+    ap (λ part. drop head_length (part ++ b ∷ [])) is ∙ ap (drop head_length) (append_assoc head (first ∷ []) (b ∷ [])) ∙ drop_at head (first ∷ b ∷ []) head_length five
 
-release_low_in : (c : Context) (b : ℕ) (head : List ℕ) (first : ℕ) → kind_of c.part ≡ Some kinds.Release → c.part ≡ head ++ first ∷ [] → length head ≡ 5
+release_low_in : (c : Context) (b : ℕ) (head : List ℕ) (first : ℕ) → kind_of c.part ≡ Some kinds.Release → c.part ≡ head ++ first ∷ [] → length head ≡ head_length
     → event_in (c.part ++ b ∷ []) [] ≡ Some (released (from_be_bytes w16 (first ∷ b ∷ [])))
 release_low_in c b head first kind is five =
     let l = one_longer c b in
     let six = six_long c head first is five in
-    release_in (c.part ++ b ∷ []) true (kind_more c b kinds.Release (omega arith) kind) (eq-eqb (length (c.part ++ b ∷ [])) 7 (omega arith))
+    release_in (c.part ++ b ∷ []) true (kind_more c b kinds.Release (omega arith) kind) (eq-eqb (length (c.part ++ b ∷ [])) (head_length + 2) (omega arith))
     ∙ ap (λ bytes. Some (released (from_be_bytes w16 bytes))) (identifier_bytes c b head first is five)
 
-pub release_low_event : (c : Context) (b : ℕ) (head : List ℕ) (first : ℕ) → 8 ≤ c.at → kind_of c.part ≡ Some kinds.Release → c.part ≡ head ++ first ∷ [] → length head ≡ 5
+pub release_low_event : (c : Context) (b : ℕ) (head : List ℕ) (first : ℕ) → 8 ≤ c.at → kind_of c.part ≡ Some kinds.Release → c.part ≡ head ++ first ∷ [] → length head ≡ head_length
     → event_for c b ≡ Some (released (from_be_bytes w16 (first ∷ b ∷ [])))
 release_low_event c b head first h kind is five =
     let six = six_long c head first is five in
     event_with c b (c.part ++ b ∷ []) h refl (release_packet c b (kind_more c b kinds.Release (omega arith) kind)) ∙ release_low_in c b head first kind is five
 
-pub release_low_refusal : (limit : ℕ) (c : Context) (b : ℕ) (head : List ℕ) (first : ℕ) → 8 ≤ c.at → kind_of c.part ≡ Some kinds.Release → c.part ≡ head ++ first ∷ [] → length head ≡ 5
+pub release_low_refusal : (limit : ℕ) (c : Context) (b : ℕ) (head : List ℕ) (first : ℕ) → 8 ≤ c.at → kind_of c.part ≡ Some kinds.Release → c.part ≡ head ++ first ∷ [] → length head ≡ head_length
     → refusal_for limit c b ≡ first_that_applies (
     (kept_too_early c (Some (released (from_be_bytes w16 (first ∷ b ∷ [])))), refusals.TooManyEarly c.at)
     ∷ (nat_le 4294967295 c.events, refusals.TooLong c.at)
@@ -505,9 +505,9 @@ release_low_refusal limit c b head first h kind is five =
     let more = kind_more c b kinds.Release (omega arith) kind in
     refusal_with limit c b part h refl (release_packet c b more)
     ∙ lines_emitted limit c part false false (Some kinds.Release) (Some (released (from_be_bytes w16 (first ∷ b ∷ [])))) (nat_le 4294967295 c.events)
-    (ne_eqb (length part) 1 (λ e. omega arith)) (ne_eqb (length part) 5 (λ e. omega arith)) more (release_low_in c b head first kind is five) refl
+    (ne_eqb (length part) 1 (λ e. omega arith)) (ne_eqb (length part) head_length (λ e. omega arith)) more (release_low_in c b head first kind is five) refl
 
-pub release_low_after : (c : Context) (b : ℕ) (head : List ℕ) (first : ℕ) → 8 ≤ c.at → kind_of c.part ≡ Some kinds.Release → body_length c.part ≡ 2 → c.part ≡ head ++ first ∷ [] → length head ≡ 5
+pub release_low_after : (c : Context) (b : ℕ) (head : List ℕ) (first : ℕ) → 8 ≤ c.at → kind_of c.part ≡ Some kinds.Release → body_length c.part ≡ 2 → c.part ≡ head ++ first ∷ [] → length head ≡ head_length
     → after c b ≡ with_completed (record c { at = c.at + 1; part = []; records = c.records + 1 }) (Some (released (from_be_bytes w16 (first ∷ b ∷ []))))
 release_low_after c b head first h kind two is five =
     let part = c.part ++ b ∷ [] in
@@ -515,5 +515,5 @@ release_low_after c b head first h kind two is five =
     let six = six_long c head first is five in
     let more = kind_more c b kinds.Release (omega arith) kind in
     let same : body_length part ≡ 2 = body_length-append c.part (b ∷ []) (omega arith) ∙ two in
-    after_with c b part true c.sent c.recv (Some (released (from_be_bytes w16 (first ∷ b ∷ [])))) h refl (headed_record part (omega arith) ∙ le-leb (5 + body_length part) (length part) (omega arith))
+    after_with c b part true c.sent c.recv (Some (released (from_be_bytes w16 (first ∷ b ∷ [])))) h refl (headed_record part (omega arith) ∙ le-leb (head_length + body_length part) (length part) (omega arith))
     (release_sent c.sent part b more) (release_recv c.recv part b more) (release_low_event c b head first h kind is five)

@@ -7,7 +7,7 @@ use Rattle.mq_trace.specs.declared.refusal.Refusal.{Refusal}
 use Rattle.mq_trace.specs.declared.refusal.Refusal.TheVariants as refusals
 use Rattle.mq_trace.specs.declared.reading.Reading.{Reading}
 use Rattle.mq_trace.specs.Framing.{header_by}
-use Rattle.mq_trace.specs.Refusals.{magic}
+use Rattle.mq_trace.specs.Framing.{magic, version}
 use Rattle.mq_trace.specs.Events.{Placed}
 use Rattle.mq_trace.specs.Refusals.{Situation, situation, first_that_applies, conditions, header_refusal, record_refusal, refusal_at}
 use Rattle.mq_trace.specs.Refusing.{refusal_offset, moved}
@@ -31,7 +31,7 @@ pub header_offset : (at byte : ℕ) (r : Refusal) → header_refusal at byte ≡
 unfolding header_refusal
 header_offset at byte r e =
     chosen r (nat_lt at 4) _ _ (met at r (byte == slice_index magic at) (refusals.Header at) refl)
-    (chosen r (at == 4) _ _ (met at r (byte == 1) (refusals.Version at) refl)
+    (chosen r (at == 4) _ _ (met at r (byte == version) (refusals.Version at) refl)
     (chosen r (at == 5) _ _ (met at r (nat_lt byte 2) (refusals.Role at) refl)
     (chosen r (at == 6) _ _ (met at r (nat_lt byte 2) (refusals.Flags at) refl)
     (met at r (byte == 0) (refusals.Flags at) refl)))) e

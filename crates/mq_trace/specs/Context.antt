@@ -6,7 +6,7 @@ use Rattle.mq_trace.specs.declared.refusal.Refusal.{Refusal}
 use Rattle.mq_trace.specs.declared.header.Header.{Header}
 use Rattle.mq_trace.specs.Connections.{begins_connection, ends_connection, is_answer, has_open_connection, is_connack_seen, events_before_open}
 use Rattle.mq_packet.specs.Stream.{frame_size, is_lost}
-use Rattle.mq_trace.specs.Framing.{header_by, kind_of, direction_of, opens, record_size, records, begun_records, carried, stream}
+use Rattle.mq_trace.specs.Framing.{header_by, kind_of, direction_of, opens, record_size, records, begun_records, carried, stream, head_length}
 use Rattle.mq_trace.specs.Events.{Event, Placed, event_in, events}
 use Rattle.mq_trace.specs.Refusals.{Situation, header_refusal, record_refusal}
 
@@ -84,7 +84,7 @@ so_far_by None c byte = []
 so_far_by (Some direction) c byte = so_far_in (state_for c direction) byte
 
 unfoldable pub so_far_for : Context → ℕ → List ℕ
-so_far_for c byte = cond (nat_lt 5 (length (c.part ++ byte ∷ []))) (so_far_by (direction_of (kind_of (c.part ++ byte ∷ []))) c byte) []
+so_far_for c byte = cond (nat_lt head_length (length (c.part ++ byte ∷ []))) (so_far_by (direction_of (kind_of (c.part ++ byte ∷ []))) c byte) []
 
 -- the situation of the next byte, from what is kept
 unfoldable pub situated : Context → ℕ → Situation
@@ -135,7 +135,7 @@ state_by _ _ state byte = state
 -- A direction after one more byte of a record: the first byte of an OPEN empties it, and a body byte of this direction is added.
 unfoldable pub state_then : Direction → StreamState → List ℕ → ℕ → StreamState
 state_then direction state part byte = cond (opens (kind_of part)) (record { unfinished = []; lost = false })
-    (cond (nat_lt 5 (length part)) (state_by direction (direction_of (kind_of part)) state byte) state)
+    (cond (nat_lt head_length (length part)) (state_by direction (direction_of (kind_of part)) state byte) state)
 
 -- what is kept after one more event, if there is one
 abbrev pub with_completed : Context → Option Event → Context

@@ -12,7 +12,7 @@ use Rattle.mq_trace.specs.declared.place.Place3.{Place3}
 use Rattle.mq_packet.specs.declared.header.FixedHeader.{FixedHeader}
 use Rattle.mq_packet.specs.declared.header.FixedHeader.TheVariants as headers
 use Rattle.mq_packet.specs.Stream.{fixed_header_of, frame_size, is_lost}
-use Rattle.mq_trace.specs.Framing.{kind_of, direction_of, begun_records, carried, stream}
+use Rattle.mq_trace.specs.Framing.{kind_of, direction_of, begun_records, carried, stream, head_length}
 use Rattle.mq_packet.specs.Entries.{Entry}
 use Rattle.mq_packet.specs.Decoding.{decoded}
 
@@ -74,15 +74,15 @@ part_at before byte = newest_record (begun_records (before ++ byte ∷ []))
 
 -- the bytes so far of the packet that the next byte of a log belongs to, that byte included; none if it belongs to no packet, or the direction was lost before it
 unfoldable pub packet_at : List ℕ → ℕ → List ℕ
-packet_at before byte = cond (nat_lt 5 (length (part_at before byte))) (packet_by (direction_of (kind_of (part_at before byte))) (begun_records before) byte) []
+packet_at before byte = cond (nat_lt head_length (length (part_at before byte))) (packet_by (direction_of (kind_of (part_at before byte))) (begun_records before) byte) []
 
 -- The event that the last byte of a part of a record completes, given its packet so far: OPEN, CLOSE and REST have no body, that of RELEASE is a
 -- Packet Identifier, and SENT and RECV give what their packets are.
 abbrev pub event_by : Option RecordKind → List ℕ → List ℕ → Option Event
-event_by (Some kinds.Open) part so_far = if length part == 5 then Some opened else None
-event_by (Some kinds.Close) part so_far = if length part == 5 then Some closed else None
-event_by (Some kinds.Rest) part so_far = if length part == 5 then Some rested else None
-event_by (Some kinds.Release) part so_far = if length part == 7 then Some (released (from_be_bytes w16 (drop 5 part))) else None
+event_by (Some kinds.Open) part so_far = if length part == head_length then Some opened else None
+event_by (Some kinds.Close) part so_far = if length part == head_length then Some closed else None
+event_by (Some kinds.Rest) part so_far = if length part == head_length then Some rested else None
+event_by (Some kinds.Release) part so_far = if length part == head_length + 2 then Some (released (from_be_bytes w16 (drop head_length part))) else None
 event_by (Some kinds.Sent) part so_far = option_map sent (item_at so_far)
 event_by (Some kinds.Recv) part so_far = option_map received (item_at so_far)
 event_by None part so_far = None

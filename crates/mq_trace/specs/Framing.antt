@@ -1,5 +1,5 @@
--- How a log is laid out, in version 1: a header of eight bytes, and records. A record is a byte that names its kind, the length
--- of its body in four bytes, the most significant first, and the body.
+-- How a log is laid out: a header of eight bytes, and records. A record is a byte that names its kind, the length of its body in
+-- four bytes, the most significant first, and the body.
 use Rattle.std.specs.Prelude.{ℕ, ◌+◌, ◌==◌, nat_lt, nat_le, Bool, true, false, cond, if◌then◌else◌, List, [], ◌∷◌, ◌++◌, length, take, drop, reverse, slice_index, Option, Some, None}
 use Rattle.std.specs.Int.{w32, from_be_bytes}
 use Rattle.mq_trace.specs.declared.kind.RecordKind.{RecordKind}
@@ -9,6 +9,25 @@ use Rattle.mq_trace.specs.declared.kind.Direction.TheVariants as directions
 use Rattle.mq_trace.specs.declared.header.Header.{Header}
 use Rattle.mq_trace.specs.Pieces.{Pieces, pieces}
 use Rattle.mq_packet.specs.Stream.{frame_size}
+
+-- the first four bytes of a log: `MQTR`
+abbrev pub magic : List ℕ
+magic = 77 ∷ 81 ∷ 84 ∷ 82 ∷ []
+
+-- the version of the layout
+abbrev pub version : ℕ
+version = 1
+
+-- the length of a record's head: the byte of its kind, and the length of its body
+abbrev pub head_length : ℕ
+head_length = 5
+
+-- the longest body of a record that carries packets, and a bound on the length of any record
+abbrev pub longest_body : ℕ
+longest_body = 1048576
+
+abbrev pub longest_record : ℕ
+longest_record = head_length + longest_body
 
 -- what the header says: byte 5 is 1 if the tested end is a server, and bit 0 of byte 6 says whether releases are recorded
 abbrev pub header_by : List ℕ → Header
@@ -29,7 +48,7 @@ body_length part = from_be_bytes w32 (take 4 (drop 1 part))
 
 -- the size of the record at the front, if a whole one is there
 unfoldable pub record_size : List ℕ → Option ℕ
-record_size bytes = if nat_lt (length bytes) 5 then None else (if nat_le (5 + body_length bytes) (length bytes) then Some (5 + body_length bytes) else None)
+record_size bytes = if nat_lt (length bytes) head_length then None else (if nat_le (head_length + body_length bytes) (length bytes) then Some (head_length + body_length bytes) else None)
 
 -- the whole records of a log, and the bytes so far of one that isn't whole
 unfoldable pub records : List ℕ → Pieces
@@ -64,7 +83,7 @@ if_direction _ _ bytes = []
 -- what one direction carried on the connection so far, given the records begun, the newest first
 unfoldable pub carried : Direction → List (List ℕ) → List ℕ
 carried direction [] = []
-carried direction (part ∷ before) = cond (opens (kind_of part)) [] (carried direction before ++ if_direction direction (direction_of (kind_of part)) (drop 5 part))
+carried direction (part ∷ before) = cond (opens (kind_of part)) [] (carried direction before ++ if_direction direction (direction_of (kind_of part)) (drop head_length part))
 
 -- one direction's stream of packets: whole frames, and the bytes so far of one that isn't whole
 unfoldable pub stream : List ℕ → Pieces

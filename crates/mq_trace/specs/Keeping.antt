@@ -9,7 +9,7 @@ use Rattle.mq_trace.specs.declared.reading.Reading.{Reading}
 use Rattle.mq_packet.specs.declared.header.FixedHeader.{FixedHeader}
 use Rattle.mq_packet.specs.declared.header.FixedHeader.TheVariants as headers
 use Rattle.mq_packet.specs.Stream.{fixed_header_of}
-use Rattle.mq_trace.specs.Framing.{kind_of, direction_of, body_length}
+use Rattle.mq_trace.specs.Framing.{kind_of, direction_of, body_length, head_length, longest_body, longest_record}
 use Rattle.mq_trace.specs.Events.{Placed}
 use Rattle.mq_trace.specs.Context.{StreamState, Context, so_far_for}
 use Rattle.mq_trace.specs.Runs.{after_bytes, refused_in, events_by}
@@ -31,9 +31,9 @@ abbrev pub IsAt : Stage → List ℕ → Type 0
 IsAt stages.Between part = part ≡ []
 IsAt (stages.Head kind count length_so_far) part = (first : ℕ) × (bytes : List ℕ) × (part ≡ first ∷ bytes)
     × (kind_of part ≡ Some kind) × (length bytes ≡ count) × (length_so_far ≡ spelled_from 0 bytes)
-IsAt (stages.Body direction left) part = (kind : RecordKind) × (kind_of part ≡ Some kind) × (direction_of (Some kind) ≡ Some direction) × (5 ≤ length part) × (length part + left ≡ 5 + body_length part)
-IsAt (stages.Release None) part = (kind_of part ≡ Some kinds.Release) × (length part ≡ 5) × (body_length part ≡ 2)
-IsAt (stages.Release (Some high)) part = (kind_of part ≡ Some kinds.Release) × (length part ≡ 6) × (body_length part ≡ 2) × (slice_index part 5 ≡ high)
+IsAt (stages.Body direction left) part = (kind : RecordKind) × (kind_of part ≡ Some kind) × (direction_of (Some kind) ≡ Some direction) × (head_length ≤ length part) × (length part + left ≡ head_length + body_length part)
+IsAt (stages.Release None) part = (kind_of part ≡ Some kinds.Release) × (length part ≡ head_length) × (body_length part ≡ 2)
+IsAt (stages.Release (Some high)) part = (kind_of part ≡ Some kinds.Release) × (length part ≡ head_length + 1) × (body_length part ≡ 2) × (slice_index part head_length ≡ high)
 
 -- what a reader keeps of a log, if this part is its unfinished record
 abbrev pub context_of : Reading → List ℕ → Context
@@ -54,15 +54,15 @@ context_of r part = record {
 abbrev pub begun_in : Stage → ℕ
 begun_in stages.Between = 0
 begun_in (stages.Head kind count length_so_far) = 1 + count
-begun_in (stages.Body direction left) = 1048581 - left
-begun_in (stages.Release None) = 5
-begun_in (stages.Release (Some high)) = 6
+begun_in (stages.Body direction left) = longest_record - left
+begun_in (stages.Release None) = head_length
+begun_in (stages.Release (Some high)) = head_length + 1
 
 -- the stage's numbers are within their bounds
 abbrev pub IsWithin : Stage → Type 0
 IsWithin stages.Between = Unit {0}
 IsWithin (stages.Head kind count length_so_far) = (count ≤ 3) × ((count ≡ 0 → length_so_far ≡ 0) × (count ≡ 1 → length_so_far < 256) × (count ≡ 2 → length_so_far < 65536) × (length_so_far < 16777216))
-IsWithin (stages.Body direction left) = (1 ≤ left) × (left ≤ 1048576)
+IsWithin (stages.Body direction left) = (1 ≤ left) × (left ≤ longest_body)
 IsWithin (stages.Release first) = Unit {0}
 
 -- A packet whose fixed header is whole isn't larger than the limit, and isn't whole.
@@ -77,7 +77,7 @@ IsUnfinished limit state = IsShort limit state.unfinished (fixed_header_of state
 
 -- What holds of the state that is kept of a log that wasn't refused.
 pub record IsSound (r : Reading) : Type 0 where
-  pub counted : r.at ≤ 8 + 1048581 * r.records + begun_in r.stage
+  pub counted : r.at ≤ 8 + longest_record * r.records + begun_in r.stage
   pub begun : 0 < begun_in r.stage → r.records < 4294967295
   pub within : IsWithin r.stage
   pub past_header : 0 < begun_in r.stage → 8 ≤ r.at

@@ -12,19 +12,15 @@ use Rattle.mq_trace.specs.declared.refusal.Refusal.TheVariants as refusals
 use Rattle.mq_trace.specs.declared.header.Header.{Header}
 use Rattle.mq_trace.specs.Connections.{has_open_connection, is_connack_seen, events_on_connection, is_too_early}
 use Rattle.mq_packet.specs.Stream.{fixed_header_of, frame_size}
-use Rattle.mq_trace.specs.Framing.{header_by, kind_of, body_length, records, begun_records}
+use Rattle.mq_trace.specs.Framing.{header_by, kind_of, body_length, records, begun_records, magic, version, head_length, longest_body}
 use Rattle.mq_trace.specs.Events.{Event, event_in, read_frame, part_at, packet_at, events}
 
--- the first four bytes of a log, `MQTR`, and its version
-abbrev pub magic : List ℕ
-magic = 77 ∷ 81 ∷ 84 ∷ 82 ∷ []
-
--- the refusal of a byte of the header at this offset, if it is invalid: bytes 0 to 3 are `MQTR`, byte 4 is the version, 1, byte 5 the role, 0 or 1,
+-- the refusal of a byte of the header at this offset, if it is invalid: bytes 0 to 3 are `MQTR`, byte 4 is the version, byte 5 the role, 0 or 1,
 -- byte 6 flags, of which only bit 0 is used, and byte 7 is 0
 unfoldable pub header_refusal : ℕ → ℕ → Option Refusal
 header_refusal at byte =
     if nat_lt at 4 then (if byte == slice_index magic at then None else Some (refusals.Header at))
-    else (if at == 4 then (if byte == 1 then None else Some (refusals.Version at))
+    else (if at == 4 then (if byte == version then None else Some (refusals.Version at))
     else (if at == 5 then (if nat_lt byte 2 then None else Some (refusals.Role at))
     else (if at == 6 then (if nat_lt byte 2 then None else Some (refusals.Flags at))
     else (if byte == 0 then None else Some (refusals.Flags at)))))
@@ -66,13 +62,13 @@ abbrev pub is_first : Situation → Bool
 is_first s = length s.part == 1
 
 abbrev pub ends_head : Situation → Bool
-ends_head s = length s.part == 5
+ends_head s = length s.part == head_length
 
 -- a length that a record of this kind may have
 abbrev pub allows_length : Option RecordKind → ℕ → Bool
 allows_length None n = true
-allows_length (Some kinds.Sent) n = nat_le n 1048576
-allows_length (Some kinds.Recv) n = nat_le n 1048576
+allows_length (Some kinds.Sent) n = nat_le n longest_body
+allows_length (Some kinds.Recv) n = nat_le n longest_body
 allows_length (Some kinds.Release) n = n == 2
 allows_length (Some kinds.Open) n = n == 0
 allows_length (Some kinds.Close) n = n == 0
@@ -102,7 +98,7 @@ is_too_large limit so_far headers.Lost = false
 
 -- reading a frame found a CONNECT of another protocol version
 abbrev pub is_other_version : {A : Type 0} → Result A DecodeFault → Bool
-is_other_version (Err (OtherVersion version)) = true
+is_other_version (Err (OtherVersion _)) = true
 is_other_version (Err (Broken fault)) = false
 is_other_version (Ok entry) = false
 

@@ -1,13 +1,14 @@
 -- Pieces of short logs, byte for byte.
-use Rattle.std.specs.Prelude.{ℕ, List, [], ◌∷◌}
+use Rattle.std.specs.Prelude.{ℕ, List, [], ◌∷◌, ◌++◌}
+use Rattle.mq_trace.specs.Framing.{magic, version}
 
 -- the header of a log of a tested client that records releases
 abbrev pub client_header : List ℕ
-client_header = 77 ∷ 81 ∷ 84 ∷ 82 ∷ 1 ∷ 0 ∷ 1 ∷ 0 ∷ []
+client_header = magic ++ version ∷ 0 ∷ 1 ∷ 0 ∷ []
 
 -- the header of a log of a tested client that records no releases
 abbrev pub silent_header : List ℕ
-silent_header = 77 ∷ 81 ∷ 84 ∷ 82 ∷ 1 ∷ 0 ∷ 0 ∷ 0 ∷ []
+silent_header = magic ++ version ∷ 0 ∷ 0 ∷ 0 ∷ []
 
 -- an OPEN
 abbrev pub open_bytes : List ℕ

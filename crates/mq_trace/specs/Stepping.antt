@@ -8,7 +8,7 @@ use Rattle.mq_trace.specs.declared.refusal.Refusal.{Refusal}
 use Rattle.mq_trace.specs.declared.refusal.Refusal.TheVariants as refusals
 use Rattle.mq_trace.specs.declared.stage.Stage.TheVariants as stages
 use Rattle.mq_trace.specs.declared.reading.Reading.{Reading}
-use Rattle.mq_trace.specs.Framing.{kind_named, opens}
+use Rattle.mq_trace.specs.Framing.{kind_named, opens, head_length, longest_body}
 use Rattle.mq_trace.specs.Events.{Event}
 use Rattle.mq_trace.specs.Refusals.{first_that_applies, is_open_kind, needs_connection, is_release_kind}
 use Rattle.mq_trace.specs.Context.{emptied}
@@ -70,10 +70,10 @@ pub record IsBodyHead (r : Reading) (bytes : List ℕ) (direction : Direction) (
   pub between : r.stage ≡ stages.Between
   pub connected : r.connections.connected ≡ true
   pub room : r.records < 4294967295
-  pub whole : 5 ≤ length bytes
+  pub whole : head_length ≤ length bytes
   pub named : kind_named (slice_index bytes 0) ≡ Some (kind_for direction)
   pub spelled : number ≡ from_be_bytes w32 (slice_index bytes 1 ∷ slice_index bytes 2 ∷ slice_index bytes 3 ∷ slice_index bytes 4 ∷ [])
-  pub allowed : number ≤ 1048576
+  pub allowed : number ≤ longest_body
 
 -- after the last byte of a record that completes this event
 abbrev pub marked : Reading → Event → Reading

@@ -1,9 +1,10 @@
--- A log as it is written, in version 1: the bytes of its header and of its records, and what a TraceWriter does with them.
-use Rattle.std.specs.Prelude.{◌≡◌, ℕ, ◌<◌, Bool, true, false, List, [], ◌∷◌, ◌++◌, length, codes, Option}
+-- A log as it is written: the bytes of its header and of its records, and what a TraceWriter does with them.
+use Rattle.std.specs.Prelude.{◌≡◌, ℕ, ◌<◌, Bool, true, false, List, [], ◌∷◌, ◌++◌, length, Option}
 use Rattle.std.specs.Int.{w16, w32, to_be_bytes}
 use Rattle.std.specs.Io.KnownBytes.{Appends}
 use Rattle.mq_trace.specs.declared.header.Header.{Header}
 use Rattle.mq_trace.specs.declared.kind.RecordKind.{RecordKind}
+use Rattle.mq_trace.specs.Framing.{magic, version}
 use Rattle.mq_trace.specs.declared.kind.RecordKind.TheVariants as kinds
 
 -- a bit as a byte
@@ -13,7 +14,7 @@ bit_byte false = 0
 
 -- a header: `MQTR`, the version, a byte that is 1 for a server, one whose bit 0 says that releases are recorded, and a byte that is 0
 abbrev pub header_bytes : Header → List ℕ
-header_bytes header = codes "MQTR" ++ 1 ∷ bit_byte header.server ∷ bit_byte header.releases ∷ 0 ∷ []
+header_bytes header = magic ++ version ∷ bit_byte header.server ∷ bit_byte header.releases ∷ 0 ∷ []
 
 -- a record, and what it carries: bytes, or a Packet Identifier
 pub data Record : Type 0 where

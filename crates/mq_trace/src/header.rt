@@ -14,6 +14,12 @@ pub struct Header {
     pub releases: bool,
 }
 
+/// The first four bytes of a log.
+pub const MAGIC: [u8; 4] = *b"MQTR";
+
+/// The version of the log's layout.
+pub const VERSION: u8 = 1;
+
 /// The header's length, in bytes.
 pub const HEADER_LENGTH: u64 = 8;
 
@@ -30,11 +36,11 @@ pub fn header_refusal(at: u64, byte: u8) -> Option<Refusal>
     ensures { result ≡ header_refusal at byte }
 {
     match at {
-        0 => refused_unless(byte == b'M', Refusal::Header(at)),
-        1 => refused_unless(byte == b'Q', Refusal::Header(at)),
-        2 => refused_unless(byte == b'T', Refusal::Header(at)),
-        3 => refused_unless(byte == b'R', Refusal::Header(at)),
-        4 => refused_unless(byte == 1, Refusal::Version(at)),
+        0 => refused_unless(byte == MAGIC[0], Refusal::Header(at)),
+        1 => refused_unless(byte == MAGIC[1], Refusal::Header(at)),
+        2 => refused_unless(byte == MAGIC[2], Refusal::Header(at)),
+        3 => refused_unless(byte == MAGIC[3], Refusal::Header(at)),
+        4 => refused_unless(byte == VERSION, Refusal::Version(at)),
         5 => refused_unless(byte < 2, Refusal::Role(at)),
         6 => refused_unless(byte < 2, Refusal::Flags(at)),
         _ => refused_unless(byte == 0, Refusal::Flags(at)),
@@ -72,7 +78,7 @@ mod tests {
 
     #[test]
     fn each_byte_is_refused_as_what_it_is(rt: HostRuntime) {
-        let good = [b'M', b'Q', b'T', b'R', 1, 1, 1, 0];
+        let good = [b'M', b'Q', b'T', b'R', VERSION, 1, 1, 0];
         for (at, byte) in good.iter().enumerate() {
             assert_eq!(rt; header_refusal(at as u64, *byte), None, "at {at}");
         }

@@ -30,6 +30,9 @@ pub enum Direction {
     Recv,
 }
 
+/// The length of a record's head, in bytes: its kind, and the length of its body.
+pub const HEAD_LENGTH: usize = 5;
+
 /// The longest body that a SENT or RECV record may have, in bytes.
 pub const LONGEST_BODY: u32 = 1_048_576;
 
@@ -92,8 +95,8 @@ mod tests {
     #[test]
     fn a_kind_allows_its_lengths(rt: HostRuntime) {
         assert_eq!(rt; RecordKind::from_byte(6), Some(RecordKind::Release));
-        assert!(rt; RecordKind::Recv.allows(1_048_576));
-        assert!(rt; !RecordKind::Recv.allows(1_048_577));
+        assert!(rt; RecordKind::Recv.allows(LONGEST_BODY));
+        assert!(rt; !RecordKind::Recv.allows(LONGEST_BODY + 1));
         assert!(rt; !RecordKind::Release.allows(1));
         assert!(rt; !RecordKind::Rest.allows(1));
         assert!(rt; !RecordKind::Release.needs_connection());

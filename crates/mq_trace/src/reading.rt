@@ -7,7 +7,7 @@ ghost use Rattle.mq_trace.specs.Refusing.{refusal_offset};
 ghost use Rattle.std.specs.Int.{w16, w32, from_be_bytes};
 ghost use Rattle.mq_trace.specs.declared.kind.RecordKind.TheVariants as kinds;
 ghost use Rattle.mq_trace.specs.declared.stage.Stage.TheVariants as stages;
-ghost use Rattle.mq_trace.specs.Framing.{kind_named, opens};
+ghost use Rattle.mq_trace.specs.Framing.{kind_named, opens, head_length};
 ghost use Rattle.mq_trace.specs.Events.{Placed};
 ghost use Rattle.mq_trace.specs.Reception.{AreEvents, Declines, event_of};
 ghost use Rattle.mq_trace.specs.Emission.{event_refusal, next_placed, NotEmitted};
@@ -21,14 +21,11 @@ use super::connections::{Connections, emit};
 use super::deframer::{BodyContext, Deframer, consume_whole, whole_packet};
 use super::event::Event;
 use super::header::{HEADER_LENGTH, Header, header_after, header_refusal};
-use super::kind::{Direction, LONGEST_BODY, RecordKind};
+use super::kind::{Direction, HEAD_LENGTH, LONGEST_BODY, RecordKind};
 use super::refusal::Refusal;
 use super::sink::Sink;
 use super::stage::Stage;
 use std::alloc::Global;
-
-/// The length of a record's head, in bytes: its kind, and the length of its body.
-const HEAD_LENGTH: usize = 5;
 
 /// The direction of the packets that a record carries, where this byte begins it and it is a SENT or RECV.
 #[inline(always)]
@@ -139,9 +136,9 @@ impl Reading {
     /// Takes in the head of a SENT or RECV that carries `left` bytes in this direction.
     #[inline(always)]
     fn skip_head(&mut self, direction: Direction, left: u32)
-        requires room { self.old.at + 5 < 2 ^ 64 }
+        requires room { self.old.at + head_length < 2 ^ 64 }
         requires numbered { self.old.records < 4294967295 }
-        ensures { self.new ≡ leaving (record self.old { at = self.old.at + 5 }) direction left }
+        ensures { self.new ≡ leaving (record self.old { at = self.old.at + head_length }) direction left }
     {
         self.at += HEAD_LENGTH as u64;
         self.leave(direction, left);

@@ -2,19 +2,17 @@
 ghost use Rattle.std.specs.Prelude.{◌≡◌, ◌≤◌, false, Some, ◌++◌, ◌∷◌, length, codes, OnOk, OnErr};
 ghost use Rattle.std.specs.Int.{w32, to_be_bytes};
 ghost use Rattle.std.specs.Io.KnownBytes.{Appends};
+ghost use Rattle.mq_trace.specs.Framing.{longest_body};
 ghost use Rattle.mq_trace.specs.Writing.{header_bytes, kind_byte, framed, open_record, close_record, rest_record, sent_record, received_record, release_record, record_bytes, AppendsBeginning, WritesAll, FailsToWrite};
 
 mod laws;
 
-use super::header::Header;
-use super::kind::RecordKind;
+use super::header::{Header, MAGIC, VERSION};
+use super::kind::{HEAD_LENGTH, RecordKind};
 use std::error::Error;
 use std::fmt;
 use std::io::Write;
 use std::marker::Model;
-
-/// The version of the log that is written.
-const VERSION: u8 = 1;
 
 /// Why writing a log failed.
 #[derive(Clone, Copy, Debug, PartialEq, Eq)]
@@ -111,7 +109,7 @@ impl<W: Write> TraceWriter<W> {
     ///
     /// `Write` if a write failed, in this call or in an earlier one.
     pub fn sent(&mut self, body: &[u8]) -> Result<(), WriteFault>
-        requires { length body.now ≤ 1048576 }
+        requires { length body.now ≤ longest_body }
         ensures ok { OnOk result (WritesAll W.contents self.old self.new (record_bytes (sent_record body.now))) }
         ensures write { OnErr result (FailsToWrite W.contents self.old self.new (record_bytes (sent_record body.now))) }
     {
@@ -124,7 +122,7 @@ impl<W: Write> TraceWriter<W> {
     ///
     /// `Write` if a write failed, in this call or in an earlier one.
     pub fn recv(&mut self, body: &[u8]) -> Result<(), WriteFault>
-        requires { length body.now ≤ 1048576 }
+        requires { length body.now ≤ longest_body }
         ensures ok { OnOk result (WritesAll W.contents self.old self.new (record_bytes (received_record body.now))) }
         ensures write { OnErr result (FailsToWrite W.contents self.old self.new (record_bytes (received_record body.now))) }
     {
@@ -176,7 +174,7 @@ impl<W: Write> TraceWriter<W> {
 
     /// Writes a record of this kind, with this body.
     fn record(&mut self, kind: RecordKind, body: &[u8]) -> Result<(), WriteFault>
-        requires { length body.now ≤ 1048576 }
+        requires { length body.now ≤ longest_body }
         ensures ok { OnOk result (WritesAll W.contents self.old self.new (framed (kind_byte kind) body.now)) }
         ensures write { OnErr result (FailsToWrite W.contents self.old self.new (framed (kind_byte kind) body.now)) }
     {
@@ -203,7 +201,8 @@ fn bytes_of(header: Header) -> [u8; 8]
 {
     let server = u8::from(header.server);
     let releases = u8::from(header.releases);
-    [b'M', b'Q', b'T', b'R', VERSION, server, releases, 0]
+    let [m, q, t, r] = MAGIC;
+    [m, q, t, r, VERSION, server, releases, 0]
 }
 
 /// The byte that names a kind of record.
@@ -221,7 +220,7 @@ fn byte_of(kind: RecordKind) -> u8
 }
 
 /// A record's head: the byte of its kind, and the length of its body in bytes.
-fn record_head(kind: RecordKind, length: u32) -> [u8; 5]
+fn record_head(kind: RecordKind, length: u32) -> [u8; HEAD_LENGTH]
     ensures { result ≡ kind_byte kind ∷ to_be_bytes w32 length }
 {
     let [highest, high, low, lowest] = length.to_be_bytes();

@@ -2,15 +2,15 @@
 ghost use Rattle.std.specs.Prelude.{◌≡◌, ◌==◌, ℕ, ◌<◌, ◌≤◌, ◌^◌, List, ◌++◌, length, drop, slice_index, Some};
 ghost use Rattle.std.specs.Int.{w16, from_be_bytes};
 ghost use Rattle.mq_trace.specs.declared.header.Header.{Header as AnyHeader};
-ghost use Rattle.mq_trace.specs.Framing.{record_size, kind_of};
+ghost use Rattle.mq_trace.specs.Framing.{record_size, kind_of, head_length, longest_body};
 ghost use Rattle.mq_trace.specs.Writing.{Record, release_record, record_kind, record_body, record_bytes, header_bytes};
 
 /// A record is read back as it was written, whatever follows it.
 pub fn records_are_read_back()
-    ensures size { (entry : Record) (rest : List ℕ) → length (record_body entry) ≤ 1048576
+    ensures size { (entry : Record) (rest : List ℕ) → length (record_body entry) ≤ longest_body
         → record_size (record_bytes entry ++ rest) ≡ Some (length (record_bytes entry)) }
     ensures kind { (entry : Record) (rest : List ℕ) → kind_of (record_bytes entry ++ rest) ≡ Some (record_kind entry) }
-    ensures body { (entry : Record) → drop 5 (record_bytes entry) ≡ record_body entry }
+    ensures body { (entry : Record) → drop head_length (record_bytes entry) ≡ record_body entry }
     ensures identifier { (identifier : ℕ) → identifier < 2 ^ 16 → from_be_bytes w16 (record_body (release_record identifier)) ≡ identifier }
 {}
 
