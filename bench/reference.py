@@ -466,7 +466,7 @@ REFUSALS = ("", "Header", "Version", "Role", "Flags", "Kind", "Length", "Nested"
             "OtherVersion", "TooManyEarly")
 MOST_EARLY = 4_096  # events of a connection before its CONNACK
 OPEN, SENT, RECV, CLOSE, REST, RELEASE = range(1, 7)
-MOST_IN_RECORD = 1_048_576
+MOST_IN_RECORD = {1: 1_048_576, 2: 16_777_216}  # by version
 DEFAULT_LIMIT = 16_777_216  # the size of a packet, in bytes
 
 
@@ -476,6 +476,7 @@ class Event:
     record: int
     item: Packet | Bad | Lost | None = None
     released: int = 0
+    moment: int = 0
 
 
 @dataclass
@@ -505,7 +506,9 @@ class Recording:
 
     def __init__(self, log: bytes, limit: int = DEFAULT_LIMIT):
         self.log, self.limit = log, limit
-        self.role, self.releases = "client", False
+        self.version, self.role, self.releases = 1, "client", False
+        # of the record that is being read, 0 in version 1
+        self.moment = 0
         self.events: list[Event] = []
         self.is_open, self.has_connack, self.begun_after = False, False, 0
         # What has come of an unfinished packet in each direction; None after Lost.
@@ -528,10 +531,14 @@ class Recording:
             for n in range(1, 5):
                 self.byte(at + n)
             length = int.from_bytes(self.log[at + 1 : at + 5], "big")
-            most = MOST_IN_RECORD if kind in (SENT, RECV) else 2 if kind == RELEASE else 0
+            most = MOST_IN_RECORD[self.version] if kind in (SENT, RECV) else 2 if kind == RELEASE else 0
             if length > most or (kind == RELEASE and length != 2):
                 raise Refusal(6, at + 4)
             at += 5
+            if self.version == 2:
+                self.byte(at + 7)
+                self.moment = int.from_bytes(self.log[at : at + 8], "big")
+                at += 8
             self.read_body(kind, record, at, length)
             at += length
 
@@ -539,10 +546,10 @@ class Recording:
         for at, wanted in enumerate(b"MQTR"):
             if self.byte(at) != wanted:
                 raise Refusal(1, at)
-        for at, number, taken in ((4, 2, (1,)), (5, 3, (0, 1)), (6, 4, (0, 1)), (7, 4, (0,))):
+        for at, number, taken in ((4, 2, (1, 2)), (5, 3, (0, 1)), (6, 4, (0, 1)), (7, 4, (0,))):
             if self.byte(at) not in taken:
                 raise Refusal(number, at)
-        self.role, self.releases = ("client", "server")[self.log[5]], self.log[6] == 1
+        self.version, self.role, self.releases = self.log[4], ("client", "server")[self.log[5]], self.log[6] == 1
 
     def check_kind(self, kind: int, at: int) -> None:
         if not 1 <= kind <= 6:
@@ -605,6 +612,7 @@ class Recording:
         is_early = self.is_open and not self.has_connack and event.kind != CLOSE
         if is_early and len(self.events) - self.begun_after >= MOST_EARLY:
             raise Refusal(13, at)
+        event.moment = self.moment
         self.events.append(event)
 
 

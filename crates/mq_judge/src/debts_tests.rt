@@ -49,6 +49,7 @@ fn judged(alloc: Global, notes: Vec<Note>) -> Result<Faults, Memory> {
         let place = Place3 {
             position,
             record_no: position,
+            moment: 0,
         };
         book.fated(place, position, Fate::Resumed, &note, &mut faults)?;
     }

@@ -12,11 +12,11 @@ use Rattle.mq_trace.specs.declared.kind.Direction.{Direction}
 use Rattle.mq_trace.specs.declared.kind.Direction.TheVariants as directions
 use Rattle.mq_trace.specs.declared.refusal.Refusal.{Refusal}
 use Rattle.mq_trace.specs.declared.header.Header.{Header}
-use Rattle.mq_trace.specs.Framing.{header_by}
+use Rattle.mq_trace.specs.Framing.{header_by, ahead_in, head_length, moment_in}
 use Rattle.mq_trace.specs.Events.{Event, Placed, part_at, packet_at, event_in, event_at, events, packet, bad, lost, opened, closed, sent, received}
 use Rattle.mq_trace.specs.Connections.{begins_connection, ends_connection, is_connack_type, is_answer, has_open_connection, is_connack_seen as trace_connack_seen, events_on_connection, most_early_events}
 use Rattle.mq_trace.specs.Refusals.{Situation, situation, first_that_applies, conditions, header_refusal, record_refusal, refusal_at, refused, comes_too_early}
-use Rattle.mq_trace.specs.Context.{Context, context, event_for, placed_with, placed_for, put}
+use Rattle.mq_trace.specs.Context.{Context, ahead_of, context, event_for, placed_with, placed_for, put}
 use Rattle.mq_trace.proofs.Exports.{refused-grow, event-kept, events-kept, events-header, header-unchanged}
 use Rattle.mq_rules.specs.declared.role.Role.{Role}
 use Rattle.mq_rules.specs.declared.fate.Fate.{Fate}
@@ -60,15 +60,15 @@ abbrev pub role_of : Header → Role
 role_of header = (tested_as header).role
 
 -- a CONNACK from the server
-answer-noted : (server releases : Bool) (e : Event) → is_answer server e ≡ is_some (connack_of (role_of (record { server = server; releases = releases })) (note_of e))
-answer-noted true releases (sent (packet size entry)) = ap is_connack_type (type-noted directions.Sent entry) ∙ connack-typed (packet_fields directions.Sent entry)
-answer-noted true releases (sent (bad bytes rule at)) = refl
-answer-noted true releases (sent lost) = refl
-answer-noted true releases _ = refl
-answer-noted false releases (received (packet size entry)) = ap is_connack_type (type-noted directions.Recv entry) ∙ connack-typed (packet_fields directions.Recv entry)
-answer-noted false releases (received (bad bytes rule at)) = refl
-answer-noted false releases (received lost) = refl
-answer-noted false releases _ = refl
+answer-noted : (version : ℕ) (server releases : Bool) (e : Event) → is_answer server e ≡ is_some (connack_of (role_of (record { version = version; server = server; releases = releases })) (note_of e))
+answer-noted version true releases (sent (packet size entry)) = ap is_connack_type (type-noted directions.Sent entry) ∙ connack-typed (packet_fields directions.Sent entry)
+answer-noted version true releases (sent (bad bytes rule at)) = refl
+answer-noted version true releases (sent lost) = refl
+answer-noted version true releases _ = refl
+answer-noted version false releases (received (packet size entry)) = ap is_connack_type (type-noted directions.Recv entry) ∙ connack-typed (packet_fields directions.Recv entry)
+answer-noted version false releases (received (bad bytes rule at)) = refl
+answer-noted version false releases (received lost) = refl
+answer-noted version false releases _ = refl
 
 begins-noted : (e : Event) → begins_connection e ≡ is_open (note_of e)
 begins-noted opened = refl
@@ -93,7 +93,7 @@ is_connack_seen role log = since (λ m. is_some (connack_of role (note m))) (λ 
 connack_seen-noted : (header : Header) (log : List Placed) → trace_connack_seen header.server log ≡ is_connack_seen (role_of header) (map seen log)
 connack_seen-noted header [] = refl
 connack_seen-noted header (e ∷ past) =
-    ap (λ b. b || (not (begins_connection e.event) && trace_connack_seen header.server past)) (answer-noted header.server header.releases e.event)
+    ap (λ b. b || (not (begins_connection e.event) && trace_connack_seen header.server past)) (answer-noted header.version header.server header.releases e.event)
     ∙ ap (λ b. is_some (connack_of (role_of header) (note_of e.event)) || (not b && trace_connack_seen header.server past)) (begins-noted e.event)
     ∙ ap (λ b. is_some (connack_of (role_of header) (note_of e.event)) || (not (is_open (note_of e.event)) && b)) (connack_seen-noted header past)
 
@@ -157,7 +157,7 @@ none_applies (line ∷ lines) h = go (none_applies lines) line.0 line.1 refl h
     go others true r is e = absurd (cc)
     go others false r is e = (is, others e)
 
-not-early : (limit : ℕ) (s : Situation) → record_refusal limit s ≡ None → comes_too_early s (event_in s.part s.so_far) ≡ false
+not-early : (limit : ℕ) (s : Situation) → record_refusal limit s ≡ None → comes_too_early s (event_in (head_length s.header.version) s.part s.so_far) ≡ false
 unfolding record_refusal
 not-early limit s h = (none_applies (conditions limit s) h).1.1.1.1.1.1.1.0
 
@@ -188,13 +188,13 @@ unrefused-event limit log byte event long unrefused is =
     let after_header : nat_lt (length log) 8 ≡ false = le-ltb (length log) 8 long in
     let none : record_refusal limit (situation log byte) ≡ None =
     sym (ap (λ b. if b then header_refusal (length log) byte else record_refusal limit (situation log byte)) after_header) ∙ unrefused in
-    let here : event_in (part_at log byte) (packet_at log byte) ≡ Some event =
-    sym (ap (λ b. if b then None else event_in (part_at log byte) (packet_at log byte)) after_header) ∙ event-kept log byte ∙ is in
+    let here : event_in (ahead_in log) (part_at log byte) (packet_at log byte) ≡ Some event =
+    sym (ap (λ b. if b then None else event_in (ahead_in log) (part_at log byte) (packet_at log byte)) after_header) ∙ event-kept log byte ∙ is in
     ap (λ b. is_one_too_many b (is_connack_seen (role_of header) log_seen) (length (connection log_seen)) closes answers) (sym (connected-noted (events log)))
     ∙ ap (λ b. is_one_too_many connected b (length (connection log_seen)) closes answers) (sym (connack_seen-noted header (events log)))
     ∙ ap (λ n. is_one_too_many connected connack_seen n closes answers) (sym (on_connection-noted (events log)))
     ∙ ap (λ b. is_one_too_many connected connack_seen count b answers) (sym (ends-noted event))
-    ∙ ap (λ b. is_one_too_many connected connack_seen count (ends_connection event) b) (sym (answer-noted header.server header.releases event))
+    ∙ ap (λ b. is_one_too_many connected connack_seen count (ends_connection event) b) (sym (answer-noted header.version header.server header.releases event))
     ∙ ap (comes_too_early (situation log byte)) (sym here)
     ∙ not-early limit (situation log byte) none
 
@@ -208,18 +208,22 @@ events_context : (log : List ℕ) → (context log).events ≡ length (seen_in l
 unfolding context seen_in
 events_context log = sym (length-map (events log) seen)
 
--- what the statements look at of an event that may have come
-abbrev pub seen_with : Context → Option Event → List Seen → List Seen
-seen_with c None log = log
-seen_with c (Some event) log = record { place = record { position = c.events + 1; record_no = c.records + 1 }; note = note_of event } ∷ log
+-- what the statements look at of an event that may have come, in a record of this moment
+abbrev pub seen_with : Context → ℕ → Option Event → List Seen → List Seen
+seen_with c moment None log = log
+seen_with c moment (Some event) log = record { place = record { position = c.events + 1; record_no = c.records + 1; moment = moment }; note = note_of event } ∷ log
 
-seen_put : (c : Context) (o : Option Event) (log : List Placed) → map seen (put (placed_with c o) log) ≡ seen_with c o (map seen log)
-seen_put c None log = refl
-seen_put c (Some event) log = refl
+seen_put : (c : Context) (moment : ℕ) (o : Option Event) (log : List Placed) → map seen (put (placed_with c moment o) log) ≡ seen_with c moment o (map seen log)
+seen_put c moment None log = refl
+seen_put c moment (Some event) log = refl
 
-pub seen-kept : (log : List ℕ) (byte : ℕ) → seen_in (log ++ byte ∷ []) ≡ seen_with (context log) (event_for (context log) byte) (seen_in log)
+-- the moment of the next byte's record
+abbrev pub moment_so : List ℕ → ℕ → ℕ
+moment_so log byte = moment_in (ahead_of (context log)) ((context log).part ++ byte ∷ [])
+
+pub seen-kept : (log : List ℕ) (byte : ℕ) → seen_in (log ++ byte ∷ []) ≡ seen_with (context log) (moment_so log byte) (event_for (context log) byte) (seen_in log)
 unfolding seen_in placed_for
-seen-kept log byte = ap (map seen) (events-kept log byte) ∙ seen_put (context log) (event_for (context log) byte) (events log)
+seen-kept log byte = ap (map seen) (events-kept log byte) ∙ seen_put (context log) (moment_so log byte) (event_for (context log) byte) (events log)
 
 pub seen-header : (log : List ℕ) → length log ≤ 8 → seen_in log ≡ []
 unfolding seen_in
@@ -268,12 +272,12 @@ few-next role e past in_time none =
         let few : length (connection past) < most_early_events = leb-false most_early_events (length (connection past)) full in
         omega arith
 
-orderly_put : (limit : ℕ) (log : List ℕ) (byte : ℕ) (o : Option Event) → 8 ≤ length log → refusal_at limit log byte ≡ None → event_for (context log) byte ≡ o
-    → IsOrderly (tested_by log).role (seen_in log) → IsOrderly (tested_by log).role (seen_with (context log) o (seen_in log))
-orderly_put limit log byte None long unrefused is before = before
-orderly_put limit log byte (Some event) long unrefused is before = record {
+orderly_put : (limit : ℕ) (log : List ℕ) (byte moment : ℕ) (o : Option Event) → 8 ≤ length log → refusal_at limit log byte ≡ None → event_for (context log) byte ≡ o
+    → IsOrderly (tested_by log).role (seen_in log) → IsOrderly (tested_by log).role (seen_with (context log) moment o (seen_in log))
+orderly_put limit log byte moment None long unrefused is before = before
+orderly_put limit log byte moment (Some event) long unrefused is before = record {
   placed = (ap (λ n. n + 1) (events_context log), before.placed);
-  few = few-next (tested_by log).role (record { place = record { position = (context log).events + 1; record_no = (context log).records + 1 }; note = note_of event }) (seen_in log)
+  few = few-next (tested_by log).role (record { place = record { position = (context log).events + 1; record_no = (context log).records + 1; moment = moment }; note = note_of event }) (seen_in log)
       (unrefused-event limit log byte event long unrefused is);
 }
 
@@ -288,7 +292,7 @@ orderly_step limit log byte false is unrefused before =
     let P : Header → Type 0 = λ header. IsOrderly (role_of header) (seen_in (log ++ byte ∷ [])) in
     subst P (sym (header-unchanged log byte long))
     (subst (IsOrderly (tested_by log).role) (sym (seen-kept log byte))
-    (orderly_put limit log byte (event_for (context log) byte) long unrefused refl before))
+    (orderly_put limit log byte (moment_so log byte) (event_for (context log) byte) long unrefused refl before))
 
 -- a log that isn't refused is like this
 pub orderly : (limit : ℕ) (bytes : List ℕ) → refused limit bytes ≡ None → IsOrderly (tested_by bytes).role (seen_in bytes)

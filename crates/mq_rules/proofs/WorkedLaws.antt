@@ -34,7 +34,7 @@ publish dup i = fields.Publish (record { identifier = Some i; qos = quality.AtLe
 -- the notes of a log, the newest first, at their places
 abbrev pub placed : ℕ → List Note → List Seen
 placed k [] = []
-placed k (n ∷ ns) = record { place = record { position = k; record_no = k }; note = n } ∷ placed (k - 1) ns
+placed k (n ∷ ns) = record { place = record { position = k; record_no = k; moment = 0 }; note = n } ∷ placed (k - 1) ns
 
 abbrev pub client : Tested
 client = record { role = Client; releases = true }

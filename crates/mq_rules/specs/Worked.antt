@@ -31,7 +31,7 @@ client_unrecorded = record { role = Client; releases = false }
 -- a log with these events after it, each in a record of its own
 abbrev pub with_events : List Seen → List Note → List Seen
 with_events past [] = past
-with_events past (n ∷ ns) = with_events (record { place = record { position = length past + 1; record_no = length past + 1 }; note = n } ∷ past) ns
+with_events past (n ∷ ns) = with_events (record { place = record { position = length past + 1; record_no = length past + 1; moment = 0 }; note = n } ∷ past) ns
 
 -- the log of these events, which are given in their order
 abbrev pub log_of : List Note → List Seen

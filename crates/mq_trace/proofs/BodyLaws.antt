@@ -5,26 +5,26 @@ use Rattle.std.proofs.lemmas.Bool.{eqb-true, eqb-false, eq-eqb, ne_eqb}
 use Rattle.std.proofs.lemmas.List.{take-append-le, length-take-le}
 use Rattle.mq_trace.specs.declared.kind.Direction.{Direction}
 use Rattle.mq_trace.specs.declared.kind.Direction.TheVariants as directions
+use Rattle.mq_trace.specs.declared.header.Header.{Header}
+use Rattle.mq_trace.specs.declared.stage.Stage.{Stage}
 use Rattle.mq_trace.specs.declared.stage.Stage.TheVariants as stages
 use Rattle.mq_trace.specs.declared.refusal.Refusal.{Refusal}
 use Rattle.mq_trace.specs.declared.connections.Connections.{Connections}
 use Rattle.mq_trace.specs.declared.deframer.Deframer.{Deframer}
 use Rattle.mq_trace.specs.declared.reading.Reading.{Reading}
-use Rattle.mq_trace.specs.Framing.{kind_of, direction_of, body_length, head_length, longest_body, longest_record}
+use Rattle.mq_trace.specs.Framing.{kind_of, direction_of, body_length, head_length, longest_record}
 use Rattle.mq_trace.specs.Events.{Event, Placed}
 use Rattle.mq_trace.specs.Context.{so_far_in, so_far_for}
 use Rattle.mq_trace.specs.Runs.{after_bytes, refused_in, events_by}
 use Rattle.mq_trace.specs.Flows.{BodyContext, Flow, flow_event, flow_with, flow_after, flow_after_bytes, flow_refused, flow_events, context_in, flow_in, flowed}
 use Rattle.mq_trace.specs.Reception.{AreEvents}
 use Rattle.mq_trace.specs.Deframing.{flow_of, FlowWhy, FlowStops}
-use Rattle.mq_trace.specs.Keeping.{state_in, IsAt, context_of, begun_in, IsWithin, IsUnfinished, IsSound, Advances, Comes, StepStops}
-use Rattle.mq_trace.specs.Stepping.{context_for, deframer_for, flow_for, redirected, leaving, carried_on}
-use Rattle.mq_trace.proofs.FramingLaws.{body_length-append, kind_of-append}
+use Rattle.mq_trace.specs.Keeping.{state_in, IsAt, StandsAt, context_of, begun_in, IsWithin, IsUnfinished, IsSound, Advances, Comes, StepStops}
+use Rattle.mq_trace.specs.Stepping.{in_record_of, context_for, deframer_for, flow_for, redirected, leaving, carried_on}
+use Rattle.mq_trace.proofs.FramingLaws.{head_least, body_length-append, kind_of-append}
+use Rattle.mq_trace.proofs.MomentLaws.{moment_stays}
 use Rattle.mq_trace.proofs.EndLaws.{left_sound}
 use Rattle.mq_trace.proofs.LiftLaws.{lifted-so_far, state_flowed, lifted-refused, lifted-events, lifted-after_bytes}
-
-context_same : (r : Reading) (direction : Direction) (part : List ℕ) → context_in (context_of r part) direction ≡ context_for r direction
-context_same r direction part = refl
 
 flow_same : (r : Reading) (direction : Direction) (part : List ℕ) → flow_in (context_of r part) direction ≡ flow_for r direction
 flow_same r directions.Sent part = refl
@@ -63,6 +63,14 @@ place_same : (r : Reading) (direction : Direction) (d : Deframer) → (redirecte
 place_same r directions.Sent d = refl
 place_same r directions.Recv d = refl
 
+header_same : (r : Reading) (direction : Direction) (d : Deframer) → (redirected r direction d).header ≡ r.header
+header_same r directions.Sent d = refl
+header_same r directions.Recv d = refl
+
+moment_same : (r : Reading) (direction : Direction) (d : Deframer) → (redirected r direction d).moment ≡ r.moment
+moment_same r directions.Sent d = refl
+moment_same r directions.Recv d = refl
+
 flowed_context : (r : Reading) (direction : Direction) (part bytes : List ℕ) (d : Deframer) (connections : Connections) (at left : ℕ) → connections.connected ≡ r.connections.connected → connections.before_open ≡ r.connections.before_open
     → flowed (context_of r part) direction (left == 0) (flow_of at (state_in d) connections) bytes ≡ context_of (carried_on r direction at d connections left) (cond (left == 0) [] (part ++ bytes))
 flowed_context r directions.Sent part bytes d connections at left same before =
@@ -72,15 +80,15 @@ flowed_context r directions.Recv part bytes d connections at left same before =
     ap (λ b. record (context_of (carried_on r directions.Recv at d connections left) (cond (left == 0) [] (part ++ bytes))) { connected = b; before_open = r.connections.before_open }) (sym same)
     ∙ ap (λ n. record (context_of (carried_on r directions.Recv at d connections left) (cond (left == 0) [] (part ++ bytes))) { before_open = n }) (sym before)
 
-redirected_sound : (r : Reading) (direction : Direction) (d : Deframer) (connections : Connections) (at left : ℕ) → at ≤ 8 + longest_record * r.records + (longest_record - left) → left ≤ longest_body → 8 ≤ at → r.records < 4294967295
+redirected_sound : (r : Reading) (direction : Direction) (d : Deframer) (connections : Connections) (at left : ℕ) → at ≤ 8 + longest_record * r.records + (longest_record - left) → left ≤ 16777216 → 8 ≤ at → r.records < 4294967295
     → IsUnfinished r.limit (state_in r.sent) → IsUnfinished r.limit (state_in r.recv) → IsUnfinished r.limit (state_in d) → IsSound (carried_on r direction at d connections left)
 redirected_sound r directions.Sent d connections at left counted short past_header room sent recv own = left_sound (record r { sent = d; at = at; connections = connections }) directions.Sent left counted short past_header room own recv
 redirected_sound r directions.Recv d connections at left counted short past_header room sent recv own = left_sound (record r { recv = d; at = at; connections = connections }) directions.Recv left counted short past_header room sent own
 
 -- within a body of which so many bytes are still to come
 module _ (r : Reading) (direction : Direction) (left : ℕ) (sound : IsSound r) (staged : r.stage ≡ stages.Body direction left) where
-  body_within : (1 ≤ left) × (left ≤ longest_body)
-  body_within = subst IsWithin staged sound.within
+  body_within : (1 ≤ left) × (left ≤ 16777216)
+  body_within = subst (IsWithin r.header.version r.moment) staged sound.within
 
   pub body_after : 8 ≤ r.at
   body_after = let some : begun_in r.stage ≡ longest_record - left = ap begun_in staged in let few = body_within.1 in sound.past_header (omega arith)
@@ -91,23 +99,29 @@ module _ (r : Reading) (direction : Direction) (left : ℕ) (sound : IsSound r) 
   pub body_counted : r.at ≤ 8 + longest_record * r.records + (longest_record - left)
   body_counted = let some : begun_in r.stage ≡ longest_record - left = ap begun_in staged in omega (arith, sound.counted)
 
-  body_is : (part : List ℕ) → IsAt r.stage part → IsAt (stages.Body direction left) part
-  body_is part at = subst (λ s. IsAt s part) staged at
+  body_is : (part : List ℕ) → StandsAt r part → IsAt (head_length r.header.version) r.moment (stages.Body direction left) part
+  body_is part at = subst (λ s. IsAt (head_length r.header.version) r.moment s part) staged at
 
-  body_goes : (part : List ℕ) → IsAt r.stage part → direction_of (kind_of part) ≡ Some direction
+  -- the record is the one whose moment the reader keeps
+  context_same : (part : List ℕ) → StandsAt r part → context_in (context_of r part) direction ≡ context_for r direction
+  context_same part at = ap (λ m. record (context_for r direction) { in_record = in_record_of r m }) (body_is part at).5
+
+  body_goes : (part : List ℕ) → StandsAt r part → direction_of (kind_of part) ≡ Some direction
   body_goes part at = let h = body_is part at in ap direction_of h.1 ∙ h.2
 
-  body_fits : (part bytes : List ℕ) → IsAt r.stage part → length bytes ≤ left → length part + length bytes ≤ head_length + body_length part
-  body_fits part bytes at short = let h = body_is part at in let there : head_length ≤ length part = h.3 in let size : length part + left ≡ head_length + body_length part = h.4 in omega arith
+  body_fits : (part bytes : List ℕ) → StandsAt r part → length bytes ≤ left → length part + length bytes ≤ head_length r.header.version + body_length part
+  body_fits part bytes at short = let h = body_is part at in let there : head_length r.header.version ≤ length part = h.3 in let size : length part + left ≡ head_length r.header.version + body_length part = h.4 in omega arith
 
-  pub body_refused : (part bytes : List ℕ) → IsAt r.stage part → length bytes ≤ left → refused_in r.limit (context_of r part) bytes ≡ flow_refused r.limit (context_for r direction) (flow_for r direction) bytes
+  pub body_refused : (part bytes : List ℕ) → StandsAt r part → length bytes ≤ left → refused_in r.limit (context_of r part) bytes ≡ flow_refused r.limit (context_for r direction) (flow_for r direction) bytes
   body_refused part bytes at short =
       lifted-refused r.limit (context_of r part) direction bytes body_after (body_goes part at) (body_is part at).3 (body_fits part bytes at short)
+      ∙ ap (λ context. flow_refused r.limit context (flow_in (context_of r part) direction) bytes) (context_same part at)
       ∙ ap (λ f. flow_refused r.limit (context_for r direction) f bytes) (flow_same r direction part)
 
-  pub body_events : (part bytes : List ℕ) → IsAt r.stage part → length bytes ≤ left → events_by (context_of r part) bytes ≡ flow_events (context_for r direction) (flow_for r direction) bytes
+  pub body_events : (part bytes : List ℕ) → StandsAt r part → length bytes ≤ left → events_by (context_of r part) bytes ≡ flow_events (context_for r direction) (flow_for r direction) bytes
   body_events part bytes at short =
       lifted-events (context_of r part) direction bytes body_after (body_goes part at) (body_is part at).3 (body_fits part bytes at short)
+      ∙ ap (λ context. flow_events context (flow_in (context_of r part) direction) bytes) (context_same part at)
       ∙ ap (λ f. flow_events (context_for r direction) f bytes) (flow_same r direction part)
 
   same_end : (n n' m m' : ℕ) → n + m ≡ n' + m' → (n == n') ≡ (m == m')
@@ -117,28 +131,30 @@ module _ (r : Reading) (direction : Direction) (left : ℕ) (sound : IsSound r) 
       by_cases true is = let same = eqb-true m m' is in eq-eqb n n' (omega arith)
       by_cases false is = let other = eqb-false m m' is in ne_eqb n n' (λ same. other (omega arith))
 
-  left_whole : (part bytes : List ℕ) → IsAt r.stage part → length bytes ≤ left → (length part + length bytes == head_length + body_length part) ≡ (left - length bytes == 0)
+  left_whole : (part bytes : List ℕ) → StandsAt r part → length bytes ≤ left → (length part + length bytes == head_length r.header.version + body_length part) ≡ (left - length bytes == 0)
   left_whole part bytes at short =
       let h = body_is part at in
-      let size : length part + left ≡ head_length + body_length part = h.4 in
-      same_end (length part + length bytes) (head_length + body_length part) (left - length bytes) 0 (omega arith)
+      let size : length part + left ≡ head_length r.header.version + body_length part = h.4 in
+      same_end (length part + length bytes) (head_length r.header.version + body_length part) (left - length bytes) 0 (omega arith)
 
-  pub body_kept : (part bytes : List ℕ) → IsAt r.stage part → length bytes ≤ left
+  pub body_kept : (part bytes : List ℕ) → StandsAt r part → length bytes ≤ left
       → after_bytes (context_of r part) bytes ≡ flowed (context_of r part) direction (left - length bytes == 0) (flow_after_bytes (context_for r direction) (flow_for r direction) bytes) bytes
   body_kept part bytes at short =
       let h = body_is part at in
-      let size : length part + left ≡ head_length + body_length part = h.4 in
+      let size : length part + left ≡ head_length r.header.version + body_length part = h.4 in
       let some : 1 ≤ left = body_within.0 in
       lifted-after_bytes (context_of r part) direction bytes body_after (body_goes part at) h.3 (omega arith) (body_fits part bytes at short)
-      ∙ ap (λ f. flowed (context_of r part) direction (length part + length bytes == head_length + body_length part) (flow_after_bytes (context_for r direction) f bytes) bytes) (flow_same r direction part)
+      ∙ ap (λ context. flowed (context_of r part) direction (length part + length bytes == head_length r.header.version + body_length part) (flow_after_bytes context (flow_in (context_of r part) direction) bytes) bytes) (context_same part at)
+      ∙ ap (λ f. flowed (context_of r part) direction (length part + length bytes == head_length r.header.version + body_length part) (flow_after_bytes (context_for r direction) f bytes) bytes) (flow_same r direction part)
       ∙ ap (λ t. flowed (context_of r part) direction t (flow_after_bytes (context_for r direction) (flow_for r direction) bytes) bytes) (left_whole part bytes at short)
 
   -- The packet of a byte after them is the direction's.
-  pub body_so_far : (part bytes : List ℕ) (byte : ℕ) → IsAt r.stage part → length bytes < left
+  pub body_so_far : (part bytes : List ℕ) (byte : ℕ) → StandsAt r part → length bytes < left
       → so_far_for (after_bytes (context_of r part) bytes) byte ≡ so_far_in (flow_after_bytes (context_for r direction) (flow_for r direction) bytes).state byte
   body_so_far part bytes byte at short =
       let h = body_is part at in
-      let there : head_length ≤ length part = h.3 in
+      let there : head_length r.header.version ≤ length part = h.3 in
+      let least = head_least r.header.version in
       let some : 0 < left - length bytes = omega arith in
       let goes_on : (left - length bytes == 0) ≡ false = ne_eqb (left - length bytes) 0 (λ same. (omega arith)) in
       let f : Flow = flow_after_bytes (context_for r direction) (flow_for r direction) bytes in
@@ -150,16 +166,25 @@ module _ (r : Reading) (direction : Direction) (left : ℕ) (sound : IsSound r) 
       ∙ ap (λ state. so_far_in state byte) (state_flowed (context_of r part) direction f bytes)
 
   -- where the part is after them
-  left_at : (part bytes : List ℕ) → IsAt r.stage part → length bytes ≤ left → (t : Bool) → (left - length bytes == 0) ≡ t
-      → IsAt (if t then stages.Between else stages.Body direction (left - length bytes)) (cond t [] (part ++ bytes))
+  left_at : (part bytes : List ℕ) → StandsAt r part → length bytes ≤ left → (t : Bool) → (left - length bytes == 0) ≡ t
+      → IsAt (head_length r.header.version) r.moment (if t then stages.Between else stages.Body direction (left - length bytes)) (cond t [] (part ++ bytes))
   left_at part bytes at short true is = refl
   left_at part bytes at short false is =
       let h = body_is part at in
-      let there : head_length ≤ length part = h.3 in
-      let size : length part + left ≡ head_length + body_length part = h.4 in
+      let there : head_length r.header.version ≤ length part = h.3 in
+      let size : length part + left ≡ head_length r.header.version + body_length part = h.4 in
       let l = length-append part bytes in
-      let body = body_length-append part bytes there in
-      (h.0, kind_of-append part bytes (omega arith) ∙ h.1, h.2, omega arith, omega arith)
+      let least = head_least r.header.version in
+      let body = body_length-append part bytes (omega arith) in
+      (h.0, kind_of-append part bytes (omega arith) ∙ h.1, h.2, omega arith, omega arith, moment_stays (head_length r.header.version) part bytes there ∙ h.5)
+
+  left_stands : (part bytes : List ℕ) (d : Deframer) (connections : Connections) (at : ℕ) → StandsAt r part → length bytes ≤ left
+      → StandsAt (carried_on r direction at d connections (left - length bytes)) (cond (left - length bytes == 0) [] (part ++ bytes))
+  left_stands part bytes d connections at is short =
+      let stage : Stage = if left - length bytes == 0 then stages.Between else stages.Body direction (left - length bytes) in
+      let rest : List ℕ = cond (left - length bytes == 0) [] (part ++ bytes) in
+      subst (λ m. IsAt (head_length (redirected r direction d).header.version) m stage rest) (sym (moment_same r direction d))
+      (subst (λ (t : Header). IsAt (head_length t.version) r.moment stage rest) (sym (header_same r direction d)) (left_at part bytes is short (left - length bytes == 0) refl))
 
   -- Bytes of one body that are taken in.
   pub body_steps : (bytes : List ℕ) (d : Deframer) (connections : Connections) (at : ℕ) → length bytes ≤ left
@@ -170,7 +195,7 @@ module _ (r : Reading) (direction : Direction) (left : ℕ) (sound : IsSound r) 
     limit = limit_same r direction d;
     each = λ part is. (
       cond (left - length bytes == 0) [] (part ++ bytes),
-      left_at part bytes is short (left - length bytes == 0) refl,
+      left_stands part bytes d connections at is short,
       body_refused part bytes is short ∙ none,
       body_kept part bytes is short
           ∙ ap (λ f. flowed (context_of r part) direction (left - length bytes == 0) f bytes) kept
@@ -211,7 +236,7 @@ module _ (r : Reading) (direction : Direction) (left : ℕ) (sound : IsSound r) 
   body_sound count d connections few unfinished =
       let after_bytes = body_after in
       let counted = body_counted in
-      let short : left ≤ longest_body = body_within.1 in
+      let short : left ≤ 16777216 = body_within.1 in
       redirected_sound r direction d connections (r.at + count) (left - count) (omega arith) (omega arith) (omega arith) body_room sound.sent sound.recv unfinished
 
   -- The step that passes bytes of one body on.

@@ -76,7 +76,7 @@ module _ {S : Type 0} (agrees : S → List Placed → Type 0) (declines : S → 
   lost_after_bytes : is_lost (u ++ byte ∷ []) ≡ true → flow_after_bytes (body_context context) before (byte ∷ []) ≡ flow_of (at + 1) lost_state (connections_with context.server c (item_event context.direction lost))
   lost_after_bytes l = loses-after (body_context context) before u byte refl l ∙ flow_then context (at + 1) lost_state c (Some lost)
 
-  lost_events : is_lost (u ++ byte ∷ []) ≡ true → flow_events (body_context context) before (byte ∷ []) ≡ next_placed c context.record_no (item_event context.direction lost) ∷ []
+  lost_events : is_lost (u ++ byte ∷ []) ≡ true → flow_events (body_context context) before (byte ∷ []) ≡ next_placed c context.in_record (item_event context.direction lost) ∷ []
   lost_events l = ap (λ (o : Option Placed). put o []) (loses-placed (body_context context) before u byte refl l)
 
   lost_met : is_lost (u ++ byte ∷ []) ≡ true → flow_refused limit (body_context context) before (byte ∷ []) ≡ event_refusal at context.server c (item_event context.direction lost)
@@ -84,12 +84,12 @@ module _ {S : Type 0} (agrees : S → List Placed → Type 0) (declines : S → 
 
   pub lost_comes : {A : Type 0} (r : Result A Refusal) (c' : Connections) (old new : S) → fixed_header_of (u ++ byte ∷ []) ≡ headers.Lost
       → OnOk r ((event_refusal at context.server c (item_event context.direction lost) ≡ None) × (c' ≡ connections_with context.server c (item_event context.direction lost)))
-      → ((earlier : List Placed) → agrees old earlier → AreEvents (next_placed c context.record_no (item_event context.direction lost) ∷ earlier) → OnOk r (agrees new (next_placed c context.record_no (item_event context.direction lost) ∷ earlier)))
+      → ((earlier : List Placed) → agrees old earlier → AreEvents (next_placed c context.in_record (item_event context.direction lost) ∷ earlier) → OnOk r (agrees new (next_placed c context.in_record (item_event context.direction lost) ∷ earlier)))
       → OnOk r (FlowComes agrees limit (body_context context) before (flow_of (at + 1) lost_state c') (byte ∷ []) old new)
   lost_comes (Err refusal) c' old new gone ok emitted = tt
   lost_comes (Ok x) c' old new gone ok emitted =
       (let l : is_lost (u ++ byte ∷ []) ≡ true = header_lost (u ++ byte ∷ []) gone in
-      let same : (earlier : List Placed) → flow_events (body_context context) before (byte ∷ []) ++ earlier ≡ next_placed c context.record_no (item_event context.direction lost) ∷ earlier
+      let same : (earlier : List Placed) → flow_events (body_context context) before (byte ∷ []) ++ earlier ≡ next_placed c context.in_record (item_event context.direction lost) ∷ earlier
       = λ earlier. ap (λ (completed : List Placed). completed ++ earlier) (lost_events l) in
       record {
         unrefused = lost_met l ∙ ok.0;
@@ -98,7 +98,7 @@ module _ {S : Type 0} (agrees : S → List Placed → Type 0) (declines : S → 
       })
 
   pub lost_stops : {A : Type 0} (r : Result A Refusal) (old new : S) → fixed_header_of (u ++ byte ∷ []) ≡ headers.Lost
-      → IfErr r (λ refusal. NotEmitted declines at (event_refusal at context.server c (item_event context.direction lost)) (next_placed c context.record_no (item_event context.direction lost) ∷ []) old new refusal)
+      → IfErr r (λ refusal. NotEmitted declines at (event_refusal at context.server c (item_event context.direction lost)) (next_placed c context.in_record (item_event context.direction lost) ∷ []) old new refusal)
       → IfErr r (λ refusal. FlowStops declines limit (body_context context) before (byte ∷ []) old new refusal)
   lost_stops (Ok x) old new gone unemitted = tt
   lost_stops (Err refusal) old new gone unemitted =
@@ -115,8 +115,8 @@ module _ {S : Type 0} (agrees : S → List Placed → Type 0) (declines : S → 
             (why_by (so_far_in (going_on u) byte) (flow_refused limit (body_context context) before (byte ∷ [])) (flow_events (body_context context) before (byte ∷ [])) (lost_met l) (lost_events l) unemitted);
       })
     where
-      why_by : (so_far : List ℕ) (met : Option Refusal) (completed : List Placed) → met ≡ event_refusal at context.server c (item_event context.direction lost) → completed ≡ next_placed c context.record_no (item_event context.direction lost) ∷ []
-          → NotEmitted declines at (event_refusal at context.server c (item_event context.direction lost)) (next_placed c context.record_no (item_event context.direction lost) ∷ []) old new refusal → FlowWhy declines at so_far met completed old new refusal
+      why_by : (so_far : List ℕ) (met : Option Refusal) (completed : List Placed) → met ≡ event_refusal at context.server c (item_event context.direction lost) → completed ≡ next_placed c context.in_record (item_event context.direction lost) ∷ []
+          → NotEmitted declines at (event_refusal at context.server c (item_event context.direction lost)) (next_placed c context.in_record (item_event context.direction lost) ∷ []) old new refusal → FlowWhy declines at so_far met completed old new refusal
       why_by so_far met completed same one (inl x) = inl (same ∙ x.0, x.1)
       why_by so_far met completed same one (inr x) = inr (inr (same ∙ x.0, ap length one, subst (λ (l : List Placed). RefusedBySink declines at l old new refusal) (sym one) x.1))
 

@@ -1,22 +1,30 @@
 -- The head of a record that carries packets, all at once.
-use Rattle.std.proofs.Common.{◌≡◌, ℕ, ◌+◌, ◌*◌, ◌<◌, ◌≤◌, Bool, true, false, List, [], ◌∷◌, ◌++◌, length, take, drop, Some, None, refl, sym, ◌∙◌, ap, subst, arith, zero, suc}
-use Rattle.std.specs.Prelude.{not, nat_lt, slice_index}
+use Rattle.std.proofs.Common.{◌≡◌, ℕ, ◌+◌, ◌-◌, ◌<◌, ◌≤◌, Bool, true, false, cond, ◌&&◌, nat_lt, List, [], ◌∷◌, ◌++◌, length, take, drop, Some, None, is_some, refl, sym, ◌∙◌, ap, subst, arith, zero, suc, length-append, append_assoc}
+use Rattle.std.specs.Prelude.{◌==◌, nat_le, not, if◌then◌else◌, slice_index}
 use Rattle.std.specs.Int.{w32, from_be_bytes}
+use Rattle.std.specs.Option.{option_or}
 use Rattle.std.proofs.lemmas.Bool.{le-leb, le-ltb}
 use Rattle.std.proofs.lemmas.List.{take-append-drop, length-take-le}
 use Rattle.mq_trace.specs.declared.kind.Direction.{Direction}
 use Rattle.mq_trace.specs.declared.kind.Direction.TheVariants as directions
 use Rattle.mq_trace.specs.declared.refusal.Refusal.{Refusal}
 use Rattle.mq_trace.specs.declared.refusal.Refusal.TheVariants as refusals
+use Rattle.mq_trace.specs.declared.stage.Stage.TheVariants as stages
 use Rattle.mq_trace.specs.declared.reading.Reading.{Reading}
-use Rattle.mq_trace.specs.Framing.{kind_named, direction_of, head_length, longest_body}
+use Rattle.mq_trace.specs.Framing.{kind_named, kind_of, body_length, direction_of, opens, moment_in, length_end, head_length, longest_body}
 use Rattle.mq_trace.specs.Events.{Placed, event_of_head}
 use Rattle.mq_trace.specs.Refusals.{first_that_applies, allows_length}
-use Rattle.mq_trace.specs.Keeping.{IsSound, Advances, Comes, StepStops}
-use Rattle.mq_trace.specs.Stepping.{kind_refusal, kind_for, IsBodyHead, BeginsRecord, in_head, leaving}
-use Rattle.mq_trace.proofs.ReadingLaws.{advanced, comes_after, stops_after, five_of}
-use Rattle.mq_trace.proofs.StageLaws.{first_advances, first_sound, three_advance, three_sound}
-use Rattle.mq_trace.proofs.EndLaws.{body_advances}
+use Rattle.mq_trace.specs.Context.{Context, ahead_of, emptied, refusal_for, event_for, with_completed, after}
+use Rattle.mq_trace.specs.Runs.{after_bytes, refused_in, events_by}
+use Rattle.mq_trace.specs.Keeping.{IsAt, context_of, begun_in, IsSound, Advances, Comes, StepStops}
+use Rattle.mq_trace.specs.Stepping.{kind_refusal, kind_for, IsBodyHead, leaving}
+use Rattle.mq_trace.proofs.FramingLaws.{head_least, body_length-append}
+use Rattle.mq_trace.proofs.MomentLaws.{head_most, moment_stays}
+use Rattle.mq_trace.proofs.RunLaws.{after_bytes_append, refused_append, events_append}
+use Rattle.mq_trace.proofs.ReadingLaws.{comes_after, stops_after}
+use Rattle.mq_trace.proofs.StepLaws.{first_event, first_after, middles_after, middles_events, middles_refused, longer_by, AllowedAmong, last_event, last_refusal, last_after, kept_too_early, both_none, nothing_completed}
+use Rattle.mq_trace.proofs.StageLaws.{named_refusal}
+use Rattle.mq_trace.proofs.EndLaws.{longest_least, left_sound}
 
 goes : (direction : Direction) → direction_of (Some (kind_for direction)) ≡ Some direction
 goes directions.Sent = refl
@@ -26,9 +34,9 @@ silent : (direction : Direction) → event_of_head (kind_for direction) ≡ None
 silent directions.Sent = refl
 silent directions.Recv = refl
 
-allowed : (direction : Direction) (number : ℕ) → number ≤ longest_body → allows_length (Some (kind_for direction)) number ≡ true
-allowed directions.Sent number few = le-leb number longest_body few
-allowed directions.Recv number few = le-leb number longest_body few
+allowed : (version : ℕ) (direction : Direction) (number : ℕ) → number ≤ longest_body version → allows_length version (Some (kind_for direction)) number ≡ true
+allowed version directions.Sent number few = le-leb number (longest_body version) few
+allowed version directions.Recv number few = le-leb number (longest_body version) few
 
 standing : (a b : Bool) (x y : Refusal) → a ≡ false → b ≡ false → first_that_applies ((a, x) ∷ (b, y) ∷ []) ≡ None
 standing a b x y p q = λ i. first_that_applies ((p i, x) ∷ (q i, y) ∷ [])
@@ -37,46 +45,197 @@ unmet : (r : Reading) (direction : Direction) → r.connections.connected ≡ tr
 unmet r directions.Sent connected room = standing (not r.connections.connected) (nat_lt 4294967295 (r.records + 1)) (refusals.NotOpen r.at) (refusals.TooLong r.at) (ap not connected) (le-ltb 4294967295 (r.records + 1) (omega arith))
 unmet r directions.Recv connected room = standing (not r.connections.connected) (nat_lt 4294967295 (r.records + 1)) (refusals.NotOpen r.at) (refusals.TooLong r.at) (ap not connected) (le-ltb 4294967295 (r.records + 1) (omega arith))
 
-begins_body : (r : Reading) (direction : Direction) → BeginsRecord r (in_head r (r.at + 1) (kind_for direction) 0 0) (kind_for direction)
-begins_body r directions.Sent = record { is = refl; sent = refl; recv = refl }
-begins_body r directions.Recv = record { is = refl; sent = refl; recv = refl }
+opens_nothing : (direction : Direction) → opens (Some (kind_for direction)) ≡ false
+opens_nothing directions.Sent = refl
+opens_nothing directions.Recv = refl
 
-four : (x y z b : ℕ) → from_be_bytes w32 (0 ∷ x ∷ y ∷ z ∷ []) * 256 + b ≡ from_be_bytes w32 (x ∷ y ∷ z ∷ b ∷ [])
-four x y z b = omega arith
+-- the bytes that begin others
+first_bytes : (n : ℕ) (bytes : List ℕ) → n + 1 ≤ length bytes → take (n + 1) bytes ≡ slice_index bytes 0 ∷ take n (drop 1 bytes)
+first_bytes n [] h = absurd (omega arith)
+first_bytes n (x ∷ bytes) h = ap (λ k. take k (x ∷ bytes)) (let same : n + 1 ≡ suc n = omega arith in same)
 
--- The head's bytes are taken in one after another: the first one, the next three, and the last.
-heads : (r : Reading) (direction : Direction) (k x y z b number : ℕ) (bytes : List ℕ) → IsSound r → IsBodyHead r bytes direction number → x < 256 → y < 256 → z < 256
-    → slice_index bytes 0 ≡ k → number ≡ from_be_bytes w32 (x ∷ y ∷ z ∷ b ∷ [])
-    → Advances r (leaving (record r { at = r.at + head_length }) direction number) (k ∷ x ∷ y ∷ z ∷ b ∷ []) []
-heads r direction k x y z b number bytes sound head x_byte y_byte z_byte first is =
-    let kind = kind_for direction in
-    let three = from_be_bytes w32 (0 ∷ x ∷ y ∷ z ∷ []) in
-    let r1 : Reading = in_head r (r.at + 1) kind 0 0 in
-    let r2 : Reading = in_head r1 (r1.at + 3) kind 3 three in
-    let r3 : Reading = leaving (record r2 { at = r2.at + 1 }) direction (three * 256 + b) in
-    let begins = begins_body r direction in
-    let sound1 : IsSound r1 = first_sound r r1 kind sound head.past_header head.between head.room begins in
-    let sound2 : IsSound r2 = three_sound r1 kind x y z sound1 refl x_byte y_byte z_byte in
-    let emitted : three * 256 + b ≡ number = four x y z b ∙ sym is in
-    let short : three * 256 + b ≤ longest_body = omega (arith, emitted, head.allowed) in
-    let step1 : Advances r r1 (k ∷ []) [] = first_advances r r1 k kind head.past_header head.between (subst (λ n. kind_named n ≡ Some kind) first head.named) (unmet r direction head.connected head.room) begins in
-    let step2 : Advances r1 r2 (x ∷ y ∷ z ∷ []) [] = three_advance r1 kind x y z sound1 refl x_byte y_byte in
-    let step3 : Advances r2 r3 (b ∷ []) [] = body_advances r2 kind three b sound2 refl direction (goes direction) (silent direction) (allowed direction (three * 256 + b) short) in
-    let steps : Advances r r3 (k ∷ x ∷ y ∷ z ∷ b ∷ []) [] = advanced r r1 r3 (k ∷ []) (x ∷ y ∷ z ∷ b ∷ []) [] [] step1 (advanced r1 r2 r3 (x ∷ y ∷ z ∷ []) (b ∷ []) [] [] step2 step3) in
-    let placed : ((r.at + 1) + 3) + 1 ≡ r.at + head_length = omega arith in
-    subst (λ n. Advances r (leaving (record r { at = n }) direction number) (k ∷ x ∷ y ∷ z ∷ b ∷ []) []) placed
-    (subst (λ m. Advances r (leaving (record r { at = ((r.at + 1) + 3) + 1 }) direction m) (k ∷ x ∷ y ∷ z ∷ b ∷ []) []) emitted steps)
+spelled_by : (bytes : List ℕ) → length_end ≤ length bytes → from_be_bytes w32 (slice_index bytes 1 ∷ slice_index bytes 2 ∷ slice_index bytes 3 ∷ slice_index bytes 4 ∷ []) ≡ body_length bytes
+unfolding body_length
+spelled_by [] h = absurd (omega arith)
+spelled_by (k ∷ []) h = absurd (omega arith)
+spelled_by (k ∷ x ∷ []) h = absurd (omega arith)
+spelled_by (k ∷ x ∷ y ∷ []) h = absurd (omega arith)
+spelled_by (k ∷ x ∷ y ∷ z ∷ []) h = absurd (omega arith)
+spelled_by (k ∷ x ∷ y ∷ z ∷ b ∷ bytes) h = refl
 
-pub head_advances : (r : Reading) (direction : Direction) (number : ℕ) (bytes : List ℕ) → IsSound r → IsBodyHead r bytes direction number → ((i : ℕ) → slice_index bytes i < 256)
-    → Advances r (leaving (record r { at = r.at + head_length }) direction number) (take head_length bytes) []
-head_advances r direction number bytes sound head byte =
-    subst (λ (l : List ℕ). Advances r (leaving (record r { at = r.at + head_length }) direction number) l []) (five_of bytes head.whole)
-    (heads r direction (slice_index bytes 0) (slice_index bytes 1) (slice_index bytes 2) (slice_index bytes 3) (slice_index bytes 4) number bytes sound head (byte 1) (byte 2) (byte 3) refl head.spelled)
+-- a list's last element
+pub last_of : (xs : List ℕ) → 0 < length xs → (front : List ℕ) × (last : ℕ) × (xs ≡ front ++ last ∷ [])
+last_of [] some = absurd (omega arith)
+last_of (x ∷ []) some = ([], x, refl)
+last_of (x ∷ y ∷ xs) some = let l = last_of (y ∷ xs) (omega arith) in (x ∷ l.0, l.1, ap (λ (t : List ℕ). x ∷ t) l.2)
 
-pub head_taken : (r r1 : Reading) (direction : Direction) (number : ℕ) (bytes : List ℕ) → IsSound r → IsBodyHead r bytes direction number → ((i : ℕ) → slice_index bytes i < 256)
-    → r1 ≡ leaving (record r { at = r.at + head_length }) direction number → Advances r r1 (take head_length bytes) []
-head_taken r r1 direction number bytes sound head byte is =
-    subst (λ (x : Reading). Advances r x (take head_length bytes) []) (sym is) (head_advances r direction number bytes sound head byte)
+-- ---- a whole head, from what is kept of a log
+
+-- The head of a record that carries packets: its kind, and what follows that.
+module _ (c : Context) (direction : Direction) (k : ℕ) (rest : List ℕ) (past_header : 8 ≤ c.at) (none : c.part ≡ []) (named : kind_named k ≡ Some (kind_for direction)) (whole : length rest + 1 ≡ ahead_of c) where
+  abbrev begun : Context
+  begun = record c { at = c.at + 1; part = k ∷ [] }
+
+  abbrev part : List ℕ
+  part = k ∷ rest
+
+  -- what is kept after the head
+  abbrev pub headed : Bool → Context
+  headed empty = record c { at = c.at + ahead_of c; part = cond empty [] part; records = cond empty (c.records + 1) c.records }
+
+  named_of : (bytes : List ℕ) → kind_of (k ∷ bytes) ≡ Some (kind_for direction)
+  unfolding kind_of
+  named_of bytes = named
+
+  unopened : {X : Type 0} (bytes : List ℕ) → opens (kind_of (k ∷ bytes)) ≡ true → X
+  unopened bytes e = let is : opens (kind_of (k ∷ bytes)) ≡ false = ap opens (named_of bytes) ∙ opens_nothing direction in absurd (cc)
+
+  begun_is : after c k ≡ begun
+  begun_is =
+      first_after c k past_header none
+      ∙ ap (λ kind. record begun { sent = cond (opens kind) emptied c.sent; recv = cond (opens kind) emptied c.recv }) named
+      ∙ ap (λ t. record begun { sent = cond t emptied c.sent; recv = cond t emptied c.recv }) (opens_nothing direction)
+
+  ends : (front : List ℕ) × (last : ℕ) × (rest ≡ front ++ last ∷ [])
+  ends = let least = head_least c.header.version in last_of rest (omega arith)
+
+  abbrev front : List ℕ
+  front = ends.0
+
+  abbrev last : ℕ
+  last = ends.1
+
+  front_long : length front + 2 ≡ ahead_of c
+  front_long = let l = ap (length {A = ℕ}) ends.2 in let m = length-append front (last ∷ []) in omega arith
+
+  -- all but the last byte
+  abbrev amid : Context
+  amid = longer_by begun front
+
+  amid_is : after_bytes begun front ≡ amid
+  amid_is = let l = front_long in middles_after begun front (omega arith) (omega arith) (omega arith) (unopened [])
+
+  amid_kind : kind_of amid.part ≡ Some (kind_for direction)
+  amid_kind = named_of front
+
+  amid_part : amid.part ++ last ∷ [] ≡ part
+  amid_part = ap (λ (l : List ℕ). k ∷ l) (sym ends.2)
+
+  last_none : event_for amid last ≡ None
+  last_none = let l = front_long in last_event amid last (kind_for direction) (omega arith) (omega arith) amid_kind ∙ silent direction
+
+  last_is : after amid last ≡ headed (body_length part == 0)
+  last_is =
+      let l = front_long in
+      let same : (c.at + 1 + length front) + 1 ≡ c.at + ahead_of c = omega arith in
+      last_after amid last (omega arith) (omega arith) (unopened front)
+      ∙ ap (λ event. with_completed (record amid { at = amid.at + 1; part = cond (body_length (amid.part ++ last ∷ []) == 0) [] (amid.part ++ last ∷ []); records = cond (body_length (amid.part ++ last ∷ []) == 0) (c.records + 1) c.records }) event) last_none
+      ∙ ap (λ (l : List ℕ). record c { at = amid.at + 1; part = cond (body_length l == 0) [] l; records = cond (body_length l == 0) (c.records + 1) c.records }) amid_part
+      ∙ ap (λ n. record (headed (body_length part == 0)) { at = n }) same
+
+  pub head_after : after_bytes c part ≡ headed (body_length part == 0)
+  head_after =
+      ap (λ d. after_bytes d rest) begun_is
+      ∙ ap (after_bytes begun) ends.2
+      ∙ after_bytes_append begun front (last ∷ [])
+      ∙ ap (λ d. after d last) amid_is
+      ∙ last_is
+
+  pub head_events : events_by c part ≡ []
+  head_events =
+      let l = front_long in
+      nothing_completed c k rest (first_event c k past_header none)
+      (ap (λ d. events_by d rest) begun_is
+      ∙ ap (events_by begun) ends.2
+      ∙ events_append begun front (last ∷ [])
+      ∙ ap (λ d. events_by d (last ∷ []) ++ events_by begun front) amid_is
+      ∙ ap (λ e. e ++ events_by begun front) (nothing_completed amid last [] last_none refl)
+      ∙ middles_events begun front (omega arith) (omega arith) (omega arith) (unopened []))
+
+  -- No byte of it is refused, if none is for what its kind and its length are.
+  pub head_refused : (limit : ℕ) → refusal_for limit c k ≡ None → allows_length c.header.version (Some (kind_for direction)) (body_length part) ≡ true → refused_in limit c part ≡ None
+  head_refused limit first allowed =
+      let l = front_long in
+      let least = head_least c.header.version in
+      both_none (refusal_for limit c k) (refused_in limit (after c k) rest) first
+      (ap (λ d. refused_in limit d rest) begun_is
+      ∙ ap (refused_in limit begun) ends.2
+      ∙ refused_append limit begun front (last ∷ [])
+      ∙ ap (λ o. option_or o (refused_in limit (after_bytes begun front) (last ∷ []))) (middles_refused limit begun front (omega arith) (omega arith) (omega arith) (unopened []) among)
+      ∙ ap (λ d. option_or (refusal_for limit d last) None) amid_is
+      ∙ ap (λ o. option_or o None) (last_refusal limit amid last (kind_for direction) (omega arith) (omega arith) amid_kind (ap (λ (l : List ℕ). allows_length c.header.version (Some (kind_for direction)) (body_length l)) amid_part ∙ allowed)
+      ∙ ap (λ event. first_that_applies ((kept_too_early amid event, refusals.TooManyEarly amid.at) ∷ (is_some event && nat_le 4294967295 amid.events, refusals.TooLong amid.at) ∷ [])) (silent direction)))
+    where
+      -- the length is that of the whole head
+      among : AllowedAmong begun front
+      among before later byte is long =
+          let l = front_long in
+          let m = length-append before (byte ∷ []) in
+          let shorter : part ≡ (k ∷ (before ++ byte ∷ [])) ++ (later ++ last ∷ []) =
+          sym amid_part ∙ ap (λ (t : List ℕ). k ∷ (t ++ last ∷ [])) is ∙ ap (λ (t : List ℕ). k ∷ t) (append_assoc before (byte ∷ later) (last ∷ []) ∙ sym (append_assoc before (byte ∷ []) (later ++ last ∷ []))) in
+          let same : body_length (k ∷ (before ++ byte ∷ [])) ≡ body_length part = sym (ap body_length shorter ∙ body_length-append (k ∷ (before ++ byte ∷ [])) (later ++ last ∷ []) (omega arith)) in
+          ap (λ kind. allows_length c.header.version kind (body_length (k ∷ (before ++ byte ∷ [])))) (named_of (before ++ byte ∷ []))
+          ∙ ap (allows_length c.header.version (Some (kind_for direction))) same
+          ∙ allowed
+
+-- ---- a whole head, by a reader
+
+-- where the reader stands after it
+headed_at : (r : Reading) (direction : Direction) (number : ℕ) (part : List ℕ) → kind_of part ≡ Some (kind_for direction) → length part ≡ head_length r.header.version → body_length part ≡ number → moment_in (head_length r.header.version) part ≡ r.moment
+    → (t : Bool) → (number == 0) ≡ t → IsAt (head_length r.header.version) r.moment (if t then stages.Between else stages.Body direction number) (cond t [] part)
+headed_at r direction number part kind long body timed true is = refl
+headed_at r direction number part kind long body timed false is = (kind_for direction, kind, goes direction, omega arith, omega arith, timed)
+
+-- The head's bytes, which begin these, are taken in.
+heads : (r : Reading) (direction : Direction) (number moment : ℕ) (bytes : List ℕ) → IsBodyHead r bytes direction number moment
+    → Advances r (leaving (record r { at = r.at + head_length r.header.version; moment = moment }) direction number) (take (head_length r.header.version) bytes) []
+heads r direction number moment bytes head =
+    let v = r.header.version in
+    let ahead = head_length v in
+    let least = head_least v in
+    let there : ahead ≤ length bytes = head.whole in
+    let k = slice_index bytes 0 in
+    let rest = take (ahead - 1) (drop 1 bytes) in
+    let back : ahead - 1 + 1 ≡ ahead = omega arith in
+    let is : take ahead bytes ≡ k ∷ rest = ap (λ n. take n bytes) (sym back) ∙ first_bytes (ahead - 1) bytes (omega arith) in
+    let long : length (take ahead bytes) ≡ ahead = length-take-le ahead bytes there in
+    let whole : length rest + 1 ≡ ahead = let l = ap (length {A = ℕ}) is in omega arith in
+    let body : body_length (k ∷ rest) ≡ number =
+    sym (ap body_length is) ∙ sym (body_length-append (take ahead bytes) (drop ahead bytes) (omega arith)) ∙ ap body_length (take-append-drop ahead bytes) ∙ sym (spelled_by bytes (omega arith)) ∙ sym head.spelled in
+    let timed : moment_in ahead (k ∷ rest) ≡ moment =
+    sym (ap (moment_in ahead) is) ∙ sym (moment_stays ahead (take ahead bytes) (drop ahead bytes) (omega arith)) ∙ ap (moment_in ahead) (take-append-drop ahead bytes) ∙ head.timed in
+    let next : Reading = record r { at = r.at + ahead; moment = moment } in
+    subst (λ (l : List ℕ). Advances r (leaving next direction number) l []) (sym is) (record {
+      limit = refl;
+      each = λ part at. (
+          let nothing : part ≡ [] = subst (λ s. IsAt ahead r.moment s part) head.between at in
+          let c = context_of r part in
+          let kind = named_of c direction k rest head.past_header nothing head.named whole rest in (
+            cond (number == 0) [] (k ∷ rest),
+            headed_at next direction number (k ∷ rest) kind (sym (ap (length {A = ℕ}) is) ∙ long) body timed (number == 0) refl,
+            head_refused c direction k rest head.past_header nothing head.named whole r.limit (named_refusal r part k (kind_for direction) head.past_header nothing head.named ∙ unmet r direction head.connected head.room)
+                (ap (allows_length v (Some (kind_for direction))) body ∙ allowed v direction number head.allowed),
+            head_after c direction k rest head.past_header nothing head.named whole
+                ∙ ap (headed c direction k rest head.past_header nothing head.named whole) (ap (λ n. n == 0) body),
+            head_events c direction k rest head.past_header nothing head.named whole,
+          ));
+    })
+
+pub head_taken : (r r1 : Reading) (direction : Direction) (number moment : ℕ) (bytes : List ℕ) → IsBodyHead r bytes direction number moment
+    → r1 ≡ leaving (record r { at = r.at + head_length r.header.version; moment = moment }) direction number → Advances r r1 (take (head_length r.header.version) bytes) []
+head_taken r r1 direction number moment bytes head is =
+    subst (λ (x : Reading). Advances r x (take (head_length r.header.version) bytes) []) (sym is) (heads r direction number moment bytes head)
+
+pub head_sound : (r r1 : Reading) (direction : Direction) (number moment : ℕ) (bytes : List ℕ) → IsSound r → IsBodyHead r bytes direction number moment
+    → r1 ≡ leaving (record r { at = r.at + head_length r.header.version; moment = moment }) direction number → IsSound r1
+head_sound r r1 direction number moment bytes sound head is =
+    let most = head_most r.header.version in
+    let longest = longest_least r.header.version in
+    let short : number ≤ longest_body r.header.version = head.allowed in
+    let past : 8 ≤ r.at = head.past_header in
+    let none : begun_in r.stage ≡ 0 = ap begun_in head.between in
+    subst (λ (x : Reading). IsSound x) (sym is)
+    (left_sound (record r { at = r.at + head_length r.header.version; moment = moment }) direction number (omega (arith, sound.counted)) (omega arith) (omega arith) head.room sound.sent sound.recv)
 
 -- ---- a head that was taken in at once, and what comes after it
 

@@ -99,7 +99,7 @@ pub kept_item : (server : Bool) (c : Connections) (direction : Direction) (frame
 kept_item server c direction frame item e = ap (connections_then server c) (frame_event_is direction frame item e)
 
 pub placed_item : (at : ℕ) (context : BodyContext) (state : StreamState) (c : Connections) (frame : List ℕ) (item : Item) → item_read frame (read_frame frame) ≡ Some item
-    → flow_placed_with context (flow_of at state c) (frame_event context.direction frame) ≡ Some (next_placed c context.record_no (item_event context.direction item))
+    → flow_placed_with context (flow_of at state c) (frame_event context.direction frame) ≡ Some (next_placed c context.in_record (item_event context.direction item))
 placed_item at context state c frame item e = ap (flow_placed_with context (flow_of at state c)) (frame_event_is context.direction frame item e)
 
 -- A frame that is no item is of another protocol version.
@@ -120,16 +120,16 @@ module _ {S : Type 0} (agrees : S → List Placed → Type 0) (declines : S → 
   pub emitted_kept : (c' : Connections) → OnOk r (c' ≡ connections_with context.server c (item_event context.direction item)) → OnOk r (c' ≡ connections_then context.server c (frame_event context.direction frame))
   emitted_kept c' = subst (λ (then' : Connections). OnOk r (c' ≡ then')) (sym (kept_item context.server c context.direction frame item e))
 
-  pub emitted_receives : (old new : S) → ((earlier : List Placed) → agrees old earlier → AreEvents (next_placed c context.record_no (item_event context.direction item) ∷ earlier) → OnOk r (agrees new (next_placed c context.record_no (item_event context.direction item) ∷ earlier)))
+  pub emitted_receives : (old new : S) → ((earlier : List Placed) → agrees old earlier → AreEvents (next_placed c context.in_record (item_event context.direction item) ∷ earlier) → OnOk r (agrees new (next_placed c context.in_record (item_event context.direction item) ∷ earlier)))
       → (earlier : List Placed) → agrees old earlier → AreEvents (put (flow_placed_with context (flow_of at state c) (frame_event context.direction frame)) earlier)
       → OnOk r (agrees new (put (flow_placed_with context (flow_of at state c) (frame_event context.direction frame)) earlier))
   emitted_receives old new = subst (λ (o : Option Placed). (earlier : List Placed) → agrees old earlier → AreEvents (put o earlier) → OnOk r (agrees new (put o earlier))) (sym (placed_item at context state c frame item e))
 
-  pub emitted_err : (old new : S) → IfErr r (λ refusal. NotEmitted declines at (event_refusal at context.server c (item_event context.direction item)) (next_placed c context.record_no (item_event context.direction item) ∷ []) old new refusal)
+  pub emitted_err : (old new : S) → IfErr r (λ refusal. NotEmitted declines at (event_refusal at context.server c (item_event context.direction item)) (next_placed c context.in_record (item_event context.direction item) ∷ []) old new refusal)
       → IfErr r (λ refusal. NotEmitted declines at (frame_refusal at context (flow_of at state c) frame) (put (flow_placed_with context (flow_of at state c) (frame_event context.direction frame)) []) old new refusal)
   emitted_err old new unemitted =
       subst (λ (o : Option Placed). IfErr r (λ refusal. NotEmitted declines at (frame_refusal at context (flow_of at state c) frame) (put o []) old new refusal)) (sym (placed_item at context state c frame item e))
-      (subst (λ (m : Option Refusal). IfErr r (λ refusal. NotEmitted declines at m (next_placed c context.record_no (item_event context.direction item) ∷ []) old new refusal)) (sym (met_item at state c context frame item e)) unemitted)
+      (subst (λ (m : Option Refusal). IfErr r (λ refusal. NotEmitted declines at m (next_placed c context.in_record (item_event context.direction item) ∷ []) old new refusal)) (sym (met_item at state c context frame item e)) unemitted)
 
 -- A frame of another version is refused as that.
 pub other_met : {S : Type 0} (declines : S → S → List Placed → Refusal → Type 0) {completed : List Placed} (at : ℕ) (state : StreamState) (c : Connections) (context : BodyContext) (frame : List ℕ) (sink : S) → item_read frame (read_frame frame) ≡ None

@@ -11,13 +11,13 @@ use Rattle.mq_trace.specs.declared.kind.RecordKind.TheVariants as kinds
 use Rattle.mq_trace.specs.declared.kind.Direction.{Direction}
 use Rattle.mq_trace.specs.declared.kind.Direction.TheVariants as directions
 use Rattle.mq_trace.specs.Pieces.{Pieces, pieces}
-use Rattle.mq_trace.specs.Framing.{kind_of, direction_of, opens, if_direction, record_size, records, begun_records, begun_with, carried, stream, head_length}
+use Rattle.mq_trace.specs.Framing.{kind_of, direction_of, opens, if_direction, header_by, record_size, records, begun_records, begun_with, carried, stream, ahead_in, length_end, moment_in}
 use Rattle.mq_trace.specs.Events.{Item, Event, Placed, lost, opened, closed, rested, sent, received, released, item_at, packet_with, event_by, event_in, events}
 use Rattle.mq_trace.specs.Connections.{begins_connection}
-use Rattle.mq_trace.specs.Context.{Context, context, so_far_by, so_far_for, event_for, placed_with, placed_for, put}
+use Rattle.mq_trace.specs.Context.{Context, ahead_of, context, so_far_by, so_far_for, event_for, placed_with, placed_for, put}
 use Rattle.mq_trace.specs.Joined.{opened_records, joined, if_some, frame_item, frame_items, stream_items, opened_events, directed_item, connection_items}
 use Rattle.mq_trace.proofs.PiecesLaws.{grown, pieces-grow, nothing_cut}
-use Rattle.mq_trace.proofs.FramingLaws.{body_byte, if_direction-nothing, if_direction-append, kind_of-append, begun-grow, begun-header, rest-grow, record_size-is}
+use Rattle.mq_trace.proofs.FramingLaws.{head_least, ahead-unchanged, body_byte, if_direction-nothing, if_direction-append, kind_of-append, begun-grow, begun-header, rest-grow, record_size-is}
 use Rattle.mq_trace.proofs.StreamStateLaws.{frame_settles, nothing_lost}
 use Rattle.mq_trace.proofs.ContextLaws.{part_context, at_context, so_far_kept_by, events-kept, events-header}
 use Rattle.mq_trace.proofs.FlowLaws.{nothing_item, item_by}
@@ -81,13 +81,13 @@ opened_more part before = by (opens (kind_of part))
     by true = omega arith
     by false = omega arith
 
-unbegun : (number : ℕ) (direction : Direction) (parts : List (List ℕ)) → opened_records parts < number → joined number direction parts ≡ []
-unbegun number direction [] less = refl
-unbegun number direction (part ∷ before) less =
+unbegun : (ahead number : ℕ) (direction : Direction) (parts : List (List ℕ)) → opened_records parts < number → joined ahead number direction parts ≡ []
+unbegun ahead number direction [] less = refl
+unbegun ahead number direction (part ∷ before) less =
     let more = opened_more part before in
     let other : (opened_records (part ∷ before) == number) ≡ false = ne_eqb (opened_records (part ∷ before)) number (λ same. (omega arith)) in
-    ap (λ l. l ++ cond (opened_records (part ∷ before) == number) (if_direction direction (direction_of (kind_of part)) (drop head_length part)) []) (unbegun number direction before (omega arith))
-    ∙ ap (λ t. cond t (if_direction direction (direction_of (kind_of part)) (drop head_length part)) []) other
+    ap (λ l. l ++ cond (opened_records (part ∷ before) == number) (if_direction direction (direction_of (kind_of part)) (drop ahead part)) []) (unbegun ahead number direction before (omega arith))
+    ∙ ap (λ t. cond t (if_direction direction (direction_of (kind_of part)) (drop ahead part)) []) other
 
 opening_carries_none : (kind : Option RecordKind) (direction : Direction) (bytes : List ℕ) → opens kind ≡ true → if_direction direction (direction_of kind) bytes ≡ []
 opening_carries_none (Some kinds.Open) directions.Sent bytes is = refl
@@ -99,115 +99,120 @@ opening_carries_none (Some kinds.Close) direction bytes is = absurd (cc)
 opening_carries_none (Some kinds.Rest) direction bytes is = absurd (cc)
 opening_carries_none (Some kinds.Release) direction bytes is = absurd (cc)
 
-newest_by : (direction : Direction) (part : List ℕ) (before : List (List ℕ)) (o : Bool) → opens (kind_of part) ≡ o → joined (opened_records before) direction before ≡ carried direction before
-    → joined (cond o (opened_records before + 1) (opened_records before)) direction before ++ if_direction direction (direction_of (kind_of part)) (drop head_length part)
-    ≡ cond o [] (carried direction before ++ if_direction direction (direction_of (kind_of part)) (drop head_length part))
-newest_by direction part before true is same =
-    ap (λ l. l ++ if_direction direction (direction_of (kind_of part)) (drop head_length part)) (unbegun (opened_records before + 1) direction before (omega arith))
-    ∙ opening_carries_none (kind_of part) direction (drop head_length part) is
-newest_by direction part before false is same = ap (λ l. l ++ if_direction direction (direction_of (kind_of part)) (drop head_length part)) same
+newest_by : (ahead : ℕ) (direction : Direction) (part : List ℕ) (before : List (List ℕ)) (o : Bool) → opens (kind_of part) ≡ o → joined ahead (opened_records before) direction before ≡ carried ahead direction before
+    → joined ahead (cond o (opened_records before + 1) (opened_records before)) direction before ++ if_direction direction (direction_of (kind_of part)) (drop ahead part)
+    ≡ cond o [] (carried ahead direction before ++ if_direction direction (direction_of (kind_of part)) (drop ahead part))
+newest_by ahead direction part before true is same =
+    ap (λ l. l ++ if_direction direction (direction_of (kind_of part)) (drop ahead part)) (unbegun ahead (opened_records before + 1) direction before (omega arith))
+    ∙ opening_carries_none (kind_of part) direction (drop ahead part) is
+newest_by ahead direction part before false is same = ap (λ l. l ++ if_direction direction (direction_of (kind_of part)) (drop ahead part)) same
 
-newest : (direction : Direction) (parts : List (List ℕ)) → joined (opened_records parts) direction parts ≡ carried direction parts
+newest : (ahead : ℕ) (direction : Direction) (parts : List (List ℕ)) → joined ahead (opened_records parts) direction parts ≡ carried ahead direction parts
 unfolding carried
-newest direction [] = refl
-newest direction (part ∷ before) =
+newest ahead direction [] = refl
+newest ahead direction (part ∷ before) =
     let n : ℕ = opened_records (part ∷ before) in
-    let body : List ℕ = if_direction direction (direction_of (kind_of part)) (drop head_length part) in
-    ap (λ t. joined n direction before ++ cond t body []) (eq-eqb n n refl)
-    ∙ newest_by direction part before (opens (kind_of part)) refl (newest direction before)
+    let body : List ℕ = if_direction direction (direction_of (kind_of part)) (drop ahead part) in
+    ap (λ t. joined ahead n direction before ++ cond t body []) (eq-eqb n n refl)
+    ∙ newest_by ahead direction part before (opens (kind_of part)) refl (newest ahead direction before)
 
 -- What a direction of a connection carried, with one byte of the log more.
-body_more : (r : ℕ) (rest : List ℕ) (byte : ℕ) (b : Bool) → nat_lt head_length (length ((r ∷ rest) ++ byte ∷ [])) ≡ b → drop head_length ((r ∷ rest) ++ byte ∷ []) ≡ drop head_length (r ∷ rest) ++ cond b (byte ∷ []) []
-body_more r rest byte true is =
+body_more : (ahead r : ℕ) (rest : List ℕ) (byte : ℕ) (b : Bool) → nat_lt ahead (length ((r ∷ rest) ++ byte ∷ [])) ≡ b → drop ahead ((r ∷ rest) ++ byte ∷ []) ≡ drop ahead (r ∷ rest) ++ cond b (byte ∷ []) []
+body_more ahead r rest byte true is =
     let l = length-append (r ∷ rest) (byte ∷ []) in
-    let long = ltb-true head_length (length ((r ∷ rest) ++ byte ∷ [])) is in
-    drop-append-le head_length (r ∷ rest) (byte ∷ []) (omega arith)
-body_more r rest byte false is =
+    let long = ltb-true ahead (length ((r ∷ rest) ++ byte ∷ [])) is in
+    drop-append-le ahead (r ∷ rest) (byte ∷ []) (omega arith)
+body_more ahead r rest byte false is =
     let l = length-append (r ∷ rest) (byte ∷ []) in
-    let short = ltb-false head_length (length ((r ∷ rest) ++ byte ∷ [])) is in
-    drop_all head_length ((r ∷ rest) ++ byte ∷ []) short ∙ sym (ap (λ bytes. bytes ++ []) (drop_all head_length (r ∷ rest) (omega arith)))
+    let short = ltb-false ahead (length ((r ∷ rest) ++ byte ∷ [])) is in
+    drop_all ahead ((r ∷ rest) ++ byte ∷ []) short ∙ sym (ap (λ bytes. bytes ++ []) (drop_all ahead (r ∷ rest) (omega arith)))
 
 sent_on : (direction : Direction) (carries : Option Direction) (byte : ℕ) (b : Bool) → if_direction direction carries (cond b (byte ∷ []) []) ≡ cond b (if_direction direction carries (byte ∷ [])) []
 sent_on direction carries byte true = refl
 sent_on direction carries byte false = if_direction-nothing direction carries
 
-body_grown : (direction : Direction) (r : ℕ) (rest : List ℕ) (byte : ℕ)
-    → if_direction direction (direction_of (kind_of ((r ∷ rest) ++ byte ∷ []))) (drop head_length ((r ∷ rest) ++ byte ∷ [])) ≡ if_direction direction (direction_of (kind_of (r ∷ rest))) (drop head_length (r ∷ rest)) ++ body_byte direction ((r ∷ rest) ++ byte ∷ []) byte
-body_grown direction r rest byte =
+body_grown : (ahead : ℕ) (direction : Direction) (r : ℕ) (rest : List ℕ) (byte : ℕ)
+    → if_direction direction (direction_of (kind_of ((r ∷ rest) ++ byte ∷ []))) (drop ahead ((r ∷ rest) ++ byte ∷ [])) ≡ if_direction direction (direction_of (kind_of (r ∷ rest))) (drop ahead (r ∷ rest)) ++ body_byte ahead direction ((r ∷ rest) ++ byte ∷ []) byte
+body_grown ahead direction r rest byte =
     let part : List ℕ = (r ∷ rest) ++ byte ∷ [] in
     let carries : Option Direction = direction_of (kind_of part) in
-    let b : Bool = nat_lt head_length (length part) in
-    ap (if_direction direction carries) (body_more r rest byte b refl)
-    ∙ if_direction-append direction carries (drop head_length (r ∷ rest)) (cond b (byte ∷ []) [])
-    ∙ ap (λ l. if_direction direction carries (drop head_length (r ∷ rest)) ++ l) (sent_on direction carries byte b)
-    ∙ ap (λ k. if_direction direction (direction_of k) (drop head_length (r ∷ rest)) ++ cond b (if_direction direction carries (byte ∷ [])) []) (kind_of-append (r ∷ rest) (byte ∷ []) (omega arith))
+    let b : Bool = nat_lt ahead (length part) in
+    ap (if_direction direction carries) (body_more ahead r rest byte b refl)
+    ∙ if_direction-append direction carries (drop ahead (r ∷ rest)) (cond b (byte ∷ []) [])
+    ∙ ap (λ l. if_direction direction carries (drop ahead (r ∷ rest)) ++ l) (sent_on direction carries byte b)
+    ∙ ap (λ k. if_direction direction (direction_of k) (drop ahead (r ∷ rest)) ++ cond b (if_direction direction carries (byte ∷ [])) []) (kind_of-append (r ∷ rest) (byte ∷ []) (omega arith))
 
 split_by : (t : Bool) (j a b : List ℕ) → j ++ cond t (a ++ b) [] ≡ (j ++ cond t a []) ++ cond t b []
 split_by true j a b = sym (append_assoc j a b)
 split_by false j a b = sym (append-nil (j ++ []))
 
-joined_grown : (number : ℕ) (direction : Direction) (rest : List ℕ) (byte : ℕ) (whole : List (List ℕ))
-    → joined number direction ((rest ++ byte ∷ []) ∷ whole)
-    ≡ joined number direction (begun_with rest whole) ++ cond (opened_records ((rest ++ byte ∷ []) ∷ whole) == number) (body_byte direction (rest ++ byte ∷ []) byte) []
-joined_grown number direction [] byte whole =
-    ap (λ bytes. joined number direction whole ++ cond (opened_records ((byte ∷ []) ∷ whole) == number) bytes []) (if_direction-nothing direction (direction_of (kind_of (byte ∷ []))))
-joined_grown number direction (r ∷ rest) byte whole =
+joined_grown : (ahead : ℕ) → length_end ≤ ahead → (number : ℕ) (direction : Direction) (rest : List ℕ) (byte : ℕ) (whole : List (List ℕ))
+    → joined ahead number direction ((rest ++ byte ∷ []) ∷ whole)
+    ≡ joined ahead number direction (begun_with rest whole) ++ cond (opened_records ((rest ++ byte ∷ []) ∷ whole) == number) (body_byte ahead direction (rest ++ byte ∷ []) byte) []
+joined_grown ahead least number direction [] byte whole =
+    let o = opened_records ((byte ∷ []) ∷ whole) == number in
+    let w = direction_of (kind_of (byte ∷ [])) in
+    ap (λ bytes. joined ahead number direction whole ++ cond o (if_direction direction w bytes) []) (drop_all ahead (byte ∷ []) (omega arith))
+    ∙ ap (λ bytes. joined ahead number direction whole ++ cond o bytes []) (if_direction-nothing direction w)
+    ∙ ap (λ b. joined ahead number direction whole ++ cond o (cond b (if_direction direction w (byte ∷ [])) []) []) (sym (le-ltb ahead 1 (omega arith)))
+joined_grown ahead least number direction (r ∷ rest) byte whole =
     let old : List ℕ = r ∷ rest in
     let part : List ℕ = (r ∷ rest) ++ byte ∷ [] in
     let n : opened_records (part ∷ whole) ≡ opened_records (old ∷ whole)
     = ap (λ k. cond (opens k) (opened_records whole + 1) (opened_records whole)) (kind_of-append (r ∷ rest) (byte ∷ []) (omega arith)) in
-    let before : List ℕ = if_direction direction (direction_of (kind_of old)) (drop head_length old) in
-    ap (λ bytes. joined number direction whole ++ cond (opened_records (part ∷ whole) == number) bytes []) (body_grown direction r rest byte)
-    ∙ split_by (opened_records (part ∷ whole) == number) (joined number direction whole) before (body_byte direction part byte)
-    ∙ ap (λ m. (joined number direction whole ++ cond (m == number) before []) ++ cond (opened_records (part ∷ whole) == number) (body_byte direction part byte) []) n
+    let before : List ℕ = if_direction direction (direction_of (kind_of old)) (drop ahead old) in
+    ap (λ bytes. joined ahead number direction whole ++ cond (opened_records (part ∷ whole) == number) bytes []) (body_grown ahead direction r rest byte)
+    ∙ split_by (opened_records (part ∷ whole) == number) (joined ahead number direction whole) before (body_byte ahead direction part byte)
+    ∙ ap (λ m. (joined ahead number direction whole ++ cond (m == number) before []) ++ cond (opened_records (part ∷ whole) == number) (body_byte ahead direction part byte) []) n
 
 joined_more : (number : ℕ) (direction : Direction) (log : List ℕ) (byte : ℕ) → 8 ≤ length log
-    → joined number direction (begun_records (log ++ byte ∷ []))
-    ≡ joined number direction (begun_records log) ++ cond (opened_records (begun_records (log ++ byte ∷ [])) == number) (body_byte direction ((records log).rest ++ byte ∷ []) byte) []
+    → joined (ahead_in (log ++ byte ∷ [])) number direction (begun_records (log ++ byte ∷ []))
+    ≡ joined (ahead_in log) number direction (begun_records log) ++ cond (opened_records (begun_records (log ++ byte ∷ [])) == number) (body_byte (ahead_in log) direction ((records log).rest ++ byte ∷ []) byte) []
 unfolding begun_records
 joined_more number direction log byte h =
-    ap (joined number direction) (begun-grow log byte h)
-    ∙ joined_grown number direction (records log).rest byte (reverse (records log).whole)
-    ∙ ap (λ parts. joined number direction (begun_with (records log).rest (reverse (records log).whole)) ++ cond (opened_records parts == number) (body_byte direction ((records log).rest ++ byte ∷ []) byte) [])
+    ap (λ n. joined n number direction (begun_records (log ++ byte ∷ []))) (ahead-unchanged log byte h)
+    ∙ ap (joined (ahead_in log) number direction) (begun-grow log byte h)
+    ∙ joined_grown (ahead_in log) (head_least (header_by log).version) number direction (records log).rest byte (reverse (records log).whole)
+    ∙ ap (λ parts. joined (ahead_in log) number direction (begun_with (records log).rest (reverse (records log).whole)) ++ cond (opened_records parts == number) (body_byte (ahead_in log) direction ((records log).rest ++ byte ∷ []) byte) [])
     (sym (begun-grow log byte h))
 
 -- As many events as records begin a connection, but for an OPEN whose head isn't whole.
-abbrev opening : List (List ℕ) → ℕ
-opening [] = 0
-opening (part ∷ before) = cond (opens (kind_of part) && nat_lt (length part) head_length) 1 0
+abbrev opening : ℕ → List (List ℕ) → ℕ
+opening ahead [] = 0
+opening ahead (part ∷ before) = cond (opens (kind_of part) && nat_lt (length part) ahead) 1 0
 
 abbrev begins_some : Option Event → Bool
 begins_some None = false
 begins_some (Some event) = begins_connection event
 
-begins_by : (kind : Option RecordKind) (part so_far : List ℕ) → begins_some (event_by kind part so_far) ≡ (opens kind && (length part == head_length))
-begins_by None part so_far = refl
-begins_by (Some kinds.Open) part so_far = by (length part == head_length)
+begins_by : (ahead : ℕ) (kind : Option RecordKind) (part so_far : List ℕ) → begins_some (event_by ahead kind part so_far) ≡ (opens kind && (length part == ahead))
+begins_by ahead None part so_far = refl
+begins_by ahead (Some kinds.Open) part so_far = by (length part == ahead)
   where
     by : (t : Bool) → begins_some (if t then Some opened else None) ≡ t
     by true = refl
     by false = refl
-begins_by (Some kinds.Close) part so_far = by (length part == head_length)
+begins_by ahead (Some kinds.Close) part so_far = by (length part == ahead)
   where
     by : (t : Bool) → begins_some (if t then Some closed else None) ≡ false
     by true = refl
     by false = refl
-begins_by (Some kinds.Rest) part so_far = by (length part == head_length)
+begins_by ahead (Some kinds.Rest) part so_far = by (length part == ahead)
   where
     by : (t : Bool) → begins_some (if t then Some rested else None) ≡ false
     by true = refl
     by false = refl
-begins_by (Some kinds.Release) part so_far = by (length part == head_length + 2) (from_be_bytes w16 (drop head_length part))
+begins_by ahead (Some kinds.Release) part so_far = by (length part == ahead + 2) (from_be_bytes w16 (drop ahead part))
   where
     by : (t : Bool) (n : ℕ) → begins_some (if t then Some (released n) else None) ≡ false
     by true n = refl
     by false n = refl
-begins_by (Some kinds.Sent) part so_far = by (item_at so_far)
+begins_by ahead (Some kinds.Sent) part so_far = by (item_at so_far)
   where
     by : (item : Option Item) → begins_some (option_map sent item) ≡ false
     by None = refl
     by (Some item) = refl
-begins_by (Some kinds.Recv) part so_far = by (item_at so_far)
+begins_by ahead (Some kinds.Recv) part so_far = by (item_at so_far)
   where
     by : (item : Option Item) → begins_some (option_map received item) ≡ false
     by None = refl
@@ -215,75 +220,82 @@ begins_by (Some kinds.Recv) part so_far = by (item_at so_far)
 
 -- the event of a byte after the header
 event_is : (log : List ℕ) (byte : ℕ) → 8 ≤ length log
-    → event_for (context log) byte ≡ event_by (kind_of ((records log).rest ++ byte ∷ [])) ((records log).rest ++ byte ∷ []) (so_far_for (context log) byte)
-unfolding event_for event_in
+    → event_for (context log) byte ≡ event_by (ahead_in log) (kind_of ((records log).rest ++ byte ∷ [])) ((records log).rest ++ byte ∷ []) (so_far_for (context log) byte)
+unfolding event_for event_in context
 event_is log byte h =
     let so_far : List ℕ = so_far_for (context log) byte in
-    ap (λ n. if nat_lt n 8 then None else event_in ((context log).part ++ byte ∷ []) so_far) (at_context log)
-    ∙ ap (λ t. if t then None else event_in ((context log).part ++ byte ∷ []) so_far) (le-ltb (length log) 8 h)
-    ∙ ap (λ p. event_by (kind_of (p ++ byte ∷ [])) (p ++ byte ∷ []) so_far) (part_context log)
+    ap (λ n. if nat_lt n 8 then None else event_in (ahead_in log) ((context log).part ++ byte ∷ []) so_far) (at_context log)
+    ∙ ap (λ t. if t then None else event_in (ahead_in log) ((context log).part ++ byte ∷ []) so_far) (le-ltb (length log) 8 h)
+    ∙ ap (λ p. event_by (ahead_in log) (kind_of (p ++ byte ∷ [])) (p ++ byte ∷ []) so_far) (part_context log)
 
-opened_put : (c : Context) (o : Option Event) (past : List Placed) → opened_events (put (placed_with c o) past) ≡ cond (begins_some o) (opened_events past + 1) (opened_events past)
-opened_put c None past = refl
-opened_put c (Some event) past = refl
+opened_put : (c : Context) (moment : ℕ) (o : Option Event) (past : List Placed) → opened_events (put (placed_with c moment o) past) ≡ cond (begins_some o) (opened_events past + 1) (opened_events past)
+opened_put c moment None past = refl
+opened_put c moment (Some event) past = refl
 
-events_more : (log : List ℕ) (byte : ℕ) → events (log ++ byte ∷ []) ≡ put (placed_with (context log) (event_for (context log) byte)) (events log)
+-- the moment of that byte's record
+abbrev moment_so : List ℕ → ℕ → ℕ
+moment_so log byte = moment_in (ahead_of (context log)) ((context log).part ++ byte ∷ [])
+
+events_more : (log : List ℕ) (byte : ℕ) → events (log ++ byte ∷ []) ≡ put (placed_with (context log) (moment_so log byte) (event_for (context log) byte)) (events log)
 unfolding placed_for
 events_more log byte = events-kept log byte
 
 opened_more_events : (log : List ℕ) (byte : ℕ) → 8 ≤ length log
     → opened_events (events (log ++ byte ∷ []))
-    ≡ cond (opens (kind_of ((records log).rest ++ byte ∷ [])) && (length ((records log).rest ++ byte ∷ []) == head_length)) (opened_events (events log) + 1) (opened_events (events log))
+    ≡ cond (opens (kind_of ((records log).rest ++ byte ∷ [])) && (length ((records log).rest ++ byte ∷ []) == ahead_in log)) (opened_events (events log) + 1) (opened_events (events log))
 opened_more_events log byte h =
     let part : List ℕ = (records log).rest ++ byte ∷ [] in
     let m : ℕ = opened_events (events log) in
     ap opened_events (events_more log byte)
-    ∙ opened_put (context log) (event_for (context log) byte) (events log)
+    ∙ opened_put (context log) (moment_so log byte) (event_for (context log) byte) (events log)
     ∙ ap (λ o. cond (begins_some o) (m + 1) m) (event_is log byte h)
-    ∙ ap (λ t. cond t (m + 1) m) (begins_by (kind_of part) part (so_far_for (context log) byte))
+    ∙ ap (λ t. cond t (m + 1) m) (begins_by (ahead_in log) (kind_of part) part (so_far_for (context log) byte))
 
-opened_step : (o : Bool) (n m w : ℕ) → m + cond (o && nat_lt n head_length) 1 0 ≡ cond o (w + 1) w → cond (o && (n + 1 == head_length)) (m + 1) m + cond (o && nat_lt (n + 1) head_length) 1 0 ≡ cond o (w + 1) w
-opened_step false n m w e = e
-opened_step true n m w e = by (n + 1 == head_length) refl
+opened_step : (ahead : ℕ) (o : Bool) (n m w : ℕ) → m + cond (o && nat_lt n ahead) 1 0 ≡ cond o (w + 1) w → cond (o && (n + 1 == ahead)) (m + 1) m + cond (o && nat_lt (n + 1) ahead) 1 0 ≡ cond o (w + 1) w
+opened_step ahead false n m w e = e
+opened_step ahead true n m w e = by (n + 1 == ahead) refl
   where
-    later : (t : Bool) → nat_lt n head_length ≡ t → (n + 1 ≡ head_length → ⊥) → nat_lt (n + 1) head_length ≡ t
-    later true is other = let less : n < head_length = ltb-true n head_length is in lt-ltb (n + 1) head_length (omega (arith, other))
-    later false is other = let more : head_length ≤ n = ltb-false n head_length is in le-ltb (n + 1) head_length (omega arith)
+    later : (t : Bool) → nat_lt n ahead ≡ t → (n + 1 ≡ ahead → ⊥) → nat_lt (n + 1) ahead ≡ t
+    later true is other = let less : n < ahead = ltb-true n ahead is in lt-ltb (n + 1) ahead (omega (arith, other))
+    later false is other = let more : ahead ≤ n = ltb-false n ahead is in le-ltb (n + 1) ahead (omega arith)
 
-    by : (t : Bool) → (n + 1 == head_length) ≡ t → cond t (m + 1) m + cond (nat_lt (n + 1) head_length) 1 0 ≡ w + 1
+    by : (t : Bool) → (n + 1 == ahead) ≡ t → cond t (m + 1) m + cond (nat_lt (n + 1) ahead) 1 0 ≡ w + 1
     by true is =
-        let five : n + 1 ≡ head_length = eqb-true (n + 1) head_length is in
-        let early : nat_lt n head_length ≡ true = lt-ltb n head_length (omega arith) in
+        let five : n + 1 ≡ ahead = eqb-true (n + 1) ahead is in
+        let early : nat_lt n ahead ≡ true = lt-ltb n ahead (omega arith) in
         let was : m + 1 ≡ w + 1 = ap (λ t. m + cond t 1 0) (sym early) ∙ e in
-        ap (λ t. (m + 1) + cond t 1 0) (le-ltb (n + 1) head_length (omega arith)) ∙ (let last : (m + 1) + 0 ≡ w + 1 = omega (arith, was) in last)
-    by false is = ap (λ t. m + cond t 1 0) (later (nat_lt n head_length) refl (eqb-false (n + 1) head_length is)) ∙ e
+        ap (λ t. (m + 1) + cond t 1 0) (le-ltb (n + 1) ahead (omega arith)) ∙ (let last : (m + 1) + 0 ≡ w + 1 = omega (arith, was) in last)
+    by false is = ap (λ t. m + cond t 1 0) (later (nat_lt n ahead) refl (eqb-false (n + 1) ahead is)) ∙ e
 
 first_opened : (o : Bool) (m w : ℕ) → m ≡ w → cond (o && false) (m + 1) m + cond (o && true) 1 0 ≡ cond o (w + 1) w
 first_opened true m w e = ap (λ n. n + 1) e
 first_opened false m w e = let same : m + 0 ≡ w = omega (arith, e) in same
 
-opened_grown : (rest : List ℕ) (byte m : ℕ) (whole : List (List ℕ)) → m + opening (begun_with rest whole) ≡ opened_records (begun_with rest whole)
-    → (rest ≡ [] → opening (begun_with rest whole) ≡ 0)
-    → cond (opens (kind_of (rest ++ byte ∷ [])) && (length (rest ++ byte ∷ []) == head_length)) (m + 1) m + opening ((rest ++ byte ∷ []) ∷ whole) ≡ opened_records ((rest ++ byte ∷ []) ∷ whole)
-opened_grown [] byte m whole e settled =
-    let none : opening whole ≡ 0 = settled refl in
+opened_grown : (ahead : ℕ) → length_end ≤ ahead → (rest : List ℕ) (byte m : ℕ) (whole : List (List ℕ)) → m + opening ahead (begun_with rest whole) ≡ opened_records (begun_with rest whole)
+    → (rest ≡ [] → opening ahead (begun_with rest whole) ≡ 0)
+    → cond (opens (kind_of (rest ++ byte ∷ [])) && (length (rest ++ byte ∷ []) == ahead)) (m + 1) m + opening ahead ((rest ++ byte ∷ []) ∷ whole) ≡ opened_records ((rest ++ byte ∷ []) ∷ whole)
+opened_grown ahead least [] byte m whole e settled =
+    let none : opening ahead whole ≡ 0 = settled refl in
     let was : m ≡ opened_records whole = omega (arith, e, none) in
-    first_opened (opens (kind_of (byte ∷ []))) m (opened_records whole) was
-opened_grown (r ∷ rest) byte m whole e settled =
+    let o = opens (kind_of (byte ∷ [])) in
+    ap (λ t. cond (o && t) (m + 1) m + cond (o && nat_lt 1 ahead) 1 0) (ne_eqb 1 ahead (λ same. (omega arith)))
+    ∙ ap (λ t. cond (o && false) (m + 1) m + cond (o && t) 1 0) (lt-ltb 1 ahead (omega arith))
+    ∙ first_opened o m (opened_records whole) was
+opened_grown ahead least (r ∷ rest) byte m whole e settled =
     let old : List ℕ = r ∷ rest in
     let part : List ℕ = (r ∷ rest) ++ byte ∷ [] in
     let w : ℕ = opened_records whole in
     let kind : kind_of part ≡ kind_of old = kind_of-append (r ∷ rest) (byte ∷ []) (omega arith) in
     let long : length part ≡ length old + 1 = length-append (r ∷ rest) (byte ∷ []) in
-    subst (λ n. cond (opens (kind_of part) && (n == head_length)) (m + 1) m + cond (opens (kind_of part) && nat_lt n head_length) 1 0 ≡ cond (opens (kind_of part)) (w + 1) w) (sym long)
-    (subst (λ k. cond (opens k && (length old + 1 == head_length)) (m + 1) m + cond (opens k && nat_lt (length old + 1) head_length) 1 0 ≡ cond (opens k) (w + 1) w) (sym kind)
-    (opened_step (opens (kind_of old)) (length old) m w e))
+    subst (λ n. cond (opens (kind_of part) && (n == ahead)) (m + 1) m + cond (opens (kind_of part) && nat_lt n ahead) 1 0 ≡ cond (opens (kind_of part)) (w + 1) w) (sym long)
+    (subst (λ k. cond (opens k && (length old + 1 == ahead)) (m + 1) m + cond (opens k && nat_lt (length old + 1) ahead) 1 0 ≡ cond (opens k) (w + 1) w) (sym kind)
+    (opened_step ahead (opens (kind_of old)) (length old) m w e))
 
-settled_by : (part : List ℕ) (whole : List (List ℕ)) (o : Option ℕ) → record_size part ≡ o → 0 < length part → cond (is_some o) [] part ≡ [] → opening (part ∷ whole) ≡ 0
-settled_by part whole None e some none = let l : length part ≡ 0 = ap length none in absurd (omega arith)
-settled_by part whole (Some n) e some none =
-    let within = (record_size-is part n e).within in
-    let long : nat_lt (length part) head_length ≡ false = le-ltb (length part) head_length (omega (arith, within)) in
+settled_by : (ahead : ℕ) → length_end ≤ ahead → (part : List ℕ) (whole : List (List ℕ)) (o : Option ℕ) → record_size ahead part ≡ o → 0 < length part → cond (is_some o) [] part ≡ [] → opening ahead (part ∷ whole) ≡ 0
+settled_by ahead least part whole None e some none = let l : length part ≡ 0 = ap length none in absurd (omega arith)
+settled_by ahead least part whole (Some n) e some none =
+    let within = (record_size-is ahead least part n e).within in
+    let long : nat_lt (length part) ahead ≡ false = le-ltb (length part) ahead (omega (arith, within)) in
     ap (λ t. cond (opens (kind_of part) && t) 1 0) long ∙ nothing (opens (kind_of part))
   where
     nothing : (o : Bool) → cond {A = ℕ} (o && false) 1 0 ≡ 0
@@ -291,14 +303,14 @@ settled_by part whole (Some n) e some none =
     nothing false = refl
 
 record Opened (log : List ℕ) : Type 0 where
-  same : opened_events (events log) + opening (begun_records log) ≡ opened_records (begun_records log)
-  settled : (records log).rest ≡ [] → opening (begun_records log) ≡ 0
+  same : opened_events (events log) + opening (ahead_in log) (begun_records log) ≡ opened_records (begun_records log)
+  settled : (records log).rest ≡ [] → opening (ahead_in log) (begun_records log) ≡ 0
 
 opened_header : (log : List ℕ) → length log ≤ 8 → Opened log
 opened_header log h = record {
-  same = subst (λ (l : List Placed). opened_events l + opening (begun_records log) ≡ opened_records (begun_records log)) (sym (events-header log h))
-      (subst (λ (b : List (List ℕ)). 0 + opening b ≡ opened_records b) (sym (begun-header log h)) refl);
-  settled = λ none. ap opening (begun-header log h);
+  same = subst (λ (l : List Placed). opened_events l + opening (ahead_in log) (begun_records log) ≡ opened_records (begun_records log)) (sym (events-header log h))
+      (subst (λ (b : List (List ℕ)). 0 + opening (ahead_in log) b ≡ opened_records b) (sym (begun-header log h)) refl);
+  settled = λ none. ap (opening (ahead_in log)) (begun-header log h);
 }
 
 opened_on : (log : List ℕ) (byte : ℕ) → Opened log → 8 ≤ length log → Opened (log ++ byte ∷ [])
@@ -309,11 +321,14 @@ opened_on log byte before h =
     let whole : List (List ℕ) = reverse (records log).whole in
     let l = length-append (records log).rest (byte ∷ []) in
     record {
-      same = ap (λ (b : List (List ℕ)). opened_events (events (log ++ byte ∷ [])) + opening b) (begun-grow log byte h)
-          ∙ ap (λ m. m + opening (part ∷ whole)) (opened_more_events log byte h)
-          ∙ opened_grown rest byte (opened_events (events log)) whole before.same before.settled
+      same = ap (λ n. opened_events (events (log ++ byte ∷ [])) + opening n (begun_records (log ++ byte ∷ []))) (ahead-unchanged log byte h)
+          ∙ ap (λ (b : List (List ℕ)). opened_events (events (log ++ byte ∷ [])) + opening (ahead_in log) b) (begun-grow log byte h)
+          ∙ ap (λ m. m + opening (ahead_in log) (part ∷ whole)) (opened_more_events log byte h)
+          ∙ opened_grown (ahead_in log) (head_least (header_by log).version) rest byte (opened_events (events log)) whole before.same before.settled
           ∙ ap opened_records (sym (begun-grow log byte h));
-      settled = λ none. ap opening (begun-grow log byte h) ∙ settled_by part whole (record_size part) refl (omega arith) (sym (rest-grow log byte h) ∙ none);
+      settled = λ none. ap (λ n. opening n (begun_records (log ++ byte ∷ []))) (ahead-unchanged log byte h)
+          ∙ ap (opening (ahead_in log)) (begun-grow log byte h)
+          ∙ settled_by (ahead_in log) (head_least (header_by log).version) part whole (record_size (ahead_in log) part) refl (omega arith) (sym (rest-grow log byte h) ∙ none);
     }
 
 opened_always : (log : List ℕ) → Opened log
@@ -347,25 +362,25 @@ marks_nothing directions.Recv event items true none = ap if_some none
 marks_nothing directions.Sent event items false none = refl
 marks_nothing directions.Recv event items false none = refl
 
-event_items_by : (kind : Option RecordKind) (direction : Direction) (part so_far : List ℕ) → event_items direction (event_by kind part so_far) ≡ items_if direction (direction_of kind) (if_some (item_at so_far))
-event_items_by None directions.Sent part so_far = refl
-event_items_by None directions.Recv part so_far = refl
-event_items_by (Some kinds.Open) directions.Sent part so_far = marks_nothing directions.Sent opened (if_some (item_at so_far)) (length part == head_length) refl
-event_items_by (Some kinds.Open) directions.Recv part so_far = marks_nothing directions.Recv opened (if_some (item_at so_far)) (length part == head_length) refl
-event_items_by (Some kinds.Close) directions.Sent part so_far = marks_nothing directions.Sent closed (if_some (item_at so_far)) (length part == head_length) refl
-event_items_by (Some kinds.Close) directions.Recv part so_far = marks_nothing directions.Recv closed (if_some (item_at so_far)) (length part == head_length) refl
-event_items_by (Some kinds.Rest) directions.Sent part so_far = marks_nothing directions.Sent rested (if_some (item_at so_far)) (length part == head_length) refl
-event_items_by (Some kinds.Rest) directions.Recv part so_far = marks_nothing directions.Recv rested (if_some (item_at so_far)) (length part == head_length) refl
-event_items_by (Some kinds.Release) directions.Sent part so_far = marks_nothing directions.Sent (released (from_be_bytes w16 (drop head_length part))) (if_some (item_at so_far)) (length part == head_length + 2) refl
-event_items_by (Some kinds.Release) directions.Recv part so_far = marks_nothing directions.Recv (released (from_be_bytes w16 (drop head_length part))) (if_some (item_at so_far)) (length part == head_length + 2) refl
-event_items_by (Some kinds.Sent) direction part so_far = by direction (item_at so_far)
+event_items_by : (ahead : ℕ) (kind : Option RecordKind) (direction : Direction) (part so_far : List ℕ) → event_items direction (event_by ahead kind part so_far) ≡ items_if direction (direction_of kind) (if_some (item_at so_far))
+event_items_by ahead None directions.Sent part so_far = refl
+event_items_by ahead None directions.Recv part so_far = refl
+event_items_by ahead (Some kinds.Open) directions.Sent part so_far = marks_nothing directions.Sent opened (if_some (item_at so_far)) (length part == ahead) refl
+event_items_by ahead (Some kinds.Open) directions.Recv part so_far = marks_nothing directions.Recv opened (if_some (item_at so_far)) (length part == ahead) refl
+event_items_by ahead (Some kinds.Close) directions.Sent part so_far = marks_nothing directions.Sent closed (if_some (item_at so_far)) (length part == ahead) refl
+event_items_by ahead (Some kinds.Close) directions.Recv part so_far = marks_nothing directions.Recv closed (if_some (item_at so_far)) (length part == ahead) refl
+event_items_by ahead (Some kinds.Rest) directions.Sent part so_far = marks_nothing directions.Sent rested (if_some (item_at so_far)) (length part == ahead) refl
+event_items_by ahead (Some kinds.Rest) directions.Recv part so_far = marks_nothing directions.Recv rested (if_some (item_at so_far)) (length part == ahead) refl
+event_items_by ahead (Some kinds.Release) directions.Sent part so_far = marks_nothing directions.Sent (released (from_be_bytes w16 (drop ahead part))) (if_some (item_at so_far)) (length part == ahead + 2) refl
+event_items_by ahead (Some kinds.Release) directions.Recv part so_far = marks_nothing directions.Recv (released (from_be_bytes w16 (drop ahead part))) (if_some (item_at so_far)) (length part == ahead + 2) refl
+event_items_by ahead (Some kinds.Sent) direction part so_far = by direction (item_at so_far)
   where
     by : (direction : Direction) (item : Option Item) → event_items direction (option_map sent item) ≡ items_if direction (Some directions.Sent) (if_some item)
     by directions.Sent None = refl
     by directions.Sent (Some item) = refl
     by directions.Recv None = refl
     by directions.Recv (Some item) = refl
-event_items_by (Some kinds.Recv) direction part so_far = by direction (item_at so_far)
+event_items_by ahead (Some kinds.Recv) direction part so_far = by direction (item_at so_far)
   where
     by : (direction : Direction) (item : Option Item) → event_items direction (option_map received item) ≡ items_if direction (Some directions.Recv) (if_some item)
     by directions.Sent None = refl
@@ -377,10 +392,10 @@ nothing_put : {A : Type 0} (items : List A) (t : Bool) → items ++ cond t [] []
 nothing_put items true = append-nil items
 nothing_put items false = append-nil items
 
-items_put : (number : ℕ) (direction : Direction) (c : Context) (o : Option Event) (past : List Placed)
-    → connection_items number direction (put (placed_with c o) past) ≡ connection_items number direction past ++ cond (opened_events (put (placed_with c o) past) == number) (event_items direction o) []
-items_put number direction c None past = sym (nothing_put (connection_items number direction past) (opened_events past == number))
-items_put number direction c (Some event) past = refl
+items_put : (number : ℕ) (direction : Direction) (c : Context) (moment : ℕ) (o : Option Event) (past : List Placed)
+    → connection_items number direction (put (placed_with c moment o) past) ≡ connection_items number direction past ++ cond (opened_events (put (placed_with c moment o) past) == number) (event_items direction o) []
+items_put number direction c moment None past = sym (nothing_put (connection_items number direction past) (opened_events past == number))
+items_put number direction c moment (Some event) past = refl
 
 items_more : (number : ℕ) (direction : Direction) (log : List ℕ) (byte : ℕ) → 8 ≤ length log
     → connection_items number direction (events (log ++ byte ∷ []))
@@ -391,10 +406,10 @@ items_more number direction log byte h =
     let before : List Item = connection_items number direction (events log) in
     let o : Option Event = event_for (context log) byte in
     ap (connection_items number direction) (events_more log byte)
-    ∙ items_put number direction (context log) o (events log)
+    ∙ items_put number direction (context log) (moment_so log byte) o (events log)
     ∙ ap (λ (l : List Placed). before ++ cond (opened_events l == number) (event_items direction o) []) (sym (events_more log byte))
     ∙ ap (λ e. before ++ cond (opened_events (events (log ++ byte ∷ [])) == number) (event_items direction e) []) (event_is log byte h)
-    ∙ ap (λ items. before ++ cond (opened_events (events (log ++ byte ∷ [])) == number) items []) (event_items_by (kind_of part) direction part (so_far_for (context log) byte))
+    ∙ ap (λ items. before ++ cond (opened_events (events (log ++ byte ∷ [])) == number) items []) (event_items_by (ahead_in log) (kind_of part) direction part (so_far_for (context log) byte))
 
 -- a byte of a record, by whether it is one of its body, and which way that goes
 module _ (number : ℕ) (direction : Direction) (log : List ℕ) (byte : ℕ) (past_header : 8 ≤ length log) where
@@ -402,7 +417,7 @@ module _ (number : ℕ) (direction : Direction) (log : List ℕ) (byte : ℕ) (p
   part = (records log).rest ++ byte ∷ []
 
   abbrev carried_so : List ℕ
-  carried_so = joined number direction (begun_records log)
+  carried_so = joined (ahead_in log) number direction (begun_records log)
 
   abbrev m : ℕ
   m = opened_events (events (log ++ byte ∷ []))
@@ -413,24 +428,24 @@ module _ (number : ℕ) (direction : Direction) (log : List ℕ) (byte : ℕ) (p
   abbrev item_so : Option Item
   item_so = item_at (so_far_for (context log) byte)
 
-  so_far_is : so_far_for (context log) byte ≡ cond (nat_lt head_length (length part)) (so_far_by (direction_of (kind_of part)) (context log) byte) []
-  unfolding so_far_for
-  so_far_is = ap (λ p. cond (nat_lt head_length (length (p ++ byte ∷ []))) (so_far_by (direction_of (kind_of (p ++ byte ∷ []))) (context log) byte) []) (part_context log)
+  so_far_is : so_far_for (context log) byte ≡ cond (nat_lt (ahead_in log) (length part)) (so_far_by (direction_of (kind_of part)) (context log) byte) []
+  unfolding so_far_for context
+  so_far_is = ap (λ p. cond (nat_lt (ahead_in log) (length (p ++ byte ∷ []))) (so_far_by (direction_of (kind_of (p ++ byte ∷ []))) (context log) byte) []) (part_context log)
 
   same_number : opens (kind_of part) ≡ false → m ≡ n
   same_number is =
-      let both : m + opening (begun_records (log ++ byte ∷ [])) ≡ n = (opened_always (log ++ byte ∷ [])).same in
-      let none : opening (begun_records (log ++ byte ∷ [])) ≡ 0
-      = ap opening (begun-grow log byte past_header) ∙ ap (λ t. cond (t && nat_lt (length part) head_length) 1 0) is in
+      let both : m + opening (ahead_in (log ++ byte ∷ [])) (begun_records (log ++ byte ∷ [])) ≡ n = (opened_always (log ++ byte ∷ [])).same in
+      let none : opening (ahead_in (log ++ byte ∷ [])) (begun_records (log ++ byte ∷ [])) ≡ 0
+      = ap (opening (ahead_in (log ++ byte ∷ []))) (begun-grow log byte past_header) ∙ ap (λ t. cond (t && nat_lt (length part) (ahead_in (log ++ byte ∷ []))) 1 0) is in
       omega (arith, both, none)
 
-  newest_carried : opens (kind_of part) ≡ false → n ≡ number → carried_so ≡ carried direction (begun_records log)
+  newest_carried : opens (kind_of part) ≡ false → n ≡ number → carried_so ≡ carried (ahead_in log) direction (begun_records log)
   unfolding begun_records
   newest_carried is same =
       let kept : n ≡ opened_records (begun_records log) = ap opened_records (begun-grow log byte past_header) ∙ opened_kept (records log).rest byte (reverse (records log).whole) is in
-      ap (λ k. joined k direction (begun_records log)) (sym same ∙ kept) ∙ newest direction (begun_records log)
+      ap (λ k. joined (ahead_in log) k direction (begun_records log)) (sym same ∙ kept) ∙ newest (ahead_in log) direction (begun_records log)
 
-  item_goes : nat_lt head_length (length part) ≡ true → direction_of (kind_of part) ≡ Some direction → carried_so ≡ carried direction (begun_records log) → item_so ≡ item_at (packet_with carried_so byte)
+  item_goes : nat_lt (ahead_in log) (length part) ≡ true → direction_of (kind_of part) ≡ Some direction → carried_so ≡ carried (ahead_in log) direction (begun_records log) → item_so ≡ item_at (packet_with carried_so byte)
   item_goes g w is =
       ap item_at (so_far_is
       ∙ ap (λ t. cond t (so_far_by (direction_of (kind_of part)) (context log) byte) []) g
@@ -439,7 +454,7 @@ module _ (number : ℕ) (direction : Direction) (log : List ℕ) (byte : ℕ) (p
       ∙ ap (λ bytes. packet_with bytes byte) (sym is))
 
   -- a byte of this direction, on some connection
-  own_byte : (t : Bool) → (n == number) ≡ t → nat_lt head_length (length part) ≡ true → direction_of (kind_of part) ≡ Some direction
+  own_byte : (t : Bool) → (n == number) ≡ t → nat_lt (ahead_in log) (length part) ≡ true → direction_of (kind_of part) ≡ Some direction
       → stream_items (stream carried_so) ++ cond (m == number) (if_some item_so) [] ≡ stream_items (stream (carried_so ++ cond (n == number) (byte ∷ []) []))
   own_byte true is g w =
       let opens_nothing = opens_none (kind_of part) direction w in
@@ -461,7 +476,7 @@ module _ (number : ℕ) (direction : Direction) (log : List ℕ) (byte : ℕ) (p
   other_byte : stream_items (stream carried_so) ++ cond (m == number) [] [] ≡ stream_items (stream (carried_so ++ cond (n == number) [] []))
   other_byte = nothing_put (stream_items (stream carried_so)) (m == number) ∙ ap (λ bytes. stream_items (stream bytes)) (sym (nothing_put carried_so (n == number)))
 
-  byte_goes : (g : Bool) → nat_lt head_length (length part) ≡ g → (each : Direction) → each ≡ direction → (w : Option Direction) → direction_of (kind_of part) ≡ w
+  byte_goes : (g : Bool) → nat_lt (ahead_in log) (length part) ≡ g → (each : Direction) → each ≡ direction → (w : Option Direction) → direction_of (kind_of part) ≡ w
       → stream_items (stream carried_so) ++ cond (m == number) (items_if each w (if_some item_so)) [] ≡ stream_items (stream (carried_so ++ cond (n == number) (cond g (if_direction each w (byte ∷ [])) []) []))
   byte_goes false g each same w is =
       let none : item_so ≡ None = ap item_at (so_far_is ∙ ap (λ t. cond t (so_far_by (direction_of (kind_of part)) (context log) byte) []) g) ∙ nothing_item in
@@ -483,25 +498,25 @@ module _ (number : ℕ) (direction : Direction) (log : List ℕ) (byte : ℕ) (p
   byte_goes true g directions.Sent same (Some directions.Sent) is = own_byte (n == number) refl g (is ∙ ap Some same)
   byte_goes true g directions.Recv same (Some directions.Recv) is = own_byte (n == number) refl g (is ∙ ap Some same)
 
-  byte_more : connection_items number direction (events log) ≡ stream_items (stream carried_so) → connection_items number direction (events (log ++ byte ∷ [])) ≡ stream_items (stream (joined number direction (begun_records (log ++ byte ∷ []))))
+  byte_more : connection_items number direction (events log) ≡ stream_items (stream carried_so) → connection_items number direction (events (log ++ byte ∷ [])) ≡ stream_items (stream (joined (ahead_in (log ++ byte ∷ [])) number direction (begun_records (log ++ byte ∷ []))))
   byte_more before =
       items_more number direction log byte past_header
       ∙ ap (λ items. items ++ cond (m == number) (items_if direction (direction_of (kind_of part)) (if_some item_so)) []) before
-      ∙ byte_goes (nat_lt head_length (length part)) refl direction refl (direction_of (kind_of part)) refl
+      ∙ byte_goes (nat_lt (ahead_in log) (length part)) refl direction refl (direction_of (kind_of part)) refl
       ∙ ap (λ bytes. stream_items (stream bytes)) (sym (joined_more number direction log byte past_header))
 
 -- Nothing is on a connection in a header.
-header_items : (number : ℕ) (direction : Direction) (log : List ℕ) → length log ≤ 8 → connection_items number direction (events log) ≡ stream_items (stream (joined number direction (begun_records log)))
+header_items : (number : ℕ) (direction : Direction) (log : List ℕ) → length log ≤ 8 → connection_items number direction (events log) ≡ stream_items (stream (joined (ahead_in log) number direction (begun_records log)))
 header_items number direction log h =
-    ap (connection_items number direction) (events-header log h) ∙ sym (ap (λ parts. stream_items (stream (joined number direction parts))) (begun-header log h) ∙ stream_nothing)
+    ap (connection_items number direction) (events-header log h) ∙ sym (ap (λ parts. stream_items (stream (joined (ahead_in log) number direction parts))) (begun-header log h) ∙ stream_nothing)
 
-pub items-are : (number : ℕ) (direction : Direction) (log : List ℕ) → connection_items number direction (events log) ≡ stream_items (stream (joined number direction (begun_records log)))
+pub items-are : (number : ℕ) (direction : Direction) (log : List ℕ) → connection_items number direction (events log) ≡ stream_items (stream (joined (ahead_in log) number direction (begun_records log)))
 items-are number direction log =
-    along (λ l. connection_items number direction (events l) ≡ stream_items (stream (joined number direction (begun_records l)))) (header_items number direction [] (omega arith))
+    along (λ l. connection_items number direction (events l) ≡ stream_items (stream (joined (ahead_in l) number direction (begun_records l)))) (header_items number direction [] (omega arith))
     (λ l byte before. by_length l byte before (nat_lt (length l) 8) refl) log
   where
-    by_length : (l : List ℕ) (byte : ℕ) → connection_items number direction (events l) ≡ stream_items (stream (joined number direction (begun_records l))) → (b : Bool) → nat_lt (length l) 8 ≡ b
-        → connection_items number direction (events (l ++ byte ∷ [])) ≡ stream_items (stream (joined number direction (begun_records (l ++ byte ∷ []))))
+    by_length : (l : List ℕ) (byte : ℕ) → connection_items number direction (events l) ≡ stream_items (stream (joined (ahead_in l) number direction (begun_records l))) → (b : Bool) → nat_lt (length l) 8 ≡ b
+        → connection_items number direction (events (l ++ byte ∷ [])) ≡ stream_items (stream (joined (ahead_in (l ++ byte ∷ [])) number direction (begun_records (l ++ byte ∷ []))))
     by_length l byte before true is =
         let more = length-append l (byte ∷ []) in
         let short = ltb-true (length l) 8 is in

@@ -9,6 +9,7 @@ pub mod StreamStateLaws
 pub mod ItemLaws
 pub mod JoinedLaws
 pub mod LiftLaws
+pub mod MomentLaws
 pub mod PiecesLaws
 pub mod ReadBackLaws
 pub mod ReadingLaws

@@ -11,12 +11,14 @@ use Rattle.mq_trace.specs.declared.kind.Direction.{Direction}
 use Rattle.mq_trace.specs.declared.kind.Direction.TheVariants as directions
 use Rattle.mq_trace.specs.declared.refusal.Refusal.{Refusal}
 use Rattle.mq_trace.specs.declared.refusal.Refusal.TheVariants as refusals
-use Rattle.mq_trace.specs.Framing.{kind_of, body_length, record_size, direction_of, opens, head_length}
+use Rattle.mq_trace.specs.Framing.{kind_of, body_length, record_size, direction_of, opens, length_end, moment_in}
 use Rattle.mq_trace.specs.Events.{Item, Event, item_at, event_by, event_in, read_frame}
 use Rattle.mq_trace.specs.Refusals.{first_that_applies, allows_length, is_open_kind, needs_connection, is_release_kind, is_too_large, is_other_version, record_refusal, header_refusal}
-use Rattle.mq_trace.specs.Context.{StreamState, Context, state_for, so_far_in, so_far_by, so_far_for, situated, state_after, state_by, state_then, with_completed, after_header, after_part, after, put, placed_with, placed_for, refusal_for, event_for}
+use Rattle.mq_trace.specs.Context.{StreamState, Context, ahead_of, state_for, so_far_in, so_far_by, so_far_for, situated, state_after, state_by, state_then, with_completed, after_header, after_part, after, put, placed_with, placed_for, refusal_for, event_for}
 use Rattle.mq_trace.specs.Runs.{after_bytes, refused_in, events_by}
 use Rattle.mq_trace.specs.Flows.{BodyContext, Flow, item_event, flows_too_early, flow_event, flow_refusal, flow_placed, flow_placed_with, flow_with, flow_after, flow_after_bytes, flow_refused, flow_events, context_in, flow_in, state_after_body, flowed}
+use Rattle.mq_trace.proofs.FramingLaws.{head_least}
+use Rattle.mq_trace.proofs.MomentLaws.{moment_stays}
 
 -- A record that carries packets opens no connection, and its events are what its packets are.
 pub opens_none : (kind : Option RecordKind) (direction : Direction) → direction_of kind ≡ Some direction → opens kind ≡ false
@@ -28,24 +30,24 @@ opens_none (Some kinds.Close) direction e = refl
 opens_none (Some kinds.Rest) direction e = refl
 opens_none (Some kinds.Release) direction e = refl
 
-event_by_item : (kind : Option RecordKind) (direction : Direction) (part so_far : List ℕ) → direction_of kind ≡ Some direction → event_by kind part so_far ≡ option_map (item_event direction) (item_at so_far)
-event_by_item None direction part so_far e = absurd (cc)
-event_by_item (Some kinds.Open) direction part so_far e = absurd (cc)
-event_by_item (Some kinds.Sent) directions.Sent part so_far e = refl
-event_by_item (Some kinds.Sent) directions.Recv part so_far e = absurd (cc)
-event_by_item (Some kinds.Recv) directions.Sent part so_far e = absurd (cc)
-event_by_item (Some kinds.Recv) directions.Recv part so_far e = refl
-event_by_item (Some kinds.Close) direction part so_far e = absurd (cc)
-event_by_item (Some kinds.Rest) direction part so_far e = absurd (cc)
-event_by_item (Some kinds.Release) direction part so_far e = absurd (cc)
+event_by_item : (ahead : ℕ) (kind : Option RecordKind) (direction : Direction) (part so_far : List ℕ) → direction_of kind ≡ Some direction → event_by ahead kind part so_far ≡ option_map (item_event direction) (item_at so_far)
+event_by_item ahead None direction part so_far e = absurd (cc)
+event_by_item ahead (Some kinds.Open) direction part so_far e = absurd (cc)
+event_by_item ahead (Some kinds.Sent) directions.Sent part so_far e = refl
+event_by_item ahead (Some kinds.Sent) directions.Recv part so_far e = absurd (cc)
+event_by_item ahead (Some kinds.Recv) directions.Sent part so_far e = absurd (cc)
+event_by_item ahead (Some kinds.Recv) directions.Recv part so_far e = refl
+event_by_item ahead (Some kinds.Close) direction part so_far e = absurd (cc)
+event_by_item ahead (Some kinds.Rest) direction part so_far e = absurd (cc)
+event_by_item ahead (Some kinds.Release) direction part so_far e = absurd (cc)
 
 -- the head of a record stays, whatever follows
-kind_stays : (part more : List ℕ) → head_length ≤ length part → kind_of (part ++ more) ≡ kind_of part
+kind_stays : (part more : List ℕ) → length_end ≤ length part → kind_of (part ++ more) ≡ kind_of part
 unfolding kind_of
 kind_stays [] more h = absurd (omega arith)
 kind_stays (k ∷ part) more h = refl
 
-body_stays : (part more : List ℕ) → head_length ≤ length part → body_length (part ++ more) ≡ body_length part
+body_stays : (part more : List ℕ) → length_end ≤ length part → body_length (part ++ more) ≡ body_length part
 unfolding body_length
 body_stays [] b h = absurd (omega arith)
 body_stays (k ∷ []) b h = absurd (omega arith)
@@ -56,9 +58,9 @@ body_stays (k ∷ p ∷ q ∷ r ∷ s ∷ part) b h = refl
 
 -- the refusal of a byte of a record, with what follows from how far the record is, and the event
 abbrev lines : ℕ → Context → List ℕ → List ℕ → Bool → Bool → Bool → Option Event → Option Refusal
-lines limit c part so_far first head early event = first_that_applies (
+lines limit c part so_far first whole early event = first_that_applies (
     (first && is_none (kind_of part), refusals.Kind c.at)
-    ∷ (head && not (allows_length (kind_of part) (body_length part)), refusals.Length c.at)
+    ∷ (whole && not (allows_length c.header.version (kind_of part) (body_length part)), refusals.Length c.at)
     ∷ (first && (is_open_kind (kind_of part) && c.connected), refusals.Nested c.at)
     ∷ (first && (needs_connection (kind_of part) && not c.connected), refusals.NotOpen c.at)
     ∷ (first && (is_release_kind (kind_of part) && not c.header.releases), refusals.ReleaseUnrecorded c.at)
@@ -69,11 +71,11 @@ lines limit c part so_far first head early event = first_that_applies (
     ∷ [])
 
 -- A record is whole where all of its body is there.
-whole_by : (part : List ℕ) → head_length ≤ length part → is_some (record_size part) ≡ nat_le (head_length + body_length part) (length part)
+whole_by : (ahead : ℕ) (part : List ℕ) → ahead ≤ length part → is_some (record_size ahead part) ≡ nat_le (ahead + body_length part) (length part)
 unfolding record_size
-whole_by part there = ap (λ b. is_some (if b then None else (if nat_le (head_length + body_length part) (length part) then Some (head_length + body_length part) else None))) (le-ltb (length part) head_length there) ∙ some_if (nat_le (head_length + body_length part) (length part))
+whole_by ahead part there = ap (λ b. is_some (if b then None else (if nat_le (ahead + body_length part) (length part) then Some (ahead + body_length part) else None))) (le-ltb (length part) ahead there) ∙ some_if (nat_le (ahead + body_length part) (length part))
   where
-    some_if : (b : Bool) → is_some (if b then Some (head_length + body_length part) else None) ≡ b
+    some_if : (b : Bool) → is_some (if b then Some (ahead + body_length part) else None) ≡ b
     some_if true = refl
     some_if false = refl
 
@@ -110,8 +112,12 @@ kept_flowed c direction byte whole None = refl
 kept_flowed c directions.Sent byte whole (Some item) = refl
 kept_flowed c directions.Recv byte whole (Some item) = refl
 
+-- a head has a whole length
+length_there : (c : Context) → ahead_of c ≤ length c.part → length_end ≤ length c.part
+length_there c there = let least = head_least c.header.version in omega arith
+
 -- one byte of a body
-module _ (c : Context) (direction : Direction) (byte : ℕ) (past_header : 8 ≤ c.at) (goes : direction_of (kind_of c.part) ≡ Some direction) (there : head_length ≤ length c.part) where
+module _ (c : Context) (direction : Direction) (byte : ℕ) (past_header : 8 ≤ c.at) (goes : direction_of (kind_of c.part) ≡ Some direction) (there : ahead_of c ≤ length c.part) where
   abbrev part : List ℕ
   part = c.part ++ byte ∷ []
 
@@ -125,16 +131,16 @@ module _ (c : Context) (direction : Direction) (byte : ℕ) (past_header : 8 ≤
   longer = length-append c.part (byte ∷ [])
 
   goes_on : direction_of (kind_of part) ≡ Some direction
-  goes_on = ap direction_of (kind_stays c.part (byte ∷ []) there) ∙ goes
+  goes_on = ap direction_of (kind_stays c.part (byte ∷ []) (length_there c there)) ∙ goes
 
-  in_body : nat_lt head_length (length part) ≡ true
-  in_body = let l = longer in lt-ltb head_length (length part) (omega arith)
+  in_body : nat_lt (ahead_of c) (length part) ≡ true
+  in_body = let l = longer in lt-ltb (ahead_of c) (length part) (omega arith)
 
   not_first : (length part == 1) ≡ false
-  not_first = let l = longer in ne_eqb (length part) 1 (λ same. (omega arith))
+  not_first = let l = longer in let long = length_there c there in ne_eqb (length part) 1 (λ same. (omega arith))
 
-  not_head : (length part == head_length) ≡ false
-  not_head = let l = longer in ne_eqb (length part) head_length (λ same. (omega arith))
+  not_head : (length part == length_end) ≡ false
+  not_head = let l = longer in let long = length_there c there in ne_eqb (length part) length_end (λ same. (omega arith))
 
   so_far_is : so_far_for c byte ≡ so_far_in (state_for c direction) byte
   unfolding so_far_for
@@ -143,16 +149,16 @@ module _ (c : Context) (direction : Direction) (byte : ℕ) (past_header : 8 ≤
   event_is : event_for c byte ≡ flow_event context flow byte
   unfolding event_for event_in flow_event
   event_is =
-      ap (λ b. if b then None else event_by (kind_of part) part (so_far_for c byte)) (le-ltb c.at 8 past_header)
-      ∙ event_by_item (kind_of part) direction part (so_far_for c byte) goes_on
+      ap (λ b. if b then None else event_by (ahead_of c) (kind_of part) part (so_far_for c byte)) (le-ltb c.at 8 past_header)
+      ∙ event_by_item (ahead_of c) (kind_of part) direction part (so_far_for c byte) goes_on
       ∙ ap (λ t. option_map (item_event direction) (item_at t)) so_far_is
 
-  event_within : event_in part (so_far_for c byte) ≡ flow_event context flow byte
+  event_within : event_in (ahead_of c) part (so_far_for c byte) ≡ flow_event context flow byte
   unfolding event_in flow_event
-  event_within = event_by_item (kind_of part) direction part (so_far_for c byte) goes_on ∙ ap (λ t. option_map (item_event direction) (item_at t)) so_far_is
+  event_within = event_by_item (ahead_of c) (kind_of part) direction part (so_far_for c byte) goes_on ∙ ap (λ t. option_map (item_event direction) (item_at t)) so_far_is
 
   by_lines : (limit : ℕ) → record_refusal limit (situated c byte)
-      ≡ lines limit c part (so_far_for c byte) (length part == 1) (length part == head_length) (flows_too_early context flow (event_in part (so_far_for c byte))) (event_in part (so_far_for c byte))
+      ≡ lines limit c part (so_far_for c byte) (length part == 1) (length part == length_end) (flows_too_early context flow (event_in (ahead_of c) part (so_far_for c byte))) (event_in (ahead_of c) part (so_far_for c byte))
   unfolding record_refusal situated
   by_lines limit = refl
 
@@ -166,36 +172,39 @@ module _ (c : Context) (direction : Direction) (byte : ℕ) (past_header : 8 ≤
   refusal_lifted limit =
       ap (λ b. if b then header_refusal c.at byte else record_refusal limit (situated c byte)) (le-ltb c.at 8 past_header)
       ∙ by_lines limit
-      ∙ ap (λ b. lines limit c part (so_far_for c byte) b (length part == head_length) (flows_too_early context flow (event_in part (so_far_for c byte))) (event_in part (so_far_for c byte))) not_first
-      ∙ ap (λ b. lines limit c part (so_far_for c byte) false b (flows_too_early context flow (event_in part (so_far_for c byte))) (event_in part (so_far_for c byte))) not_head
+      ∙ ap (λ b. lines limit c part (so_far_for c byte) b (length part == length_end) (flows_too_early context flow (event_in (ahead_of c) part (so_far_for c byte))) (event_in (ahead_of c) part (so_far_for c byte))) not_first
+      ∙ ap (λ b. lines limit c part (so_far_for c byte) false b (flows_too_early context flow (event_in (ahead_of c) part (so_far_for c byte))) (event_in (ahead_of c) part (so_far_for c byte))) not_head
       ∙ ap (λ e. lines limit c part (so_far_for c byte) false false (flows_too_early context flow e) e) event_within
       ∙ ap (λ t. lines limit c part t false false (flows_too_early context flow (flow_event context flow byte)) (flow_event context flow byte)) so_far_is
       ∙ by_flow limit
 
-  place_same : (event : Option Event) → placed_with c event ≡ flow_placed_with context flow event
+  place_same : (event : Option Event) → placed_with c (moment_in (ahead_of c) c.part) event ≡ flow_placed_with context flow event
   place_same None = refl
   place_same (Some event) = refl
 
   -- So is its event.
   placed_lifted : placed_for c byte ≡ flow_placed context flow byte
   unfolding placed_for flow_placed
-  placed_lifted = ap (placed_with c) event_is ∙ place_same (flow_event context flow byte)
+  placed_lifted =
+      ap (λ m. placed_with c m (event_for c byte)) (moment_stays (ahead_of c) c.part (byte ∷ []) there)
+      ∙ ap (placed_with c (moment_in (ahead_of c) c.part)) event_is
+      ∙ place_same (flow_event context flow byte)
 
-  state_is : (each : Direction) → state_then each (state_for c each) part byte ≡ state_after_body each direction (state_after (state_for c direction) byte) (state_for c each)
+  state_is : (each : Direction) → state_then (ahead_of c) each (state_for c each) part byte ≡ state_after_body each direction (state_after (state_for c direction) byte) (state_for c each)
   unfolding state_then
   state_is each =
-      ap (λ b. cond b (record { unfinished = []; lost = false }) (cond (nat_lt head_length (length part)) (state_by each (direction_of (kind_of part)) (state_for c each) byte) (state_for c each))) (opens_none (kind_of part) direction goes_on)
+      ap (λ b. cond b (record { unfinished = []; lost = false }) (cond (nat_lt (ahead_of c) (length part)) (state_by each (direction_of (kind_of part)) (state_for c each) byte) (state_for c each))) (opens_none (kind_of part) direction goes_on)
       ∙ ap (λ b. cond b (state_by each (direction_of (kind_of part)) (state_for c each) byte) (state_for c each)) in_body
       ∙ ap (λ w. state_by each w (state_for c each) byte) goes_on
       ∙ state_same each direction c byte
 
-  whole_is : length c.part < head_length + body_length c.part → is_some (record_size part) ≡ (length c.part + 1 == head_length + body_length c.part)
+  whole_is : length c.part < ahead_of c + body_length c.part → is_some (record_size (ahead_of c) part) ≡ (length c.part + 1 == ahead_of c + body_length c.part)
   whole_is less =
       let l = longer in
-      whole_by part (omega arith)
-      ∙ ap (λ n. nat_le (head_length + n) (length part)) (body_stays c.part (byte ∷ []) there)
-      ∙ ap (nat_le (head_length + body_length c.part)) l
-      ∙ just_whole (length c.part) (head_length + body_length c.part) less
+      whole_by (ahead_of c) part (omega arith)
+      ∙ ap (λ n. nat_le (ahead_of c + n) (length part)) (body_stays c.part (byte ∷ []) (length_there c there))
+      ∙ ap (nat_le (ahead_of c + body_length c.part)) l
+      ∙ just_whole (length c.part) (ahead_of c + body_length c.part) less
 
   flow_after_is : flow_after context flow byte ≡ flow_with context (record flow { at = c.at + 1; state = state_after (state_for c direction) byte }) (option_map (item_event direction) (item_at (so_far_in (state_for c direction) byte)))
   unfolding flow_after flow_event
@@ -206,39 +215,39 @@ module _ (c : Context) (direction : Direction) (byte : ℕ) (past_header : 8 ≤
   flow_event_is = refl
 
   -- What is kept after the byte is what the flow keeps.
-  after_lifted : length c.part < head_length + body_length c.part → after c byte ≡ flowed c direction (length c.part + 1 == head_length + body_length c.part) (flow_after context flow byte) (byte ∷ [])
+  after_lifted : length c.part < ahead_of c + body_length c.part → after c byte ≡ flowed c direction (length c.part + 1 == ahead_of c + body_length c.part) (flow_after context flow byte) (byte ∷ [])
   unfolding after
   after_lifted less =
       ap (λ b. if b then after_header c byte else with_completed (after_part c part byte) (event_for c byte)) (le-ltb c.at 8 past_header)
-      ∙ ap (λ h. kept c part (is_some (record_size part)) h (state_then directions.Recv c.recv part byte) (event_for c byte)) (state_is directions.Sent)
-      ∙ ap (λ h. kept c part (is_some (record_size part)) (state_after_body directions.Sent direction (state_after (state_for c direction) byte) c.sent) h (event_for c byte)) (state_is directions.Recv)
+      ∙ ap (λ h. kept c part (is_some (record_size (ahead_of c) part)) h (state_then (ahead_of c) directions.Recv c.recv part byte) (event_for c byte)) (state_is directions.Sent)
+      ∙ ap (λ h. kept c part (is_some (record_size (ahead_of c) part)) (state_after_body directions.Sent direction (state_after (state_for c direction) byte) c.sent) h (event_for c byte)) (state_is directions.Recv)
       ∙ ap (λ b. kept c part b (state_after_body directions.Sent direction (state_after (state_for c direction) byte) c.sent) (state_after_body directions.Recv direction (state_after (state_for c direction) byte) c.recv) (event_for c byte)) (whole_is less)
-      ∙ ap (kept c part (length c.part + 1 == head_length + body_length c.part) (state_after_body directions.Sent direction (state_after (state_for c direction) byte) c.sent) (state_after_body directions.Recv direction (state_after (state_for c direction) byte) c.recv)) (event_is ∙ flow_event_is)
-      ∙ kept_flowed c direction byte (length c.part + 1 == head_length + body_length c.part) (item_at (so_far_in (state_for c direction) byte))
-      ∙ ap (λ g. flowed c direction (length c.part + 1 == head_length + body_length c.part) g (byte ∷ [])) (sym flow_after_is)
+      ∙ ap (kept c part (length c.part + 1 == ahead_of c + body_length c.part) (state_after_body directions.Sent direction (state_after (state_for c direction) byte) c.sent) (state_after_body directions.Recv direction (state_after (state_for c direction) byte) c.recv)) (event_is ∙ flow_event_is)
+      ∙ kept_flowed c direction byte (length c.part + 1 == ahead_of c + body_length c.part) (item_at (so_far_in (state_for c direction) byte))
+      ∙ ap (λ g. flowed c direction (length c.part + 1 == ahead_of c + body_length c.part) g (byte ∷ [])) (sym flow_after_is)
 
 -- The byte is refused as in its flow ..
-pub lifted-refusal : (limit : ℕ) (c : Context) (direction : Direction) (byte : ℕ) → 8 ≤ c.at → direction_of (kind_of c.part) ≡ Some direction → head_length ≤ length c.part
+pub lifted-refusal : (limit : ℕ) (c : Context) (direction : Direction) (byte : ℕ) → 8 ≤ c.at → direction_of (kind_of c.part) ≡ Some direction → ahead_of c ≤ length c.part
     → refusal_for limit c byte ≡ flow_refusal limit (context_in c direction) (flow_in c direction) byte
 lifted-refusal limit c direction byte past_header goes there = refusal_lifted c direction byte past_header goes there limit
 
 -- .. completes what it does there ..
-pub lifted-placed : (c : Context) (direction : Direction) (byte : ℕ) → 8 ≤ c.at → direction_of (kind_of c.part) ≡ Some direction → head_length ≤ length c.part
+pub lifted-placed : (c : Context) (direction : Direction) (byte : ℕ) → 8 ≤ c.at → direction_of (kind_of c.part) ≡ Some direction → ahead_of c ≤ length c.part
     → placed_for c byte ≡ flow_placed (context_in c direction) (flow_in c direction) byte
 lifted-placed c direction byte past_header goes there = placed_lifted c direction byte past_header goes there
 
 -- .. and leaves what it leaves there.
-pub lifted-after : (c : Context) (direction : Direction) (byte : ℕ) → 8 ≤ c.at → direction_of (kind_of c.part) ≡ Some direction → head_length ≤ length c.part → length c.part < head_length + body_length c.part
-    → after c byte ≡ flowed c direction (length c.part + 1 == head_length + body_length c.part) (flow_after (context_in c direction) (flow_in c direction) byte) (byte ∷ [])
+pub lifted-after : (c : Context) (direction : Direction) (byte : ℕ) → 8 ≤ c.at → direction_of (kind_of c.part) ≡ Some direction → ahead_of c ≤ length c.part → length c.part < ahead_of c + body_length c.part
+    → after c byte ≡ flowed c direction (length c.part + 1 == ahead_of c + body_length c.part) (flow_after (context_in c direction) (flow_in c direction) byte) (byte ∷ [])
 lifted-after c direction byte past_header goes there less = after_lifted c direction byte past_header goes there less
 
 -- The packet so far of a byte of a body is its direction's.
-pub lifted-so_far : (c : Context) (direction : Direction) (byte : ℕ) → direction_of (kind_of c.part) ≡ Some direction → head_length ≤ length c.part → so_far_for c byte ≡ so_far_in (state_for c direction) byte
+pub lifted-so_far : (c : Context) (direction : Direction) (byte : ℕ) → direction_of (kind_of c.part) ≡ Some direction → ahead_of c ≤ length c.part → so_far_for c byte ≡ so_far_in (state_for c direction) byte
 unfolding so_far_for
 lifted-so_far c direction byte goes there =
     let longer : length (c.part ++ byte ∷ []) ≡ length c.part + 1 = length-append c.part (byte ∷ []) in
-    ap (λ b. cond b (so_far_by (direction_of (kind_of (c.part ++ byte ∷ []))) c byte) []) (lt-ltb head_length (length (c.part ++ byte ∷ [])) (omega arith))
-    ∙ ap (λ w. so_far_by w c byte) (ap direction_of (kind_stays c.part (byte ∷ []) there) ∙ goes)
+    ap (λ b. cond b (so_far_by (direction_of (kind_of (c.part ++ byte ∷ []))) c byte) []) (lt-ltb (ahead_of c) (length (c.part ++ byte ∷ [])) (omega arith))
+    ∙ ap (λ w. so_far_by w c byte) (ap direction_of (kind_stays c.part (byte ∷ []) (length_there c there)) ∙ goes)
 
 -- the direction that a flow keeps, in what is kept of the log
 pub state_flowed : (c : Context) (direction : Direction) (f : Flow) (bytes : List ℕ) → state_for (flowed c direction false f bytes) direction ≡ f.state
@@ -283,8 +292,8 @@ flowed_none c directions.Sent = ap (λ t. record c { part = t }) (append-nil c.p
 flowed_none c directions.Recv = ap (λ t. record c { part = t }) (append-nil c.part)
 
 -- a byte of a body after which more of the body stands
-module _ (c : Context) (direction : Direction) (byte next : ℕ) (bytes : List ℕ) (past_header : 8 ≤ c.at) (goes : direction_of (kind_of c.part) ≡ Some direction) (there : head_length ≤ length c.part)
-    (fits : length c.part + length (byte ∷ next ∷ bytes) ≤ head_length + body_length c.part) where
+module _ (c : Context) (direction : Direction) (byte next : ℕ) (bytes : List ℕ) (past_header : 8 ≤ c.at) (goes : direction_of (kind_of c.part) ≡ Some direction) (there : ahead_of c ≤ length c.part)
+    (fits : length c.part + length (byte ∷ next ∷ bytes) ≤ ahead_of c + body_length c.part) where
   abbrev then_flow : Flow
   then_flow = flow_after (context_in c direction) (flow_in c direction) byte
 
@@ -297,38 +306,42 @@ module _ (c : Context) (direction : Direction) (byte next : ℕ) (bytes : List �
   then_is : after c byte ≡ then_kept
   then_is =
       lifted-after c direction byte past_header goes there (omega arith)
-      ∙ ap (λ b. flowed c direction b then_flow (byte ∷ [])) (ne_eqb (length c.part + 1) (head_length + body_length c.part) (λ same. (omega arith)))
+      ∙ ap (λ b. flowed c direction b then_flow (byte ∷ [])) (ne_eqb (length c.part + 1) (ahead_of c + body_length c.part) (λ same. (omega arith)))
 
   then_at : 8 ≤ then_kept.at
   then_at = let same : then_flow.at ≡ c.at + 1 = after_at (context_in c direction) (flow_in c direction) byte in omega arith
 
   then_goes : direction_of (kind_of then_kept.part) ≡ Some direction
-  then_goes = ap direction_of (kind_stays c.part (byte ∷ []) there) ∙ goes
+  then_goes = ap direction_of (kind_stays c.part (byte ∷ []) (length_there c there)) ∙ goes
 
-  then_there : head_length ≤ length then_kept.part
+  then_there : ahead_of c ≤ length then_kept.part
   then_there = let l = then_longer in omega arith
 
   then_body : body_length then_kept.part ≡ body_length c.part
-  then_body = body_stays c.part (byte ∷ []) there
+  then_body = body_stays c.part (byte ∷ []) (length_there c there)
 
-  then_fits : length then_kept.part + length (next ∷ bytes) ≤ head_length + body_length then_kept.part
+  then_fits : length then_kept.part + length (next ∷ bytes) ≤ ahead_of c + body_length then_kept.part
   then_fits = let l = then_longer in let b = then_body in omega arith
 
-  then_less : length then_kept.part < head_length + body_length then_kept.part
+  then_less : length then_kept.part < ahead_of c + body_length then_kept.part
   then_less = let l = then_longer in let b = then_body in omega arith
 
   then_flows : flow_in then_kept direction ≡ then_flow
   then_flows = flow_again c direction then_flow (byte ∷ []) (after_connected (context_in c direction) (flow_in c direction) byte) (after_before (context_in c direction) (flow_in c direction) byte)
 
-  then_whole : (length then_kept.part + length (next ∷ bytes) == head_length + body_length then_kept.part) ≡ (length c.part + length (byte ∷ next ∷ bytes) == head_length + body_length c.part)
+  -- it is in the same record
+  then_context : context_in then_kept direction ≡ context_in c direction
+  then_context = ap (λ m. record (context_in c direction) { in_record = record { record_no = c.records + 1; moment = m } }) (moment_stays (ahead_of c) c.part (byte ∷ []) there)
+
+  then_whole : (length then_kept.part + length (next ∷ bytes) == ahead_of c + body_length then_kept.part) ≡ (length c.part + length (byte ∷ next ∷ bytes) == ahead_of c + body_length c.part)
   then_whole =
       let l = then_longer in
       let counted : length (c.part ++ byte ∷ []) + length (next ∷ bytes) ≡ length c.part + length (byte ∷ next ∷ bytes) = omega arith in
-      ap (λ n. n == head_length + body_length then_kept.part) counted ∙ ap (λ n. length c.part + length (byte ∷ next ∷ bytes) == head_length + n) then_body
+      ap (λ n. n == ahead_of c + body_length then_kept.part) counted ∙ ap (λ n. length c.part + length (byte ∷ next ∷ bytes) == ahead_of c + n) then_body
 
 -- Bytes of one body are refused as in their flow ..
-pub lifted-refused : (limit : ℕ) (c : Context) (direction : Direction) (bytes : List ℕ) → 8 ≤ c.at → direction_of (kind_of c.part) ≡ Some direction → head_length ≤ length c.part
-    → length c.part + length bytes ≤ head_length + body_length c.part → refused_in limit c bytes ≡ flow_refused limit (context_in c direction) (flow_in c direction) bytes
+pub lifted-refused : (limit : ℕ) (c : Context) (direction : Direction) (bytes : List ℕ) → 8 ≤ c.at → direction_of (kind_of c.part) ≡ Some direction → ahead_of c ≤ length c.part
+    → length c.part + length bytes ≤ ahead_of c + body_length c.part → refused_in limit c bytes ≡ flow_refused limit (context_in c direction) (flow_in c direction) bytes
 lifted-refused limit c direction [] past_header goes there fits = refl
 lifted-refused limit c direction (byte ∷ []) past_header goes there fits = ap (λ o. option_or o None) (lifted-refusal limit c direction byte past_header goes there)
 lifted-refused limit c direction (byte ∷ next ∷ bytes) past_header goes there fits =
@@ -338,11 +351,12 @@ lifted-refused limit c direction (byte ∷ next ∷ bytes) past_header goes ther
     ∙ lifted-refused limit (then_kept c direction byte next bytes past_header goes there fits) direction (next ∷ bytes)
     (then_at c direction byte next bytes past_header goes there fits) (then_goes c direction byte next bytes past_header goes there fits)
     (then_there c direction byte next bytes past_header goes there fits) (then_fits c direction byte next bytes past_header goes there fits)
+    ∙ ap (λ context. flow_refused limit context (flow_in (then_kept c direction byte next bytes past_header goes there fits) direction) (next ∷ bytes)) (then_context c direction byte next bytes past_header goes there fits)
     ∙ ap (λ g. flow_refused limit (context_in c direction) g (next ∷ bytes)) (then_flows c direction byte next bytes past_header goes there fits))
 
 -- .. complete what they do there ..
-pub lifted-events : (c : Context) (direction : Direction) (bytes : List ℕ) → 8 ≤ c.at → direction_of (kind_of c.part) ≡ Some direction → head_length ≤ length c.part
-    → length c.part + length bytes ≤ head_length + body_length c.part → events_by c bytes ≡ flow_events (context_in c direction) (flow_in c direction) bytes
+pub lifted-events : (c : Context) (direction : Direction) (bytes : List ℕ) → 8 ≤ c.at → direction_of (kind_of c.part) ≡ Some direction → ahead_of c ≤ length c.part
+    → length c.part + length bytes ≤ ahead_of c + body_length c.part → events_by c bytes ≡ flow_events (context_in c direction) (flow_in c direction) bytes
 lifted-events c direction [] past_header goes there fits = refl
 lifted-events c direction (byte ∷ []) past_header goes there fits = ap (λ placed. put placed []) (lifted-placed c direction byte past_header goes there)
 lifted-events c direction (byte ∷ next ∷ bytes) past_header goes there fits =
@@ -352,18 +366,19 @@ lifted-events c direction (byte ∷ next ∷ bytes) past_header goes there fits 
     ∙ lifted-events (then_kept c direction byte next bytes past_header goes there fits) direction (next ∷ bytes)
     (then_at c direction byte next bytes past_header goes there fits) (then_goes c direction byte next bytes past_header goes there fits)
     (then_there c direction byte next bytes past_header goes there fits) (then_fits c direction byte next bytes past_header goes there fits)
+    ∙ ap (λ context. flow_events context (flow_in (then_kept c direction byte next bytes past_header goes there fits) direction) (next ∷ bytes)) (then_context c direction byte next bytes past_header goes there fits)
     ∙ ap (λ g. flow_events (context_in c direction) g (next ∷ bytes)) (then_flows c direction byte next bytes past_header goes there fits))
 
 -- .. and leave what they leave there.
-pub lifted-after_bytes : (c : Context) (direction : Direction) (bytes : List ℕ) → 8 ≤ c.at → direction_of (kind_of c.part) ≡ Some direction → head_length ≤ length c.part
-    → length c.part < head_length + body_length c.part → length c.part + length bytes ≤ head_length + body_length c.part
-    → after_bytes c bytes ≡ flowed c direction (length c.part + length bytes == head_length + body_length c.part) (flow_after_bytes (context_in c direction) (flow_in c direction) bytes) bytes
+pub lifted-after_bytes : (c : Context) (direction : Direction) (bytes : List ℕ) → 8 ≤ c.at → direction_of (kind_of c.part) ≡ Some direction → ahead_of c ≤ length c.part
+    → length c.part < ahead_of c + body_length c.part → length c.part + length bytes ≤ ahead_of c + body_length c.part
+    → after_bytes c bytes ≡ flowed c direction (length c.part + length bytes == ahead_of c + body_length c.part) (flow_after_bytes (context_in c direction) (flow_in c direction) bytes) bytes
 lifted-after_bytes c direction [] past_header goes there less fits =
-    sym (ap (λ b. flowed c direction b (flow_in c direction) []) (ne_eqb (length c.part + length {A = ℕ} []) (head_length + body_length c.part) (λ same. (omega arith))) ∙ flowed_none c direction)
+    sym (ap (λ b. flowed c direction b (flow_in c direction) []) (ne_eqb (length c.part + length {A = ℕ} []) (ahead_of c + body_length c.part) (λ same. (omega arith))) ∙ flowed_none c direction)
 lifted-after_bytes c direction (byte ∷ []) past_header goes there less fits =
     let one : length c.part + 1 ≡ length c.part + length (byte ∷ []) = omega arith in
     lifted-after c direction byte past_header goes there less
-    ∙ ap (λ n. flowed c direction (n == head_length + body_length c.part) (flow_after (context_in c direction) (flow_in c direction) byte) (byte ∷ [])) one
+    ∙ ap (λ n. flowed c direction (n == ahead_of c + body_length c.part) (flow_after (context_in c direction) (flow_in c direction) byte) (byte ∷ [])) one
 lifted-after_bytes c direction (byte ∷ next ∷ bytes) past_header goes there less fits =
     let c' : Context = then_kept c direction byte next bytes past_header goes there fits in
     ap (λ k. after_bytes k (next ∷ bytes)) (then_is c direction byte next bytes past_header goes there fits)
@@ -371,7 +386,8 @@ lifted-after_bytes c direction (byte ∷ next ∷ bytes) past_header goes there 
     (then_at c direction byte next bytes past_header goes there fits) (then_goes c direction byte next bytes past_header goes there fits)
     (then_there c direction byte next bytes past_header goes there fits) (then_less c direction byte next bytes past_header goes there fits)
     (then_fits c direction byte next bytes past_header goes there fits)
+    ∙ ap (λ context. flowed c' direction (length c'.part + length (next ∷ bytes) == ahead_of c + body_length c'.part) (flow_after_bytes context (flow_in c' direction) (next ∷ bytes)) (next ∷ bytes)) (then_context c direction byte next bytes past_header goes there fits)
     ∙ ap (λ b. flowed c' direction b (flow_after_bytes (context_in c direction) (flow_in c' direction) (next ∷ bytes)) (next ∷ bytes)) (then_whole c direction byte next bytes past_header goes there fits)
-    ∙ ap (λ g. flowed c' direction (length c.part + length (byte ∷ next ∷ bytes) == head_length + body_length c.part) (flow_after_bytes (context_in c direction) g (next ∷ bytes)) (next ∷ bytes)) (then_flows c direction byte next bytes past_header goes there fits)
-    ∙ flowed_twice c direction (length c.part + length (byte ∷ next ∷ bytes) == head_length + body_length c.part) (flow_after (context_in c direction) (flow_in c direction) byte)
+    ∙ ap (λ g. flowed c' direction (length c.part + length (byte ∷ next ∷ bytes) == ahead_of c + body_length c.part) (flow_after_bytes (context_in c direction) g (next ∷ bytes)) (next ∷ bytes)) (then_flows c direction byte next bytes past_header goes there fits)
+    ∙ flowed_twice c direction (length c.part + length (byte ∷ next ∷ bytes) == ahead_of c + body_length c.part) (flow_after (context_in c direction) (flow_in c direction) byte)
     (flow_after_bytes (context_in c direction) (flow_after (context_in c direction) (flow_in c direction) byte) (next ∷ bytes)) (byte ∷ []) (next ∷ bytes)

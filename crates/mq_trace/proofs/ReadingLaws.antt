@@ -3,7 +3,7 @@ use Rattle.std.proofs.Common.{◌≡◌, ℕ, ◌+◌, ◌≤◌, List, [], ◌�
 use Rattle.std.specs.Prelude.{slice_index}
 use Rattle.std.proofs.lemmas.List.{append-nil, take-append-drop}
 use Rattle.std.specs.Option.{option_or}
-use Rattle.mq_trace.specs.Framing.{head_length}
+use Rattle.mq_trace.specs.Framing.{length_end}
 use Rattle.mq_trace.specs.declared.refusal.Refusal.{Refusal}
 use Rattle.mq_trace.specs.declared.reading.Reading.{Reading}
 use Rattle.mq_trace.specs.Events.{Placed}
@@ -115,7 +115,7 @@ pub first_of : (bytes : List ℕ) → 1 ≤ length bytes → slice_index bytes 0
 first_of [] some = absurd (omega arith)
 first_of (x ∷ bytes) some = refl
 
-pub five_of : (bytes : List ℕ) → head_length ≤ length bytes → slice_index bytes 0 ∷ slice_index bytes 1 ∷ slice_index bytes 2 ∷ slice_index bytes 3 ∷ slice_index bytes 4 ∷ [] ≡ take head_length bytes
+pub five_of : (bytes : List ℕ) → length_end ≤ length bytes → slice_index bytes 0 ∷ slice_index bytes 1 ∷ slice_index bytes 2 ∷ slice_index bytes 3 ∷ slice_index bytes 4 ∷ [] ≡ take length_end bytes
 five_of [] some = absurd (omega arith)
 five_of (k ∷ []) some = absurd (omega arith)
 five_of (k ∷ x ∷ []) some = absurd (omega arith)

@@ -10,22 +10,22 @@ use Rattle.mq_trace.specs.declared.stage.Stage.TheVariants as stages
 use Rattle.mq_trace.specs.declared.refusal.Refusal.{Refusal}
 use Rattle.mq_trace.specs.declared.refusal.Refusal.TheVariants as refusals
 use Rattle.mq_trace.specs.declared.reading.Reading.{Reading}
-use Rattle.mq_trace.specs.Framing.{kind_named, kind_of, opens}
+use Rattle.mq_trace.specs.Framing.{kind_named, kind_of, opens, head_length, spelled_from}
 use Rattle.mq_trace.specs.Events.{Placed}
 use Rattle.mq_trace.specs.Refusals.{header_refusal, first_that_applies, is_open_kind, needs_connection, is_release_kind}
 use Rattle.mq_trace.specs.Context.{StreamState, Context, emptied, so_far_for, refusal_for, placed_for, put, after}
 use Rattle.mq_trace.specs.Runs.{refused_in, events_by}
 use Rattle.mq_trace.specs.Emission.{NotEmitted, RefusedBySink}
 use Rattle.mq_trace.specs.Deframing.{FlowWhy}
-use Rattle.mq_trace.specs.Keeping.{state_in, spelled_from, IsAt, context_of, begun_in, IsWithin, IsUnfinished, IsSound, Advances, StepStops}
+use Rattle.mq_trace.specs.Keeping.{state_in, IsAt, StandsAt, opens_in, context_of, begun_in, IsWithin, IsUnfinished, IsSound, Advances, StepStops}
 use Rattle.mq_trace.specs.Stepping.{after_header_byte, kind_refusal, refused_first, BeginsRecord, in_head}
 use Rattle.mq_trace.proofs.StepLaws.{header_refused, header_after, header_placed, first_refusal, first_event, first_after, middle_refusal, middle_event, middle_after, placed_none}
-use Rattle.mq_trace.proofs.FramingLaws.{kind_of-append}
+use Rattle.mq_trace.proofs.FramingLaws.{head_least, kind_of-append}
 use Rattle.mq_trace.proofs.ReadingLaws.{advanced}
 
 -- One byte's step.
 pub one_step : (r r' : Reading) (b : ℕ) (completed : List Placed) → r'.limit ≡ r.limit
-    → ((part : List ℕ) → IsAt r.stage part → (part' : List ℕ) × IsAt r'.stage part' × (refusal_for r.limit (context_of r part) b ≡ None)
+    → ((part : List ℕ) → StandsAt r part → (part' : List ℕ) × StandsAt r' part' × (refusal_for r.limit (context_of r part) b ≡ None)
     × (after (context_of r part) b ≡ context_of r' part') × (put (placed_for (context_of r part) b) [] ≡ completed))
     → Advances r r' (b ∷ []) completed
 one_step r r' b completed same each = record {
@@ -37,7 +37,7 @@ one_step r r' b completed same each = record {
 
 -- One byte that is refused at once.
 pub stops_refused : {S : Type 0} (declines : S → S → List Placed → Refusal → Type 0) (r : Reading) (b : ℕ) (sink : S) (refusal : Refusal)
-    → ((part : List ℕ) → IsAt r.stage part → refusal_for r.limit (context_of r part) b ≡ Some refusal)
+    → ((part : List ℕ) → StandsAt r part → refusal_for r.limit (context_of r part) b ≡ Some refusal)
     → StepStops declines r (b ∷ []) sink sink refusal
 stops_refused declines r b sink refusal each = record {
   taken = [];
@@ -49,7 +49,7 @@ stops_refused declines r b sink refusal each = record {
 
 -- One byte that completes an event that isn't emitted.
 pub stops_unemitted : {S : Type 0} (declines : S → S → List Placed → Refusal → Type 0) (r : Reading) (b : ℕ) (met : Option Refusal) (e : Placed) (old new : S) (refusal : Refusal)
-    → ((part : List ℕ) → IsAt r.stage part → (refusal_for r.limit (context_of r part) b ≡ met) × (placed_for (context_of r part) b ≡ Some e))
+    → ((part : List ℕ) → StandsAt r part → (refusal_for r.limit (context_of r part) b ≡ met) × (placed_for (context_of r part) b ≡ Some e))
     → NotEmitted declines r.at met (e ∷ []) old new refusal → StepStops declines r (b ∷ []) old new refusal
 stops_unemitted {S} declines r b met e old new refusal each unemitted = record {
   taken = [];
@@ -62,7 +62,7 @@ stops_unemitted {S} declines r b met e old new refusal each unemitted = record {
     place : r.at ≡ r.at + 0
     place = omega arith
 
-    why : (part : List ℕ) → IsAt r.stage part → NotEmitted declines r.at met (e ∷ []) old new refusal
+    why : (part : List ℕ) → StandsAt r part → NotEmitted declines r.at met (e ∷ []) old new refusal
         → FlowWhy declines (r.at + length {A = ℕ} []) (so_far_for (context_of r part) b) (refused_in r.limit (context_of r part) (b ∷ [])) (events_by (context_of r part) (b ∷ [])) old new refusal
     why part at (inl emitted) = let f = each part at in inl (ap (λ o. option_or o None) (f.0 ∙ emitted.0), emitted.1)
     why part at (inr emitted) =
@@ -74,20 +74,27 @@ stops_unemitted {S} declines r b met e old new refusal each unemitted = record {
               (subst (λ o. RefusedBySink declines r.at (put o []) old new refusal) (sym f.1) emitted.1),
         ))
 
+-- between two records no part of one is there
+between_is : (r : Reading) (part : List ℕ) → r.stage ≡ stages.Between → StandsAt r part → part ≡ []
+between_is r part between at = subst (λ s. IsAt (head_length r.header.version) r.moment s part) between at
+
+between_at : (r : Reading) → r.stage ≡ stages.Between → StandsAt r []
+between_at r between = subst (λ s. IsAt (head_length r.header.version) r.moment s []) (sym between) refl
+
 -- A byte of the log's header.
 pub header_advances : (r : Reading) (b : ℕ) → r.at < 8 → r.stage ≡ stages.Between → header_refusal r.at b ≡ None → Advances r (after_header_byte r b) (b ∷ []) []
 header_advances r b short between none = one_step r (after_header_byte r b) b [] refl (λ part at. (
     let c = context_of r part in
-    let nothing : part ≡ [] = subst (λ s. IsAt s part) between at in (
+    let nothing : part ≡ [] = between_is r part between at in (
       [],
-      subst (λ s. IsAt s []) (sym between) refl,
+      between_at (after_header_byte r b) between,
       header_refused r.limit c b short ∙ none,
       header_after c b short ∙ ap (context_of (after_header_byte r b)) nothing,
       ap (λ o. put o []) (header_placed c b short),
     )))
 
 pub header_stops : (r : Reading) (b : ℕ) (refusal : Refusal) → r.at < 8 → header_refusal r.at b ≡ Some refusal
-    → (part : List ℕ) → IsAt r.stage part → refusal_for r.limit (context_of r part) b ≡ Some refusal
+    → (part : List ℕ) → StandsAt r part → refusal_for r.limit (context_of r part) b ≡ Some refusal
 header_stops r b refusal short some part at = header_refused r.limit (context_of r part) b short ∙ some
 
 pub header_sound : (r : Reading) (b : ℕ) → IsSound r → r.at < 8 → IsSound (after_header_byte r b)
@@ -97,7 +104,7 @@ header_sound r b sound short =
     record {
       counted = omega arith;
       begun = λ some. absurd (omega arith);
-      within = sound.within;
+      within = subst (λ s. IsWithin (after_header_byte r b).header.version r.moment s) (sym first.0) tt;
       past_header = λ some. absurd (omega arith);
       header_first = λ less. first;
       emptied = sound.emptied;
@@ -106,7 +113,7 @@ header_sound r b sound short =
     }
 
 -- A record's first byte.
-named_refusal : (r : Reading) (part : List ℕ) (b : ℕ) (kind : RecordKind) → 8 ≤ r.at → part ≡ [] → kind_named b ≡ Some kind
+pub named_refusal : (r : Reading) (part : List ℕ) (b : ℕ) (kind : RecordKind) → 8 ≤ r.at → part ≡ [] → kind_named b ≡ Some kind
     → refusal_for r.limit (context_of r part) b ≡ kind_refusal r kind
 named_refusal r part b kind past_header none named =
     first_refusal r.limit (context_of r part) b past_header none
@@ -119,9 +126,9 @@ named_refusal r part b kind past_header none named =
     ∷ [])) named
 
 pub unnamed_refused : (r : Reading) (b : ℕ) → 8 ≤ r.at → r.stage ≡ stages.Between → kind_named b ≡ None
-    → (part : List ℕ) → IsAt r.stage part → refusal_for r.limit (context_of r part) b ≡ Some (refusals.Kind r.at)
+    → (part : List ℕ) → StandsAt r part → refusal_for r.limit (context_of r part) b ≡ Some (refusals.Kind r.at)
 unnamed_refused r b past_header between unnamed part at =
-    let nothing : part ≡ [] = subst (λ s. IsAt s part) between at in
+    let nothing : part ≡ [] = between_is r part between at in
     first_refusal r.limit (context_of r part) b past_header nothing
     ∙ ap (λ k. first_that_applies (
     (is_none k, refusals.Kind r.at)
@@ -132,13 +139,13 @@ unnamed_refused r b past_header between unnamed part at =
     ∷ [])) unnamed
 
 pub named_refused : (r : Reading) (b : ℕ) (kind : RecordKind) (refusal : Refusal) → 8 ≤ r.at → r.stage ≡ stages.Between → kind_named b ≡ Some kind → kind_refusal r kind ≡ Some refusal
-    → (part : List ℕ) → IsAt r.stage part → refusal_for r.limit (context_of r part) b ≡ Some refusal
+    → (part : List ℕ) → StandsAt r part → refusal_for r.limit (context_of r part) b ≡ Some refusal
 named_refused r b kind refusal past_header between named met part at =
-    named_refusal r part b kind past_header (subst (λ s. IsAt s part) between at) named ∙ met
+    named_refusal r part b kind past_header (between_is r part between at) named ∙ met
 
 -- what refuses a record's first byte
 pub first_refused : (r : Reading) (b : ℕ) (kind : Option RecordKind) (refusal : Refusal) → 8 ≤ r.at → r.stage ≡ stages.Between → kind_named b ≡ kind → refused_first r kind ≡ Some refusal
-    → (part : List ℕ) → IsAt r.stage part → refusal_for r.limit (context_of r part) b ≡ Some refusal
+    → (part : List ℕ) → StandsAt r part → refusal_for r.limit (context_of r part) b ≡ Some refusal
 first_refused r b None refusal past_header between named met part at = unnamed_refused r b past_header between named part at ∙ met
 first_refused r b (Some kind) refusal past_header between named met part at = named_refused r b kind refusal past_header between named met part at
 
@@ -163,10 +170,10 @@ pub first_advances : (r r' : Reading) (b : ℕ) (kind : RecordKind) → 8 ≤ r.
     → Advances r r' (b ∷ []) []
 first_advances r r' b kind past_header between named met begins = one_step r r' b [] (ap (λ (x : Reading). x.limit) begins.is) (λ part at. (
     let c = context_of r part in
-    let nothing : part ≡ [] = subst (λ s. IsAt s part) between at in
+    let nothing : part ≡ [] = between_is r part between at in
     let staged : stages.Head kind 0 0 ≡ r'.stage = sym (ap (λ (x : Reading). x.stage) begins.is) in (
       b ∷ [],
-      subst (λ s. IsAt s (b ∷ [])) staged (b, [], refl, kind_first b ∙ named, refl, refl),
+      subst (λ s. IsAt (head_length r'.header.version) r'.moment s (b ∷ [])) staged (b, [], refl, kind_first b ∙ named, refl, refl),
       named_refusal r part b kind past_header nothing named ∙ met,
       first_after c b past_header nothing ∙ begun_context r r' b kind named begins,
       ap (λ o. put o []) (placed_none c b (first_event c b past_header nothing)),
@@ -183,8 +190,24 @@ within_limit limit opening state state' unfinished is = subst (IsUnfinished limi
     either true = nothing_unfinished limit
     either false = unfinished
 
-no_others : (kind : RecordKind) (m : StreamState) (state state' : StreamState) (count number : ℕ) → stages.Head kind 0 0 ≡ stages.Head kinds.Open count number → state' ≡ cond (opens (Some kind)) m state → state' ≡ m
-no_others kind m state state' count number e is = is ∙ ap (λ k. cond (opens (Some k)) m state) (let same : kind ≡ kinds.Open = cc in same)
+pub opens_head : (kind : RecordKind) (count number : ℕ) → opens_in (stages.Head kind count number) ≡ opens (Some kind)
+opens_head kinds.Open count number = refl
+opens_head kinds.Sent count number = refl
+opens_head kinds.Recv count number = refl
+opens_head kinds.Close count number = refl
+opens_head kinds.Rest count number = refl
+opens_head kinds.Release count number = refl
+
+pub opens_moment : (kind : RecordKind) (number count : ℕ) → opens_in (stages.Moment kind number count) ≡ opens (Some kind)
+opens_moment kinds.Open number count = refl
+opens_moment kinds.Sent number count = refl
+opens_moment kinds.Recv number count = refl
+opens_moment kinds.Close number count = refl
+opens_moment kinds.Rest number count = refl
+opens_moment kinds.Release number count = refl
+
+no_others : (opening : Bool) (m state state' : StreamState) → opening ≡ true → state' ≡ cond opening m state → state' ≡ m
+no_others opening m state state' e is = is ∙ ap (λ t. cond t m state) e
 
 pub first_sound : (r r' : Reading) (kind : RecordKind) → IsSound r → 8 ≤ r.at → r.stage ≡ stages.Between → r.records < 4294967295 → BeginsRecord r r' kind → IsSound r'
 first_sound r r' kind sound past_header between room begins =
@@ -197,27 +220,19 @@ first_sound r r' kind sound past_header between room begins =
     record {
       counted = omega (arith, sound.counted);
       begun = λ some. omega arith;
-      within = subst IsWithin (sym staged) (omega arith, (λ e. refl, λ e. omega arith, λ e. omega arith, omega arith));
+      within = subst (IsWithin r'.header.version r'.moment) (sym staged) (omega arith, (λ e. refl, λ e. omega arith, λ e. omega arith, omega arith));
       past_header = λ some. omega arith;
       header_first = λ less. absurd (omega arith);
-      emptied = λ count number is. (
-        no_others kind emptied (state_in r.sent) (state_in r'.sent) count number (sym staged ∙ is) begins.sent,
-        no_others kind emptied (state_in r.recv) (state_in r'.recv) count number (sym staged ∙ is) begins.recv,
+      emptied = λ e. (
+        no_others (opens (Some kind)) emptied (state_in r.sent) (state_in r'.sent) (sym (opens_head kind 0 0) ∙ ap opens_in (sym staged) ∙ e) begins.sent,
+        no_others (opens (Some kind)) emptied (state_in r.recv) (state_in r'.recv) (sym (opens_head kind 0 0) ∙ ap opens_in (sym staged) ∙ e) begins.recv,
       );
       sent = subst (λ limit. IsUnfinished limit (state_in r'.sent)) (sym limited) (within_limit r.limit (opens (Some kind)) (state_in r.sent) (state_in r'.sent) sound.sent begins.sent);
       recv = subst (λ limit. IsUnfinished limit (state_in r'.recv)) (sym limited) (within_limit r.limit (opens (Some kind)) (state_in r.recv) (state_in r'.recv) sound.recv begins.recv);
     }
 
 -- The bytes of a record's length.
-opening_of : (kind : RecordKind) → opens (Some kind) ≡ true → kind ≡ kinds.Open
-opening_of kinds.Open e = refl
-opening_of kinds.Sent e = absurd (cc)
-opening_of kinds.Recv e = absurd (cc)
-opening_of kinds.Close e = absurd (cc)
-opening_of kinds.Rest e = absurd (cc)
-opening_of kinds.Release e = absurd (cc)
-
-spelled_more : (number : ℕ) (bytes : List ℕ) (b : ℕ) → spelled_from number (bytes ++ b ∷ []) ≡ spelled_from number bytes * 256 + b
+pub spelled_more : (number : ℕ) (bytes : List ℕ) (b : ℕ) → spelled_from number (bytes ++ b ∷ []) ≡ spelled_from number bytes * 256 + b
 spelled_more number [] b = refl
 spelled_more number (x ∷ bytes) b = spelled_more (number * 256 + x) bytes b
 
@@ -232,22 +247,22 @@ module _ (r : Reading) (kind : RecordKind) (count number : ℕ) (sound : IsSound
   pub head_room : r.records < 4294967295
   head_room = let some = begun_some in sound.begun (omega arith)
 
-  pub head_bounds : IsWithin (stages.Head kind count number)
-  head_bounds = subst IsWithin staged sound.within
+  pub head_bounds : IsWithin r.header.version r.moment (stages.Head kind count number)
+  head_bounds = subst (IsWithin r.header.version r.moment) staged sound.within
 
-  pub head_opening : kind ≡ kinds.Open → (state_in r.sent ≡ emptied) × (state_in r.recv ≡ emptied)
-  head_opening is = sound.emptied count number (staged ∙ ap (λ k. stages.Head k count number) is)
+  pub head_opening : opens (Some kind) ≡ true → (state_in r.sent ≡ emptied) × (state_in r.recv ≡ emptied)
+  head_opening e = sound.emptied (ap opens_in staged ∙ opens_head kind count number ∙ e)
 
-  pub head_is : (part : List ℕ) → IsAt r.stage part → IsAt (stages.Head kind count number) part
-  head_is part at = subst (λ s. IsAt s part) staged at
+  pub head_is : (part : List ℕ) → StandsAt r part → IsAt (head_length r.header.version) r.moment (stages.Head kind count number) part
+  head_is part at = subst (λ s. IsAt (head_length r.header.version) r.moment s part) staged at
 
-  pub head_long : (part : List ℕ) → IsAt r.stage part → length part ≡ 1 + count
+  pub head_long : (part : List ℕ) → StandsAt r part → length part ≡ 1 + count
   head_long part at = let h = head_is part at in let l : length part ≡ length (h.0 ∷ h.1) = ap length h.2 in let n : length h.1 ≡ count = h.4 in omega arith
 
-  pub head_opens : (part : List ℕ) → IsAt r.stage part → opens (kind_of part) ≡ true → (state_in r.sent ≡ emptied) × (state_in r.recv ≡ emptied)
-  head_opens part at e = head_opening (opening_of kind (ap opens (sym (head_is part at).3) ∙ e))
+  pub head_opens : (part : List ℕ) → StandsAt r part → opens (kind_of part) ≡ true → (state_in r.sent ≡ emptied) × (state_in r.recv ≡ emptied)
+  head_opens part at e = head_opening (ap opens (sym (head_is part at).3) ∙ e)
 
-  pub head_longer : (part : List ℕ) (b : ℕ) → IsAt r.stage part → IsAt (stages.Head kind (count + 1) (number * 256 + b)) (part ++ b ∷ [])
+  pub head_longer : (part : List ℕ) (b : ℕ) → StandsAt r part → IsAt (head_length r.header.version) r.moment (stages.Head kind (count + 1) (number * 256 + b)) (part ++ b ∷ [])
   head_longer part b at =
       let h = head_is part at in
       let l = head_long part at in
@@ -260,12 +275,13 @@ pub length_advances : (r : Reading) (kind : RecordKind) (count number b : ℕ) �
 length_advances r kind count number b sound staged few = one_step r (in_head r (r.at + 1) kind (count + 1) (number * 256 + b)) b [] refl (λ part at. (
     let c = context_of r part in
     let past_header = head_after r kind count number sound staged in
+    let least = head_least r.header.version in
     let long = head_long r kind count number sound staged part at in (
       part ++ b ∷ [],
       head_longer r kind count number sound staged part b at,
-      middle_refusal r.limit c b past_header (omega arith) (omega arith),
+      middle_refusal r.limit c b past_header (omega arith) (omega arith) (λ e. absurd (omega arith)),
       middle_after c b past_header (omega arith) (omega arith) (head_opens r kind count number sound staged part at),
-      ap (λ o. put o []) (placed_none c b (middle_event c b past_header (omega arith) (omega arith))),
+      ap (λ o. put o []) (placed_none c b (middle_event c b past_header (omega arith))),
     )))
 
 small_of : (count number : ℕ) → count < 3 → (count ≡ 0 → number ≡ 0) → (count ≡ 1 → number < 256) → (count ≡ 2 → number < 65536) → number < 65536
@@ -288,7 +304,7 @@ length_sound r kind count number b sound staged few byte =
       within = (omega arith, (λ e. absurd (omega arith), λ e. (let none : number ≡ 0 = bounds.1.0 (omega arith) in omega arith), λ e. (let less : number < 256 = bounds.1.1 (omega arith) in omega arith), omega arith));
       past_header = λ begun. omega arith;
       header_first = λ less. absurd (omega arith);
-      emptied = λ n m e. head_opening r kind count number sound staged (let same : kind ≡ kinds.Open = cc in same);
+      emptied = λ e. head_opening r kind count number sound staged (sym (opens_head kind (count + 1) (number * 256 + b)) ∙ e);
       sent = sound.sent;
       recv = sound.recv;
     }
@@ -323,7 +339,7 @@ three_sound r kind x y z sound staged x_byte y_byte z_byte =
       within = (omega arith, (λ e. absurd (omega arith), λ e. absurd (omega arith), λ e. absurd (omega arith), omega arith));
       past_header = λ begun. omega arith;
       header_first = λ less. absurd (omega arith);
-      emptied = λ n m e. head_opening r kind 0 0 sound staged (let same : kind ≡ kinds.Open = cc in same);
+      emptied = λ e. head_opening r kind 0 0 sound staged (sym (opens_head kind 3 (from_be_bytes w32 (0 ∷ x ∷ y ∷ z ∷ []))) ∙ e);
       sent = sound.sent;
       recv = sound.recv;
     }

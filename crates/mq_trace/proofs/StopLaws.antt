@@ -6,8 +6,7 @@ use Rattle.std.proofs.lemmas.List.{get_or_append_left}
 use Rattle.mq_trace.specs.declared.refusal.Refusal.{Refusal}
 use Rattle.mq_trace.specs.declared.refusal.Refusal.TheVariants as refusals
 use Rattle.mq_trace.specs.declared.reading.Reading.{Reading}
-use Rattle.mq_trace.specs.Framing.{header_by}
-use Rattle.mq_trace.specs.Framing.{magic, version}
+use Rattle.mq_trace.specs.Framing.{header_by, magic, is_version}
 use Rattle.mq_trace.specs.Events.{Placed}
 use Rattle.mq_trace.specs.Refusals.{Situation, situation, first_that_applies, conditions, header_refusal, record_refusal, refusal_at}
 use Rattle.mq_trace.specs.Refusing.{refusal_offset, moved}
@@ -31,7 +30,7 @@ pub header_offset : (at byte : ℕ) (r : Refusal) → header_refusal at byte ≡
 unfolding header_refusal
 header_offset at byte r e =
     chosen r (nat_lt at 4) _ _ (met at r (byte == slice_index magic at) (refusals.Header at) refl)
-    (chosen r (at == 4) _ _ (met at r (byte == version) (refusals.Version at) refl)
+    (chosen r (at == 4) _ _ (met at r (is_version byte) (refusals.Version at) refl)
     (chosen r (at == 5) _ _ (met at r (nat_lt byte 2) (refusals.Role at) refl)
     (chosen r (at == 6) _ _ (met at r (nat_lt byte 2) (refusals.Flags at) refl)
     (met at r (byte == 0) (refusals.Flags at) refl)))) e
@@ -72,8 +71,9 @@ why_offset agrees refuses limit log bytes byte old new refusal (inr (inr x)) = a
 
 header_longer : (log later : List ℕ) → 8 ≤ length log → header_by (log ++ later) ≡ header_by log
 header_longer log later h =
-    ap (λ n. record { server = n == 1; releases = slice_index (log ++ later) 6 == 1 }) (get_or_append_left log later 0 5 (omega arith))
-    ∙ ap (λ n. record { server = slice_index log 5 == 1; releases = n == 1 }) (get_or_append_left log later 0 6 (omega arith))
+    ap (λ v. record { version = v; server = slice_index (log ++ later) 5 == 1; releases = slice_index (log ++ later) 6 == 1 }) (get_or_append_left log later 0 4 (omega arith))
+    ∙ ap (λ n. record { version = slice_index log 4; server = n == 1; releases = slice_index (log ++ later) 6 == 1 }) (get_or_append_left log later 0 5 (omega arith))
+    ∙ ap (λ n. record { version = slice_index log 4; server = slice_index log 5 == 1; releases = n == 1 }) (get_or_append_left log later 0 6 (omega arith))
 
 pub keeps_header : (r : Reading) (log : List ℕ) → HasRead r log → KeepsHeader r log
 keeps_header r log keeps = record { whole = ap (λ n. nat_lt n 8) (kept_at r log keeps); named = λ long. kept_header r log keeps }

@@ -5,7 +5,7 @@ use Rattle.mq_trace.specs.declared.kind.Direction.{Direction}
 use Rattle.mq_trace.specs.declared.kind.Direction.TheVariants as directions
 use Rattle.mq_trace.specs.Pieces.{Pieces, pieces}
 use Rattle.mq_packet.specs.Stream.{frame_size, is_lost}
-use Rattle.mq_trace.specs.Framing.{kind_of, direction_of, opens, if_direction, stream, begun_records, carried, records, head_length}
+use Rattle.mq_trace.specs.Framing.{kind_of, direction_of, opens, if_direction, stream, begun_records, carried, records, ahead_in}
 use Rattle.mq_trace.specs.Events.{packet_with}
 use Rattle.mq_trace.specs.Context.{state_with, state_of, state_after, state_by, state_then, so_far_in}
 use Rattle.mq_trace.proofs.PiecesLaws.{Settles, grown, pieces-grow, nothing_cut}
@@ -84,11 +84,11 @@ state_moved direction h part byte false false = ap state_of (append-nil h)
 
 -- one byte more of the log
 pub state-then : (direction : Direction) (log : List ℕ) (byte : ℕ) → 8 ≤ length log
-    → state_of (carried direction (begun_records (log ++ byte ∷ []))) ≡ state_then direction (state_of (carried direction (begun_records log))) ((records log).rest ++ byte ∷ []) byte
+    → state_of (carried (ahead_in (log ++ byte ∷ [])) direction (begun_records (log ++ byte ∷ []))) ≡ state_then (ahead_in log) direction (state_of (carried (ahead_in log) direction (begun_records log))) ((records log).rest ++ byte ∷ []) byte
 unfolding state_then
 state-then direction log byte h =
     let part = (records log).rest ++ byte ∷ [] in
-    ap state_of (carried-grow direction log byte h) ∙ state_moved direction (carried direction (begun_records log)) part byte (opens (kind_of part)) (nat_lt head_length (length part))
+    ap state_of (carried-grow direction log byte h) ∙ state_moved direction (carried (ahead_in log) direction (begun_records log)) part byte (opens (kind_of part)) (nat_lt (ahead_in log) (length part))
 
 so_far_by_lost : (rest : List ℕ) (byte : ℕ) (b : Bool) → cond b [] (rest ++ byte ∷ []) ≡ cond b [] (cond b [] rest ++ byte ∷ [])
 so_far_by_lost rest byte true = refl

@@ -1,5 +1,5 @@
 -- From steps to logs: what a reader's steps come to, and what stops them.
-use Rattle.std.proofs.Common.{◌≡◌, ℕ, ◌+◌, ◌<◌, Bool, true, false, List, [], ◌∷◌, ◌++◌, length, Option, Some, None, inl, inr, is_some, refl, sym, ap, ◌∙◌, arith, length-append, append_assoc, subst, take, drop, ◌-◌}
+use Rattle.std.proofs.Common.{◌≡◌, ℕ, ◌+◌, ◌<◌, ◌≤◌, Bool, true, false, List, [], ◌∷◌, ◌++◌, length, Option, Some, None, inl, inr, is_some, refl, sym, ap, ◌∙◌, arith, length-append, append_assoc, subst, take, drop, ◌-◌}
 use Rattle.std.specs.Prelude.{◌==◌, ◌||◌, not, nat_lt}
 use Rattle.std.proofs.lemmas.Bool.{eqb-true, lt-ltb, ltb-true, ltb-false}
 use Rattle.std.proofs.lemmas.List.{append-nil, take-append-drop, length-drop, take_all, nil_from_length}
@@ -9,17 +9,18 @@ use Rattle.mq_trace.specs.declared.refusal.Refusal.TheVariants as refusals
 use Rattle.mq_trace.specs.declared.stage.Stage.{Stage}
 use Rattle.mq_trace.specs.declared.stage.Stage.TheVariants as stages
 use Rattle.mq_trace.specs.declared.reading.Reading.{Reading}
-use Rattle.mq_trace.specs.Framing.{header_by, records}
+use Rattle.mq_trace.specs.Framing.{header_by, length_end, head_length, moment_in, records}
 use Rattle.mq_trace.specs.Events.{Event, Placed, events, event_at, packet_at}
 use Rattle.mq_trace.specs.Refusals.{refused, refusal_at, is_cut_short}
 use Rattle.mq_trace.specs.Refusing.{moved}
-use Rattle.mq_trace.specs.Context.{Context, context, fresh, so_far_for, event_for, placed_for, placed_with, put}
+use Rattle.mq_trace.specs.Context.{Context, ahead_of, context, fresh, so_far_for, event_for, placed_for, placed_with, put}
 use Rattle.mq_trace.specs.Runs.{after_bytes, refused_in, events_by}
 use Rattle.mq_trace.specs.Reception.{AreEvents, Declines}
 use Rattle.mq_trace.specs.Deframing.{NeedsMemory, FlowWhy}
 use Rattle.mq_trace.specs.Keeping.{IsAt, context_of, Comes, StepStops}
 use Rattle.mq_trace.specs.Tracing.{HasRead, HasReceived, Why, Stops, is_between}
 use Rattle.mq_trace.proofs.ContextLaws.{at_context, part_context, context_is, context-nothing, refused-nothing, packet-kept, header-so_far, event-kept, refused-grow}
+use Rattle.mq_trace.proofs.FramingLaws.{head_least}
 use Rattle.mq_trace.proofs.RunLaws.{events_append, context_run, events_run, passes, stops}
 
 -- A reader that keeps a log and comes on with some bytes keeps the log with these bytes after it.
@@ -44,13 +45,13 @@ receives_on agrees r r' log bytes old new keeps comes =
     λ was. subst (agrees new) (sym longer) (comes.emitted (events log) was (record { limit = r'.limit; log = log ++ bytes; unrefused = next.unrefused; are = sym longer })))
 
 -- an event at its place is an event
-some_placed : (c : Context) (event : Option Event) → length (put (placed_with c event) []) ≡ 1 → is_some event ≡ true
-some_placed c None one = absurd (omega (arith, one))
-some_placed c (Some event) one = refl
+some_placed : (c : Context) (moment : ℕ) (event : Option Event) → length (put (placed_with c moment event) []) ≡ 1 → is_some event ≡ true
+some_placed c moment None one = absurd (omega (arith, one))
+some_placed c moment (Some event) one = refl
 
 some_event : (c : Context) (byte : ℕ) → length (put (placed_for c byte) []) ≡ 1 → is_some (event_for c byte) ≡ true
 unfolding placed_for
-some_event c byte one = some_placed c (event_for c byte) one
+some_event c byte one = some_placed c (moment_in (ahead_of c) (c.part ++ byte ∷ [])) (event_for c byte) one
 
 -- A byte of a packet, by what is kept, is one in the log.
 packet_there : (log : List ℕ) (byte : ℕ) → NeedsMemory (so_far_for (context log) byte) → NeedsMemory (packet_at log byte)
@@ -252,12 +253,13 @@ pub kept_header : (r : Reading) (log : List ℕ) → HasRead r log → r.header 
 kept_header r log keeps = ap (λ (c : Context). c.header) (sym keeps.kept ∙ context_is log)
 
 -- a part of a record is there, or none is, as the stage says
-part_there : (stage : Stage) (part : List ℕ) → IsAt stage part → nat_lt 0 (length part) ≡ not (is_between stage)
-part_there stages.Between part at = ap (λ (p : List ℕ). nat_lt 0 (length p)) at
-part_there (stages.Head kind count length_so_far) part at = ap (λ (p : List ℕ). nat_lt 0 (length p)) at.2 ∙ lt-ltb 0 (length (at.0 ∷ at.1)) (omega arith)
-part_there (stages.Body direction left) part at = lt-ltb 0 (length part) (omega (arith, at.3))
-part_there (stages.Release None) part at = lt-ltb 0 (length part) (omega (arith, at.1))
-part_there (stages.Release (Some high)) part at = lt-ltb 0 (length part) (omega (arith, at.1))
+part_there : (ahead moment : ℕ) (stage : Stage) (part : List ℕ) → length_end ≤ ahead → IsAt ahead moment stage part → nat_lt 0 (length part) ≡ not (is_between stage)
+part_there ahead moment stages.Between part least at = ap (λ (p : List ℕ). nat_lt 0 (length p)) at
+part_there ahead moment (stages.Head kind count length_so_far) part least at = ap (λ (p : List ℕ). nat_lt 0 (length p)) at.2 ∙ lt-ltb 0 (length (at.0 ∷ at.1)) (omega arith)
+part_there ahead moment (stages.Moment kind number count) part least at = lt-ltb 0 (length part) (omega (arith, at.2))
+part_there ahead moment (stages.Body direction left) part least at = lt-ltb 0 (length part) (omega (arith, at.3, least))
+part_there ahead moment (stages.Release None) part least at = lt-ltb 0 (length part) (omega (arith, at.1, least))
+part_there ahead moment (stages.Release (Some high)) part least at = lt-ltb 0 (length part) (omega (arith, at.1, least))
 
 -- Whether the log would be cut short, if it ended here.
 pub kept_cut : (r : Reading) (log : List ℕ) → HasRead r log → is_cut_short log ≡ (nat_lt r.at 8 || not (is_between r.stage))
@@ -266,13 +268,13 @@ kept_cut r log keeps =
     (let part : (records log).rest ≡ keeps.part = sym (part_context log) ∙ ap (λ (c : Context). c.part) keeps.kept in
     ap (λ (n : ℕ). nat_lt n 8 || nat_lt 0 (length (records log).rest)) (sym (kept_at r log keeps))
     ∙ ap (λ (p : List ℕ). nat_lt r.at 8 || nat_lt 0 (length p)) part
-    ∙ ap (λ (b : Bool). nat_lt r.at 8 || b) (part_there r.stage keeps.part keeps.stands))
+    ∙ ap (λ (b : Bool). nat_lt r.at 8 || b) (part_there (head_length r.header.version) r.moment r.stage keeps.part (head_least r.header.version) keeps.stands))
 
 -- a new reader keeps the log of no bytes
 pub keeps_nothing : (r : Reading) → r.stage ≡ stages.Between → context_of r [] ≡ fresh → HasRead r []
 keeps_nothing r between kept = record {
   unrefused = refused-nothing r.limit;
   part = [];
-  stands = subst (λ (s : Stage). IsAt s []) (sym between) refl;
+  stands = subst (λ (s : Stage). IsAt (head_length r.header.version) r.moment s []) (sym between) refl;
   kept = context-nothing ∙ sym kept;
 }

@@ -6,7 +6,7 @@ use Rattle.mq_trace.specs.declared.refusal.Refusal.{Refusal}
 use Rattle.mq_trace.specs.declared.header.Header.{Header}
 use Rattle.mq_trace.specs.Connections.{begins_connection, ends_connection, is_answer, has_open_connection, is_connack_seen, events_before_open}
 use Rattle.mq_packet.specs.Stream.{frame_size, is_lost}
-use Rattle.mq_trace.specs.Framing.{header_by, kind_of, direction_of, opens, record_size, records, begun_records, carried, stream, head_length}
+use Rattle.mq_trace.specs.Framing.{header_by, kind_of, direction_of, opens, record_size, records, ahead_in, head_length, moment_in, begun_records, carried, stream}
 use Rattle.mq_trace.specs.Events.{Event, Placed, event_in, events}
 use Rattle.mq_trace.specs.Refusals.{Situation, header_refusal, record_refusal}
 
@@ -34,11 +34,15 @@ pub record Context : Type 0 where
 abbrev pub emptied : StreamState
 emptied = record { unfinished = []; lost = false }
 
+-- the length of a record's head, from what is kept
+abbrev pub ahead_of : Context → ℕ
+ahead_of c = head_length c.header.version
+
 -- what is kept before the first byte
 abbrev pub fresh : Context
 fresh = record {
   at = 0;
-  header = record { server = false; releases = false };
+  header = record { version = 0; server = false; releases = false };
   part = [];
   records = 0;
   sent = record { unfinished = []; lost = false };
@@ -63,8 +67,8 @@ context log = record {
   header = header_by log;
   part = (records log).rest;
   records = length (records log).whole;
-  sent = state_of (carried directions.Sent (begun_records log));
-  recv = state_of (carried directions.Recv (begun_records log));
+  sent = state_of (carried (ahead_in log) directions.Sent (begun_records log));
+  recv = state_of (carried (ahead_in log) directions.Recv (begun_records log));
   events = length (events log);
   connected = has_open_connection (events log);
   connack_seen = is_connack_seen (header_by log).server (events log);
@@ -84,7 +88,7 @@ so_far_by None c byte = []
 so_far_by (Some direction) c byte = so_far_in (state_for c direction) byte
 
 unfoldable pub so_far_for : Context → ℕ → List ℕ
-so_far_for c byte = cond (nat_lt head_length (length (c.part ++ byte ∷ []))) (so_far_by (direction_of (kind_of (c.part ++ byte ∷ []))) c byte) []
+so_far_for c byte = cond (nat_lt (ahead_of c) (length (c.part ++ byte ∷ []))) (so_far_by (direction_of (kind_of (c.part ++ byte ∷ []))) c byte) []
 
 -- the situation of the next byte, from what is kept
 unfoldable pub situated : Context → ℕ → Situation
@@ -106,15 +110,15 @@ refusal_for limit c byte = if nat_lt c.at 8 then header_refusal c.at byte else r
 
 -- the event that the next byte completes
 unfoldable pub event_for : Context → ℕ → Option Event
-event_for c byte = if nat_lt c.at 8 then None else event_in (c.part ++ byte ∷ []) (so_far_for c byte)
+event_for c byte = if nat_lt c.at 8 then None else event_in (ahead_of c) (c.part ++ byte ∷ []) (so_far_for c byte)
 
--- that event, at its place
-abbrev pub placed_with : Context → Option Event → Option Placed
-placed_with c None = None
-placed_with c (Some event) = Some (record { place = record { position = c.events + 1; record_no = c.records + 1 }; event = event })
+-- that event, at its place, in a record of this moment
+abbrev pub placed_with : Context → ℕ → Option Event → Option Placed
+placed_with c moment None = None
+placed_with c moment (Some event) = Some (record { place = record { position = c.events + 1; record_no = c.records + 1; moment = moment }; event = event })
 
 unfoldable pub placed_for : Context → ℕ → Option Placed
-placed_for c byte = placed_with c (event_for c byte)
+placed_for c byte = placed_with c (moment_in (ahead_of c) (c.part ++ byte ∷ [])) (event_for c byte)
 
 -- an event in front of the others, if there is one
 abbrev pub put : Option Placed → List Placed → List Placed
@@ -132,10 +136,10 @@ state_by directions.Sent (Some directions.Sent) state byte = state_after state b
 state_by directions.Recv (Some directions.Recv) state byte = state_after state byte
 state_by _ _ state byte = state
 
--- A direction after one more byte of a record: the first byte of an OPEN empties it, and a body byte of this direction is added.
-unfoldable pub state_then : Direction → StreamState → List ℕ → ℕ → StreamState
-state_then direction state part byte = cond (opens (kind_of part)) (record { unfinished = []; lost = false })
-    (cond (nat_lt head_length (length part)) (state_by direction (direction_of (kind_of part)) state byte) state)
+-- A direction after one more byte of a record, whose head has this length: the first byte of an OPEN empties it, and a body byte of this direction is added.
+unfoldable pub state_then : ℕ → Direction → StreamState → List ℕ → ℕ → StreamState
+state_then ahead direction state part byte = cond (opens (kind_of part)) (record { unfinished = []; lost = false })
+    (cond (nat_lt ahead (length part)) (state_by direction (direction_of (kind_of part)) state byte) state)
 
 -- what is kept after one more event, if there is one
 abbrev pub with_completed : Context → Option Event → Context
@@ -152,6 +156,7 @@ abbrev pub after_header : Context → ℕ → Context
 after_header c byte = record c {
   at = c.at + 1;
   header = record {
+    version = if c.at == 4 then byte else c.header.version;
     server = if c.at == 5 then byte == 1 else c.header.server;
     releases = if c.at == 6 then byte == 1 else c.header.releases;
   };
@@ -161,10 +166,10 @@ after_header c byte = record c {
 abbrev pub after_part : Context → List ℕ → ℕ → Context
 after_part c part byte = record c {
   at = c.at + 1;
-  part = cond (is_some (record_size part)) [] part;
-  records = cond (is_some (record_size part)) (c.records + 1) c.records;
-  sent = state_then directions.Sent c.sent part byte;
-  recv = state_then directions.Recv c.recv part byte;
+  part = cond (is_some (record_size (ahead_of c) part)) [] part;
+  records = cond (is_some (record_size (ahead_of c) part)) (c.records + 1) c.records;
+  sent = state_then (ahead_of c) directions.Sent c.sent part byte;
+  recv = state_then (ahead_of c) directions.Recv c.recv part byte;
 }
 
 -- what is kept after the next byte

@@ -14,7 +14,7 @@ use Rattle.mq_trace.specs.Flows.{BodyContext, Flow, item_event, flows_too_early,
 use Rattle.mq_trace.specs.Emission.{connections_with, RefusedBySink}
 
 abbrev pub body_context : ContextInMemory → BodyContext
-body_context context = record { direction = context.direction; server = context.server; record_no = context.record_no }
+body_context context = record { direction = context.direction; server = context.server; in_record = context.in_record }
 
 abbrev pub flow_of : ℕ → StreamState → Connections → Flow
 flow_of at state c = record { at = at; state = state; events = c.events; connected = c.connected; connack_seen = c.connack_seen; before_open = c.before_open }

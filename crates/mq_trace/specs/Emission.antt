@@ -1,5 +1,6 @@
 -- Emitting an event to a sink: which refusals can apply, and what is kept after it.
 use Rattle.std.specs.Prelude.{◌≡◌, ℕ, ◌+◌, ◌-◌, ◌⊎◌, nat_le, Bool, ◌&&◌, ◌||◌, not, if◌then◌else◌, List, [], ◌∷◌, Option, Some, None}
+use Rattle.mq_trace.specs.declared.place.InRecord.{InRecord}
 use Rattle.mq_trace.specs.declared.refusal.Refusal.{Refusal}
 use Rattle.mq_trace.specs.declared.refusal.Refusal.TheVariants as refusals
 use Rattle.mq_trace.specs.declared.connections.Connections.{Connections}
@@ -24,9 +25,9 @@ connections_with server connections event = record {
   before_open = if begins_connection event then connections.events else connections.before_open;
 }
 
--- the event at the next place
-abbrev pub next_placed : Connections → ℕ → Event → Placed
-next_placed connections record_no event = record { place = record { position = connections.events + 1; record_no = record_no }; event = event }
+-- the event at the next place, in this record
+abbrev pub next_placed : Connections → InRecord → Event → Placed
+next_placed connections in_record event = record { place = record { position = connections.events + 1; record_no = in_record.record_no; moment = in_record.moment }; event = event }
 
 -- The sink refused what this byte completed: one event, given as a list.
 pub record RefusedBySink {S : Type 0} (declines : S → S → List Placed → Refusal → Type 0) (at : ℕ) (completed : List Placed) (old new : S) (refusal : Refusal) : Type 0 where

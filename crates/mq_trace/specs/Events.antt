@@ -12,7 +12,7 @@ use Rattle.mq_trace.specs.declared.place.Place3.{Place3}
 use Rattle.mq_packet.specs.declared.header.FixedHeader.{FixedHeader}
 use Rattle.mq_packet.specs.declared.header.FixedHeader.TheVariants as headers
 use Rattle.mq_packet.specs.Stream.{fixed_header_of, frame_size, is_lost}
-use Rattle.mq_trace.specs.Framing.{kind_of, direction_of, begun_records, carried, stream, head_length}
+use Rattle.mq_trace.specs.Framing.{kind_of, direction_of, ahead_in, moment_in, begun_records, carried, stream}
 use Rattle.mq_packet.specs.Entries.{Entry}
 use Rattle.mq_packet.specs.Decoding.{decoded}
 
@@ -59,9 +59,9 @@ abbrev pub packet_with : List ℕ → ℕ → List ℕ
 packet_with before byte = cond (is_lost (stream before).rest) [] ((stream before).rest ++ byte ∷ [])
 
 -- the same for the body byte of a record of this kind, none for one that carries no packets
-abbrev pub packet_by : Option Direction → List (List ℕ) → ℕ → List ℕ
-packet_by None parts byte = []
-packet_by (Some direction) parts byte = packet_with (carried direction parts) byte
+abbrev pub packet_by : ℕ → Option Direction → List (List ℕ) → ℕ → List ℕ
+packet_by ahead None parts byte = []
+packet_by ahead (Some direction) parts byte = packet_with (carried ahead direction parts) byte
 
 -- the newest record, as far as it has come
 abbrev pub newest_record : List (List ℕ) → List ℕ
@@ -74,18 +74,22 @@ part_at before byte = newest_record (begun_records (before ++ byte ∷ []))
 
 -- the bytes so far of the packet that the next byte of a log belongs to, that byte included; none if it belongs to no packet, or the direction was lost before it
 unfoldable pub packet_at : List ℕ → ℕ → List ℕ
-packet_at before byte = cond (nat_lt head_length (length (part_at before byte))) (packet_by (direction_of (kind_of (part_at before byte))) (begun_records before) byte) []
+packet_at before byte = cond (nat_lt (ahead_in before) (length (part_at before byte))) (packet_by (ahead_in before) (direction_of (kind_of (part_at before byte))) (begun_records before) byte) []
 
--- The event that the last byte of a part of a record completes, given its packet so far: OPEN, CLOSE and REST have no body, that of RELEASE is a
+-- the moment of the record that the next byte of a log belongs to
+unfoldable pub moment_at : List ℕ → ℕ → ℕ
+moment_at before byte = moment_in (ahead_in before) (part_at before byte)
+
+-- The event that the last byte of a part of a record completes, given the length of a record's head, and its packet so far: OPEN, CLOSE and REST have no body, that of RELEASE is a
 -- Packet Identifier, and SENT and RECV give what their packets are.
-abbrev pub event_by : Option RecordKind → List ℕ → List ℕ → Option Event
-event_by (Some kinds.Open) part so_far = if length part == head_length then Some opened else None
-event_by (Some kinds.Close) part so_far = if length part == head_length then Some closed else None
-event_by (Some kinds.Rest) part so_far = if length part == head_length then Some rested else None
-event_by (Some kinds.Release) part so_far = if length part == head_length + 2 then Some (released (from_be_bytes w16 (drop head_length part))) else None
-event_by (Some kinds.Sent) part so_far = option_map sent (item_at so_far)
-event_by (Some kinds.Recv) part so_far = option_map received (item_at so_far)
-event_by None part so_far = None
+abbrev pub event_by : ℕ → Option RecordKind → List ℕ → List ℕ → Option Event
+event_by ahead (Some kinds.Open) part so_far = if length part == ahead then Some opened else None
+event_by ahead (Some kinds.Close) part so_far = if length part == ahead then Some closed else None
+event_by ahead (Some kinds.Rest) part so_far = if length part == ahead then Some rested else None
+event_by ahead (Some kinds.Release) part so_far = if length part == ahead + 2 then Some (released (from_be_bytes w16 (drop ahead part))) else None
+event_by ahead (Some kinds.Sent) part so_far = option_map sent (item_at so_far)
+event_by ahead (Some kinds.Recv) part so_far = option_map received (item_at so_far)
+event_by ahead None part so_far = None
 
 -- the event that the head of a record completes: that of a kind that has no body
 abbrev pub event_of_head : RecordKind → Option Event
@@ -96,22 +100,22 @@ event_of_head kinds.Release = None
 event_of_head kinds.Sent = None
 event_of_head kinds.Recv = None
 
-unfoldable pub event_in : List ℕ → List ℕ → Option Event
-event_in part so_far = event_by (kind_of part) part so_far
+unfoldable pub event_in : ℕ → List ℕ → List ℕ → Option Event
+event_in ahead part so_far = event_by ahead (kind_of part) part so_far
 
 -- the event that the next byte of a log completes
 unfoldable pub event_at : List ℕ → ℕ → Option Event
-event_at before byte = if nat_lt (length before) 8 then None else event_in (part_at before byte) (packet_at before byte)
+event_at before byte = if nat_lt (length before) 8 then None else event_in (ahead_in before) (part_at before byte) (packet_at before byte)
 
 -- an event at its place, in front of the earlier ones
-abbrev pub with_event : ℕ → Option Event → List Placed → List Placed
-with_event record_no None earlier = earlier
-with_event record_no (Some event) earlier = record { place = record { position = length earlier + 1; record_no = record_no }; event = event } ∷ earlier
+abbrev pub with_event : ℕ → ℕ → Option Event → List Placed → List Placed
+with_event record_no moment None earlier = earlier
+with_event record_no moment (Some event) earlier = record { place = record { position = length earlier + 1; record_no = record_no; moment = moment }; event = event } ∷ earlier
 
 -- the events of a log whose bytes are given the newest first
 unfoldable pub events_back : List ℕ → List Placed
 events_back [] = []
-events_back (byte ∷ earlier) = with_event (length (begun_records (reverse earlier ++ byte ∷ []))) (event_at (reverse earlier) byte) (events_back earlier)
+events_back (byte ∷ earlier) = with_event (length (begun_records (reverse earlier ++ byte ∷ []))) (moment_at (reverse earlier) byte) (event_at (reverse earlier) byte) (events_back earlier)
 
 -- The events of a log, the newest first.
 unfoldable pub events : List ℕ → List Placed

@@ -3,19 +3,21 @@ use Rattle.std.specs.Prelude.{ℕ, ◌+◌, ◌-◌, nat_le, Bool, ◌&&◌, ◌
 use Rattle.std.specs.Option.{option_or}
 use Rattle.mq_trace.specs.declared.kind.Direction.{Direction}
 use Rattle.mq_trace.specs.declared.kind.Direction.TheVariants as directions
+use Rattle.mq_trace.specs.declared.place.InRecord.{InRecord}
 use Rattle.mq_trace.specs.declared.refusal.Refusal.{Refusal}
 use Rattle.mq_trace.specs.declared.refusal.Refusal.TheVariants as refusals
 use Rattle.mq_packet.specs.Stream.{fixed_header_of, frame_size}
+use Rattle.mq_trace.specs.Framing.{moment_in}
 use Rattle.mq_trace.specs.Events.{Item, Event, Placed, sent, received, read_frame, item_at}
 use Rattle.mq_trace.specs.Connections.{is_answer, is_too_early}
 use Rattle.mq_trace.specs.Refusals.{first_that_applies, is_too_large, is_other_version}
-use Rattle.mq_trace.specs.Context.{StreamState, Context, state_for, so_far_in, state_after, put}
+use Rattle.mq_trace.specs.Context.{StreamState, Context, ahead_of, state_for, so_far_in, state_after, put}
 
--- what stays the same within a body: the direction, whether the tested end is a server, and the number of the record
+-- what stays the same within a body: the direction, whether the tested end is a server, and the record
 pub record BodyContext : Type 0 where
   pub direction : Direction
   pub server : Bool
-  pub record_no : ℕ
+  pub in_record : InRecord
 
 -- what else is kept: how many bytes of the log came, the direction's state, how many events there are, whether a connection is open, whether its CONNACK came, and how many events came before its OPEN
 pub record Flow : Type 0 where
@@ -51,7 +53,7 @@ flow_refusal limit context f byte = first_that_applies (
 -- that event at its place
 abbrev pub flow_placed_with : BodyContext → Flow → Option Event → Option Placed
 flow_placed_with context f None = None
-flow_placed_with context f (Some event) = Some (record { place = record { position = f.events + 1; record_no = context.record_no }; event = event })
+flow_placed_with context f (Some event) = Some (record { place = record { position = f.events + 1; record_no = context.in_record.record_no; moment = context.in_record.moment }; event = event })
 
 unfoldable pub flow_placed : BodyContext → Flow → ℕ → Option Placed
 flow_placed context f byte = flow_placed_with context f (flow_event context f byte)
@@ -80,7 +82,7 @@ flow_events context f (byte ∷ bytes) = flow_events context (flow_after context
 
 -- the direction that a body carries, from what is kept of the log
 abbrev pub context_in : Context → Direction → BodyContext
-context_in c direction = record { direction = direction; server = c.header.server; record_no = c.records + 1 }
+context_in c direction = record { direction = direction; server = c.header.server; in_record = record { record_no = c.records + 1; moment = moment_in (ahead_of c) c.part } }
 
 abbrev pub flow_in : Context → Direction → Flow
 flow_in c direction = record { at = c.at; state = state_for c direction; events = c.events; connected = c.connected; connack_seen = c.connack_seen; before_open = c.before_open }

@@ -1,6 +1,6 @@
 -- How a log is laid out: a header of eight bytes, and records. A record is a byte that names its kind, the length of its body in
--- four bytes, the most significant first, and the body.
-use Rattle.std.specs.Prelude.{ℕ, ◌+◌, ◌==◌, nat_lt, nat_le, Bool, true, false, cond, if◌then◌else◌, List, [], ◌∷◌, ◌++◌, length, take, drop, reverse, slice_index, Option, Some, None}
+-- four bytes, in version 2 its moment in eight, and the body. A number's most significant byte comes first.
+use Rattle.std.specs.Prelude.{ℕ, ◌+◌, ◌*◌, ◌==◌, nat_lt, nat_le, Bool, true, false, ◌||◌, cond, if◌then◌else◌, List, [], ◌∷◌, ◌++◌, length, take, drop, reverse, slice_index, Option, Some, None}
 use Rattle.std.specs.Int.{w32, from_be_bytes}
 use Rattle.mq_trace.specs.declared.kind.RecordKind.{RecordKind}
 use Rattle.mq_trace.specs.declared.kind.RecordKind.TheVariants as kinds
@@ -14,24 +14,29 @@ use Rattle.mq_packet.specs.Stream.{frame_size}
 abbrev pub magic : List ℕ
 magic = 77 ∷ 81 ∷ 84 ∷ 82 ∷ []
 
--- the version of the layout
-abbrev pub version : ℕ
-version = 1
+-- a version of the layout: 1 or 2
+abbrev pub is_version : ℕ → Bool
+is_version byte = byte == 1 || byte == 2
 
--- the length of a record's head: the byte of its kind, and the length of its body
-abbrev pub head_length : ℕ
-head_length = 5
+-- how many bytes of a record there are up to the end of its length: that of its kind, and four
+abbrev pub length_end : ℕ
+length_end = 5
 
--- the longest body of a record that carries packets, and a bound on the length of any record
-abbrev pub longest_body : ℕ
-longest_body = 1048576
+-- the length of a record's head, by the version: its kind, the length of its body, and in version 2 its moment
+unfoldable pub head_length : ℕ → ℕ
+head_length version = if version == 2 then 13 else length_end
 
+-- the longest body of a record that carries packets, by the version
+unfoldable pub longest_body : ℕ → ℕ
+longest_body version = if version == 2 then 16777216 else 1048576
+
+-- a bound on the length of any record
 abbrev pub longest_record : ℕ
-longest_record = head_length + longest_body
+longest_record = 16777229
 
--- what the header says: byte 5 is 1 if the tested end is a server, and bit 0 of byte 6 says whether releases are recorded
+-- what the header says: byte 4 is the version, byte 5 is 1 if the tested end is a server, and bit 0 of byte 6 says whether releases are recorded
 abbrev pub header_by : List ℕ → Header
-header_by bytes = record { server = slice_index bytes 5 == 1; releases = slice_index bytes 6 == 1 }
+header_by bytes = record { version = slice_index bytes 4; server = slice_index bytes 5 == 1; releases = slice_index bytes 6 == 1 }
 
 -- the kind that a record's first byte names
 abbrev pub kind_named : ℕ → Option RecordKind
@@ -46,13 +51,26 @@ kind_of part = kind_named (slice_index part 0)
 unfoldable pub body_length : List ℕ → ℕ
 body_length part = from_be_bytes w32 (take 4 (drop 1 part))
 
--- the size of the record at the front, if a whole one is there
-unfoldable pub record_size : List ℕ → Option ℕ
-record_size bytes = if nat_lt (length bytes) head_length then None else (if nat_le (head_length + body_length bytes) (length bytes) then Some (head_length + body_length bytes) else None)
+-- the number that bytes spell, the most significant first, after a number
+abbrev pub spelled_from : ℕ → List ℕ → ℕ
+spelled_from number [] = number
+spelled_from number (byte ∷ bytes) = spelled_from (number * 256 + byte) bytes
+
+-- The moment of a record, given the length of its head: what the bytes of the head after the length spell, and 0 where there are none.
+unfoldable pub moment_in : ℕ → List ℕ → ℕ
+moment_in ahead part = spelled_from 0 (drop length_end (take ahead part))
+
+-- the size of the record at the front, if a whole one is there, given the length of its head
+unfoldable pub record_size : ℕ → List ℕ → Option ℕ
+record_size ahead bytes = if nat_lt (length bytes) ahead then None else (if nat_le (ahead + body_length bytes) (length bytes) then Some (ahead + body_length bytes) else None)
+
+-- the length of a record's head in this log
+abbrev pub ahead_in : List ℕ → ℕ
+ahead_in bytes = head_length (header_by bytes).version
 
 -- the whole records of a log, and the bytes so far of one that isn't whole
 unfoldable pub records : List ℕ → Pieces
-records bytes = pieces record_size (drop 8 bytes)
+records bytes = pieces (record_size (ahead_in bytes)) (drop 8 bytes)
 
 -- the unfinished record, if any of it is there, in front of the whole ones
 abbrev pub begun_with : List ℕ → List (List ℕ) → List (List ℕ)
@@ -80,10 +98,10 @@ if_direction directions.Sent (Some directions.Sent) bytes = bytes
 if_direction directions.Recv (Some directions.Recv) bytes = bytes
 if_direction _ _ bytes = []
 
--- what one direction carried on the connection so far, given the records begun, the newest first
-unfoldable pub carried : Direction → List (List ℕ) → List ℕ
-carried direction [] = []
-carried direction (part ∷ before) = cond (opens (kind_of part)) [] (carried direction before ++ if_direction direction (direction_of (kind_of part)) (drop head_length part))
+-- what one direction carried on the connection so far, given the length of a record's head, and the records begun, the newest first
+unfoldable pub carried : ℕ → Direction → List (List ℕ) → List ℕ
+carried ahead direction [] = []
+carried ahead direction (part ∷ before) = cond (opens (kind_of part)) [] (carried ahead direction before ++ if_direction direction (direction_of (kind_of part)) (drop ahead part))
 
 -- one direction's stream of packets: whole frames, and the bytes so far of one that isn't whole
 unfoldable pub stream : List ℕ → Pieces

@@ -4,7 +4,7 @@ use Rattle.mq_trace.specs.declared.kind.Direction.{Direction}
 use Rattle.mq_trace.specs.declared.kind.Direction.TheVariants as directions
 use Rattle.mq_packet.specs.Stream.{is_lost}
 use Rattle.mq_trace.specs.Pieces.{Pieces}
-use Rattle.mq_trace.specs.Framing.{kind_of, direction_of, opens, if_direction, head_length}
+use Rattle.mq_trace.specs.Framing.{kind_of, direction_of, opens, if_direction}
 use Rattle.mq_trace.specs.Events.{Item, Event, Placed, lost, sent, received, item_read, read_frame}
 use Rattle.mq_trace.specs.Connections.{begins_connection}
 
@@ -13,12 +13,12 @@ abbrev pub opened_records : List (List ℕ) → ℕ
 opened_records [] = 0
 opened_records (part ∷ before) = cond (opens (kind_of part)) (opened_records before + 1) (opened_records before)
 
--- What one direction of the connection of this number carried: the joined bodies of its records. Connections are numbered from 1, and what comes before the first OPEN is
+-- What one direction of the connection of this number carried, given the length of a record's head: the joined bodies of its records. Connections are numbered from 1, and what comes before the first OPEN is
 -- on connection 0. The newest record comes first.
-abbrev pub joined : ℕ → Direction → List (List ℕ) → List ℕ
-joined number direction [] = []
-joined number direction (part ∷ before) =
-    joined number direction before ++ cond (opened_records (part ∷ before) == number) (if_direction direction (direction_of (kind_of part)) (drop head_length part)) []
+abbrev pub joined : ℕ → ℕ → Direction → List (List ℕ) → List ℕ
+joined ahead number direction [] = []
+joined ahead number direction (part ∷ before) =
+    joined ahead number direction before ++ cond (opened_records (part ∷ before) == number) (if_direction direction (direction_of (kind_of part)) (drop ahead part)) []
 
 -- the item, if there is one
 abbrev pub if_some : Option Item → List Item

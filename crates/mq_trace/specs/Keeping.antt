@@ -1,5 +1,5 @@
 -- What a reader of a log keeps in memory, and what that means for the log.
-use Rattle.std.specs.Prelude.{◌≡◌, ℕ, ◌+◌, ◌-◌, ◌*◌, ◌<◌, ◌≤◌, true, false, List, [], ◌∷◌, ◌++◌, length, slice_index, Some, None}
+use Rattle.std.specs.Prelude.{◌≡◌, ℕ, ◌+◌, ◌-◌, ◌*◌, ◌<◌, ◌≤◌, Bool, true, false, zero, suc, List, [], ◌∷◌, ◌++◌, length, drop, slice_index, Some, None}
 use Rattle.mq_trace.specs.declared.kind.RecordKind.{RecordKind}
 use Rattle.mq_trace.specs.declared.kind.RecordKind.TheVariants as kinds
 use Rattle.mq_trace.specs.declared.deframer.Deframer.{Deframer}
@@ -9,7 +9,8 @@ use Rattle.mq_trace.specs.declared.reading.Reading.{Reading}
 use Rattle.mq_packet.specs.declared.header.FixedHeader.{FixedHeader}
 use Rattle.mq_packet.specs.declared.header.FixedHeader.TheVariants as headers
 use Rattle.mq_packet.specs.Stream.{fixed_header_of}
-use Rattle.mq_trace.specs.Framing.{kind_of, direction_of, body_length, head_length, longest_body, longest_record}
+use Rattle.mq_trace.specs.Framing.{kind_of, direction_of, body_length, spelled_from, moment_in, length_end, head_length, longest_record}
+use Rattle.mq_trace.specs.Refusals.{allows_length}
 use Rattle.mq_trace.specs.Events.{Placed}
 use Rattle.mq_trace.specs.Context.{StreamState, Context, so_far_for}
 use Rattle.mq_trace.specs.Runs.{after_bytes, refused_in, events_by}
@@ -21,19 +22,20 @@ use Rattle.mq_trace.specs.declared.refusal.Refusal.{Refusal}
 abbrev pub state_in : Deframer → StreamState
 state_in d = record { unfinished = d.unfinished.items; lost = d.lost }
 
--- the number that bytes spell, the most significant first
-abbrev pub spelled_from : ℕ → List ℕ → ℕ
-spelled_from number [] = number
-spelled_from number (byte ∷ bytes) = spelled_from (number * 256 + byte) bytes
-
--- The unfinished record is this part, and the stage says so.
-abbrev pub IsAt : Stage → List ℕ → Type 0
-IsAt stages.Between part = part ≡ []
-IsAt (stages.Head kind count length_so_far) part = (first : ℕ) × (bytes : List ℕ) × (part ≡ first ∷ bytes)
+-- The unfinished record is this part, and the stage says so, given the length of a record's head, and the moment so far.
+abbrev pub IsAt : ℕ → ℕ → Stage → List ℕ → Type 0
+IsAt ahead moment stages.Between part = part ≡ []
+IsAt ahead moment (stages.Head kind count length_so_far) part = (first : ℕ) × (bytes : List ℕ) × (part ≡ first ∷ bytes)
     × (kind_of part ≡ Some kind) × (length bytes ≡ count) × (length_so_far ≡ spelled_from 0 bytes)
-IsAt (stages.Body direction left) part = (kind : RecordKind) × (kind_of part ≡ Some kind) × (direction_of (Some kind) ≡ Some direction) × (head_length ≤ length part) × (length part + left ≡ head_length + body_length part)
-IsAt (stages.Release None) part = (kind_of part ≡ Some kinds.Release) × (length part ≡ head_length) × (body_length part ≡ 2)
-IsAt (stages.Release (Some high)) part = (kind_of part ≡ Some kinds.Release) × (length part ≡ head_length + 1) × (body_length part ≡ 2) × (slice_index part head_length ≡ high)
+IsAt ahead moment (stages.Moment kind number count) part = (kind_of part ≡ Some kind) × (body_length part ≡ number) × (length part ≡ length_end + count) × (moment ≡ spelled_from 0 (drop length_end part))
+IsAt ahead moment (stages.Body direction left) part =
+    (kind : RecordKind) × (kind_of part ≡ Some kind) × (direction_of (Some kind) ≡ Some direction) × (ahead ≤ length part) × (length part + left ≡ ahead + body_length part) × (moment_in ahead part ≡ moment)
+IsAt ahead moment (stages.Release None) part = (kind_of part ≡ Some kinds.Release) × (length part ≡ ahead) × (body_length part ≡ 2) × (moment_in ahead part ≡ moment)
+IsAt ahead moment (stages.Release (Some high)) part = (kind_of part ≡ Some kinds.Release) × (length part ≡ ahead + 1) × (body_length part ≡ 2) × (moment_in ahead part ≡ moment) × (slice_index part ahead ≡ high)
+
+-- the same of what a reader keeps
+abbrev pub StandsAt : Reading → List ℕ → Type 0
+StandsAt r part = IsAt (head_length r.header.version) r.moment r.stage part
 
 -- what a reader keeps of a log, if this part is its unfinished record
 abbrev pub context_of : Reading → List ℕ → Context
@@ -55,15 +57,28 @@ abbrev pub begun_in : Stage → ℕ
 begun_in stages.Between = 0
 begun_in (stages.Head kind count length_so_far) = 1 + count
 begun_in (stages.Body direction left) = longest_record - left
-begun_in (stages.Release None) = head_length
-begun_in (stages.Release (Some high)) = head_length + 1
+begun_in (stages.Moment kind number count) = length_end + count
+begun_in (stages.Release None) = 13
+begun_in (stages.Release (Some high)) = 14
 
--- the stage's numbers are within their bounds
-abbrev pub IsWithin : Stage → Type 0
-IsWithin stages.Between = Unit {0}
-IsWithin (stages.Head kind count length_so_far) = (count ≤ 3) × ((count ≡ 0 → length_so_far ≡ 0) × (count ≡ 1 → length_so_far < 256) × (count ≡ 2 → length_so_far < 65536) × (length_so_far < 16777216))
-IsWithin (stages.Body direction left) = (1 ≤ left) × (left ≤ longest_body)
-IsWithin (stages.Release first) = Unit {0}
+-- how many numbers so many bytes can spell
+abbrev pub spellings : ℕ → ℕ
+spellings zero = 1
+spellings (suc count) = spellings count * 256
+
+-- the stage's numbers, and the moment so far, are within their bounds, in this version
+abbrev pub IsWithin : ℕ → ℕ → Stage → Type 0
+IsWithin version moment stages.Between = Unit {0}
+IsWithin version moment (stages.Head kind count length_so_far) = (count ≤ 3) × ((count ≡ 0 → length_so_far ≡ 0) × (count ≡ 1 → length_so_far < 256) × (count ≡ 2 → length_so_far < 65536) × (length_so_far < 16777216))
+IsWithin version moment (stages.Moment kind number count) = (count ≤ 7) × (moment < spellings count) × (head_length version ≡ 13) × (allows_length version (Some kind) number ≡ true)
+IsWithin version moment (stages.Body direction left) = (1 ≤ left) × (left ≤ 16777216)
+IsWithin version moment (stages.Release first) = Unit {0}
+
+-- it is inside the head of an OPEN
+abbrev pub opens_in : Stage → Bool
+opens_in (stages.Head kinds.Open count length_so_far) = true
+opens_in (stages.Moment kinds.Open number count) = true
+opens_in _ = false
 
 -- A packet whose fixed header is whole isn't larger than the limit, and isn't whole.
 abbrev pub IsShort : ℕ → List ℕ → FixedHeader → Type 0
@@ -79,18 +94,17 @@ IsUnfinished limit state = IsShort limit state.unfinished (fixed_header_of state
 pub record IsSound (r : Reading) : Type 0 where
   pub counted : r.at ≤ 8 + longest_record * r.records + begun_in r.stage
   pub begun : 0 < begun_in r.stage → r.records < 4294967295
-  pub within : IsWithin r.stage
+  pub within : IsWithin r.header.version r.moment r.stage
   pub past_header : 0 < begun_in r.stage → 8 ≤ r.at
   pub header_first : r.at < 8 → (r.stage ≡ stages.Between) × (r.records ≡ 0)
-  pub emptied : (count length_so_far : ℕ) → r.stage ≡ stages.Head kinds.Open count length_so_far
-      → (state_in r.sent ≡ record { unfinished = []; lost = false }) × (state_in r.recv ≡ record { unfinished = []; lost = false })
+  pub emptied : opens_in r.stage ≡ true → (state_in r.sent ≡ record { unfinished = []; lost = false }) × (state_in r.recv ≡ record { unfinished = []; lost = false })
   pub sent : IsUnfinished r.limit (state_in r.sent)
   pub recv : IsUnfinished r.limit (state_in r.recv)
 
 -- These bytes bring a reader from one state to another: none of them is refused, and they complete these events, the newest first.
 pub record Advances (r r' : Reading) (bytes : List ℕ) (completed : List Placed) : Type 0 where
   pub limit : r'.limit ≡ r.limit
-  pub each : (part : List ℕ) → IsAt r.stage part → (part' : List ℕ) × IsAt r'.stage part' × (refused_in r.limit (context_of r part) bytes ≡ None)
+  pub each : (part : List ℕ) → StandsAt r part → (part' : List ℕ) × StandsAt r' part' × (refused_in r.limit (context_of r part) bytes ≡ None)
       × (after_bytes (context_of r part) bytes ≡ context_of r' part') × (events_by (context_of r part) bytes ≡ completed)
 
 -- These bytes bring a reader from one state to another, and a sink that had received the earlier events has also received those that the bytes complete.
@@ -109,5 +123,5 @@ pub record StepStops {S : Type 0} (declines : S → S → List Placed → Refusa
   pub byte : ℕ
   pub later : List ℕ
   pub is : bytes ≡ taken ++ byte ∷ later
-  pub each : (part : List ℕ) → IsAt r.stage part → (refused_in r.limit (context_of r part) taken ≡ None) × (events_by (context_of r part) taken ≡ [])
+  pub each : (part : List ℕ) → StandsAt r part → (refused_in r.limit (context_of r part) taken ≡ None) × (events_by (context_of r part) taken ≡ [])
       × FlowWhy declines (r.at + length taken) (so_far_for (after_bytes (context_of r part) taken) byte) (refused_in r.limit (context_of r part) (taken ++ byte ∷ [])) (events_by (context_of r part) (taken ++ byte ∷ [])) old new refusal

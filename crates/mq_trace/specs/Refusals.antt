@@ -12,15 +12,15 @@ use Rattle.mq_trace.specs.declared.refusal.Refusal.TheVariants as refusals
 use Rattle.mq_trace.specs.declared.header.Header.{Header}
 use Rattle.mq_trace.specs.Connections.{has_open_connection, is_connack_seen, events_on_connection, is_too_early}
 use Rattle.mq_packet.specs.Stream.{fixed_header_of, frame_size}
-use Rattle.mq_trace.specs.Framing.{header_by, kind_of, body_length, records, begun_records, magic, version, head_length, longest_body}
+use Rattle.mq_trace.specs.Framing.{header_by, kind_of, body_length, records, begun_records, magic, is_version, length_end, head_length, longest_body}
 use Rattle.mq_trace.specs.Events.{Event, event_in, read_frame, part_at, packet_at, events}
 
--- the refusal of a byte of the header at this offset, if it is invalid: bytes 0 to 3 are `MQTR`, byte 4 is the version, byte 5 the role, 0 or 1,
+-- the refusal of a byte of the header at this offset, if it is invalid: bytes 0 to 3 are `MQTR`, byte 4 is the version, 1 or 2, byte 5 the role, 0 or 1,
 -- byte 6 flags, of which only bit 0 is used, and byte 7 is 0
 unfoldable pub header_refusal : ℕ → ℕ → Option Refusal
 header_refusal at byte =
     if nat_lt at 4 then (if byte == slice_index magic at then None else Some (refusals.Header at))
-    else (if at == 4 then (if byte == version then None else Some (refusals.Version at))
+    else (if at == 4 then (if is_version byte then None else Some (refusals.Version at))
     else (if at == 5 then (if nat_lt byte 2 then None else Some (refusals.Role at))
     else (if at == 6 then (if nat_lt byte 2 then None else Some (refusals.Flags at))
     else (if byte == 0 then None else Some (refusals.Flags at)))))
@@ -61,18 +61,18 @@ situation before byte = record {
 abbrev pub is_first : Situation → Bool
 is_first s = length s.part == 1
 
-abbrev pub ends_head : Situation → Bool
-ends_head s = length s.part == head_length
+abbrev pub ends_length : Situation → Bool
+ends_length s = length s.part == length_end
 
--- a length that a record of this kind may have
-abbrev pub allows_length : Option RecordKind → ℕ → Bool
-allows_length None n = true
-allows_length (Some kinds.Sent) n = nat_le n longest_body
-allows_length (Some kinds.Recv) n = nat_le n longest_body
-allows_length (Some kinds.Release) n = n == 2
-allows_length (Some kinds.Open) n = n == 0
-allows_length (Some kinds.Close) n = n == 0
-allows_length (Some kinds.Rest) n = n == 0
+-- a length that a record of this kind may have in this version
+abbrev pub allows_length : ℕ → Option RecordKind → ℕ → Bool
+allows_length version None n = true
+allows_length version (Some kinds.Sent) n = nat_le n (longest_body version)
+allows_length version (Some kinds.Recv) n = nat_le n (longest_body version)
+allows_length version (Some kinds.Release) n = n == 2
+allows_length version (Some kinds.Open) n = n == 0
+allows_length version (Some kinds.Close) n = n == 0
+allows_length version (Some kinds.Rest) n = n == 0
 
 -- a record of this kind is allowed only on an open connection
 abbrev pub needs_connection : Option RecordKind → Bool
@@ -119,14 +119,14 @@ first_that_applies (line ∷ lines) = cond line.0 (Some line.1) (first_that_appl
 abbrev pub conditions : ℕ → Situation → List (Bool × Refusal)
 conditions limit s =
     (is_first s && is_none (kind_of s.part), refusals.Kind s.at)
-    ∷ (ends_head s && not (allows_length (kind_of s.part) (body_length s.part)), refusals.Length s.at)
+    ∷ (ends_length s && not (allows_length s.header.version (kind_of s.part) (body_length s.part)), refusals.Length s.at)
     ∷ (is_first s && (is_open_kind (kind_of s.part) && s.connected), refusals.Nested s.at)
     ∷ (is_first s && (needs_connection (kind_of s.part) && not s.connected), refusals.NotOpen s.at)
     ∷ (is_first s && (is_release_kind (kind_of s.part) && not s.header.releases), refusals.ReleaseUnrecorded s.at)
     ∷ (is_too_large limit s.so_far (fixed_header_of s.so_far), refusals.TooLarge s.at)
     ∷ (ends_packet s && is_other_version (read_frame s.so_far), refusals.OtherVersion s.at)
-    ∷ (comes_too_early s (event_in s.part s.so_far), refusals.TooManyEarly s.at)
-    ∷ ((is_first s && nat_lt 4294967295 s.record_no) || (is_some (event_in s.part s.so_far) && nat_le 4294967295 s.events), refusals.TooLong s.at)
+    ∷ (comes_too_early s (event_in (head_length s.header.version) s.part s.so_far), refusals.TooManyEarly s.at)
+    ∷ ((is_first s && nat_lt 4294967295 s.record_no) || (is_some (event_in (head_length s.header.version) s.part s.so_far) && nat_le 4294967295 s.events), refusals.TooLong s.at)
     ∷ []
 
 unfoldable pub record_refusal : ℕ → Situation → Option Refusal

@@ -2,6 +2,6 @@
 use Rattle.std.specs.Prelude.{ℕ}
 use Rattle.mq_trace.specs.Events.{Event, Placed}
 
--- an event and its position, without the number of its record
-abbrev pub but_record : Placed → ℕ × Event
-but_record placed = (placed.place.position, placed.event)
+-- an event, its position and its moment, without the number of its record
+abbrev pub but_record : Placed → ℕ × ℕ × Event
+but_record placed = (placed.place.position, placed.place.moment, placed.event)

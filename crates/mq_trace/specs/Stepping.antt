@@ -1,16 +1,17 @@
 -- The steps of a log's reader: its state after the bytes of one.
-use Rattle.std.specs.Prelude.{◌≡◌, ℕ, ◌+◌, ◌<◌, ◌≤◌, ◌==◌, nat_lt, List, length, slice_index, true, ◌&&◌, not, cond, if◌then◌else◌, [], ◌∷◌, Option, Some, None, Result, Ok, Err}
+use Rattle.std.specs.Prelude.{◌≡◌, ℕ, ◌+◌, ◌<◌, ◌≤◌, ◌==◌, nat_lt, List, length, slice_index, true, ◌&&◌, not, cond, if◌then◌else◌, [], ◌∷◌, ◌++◌, Option, Some, None, Result, Ok, Err}
 use Rattle.std.specs.Int.{w32, from_be_bytes}
 use Rattle.mq_trace.specs.declared.kind.RecordKind.{RecordKind}
 use Rattle.mq_trace.specs.declared.kind.RecordKind.TheVariants as kinds
 use Rattle.mq_trace.specs.declared.kind.Direction.{Direction}
+use Rattle.mq_trace.specs.declared.place.InRecord.{InRecord}
 use Rattle.mq_trace.specs.declared.refusal.Refusal.{Refusal}
 use Rattle.mq_trace.specs.declared.refusal.Refusal.TheVariants as refusals
 use Rattle.mq_trace.specs.declared.stage.Stage.TheVariants as stages
 use Rattle.mq_trace.specs.declared.reading.Reading.{Reading}
-use Rattle.mq_trace.specs.Framing.{kind_named, opens, head_length, longest_body}
+use Rattle.mq_trace.specs.Framing.{kind_named, kind_of, body_length, opens, moment_in, head_length, longest_body}
 use Rattle.mq_trace.specs.Events.{Event}
-use Rattle.mq_trace.specs.Refusals.{first_that_applies, is_open_kind, needs_connection, is_release_kind}
+use Rattle.mq_trace.specs.Refusals.{first_that_applies, allows_length, is_open_kind, needs_connection, is_release_kind}
 use Rattle.mq_trace.specs.Context.{emptied}
 use Rattle.mq_trace.specs.declared.connections.Connections.{Connections}
 use Rattle.mq_trace.specs.declared.deframer.Deframer.{Deframer}
@@ -18,7 +19,7 @@ use Rattle.mq_trace.specs.declared.kind.Direction.TheVariants as directions
 use Rattle.mq_trace.specs.Emission.{connections_with}
 use Rattle.mq_trace.specs.Flows.{BodyContext, Flow}
 use Rattle.mq_trace.specs.Deframing.{flow_of}
-use Rattle.mq_trace.specs.Keeping.{state_in}
+use Rattle.mq_trace.specs.Keeping.{state_in, StandsAt, begun_in}
 
 -- the refusal that a result holds, if it holds one
 abbrev pub err_of : {A : Type 0} → Result A Refusal → Option Refusal
@@ -30,6 +31,7 @@ abbrev pub after_header_byte : Reading → ℕ → Reading
 after_header_byte r byte = record r {
   at = r.at + 1;
   header = record {
+    version = if r.at == 4 then byte else r.header.version;
     server = if r.at == 5 then byte == 1 else r.header.server;
     releases = if r.at == 6 then byte == 1 else r.header.releases;
   };
@@ -64,16 +66,29 @@ abbrev pub kind_for : Direction → RecordKind
 kind_for directions.Sent = kinds.Sent
 kind_for directions.Recv = kinds.Recv
 
--- The reader is between two records, and the next bytes are the head of one that carries packets this way, of this length, and meets no refusal.
-pub record IsBodyHead (r : Reading) (bytes : List ℕ) (direction : Direction) (number : ℕ) : Type 0 where
+-- The reader is between two records, and the next bytes are the head of one that carries packets this way, of this length and moment, and meets no refusal.
+pub record IsBodyHead (r : Reading) (bytes : List ℕ) (direction : Direction) (number moment : ℕ) : Type 0 where
   pub past_header : 8 ≤ r.at
   pub between : r.stage ≡ stages.Between
   pub connected : r.connections.connected ≡ true
   pub room : r.records < 4294967295
-  pub whole : head_length ≤ length bytes
+  pub whole : head_length r.header.version ≤ length bytes
   pub named : kind_named (slice_index bytes 0) ≡ Some (kind_for direction)
   pub spelled : number ≡ from_be_bytes w32 (slice_index bytes 1 ∷ slice_index bytes 2 ∷ slice_index bytes 3 ∷ slice_index bytes 4 ∷ [])
-  pub allowed : number ≤ longest_body
+  pub allowed : number ≤ longest_body r.header.version
+  pub timed : moment_in (head_length r.header.version) bytes ≡ moment
+
+-- after a whole length of a record that has a moment
+abbrev pub in_moment : Reading → ℕ → RecordKind → ℕ → ℕ → ℕ → Reading
+in_moment r at kind number count moment = record r { at = at; stage = stages.Moment kind number count; moment = moment }
+
+-- The next byte is the last one of the head of a record of this kind, whose body has this length and which has this moment.
+pub record EndsHead (r : Reading) (kind : RecordKind) (number moment byte : ℕ) : Type 0 where
+  pub begun : 0 < begun_in r.stage
+  pub few : begun_in r.stage ≤ 12
+  pub allowed : allows_length r.header.version (Some kind) number ≡ true
+  pub each : (part : List ℕ) → StandsAt r part → (kind_of part ≡ Some kind) × (length part + 1 ≡ head_length r.header.version) × (body_length (part ++ byte ∷ []) ≡ number)
+      × (moment_in (head_length r.header.version) (part ++ byte ∷ []) ≡ moment) × (opens (Some kind) ≡ true → (state_in r.sent ≡ emptied) × (state_in r.recv ≡ emptied))
 
 -- after the last byte of a record that completes this event
 abbrev pub marked : Reading → Event → Reading
@@ -91,9 +106,13 @@ leaving r direction left = record r {
   stage = if left == 0 then stages.Between else stages.Body direction left;
 }
 
+-- the record that is being read, of this moment
+abbrev pub in_record_of : Reading → ℕ → InRecord
+in_record_of r moment = record { record_no = r.records + 1; moment = moment }
+
 -- the direction of a body's bytes, and what is kept of it
 abbrev pub context_for : Reading → Direction → BodyContext
-context_for r direction = record { direction = direction; server = r.header.server; record_no = r.records + 1 }
+context_for r direction = record { direction = direction; server = r.header.server; in_record = in_record_of r r.moment }
 
 abbrev pub deframer_for : Reading → Direction → Deframer
 deframer_for r directions.Sent = r.sent

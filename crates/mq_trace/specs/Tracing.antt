@@ -11,7 +11,7 @@ use Rattle.mq_trace.specs.Refusals.{refused, refusal_at, is_cut_short}
 use Rattle.mq_trace.specs.Refusing.{moved}
 use Rattle.mq_trace.specs.Context.{context}
 use Rattle.mq_trace.specs.Deframing.{NeedsMemory}
-use Rattle.mq_trace.specs.Keeping.{IsAt, context_of}
+use Rattle.mq_trace.specs.Keeping.{StandsAt, context_of}
 
 -- a tracer: the refusal that it reported, if any, and what it keeps of the log
 pub record Traced : Type 0 where
@@ -22,7 +22,7 @@ pub record Traced : Type 0 where
 pub record HasRead (r : Reading) (log : List ℕ) : Type 0 where
   pub unrefused : refused r.limit log ≡ None
   pub part : List ℕ
-  pub stands : IsAt r.stage part
+  pub stands : StandsAt r part
   pub kept : context log ≡ context_of r part
 
 -- The tracer has taken in this log, and refused none of it.

@@ -1,10 +1,10 @@
 -- A log as it is written: the bytes of its header and of its records, and what a TraceWriter does with them.
-use Rattle.std.specs.Prelude.{◌≡◌, ℕ, ◌<◌, Bool, true, false, List, [], ◌∷◌, ◌++◌, length, Option}
-use Rattle.std.specs.Int.{w16, w32, to_be_bytes}
+use Rattle.std.specs.Prelude.{◌≡◌, ℕ, ◌<◌, ◌==◌, if◌then◌else◌, Bool, true, false, List, [], ◌∷◌, ◌++◌, length, Option}
+use Rattle.std.specs.Int.{w16, w32, w64, to_be_bytes}
 use Rattle.std.specs.Io.KnownBytes.{Appends}
 use Rattle.mq_trace.specs.declared.header.Header.{Header}
 use Rattle.mq_trace.specs.declared.kind.RecordKind.{RecordKind}
-use Rattle.mq_trace.specs.Framing.{magic, version}
+use Rattle.mq_trace.specs.Framing.{magic}
 use Rattle.mq_trace.specs.declared.kind.RecordKind.TheVariants as kinds
 
 -- a bit as a byte
@@ -14,7 +14,7 @@ bit_byte false = 0
 
 -- a header: `MQTR`, the version, a byte that is 1 for a server, one whose bit 0 says that releases are recorded, and a byte that is 0
 abbrev pub header_bytes : Header → List ℕ
-header_bytes header = magic ++ version ∷ bit_byte header.server ∷ bit_byte header.releases ∷ 0 ∷ []
+header_bytes header = magic ++ header.version ∷ bit_byte header.server ∷ bit_byte header.releases ∷ 0 ∷ []
 
 -- a record, and what it carries: bytes, or a Packet Identifier
 pub data Record : Type 0 where
@@ -47,13 +47,17 @@ record_body (received_record body) = body
 record_body (release_record identifier) = to_be_bytes w16 identifier
 record_body _ = []
 
--- the bytes of a record: the byte of its kind, the length of the body in four bytes, the most significant first, and the body
-abbrev pub framed : ℕ → List ℕ → List ℕ
-framed kind body = kind ∷ to_be_bytes w32 (length body) ++ body
+-- a record's moment, in eight bytes, the most significant first, in version 2 alone
+unfoldable pub moment_bytes : ℕ → ℕ → List ℕ
+moment_bytes version moment = if version == 2 then to_be_bytes w64 moment else []
 
--- a record's bytes
-abbrev pub record_bytes : Record → List ℕ
-record_bytes entry = framed (kind_byte (record_kind entry)) (record_body entry)
+-- the bytes of a record: the byte of its kind, the length of the body in four bytes, the most significant first, its moment, and the body
+abbrev pub framed : ℕ → ℕ → ℕ → List ℕ → List ℕ
+framed version moment kind body = (kind ∷ to_be_bytes w32 (length body) ++ moment_bytes version moment) ++ body
+
+-- a record's bytes, in this version and with this moment
+abbrev pub record_bytes : ℕ → ℕ → Record → List ℕ
+record_bytes version moment entry = framed version moment (kind_byte (record_kind entry)) (record_body entry)
 
 -- The known bytes grew by a beginning of the text, but not all of it, and by nothing else.
 pub record AppendsBeginning (old new : Option (List ℕ)) (text : List ℕ) : Type 0 where
@@ -69,10 +73,12 @@ pub record LeavesToWrite (old new : Option (List ℕ)) (whole rest : List ℕ) :
   pub parts : whole ≡ written ++ rest
   pub appended : Appends old new written
 
--- a TraceWriter: the writer that it writes to, and whether a call has failed
+-- a TraceWriter: the writer that it writes to, whether a call has failed, the version of the log, and the moment of the next records
 pub record Tracing (W : Type 0) : Type 0 where
   pub writer : W
   pub has_failed : Bool
+  pub version : ℕ
+  pub moment : ℕ
 
 -- A call has written these bytes, and no call has failed.
 pub record WritesAll {W : Type 0} (contents : W → Option (List ℕ)) (old new : Tracing W) (bytes : List ℕ) : Type 0 where

@@ -14,7 +14,7 @@ ghost use Rattle.mq_trace.specs.Emission.{event_refusal, connections_with, next_
 
 use super::event::{Event, Item};
 use super::kind::Direction;
-use super::place::Place3;
+use super::place::{InRecord, Place3};
 use super::refusal::Refusal;
 use super::sink::Sink;
 use mq_packet::{Packet, Publish};
@@ -35,7 +35,7 @@ pub struct Connections {
     pub before_open: u32,
 }
 
-/// Emits the next event to a sink. The byte at this offset of the log completes it, in the record of this number.
+/// Emits the next event to a sink. The byte at this offset of the log completes it, in this record.
 ///
 /// # Errors
 ///
@@ -46,18 +46,18 @@ pub fn emit<S: Sink>(
     connections: &mut Connections,
     server: bool,
     at: u64,
-    record_no: u32,
+    in_record: InRecord,
     event: Event<'_>,
     sink: &mut S,
 ) -> Result<(), Refusal>
     ensures ok { OnOk result ((event_refusal at server connections.old (event_of event.entry) ≡ None) × (connections.new ≡ connections_with server connections.old (event_of event.entry))) }
-    ensures receives { (earlier : List Placed) → S.agrees sink.old earlier → AreEvents (next_placed connections.old record_no (event_of event.entry) ∷ earlier)
-        → OnOk result (S.agrees sink.new (next_placed connections.old record_no (event_of event.entry) ∷ earlier)) }
-    ensures err { IfErr result (λ refusal. NotEmitted (Declines S.agrees S.refuses) at (event_refusal at server connections.old (event_of event.entry)) (next_placed connections.old record_no (event_of event.entry) ∷ []) sink.old sink.new refusal) }
+    ensures receives { (earlier : List Placed) → S.agrees sink.old earlier → AreEvents (next_placed connections.old in_record (event_of event.entry) ∷ earlier)
+        → OnOk result (S.agrees sink.new (next_placed connections.old in_record (event_of event.entry) ∷ earlier)) }
+    ensures err { IfErr result (λ refusal. NotEmitted (Declines S.agrees S.refuses) at (event_refusal at server connections.old (event_of event.entry)) (next_placed connections.old in_record (event_of event.entry) ∷ []) sink.old sink.new refusal) }
 {
     match event_refusal(*connections, server, at, &event) {
         Some(refusal) => Err(refusal),
-        None => emit_next(connections, server, at, record_no, event, sink),
+        None => emit_next(connections, server, at, in_record, event, sink),
     }
 }
 
@@ -71,7 +71,7 @@ pub fn emit<S: Sink>(
 pub fn emit_publish<S: Sink>(
     connections: &mut Connections,
     at: u64,
-    record_no: u32,
+    in_record: InRecord,
     direction: Direction,
     size: u32,
     publish: Publish<'_>,
@@ -80,13 +80,13 @@ pub fn emit_publish<S: Sink>(
     requires { size ≡ unwrap_or (size_with (remaining_length (packets.Publish publish))) 0 }
     ensures met { (server : Bool) → OnOk result (event_refusal at server connections.old (item_event direction (item_of (items.Packet (packets.Publish publish.entry)))) ≡ None) }
     ensures kept { (server : Bool) → OnOk result (connections.new ≡ connections_with server connections.old (item_event direction (item_of (items.Packet (packets.Publish publish.entry))))) }
-    ensures receives { (earlier : List Placed) → S.agrees sink.old earlier → AreEvents (next_placed connections.old record_no (item_event direction (item_of (items.Packet (packets.Publish publish.entry)))) ∷ earlier)
-        → OnOk result (S.agrees sink.new (next_placed connections.old record_no (item_event direction (item_of (items.Packet (packets.Publish publish.entry)))) ∷ earlier)) }
-    ensures err { (server : Bool) → IfErr result (λ refusal. NotEmitted (Declines S.agrees S.refuses) at (event_refusal at server connections.old (item_event direction (item_of (items.Packet (packets.Publish publish.entry))))) (next_placed connections.old record_no (item_event direction (item_of (items.Packet (packets.Publish publish.entry)))) ∷ []) sink.old sink.new refusal) }
+    ensures receives { (earlier : List Placed) → S.agrees sink.old earlier → AreEvents (next_placed connections.old in_record (item_event direction (item_of (items.Packet (packets.Publish publish.entry)))) ∷ earlier)
+        → OnOk result (S.agrees sink.new (next_placed connections.old in_record (item_event direction (item_of (items.Packet (packets.Publish publish.entry)))) ∷ earlier)) }
+    ensures err { (server : Bool) → IfErr result (λ refusal. NotEmitted (Declines S.agrees S.refuses) at (event_refusal at server connections.old (item_event direction (item_of (items.Packet (packets.Publish publish.entry))))) (next_placed connections.old in_record (item_event direction (item_of (items.Packet (packets.Publish publish.entry)))) ∷ []) sink.old sink.new refusal) }
 {
     match publish_refusal(*connections, at) {
         Some(met) => Err(met),
-        None => emit_next_publish(connections, at, record_no, direction, size, publish, sink),
+        None => emit_next_publish(connections, at, in_record, direction, size, publish, sink),
     }
 }
 
@@ -114,7 +114,7 @@ fn publish_refusal(connections: Connections, at: u64) -> Option<Refusal>
 fn emit_next_publish<S: Sink>(
     connections: &mut Connections,
     at: u64,
-    record_no: u32,
+    in_record: InRecord,
     direction: Direction,
     size: u32,
     publish: Publish<'_>,
@@ -123,13 +123,14 @@ fn emit_next_publish<S: Sink>(
     requires room { connections.old.events < 4294967295 }
     requires size { size ≡ unwrap_or (size_with (remaining_length (packets.Publish publish))) 0 }
     ensures kept { (server : Bool) → OnOk result (connections.new ≡ connections_with server connections.old (item_event direction (item_of (items.Packet (packets.Publish publish.entry))))) }
-    ensures receives { (earlier : List Placed) → S.agrees sink.old earlier → AreEvents (next_placed connections.old record_no (item_event direction (item_of (items.Packet (packets.Publish publish.entry)))) ∷ earlier)
-        → OnOk result (S.agrees sink.new (next_placed connections.old record_no (item_event direction (item_of (items.Packet (packets.Publish publish.entry)))) ∷ earlier)) }
-    ensures err { IfErr result (λ refusal. RefusedBySink (Declines S.agrees S.refuses) at (next_placed connections.old record_no (item_event direction (item_of (items.Packet (packets.Publish publish.entry)))) ∷ []) sink.old sink.new refusal) }
+    ensures receives { (earlier : List Placed) → S.agrees sink.old earlier → AreEvents (next_placed connections.old in_record (item_event direction (item_of (items.Packet (packets.Publish publish.entry)))) ∷ earlier)
+        → OnOk result (S.agrees sink.new (next_placed connections.old in_record (item_event direction (item_of (items.Packet (packets.Publish publish.entry)))) ∷ earlier)) }
+    ensures err { IfErr result (λ refusal. RefusedBySink (Declines S.agrees S.refuses) at (next_placed connections.old in_record (item_event direction (item_of (items.Packet (packets.Publish publish.entry)))) ∷ []) sink.old sink.new refusal) }
 {
     let place = Place3 {
         position: connections.events + 1,
-        record_no,
+        record_no: in_record.record_no,
+        moment: in_record.moment,
     };
     match sink.publish(place, direction, size, publish) {
         Ok(()) => {
@@ -150,7 +151,7 @@ pub fn emit_packet<S: Sink>(
     connections: &mut Connections,
     server: bool,
     at: u64,
-    record_no: u32,
+    in_record: InRecord,
     direction: Direction,
     size: u32,
     packet: Packet<'_>,
@@ -159,9 +160,9 @@ pub fn emit_packet<S: Sink>(
     requires { size ≡ unwrap_or (size_with (remaining_length packet)) 0 }
     ensures met { OnOk result (event_refusal at server connections.old (item_event direction (item_of (items.Packet packet.entry))) ≡ None) }
     ensures kept { OnOk result (connections.new ≡ connections_with server connections.old (item_event direction (item_of (items.Packet packet.entry)))) }
-    ensures receives { (earlier : List Placed) → S.agrees sink.old earlier → AreEvents (next_placed connections.old record_no (item_event direction (item_of (items.Packet packet.entry))) ∷ earlier)
-        → OnOk result (S.agrees sink.new (next_placed connections.old record_no (item_event direction (item_of (items.Packet packet.entry))) ∷ earlier)) }
-    ensures err { IfErr result (λ refusal. NotEmitted (Declines S.agrees S.refuses) at (event_refusal at server connections.old (item_event direction (item_of (items.Packet packet.entry)))) (next_placed connections.old record_no (item_event direction (item_of (items.Packet packet.entry))) ∷ []) sink.old sink.new refusal) }
+    ensures receives { (earlier : List Placed) → S.agrees sink.old earlier → AreEvents (next_placed connections.old in_record (item_event direction (item_of (items.Packet packet.entry))) ∷ earlier)
+        → OnOk result (S.agrees sink.new (next_placed connections.old in_record (item_event direction (item_of (items.Packet packet.entry))) ∷ earlier)) }
+    ensures err { IfErr result (λ refusal. NotEmitted (Declines S.agrees S.refuses) at (event_refusal at server connections.old (item_event direction (item_of (items.Packet packet.entry)))) (next_placed connections.old in_record (item_event direction (item_of (items.Packet packet.entry))) ∷ []) sink.old sink.new refusal) }
 {
     match packet_refusal(*connections, server, at, direction, &packet) {
         Some(met) => Err(met),
@@ -169,7 +170,7 @@ pub fn emit_packet<S: Sink>(
             connections,
             server,
             at,
-            record_no,
+            in_record,
             direction,
             size,
             packet,
@@ -218,7 +219,7 @@ fn emit_next_packet<S: Sink>(
     connections: &mut Connections,
     server: bool,
     at: u64,
-    record_no: u32,
+    in_record: InRecord,
     direction: Direction,
     size: u32,
     packet: Packet<'_>,
@@ -227,13 +228,14 @@ fn emit_next_packet<S: Sink>(
     requires room { connections.old.events < 4294967295 }
     requires size { size ≡ unwrap_or (size_with (remaining_length packet)) 0 }
     ensures kept { OnOk result (connections.new ≡ connections_with server connections.old (item_event direction (item_of (items.Packet packet.entry)))) }
-    ensures receives { (earlier : List Placed) → S.agrees sink.old earlier → AreEvents (next_placed connections.old record_no (item_event direction (item_of (items.Packet packet.entry))) ∷ earlier)
-        → OnOk result (S.agrees sink.new (next_placed connections.old record_no (item_event direction (item_of (items.Packet packet.entry))) ∷ earlier)) }
-    ensures err { IfErr result (λ refusal. RefusedBySink (Declines S.agrees S.refuses) at (next_placed connections.old record_no (item_event direction (item_of (items.Packet packet.entry))) ∷ []) sink.old sink.new refusal) }
+    ensures receives { (earlier : List Placed) → S.agrees sink.old earlier → AreEvents (next_placed connections.old in_record (item_event direction (item_of (items.Packet packet.entry))) ∷ earlier)
+        → OnOk result (S.agrees sink.new (next_placed connections.old in_record (item_event direction (item_of (items.Packet packet.entry))) ∷ earlier)) }
+    ensures err { IfErr result (λ refusal. RefusedBySink (Declines S.agrees S.refuses) at (next_placed connections.old in_record (item_event direction (item_of (items.Packet packet.entry))) ∷ []) sink.old sink.new refusal) }
 {
     let place = Place3 {
         position: connections.events + 1,
-        record_no,
+        record_no: in_record.record_no,
+        moment: in_record.moment,
     };
     let next = connections_with_packet(*connections, server, direction, &packet);
     match sink.packet(place, direction, size, packet) {
@@ -321,19 +323,20 @@ fn emit_next<S: Sink>(
     connections: &mut Connections,
     server: bool,
     at: u64,
-    record_no: u32,
+    in_record: InRecord,
     event: Event<'_>,
     sink: &mut S,
 ) -> Result<(), Refusal>
     requires { connections.old.events < 4294967295 }
     ensures ok { OnOk result (connections.new ≡ connections_with server connections.old (event_of event.entry)) }
-    ensures receives { (earlier : List Placed) → S.agrees sink.old earlier → AreEvents (next_placed connections.old record_no (event_of event.entry) ∷ earlier)
-        → OnOk result (S.agrees sink.new (next_placed connections.old record_no (event_of event.entry) ∷ earlier)) }
-    ensures err { IfErr result (λ refusal. RefusedBySink (Declines S.agrees S.refuses) at (next_placed connections.old record_no (event_of event.entry) ∷ []) sink.old sink.new refusal) }
+    ensures receives { (earlier : List Placed) → S.agrees sink.old earlier → AreEvents (next_placed connections.old in_record (event_of event.entry) ∷ earlier)
+        → OnOk result (S.agrees sink.new (next_placed connections.old in_record (event_of event.entry) ∷ earlier)) }
+    ensures err { IfErr result (λ refusal. RefusedBySink (Declines S.agrees S.refuses) at (next_placed connections.old in_record (event_of event.entry) ∷ []) sink.old sink.new refusal) }
 {
     let place = Place3 {
         position: connections.events + 1,
-        record_no,
+        record_no: in_record.record_no,
+        moment: in_record.moment,
     };
     let next = connections_with(*connections, server, &event);
     match sink.event(place, event) {

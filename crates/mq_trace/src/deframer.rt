@@ -21,6 +21,7 @@ ghost use Rattle.mq_trace.specs.Deframing.{body_context, flow_of, frame_event, f
 use super::connections::{Connections, emit, emit_packet, emit_publish};
 use super::event::{Item, item_event};
 use super::kind::Direction;
+use super::place::InRecord;
 use super::refusal::Refusal;
 use super::sink::Sink;
 use super::unfinished::Unfinished;
@@ -44,8 +45,8 @@ pub struct BodyContext {
     pub direction: Direction,
     /// Whether the tested end is a server.
     pub server: bool,
-    /// The number of the record.
-    pub record_no: u32,
+    /// The record.
+    pub in_record: InRecord,
     /// The largest packet that is read, in bytes.
     pub limit: u32,
 }
@@ -337,9 +338,9 @@ impl Deframer {
     ) -> Result<(), Refusal>
         ensures gone { state_in self.new ≡ record { unfinished = []; lost = true } }
         ensures ok { OnOk result ((event_refusal at context.server connections.old (item_event context.direction lost) ≡ None) × (connections.new ≡ connections_with context.server connections.old (item_event context.direction lost))) }
-        ensures receives { (earlier : List Placed) → S.agrees sink.old earlier → AreEvents (next_placed connections.old context.record_no (item_event context.direction lost) ∷ earlier)
-            → OnOk result (S.agrees sink.new (next_placed connections.old context.record_no (item_event context.direction lost) ∷ earlier)) }
-        ensures err { IfErr result (λ refusal. NotEmitted (Declines S.agrees S.refuses) at (event_refusal at context.server connections.old (item_event context.direction lost)) (next_placed connections.old context.record_no (item_event context.direction lost) ∷ []) sink.old sink.new refusal) }
+        ensures receives { (earlier : List Placed) → S.agrees sink.old earlier → AreEvents (next_placed connections.old context.in_record (item_event context.direction lost) ∷ earlier)
+            → OnOk result (S.agrees sink.new (next_placed connections.old context.in_record (item_event context.direction lost) ∷ earlier)) }
+        ensures err { IfErr result (λ refusal. NotEmitted (Declines S.agrees S.refuses) at (event_refusal at context.server connections.old (item_event context.direction lost)) (next_placed connections.old context.in_record (item_event context.direction lost) ∷ []) sink.old sink.new refusal) }
     {
         self.unfinished.clear();
         self.lost = true;
@@ -347,7 +348,7 @@ impl Deframer {
             connections,
             context.server,
             at,
-            context.record_no,
+            context.in_record,
             item_event(context.direction, Item::Lost),
             sink,
         )
@@ -464,7 +465,7 @@ fn emit_brief_publish_frame<S: Sink>(
         Some(publish) => emit_publish(
             connections,
             at,
-            context.record_no,
+            context.in_record,
             context.direction,
             frame.len() as u32,
             publish,
@@ -499,7 +500,7 @@ fn emit_publish_frame<S: Sink>(
         Ok(publish) => emit_publish(
             connections,
             at,
-            context.record_no,
+            context.in_record,
             context.direction,
             frame.len() as u32,
             publish,
@@ -615,7 +616,7 @@ fn emit_decoded<S: Sink>(
             connections,
             context.server,
             at,
-            context.record_no,
+            context.in_record,
             context.direction,
             frame.len() as u32,
             packet,
@@ -673,9 +674,9 @@ fn emit_bad<S: Sink>(
 ) -> Result<(), Refusal>
     ensures met { OnOk result (event_refusal at context.server connections.old (item_event context.direction (bad frame.now rule place)) ≡ None) }
     ensures kept { OnOk result (connections.new ≡ connections_with context.server connections.old (item_event context.direction (bad frame.now rule place))) }
-    ensures receives { (earlier : List Placed) → S.agrees sink.old earlier → AreEvents (next_placed connections.old context.record_no (item_event context.direction (bad frame.now rule place)) ∷ earlier)
-        → OnOk result (S.agrees sink.new (next_placed connections.old context.record_no (item_event context.direction (bad frame.now rule place)) ∷ earlier)) }
-    ensures err { IfErr result (λ refusal. NotEmitted (Declines S.agrees S.refuses) at (event_refusal at context.server connections.old (item_event context.direction (bad frame.now rule place))) (next_placed connections.old context.record_no (item_event context.direction (bad frame.now rule place)) ∷ []) sink.old sink.new refusal) }
+    ensures receives { (earlier : List Placed) → S.agrees sink.old earlier → AreEvents (next_placed connections.old context.in_record (item_event context.direction (bad frame.now rule place)) ∷ earlier)
+        → OnOk result (S.agrees sink.new (next_placed connections.old context.in_record (item_event context.direction (bad frame.now rule place)) ∷ earlier)) }
+    ensures err { IfErr result (λ refusal. NotEmitted (Declines S.agrees S.refuses) at (event_refusal at context.server connections.old (item_event context.direction (bad frame.now rule place))) (next_placed connections.old context.in_record (item_event context.direction (bad frame.now rule place)) ∷ []) sink.old sink.new refusal) }
 {
     let item = Item::Bad {
         bytes: frame,
@@ -686,7 +687,7 @@ fn emit_bad<S: Sink>(
         connections,
         context.server,
         at,
-        context.record_no,
+        context.in_record,
         item_event(context.direction, item),
         sink,
     )

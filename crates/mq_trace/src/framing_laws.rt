@@ -2,20 +2,20 @@
 ghost use Rattle.std.specs.Prelude.{◌≡◌, ℕ, Bool, true, false, take, drop, List, [], ◌∷◌, ◌++◌, Option, None, Some};
 ghost use Rattle.mq_packet.specs.Stream.{frame_size};
 ghost use Rattle.mq_trace.specs.declared.refusal.Refusal.{Refusal};
-ghost use Rattle.mq_trace.specs.declared.refusal.Refusal.TheVariants.{Version, Nested, NotOpen, ReleaseUnrecorded};
+ghost use Rattle.mq_trace.specs.declared.refusal.Refusal.TheVariants.{Version, Length, Nested, NotOpen, ReleaseUnrecorded};
 ghost use Rattle.mq_trace.specs.declared.kind.Direction.{Direction};
 ghost use Rattle.mq_trace.specs.Pieces.{Pieces, AreCut};
-ghost use Rattle.mq_trace.specs.Framing.{record_size, records, stream, kind_of, opens, carried};
+ghost use Rattle.mq_trace.specs.Framing.{record_size, records, ahead_in, stream, kind_of, opens, carried};
 ghost use Rattle.mq_trace.specs.Connections.{events_on_connection, is_answer, is_too_early};
-ghost use Rattle.mq_trace.specs.Events.{Event, closed, released, events};
+ghost use Rattle.mq_trace.specs.Events.{Event, opened, closed, released, events};
 ghost use Rattle.mq_trace.specs.Refusals.{refused, is_cut_short};
-ghost use Rattle.mq_trace.specs.Rows.{client_header, silent_header, open_bytes, close_bytes, release_bytes};
+ghost use Rattle.mq_trace.specs.Rows.{client_header, silent_header, open_bytes, close_bytes, release_bytes, timed_header, timed_open};
 ghost use Rattle.mq_trace.specs.Context.{context, after, put, placed_for};
 
 /// After its header a log is its records, each a whole one, and a rest that doesn't begin with a record; there is only one such list of records.
 pub fn log_is_its_records()
-    ensures cut { (log : List ℕ) → AreCut record_size (drop 8 log) (records log) }
-    ensures only { (log : List ℕ) (cut : Pieces) → AreCut record_size (drop 8 log) cut → cut ≡ records log }
+    ensures cut { (log : List ℕ) → AreCut (record_size (ahead_in log)) (drop 8 log) (records log) }
+    ensures only { (log : List ℕ) (cut : Pieces) → AreCut (record_size (ahead_in log)) (drop 8 log) cut → cut ≡ records log }
 {}
 
 /// What a direction carried is its frames, and a rest that doesn't begin with a frame; there is only one such list of frames (MQTT 5.0, section 2.1).
@@ -27,7 +27,7 @@ pub fn stream_is_its_frames()
 /// What a direction carried on a connection doesn't depend on what came before its OPEN: a packet that was unfinished is dropped, and a
 /// direction that was lost is read again. Records are given the newest first.
 pub fn connections_carry_their_own()
-    ensures { (direction : Direction) (later before : List (List ℕ)) (first : List ℕ) → opens (kind_of first) ≡ true → carried direction (later ++ first ∷ before) ≡ carried direction (later ++ first ∷ []) }
+    ensures { (ahead : ℕ) (direction : Direction) (later before : List (List ℕ)) (first : List ℕ) → opens (kind_of first) ≡ true → carried ahead direction (later ++ first ∷ before) ≡ carried ahead direction (later ++ first ∷ []) }
 {}
 
 /// A refusal stays, whatever follows: the earliest byte decides.
@@ -53,7 +53,9 @@ pub fn worked_logs()
     ensures counted { events_on_connection (events (client_header ++ open_bytes ++ release_bytes ++ close_bytes ++ open_bytes ++ release_bytes)) ≡ 2 }
     ensures unrecorded { refused 16777216 (silent_header ++ release_bytes) ≡ Some (ReleaseUnrecorded 8) }
     ensures unopened { refused 16777216 (client_header ++ close_bytes) ≡ Some (NotOpen 8) }
-    ensures version { refused 16777216 (77 ∷ 81 ∷ 84 ∷ 82 ∷ 2 ∷ []) ≡ Some (Version 4) }
+    ensures version { refused 16777216 (77 ∷ 81 ∷ 84 ∷ 82 ∷ 3 ∷ []) ≡ Some (Version 4) }
+    ensures barred { refused 16777216 (timed_header ++ timed_open ++ 2 ∷ 1 ∷ 0 ∷ 0 ∷ 1 ∷ []) ≡ Some (Length 25) }
+    ensures moments { events (timed_header ++ timed_open) ≡ record { place = record { position = 1; record_no = 1; moment = 258 }; event = opened } ∷ [] }
 {}
 
 /// On a connection without its CONNACK 4,096 events may come, and after them only its CLOSE and its CONNACK.

@@ -1,7 +1,7 @@
 //! The events of a log and the streams of its connections: a law of the definitions, proved as the contract of a function that does nothing.
 ghost use Rattle.std.specs.Prelude.{◌≡◌, ℕ, List};
 ghost use Rattle.mq_trace.specs.declared.kind.Direction.{Direction};
-ghost use Rattle.mq_trace.specs.Framing.{begun_records, stream};
+ghost use Rattle.mq_trace.specs.Framing.{ahead_in, begun_records, stream};
 ghost use Rattle.mq_trace.specs.Events.{events};
 ghost use Rattle.mq_trace.specs.Joined.{joined, connection_items, stream_items};
 
@@ -9,5 +9,5 @@ ghost use Rattle.mq_trace.specs.Joined.{joined, connection_items, stream_items};
 /// `Lost` is the last one exactly if the rest of that stream can't be parsed (MQTT 5.0, sections 2.1 and 1.5.5). It doesn't matter whether the log is refused. A CONNECT of
 /// another protocol version is no item; a log with one is refused.
 pub fn events_are_what_streams_hold()
-    ensures { (number : ℕ) (direction : Direction) (log : List ℕ) → connection_items number direction (events log) ≡ stream_items (stream (joined number direction (begun_records log))) }
+    ensures { (number : ℕ) (direction : Direction) (log : List ℕ) → connection_items number direction (events log) ≡ stream_items (stream (joined (ahead_in log) number direction (begun_records log))) }
 {}

@@ -4,6 +4,8 @@ ghost use Rattle.std.specs.Prelude.{◌≡◌, ◌&&◌, Some, List};
 ghost use Rattle.mq_trace.specs.Framing.{kind_named, direction_of, opens};
 ghost use Rattle.mq_trace.specs.Refusals.{allows_length, needs_connection, is_open_kind, is_release_kind};
 
+use super::header::longest_body;
+
 /// The kind of a record of the log, which its first byte names.
 #[derive(Clone, Copy, Debug, PartialEq, Eq)]
 pub enum RecordKind {
@@ -29,12 +31,6 @@ pub enum Direction {
     /// From the peer to the tested end.
     Recv,
 }
-
-/// The length of a record's head, in bytes: its kind, and the length of its body.
-pub const HEAD_LENGTH: usize = 5;
-
-/// The longest body that a SENT or RECV record may have, in bytes.
-pub const LONGEST_BODY: u32 = 1_048_576;
 
 /// The length of a RELEASE record's body: a Packet Identifier.
 const RELEASE_BODY: u32 = 2;
@@ -66,12 +62,12 @@ impl RecordKind {
         }
     }
 
-    /// Whether a record of this kind may have a body of this length.
-    pub fn allows(self, length: u32) -> bool
-        ensures { result ≡ allows_length (Some self) length }
+    /// Whether a record of this kind may have a body of this length, in a log of this version.
+    pub fn allows(self, version: u8, length: u32) -> bool
+        ensures { result ≡ allows_length version (Some self) length }
     {
         match self {
-            RecordKind::Sent | RecordKind::Recv => length <= LONGEST_BODY,
+            RecordKind::Sent | RecordKind::Recv => length <= longest_body(version),
             RecordKind::Release => length == RELEASE_BODY,
             RecordKind::Open | RecordKind::Close | RecordKind::Rest => length == 0,
         }
@@ -95,10 +91,12 @@ mod tests {
     #[test]
     fn a_kind_allows_its_lengths(rt: HostRuntime) {
         assert_eq!(rt; RecordKind::from_byte(6), Some(RecordKind::Release));
-        assert!(rt; RecordKind::Recv.allows(LONGEST_BODY));
-        assert!(rt; !RecordKind::Recv.allows(LONGEST_BODY + 1));
-        assert!(rt; !RecordKind::Release.allows(1));
-        assert!(rt; !RecordKind::Rest.allows(1));
+        assert!(rt; RecordKind::Recv.allows(1, 1_048_576));
+        assert!(rt; !RecordKind::Recv.allows(1, 1_048_577));
+        assert!(rt; RecordKind::Sent.allows(2, 16_777_216));
+        assert!(rt; !RecordKind::Sent.allows(2, 16_777_217));
+        assert!(rt; !RecordKind::Release.allows(1, 1));
+        assert!(rt; !RecordKind::Rest.allows(2, 1));
         assert!(rt; !RecordKind::Release.needs_connection());
     }
 }

@@ -7,12 +7,12 @@ ghost use Rattle.mq_trace.specs.Refusing.{refusal_offset};
 ghost use Rattle.std.specs.Int.{w16, w32, from_be_bytes};
 ghost use Rattle.mq_trace.specs.declared.kind.RecordKind.TheVariants as kinds;
 ghost use Rattle.mq_trace.specs.declared.stage.Stage.TheVariants as stages;
-ghost use Rattle.mq_trace.specs.Framing.{kind_named, opens, head_length};
+ghost use Rattle.mq_trace.specs.Framing.{kind_named, opens, moment_in, head_length};
 ghost use Rattle.mq_trace.specs.Events.{Placed};
 ghost use Rattle.mq_trace.specs.Reception.{AreEvents, Declines, event_of};
 ghost use Rattle.mq_trace.specs.Emission.{event_refusal, next_placed, NotEmitted};
 ghost use Rattle.mq_trace.specs.Context.{fresh};
-ghost use Rattle.mq_trace.specs.Stepping.{err_of, after_header_byte, kind_refusal, kind_for, IsBodyHead, BeginsRecord, refused_first, in_head, marked, leaving, context_for, deframer_for, flow_for, redirected};
+ghost use Rattle.mq_trace.specs.Stepping.{err_of, after_header_byte, kind_refusal, kind_for, IsBodyHead, BeginsRecord, EndsHead, refused_first, in_head, in_moment, in_record_of, marked, leaving, context_for, deframer_for, flow_for, redirected};
 ghost use Rattle.mq_trace.specs.Flows.{flow_refused, flow_events, flow_after_bytes};
 ghost use Rattle.mq_trace.specs.Deframing.{flow_of, FlowStops};
 ghost use Rattle.mq_trace.specs.Settling.{IsWhole};
@@ -20,8 +20,12 @@ ghost use Rattle.mq_trace.specs.Settling.{IsWhole};
 use super::connections::{Connections, emit};
 use super::deframer::{BodyContext, Deframer, consume_whole, whole_packet};
 use super::event::Event;
-use super::header::{HEADER_LENGTH, Header, header_after, header_refusal};
-use super::kind::{Direction, HEAD_LENGTH, LONGEST_BODY, RecordKind};
+use super::header::{
+    HEADER_LENGTH, Header, LENGTH_END, has_moments, head_length, header_after, header_refusal,
+    longest_body,
+};
+use super::kind::{Direction, RecordKind};
+use super::place::InRecord;
 use super::refusal::Refusal;
 use super::sink::Sink;
 use super::stage::Stage;
@@ -39,6 +43,20 @@ fn direction_named(byte: u8) -> Option<Direction>
     }
 }
 
+/// The moment of the record whose head is at the front of these bytes, in a log of this version.
+#[inline(always)]
+fn moment_of(version: u8, bytes: &[u8]) -> u64
+    requires { head_length version ≤ length bytes.now }
+    ensures { result ≡ moment_in (head_length version) bytes.now }
+{
+    if !has_moments(version) {
+        return 0;
+    }
+    u64::from_be_bytes([
+        bytes[5], bytes[6], bytes[7], bytes[8], bytes[9], bytes[10], bytes[11], bytes[12],
+    ])
+}
+
 /// What is kept of a log.
 #[derive(Drop)]
 pub struct Reading {
@@ -47,6 +65,8 @@ pub struct Reading {
     pub header: Header,
     pub records: u32,
     pub stage: Stage,
+    /// The moment of the record that is being read, from the end of its length on.
+    pub moment: u64,
     pub sent: Deframer,
     pub recv: Deframer,
     pub connections: Connections,
@@ -64,11 +84,13 @@ impl Reading {
             limit,
             at: 0,
             header: Header {
+                version: 0,
                 server: false,
                 releases: false,
             },
             records: 0,
             stage: Stage::Between,
+            moment: 0,
             sent: Deframer::new(alloc),
             recv: Deframer::new(alloc),
             connections: Connections {
@@ -96,13 +118,15 @@ impl Reading {
         ensures early { self.old.at < 8 → IfErr result (λ refusal. (refusal_offset refusal ≡ self.old.at) × (self.new.at ≡ self.old.at)) }
     {
         match self.body_head(bytes) {
-            Some((direction, length)) => self.consume_record(direction, length, bytes, sink),
+            Some((direction, length, moment)) => {
+                self.consume_record(direction, length, moment, bytes, sink)
+            }
             None => self.resume(bytes, sink),
         }
     }
 
-    /// Takes in the head of a SENT or RECV that carries `left` bytes in this direction, and those of the first packet of its body: most
-    /// records are taken in so, in one step. Returns how many bytes it took.
+    /// Takes in the head of a SENT or RECV of this moment that carries `left` bytes in this direction, and those of the first packet of its
+    /// body: most records are taken in so, in one step. Returns how many bytes it took.
     ///
     /// # Errors
     ///
@@ -112,47 +136,51 @@ impl Reading {
         &mut self,
         direction: Direction,
         left: u32,
+        moment: u64,
         bytes: &[u8],
         sink: &mut S,
     ) -> Result<usize, Refusal>
         requires sound { IsSound self.old }
-        requires head { IsBodyHead self.old bytes.now direction left }
+        requires head { IsBodyHead self.old bytes.now direction left moment }
         ensures count { IfOk result (λ n. (1 ≤ n) × (n ≤ length bytes.now)) }
         ensures sound { OnOk result (IsSound self.new) }
         ensures comes { IfOk result (λ n. Comes S.agrees self.old self.new (take n bytes.now) sink.old sink.new) }
         ensures stops { IfErr result (λ refusal. StepStops (Declines S.agrees S.refuses) self.old bytes.now sink.old sink.new refusal) }
         ensures stays { OnErr result (HoldsHeader self.old self.new) }
     {
-        self.skip_head(direction, left);
-        if left == 0 || bytes.len() == HEAD_LENGTH {
-            return Ok(HEAD_LENGTH);
+        let head = head_length(self.header.version);
+        self.skip_head(direction, left, moment);
+        if left == 0 || bytes.len() == head {
+            return Ok(head);
         }
-        match self.consume_body(direction, left, &bytes[HEAD_LENGTH..], sink) {
-            Ok(count) => Ok(HEAD_LENGTH + count),
+        match self.consume_body(direction, left, &bytes[head..], sink) {
+            Ok(count) => Ok(head + count),
             Err(refusal) => Err(refusal),
         }
     }
 
-    /// Takes in the head of a SENT or RECV that carries `left` bytes in this direction.
+    /// Takes in the head of a SENT or RECV of this moment that carries `left` bytes in this direction.
     #[inline(always)]
-    fn skip_head(&mut self, direction: Direction, left: u32)
-        requires room { self.old.at + head_length < 2 ^ 64 }
+    fn skip_head(&mut self, direction: Direction, left: u32, moment: u64)
+        requires room { self.old.at + head_length self.old.header.version < 2 ^ 64 }
         requires numbered { self.old.records < 4294967295 }
-        ensures { self.new ≡ leaving (record self.old { at = self.old.at + head_length }) direction left }
+        ensures { self.new ≡ leaving (record self.old { at = self.old.at + head_length self.old.header.version; moment = moment }) direction left }
     {
-        self.at += HEAD_LENGTH as u64;
+        self.at += head_length(self.header.version) as u64;
+        self.moment = moment;
         self.leave(direction, left);
     }
 
-    /// The direction and the length of the body, where the next bytes are the head of a SENT or RECV that meets no refusal.
+    /// The direction and the length of the body, and the record's moment, where the next bytes are the head of a SENT or RECV that meets
+    /// no refusal.
     #[inline(always)]
-    fn body_head(&self, bytes: &[u8]) -> Option<(Direction, u32)>
-        ensures { IfSome result (λ body. IsBodyHead self.now bytes.now body.0 body.1) }
+    fn body_head(&self, bytes: &[u8]) -> Option<(Direction, u32, u64)>
+        ensures { IfSome result (λ body. IsBodyHead self.now bytes.now body.0 body.1 body.2) }
     {
         if self.at < HEADER_LENGTH {
             return None;
         }
-        if bytes.len() < HEAD_LENGTH {
+        if bytes.len() < head_length(self.header.version) {
             return None;
         }
         if !self.takes_bodies() {
@@ -160,10 +188,10 @@ impl Reading {
         }
         let direction = direction_named(bytes[0])?;
         let length = u32::from_be_bytes([bytes[1], bytes[2], bytes[3], bytes[4]]);
-        if LONGEST_BODY < length {
+        if longest_body(self.header.version) < length {
             return None;
         }
-        Some((direction, length))
+        Some((direction, length, moment_of(self.header.version, bytes)))
     }
 
     /// Whether the next byte can begin a record that carries packets.
@@ -228,6 +256,14 @@ impl Reading {
                 Ok(()) => Ok(1),
                 Err(refusal) => Err(refusal),
             },
+            Stage::Moment {
+                kind,
+                length,
+                count,
+            } => match self.go_on_moment(kind, length, count, bytes[0], sink) {
+                Ok(()) => Ok(1),
+                Err(refusal) => Err(refusal),
+            },
             Stage::Body { direction, left } => self.consume_body(direction, left, bytes, sink),
             Stage::Release(None) => {
                 self.at += 1;
@@ -261,7 +297,7 @@ impl Reading {
         Ok(())
     }
 
-    /// Takes in a record's head at once, if all of it is there, else its first byte.
+    /// Takes in a record's kind and length at once, if all of both is there, else its first byte.
     #[inline(always)]
     fn consume_head<S: Sink>(&mut self, bytes: &[u8], sink: &mut S) -> Result<usize, Refusal>
         requires some { 1 ≤ length bytes.now }
@@ -276,11 +312,11 @@ impl Reading {
     {
         match self.begin_record(bytes[0]) {
             Ok(kind) => {
-                if bytes.len() < HEAD_LENGTH {
+                if bytes.len() < LENGTH_END {
                     return Ok(1);
                 }
                 match self.consume_length(kind, bytes[1], bytes[2], bytes[3], bytes[4], sink) {
-                    Ok(()) => Ok(HEAD_LENGTH),
+                    Ok(()) => Ok(LENGTH_END),
                     Err(refusal) => Err(refusal),
                 }
             }
@@ -307,7 +343,7 @@ impl Reading {
         ensures stays { OnErr result (HoldsHeader self.old self.new) }
     {
         let length = self.skip_length(kind, a, b, c);
-        self.end_head(kind, length, d, sink)
+        self.end_length(kind, length, d, sink)
     }
 
     /// Takes in a record's first byte.
@@ -392,7 +428,7 @@ impl Reading {
         length
     }
 
-    /// Takes in the next byte of a record's head, after `count` bytes of its length.
+    /// Takes in the next byte of a record's length, after `count` bytes of it.
     fn go_on_head<S: Sink>(
         &mut self,
         kind: RecordKind,
@@ -409,7 +445,7 @@ impl Reading {
         ensures stays { OnErr result (HoldsHeader self.old self.new) }
     {
         if count == 3 {
-            return self.end_head(kind, length, byte, sink);
+            return self.end_length(kind, length, byte, sink);
         }
         self.at += 1;
         self.stage = Stage::Head {
@@ -420,9 +456,9 @@ impl Reading {
         Ok(())
     }
 
-    /// Takes in the last byte of a record's head, after three bytes of its length, which spell this number.
+    /// Takes in the last byte of a record's length, after three bytes of it, which spell this number.
     #[inline(always)]
-    fn end_head<S: Sink>(
+    fn end_length<S: Sink>(
         &mut self,
         kind: RecordKind,
         length: u32,
@@ -437,35 +473,104 @@ impl Reading {
         ensures stays { OnErr result (HoldsHeader self.old self.new) }
     {
         let whole = length * 256 + u32::from(byte);
-        if !kind.allows(whole) {
+        if !kind.allows(self.header.version, whole) {
             return Err(Refusal::Length(self.at));
         }
+        if has_moments(self.header.version) {
+            self.begin_moment(kind, whole);
+            return Ok(());
+        }
+        self.end_head(kind, whole, 0, byte, sink)
+    }
+
+    /// Sets the state after the length of a record that has a moment.
+    #[inline(always)]
+    fn begin_moment(&mut self, kind: RecordKind, length: u32)
+        requires { self.old.at + 1 < 2 ^ 64 }
+        ensures { self.new ≡ in_moment self.old (self.old.at + 1) kind length 0 0 }
+    {
+        self.at += 1;
+        self.moment = 0;
+        self.stage = Stage::Moment {
+            kind,
+            length,
+            count: 0,
+        };
+    }
+
+    /// Takes in the next byte of a record's moment, after `count` bytes of it.
+    fn go_on_moment<S: Sink>(
+        &mut self,
+        kind: RecordKind,
+        length: u32,
+        count: u8,
+        byte: u8,
+        sink: &mut S,
+    ) -> Result<(), Refusal>
+        requires sound { IsSound self.old }
+        requires within { self.old.stage ≡ stages.Moment kind length count }
+        ensures sound { OnOk result (IsSound self.new) }
+        ensures comes { OnOk result (Comes S.agrees self.old self.new (byte ∷ []) sink.old sink.new) }
+        ensures stops { IfErr result (λ refusal. StepStops (Declines S.agrees S.refuses) self.old (byte ∷ []) sink.old sink.new refusal) }
+        ensures stays { OnErr result (HoldsHeader self.old self.new) }
+    {
+        let moment = self.moment * 256 + u64::from(byte);
+        if count == 7 {
+            return self.end_head(kind, length, moment, byte, sink);
+        }
+        self.at += 1;
+        self.moment = moment;
+        self.stage = Stage::Moment {
+            kind,
+            length,
+            count: count + 1,
+        };
+        Ok(())
+    }
+
+    /// Takes in the last byte of the head of a record of this kind and moment, whose body has this length.
+    #[inline(always)]
+    fn end_head<S: Sink>(
+        &mut self,
+        kind: RecordKind,
+        length: u32,
+        moment: u64,
+        byte: u8,
+        sink: &mut S,
+    ) -> Result<(), Refusal>
+        requires sound { IsSound self.old }
+        requires ends { EndsHead self.old kind length moment byte }
+        ensures sound { OnOk result (IsSound self.new) }
+        ensures comes { OnOk result (Comes S.agrees self.old self.new (byte ∷ []) sink.old sink.new) }
+        ensures stops { IfErr result (λ refusal. StepStops (Declines S.agrees S.refuses) self.old (byte ∷ []) sink.old sink.new refusal) }
+        ensures stays { OnErr result (HoldsHeader self.old self.new) }
+    {
         match kind {
             RecordKind::Sent => {
-                self.begin_body(Direction::Sent, whole);
+                self.begin_body(Direction::Sent, length, moment);
                 Ok(())
             }
             RecordKind::Recv => {
-                self.begin_body(Direction::Recv, whole);
+                self.begin_body(Direction::Recv, length, moment);
                 Ok(())
             }
-            _ => self.end_other(kind, length, byte, sink),
+            _ => self.end_other(kind, length, moment, byte, sink),
         }
     }
 
-    /// The same for a record that carries no packets, and has a length that its kind allows. It is a function of its own, so that
-    /// its events take no stack while packets are read.
+    /// The same for a record that carries no packets. It is a function of its own, so that its events take no stack while packets
+    /// are read.
     #[inline(never)]
     fn end_other<S: Sink>(
         &mut self,
         kind: RecordKind,
         length: u32,
+        moment: u64,
         byte: u8,
         sink: &mut S,
     ) -> Result<(), Refusal>
         requires sound { IsSound self.old }
-        requires within { self.old.stage ≡ stages.Head kind 3 length }
-        requires allowed { allows_length (Some kind) (length * 256 + byte) ≡ true }
+        requires ends { EndsHead self.old kind length moment byte }
         requires packetless { (kind ≢ kinds.Sent) × (kind ≢ kinds.Recv) }
         ensures sound { OnOk result (IsSound self.new) }
         ensures comes { OnOk result (Comes S.agrees self.old self.new (byte ∷ []) sink.old sink.new) }
@@ -473,38 +578,55 @@ impl Reading {
         ensures stays { OnErr result (HoldsHeader self.old self.new) }
     {
         match kind {
-            RecordKind::Open => self.end_mark(Event::Open, sink),
-            RecordKind::Close => self.end_mark(Event::Close, sink),
-            RecordKind::Rest => self.end_mark(Event::Rest, sink),
+            RecordKind::Open => self.end_mark(Event::Open, moment, sink),
+            RecordKind::Close => self.end_mark(Event::Close, moment, sink),
+            RecordKind::Rest => self.end_mark(Event::Rest, moment, sink),
             RecordKind::Release => {
-                self.at += 1;
-                self.stage = Stage::Release(None);
+                self.begin_release(moment);
                 Ok(())
             }
             RecordKind::Sent | RecordKind::Recv => unreachable!(),
         }
     }
 
-    /// Ends a record with an event.
+    /// Takes in the last byte of the head of a RELEASE of this moment.
+    fn begin_release(&mut self, moment: u64)
+        requires { self.old.at + 1 < 2 ^ 64 }
+        ensures { self.new ≡ record self.old { at = self.old.at + 1; stage = stages.Release None; moment = moment } }
+    {
+        self.at += 1;
+        self.moment = moment;
+        self.stage = Stage::Release(None);
+    }
+
+    /// Ends a record of this moment with an event.
     ///
     /// # Errors
     ///
     /// The refusal that applies to the event, or the sink's own refusal, at the byte that is being taken in.
-    fn end_mark<S: Sink>(&mut self, event: Event<'_>, sink: &mut S) -> Result<(), Refusal>
+    fn end_mark<S: Sink>(
+        &mut self,
+        event: Event<'_>,
+        moment: u64,
+        sink: &mut S,
+    ) -> Result<(), Refusal>
         requires room { self.old.at + 1 < 2 ^ 64 }
         requires numbered { self.old.records < 4294967295 }
         ensures met { OnOk result (event_refusal self.old.at self.old.header.server self.old.connections (event_of event.entry) ≡ None) }
         ensures kept { OnOk result (self.new ≡ marked self.old (event_of event.entry)) }
-        ensures receives { (earlier : List Placed) → S.agrees sink.old earlier → AreEvents (next_placed self.old.connections (self.old.records + 1) (event_of event.entry) ∷ earlier)
-            → OnOk result (S.agrees sink.new (next_placed self.old.connections (self.old.records + 1) (event_of event.entry) ∷ earlier)) }
-        ensures err { IfErr result (λ refusal. NotEmitted (Declines S.agrees S.refuses) self.old.at (event_refusal self.old.at self.old.header.server self.old.connections (event_of event.entry)) (next_placed self.old.connections (self.old.records + 1) (event_of event.entry) ∷ []) sink.old sink.new refusal) }
+        ensures receives { (earlier : List Placed) → S.agrees sink.old earlier → AreEvents (next_placed self.old.connections (in_record_of self.old moment) (event_of event.entry) ∷ earlier)
+            → OnOk result (S.agrees sink.new (next_placed self.old.connections (in_record_of self.old moment) (event_of event.entry) ∷ earlier)) }
+        ensures err { IfErr result (λ refusal. NotEmitted (Declines S.agrees S.refuses) self.old.at (event_refusal self.old.at self.old.header.server self.old.connections (event_of event.entry)) (next_placed self.old.connections (in_record_of self.old moment) (event_of event.entry) ∷ []) sink.old sink.new refusal) }
         ensures stays { OnErr result (HoldsHeader self.old self.new) }
     {
         match emit(
             &mut self.connections,
             self.header.server,
             self.at,
-            self.records + 1,
+            InRecord {
+                record_no: self.records + 1,
+                moment,
+            },
             event,
             sink,
         ) {
@@ -525,7 +647,8 @@ impl Reading {
         ensures stops { IfErr result (λ refusal. StepStops (Declines S.agrees S.refuses) self.old (low ∷ []) sink.old sink.new refusal) }
         ensures stays { OnErr result (HoldsHeader self.old self.new) }
     {
-        self.end_mark(Event::Release(u16::from_be_bytes([high, low])), sink)
+        let identifier = u16::from_be_bytes([high, low]);
+        self.end_mark(Event::Release(identifier), self.moment, sink)
     }
 
     /// Takes in the last byte of a record.
@@ -539,14 +662,15 @@ impl Reading {
         self.stage = Stage::Between;
     }
 
-    /// Takes in the last byte of the head of a record that carries `length` bytes in this direction.
+    /// Takes in the last byte of the head of a record of this moment that carries `length` bytes in this direction.
     #[inline(always)]
-    fn begin_body(&mut self, direction: Direction, length: u32)
+    fn begin_body(&mut self, direction: Direction, length: u32, moment: u64)
         requires room { self.old.at + 1 < 2 ^ 64 }
         requires numbered { self.old.records < 4294967295 }
-        ensures { self.new ≡ leaving (record self.old { at = self.old.at + 1 }) direction length }
+        ensures { self.new ≡ leaving (record self.old { at = self.old.at + 1; moment = moment }) direction length }
     {
         self.at += 1;
+        self.moment = moment;
         self.leave(direction, length);
     }
 
@@ -714,12 +838,15 @@ impl Reading {
     #[inline(always)]
     fn body_context(&self, direction: Direction) -> BodyContext
         requires { self.now.records < 4294967295 }
-        ensures { result ≡ record { direction = direction; server = self.now.header.server; record_no = self.now.records + 1; limit = self.now.limit } }
+        ensures { result ≡ record { direction = direction; server = self.now.header.server; in_record = in_record_of self.now self.now.moment; limit = self.now.limit } }
     {
         BodyContext {
             direction,
             server: self.header.server,
-            record_no: self.records + 1,
+            in_record: InRecord {
+                record_no: self.records + 1,
+                moment: self.moment,
+            },
             limit: self.limit,
         }
     }

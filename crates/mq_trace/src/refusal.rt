@@ -10,7 +10,7 @@ use std::fmt;
 pub enum Refusal {
     /// 1: one of the first four bytes isn't that of `MQTR`.
     Header(u64),
-    /// 2: the log's version isn't 1.
+    /// 2: the log's version is neither 1 nor 2.
     Version(u64),
     /// 3: the role is neither 0, a client, nor 1, a server.
     Role(u64),

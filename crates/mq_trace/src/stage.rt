@@ -19,11 +19,20 @@ pub enum Stage {
         /// The number that they spell, the most significant byte first.
         length: u32,
     },
+    /// Inside a record's moment, after the length of its body.
+    Moment {
+        /// The kind that the record's first byte names.
+        kind: RecordKind,
+        /// The length of its body.
+        length: u32,
+        /// How many bytes of the moment came: 0 to 7.
+        count: u8,
+    },
     /// Inside the body of a SENT or RECV.
     Body {
         /// The direction whose bytes it carries.
         direction: Direction,
-        /// How many of its bytes are still to come: 1 to 1,048,576.
+        /// How many of its bytes are still to come: 1 to 16,777,216.
         left: u32,
     },
     /// Inside the body of a RELEASE: its first byte, if that came.
@@ -37,7 +46,8 @@ impl Stage {
     {
         match self {
             Stage::Between => true,
-            Stage::Head { .. } | Stage::Body { .. } | Stage::Release(_) => false,
+            Stage::Head { .. } | Stage::Moment { .. } | Stage::Body { .. } | Stage::Release(_) =>
+                false,
         }
     }
 }

@@ -5,5 +5,6 @@ mod emission;
 mod examples;
 mod keeping;
 pub mod logs;
+mod moments;
 mod refusals;
 mod sessions;

@@ -1,14 +1,13 @@
 //! Writing a log.
-ghost use Rattle.std.specs.Prelude.{◌≡◌, ◌≤◌, false, Some, ◌++◌, ◌∷◌, length, codes, OnOk, OnErr};
-ghost use Rattle.std.specs.Int.{w32, to_be_bytes};
+ghost use Rattle.std.specs.Prelude.{◌≡◌, ◌==◌, ◌≤◌, true, false, Some, ◌++◌, ◌∷◌, length, codes, OnOk, OnErr};
+ghost use Rattle.std.specs.Int.{w32, w64, to_be_bytes};
 ghost use Rattle.std.specs.Io.KnownBytes.{Appends};
-ghost use Rattle.mq_trace.specs.Framing.{longest_body};
 ghost use Rattle.mq_trace.specs.Writing.{header_bytes, kind_byte, framed, open_record, close_record, rest_record, sent_record, received_record, release_record, record_bytes, AppendsBeginning, WritesAll, FailsToWrite};
 
 mod laws;
 
-use super::header::{Header, MAGIC, VERSION};
-use super::kind::{HEAD_LENGTH, RecordKind};
+use super::header::{Header, LENGTH_END, MAGIC, MOMENT_END, has_moments};
+use super::kind::RecordKind;
 use std::error::Error;
 use std::fmt;
 use std::io::Write;
@@ -31,7 +30,8 @@ impl fmt::Display for WriteFault {
 
 impl Error for WriteFault {}
 
-/// Writes a log, its header and its records, in the order of the calls. It takes no memory.
+/// Writes a log, its header and its records, in the order of the calls. It takes no memory. The header says the version; in version
+/// 2 each record has a moment.
 ///
 /// The caller must write the header first and once, and each record only where the format allows it.
 ///
@@ -45,6 +45,7 @@ impl Error for WriteFault {}
 /// ```
 /// let mut log = TraceWriter::new(Vec::new(rt.alloc()));
 /// log.header(&Header {
+///     version: 1,
 ///     server: false,
 ///     releases: true,
 /// })?;
@@ -57,6 +58,8 @@ impl Error for WriteFault {}
 pub struct TraceWriter<W: Write> {
     writer: W,
     has_failed: bool,
+    version: u8,
+    moment: u64,
 }
 
 impl<W: Write> Model for TraceWriter<W> {
@@ -64,7 +67,7 @@ impl<W: Write> Model for TraceWriter<W> {
 
     ghost Value = { Tracing W };
 
-    ghost view = { λ tracing. record { writer = tracing.writer; has_failed = tracing.has_failed } };
+    ghost view = { λ tracing. record { writer = tracing.writer; has_failed = tracing.has_failed; version = tracing.version; moment = tracing.moment } };
 }
 
 impl<W: Write> TraceWriter<W> {
@@ -72,11 +75,22 @@ impl<W: Write> TraceWriter<W> {
     pub fn new(writer: W) -> Self
         ensures writer { result.writer ≡ writer }
         ensures unfailed { result.has_failed ≡ false }
+        ensures version { result.version ≡ 1 }
+        ensures moment { result.moment ≡ 0 }
     {
         TraceWriter {
             writer,
             has_failed: false,
+            version: 1,
+            moment: 0,
         }
+    }
+
+    /// Sets the moment of the records that are written after this, 0 at first. Only a log of version 2 has it.
+    pub fn moment(&mut self, moment: u64)
+        ensures { self.new ≡ record self.old { moment = moment } }
+    {
+        self.moment = moment;
     }
 
     /// Writes the header of a log.
@@ -87,7 +101,10 @@ impl<W: Write> TraceWriter<W> {
     pub fn header(&mut self, header: &Header) -> Result<(), WriteFault>
         ensures ok { OnOk result (WritesAll W.contents self.old self.new (header_bytes header.now)) }
         ensures write { OnErr result (FailsToWrite W.contents self.old self.new (header_bytes header.now)) }
+        ensures version { self.new.version ≡ header.now.version }
+        ensures moment { self.new.moment ≡ self.old.moment }
     {
+        self.version = header.version;
         self.write(&bytes_of(*header), &[])
     }
 
@@ -97,34 +114,37 @@ impl<W: Write> TraceWriter<W> {
     ///
     /// `Write` if a write failed, in this call or in an earlier one.
     pub fn open(&mut self) -> Result<(), WriteFault>
-        ensures ok { OnOk result (WritesAll W.contents self.old self.new (record_bytes open_record)) }
-        ensures write { OnErr result (FailsToWrite W.contents self.old self.new (record_bytes open_record)) }
+        ensures ok { OnOk result (WritesAll W.contents self.old self.new (record_bytes self.old.version self.old.moment open_record)) }
+        ensures write { OnErr result (FailsToWrite W.contents self.old self.new (record_bytes self.old.version self.old.moment open_record)) }
+        ensures same { (self.new.version ≡ self.old.version) × (self.new.moment ≡ self.old.moment) }
     {
         self.record(RecordKind::Open, &[])
     }
 
-    /// Writes a SENT: bytes that the tested end sent, at most 1,048,576 of them.
+    /// Writes a SENT: bytes that the tested end sent, at most 1,048,576 of them, or 16,777,216 in version 2.
     ///
     /// # Errors
     ///
     /// `Write` if a write failed, in this call or in an earlier one.
     pub fn sent(&mut self, body: &[u8]) -> Result<(), WriteFault>
-        requires { length body.now ≤ longest_body }
-        ensures ok { OnOk result (WritesAll W.contents self.old self.new (record_bytes (sent_record body.now))) }
-        ensures write { OnErr result (FailsToWrite W.contents self.old self.new (record_bytes (sent_record body.now))) }
+        requires { length body.now ≤ 16777216 }
+        ensures ok { OnOk result (WritesAll W.contents self.old self.new (record_bytes self.old.version self.old.moment (sent_record body.now))) }
+        ensures write { OnErr result (FailsToWrite W.contents self.old self.new (record_bytes self.old.version self.old.moment (sent_record body.now))) }
+        ensures same { (self.new.version ≡ self.old.version) × (self.new.moment ≡ self.old.moment) }
     {
         self.record(RecordKind::Sent, body)
     }
 
-    /// Writes a RECV: bytes that the tested end received, at most 1,048,576 of them.
+    /// Writes a RECV: bytes that the tested end received, at most 1,048,576 of them, or 16,777,216 in version 2.
     ///
     /// # Errors
     ///
     /// `Write` if a write failed, in this call or in an earlier one.
     pub fn recv(&mut self, body: &[u8]) -> Result<(), WriteFault>
-        requires { length body.now ≤ longest_body }
-        ensures ok { OnOk result (WritesAll W.contents self.old self.new (record_bytes (received_record body.now))) }
-        ensures write { OnErr result (FailsToWrite W.contents self.old self.new (record_bytes (received_record body.now))) }
+        requires { length body.now ≤ 16777216 }
+        ensures ok { OnOk result (WritesAll W.contents self.old self.new (record_bytes self.old.version self.old.moment (received_record body.now))) }
+        ensures write { OnErr result (FailsToWrite W.contents self.old self.new (record_bytes self.old.version self.old.moment (received_record body.now))) }
+        ensures same { (self.new.version ≡ self.old.version) × (self.new.moment ≡ self.old.moment) }
     {
         self.record(RecordKind::Recv, body)
     }
@@ -135,8 +155,9 @@ impl<W: Write> TraceWriter<W> {
     ///
     /// `Write` if a write failed, in this call or in an earlier one.
     pub fn close(&mut self) -> Result<(), WriteFault>
-        ensures ok { OnOk result (WritesAll W.contents self.old self.new (record_bytes close_record)) }
-        ensures write { OnErr result (FailsToWrite W.contents self.old self.new (record_bytes close_record)) }
+        ensures ok { OnOk result (WritesAll W.contents self.old self.new (record_bytes self.old.version self.old.moment close_record)) }
+        ensures write { OnErr result (FailsToWrite W.contents self.old self.new (record_bytes self.old.version self.old.moment close_record)) }
+        ensures same { (self.new.version ≡ self.old.version) × (self.new.moment ≡ self.old.moment) }
     {
         self.record(RecordKind::Close, &[])
     }
@@ -147,8 +168,9 @@ impl<W: Write> TraceWriter<W> {
     ///
     /// `Write` if a write failed, in this call or in an earlier one.
     pub fn rest(&mut self) -> Result<(), WriteFault>
-        ensures ok { OnOk result (WritesAll W.contents self.old self.new (record_bytes rest_record)) }
-        ensures write { OnErr result (FailsToWrite W.contents self.old self.new (record_bytes rest_record)) }
+        ensures ok { OnOk result (WritesAll W.contents self.old self.new (record_bytes self.old.version self.old.moment rest_record)) }
+        ensures write { OnErr result (FailsToWrite W.contents self.old self.new (record_bytes self.old.version self.old.moment rest_record)) }
+        ensures same { (self.new.version ≡ self.old.version) × (self.new.moment ≡ self.old.moment) }
     {
         self.record(RecordKind::Rest, &[])
     }
@@ -159,8 +181,9 @@ impl<W: Write> TraceWriter<W> {
     ///
     /// `Write` if a write failed, in this call or in an earlier one.
     pub fn release(&mut self, identifier: u16) -> Result<(), WriteFault>
-        ensures ok { OnOk result (WritesAll W.contents self.old self.new (record_bytes (release_record identifier))) }
-        ensures write { OnErr result (FailsToWrite W.contents self.old self.new (record_bytes (release_record identifier))) }
+        ensures ok { OnOk result (WritesAll W.contents self.old self.new (record_bytes self.old.version self.old.moment (release_record identifier))) }
+        ensures write { OnErr result (FailsToWrite W.contents self.old self.new (record_bytes self.old.version self.old.moment (release_record identifier))) }
+        ensures same { (self.new.version ≡ self.old.version) × (self.new.moment ≡ self.old.moment) }
     {
         self.record(RecordKind::Release, &identifier.to_be_bytes())
     }
@@ -174,17 +197,48 @@ impl<W: Write> TraceWriter<W> {
 
     /// Writes a record of this kind, with this body.
     fn record(&mut self, kind: RecordKind, body: &[u8]) -> Result<(), WriteFault>
-        requires { length body.now ≤ longest_body }
-        ensures ok { OnOk result (WritesAll W.contents self.old self.new (framed (kind_byte kind) body.now)) }
-        ensures write { OnErr result (FailsToWrite W.contents self.old self.new (framed (kind_byte kind) body.now)) }
+        requires { length body.now ≤ 16777216 }
+        ensures ok { OnOk result (WritesAll W.contents self.old self.new (framed self.old.version self.old.moment (kind_byte kind) body.now)) }
+        ensures write { OnErr result (FailsToWrite W.contents self.old self.new (framed self.old.version self.old.moment (kind_byte kind) body.now)) }
+        ensures same { (self.new.version ≡ self.old.version) × (self.new.moment ≡ self.old.moment) }
     {
-        self.write(&record_head(kind, body.len() as u32), body)
+        if has_moments(self.version) {
+            return self.timed_record(kind, body);
+        }
+        self.plain_record(kind, body)
+    }
+
+    /// Writes a record in version 2.
+    #[tactic(auto, unfolding(crate::specs::Writing::moment_bytes))]
+    fn timed_record(&mut self, kind: RecordKind, body: &[u8]) -> Result<(), WriteFault>
+        requires fits { length body.now ≤ 16777216 }
+        requires timed { (self.old.version == 2) ≡ true }
+        ensures ok { OnOk result (WritesAll W.contents self.old self.new (framed self.old.version self.old.moment (kind_byte kind) body.now)) }
+        ensures write { OnErr result (FailsToWrite W.contents self.old self.new (framed self.old.version self.old.moment (kind_byte kind) body.now)) }
+        ensures same { (self.new.version ≡ self.old.version) × (self.new.moment ≡ self.old.moment) }
+    {
+        let head = timed_head(kind, body.len() as u32, self.moment);
+        self.write(&head, body)
+    }
+
+    /// Writes a record in version 1.
+    #[tactic(auto, unfolding(crate::specs::Writing::moment_bytes))]
+    fn plain_record(&mut self, kind: RecordKind, body: &[u8]) -> Result<(), WriteFault>
+        requires fits { length body.now ≤ 16777216 }
+        requires untimed { (self.old.version == 2) ≡ false }
+        ensures ok { OnOk result (WritesAll W.contents self.old self.new (framed self.old.version self.old.moment (kind_byte kind) body.now)) }
+        ensures write { OnErr result (FailsToWrite W.contents self.old self.new (framed self.old.version self.old.moment (kind_byte kind) body.now)) }
+        ensures same { (self.new.version ≡ self.old.version) × (self.new.moment ≡ self.old.moment) }
+    {
+        let head = record_head(kind, body.len() as u32);
+        self.write(&head, body)
     }
 
     /// Writes some bytes, and others after them, if no write has failed yet.
     fn write(&mut self, front: &[u8], back: &[u8]) -> Result<(), WriteFault>
         ensures ok { OnOk result (WritesAll W.contents self.old self.new (front.now ++ back.now)) }
         ensures write { OnErr result (FailsToWrite W.contents self.old self.new (front.now ++ back.now)) }
+        ensures same { (self.new.version ≡ self.old.version) × (self.new.moment ≡ self.old.moment) }
     {
         if self.has_failed {
             return Err(WriteFault::Write);
@@ -202,7 +256,7 @@ fn bytes_of(header: Header) -> [u8; 8]
     let server = u8::from(header.server);
     let releases = u8::from(header.releases);
     let [m, q, t, r] = MAGIC;
-    [m, q, t, r, VERSION, server, releases, 0]
+    [m, q, t, r, header.version, server, releases, 0]
 }
 
 /// The byte that names a kind of record.
@@ -219,8 +273,31 @@ fn byte_of(kind: RecordKind) -> u8
     }
 }
 
-/// A record's head: the byte of its kind, and the length of its body in bytes.
-fn record_head(kind: RecordKind, length: u32) -> [u8; HEAD_LENGTH]
+/// A record's head in version 2: the byte of its kind, the length of its body in bytes, and its moment.
+fn timed_head(kind: RecordKind, length: u32, moment: u64) -> [u8; MOMENT_END]
+    ensures { result ≡ kind_byte kind ∷ to_be_bytes w32 length ++ to_be_bytes w64 moment }
+{
+    let [highest, high, low, lowest] = length.to_be_bytes();
+    let [a, b, c, d, e, f, g, h] = moment.to_be_bytes();
+    [
+        byte_of(kind),
+        highest,
+        high,
+        low,
+        lowest,
+        a,
+        b,
+        c,
+        d,
+        e,
+        f,
+        g,
+        h,
+    ]
+}
+
+/// A record's head in version 1: the byte of its kind, and the length of its body in bytes.
+fn record_head(kind: RecordKind, length: u32) -> [u8; LENGTH_END]
     ensures { result ≡ kind_byte kind ∷ to_be_bytes w32 length }
 {
     let [highest, high, low, lowest] = length.to_be_bytes();

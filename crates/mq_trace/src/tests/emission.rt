@@ -34,10 +34,14 @@ impl Lines {
         let Place3 {
             position,
             record_no,
+            moment,
         } = place;
         write!(self.text, "{position} ")?;
         if self.numbered {
             write!(self.text, "record {record_no} ")?;
+        }
+        if moment != 0 {
+            write!(self.text, "moment {moment} ")?;
         }
         match event {
             Event::Open => self.text.push_str("OPEN\n"),

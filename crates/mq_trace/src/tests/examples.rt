@@ -44,6 +44,7 @@ fn refusing_a_log(rt: HostRuntime) -> Result<(), Fail> {
 fn writing_a_log(rt: HostRuntime) -> Result<(), Fail> {
     let mut log = TraceWriter::new(Vec::new(rt.alloc()));
     log.header(&Header {
+        version: 1,
         server: false,
         releases: true,
     })?;

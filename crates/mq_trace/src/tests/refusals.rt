@@ -111,7 +111,7 @@ fn refuses_each_wrong_byte_of_a_header(rt: HostRuntime) {
     ];
     for (at, refusal) in refusals.iter().enumerate() {
         let mut header = *b"MQTR\x01\x01\x00\x00";
-        header[at] = 2;
+        header[at] = 3;
         assert_emits(&rt, LIMIT, &header, true, "", "", Err(*refusal));
     }
 }

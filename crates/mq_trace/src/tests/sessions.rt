@@ -249,6 +249,7 @@ fn reports_beginnings(rt: HostRuntime) -> Result<(), Fail> {
     for count in 0..77 {
         let whole = ends.iter().filter(|end| **end <= count).count();
         let header = Header {
+            version: 1,
             server: false,
             releases: true,
         };

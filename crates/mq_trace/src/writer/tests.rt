@@ -24,6 +24,7 @@ const ENDS: [usize; 8] = [8, 13, 33, 43, 57, 66, 71, 76];
 fn call<W: Write>(trace: &mut TraceWriter<W>, number: usize) -> Result<(), WriteFault> {
     match number {
         0 => trace.header(&Header {
+            version: 1,
             server: false,
             releases: true,
         }),
@@ -93,6 +94,7 @@ fn writes_the_worked_log(rt: HostRuntime) {
 fn writes_a_servers_header_and_a_release(rt: HostRuntime) {
     let mut trace = TraceWriter::new(Vec::new(rt.alloc()));
     let header = Header {
+        version: 1,
         server: true,
         releases: false,
     };
@@ -101,6 +103,27 @@ fn writes_a_servers_header_and_a_release(rt: HostRuntime) {
     assert_eq!(rt; trace.release(1), Ok(()));
     let written = trace.into_inner();
     let log = b"MQTR\x01\x01\x00\x00\x06\x00\x00\x00\x02\x12\x34\x06\x00\x00\x00\x02\x00\x01";
+    assert!(rt; written.as_slice() == log.as_slice());
+}
+
+#[test]
+fn writes_moments_in_version_2(rt: HostRuntime) {
+    let mut trace = TraceWriter::new(Vec::new(rt.alloc()));
+    let header = Header {
+        version: 2,
+        server: false,
+        releases: true,
+    };
+    assert_eq!(rt; trace.header(&header), Ok(()));
+    assert_eq!(rt; trace.open(), Ok(()));
+    trace.moment(0x0102_0304_0506_0708);
+    assert_eq!(rt; trace.sent(b"\xc0\x00"), Ok(()));
+    assert_eq!(rt; trace.release(7), Ok(()));
+    let written = trace.into_inner();
+    let log = b"MQTR\x02\x00\x01\x00\
+        \x01\x00\x00\x00\x00\x00\x00\x00\x00\x00\x00\x00\x00\
+        \x02\x00\x00\x00\x02\x01\x02\x03\x04\x05\x06\x07\x08\xc0\x00\
+        \x06\x00\x00\x00\x02\x01\x02\x03\x04\x05\x06\x07\x08\x00\x07";
     assert!(rt; written.as_slice() == log.as_slice());
 }
 

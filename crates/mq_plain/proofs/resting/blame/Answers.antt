@@ -9,7 +9,7 @@ loop-place-init c = blames-start c.args.rule c.args.decided c.args.faults.now
 
 pub loop-place-preserved : goal.loop-place-preserved
 loop-place-preserved c =
-    blames-more c.args.rule c.args.decided c.args.places.now c.loop-place.place-index (record { position = 0; record_no = 0 }) c.args.faults.now c.loop-place.faults c.add_fault.new.faults
+    blames-more c.args.rule c.args.decided c.args.places.now c.loop-place.place-index (record { position = 0; record_no = 0; moment = 0 }) c.args.faults.now c.loop-place.faults c.add_fault.new.faults
     c.loop-place-test.true c.loop-place.invariant c.in_ok-add_fault.ensures.ok
 
 pub returns-in_err-add_fault-clause-memory : goal.returns-in_err-add_fault-clause-memory

@@ -1,19 +1,19 @@
 use Rattle.std.proofs.Common.{arith, ◌∷◌, [], refl}
 use Rattle.std.specs.Prelude.{slice_index}
-use Rattle.mq_trace.specs.Framing.{kind_named, head_length}
+use Rattle.mq_trace.specs.Framing.{kind_named, length_end}
 use Rattle.mq_trace.proofs.ReadingLaws.{comes_quietly, comes_after, stops_after, first_of, five_of, comes_front, stops_front}
 use Rattle.mq_trace.proofs.StageLaws.{begins_at, first_advances, first_sound, first_refused, stops_refused}
 use Rattle.mq_trace.specs.Reception.{Declines}
 use Rattle.mq_trace.proofs.reading.Reading.consume_head.Goals as goal
 
-pub returns-then-bytes-lt-HEAD_LENGTH-clause-sound : goal.returns-then-bytes-lt-HEAD_LENGTH-clause-sound
-returns-then-bytes-lt-HEAD_LENGTH-clause-sound g c =
+pub returns-then-bytes-lt-LENGTH_END-clause-sound : goal.returns-then-bytes-lt-LENGTH_END-clause-sound
+returns-then-bytes-lt-LENGTH_END-clause-sound g c =
     let r = c.args.self.now in
     let s = c.in-Ok.ensures in
     first_sound r _ c.in-Ok.kind c.requires.sound c.requires.past_header c.requires.between s.room s.begins
 
-pub returns-then-bytes-lt-HEAD_LENGTH-clause-comes : goal.returns-then-bytes-lt-HEAD_LENGTH-clause-comes
-returns-then-bytes-lt-HEAD_LENGTH-clause-comes g c =
+pub returns-then-bytes-lt-LENGTH_END-clause-comes : goal.returns-then-bytes-lt-LENGTH_END-clause-comes
+returns-then-bytes-lt-LENGTH_END-clause-comes g c =
     let r = c.args.self.now in
     let s = c.in-Ok.ensures in
     let bytes = c.args.bytes.now in
@@ -33,7 +33,7 @@ returns-in-Ok-consume_length-clause-comes g c =
     let bytes = c.args.bytes.now in
     let more = slice_index bytes 1 ∷ slice_index bytes 2 ∷ slice_index bytes 3 ∷ slice_index bytes 4 ∷ [] in
     let quiet = first_advances r c.begin_record.new.self (slice_index bytes 0) c.in-Ok.kind c.requires.past_header c.requires.between s.named s.met s.begins in
-    comes_front g.S.Sink.agrees r c.consume_length.new.self (slice_index bytes 0 ∷ more) bytes head_length c.args.sink.now c.consume_length.new.sink (five_of bytes (omega arith))
+    comes_front g.S.Sink.agrees r c.consume_length.new.self (slice_index bytes 0 ∷ more) bytes length_end c.args.sink.now c.consume_length.new.sink (five_of bytes (omega arith))
     (comes_after g.S.Sink.agrees r c.begin_record.new.self c.consume_length.new.self (slice_index bytes 0 ∷ []) more c.args.sink.now c.consume_length.new.sink quiet c.in-Ok-consume_length.ensures.comes)
 
 pub returns-in-Err-consume_length-clause-stops : goal.returns-in-Err-consume_length-clause-stops
@@ -43,7 +43,7 @@ returns-in-Err-consume_length-clause-stops g c =
     let bytes = c.args.bytes.now in
     let more = slice_index bytes 1 ∷ slice_index bytes 2 ∷ slice_index bytes 3 ∷ slice_index bytes 4 ∷ [] in
     let quiet = first_advances r c.begin_record.new.self (slice_index bytes 0) c.in-Ok.kind c.requires.past_header c.requires.between s.named s.met s.begins in
-    stops_front (Declines g.S.Sink.agrees g.S.Sink.refuses) r (slice_index bytes 0 ∷ more) bytes head_length c.args.sink.now c.consume_length.new.sink _ (five_of bytes (omega arith))
+    stops_front (Declines g.S.Sink.agrees g.S.Sink.refuses) r (slice_index bytes 0 ∷ more) bytes length_end c.args.sink.now c.consume_length.new.sink _ (five_of bytes (omega arith))
     (stops_after (Declines g.S.Sink.agrees g.S.Sink.refuses) r c.begin_record.new.self (slice_index bytes 0 ∷ []) more c.args.sink.now c.consume_length.new.sink _ quiet (begins_at r c.begin_record.new.self c.in-Ok.kind s.begins) c.in-Err-consume_length.ensures.stops)
 
 pub returns-in-Err-clause-stops : goal.returns-in-Err-clause-stops

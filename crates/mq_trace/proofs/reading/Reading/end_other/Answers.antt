@@ -1,59 +1,62 @@
-use Rattle.std.proofs.Common.{◌+◌, ◌*◌, ◌∷◌, [], Some, ap, sym, ◌∙◌}
+use Rattle.std.proofs.Common.{◌≡◌, ◌+◌, ◌∷◌, [], None, Some, ap, sym, ◌∙◌, subst}
 use Rattle.std.proofs.lemmas.Bool.{eqb-true}
+use Rattle.mq_trace.specs.declared.reading.Reading.{Reading}
+use Rattle.mq_trace.specs.declared.stage.Stage.TheVariants as stages
 use Rattle.mq_trace.specs.Events.{opened, closed, rested, event_of_head}
 use Rattle.mq_trace.specs.Refusals.{allows_length}
-use Rattle.mq_trace.proofs.ReadingLaws.{comes_quietly}
-use Rattle.mq_trace.proofs.EndLaws.{mark_emits, release_advances}
-use Rattle.mq_trace.proofs.EmissionLaws.{emitted_comes, emitted_stops}
+use Rattle.mq_trace.specs.Keeping.{IsSound, Advances}
 use Rattle.mq_trace.specs.Reception.{Declines}
+use Rattle.mq_trace.proofs.ReadingLaws.{comes_quietly}
+use Rattle.mq_trace.proofs.EndLaws.{mark_emits, release_advances, release_sound}
+use Rattle.mq_trace.proofs.EmissionLaws.{emitted_comes, emitted_stops}
 use Rattle.mq_trace.proofs.reading.Reading.end_other.Goals as goal
 
 pub returns-in-Open-clause-comes : goal.returns-in-Open-clause-comes
 returns-in-Open-clause-comes g c =
     let r = c.args.self.now in
-    let allowed = c.requires.allowed in
     let s = c.end_mark.ensures in
-    emitted_comes g.S.Sink.agrees r _ c.args.byte opened _ _ _ (mark_emits r c.args.kind c.args.length c.args.byte c.requires.sound c.requires.within opened (ap event_of_head c.in-Open.is) allowed) s.met s.kept s.receives
+    emitted_comes g.S.Sink.agrees r _ c.args.moment c.args.byte opened _ _ _ (mark_emits r c.args.kind c.args.length c.args.moment c.args.byte c.requires.sound c.requires.ends opened (ap event_of_head c.in-Open.is)) s.met s.kept s.receives
 
 pub returns-in-Open-clause-stops : goal.returns-in-Open-clause-stops
 returns-in-Open-clause-stops g c =
     let r = c.args.self.now in
-    let allowed = c.requires.allowed in
     let s = c.end_mark.ensures in
-    emitted_stops (Declines g.S.Sink.agrees g.S.Sink.refuses) r c.args.byte opened _ _ _ (mark_emits r c.args.kind c.args.length c.args.byte c.requires.sound c.requires.within opened (ap event_of_head c.in-Open.is) allowed) s.err
+    emitted_stops (Declines g.S.Sink.agrees g.S.Sink.refuses) r c.args.moment c.args.byte opened _ _ _ (mark_emits r c.args.kind c.args.length c.args.moment c.args.byte c.requires.sound c.requires.ends opened (ap event_of_head c.in-Open.is)) s.err
 
 pub returns-in-Close-clause-comes : goal.returns-in-Close-clause-comes
 returns-in-Close-clause-comes g c =
     let r = c.args.self.now in
-    let allowed = c.requires.allowed in
     let s = c.end_mark-in-Close.ensures in
-    emitted_comes g.S.Sink.agrees r _ c.args.byte closed _ _ _ (mark_emits r c.args.kind c.args.length c.args.byte c.requires.sound c.requires.within closed (ap event_of_head c.in-Close.is) allowed) s.met s.kept s.receives
+    emitted_comes g.S.Sink.agrees r _ c.args.moment c.args.byte closed _ _ _ (mark_emits r c.args.kind c.args.length c.args.moment c.args.byte c.requires.sound c.requires.ends closed (ap event_of_head c.in-Close.is)) s.met s.kept s.receives
 
 pub returns-in-Close-clause-stops : goal.returns-in-Close-clause-stops
 returns-in-Close-clause-stops g c =
     let r = c.args.self.now in
-    let allowed = c.requires.allowed in
     let s = c.end_mark-in-Close.ensures in
-    emitted_stops (Declines g.S.Sink.agrees g.S.Sink.refuses) r c.args.byte closed _ _ _ (mark_emits r c.args.kind c.args.length c.args.byte c.requires.sound c.requires.within closed (ap event_of_head c.in-Close.is) allowed) s.err
+    emitted_stops (Declines g.S.Sink.agrees g.S.Sink.refuses) r c.args.moment c.args.byte closed _ _ _ (mark_emits r c.args.kind c.args.length c.args.moment c.args.byte c.requires.sound c.requires.ends closed (ap event_of_head c.in-Close.is)) s.err
 
 pub returns-in-Rest-clause-comes : goal.returns-in-Rest-clause-comes
 returns-in-Rest-clause-comes g c =
     let r = c.args.self.now in
-    let allowed = c.requires.allowed in
     let s = c.end_mark-in-Rest.ensures in
-    emitted_comes g.S.Sink.agrees r _ c.args.byte rested _ _ _ (mark_emits r c.args.kind c.args.length c.args.byte c.requires.sound c.requires.within rested (ap event_of_head c.in-Rest.is) allowed) s.met s.kept s.receives
+    emitted_comes g.S.Sink.agrees r _ c.args.moment c.args.byte rested _ _ _ (mark_emits r c.args.kind c.args.length c.args.moment c.args.byte c.requires.sound c.requires.ends rested (ap event_of_head c.in-Rest.is)) s.met s.kept s.receives
 
 pub returns-in-Rest-clause-stops : goal.returns-in-Rest-clause-stops
 returns-in-Rest-clause-stops g c =
     let r = c.args.self.now in
-    let allowed = c.requires.allowed in
     let s = c.end_mark-in-Rest.ensures in
-    emitted_stops (Declines g.S.Sink.agrees g.S.Sink.refuses) r c.args.byte rested _ _ _ (mark_emits r c.args.kind c.args.length c.args.byte c.requires.sound c.requires.within rested (ap event_of_head c.in-Rest.is) allowed) s.err
+    emitted_stops (Declines g.S.Sink.agrees g.S.Sink.refuses) r c.args.moment c.args.byte rested _ _ _ (mark_emits r c.args.kind c.args.length c.args.moment c.args.byte c.requires.sound c.requires.ends rested (ap event_of_head c.in-Rest.is)) s.err
+
+pub returns-in-Release-clause-sound : goal.returns-in-Release-clause-sound
+returns-in-Release-clause-sound g c =
+    let r = c.args.self.now in
+    let is : c.begin_release.new.self ≡ record r { at = r.at + 1; stage = stages.Release None; moment = c.args.moment } = c.begin_release.ensures in
+    subst (λ (x : Reading). IsSound x) (sym is) (release_sound r c.args.kind c.args.length c.args.moment c.args.byte c.requires.sound c.requires.ends)
 
 pub returns-in-Release-clause-comes : goal.returns-in-Release-clause-comes
 returns-in-Release-clause-comes g c =
     let r = c.args.self.now in
-    let allowed = c.requires.allowed in
-    let two = eqb-true (c.args.length * 256 + c.args.byte) 2 (ap (λ k. allows_length (Some k) (c.args.length * 256 + c.args.byte)) (sym c.in-Release.is) ∙ allowed) in
-    comes_quietly g.S.Sink.agrees r _ (c.args.byte ∷ []) c.args.sink.now
-    (release_advances r c.args.kind c.args.length c.args.byte c.requires.sound c.requires.within c.in-Release.is (ap event_of_head c.in-Release.is) allowed two)
+    let two = eqb-true c.args.length 2 (ap (λ k. allows_length r.header.version (Some k) c.args.length) (sym c.in-Release.is) ∙ c.requires.ends.allowed) in
+    let is : c.begin_release.new.self ≡ record r { at = r.at + 1; stage = stages.Release None; moment = c.args.moment } = c.begin_release.ensures in
+    comes_quietly g.S.Sink.agrees r _ (c.args.byte ∷ []) c.args.sink.now (subst (λ (x : Reading). Advances r x (c.args.byte ∷ []) []) (sym is)
+    (release_advances r c.args.kind c.args.length c.args.moment c.args.byte c.requires.sound c.requires.ends c.in-Release.is (ap event_of_head c.in-Release.is) two))

@@ -10,14 +10,14 @@ pub returns-clause-comes : goal.returns-clause-comes
 returns-clause-comes g c =
     let r = c.args.self.now in
     let s = c.end_mark.ensures in
-    let same : from_be_bytes w16 (c.args.high ∷ c.args.low ∷ []) ≡ c.from_be_bytes.result = omega (arith, c.from_be_bytes.ensures) in
-    let emits : CompletesEvent r c.args.low (released c.from_be_bytes.result) = subst (λ n. CompletesEvent r c.args.low (released n)) same (release_emits r c.args.high c.args.low c.requires.sound c.requires.within) in
-    emitted_comes g.S.Sink.agrees r _ c.args.low (released c.from_be_bytes.result) _ _ _ emits s.met s.kept s.receives
+    let same : from_be_bytes w16 (c.args.high ∷ c.args.low ∷ []) ≡ c.from_be_bytes-identifier.result = omega (arith, c.from_be_bytes-identifier.ensures) in
+    let emits : CompletesEvent r r.moment c.args.low (released c.from_be_bytes-identifier.result) = subst (λ n. CompletesEvent r r.moment c.args.low (released n)) same (release_emits r c.args.high c.args.low c.requires.sound c.requires.within) in
+    emitted_comes g.S.Sink.agrees r _ r.moment c.args.low (released c.from_be_bytes-identifier.result) _ _ _ emits s.met s.kept s.receives
 
 pub returns-clause-stops : goal.returns-clause-stops
 returns-clause-stops g c =
     let r = c.args.self.now in
     let s = c.end_mark.ensures in
-    let same : from_be_bytes w16 (c.args.high ∷ c.args.low ∷ []) ≡ c.from_be_bytes.result = omega (arith, c.from_be_bytes.ensures) in
-    let emits : CompletesEvent r c.args.low (released c.from_be_bytes.result) = subst (λ n. CompletesEvent r c.args.low (released n)) same (release_emits r c.args.high c.args.low c.requires.sound c.requires.within) in
-    emitted_stops (Declines g.S.Sink.agrees g.S.Sink.refuses) r c.args.low (released c.from_be_bytes.result) _ _ _ emits s.err
+    let same : from_be_bytes w16 (c.args.high ∷ c.args.low ∷ []) ≡ c.from_be_bytes-identifier.result = omega (arith, c.from_be_bytes-identifier.ensures) in
+    let emits : CompletesEvent r r.moment c.args.low (released c.from_be_bytes-identifier.result) = subst (λ n. CompletesEvent r r.moment c.args.low (released n)) same (release_emits r c.args.high c.args.low c.requires.sound c.requires.within) in
+    emitted_stops (Declines g.S.Sink.agrees g.S.Sink.refuses) r r.moment c.args.low (released c.from_be_bytes-identifier.result) _ _ _ emits s.err

@@ -52,3 +52,9 @@ returns-in-Err-end_release-clause-stops g c =
     let bytes = c.args.bytes.now in
     stops_front (Declines g.S.Sink.agrees g.S.Sink.refuses) c.args.self.now (slice_index bytes 0 ∷ []) bytes 1 c.args.sink.now c.end_release.new.sink c.in-Err-end_release.refusal (first_of bytes c.requires.some)
     c.in-Err-end_release.ensures.stops
+
+pub returns-in-Err-go_on_moment-clause-stops : goal.returns-in-Err-go_on_moment-clause-stops
+returns-in-Err-go_on_moment-clause-stops g c =
+    let bytes = c.args.bytes.now in
+    stops_front (Declines g.S.Sink.agrees g.S.Sink.refuses) c.args.self.now (slice_index bytes 0 ∷ []) bytes 1 c.args.sink.now c.go_on_moment.new.sink c.in-Err-go_on_moment.refusal (first_of bytes c.requires.some)
+    c.in-Err-go_on_moment.ensures.stops

@@ -12,7 +12,7 @@ returns-clause-sound c = record {
   within = tt;
   past_header = λ h. absurd (omega (arith, h));
   header_first = λ h. (refl, refl);
-  emptied = λ count length_so_far is. absurd (cc);
+  emptied = λ e. absurd (cc);
   sent = subst (λ (h : StreamState). IsUnfinished c.args.limit h) (sym c.new.ensures) (nothing_unfinished c.args.limit false);
   recv = subst (λ (h : StreamState). IsUnfinished c.args.limit h) (sym c.new-2.ensures) (nothing_unfinished c.args.limit false);
 }
