@@ -1,0 +1,183 @@
+//! Passing the bytes of a body on to their direction.
+
+ghost use Rattle.std.specs.Prelude.{◌≡◌, ◌+◌, ◌^◌, ◌<◌, ◌≤◌, ◌++◌, [], List, false, None, OnOk, IfOk, IfErr, IfSome, IsTrue, length, take, OnErr};
+ghost use Rattle.mq_trace.specs.Keeping.{state_in, IsUnfinished, IsSound, Comes, StepStops, HoldsHeader};
+ghost use Rattle.mq_trace.specs.declared.stage.Stage.TheVariants as stages;
+ghost use Rattle.mq_trace.specs.Events.{Placed};
+ghost use Rattle.mq_trace.specs.Reception.{AreEvents, Declines};
+ghost use Rattle.mq_trace.specs.Stepping.{in_record_of, context_for, deframer_for, flow_for, redirected};
+ghost use Rattle.mq_trace.specs.Flows.{flow_refused, flow_events, flow_after_bytes};
+ghost use Rattle.mq_trace.specs.Deframing.{flow_of, FlowStops};
+ghost use Rattle.mq_trace.specs.Settling.{IsWhole};
+
+use super::super::deframer::{BodyContext, consume_whole, whole_packet};
+use super::super::kind::Direction;
+use super::super::place::InRecord;
+use super::super::refusal::Refusal;
+use super::super::sink::Sink;
+use super::Reading;
+
+impl Reading {
+    /// Takes in bytes of a body, of which `left` are still to come: those of one packet.
+    #[inline(always)]
+    pub fn consume_body<S: Sink>(
+        &mut self,
+        direction: Direction,
+        left: u32,
+        bytes: &[u8],
+        sink: &mut S,
+    ) -> Result<usize, Refusal>
+        requires some { 1 ≤ length bytes.now }
+        requires sound { IsSound self.old }
+        requires within { self.old.stage ≡ stages.Body direction left }
+        ensures count { IfOk result (λ n. (1 ≤ n) × (n ≤ length bytes.now)) }
+        ensures sound { OnOk result (IsSound self.new) }
+        ensures comes { IfOk result (λ n. Comes S.agrees self.old self.new (take n bytes.now) sink.old sink.new) }
+        ensures stops { IfErr result (λ refusal. StepStops (Declines S.agrees S.refuses) self.old bytes.now sink.old sink.new refusal) }
+        ensures stays { OnErr result (HoldsHeader self.old self.new) }
+    {
+        let body = &bytes[..bytes.len().min(left as usize)];
+        match self.pass_on(direction, body, sink) {
+            Ok(count) => {
+                self.at += count as u64;
+                self.leave(direction, left - count as u32);
+                Ok(count)
+            }
+            Err(refusal) => Err(refusal),
+        }
+    }
+
+    /// Passes bytes of a body on to their direction: those of one packet. Returns how many.
+    #[inline(always)]
+    fn pass_on<S: Sink>(
+        &mut self,
+        direction: Direction,
+        body: &[u8],
+        sink: &mut S,
+    ) -> Result<usize, Refusal>
+        requires some { 1 ≤ length body.now }
+        requires room { self.old.at + length body.now < 2 ^ 64 }
+        requires numbered { self.old.records < 4294967295 }
+        requires unfinished { IsUnfinished self.old.limit (state_in (deframer_for self.old direction)) }
+        ensures is { self.new ≡ record (redirected self.old direction (deframer_for self.new direction)) { connections = self.new.connections } }
+        ensures count { IfOk result (λ n. (1 ≤ n) × (n ≤ length body.now)) }
+        ensures unrefused { IfOk result (λ n. flow_refused self.old.limit (context_for self.old direction) (flow_for self.old direction) (take n body.now) ≡ None) }
+        ensures kept { IfOk result (λ n. flow_after_bytes (context_for self.old direction) (flow_for self.old direction) (take n body.now) ≡ flow_of (self.old.at + n) (state_in (deframer_for self.new direction)) self.new.connections) }
+        ensures receives { (earlier : List Placed) → S.agrees sink.old earlier → IfOk result (λ n.
+            AreEvents (flow_events (context_for self.old direction) (flow_for self.old direction) (take n body.now) ++ earlier)
+            → S.agrees sink.new (flow_events (context_for self.old direction) (flow_for self.old direction) (take n body.now) ++ earlier)) }
+        ensures sound { OnOk result (IsUnfinished self.old.limit (state_in (deframer_for self.new direction))) }
+        ensures stops { IfErr result (λ refusal. FlowStops (Declines S.agrees S.refuses) self.old.limit (context_for self.old direction) (flow_for self.old direction) body.now sink.old sink.new refusal) }
+    {
+        match self.whole_packet(direction, body) {
+            Some((header, size)) => self.pass_whole(direction, header, size, body, sink),
+            None => self.pass_any(direction, body, sink),
+        }
+    }
+
+    /// The lengths of the fixed header and of the packet, if the direction's next bytes begin with a whole one within the limit.
+    #[inline(always)]
+    fn whole_packet(&self, direction: Direction, body: &[u8]) -> Option<(usize, usize)>
+        ensures { IfSome result (λ lengths. (state_in (deframer_for self.now direction) ≡ record { unfinished = []; lost = false }) × IsWhole self.now.limit body.now lengths.0 lengths.1) }
+    {
+        if !self.is_idle(direction) {
+            return None;
+        }
+        whole_packet(self.limit, body)
+    }
+
+    /// Whether the direction is neither lost nor inside a packet.
+    #[inline(always)]
+    fn is_idle(&self, direction: Direction) -> bool
+        ensures { IsTrue result → state_in (deframer_for self.now direction) ≡ record { unfinished = []; lost = false } }
+    {
+        match direction {
+            Direction::Sent => self.sent.is_idle(),
+            Direction::Recv => self.recv.is_idle(),
+        }
+    }
+
+    /// Passes on the whole packet that the bytes begin with, in a direction that is neither lost nor inside a packet.
+    #[inline(always)]
+    fn pass_whole<S: Sink>(
+        &mut self,
+        direction: Direction,
+        header: usize,
+        size: usize,
+        body: &[u8],
+        sink: &mut S,
+    ) -> Result<usize, Refusal>
+        requires idle { state_in (deframer_for self.old direction) ≡ record { unfinished = []; lost = false } }
+        requires whole { IsWhole self.old.limit body.now header size }
+        requires unfinished { IsUnfinished self.old.limit (state_in (deframer_for self.old direction)) }
+        requires room { self.old.at + length body.now < 2 ^ 64 }
+        requires numbered { self.old.records < 4294967295 }
+        ensures is { self.new ≡ record (redirected self.old direction (deframer_for self.new direction)) { connections = self.new.connections } }
+        ensures count { IfOk result (λ n. (1 ≤ n) × (n ≤ length body.now)) }
+        ensures unrefused { IfOk result (λ n. flow_refused self.old.limit (context_for self.old direction) (flow_for self.old direction) (take n body.now) ≡ None) }
+        ensures kept { IfOk result (λ n. flow_after_bytes (context_for self.old direction) (flow_for self.old direction) (take n body.now) ≡ flow_of (self.old.at + n) (state_in (deframer_for self.new direction)) self.new.connections) }
+        ensures receives { (earlier : List Placed) → S.agrees sink.old earlier → IfOk result (λ n.
+            AreEvents (flow_events (context_for self.old direction) (flow_for self.old direction) (take n body.now) ++ earlier)
+            → S.agrees sink.new (flow_events (context_for self.old direction) (flow_for self.old direction) (take n body.now) ++ earlier)) }
+        ensures sound { OnOk result (IsUnfinished self.old.limit (state_in (deframer_for self.new direction))) }
+        ensures stops { IfErr result (λ refusal. FlowStops (Declines S.agrees S.refuses) self.old.limit (context_for self.old direction) (flow_for self.old direction) body.now sink.old sink.new refusal) }
+    {
+        let context = self.body_context(direction);
+        let frame = &body[..size];
+        match consume_whole(context, &mut self.connections, self.at, header, frame, sink) {
+            Ok(()) => Ok(size),
+            Err(refusal) => Err(refusal),
+        }
+    }
+
+    /// Passes on bytes that don't begin with a whole packet.
+    #[inline(never)]
+    fn pass_any<S: Sink>(
+        &mut self,
+        direction: Direction,
+        body: &[u8],
+        sink: &mut S,
+    ) -> Result<usize, Refusal>
+        requires some { 1 ≤ length body.now }
+        requires room { self.old.at + length body.now < 2 ^ 64 }
+        requires numbered { self.old.records < 4294967295 }
+        requires unfinished { IsUnfinished self.old.limit (state_in (deframer_for self.old direction)) }
+        ensures is { self.new ≡ record (redirected self.old direction (deframer_for self.new direction)) { connections = self.new.connections } }
+        ensures count { IfOk result (λ n. (1 ≤ n) × (n ≤ length body.now)) }
+        ensures unrefused { IfOk result (λ n. flow_refused self.old.limit (context_for self.old direction) (flow_for self.old direction) (take n body.now) ≡ None) }
+        ensures kept { IfOk result (λ n. flow_after_bytes (context_for self.old direction) (flow_for self.old direction) (take n body.now) ≡ flow_of (self.old.at + n) (state_in (deframer_for self.new direction)) self.new.connections) }
+        ensures receives { (earlier : List Placed) → S.agrees sink.old earlier → IfOk result (λ n.
+            AreEvents (flow_events (context_for self.old direction) (flow_for self.old direction) (take n body.now) ++ earlier)
+            → S.agrees sink.new (flow_events (context_for self.old direction) (flow_for self.old direction) (take n body.now) ++ earlier)) }
+        ensures sound { OnOk result (IsUnfinished self.old.limit (state_in (deframer_for self.new direction))) }
+        ensures stops { IfErr result (λ refusal. FlowStops (Declines S.agrees S.refuses) self.old.limit (context_for self.old direction) (flow_for self.old direction) body.now sink.old sink.new refusal) }
+    {
+        let context = self.body_context(direction);
+        let at = self.at;
+        match direction {
+            Direction::Sent => self
+                .sent
+                .consume(context, &mut self.connections, at, body, sink),
+            Direction::Recv => self
+                .recv
+                .consume(context, &mut self.connections, at, body, sink),
+        }
+    }
+
+    /// What stays the same while the record's body is read.
+    #[inline(always)]
+    fn body_context(&self, direction: Direction) -> BodyContext
+        requires { self.now.records < 4294967295 }
+        ensures { result ≡ record { direction = direction; server = self.now.header.server; in_record = in_record_of self.now self.now.moment; limit = self.now.limit } }
+    {
+        BodyContext {
+            direction,
+            server: self.header.server,
+            in_record: InRecord {
+                record_no: self.records + 1,
+                moment: self.moment,
+            },
+            limit: self.limit,
+        }
+    }
+}
