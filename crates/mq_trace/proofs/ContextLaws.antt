@@ -237,7 +237,7 @@ unfolding events
 events-header log h = let l = length-reverse log in events_back-header (reverse log) (omega arith)
 
 -- what is kept of a header
-context-header : (log : List ℕ) → length log ≤ 8 → context log ≡ record fresh { at = length log; header = header_by log }
+pub context-header : (log : List ℕ) → length log ≤ 8 → context log ≡ record fresh { at = length log; header = header_by log }
 unfolding carried
 context-header log h =
     let none : List Placed = [] in

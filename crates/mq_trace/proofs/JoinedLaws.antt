@@ -24,7 +24,7 @@ use Rattle.mq_trace.proofs.FlowLaws.{nothing_item, item_by}
 use Rattle.mq_trace.proofs.LiftLaws.{opens_none}
 
 -- by the newest byte of a log
-along : (P : List ℕ → Type 0) → P [] → ((log : List ℕ) (byte : ℕ) → P log → P (log ++ byte ∷ [])) → (log : List ℕ) → P log
+pub along : (P : List ℕ → Type 0) → P [] → ((log : List ℕ) (byte : ℕ) → P log → P (log ++ byte ∷ [])) → (log : List ℕ) → P log
 along P start step log = subst P (reverse-reverse log) (back (reverse log))
   where
     back : (bytes : List ℕ) → P (reverse bytes)

@@ -1,6 +1,7 @@
 pub mod BodyLaws
 pub mod ByteLaws
 pub mod ContextLaws
+pub mod ConvertingLaws
 pub mod DeframerLaws
 pub mod EndLaws
 pub mod FlowLaws

@@ -53,7 +53,7 @@ refused_run limit log (byte ∷ bytes) =
     ∙ ap (λ o. option_or o (refused_in limit (after (context log) byte) bytes)) (refused-grow limit log byte ∙ ap (option_or (refused limit log)) (refusal-kept limit log byte))
     ∙ option_or-assoc (refused limit log) (refusal_for limit (context log) byte) (refused_in limit (after (context log) byte) bytes)
 
-put_front : (o : Option Placed) (log : List Placed) → put o log ≡ put o [] ++ log
+pub put_front : (o : Option Placed) (log : List Placed) → put o log ≡ put o [] ++ log
 put_front None log = refl
 put_front (Some e) log = refl
 

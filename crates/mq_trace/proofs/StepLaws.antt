@@ -145,7 +145,7 @@ after_with c b part whole s r event h is w sent_is recv_is completed =
     ∙ ap (with_completed (kept whole s r)) completed
 
 -- A record's head belongs to no packet, ..
-head_packet : (c : Context) (b : ℕ) → length c.part < ahead_of c → so_far_for c b ≡ []
+pub head_packet : (c : Context) (b : ℕ) → length c.part < ahead_of c → so_far_for c b ≡ []
 unfolding so_far_for
 head_packet c b h =
     let l = length-append c.part (b ∷ []) in
@@ -435,7 +435,7 @@ some_if true n = refl
 some_if false n = refl
 
 -- Whether a record is whole whose head is there.
-headed_record : (ahead : ℕ) (part : List ℕ) → ahead ≤ length part → is_some (record_size ahead part) ≡ nat_le (ahead + body_length part) (length part)
+pub headed_record : (ahead : ℕ) (part : List ℕ) → ahead ≤ length part → is_some (record_size ahead part) ≡ nat_le (ahead + body_length part) (length part)
 unfolding record_size
 headed_record ahead part h =
     ap (λ t. is_some (if t then None else (if nat_le (ahead + body_length part) (length part) then Some (ahead + body_length part) else None))) (le-ltb (length part) ahead h)

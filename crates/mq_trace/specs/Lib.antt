@@ -1,5 +1,6 @@
 pub mod Connections
 pub mod Context
+pub mod Converting
 pub mod Deframing
 pub mod Events
 pub mod Flows

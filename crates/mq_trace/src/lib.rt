@@ -2,6 +2,7 @@
 #![tactic(auto)]
 
 mod connections;
+mod converting_laws;
 mod deframer;
 mod event;
 mod framing_laws;
