@@ -1,5 +1,4 @@
 pub mod DigitLaws
-pub mod FeedingLaws
 pub mod JudgeLaws
 pub mod StayLaws
 pub mod OnePacketLaws

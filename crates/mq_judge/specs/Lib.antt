@@ -1,4 +1,3 @@
-pub mod Feeding
 pub mod ItemText
 pub mod Judging
 pub mod OnePacket

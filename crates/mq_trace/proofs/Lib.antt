@@ -4,6 +4,7 @@ pub mod ContextLaws
 pub mod ConvertingLaws
 pub mod DeframerLaws
 pub mod EndLaws
+pub mod FeedingLaws
 pub mod FlowLaws
 pub mod FramingLaws
 pub mod StreamStateLaws

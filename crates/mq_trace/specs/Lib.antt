@@ -3,6 +3,7 @@ pub mod Context
 pub mod Converting
 pub mod Deframing
 pub mod Events
+pub mod Feeding
 pub mod Flows
 pub mod Framing
 pub mod Reception

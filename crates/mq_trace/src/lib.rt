@@ -5,6 +5,7 @@ mod connections;
 mod converting_laws;
 mod deframer;
 mod event;
+mod feeding;
 mod framing_laws;
 mod header;
 mod joined_laws;
@@ -18,10 +19,12 @@ mod stage;
 #[cfg(test)]
 mod tests;
 mod tracer;
+mod turns;
 mod unfinished;
 mod writer;
 
 pub use event::{Event, Item};
+pub use feeding::{Feed, Halt, feed_all};
 pub use header::Header;
 pub use kind::Direction;
 pub use place::Place3;

@@ -1,41 +1,51 @@
 //! Feeding a log from a reader, piece by piece, to whatever takes it in.
 ghost use Rattle.std.specs.Prelude.{◌≡◌, ◌*◌, ◌<◌, ◌≤◌, [], ◌++◌, ℕ, List, OnOk, IfErr, length};
-ghost use Rattle.mq_judge.specs.Feeding.{FedAll, FedSome, HaltsAt, TakesAtMost};
+ghost use Rattle.mq_trace.specs.Feeding.{FedAll, FedSome, RunsOutAt, TakesAtMost, refusal_of};
 
+use super::refusal::Refusal;
 use super::turns::Turns;
-use mq_trace::Refusal;
 use std::io::{ErrorKind, Read};
 
-/// Takes in a log, piece by piece, and passes what it finds to a sink.
-pub trait Feed<S> {
-    ghost use Rattle.mq_trace.specs.declared.refusal.Refusal.{Refusal};
-
+/// Takes in a log, piece by piece, and passes what it finds to a sink. It may stop, for a reason of type `E`.
+pub trait Feed<S, E> {
     // The largest packet that it reads.
     ghost limit: { Self → ℕ };
     // It has taken in this log, and refused none of it; and the sink has received all that is in it.
     ghost follows: { Self → S → List ℕ → Type 0 };
-    // With this limit on packets, it has refused a byte of this piece after this log, for this reason; and this is the sink's state.
-    ghost stops: { ℕ → Self → S → List ℕ → List ℕ → Refusal → Type 0 };
+    // With this limit on packets, it has stopped at a byte of this piece after this log, for this reason; and this is the sink's state.
+    ghost stops: { ℕ → Self → S → List ℕ → List ℕ → E → Type 0 };
 
     /// Takes in the next piece of the log.
     ///
     /// # Errors
     ///
-    /// Why a byte of the piece is refused.
-    fn feed(&mut self, sink: &mut S, piece: &[u8]) -> Result<(), Refusal>
+    /// Why it stopped at a byte of the piece.
+    fn feed(&mut self, sink: &mut S, piece: &[u8]) -> Result<(), E>
         ensures limit { OnOk result (limit self.new ≡ limit self.old) }
         ensures follows { (log : List ℕ) → follows self.old sink.old log → OnOk result (follows self.new sink.new (log ++ piece.now)) }
-        ensures stops { (log : List ℕ) → follows self.old sink.old log → IfErr result (λ refusal. stops (limit self.old) self.new sink.new log piece.now refusal) };
+        ensures stops { (log : List ℕ) → follows self.old sink.old log → IfErr result (λ why. stops (limit self.old) self.new sink.new log piece.now why) };
 }
 
-/// Why feeding ended before the reader did, and how many bytes were fed by then.
-enum Halt {
-    /// A byte is refused.
-    Refused(Refusal),
-    /// The reader failed.
+/// Why feeding ended before the reader did.
+pub enum Halt<E> {
+    /// The feeder stopped.
+    Stopped(E),
+    /// The reader failed after so many bytes.
     Failed(u64),
-    /// The turns ran out.
+    /// The turns ran out after so many bytes.
     RanOut(u64),
+}
+
+impl Halt<Refusal> {
+    /// The refusal of the log: the feeder's own; or `Read`, at the number of bytes that were fed, if the reader failed or the turns ran out.
+    pub fn refusal(self) -> Refusal
+        ensures { result ≡ refusal_of self }
+    {
+        match self {
+            Halt::Stopped(refusal) => refusal,
+            Halt::Failed(fed) | Halt::RanOut(fed) => Refusal::Read(fed),
+        }
+    }
 }
 
 /// Feeds all that a reader gives, at most as many bytes a turn as the buffer holds, for at most `turns` turns. The buffer holds 1 to
@@ -43,14 +53,14 @@ enum Halt {
 ///
 /// # Errors
 ///
-/// The feeder's refusal; `Read`, at the number of bytes that were fed, if the reader fails or hasn't ended after `turns` turns.
-pub fn feed_all<R: Read, S, F: Feed<S>>(
+/// `Stopped` if the feeder stops; `Failed` if the reader fails; `RanOut` if it hasn't ended after `turns` turns.
+pub fn feed_all<R: Read, S, E, F: Feed<S, E>>(
     feeder: &mut F,
     sink: &mut S,
     reader: &mut R,
     buffer: &mut [u8],
     turns: u32,
-) -> Result<(), Refusal>
+) -> Result<(), Halt<E>>
     requires room { (0 < length buffer.old) × (length buffer.old ≤ 65536) }
     requires follows { F.follows feeder.old sink.old [] }
     ensures all { OnOk result (FedAll F.limit F.follows (F.limit feeder.old) (R.remaining reader.old) (R.remaining reader.new) feeder.new sink.new) }
@@ -58,25 +68,26 @@ pub fn feed_all<R: Read, S, F: Feed<S>>(
     ensures few { (room : ℕ) → length buffer.old ≤ room → TakesAtMost (room * turns) (R.remaining reader.old) (R.remaining reader.new) }
 {
     let mut turns = Turns::new(turns);
-    match take_turns(feeder, sink, reader, buffer, &mut turns) {
-        Ok(()) => Ok(()),
-        Err(Halt::Refused(refusal)) => Err(refusal),
-        Err(Halt::Failed(fed) | Halt::RanOut(fed)) => Err(Refusal::Read(fed)),
-    }
+    take_turns(feeder, sink, reader, buffer, &mut turns)
 }
 
 /// Feeds until the reader ends, turn by turn.
-fn take_turns<R: Read, S, F: Feed<S>>(
+///
+/// # Errors
+///
+/// As `feed_all`.
+fn take_turns<R: Read, S, E, F: Feed<S, E>>(
     feeder: &mut F,
     sink: &mut S,
     reader: &mut R,
     buffer: &mut [u8],
     turns: &mut Turns,
-) -> Result<(), Halt>
+) -> Result<(), Halt<E>>
     requires room { (0 < length buffer.old) × (length buffer.old ≤ 65536) }
     requires follows { F.follows feeder.old sink.old [] }
     ensures all { OnOk result (FedAll F.limit F.follows (F.limit feeder.old) (R.remaining reader.old) (R.remaining reader.new) feeder.new sink.new) }
-    ensures some { IfErr result (HaltsAt (FedSome F.limit F.follows F.stops (F.limit feeder.old) (R.remaining reader.old) (R.remaining reader.new) feeder.new sink.new) turns.new.left) }
+    ensures some { IfErr result (FedSome F.limit F.follows F.stops (F.limit feeder.old) (R.remaining reader.old) (R.remaining reader.new) feeder.new sink.new) }
+    ensures last { IfErr result (RunsOutAt turns.new.left) }
     ensures few { (room : ℕ) → length buffer.old ≤ room → TakesAtMost (room * turns.old.left) (R.remaining reader.old) (R.remaining reader.new) }
 {
     let mut fed = 0;
@@ -86,7 +97,7 @@ fn take_turns<R: Read, S, F: Feed<S>>(
             Ok(count) => {
                 match feeder.feed(sink, &buffer[..count]) {
                     Ok(()) => fed += count as u64,
-                    Err(refusal) => return Err(Halt::Refused(refusal)),
+                    Err(why) => return Err(Halt::Stopped(why)),
                 }
             }
             Err(error) => {

@@ -1,6 +1,6 @@
 use Rattle.std.proofs.Common.{◌≤◌, ◌++◌, length, take, sym, rules}
-use Rattle.mq_judge.proofs.FeedingLaws.{consumes-then, few-taken}
-use Rattle.mq_judge.proofs.feeding.take_turns.Goals as goal
+use Rattle.mq_trace.proofs.FeedingLaws.{consumes-then, few-taken}
+use Rattle.mq_trace.proofs.feeding.take_turns.Goals as goal
 
 pub returns-in-Err-feed-clause-few : goal.returns-in-Err-feed-clause-few
 returns-in-Err-feed-clause-few g c = λ room within.

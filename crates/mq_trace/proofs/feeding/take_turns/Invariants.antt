@@ -1,6 +1,6 @@
 use Rattle.std.proofs.Common.{◌≡◌, ◌+◌, ◌*◌, ◌^◌, ◌<◌, length}
-use Rattle.mq_judge.proofs.FeedingLaws.{HasRoom, IsFed}
-use Rattle.mq_judge.proofs.feeding.take_turns.Given as goal
+use Rattle.mq_trace.proofs.FeedingLaws.{HasRoom, IsFed}
+use Rattle.mq_trace.proofs.feeding.take_turns.Given as goal
 
 abbrev pub invariant-turns : goal.invariant-turns
 invariant-turns g l = IsFed g.F.Feed.limit g.F.Feed.follows (g.F.Feed.limit l.fn.feeder) (g.R.Read.remaining l.fn.reader) (g.R.Read.remaining l.reader) l.feeder l.sink l.fed
