@@ -8,16 +8,15 @@ use Rattle.mq_trace.specs.Refusals.{refused, is_cut_short}
 use Rattle.mq_trace.specs.Tracing.{Traced, IsTracedTo, TracesPiece, Stops, Why}
 use Rattle.mq_judge.specs.declared.report.RunFault.{RunFault}
 use Rattle.mq_judge.specs.declared.report.RunFault.TheVariants as run_faults
-use Rattle.mq_judge.specs.Feeding.{FedAll, FedSome}
+use Rattle.mq_trace.specs.Feeding.{FedAll}
 use Rattle.mq_judge.specs.Report.{StopsWriting}
 use Rattle.mq_judge.specs.Runner.{default_limit}
 use Rattle.mq_judge.specs.Outgoing.{Sends}
 use Rattle.mq_judge.specs.Display.{Shows, WritesBeginning}
-use Rattle.mq_judge.specs.Stopping.{IsRefusedByte}
+use Rattle.mq_judge.specs.Stopping.{FedBefore, IsRefusedByte}
 use Rattle.mq_judge.specs.Tracing.{TraceStops, ShowStops}
-use Rattle.mq_trace.proofs.Exports.{appends-nothing, last-written, stopped-in-last}
+use Rattle.mq_trace.proofs.Exports.{appends-nothing, last-written, pieces-are, some-taken, stopped-in-last, whole-taken}
 use Rattle.mq_trace.specs.Writing.{AppendsBeginning}
-use Rattle.mq_judge.proofs.FeedingLaws.{whole-taken, some-taken, pieces-are}
 
 -- what stops a tracer stops it and its sink
 pub trace-stops : {S : Type 0} (agrees : S → List Placed → Type 0) (refuses : S → List Placed → Refusal → Type 0) (limit : ℕ) (log piece : List ℕ) (old new : S) (r : Refusal)
@@ -86,7 +85,7 @@ module _ {S : Type 0} (agrees : S → List Placed → Type 0) (refuses : S → L
   ShowsAll = FedAll (λ (t : Traced). t.reading.limit) (λ t s log. IsTracedTo t log × agrees s (events log)) first x y tracer sink
 
   abbrev pub ShowsSome : Refusal → Type 0
-  ShowsSome r = FedSome (λ (t : Traced). t.reading.limit) (λ t s log. IsTracedTo t log × agrees s (events log))
+  ShowsSome r = FedBefore (λ (t : Traced). t.reading.limit) (λ t s log. IsTracedTo t log × agrees s (events log))
       (λ limit t s log piece refusal. ShowStops agrees refuses has_failed limit s log piece refusal) first x y tracer sink r
 
   unrefused : (log : List ℕ) → IsTracedTo tracer log → tracer.reading.limit ≡ first → refused default_limit log ≡ None

@@ -5,6 +5,7 @@ pub mod OnePacketLaws
 pub mod ReportLaws
 pub mod RunnerLaws
 pub mod DisplayLaws
+pub mod FeedingLaws
 pub mod LineLaws
 pub mod CodeLaws
 pub mod JsonLaws

@@ -17,12 +17,12 @@ use Rattle.mq_trace.specs.Events.{events}
 use Rattle.mq_rules.specs.Notes.{tested_by, seen_in}
 use Rattle.mq_rules.specs.FaultKeys.{FaultMap}
 use Rattle.mq_judge.specs.Report.{report, report_on, FailsToReport}
-use Rattle.mq_judge.specs.Feeding.{FedAll, FedSome}
-use Rattle.mq_judge.specs.Stopping.{IsRefusedByte, IsRefusedEnd, IsRefusedAt}
+use Rattle.mq_trace.specs.Feeding.{FedAll}
+use Rattle.mq_judge.specs.Stopping.{FedBefore, IsRefusedAt, IsRefusedByte, IsRefusedEnd}
 use Rattle.mq_judge.specs.Runner.{default_limit, outcome_of, IsJudged, IsVerdictOn, JudgesOver, RunsOver}
 use Rattle.mq_judge.proofs.JudgeLaws.{unrefused}
-use Rattle.mq_judge.proofs.FeedingLaws.{whole-taken, some-taken, pieces-are}
 use Rattle.mq_judge.specs.Chosen.{is_judged}
+use Rattle.mq_trace.proofs.Exports.{pieces-are, some-taken, whole-taken}
 use Rattle.mq_rules.proofs.Exports.{entries-listed}
 
 -- nothing is refused in what a judge with the default limit follows
@@ -107,7 +107,7 @@ run-stops-writing x y form w z count faults role fault judged stopped =
     (λ log v. stops-with form log y w z fault v.judged (subst (λ (t : List ℕ). FailsToReport form w z t fault) (report-is form log role count faults v) stopped)) judged
 
 -- a run that was stopped while it was feeding the judge
-pub run-stopped : {first : ℕ} {x y : Option (List ℕ)} {judge : Judge} (refusal : Refusal) → FedSome {S = Unit {0}} (λ j. j.limit) (λ j _. Follows j) (λ l j _. RefusesIn l j) first x y judge tt refusal → first ≡ default_limit
+pub run-stopped : {first : ℕ} {x y : Option (List ℕ)} {judge : Judge} (refusal : Refusal) → FedBefore {S = Unit {0}} (λ j. j.limit) (λ j _. Follows j) (λ l j _. RefusesIn l j) first x y judge tt refusal → first ≡ default_limit
     → IfSome x (λ log. IsRefusedAt default_limit log y refusal)
 run-stopped {first} {x} {y} {judge} refusal fed default =
     some-taken x y (fed.log ++ fed.piece) (λ l left. IsRefusedAt default_limit l left refusal) fed.consumed (λ left. by_why left fed.why)

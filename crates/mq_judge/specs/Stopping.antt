@@ -1,5 +1,6 @@
 -- How far a log is taken in: the bytes in which nothing is refused, and why the byte after them, or the log's end, is refused.
 use Rattle.std.specs.Prelude.{◌≡◌, ℕ, true, List, [], ◌∷◌, ◌++◌, length, ◌⊎◌, Option, Some, None, is_some}
+use Rattle.std.specs.Io.KnownBytes.{Consumes}
 use Rattle.mq_trace.specs.declared.refusal.Refusal.{Refusal}
 use Rattle.mq_trace.specs.declared.refusal.Refusal.TheVariants as refusals
 use Rattle.mq_trace.specs.Deframing.{NeedsMemory}
@@ -45,3 +46,11 @@ pub record IsRefusedAt (limit : ℕ) (log : List ℕ) (left : Option (List ℕ))
   pub is : log ≡ taken ++ later
   pub unrefused : refused limit taken ≡ None
   pub why : IsRefusedNext limit taken later refusal ⊎ IsUnread taken later left refusal
+
+-- The feeder followed some of what the reader had left; and then it refused a byte of the next piece, or nothing more could be read.
+pub record FedBefore {F S : Type 0} (limit : F → ℕ) (follows : F → S → List ℕ → Type 0) (stops : ℕ → F → S → List ℕ → List ℕ → Refusal → Type 0) (first : ℕ)
+    (old new : Option (List ℕ)) (fed : F) (sink : S) (refusal : Refusal) : Type 0 where
+  pub log : List ℕ
+  pub piece : List ℕ
+  pub consumed : Consumes old new (log ++ piece)
+  pub why : stops first fed sink log piece refusal ⊎ ((piece ≡ []) × follows fed sink log × (limit fed ≡ first) × (refusal ≡ refusals.Read (length log)))

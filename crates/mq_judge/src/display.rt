@@ -16,12 +16,12 @@ mod view;
 use self::annotated::Annotated;
 use self::outgoing::Outgoing;
 use self::view::View;
-use super::feeding::{Feed, feed_all};
+use super::feeding::feed_log;
 use super::judge::Options;
 use super::report::RunFault;
 use mq_packet::Packet;
 use mq_rules::{Faults, Role};
-use mq_trace::{Direction, Event, Place3, Refusal, Sink, Tracer};
+use mq_trace::{Direction, Event, Feed, Place3, Refusal, Sink, Tracer};
 use std::alloc::Global;
 use std::io::{Read, Write};
 use std::marker::{Brand, PhantomData};
@@ -127,7 +127,7 @@ impl<W: Write, K> Failing for Display<'_, '_, '_, W, K> {
     }
 }
 
-impl<S: Sink + Failing> Feed<S> for Tracer {
+impl<S: Sink + Failing> Feed<S, Refusal> for Tracer {
     ghost use Rattle.mq_judge.specs.Tracing.{ShowStops};
     ghost use Rattle.mq_trace.specs.Tracing.{IsTracedTo};
     ghost use Rattle.mq_trace.specs.Events.{events};
@@ -268,7 +268,7 @@ fn show_all<R: Read, W: Write, K: Given>(
     ensures shows { IfSome (R.remaining reader.old) (λ log. Shows K.text log (R.remaining reader.new) result K.held (W.contents display.new.out.now.writer.now)) }
 {
     let mut buffer = [0; 65_536];
-    let fed = feed_all(tracer, display, reader, &mut buffer, turns);
+    let fed = feed_log(tracer, display, reader, &mut buffer, turns);
     display.out.write_last()?;
     match fed {
         Ok(()) => end(tracer),

@@ -6,10 +6,9 @@ ghost use Rattle.mq_judge.specs.Watching.{IsWatching};
 ghost use Rattle.mq_rules.specs.Notes.{tested_by, seen_in};
 ghost use Rattle.mq_trace.specs.Tracing.{IsTracedTo};
 
-use super::feeding::Feed;
 use super::watching::{End, Judging, Watching};
 use mq_rules::{Faults, Role, Tested};
-use mq_trace::{Refusal, Tracer};
+use mq_trace::{Feed, Refusal, Tracer};
 use std::alloc::Global;
 use std::marker::Brand;
 
@@ -183,7 +182,7 @@ fn take_events<K: End>(
     tracer.feed(piece, judging)
 }
 
-impl Feed<()> for Judge {
+impl Feed<(), Refusal> for Judge {
     ghost use Rattle.mq_judge.specs.Judging.{Follows, RefusesIn};
 
     ghost limit = { λ judge. judge.limit };

@@ -5,10 +5,10 @@ ghost use Rattle.std.specs.Io.KnownBytes.{Appends};
 ghost use Rattle.mq_judge.specs.declared.report.RunFault.TheVariants as run_faults;
 ghost use Rattle.mq_trace.specs.declared.refusal.Refusal.{Refusal as AnyRefusal};
 ghost use Rattle.mq_judge.specs.Report.{report_on, FailsToReport};
-ghost use Rattle.mq_judge.specs.Feeding.{TakesAtMost};
+ghost use Rattle.mq_trace.specs.Feeding.{TakesAtMost};
 ghost use Rattle.mq_judge.specs.Runner.{JudgesOver, RunsOver};
 
-use super::feeding::feed_all;
+use super::feeding::feed_log;
 use super::judge::{Judge, Options, Verdict};
 use super::report::json::write_json;
 use super::report::summing::write_summary;
@@ -100,7 +100,7 @@ fn judge_bounded<R: Read>(
 {
     let mut judge = Judge::new(alloc, Options::default());
     let mut buffer = [0; 8192];
-    feed_all(&mut judge, &mut (), reader, &mut buffer, turns)?;
+    feed_log(&mut judge, &mut (), reader, &mut buffer, turns)?;
     judge.finish_with_role()
 }
 
