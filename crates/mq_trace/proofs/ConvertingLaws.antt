@@ -57,7 +57,7 @@ first_of_two : (a b : Bool) → (a || b) ≡ false → a ≡ false
 first_of_two true b e = e
 first_of_two false b e = refl
 
-option_parts : {A : Type 0} (a b : Option A) → option_or a b ≡ None → (a ≡ None) × (b ≡ None)
+pub option_parts : {A : Type 0} (a b : Option A) → option_or a b ≡ None → (a ≡ None) × (b ≡ None)
 option_parts None b e = (refl, e)
 option_parts (Some x) b e = absurd (cc)
 
@@ -127,7 +127,7 @@ with_time (k ∷ x ∷ y ∷ z ∷ []) h = absurd (omega arith)
 with_time (k ∷ x ∷ y ∷ z ∷ w ∷ q) h = ap (λ (l : List ℕ). spelled_from 0 (drop length_end (take 13 l))) (with_five (k ∷ x ∷ y ∷ z ∷ w ∷ q) h)
 
 -- what one byte more adds
-abbrev added : List ℕ → ℕ → List ℕ
+abbrev pub added : List ℕ → ℕ → List ℕ
 added part byte = if length part == 4 then byte ∷ no_moment else byte ∷ []
 
 with_grown : (part : List ℕ) (byte : ℕ) → with_moment (part ++ byte ∷ []) ≡ with_moment part ++ added part byte
@@ -613,7 +613,7 @@ grown_records (Some size) p byte =
     ∙ ap (λ (l : List ℕ). flat_map with_moment p.whole ++ l) (append-nil (with_moment (p.rest ++ byte ∷ [])) ∙ with_grown p.rest byte)
     ∙ sym (append_assoc (flat_map with_moment p.whole) (with_moment p.rest) (added p.rest byte))
 
-timed_known : (log : List ℕ) → 8 ≤ length log → timed log ≡ second_header log ++ (flat_map with_moment (records log).whole ++ with_moment (records log).rest)
+pub timed_known : (log : List ℕ) → 8 ≤ length log → timed log ≡ second_header log ++ (flat_map with_moment (records log).whole ++ with_moment (records log).rest)
 unfolding timed
 timed_known log h = ap (λ b. if b then [] else second_header log ++ (flat_map with_moment (records log).whole ++ with_moment (records log).rest)) (le-ltb (length log) 8 h)
 
@@ -624,7 +624,7 @@ second_same log byte h =
     ∙ ap (λ (l : List ℕ). take 4 log ++ 2 ∷ take 3 l) (drop-append-le 5 log (byte ∷ []) (omega arith))
     ∙ ap (λ (l : List ℕ). take 4 log ++ 2 ∷ l) (take-append-le 3 (drop 5 log) (byte ∷ []) (omega arith))
 
-timed_grown : (log : List ℕ) (byte : ℕ) → 8 ≤ length log → timed (log ++ byte ∷ []) ≡ timed log ++ added (records log).rest byte
+pub timed_grown : (log : List ℕ) (byte : ℕ) → 8 ≤ length log → timed (log ++ byte ∷ []) ≡ timed log ++ added (records log).rest byte
 timed_grown log byte h =
     let l = length-append log (byte ∷ []) in
     timed_known (log ++ byte ∷ []) (omega arith)
@@ -752,13 +752,13 @@ byte_passes limit log byte first none = by (nat_lt (length log) 8) none
         let none = none_applies (conditions limit s) h in
         all_false (record_conditions s) (none.0, (none.1.0, (none.1.1.0, (none.1.1.1.0, (none.1.1.1.1.0, (first_of_two _ _ none.1.1.1.1.1.1.1.1.0, tt))))))
 
-unconverted-grow : (log : List ℕ) (byte : ℕ) → unconverted (log ++ byte ∷ []) ≡ option_or (unconverted log) (unconverted_at log byte)
+pub unconverted-grow : (log : List ℕ) (byte : ℕ) → unconverted (log ++ byte ∷ []) ≡ option_or (unconverted log) (unconverted_at log byte)
 unfolding unconverted unconverted_back
 unconverted-grow log byte =
     ap unconverted_back (reverse-append log (byte ∷ []))
     ∙ ap (λ earlier. option_or (unconverted_back (reverse log)) (unconverted_at earlier byte)) (reverse-reverse log)
 
-nothing_converted : unconverted [] ≡ None
+pub nothing_converted : unconverted [] ≡ None
 unfolding unconverted unconverted_back
 nothing_converted = refl
 
@@ -777,7 +777,7 @@ all_converted limit log = along (λ l. refused limit l ≡ None → (4 < length 
         let here : length l ≡ 4 → byte ≡ 1 = λ e. sym (get_or-append_right l (byte ∷ []) 4 4 0 e (omega arith) ∙ ap (λ k. slice_index (byte ∷ []) k) (let none : 4 - 4 ≡ 0 = omega arith in none)) ∙ first (omega arith) in
         unconverted-grow l byte ∙ both_none (unconverted l) (unconverted_at l byte) (before parts.0 earlier) (byte_passes limit l byte here parts.1)
 
-copied_whole : (log : List ℕ) → unconverted log ≡ None → copied log ≡ log
+pub copied_whole : (log : List ℕ) → unconverted log ≡ None → copied log ≡ log
 unfolding unconverted copied copied_back
 copied_whole log none = ap reverse (go (reverse log) none) ∙ reverse-reverse log
   where
@@ -794,7 +794,7 @@ whole_log log e = (
   (let none = ltb-false 0 (length (records log).rest) (or_second (nat_lt (length log) 8) (nat_lt 0 (length (records log).rest)) e) in omega arith),
 )
 
-no_bytes : (l : List ℕ) → length l ≡ 0 → l ≡ []
+pub no_bytes : (l : List ℕ) → length l ≡ 0 → l ≡ []
 no_bytes [] e = refl
 no_bytes (x ∷ l) e = absurd (omega arith)
 

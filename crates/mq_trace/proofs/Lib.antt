@@ -2,6 +2,7 @@ pub mod BodyLaws
 pub mod ByteLaws
 pub mod ContextLaws
 pub mod ConvertingLaws
+pub mod CopyLaws
 pub mod DeframerLaws
 pub mod EndLaws
 pub mod FeedingLaws

@@ -63,7 +63,7 @@ spellings_few (suc (suc (suc (suc (suc (suc (suc zero))))))) h = omega arith
 spellings_few (suc (suc (suc (suc (suc (suc (suc (suc count)))))))) h = absurd (omega arith)
 
 -- The length that the four bytes after a record's first one say.
-fourth : (first : ℕ) (bytes : List ℕ) (b : ℕ) → length bytes ≡ 3 → body_length ((first ∷ bytes) ++ b ∷ []) ≡ spelled_from 0 bytes * 256 + b
+pub fourth : (first : ℕ) (bytes : List ℕ) (b : ℕ) → length bytes ≡ 3 → body_length ((first ∷ bytes) ++ b ∷ []) ≡ spelled_from 0 bytes * 256 + b
 fourth first [] b e = absurd (omega arith)
 fourth first (x ∷ []) b e = absurd (omega arith)
 fourth first (x ∷ y ∷ []) b e = absurd (omega arith)

@@ -24,7 +24,7 @@ take-drop-whole zero xs = refl
 take-drop-whole (suc n) [] = refl
 take-drop-whole (suc n) (x ∷ xs) = ap (λ z. x ∷ z) (take-drop-whole n xs)
 
-take-left : (n : ℕ) (xs : List ℕ) → take (length xs - n) (drop n xs) ≡ drop n xs
+pub take-left : (n : ℕ) (xs : List ℕ) → take (length xs - n) (drop n xs) ≡ drop n xs
 take-left n xs = take_all (length xs - n) (drop n xs) (omega (arith, length-drop n xs))
 
 pub all-left : (x : Option (List ℕ)) (whole : List ℕ) → LeavesToWrite x x whole whole

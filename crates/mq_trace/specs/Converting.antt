@@ -1,11 +1,15 @@
 -- Converting a log of version 1 into one of version 2: each record the same, with the moment 0.
-use Rattle.std.specs.Prelude.{ℕ, ◌==◌, nat_lt, Bool, ◌&&◌, not, cond, if◌then◌else◌, List, [], ◌∷◌, ◌++◌, length, take, drop, reverse, Option, Some, None, is_some, is_none}
+use Rattle.std.specs.Prelude.{◌≡◌, ◌⊎◌, true, false, Result, Ok, Err, ℕ, ◌==◌, nat_lt, Bool, ◌&&◌, not, cond, if◌then◌else◌, List, [], ◌∷◌, ◌++◌, length, take, drop, reverse, Option, Some, None, is_some, is_none}
 use Rattle.std.specs.List.{flat_map}
 use Rattle.std.specs.Option.{option_or}
 use Rattle.mq_trace.specs.declared.refusal.Refusal.{Refusal}
 use Rattle.mq_trace.specs.declared.refusal.Refusal.TheVariants as refusals
+use Rattle.std.specs.Io.KnownBytes.{Appends, Consumes, IsAtEnd}
+use Rattle.mq_trace.specs.declared.converting.ConvertFault.{ConvertFault}
+use Rattle.mq_trace.specs.declared.converting.ConvertFault.TheVariants as convert_faults
+use Rattle.mq_trace.specs.Writing.{AppendsBeginning}
 use Rattle.mq_trace.specs.Framing.{kind_of, body_length, length_end, records}
-use Rattle.mq_trace.specs.Refusals.{Situation, situation, header_refusal, first_that_applies, is_first, ends_length, allows_length, is_open_kind, needs_connection, is_release_kind}
+use Rattle.mq_trace.specs.Refusals.{Situation, situation, header_refusal, first_that_applies, is_first, ends_length, allows_length, is_cut_short, is_open_kind, needs_connection, is_release_kind}
 
 -- the refusal of a byte of a header at this offset, where the version has to be 1
 abbrev pub first_version_refusal : ℕ → ℕ → Option Refusal
@@ -62,3 +66,20 @@ timed log = if nat_lt (length log) 8 then [] else second_header log ++ (flat_map
 -- What is written of a log that is converted: all before the byte that is refused, if one is.
 abbrev pub converted : List ℕ → List ℕ
 converted bytes = timed (copied bytes)
+
+-- Why a log is refused of which these bytes were read: a byte of them is refused; or none is, and they end inside the header or a record, with the reader at its end; or no more could be read.
+abbrev pub IsUnconverted : List ℕ → Option (List ℕ) → Refusal → Type 0
+IsUnconverted read left refusal = (unconverted read ≡ Some refusal)
+    ⊎ ((unconverted read ≡ None) × ((IsAtEnd left × (is_cut_short read ≡ true) × (refusal ≡ refusals.Cut (length read))) ⊎ (refusal ≡ refusals.Read (length read))))
+
+-- What converting a log did of which these bytes were read, by its result and what the reader has left: it wrote what is written of these bytes, and nothing else; or, if a write failed, a beginning of it.
+abbrev pub ConvertsRead : List ℕ → Option (List ℕ) → Result (Unit {0}) ConvertFault → Option (List ℕ) → Option (List ℕ) → Type 0
+ConvertsRead read left (Ok _) old new = IsAtEnd left × (unconverted read ≡ None) × (is_cut_short read ≡ false) × Appends old new (converted read)
+ConvertsRead read left (Err (convert_faults.Refused refusal)) old new = IsUnconverted read left refusal × Appends old new (converted read)
+ConvertsRead read left (Err convert_faults.Write) old new = AppendsBeginning old new (converted read)
+
+-- What converting this log did: some of its bytes were read, and so much was done of them.
+pub record Converts (log : List ℕ) (left : Option (List ℕ)) (result : Result (Unit {0}) ConvertFault) (old new : Option (List ℕ)) : Type 0 where
+  pub read : List ℕ
+  pub consumed : Consumes (Some log) left read
+  pub does : ConvertsRead read left result old new

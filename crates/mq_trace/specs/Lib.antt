@@ -1,6 +1,7 @@
 pub mod Connections
 pub mod Context
 pub mod Converting
+pub mod Copying
 pub mod Deframing
 pub mod Events
 pub mod Feeding

@@ -30,7 +30,7 @@ pub const MOMENT_END: usize = 13;
 pub const HEADER_LENGTH: u64 = 8;
 
 /// The offset of the version.
-const VERSION_AT: u64 = 4;
+pub const VERSION_AT: u64 = 4;
 
 /// The offset of the byte that names the tested end's role.
 const ROLE_AT: u64 = 5;

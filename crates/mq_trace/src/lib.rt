@@ -2,6 +2,7 @@
 #![tactic(auto)]
 
 mod connections;
+mod converting;
 mod converting_laws;
 mod deframer;
 mod event;
@@ -23,6 +24,7 @@ mod turns;
 mod unfinished;
 mod writer;
 
+pub use converting::{ConvertFault, convert};
 pub use event::{Event, Item};
 pub use feeding::{Feed, Halt, feed_all};
 pub use header::Header;

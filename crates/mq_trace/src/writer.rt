@@ -250,7 +250,7 @@ impl<W: Write> TraceWriter<W> {
 }
 
 /// The bytes of a header.
-fn bytes_of(header: Header) -> [u8; 8]
+pub fn bytes_of(header: Header) -> [u8; 8]
     ensures { result ≡ header_bytes header }
 {
     let server = u8::from(header.server);
@@ -322,7 +322,7 @@ fn write_both<W: Write>(front: &[u8], back: &[u8], writer: &mut W) -> Result<(),
 /// # Errors
 ///
 /// `Write` if a write failed: the writer returned an error, also one for an interruption, or took no byte.
-fn write_bytes<W: Write>(bytes: &[u8], writer: &mut W) -> Result<(), WriteFault>
+pub fn write_bytes<W: Write>(bytes: &[u8], writer: &mut W) -> Result<(), WriteFault>
     ensures ok { OnOk result (Appends (W.contents writer.old) (W.contents writer.new) bytes.now) }
     ensures write { OnErr result (AppendsBeginning (W.contents writer.old) (W.contents writer.new) bytes.now) }
 {

@@ -1,0 +1,22 @@
+use Rattle.std.proofs.Common.{◌∷◌, ◌++◌, [], IfOk, IfErr, Some, rules}
+use Rattle.mq_trace.specs.Copying.{Adds, IsCopyOf, added_bytes}
+use Rattle.mq_trace.proofs.CopyLaws.{begin_err, begin_ok, extend_err, extend_ok, header_err, header_ok}
+use Rattle.mq_trace.proofs.converting.Copying.take_byte.Goals as goal
+
+pub returns-then-self-lt-HEADER_LENGTH-clause-copied : goal.returns-then-self-lt-HEADER_LENGTH-clause-copied
+returns-then-self-lt-HEADER_LENGTH-clause-copied c = λ log was. header_ok _ _ log _ c.take_header_byte.result was c.if-self-lt-HEADER_LENGTH.true c.take_header_byte.ensures.kept
+
+pub returns-then-self-lt-HEADER_LENGTH-clause-refused : goal.returns-then-self-lt-HEADER_LENGTH-clause-refused
+returns-then-self-lt-HEADER_LENGTH-clause-refused c = λ log was. header_err _ _ log _ c.take_header_byte.result was c.if-self-lt-HEADER_LENGTH.true c.take_header_byte.ensures.refused
+
+pub returns-in-Between-clause-copied : goal.returns-in-Between-clause-copied
+returns-in-Between-clause-copied c = λ log was. begin_ok _ _ log _ c.begin_record.result was c.if-self-lt-HEADER_LENGTH.false c.in-Between.is c.begin_record.ensures.kept
+
+pub returns-in-Between-clause-refused : goal.returns-in-Between-clause-refused
+returns-in-Between-clause-refused c = λ log was. begin_err _ _ log _ c.begin_record.result was c.if-self-lt-HEADER_LENGTH.false c.in-Between.is c.begin_record.ensures.refused
+
+pub returns-in-Head-clause-copied : goal.returns-in-Head-clause-copied
+returns-in-Head-clause-copied c = λ log was. extend_ok _ _ log _ _ _ _ c.extend_length.result was c.if-self-lt-HEADER_LENGTH.false c.in-Head.is (search rules) c.extend_length.ensures.more c.extend_length.ensures.last
+
+pub returns-in-Head-clause-refused : goal.returns-in-Head-clause-refused
+returns-in-Head-clause-refused c = λ log was. extend_err _ _ log _ _ _ _ c.extend_length.result was c.if-self-lt-HEADER_LENGTH.false c.in-Head.is c.extend_length.ensures.refused
