@@ -16,7 +16,7 @@ pub use display::{show, show_faults, show_long};
 pub use judge::{Judge, Options, Verdict};
 pub use laws::known_faults_stay;
 pub use mq_rules::{Fault, FaultKey, Faults, Memory, Role, Rule, Tested};
-pub use mq_trace::Refusal;
+pub use mq_trace::{ConvertFault, Refusal, convert};
 pub use packet_line::write_packet;
 pub use report::json::write_json;
 pub use report::summing::write_summary;
