@@ -9,7 +9,6 @@ mod lines;
 mod packet_line;
 mod report;
 mod runner;
-mod turns;
 mod watching;
 
 pub use display::{show, show_faults, show_long};
