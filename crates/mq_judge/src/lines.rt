@@ -136,6 +136,27 @@ impl Lines {
         self.len = end;
         Ok(())
     }
+
+    /// Appends a number that may have more than 32 bits in decimal digits to what waits.
+    ///
+    /// # Errors
+    ///
+    /// If there is no room for it. Nothing is then changed.
+    #[inline(never)]
+    pub fn put_long_number(&mut self, number: u64) -> fmt::Result
+        ensures puts { OnOk result (self.new ≡ self.old ++ decimal number) }
+        ensures full { IfErr result (λ _. (self.new ≡ self.old) × (8192 < length self.old + length (decimal number))) }
+        ensures short { length (decimal number) ≤ 20 }
+    {
+        let count = long_digit_count(number);
+        if count > ROOM - self.len {
+            return Err(fmt::Error);
+        }
+        let end = self.len + count;
+        write_long_digits(&mut self.bytes[self.len..end], number);
+        self.len = end;
+        Ok(())
+    }
 }
 
 impl fmt::Write for Lines {
@@ -179,6 +200,41 @@ fn write_digits(digits: &mut [u8], number: u32)
         digits[at] = b'0' + (pair / 10) as u8;
         rest /= 100;
     }
+    while rest >= 10 {
+        at -= 1;
+        digits[at] = b'0' + (rest % 10) as u8;
+        rest /= 10;
+    }
+    digits[at - 1] = b'0' + rest as u8;
+}
+
+// The same for a number that may have more than 32 bits.
+fn long_digit_count(number: u64) -> usize
+    ensures count { result ≡ length (decimal number) }
+    ensures short { result ≤ 20 }
+{
+    match number {
+        0..1_000_000_000 => digit_count(number as u32),
+        1_000_000_000..10_000_000_000 => 10,
+        10_000_000_000..100_000_000_000 => 11,
+        100_000_000_000..1_000_000_000_000 => 12,
+        1_000_000_000_000..10_000_000_000_000 => 13,
+        10_000_000_000_000..100_000_000_000_000 => 14,
+        100_000_000_000_000..1_000_000_000_000_000 => 15,
+        1_000_000_000_000_000..10_000_000_000_000_000 => 16,
+        10_000_000_000_000_000..100_000_000_000_000_000 => 17,
+        100_000_000_000_000_000..1_000_000_000_000_000_000 => 18,
+        1_000_000_000_000_000_000..10_000_000_000_000_000_000 => 19,
+        _ => 20,
+    }
+}
+
+fn write_long_digits(digits: &mut [u8], number: u64)
+    requires { length digits.old ≡ length (decimal number) }
+    ensures { digits.new ≡ decimal number }
+{
+    let mut at = digits.len();
+    let mut rest = number;
     while rest >= 10 {
         at -= 1;
         digits[at] = b'0' + (rest % 10) as u8;
