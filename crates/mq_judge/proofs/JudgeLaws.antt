@@ -38,7 +38,8 @@ pub unseen : (log : List ℕ) → length log ≤ 8 → seen_in log ≡ []
 unfolding seen_in
 unseen log h = ap (map seen) (events-header log h)
 
-header-stays : (log more : List ℕ) → 8 ≤ length log → header_by (log ++ more) ≡ header_by log
+-- a whole header stays, whatever comes after it
+pub header-stays : (log more : List ℕ) → 8 ≤ length log → header_by (log ++ more) ≡ header_by log
 header-stays log [] long = ap header_by (append-nil log)
 header-stays log (byte ∷ more) long =
     ap header_by (sym (append_assoc log (byte ∷ []) more))
@@ -278,6 +279,22 @@ cut_unnamed log h = go (nat_lt (length log) 8) _ h
     go : (b c : Bool) → None ≡ (if b then None else Some (header_by log)) → (b || c) ≡ true
     go true c h = refl
     go false c h = absurd (cc)
+
+-- a header that is known is whole
+pub named_whole : (log : List ℕ) (found : Header) → Some found ≡ (if nat_lt (length log) 8 then None else Some (header_by log)) → 8 ≤ length log
+named_whole log found h = go (nat_lt (length log) 8) refl h
+  where
+    go : (b : Bool) → nat_lt (length log) 8 ≡ b → Some found ≡ (if b then None else Some (header_by log)) → 8 ≤ length log
+    go true is h = absurd (cc)
+    go false is h = ltb-false (length log) 8 is
+
+-- where none is known it isn't
+pub unnamed_part : (log : List ℕ) → None ≡ (if nat_lt (length log) 8 then None else Some (header_by log)) → length log < 8
+unnamed_part log h = go (nat_lt (length log) 8) refl h
+  where
+    go : (b : Bool) → nat_lt (length log) 8 ≡ b → None ≡ (if b then None else Some (header_by log)) → length log < 8
+    go true is h = ltb-true (length log) 8 is
+    go false is h = absurd (cc)
 
 -- a header that is known is that of the log
 pub named_by : (log : List ℕ) (found : Header) → Some found ≡ (if nat_lt (length log) 8 then None else Some (header_by log)) → found ≡ header_by log

@@ -1,10 +1,11 @@
 -- The lines that show a log's events, with the faults at them if that is asked for, and the result of showing a whole log, from a reader to a writer.
-use Rattle.std.specs.Prelude.{◌≡◌, ℕ, ◌+◌, Bool, true, false, nat_le, nat_lt, ◌&&◌, List, [], ◌∷◌, ◌++◌, codes, decimal, Option, Some, None, Result, Ok, Err, if◌then◌else◌}
+use Rattle.std.specs.Prelude.{◌≡◌, ℕ, ◌+◌, Bool, true, false, nat_le, nat_lt, ◌&&◌, List, [], ◌∷◌, ◌++◌, codes, decimal, Option, Some, None, Result, Ok, Err, if◌then◌else◌, ◌==◌}
 use Rattle.std.specs.List.{flat_map, list_any}
 use Rattle.std.specs.Io.KnownBytes.{Appends}
 use Rattle.mq_trace.specs.declared.kind.Direction.{Direction}
 use Rattle.mq_trace.specs.declared.kind.Direction.TheVariants.{Sent, Recv}
 use Rattle.mq_trace.specs.declared.place.Place3.{Place3}
+use Rattle.mq_trace.specs.Framing.{header_by}
 use Rattle.mq_trace.specs.Events.{Event, Placed, opened, closed, rested, released, sent, received, events}
 use Rattle.mq_trace.specs.Refusals.{refused}
 use Rattle.mq_trace.specs.Refusing.{spaced}
@@ -27,6 +28,10 @@ use Rattle.mq_judge.specs.Stopping.{IsRefusedAt}
 
 -- ---- the lines of events
 
+-- the records of this log have moments: its header names version 2 of the layout
+abbrev pub is_timed : List ℕ → Bool
+is_timed log = (header_by log).version == 2
+
 -- the text of an event
 abbrev pub event_text : Event → List ℕ
 event_text opened = codes "OPEN"
@@ -36,13 +41,22 @@ event_text (released identifier) = spaced (codes "RELEASE" ∷ decimal identifie
 event_text (sent item) = spaced (codes "SENT" ∷ item_text item ∷ [])
 event_text (received item) = spaced (codes "RECV" ∷ item_text item ∷ [])
 
--- an event at its place: its position, its record, and its text
-abbrev pub event_words : Placed → List ℕ
-event_words placed = spaced (decimal placed.place.position ∷ codes "record" ∷ decimal placed.place.record_no ∷ event_text placed.event ∷ [])
+-- the words on the moment of an event's record, if the records of the log have moments
+abbrev pub moment_words : (timed : Bool) → (moment : ℕ) → List (List ℕ)
+moment_words false moment = []
+moment_words true moment = codes "moment" ∷ decimal moment ∷ []
+
+-- the place of an event: its position, its record, and that record's moment if the records of the log have moments
+abbrev pub place_text : (timed : Bool) → Place3 → List ℕ
+place_text timed place = spaced (decimal place.position ∷ codes "record" ∷ decimal place.record_no ∷ moment_words timed place.moment)
+
+-- an event at its place: the place, and after a space the event's text
+abbrev pub event_words : (timed : Bool) → Placed → List ℕ
+event_words timed placed = place_text timed placed.place ++ 32 ∷ event_text placed.event
 
 -- the line of an event
-abbrev pub event_line : Placed → List ℕ
-event_line placed = line (event_words placed)
+abbrev pub event_line : (timed : Bool) → Placed → List ℕ
+event_line timed placed = line (event_words timed placed)
 
 -- the word for a direction
 abbrev pub direction_word : Direction → List ℕ
@@ -50,22 +64,22 @@ direction_word Sent = codes "SENT"
 direction_word Recv = codes "RECV"
 
 -- the line of a packet of this size in this direction, at its place, from what a line says of it
-abbrev pub packet_line : Place3 → Direction → PacketSummary → ℕ → List ℕ
-packet_line place direction packet size =
-    line (spaced (decimal place.position ∷ codes "record" ∷ decimal place.record_no ∷ direction_word direction ∷ packet_text packet size ∷ []))
+abbrev pub packet_line : (timed : Bool) → Place3 → Direction → PacketSummary → ℕ → List ℕ
+packet_line timed place direction packet size =
+    line (place_text timed place ++ 32 ∷ spaced (direction_word direction ∷ packet_text packet size ∷ []))
 
 -- the line of an event with what else its packet says
-abbrev pub long_line : Placed → List ℕ
-long_line placed = line (event_words placed ++ detail_text placed.event)
+abbrev pub long_line : (timed : Bool) → Placed → List ℕ
+long_line timed placed = line (event_words timed placed ++ detail_text placed.event)
 
 -- the line of an event with the type and the bytes of its packet, if that breaks a rule
-abbrev pub line_with_bytes : Placed → List ℕ
-line_with_bytes placed = line (event_words placed ++ broken_detail_text placed.event)
+abbrev pub line_with_bytes : (timed : Bool) → Placed → List ℕ
+line_with_bytes timed placed = line (event_words timed placed ++ broken_detail_text placed.event)
 
 -- the line of an event under which its faults stand, short or long
-abbrev pub shown_line : (long : Bool) → Placed → List ℕ
-shown_line false placed = line_with_bytes placed
-shown_line true placed = long_line placed
+abbrev pub shown_line : (timed long : Bool) → Placed → List ℕ
+shown_line timed false placed = line_with_bytes timed placed
+shown_line timed true placed = long_line timed placed
 
 -- the lines of events, each made by this function: the events are given the newest first, and their lines are the oldest first
 abbrev pub lines_by : (Placed → List ℕ) → List Placed → List ℕ
@@ -73,12 +87,12 @@ lines_by line_of [] = []
 lines_by line_of (newest ∷ earlier) = lines_by line_of earlier ++ line_of newest
 
 -- the short lines of events
-abbrev pub short_lines_of : List Placed → List ℕ
-short_lines_of shown = lines_by event_line shown
+abbrev pub short_lines_of : (timed : Bool) → List Placed → List ℕ
+short_lines_of timed shown = lines_by (event_line timed) shown
 
 -- the long lines of events
-abbrev pub long_lines_of : List Placed → List ℕ
-long_lines_of shown = lines_by long_line shown
+abbrev pub long_lines_of : (timed : Bool) → List Placed → List ℕ
+long_lines_of timed shown = lines_by (long_line timed) shown
 
 -- ---- the lines of events and of the faults at them
 
@@ -126,21 +140,21 @@ begins_gap around faults [] = true
 begins_gap around faults (newest ∷ earlier) = is_near around faults newest.place.position
 
 -- the line of an event, and the lines of the faults at it
-abbrev pub noted_line : Annotation → Placed → List ℕ
-noted_line a placed = shown_line a.long placed ++ fault_notes a.role (faults_at placed.place.position a.faults)
+abbrev pub noted_line : (timed : Bool) → Annotation → Placed → List ℕ
+noted_line timed a placed = shown_line timed a.long placed ++ fault_notes a.role (faults_at placed.place.position a.faults)
 
 -- An event is shown, or it is left out: the first of a run of events that are left out gives the line `..`.
-abbrev pub text_if : (shown : Bool) → Annotation → (begins : Bool) → Placed → List ℕ
-text_if shown a begins placed = if shown then noted_line a placed else (if begins then line (codes "..") else [])
+abbrev pub text_if : (shown timed : Bool) → Annotation → (begins : Bool) → Placed → List ℕ
+text_if shown timed a begins placed = if shown then noted_line timed a placed else (if begins then line (codes "..") else [])
 
 -- an event is shown if it is near to a fault
-abbrev pub event_text_after : Annotation → (begins : Bool) → Placed → List ℕ
-event_text_after a begins placed = text_if (is_near a.around a.faults placed.place.position) a begins placed
+abbrev pub event_text_after : (timed : Bool) → Annotation → (begins : Bool) → Placed → List ℕ
+event_text_after timed a begins placed = text_if (is_near a.around a.faults placed.place.position) timed a begins placed
 
 -- what is shown of events, which are given the newest first
-abbrev pub annotated : Annotation → List Placed → List ℕ
-annotated a [] = []
-annotated a (newest ∷ earlier) = annotated a earlier ++ event_text_after a (begins_gap a.around a.faults earlier) newest
+abbrev pub annotated : (timed : Bool) → Annotation → List Placed → List ℕ
+annotated timed a [] = []
+annotated timed a (newest ∷ earlier) = annotated timed a earlier ++ event_text_after timed a (begins_gap a.around a.faults earlier) newest
 
 -- ---- showing a log
 

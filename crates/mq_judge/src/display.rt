@@ -2,8 +2,8 @@
 ghost use Rattle.std.specs.Prelude.{◌≡◌, Bool, true, false, IfSome, OnOk, IfErr, [], List, Option, length, ℕ};
 ghost use Rattle.std.specs.FinMap as map;
 ghost use Rattle.mq_judge.specs.Runner.{default_limit};
-ghost use Rattle.mq_judge.specs.Display.{Annotation, Shows, annotated, short_lines_of, long_lines_of};
-ghost use Rattle.mq_judge.specs.Views.{IsStateAfter, text_by};
+ghost use Rattle.mq_judge.specs.Display.{Annotation, Shows, annotated, is_timed, short_lines_of, long_lines_of};
+ghost use Rattle.mq_judge.specs.Views.{IsStateAfter, is_timed_if_known, text_by};
 ghost use Rattle.mq_trace.specs.Refusals.{is_cut_short};
 ghost use Rattle.mq_trace.specs.Tracing.{IsTracedTo};
 ghost use Rattle.mq_trace.specs.declared.refusal.Refusal.TheVariants as refusals;
@@ -26,9 +26,10 @@ use std::alloc::Global;
 use std::io::{Read, Write};
 use std::marker::{Brand, PhantomData};
 
-/// Which `Outgoing` to which writer is used, what the writer held at first, and by what text events are shown. Each call of `show_all` picks them.
+/// Which `Outgoing` to which writer is used, what the writer held at first, by what text events are shown, and whether the log is
+/// foreseen to be timed. Each call of `show_all` picks them.
 trait Given {
-    ghost use Rattle.std.specs.Prelude.{ℕ, List, Option};
+    ghost use Rattle.std.specs.Prelude.{ℕ, Bool, List, Option};
     ghost use Rattle.mq_trace.specs.Events.{Placed};
 
     ghost direction: { ℕ };
@@ -38,10 +39,12 @@ trait Given {
     ghost held: { Option (List ℕ) };
 
     ghost text: { List Placed → List ℕ };
+
+    ghost timed: { Bool };
 }
 
 impl Given for Brand {
-    ghost use Rattle.std.specs.Prelude.{None, []};
+    ghost use Rattle.std.specs.Prelude.{None, [], false};
 
     ghost direction = { 0 };
 
@@ -50,13 +53,25 @@ impl Given for Brand {
     ghost held = { None };
 
     ghost text = { λ _. [] };
+
+    ghost timed = { false };
 }
 
-/// A sink that may fail between two pieces of a log.
-trait Failing {
-    ghost use Rattle.std.specs.Prelude.{◌≡◌, Bool, true, false, OnOk, IfErr};
+/// A sink that is told, once the log's header is whole, whether its records have moments; and that may fail between two pieces.
+trait Told: Sink {
+    ghost use Rattle.std.specs.Prelude.{◌≡◌, Bool, true, false, List, OnOk, IfErr};
+    ghost use Rattle.mq_trace.specs.Events.{Placed};
+
+    // Whether the log is foreseen to be timed: of any other log nothing is known of the sink.
+    ghost foreseen: { Bool };
+    // It has received these events, the newest first. It may not have been told yet.
+    ghost received: { Self → List Placed → Type 0 };
 
     ghost has_failed: { Self → Bool };
+
+    /// Tells it whether the log's records have moments. It needs to be told before each piece that may complete an event.
+    fn tell(&mut self, timed: bool)
+        ensures { (earlier : List Placed) → received self.old earlier → timed ≡ foreseen → Self.agrees self.new earlier };
 
     /// Whether it has not failed.
     ///
@@ -66,12 +81,16 @@ trait Failing {
     fn result(&self) -> Result<(), Refusal>
         ensures ok { OnOk result (has_failed self.now ≡ false) }
         ensures err { IfErr result (λ _. has_failed self.now ≡ true) };
+
+    ghost keeps: { (sink : Self) (earlier : List Placed) → Self.agrees sink earlier → received sink earlier };
 }
 
 /// A sink that writes what is shown of each event. It refuses none: after a failed write it writes nothing more.
 struct Display<'a, 'b, 'f, W, K> {
     out: &'b mut Outgoing<'a, W>,
     view: View<'f>,
+    /// Whether the log's records have moments, once it was told.
+    timed: bool,
     of: PhantomData<K>,
 }
 
@@ -82,6 +101,7 @@ impl<'a, 'b, 'f, W, K> Drop for Display<'a, 'b, 'f, W, K> {
         let Self {
             out: _,
             view: _,
+            timed: _,
             of: _,
         } = self;
     }
@@ -92,16 +112,17 @@ impl<W: Write, K: Given> Sink for Display<'_, '_, '_, W, K> {
     ghost use Rattle.mq_judge.specs.Outgoing.{Carries};
     ghost use Rattle.mq_judge.specs.Views.{IsStateAfter, text_by};
 
-    // What was written and what waits are the text of the events; or a write failed, and what was written is a beginning of it.
-    ghost agrees = { λ display received. (display.out.now.writer.ghost_name ≡ K.name) × (text_by display.view ≡ K.text)
+    // It was told what was foreseen. What was written and what waits are the text of the events; or a write failed, and what was written
+    // is a beginning of it.
+    ghost agrees = { λ display received. ((display.out.now.writer.ghost_name ≡ K.name) × (text_by K.timed display.view ≡ K.text)
         × IsStateAfter received display.view × Carries W.contents K.held (K.text received) display.out.now
-        × (display.out.ghost_name ≡ K.direction) };
+        × (display.out.ghost_name ≡ K.direction)) × (display.timed ≡ K.timed) };
 
     ghost refuses = { λ _ _ _. ⊥ };
 
     #[inline(always)]
     fn event(&mut self, place: Place3, event: Event<'_>) -> Result<(), Refusal> {
-        self.view.put(self.out, place, &event);
+        self.view.put(self.out, self.timed, place, &event);
         Ok(())
     }
 
@@ -114,41 +135,66 @@ impl<W: Write, K: Given> Sink for Display<'_, '_, '_, W, K> {
         packet: Packet<'_>,
     ) -> Result<(), Refusal> {
         self.view
-            .put_packet(self.out, place, direction, size, packet);
+            .put_packet(self.out, self.timed, place, direction, size, packet);
         Ok(())
     }
 }
 
-impl<W: Write, K> Failing for Display<'_, '_, '_, W, K> {
+impl<W: Write, K: Given> Told for Display<'_, '_, '_, W, K> {
+    ghost use Rattle.std.specs.Prelude.{◌≡◌};
+    ghost use Rattle.mq_judge.specs.Outgoing.{Carries};
+    ghost use Rattle.mq_judge.specs.Views.{IsStateAfter, text_by};
+
+    ghost foreseen = { K.timed };
+
+    ghost received = { λ display received. (display.out.now.writer.ghost_name ≡ K.name) × (text_by K.timed display.view ≡ K.text)
+        × IsStateAfter received display.view × Carries W.contents K.held (K.text received) display.out.now
+        × (display.out.ghost_name ≡ K.direction) };
+
     ghost has_failed = { λ display. display.out.now.failed };
+
+    fn tell(&mut self, timed: bool) {
+        self.timed = timed;
+    }
 
     fn result(&self) -> Result<(), Refusal> {
         self.out.result()
     }
+
+    ghost keeps = { λ display earlier agrees. agrees.0 };
 }
 
-impl<S: Sink + Failing> Feed<S, Refusal> for Tracer {
-    ghost use Rattle.mq_judge.specs.Tracing.{ShowStops};
-    ghost use Rattle.mq_trace.specs.Tracing.{IsTracedTo};
-    ghost use Rattle.mq_trace.specs.Events.{events};
+/// Reads a log, and passes its events to a sink that shows them.
+#[derive(Drop)]
+struct Showing {
+    tracer: Tracer,
+}
 
-    ghost limit = { λ tracer. tracer.reading.limit };
+impl<S: Told> Feed<S, Refusal> for Showing {
+    ghost use Rattle.mq_judge.specs.Tracing.{IsShown, ShowStops};
 
-    ghost follows = { λ tracer sink log. IsTracedTo tracer log × S.agrees sink (events log) };
+    ghost limit = { λ showing. showing.tracer.reading.limit };
 
-    ghost stops = { λ limit _ sink log piece refusal. ShowStops S.agrees S.refuses S.has_failed limit sink log piece refusal };
+    ghost follows = { λ showing sink log. IsShown S.received S.foreseen showing.tracer sink log };
+
+    ghost stops = { λ limit _ sink log piece refusal. ShowStops S.received S.refuses S.has_failed S.foreseen limit sink log piece refusal };
 
     fn feed(&mut self, sink: &mut S, piece: &[u8]) -> Result<(), Refusal> {
-        Tracer::feed(self, piece, sink)?;
+        let rest = self.tracer.begin(piece)?;
+        let Some(header) = self.tracer.header() else {
+            return Ok(());
+        };
+        sink.tell(header.version == 2);
+        self.tracer.feed(rest, sink)?;
         sink.result()
     }
 }
 
-/// Writes a line for each event of the log that a reader gives: `<position> record <n> `, and then `OPEN`,
-/// `CLOSE`, `REST`, `RELEASE <id>`, or `SENT ` or `RECV ` with what `write_packet` writes of the item: `<TYPE> size <n>`, with
-/// ` qos <q> dup <d>` for a PUBLISH and ` id <i>` if there is a Packet Identifier; `BAD <code> offset <n>` if it breaks a rule;
-/// `LOST` if the rest of the direction can't be parsed. Lines are buffered in 8,192 bytes, and all are written before it
-/// returns. It reads at most 4,294,967,295 times, and at most 65,536 bytes each time.
+/// Writes a line for each event of the log that a reader gives: `<position> record <n> `, for a log of version 2 `moment <m> ` with
+/// the moment of that record, and then `OPEN`, `CLOSE`, `REST`, `RELEASE <id>`, or `SENT ` or `RECV ` with what `write_packet` writes
+/// of the item: `<TYPE> size <n>`, with ` qos <q> dup <d>` for a PUBLISH and ` id <i>` if there is a Packet Identifier;
+/// `BAD <code> offset <n>` if it breaks a rule; `LOST` if the rest of the direction can't be parsed. Lines are buffered in 8,192 bytes,
+/// and all are written before it returns. It reads at most 4,294,967,295 times, and at most 65,536 bytes each time.
 ///
 /// # Errors
 ///
@@ -165,12 +211,22 @@ impl<S: Sink + Failing> Feed<S, Refusal> for Tracer {
 /// let shown = b"1 record 1 OPEN\n2 record 2 CLOSE\n";
 /// assert_eq!(rt; lines.as_slice(), shown.as_slice());
 /// ```
+///
+/// A log of version 2, whose records have moments:
+///
+/// ```
+/// let log = b"MQTR\x02\x00\x01\x00\x01\x00\x00\x00\x00\x00\x00\x00\x00\x00\x00\x00\x07";
+/// let mut lines = Vec::new(rt.alloc());
+/// show(rt.alloc(), &mut log.as_slice(), &mut lines)?;
+/// let shown = b"1 record 1 moment 7 OPEN\n";
+/// assert_eq!(rt; lines.as_slice(), shown.as_slice());
+/// ```
 pub fn show<R: Read, W: Write>(
     alloc: Global,
     reader: &mut R,
     writer: &mut W,
 ) -> Result<(), RunFault>
-    ensures { IfSome (R.remaining reader.old) (λ log. Shows short_lines_of log (R.remaining reader.new) result (W.contents writer.old) (W.contents writer.new)) }
+    ensures { IfSome (R.remaining reader.old) (λ log. Shows (short_lines_of (is_timed log)) log (R.remaining reader.new) result (W.contents writer.old) (W.contents writer.new)) }
 {
     let mut out = Outgoing::to(writer);
     show_by(alloc, View::Brief, reader, &mut out)
@@ -190,7 +246,7 @@ pub fn show_long<R: Read, W: Write>(
     reader: &mut R,
     writer: &mut W,
 ) -> Result<(), RunFault>
-    ensures { IfSome (R.remaining reader.old) (λ log. Shows long_lines_of log (R.remaining reader.new) result (W.contents writer.old) (W.contents writer.new)) }
+    ensures { IfSome (R.remaining reader.old) (λ log. Shows (long_lines_of (is_timed log)) log (R.remaining reader.new) result (W.contents writer.old) (W.contents writer.new)) }
 {
     let mut out = Outgoing::to(writer);
     show_by(alloc, View::Long, reader, &mut out)
@@ -214,7 +270,7 @@ pub fn show_faults<R: Read, W: Write>(
     writer: &mut W,
 ) -> Result<(), RunFault>
     ensures { IfSome (R.remaining reader.old)
-        (λ log. Shows (annotated (record { role = role; faults = map.entries faults.now; around = around; long = long }))
+        (λ log. Shows (annotated (is_timed log) (record { role = role; faults = map.entries faults.now; around = around; long = long }))
         log (R.remaining reader.new) result (W.contents writer.old) (W.contents writer.new)) }
 {
     let view = View::Annotated(Annotated {
@@ -235,23 +291,26 @@ fn show_by<R: Read, W: Write>(
     reader: &mut R,
     out: &mut Outgoing<'_, W>,
 ) -> Result<(), RunFault>
-    requires empty { text_by view [] ≡ [] }
+    requires empty { (timed : Bool) → text_by timed view [] ≡ [] }
     requires fresh { (out.old.failed ≡ false) × (out.old.lines ≡ []) × IsStateAfter [] view }
-    ensures same { out.new.writer.ghost_name ≡ out.old.writer.ghost_name }
-    ensures shows { IfSome (R.remaining reader.old) (λ log. Shows (text_by view.entry) log (R.remaining reader.new) result (W.contents out.old.writer.now) (W.contents out.new.writer.now)) }
+    ensures same { IfSome (R.remaining reader.old) (λ _. out.new.writer.ghost_name ≡ out.old.writer.ghost_name) }
+    ensures shows { IfSome (R.remaining reader.old) (λ log. Shows (text_by (is_timed log) view.entry) log (R.remaining reader.new) result (W.contents out.old.writer.now) (W.contents out.new.writer.now)) }
 {
-    let mut tracer = Tracer::new(alloc, Options::default().limit);
+    let mut showing = Showing {
+        tracer: Tracer::new(alloc, Options::default().limit),
+    };
     let mut display = Display::<'_, '_, '_, W, Brand> {
         out,
         view,
+        timed: false,
         of: PhantomData,
     };
-    show_all::<R, W, Brand>(&mut tracer, &mut display, reader, u32::MAX)
+    show_all::<R, W, Brand>(&mut showing, &mut display, reader, u32::MAX)
 }
 
 /// Shows all that a reader gives in at most `turns` turns, from a sink that has received nothing yet, to the writer that was picked.
 fn show_all<R: Read, W: Write, K: Given>(
-    tracer: &mut Tracer,
+    showing: &mut Showing,
     display: &mut Display<'_, '_, '_, W, K>,
     reader: &mut R,
     turns: u32,
@@ -259,19 +318,20 @@ fn show_all<R: Read, W: Write, K: Given>(
     requires direction { display.old.out.ghost_name ≡ K.direction }
     requires name { display.old.out.now.writer.ghost_name ≡ K.name }
     requires held { W.contents display.old.out.now.writer.now ≡ K.held }
-    requires text { text_by display.old.view ≡ K.text }
+    requires timed { K.timed ≡ is_timed_if_known (R.remaining reader.old) }
+    requires text { text_by K.timed display.old.view ≡ K.text }
     requires empty { K.text [] ≡ [] }
     requires fresh { (display.old.out.now.failed ≡ false) × (display.old.out.now.lines ≡ []) × IsStateAfter [] display.old.view }
-    requires follows { IsTracedTo tracer.old [] × (tracer.old.reading.limit ≡ default_limit) }
-    ensures direction { display.new.out.ghost_name ≡ display.old.out.ghost_name }
-    ensures writer { display.new.out.now.writer.ghost_name ≡ display.old.out.now.writer.ghost_name }
+    requires follows { IsTracedTo showing.old.tracer [] × (showing.old.tracer.reading.limit ≡ default_limit) }
+    ensures direction { IfSome (R.remaining reader.old) (λ _. display.new.out.ghost_name ≡ display.old.out.ghost_name) }
+    ensures writer { IfSome (R.remaining reader.old) (λ _. display.new.out.now.writer.ghost_name ≡ display.old.out.now.writer.ghost_name) }
     ensures shows { IfSome (R.remaining reader.old) (λ log. Shows K.text log (R.remaining reader.new) result K.held (W.contents display.new.out.now.writer.now)) }
 {
     let mut buffer = [0; 65_536];
-    let fed = feed_log(tracer, display, reader, &mut buffer, turns);
+    let fed = feed_log(showing, display, reader, &mut buffer, turns);
     display.out.write_last()?;
     match fed {
-        Ok(()) => end(tracer),
+        Ok(()) => end(&mut showing.tracer),
         Err(refusal) => Err(RunFault::Refused(refusal)),
     }
 }

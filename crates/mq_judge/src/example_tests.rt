@@ -43,6 +43,16 @@ fn showing_events(rt: HostRuntime) -> Result<(), Fail> {
 }
 
 #[test]
+fn showing_moments(rt: HostRuntime) -> Result<(), Fail> {
+    let log = b"MQTR\x02\x00\x01\x00\x01\x00\x00\x00\x00\x00\x00\x00\x00\x00\x00\x00\x07";
+    let mut lines = Vec::new(rt.alloc());
+    show(rt.alloc(), &mut log.as_slice(), &mut lines)?;
+    let shown = b"1 record 1 moment 7 OPEN\n";
+    assert_eq!(rt; lines.as_slice(), shown.as_slice());
+    Ok(())
+}
+
+#[test]
 fn naming_a_packet(rt: HostRuntime) -> Result<(), Fail> {
     let mut line = Vec::new(rt.alloc());
     assert!(rt; write_packet(b"\x40\x02\x00\x0a", &mut line)?);

@@ -35,6 +35,8 @@ mod harness;
 #[cfg(test)]
 mod log_tests;
 #[cfg(test)]
+mod moment_tests;
+#[cfg(test)]
 mod plain_tests;
 #[cfg(test)]
 mod rule_tests;

@@ -30,16 +30,22 @@ pub struct Annotated<'a> {
 }
 
 impl Annotated<'_> {
-    /// Appends what is shown of the next event, which has this place.
+    /// Appends what is shown of the next event, which has this place, in a log whose records have moments if `timed` is true.
     #[inline(never)]
-    pub fn put<W: Write>(&mut self, out: &mut Outgoing<'_, W>, place: Place3, event: &Event<'_>)
+    pub fn put<W: Write>(
+        &mut self,
+        out: &mut Outgoing<'_, W>,
+        timed: bool,
+        place: Place3,
+        event: &Event<'_>,
+    )
         ensures same { annotation_of self.new ≡ annotation_of self.old }
         ensures gap { self.new.begins_gap ≡ is_near self.old.around (map.entries self.old.faults.now) place.position }
         ensures puts { Puts W.contents out.old
-            (event_text_after (annotation_of self.old) self.old.begins_gap (placed_at place event.now)) out.new }
+            (event_text_after timed (annotation_of self.old) self.old.begins_gap (placed_at place event.now)) out.new }
     {
         let shown = is_near(self.faults, self.around, place.position);
-        put_event(out, self, shown, place, event);
+        put_event(out, self, shown, timed, place, event);
         self.begins_gap = shown;
     }
 }
@@ -49,14 +55,15 @@ fn put_event<W: Write>(
     out: &mut Outgoing<'_, W>,
     view: &Annotated<'_>,
     shown: bool,
+    timed: bool,
     place: Place3,
     event: &Event<'_>,
 )
     ensures { Puts W.contents out.old
-        (text_if shown (annotation_of view.now) view.now.begins_gap (placed_at place event.now)) out.new }
+        (text_if shown timed (annotation_of view.now) view.now.begins_gap (placed_at place event.now)) out.new }
 {
     if shown {
-        put_noted_line(out, view, place, event);
+        put_noted_line(out, view, timed, place, event);
     } else {
         put_gap(out, view.begins_gap);
     }
@@ -66,12 +73,13 @@ fn put_event<W: Write>(
 fn put_noted_line<W: Write>(
     out: &mut Outgoing<'_, W>,
     view: &Annotated<'_>,
+    timed: bool,
     place: Place3,
     event: &Event<'_>,
 )
-    ensures { Puts W.contents out.old (noted_line (annotation_of view.now) (placed_at place event.now)) out.new }
+    ensures { Puts W.contents out.old (noted_line timed (annotation_of view.now) (placed_at place event.now)) out.new }
 {
-    put_shown_line(out, view.long, place, event);
+    put_shown_line(out, timed, view.long, place, event);
     put_notes(out, view.faults, view.role, place.position);
 }
 
@@ -89,13 +97,19 @@ fn is_near(faults: &Faults, around: Option<u32>, position: u32) -> bool
 }
 
 /// Appends the line of an event at its place: the long one, or the short one with the bytes of a packet that breaks a rule.
-fn put_shown_line<W: Write>(out: &mut Outgoing<'_, W>, long: bool, place: Place3, event: &Event<'_>)
-    ensures { Puts W.contents out.old (shown_line long (placed_at place event.now)) out.new }
+fn put_shown_line<W: Write>(
+    out: &mut Outgoing<'_, W>,
+    timed: bool,
+    long: bool,
+    place: Place3,
+    event: &Event<'_>,
+)
+    ensures { Puts W.contents out.old (shown_line timed long (placed_at place event.now)) out.new }
 {
     if long {
-        put_long_line(out, place, event);
+        put_long_line(out, timed, place, event);
     } else {
-        put_line_with_bytes(out, place, event);
+        put_line_with_bytes(out, timed, place, event);
     }
 }
 

@@ -12,8 +12,8 @@ use std::fmt;
 use std::fmt::Write as _;
 use std::io::Write;
 
-/// How many bytes `make_room` makes room for. The longest line of an event without its details has 78.
-const LINE_ROOM: usize = 128;
+/// How many bytes `make_room` makes room for. The longest line of an event without its details has 106.
+const LINE_ROOM: usize = 160;
 
 /// Text on its way to a writer, through a buffer of 8,192 bytes that is written when it has no room for more. As
 /// `fmt::DebugStruct` does, it keeps the first failure: nothing is written after it, and `result` returns it.
@@ -74,10 +74,10 @@ impl<W: Write> Outgoing<'_, W> {
         }
     }
 
-    /// Makes room for 128 bytes in `lines`. After a failure what waits is dropped.
+    /// Makes room for 160 bytes in `lines`. After a failure what waits is dropped.
     #[inline(always)]
     pub fn make_room(&mut self)
-        ensures room { length self.new.lines + 128 ≤ 8192 }
+        ensures room { length self.new.lines + 160 ≤ 8192 }
         ensures puts { Puts W.contents self.old [] self.new }
     {
         if self.lines.has_room(LINE_ROOM) {
@@ -136,7 +136,7 @@ impl<W: Write> Outgoing<'_, W> {
     }
 }
 
-// Appends a number to what waits. Returns true if a write has failed before, or if there is no room: 128 bytes have room for any number.
+// Appends a number to what waits. Returns true if a write has failed before, or if there is no room: 160 bytes have room for any number.
 fn fails_to_put(failed: bool, lines: &mut Lines, number: u64) -> bool
     ensures { result ≡ false → (failed ≡ false) × (lines.new ≡ lines.old ++ decimal number) }
 {

@@ -9,4 +9,4 @@ pub returns : goal.returns
 returns g c =
     let placed = placed_at c.args.place c.args.event.now in
     puts_three g.W.Write.contents _ _ _ _ _ _ _ _ c.put_event_words.ensures c.put_broken_details.ensures c.put.ensures
-    (sym (append_assoc (event_words placed) (broken_detail_text placed.event) (10 ∷ [])))
+    (sym (append_assoc (event_words c.args.timed placed) (broken_detail_text placed.event) (10 ∷ [])))
